@@ -80,10 +80,6 @@ pub fn run<Src: Read, Dst: Write>(
 }
 
 /// What is written for some words and an input, once all of it was read.
-///
-/// # Errors
-///
-/// Those of [`run`] but `Write`.
 fn answer_to<Src: Read>(alloc: Global, words: &[String], input: &mut Src) -> Result<Vec<u8>, Fault>
     ensures usage { (result ≡ Err Fault.Usage) ↔ AreNoCommand (texts_of words.now) }
     ensures unread { result ≡ Err Fault.Usage → input.new ≡ input.old }
@@ -97,11 +93,6 @@ fn answer_to<Src: Read>(alloc: Global, words: &[String], input: &mut Src) -> Res
 }
 
 /// The text that is printed of an input, which is given up once it is read.
-///
-/// # Errors
-///
-/// `Number` or `Count` for the first faulty line; else `Tree`: why the tree refuses the heights, else
-/// `IndexOutOfBounds` for the highest index; or `Tree(OutOfMemory)`.
 fn reply(alloc: Global, request: &Request, input: Vec<u8>) -> Result<Vec<u8>, Fault>
     ensures text { IfOk result
         (λ text. IsReply request.now.command request.now.indices.items input.items (Ok text.items)) }
@@ -116,10 +107,6 @@ fn reply(alloc: Global, request: &Request, input: Vec<u8>) -> Result<Vec<u8>, Fa
 }
 
 /// The same at the arity of the command.
-///
-/// # Errors
-///
-/// Those of [`reply`].
 fn reply_at<const N: usize>(
     alloc: Global,
     request: &Request,
@@ -140,10 +127,6 @@ fn reply_at<const N: usize>(
 }
 
 /// The same under the scheme of the command.
-///
-/// # Errors
-///
-/// Those of [`reply`].
 fn reply_by<
     W: Word + PackedValue<Value = W>,
     H: CryptographicHasher<W, W, D>,
@@ -173,11 +156,6 @@ fn reply_by<
 }
 
 /// The text that a command prints of some matrices, under its scheme.
-///
-/// # Errors
-///
-/// Why the tree refuses the heights; else `IndexOutOfBounds` for the highest index, where it is not below the tallest
-/// height; or `OutOfMemory`.
 fn act<
     W: Word + PackedValue<Value = W>,
     H: CryptographicHasher<W, W, D>,
@@ -212,10 +190,6 @@ fn act<
 }
 
 /// A line for each digest of a cap.
-///
-/// # Errors
-///
-/// Only `OutOfMemory`.
 fn cap_text<W: Word, const D: usize>(
     alloc: Global,
     roots: &MerkleCap<W, [W; D]>,
@@ -229,10 +203,6 @@ fn cap_text<W: Word, const D: usize>(
 }
 
 /// The rows of each index of a tree, and the digests of one pruned proof for all of them.
-///
-/// # Errors
-///
-/// Only `OutOfMemory`.
 fn open_text<
     W: Word + PackedValue<Value = W>,
     H: CryptographicHasher<W, W, D>,
@@ -257,10 +227,6 @@ fn open_text<
 }
 
 /// The rows of each index, and the digests that prove them.
-///
-/// # Errors
-///
-/// `AllocError` if memory runs out.
 fn text_of_opening<W: Word, const D: usize>(
     alloc: Global,
     indices: &[usize],
@@ -283,10 +249,6 @@ fn text_of_opening<W: Word, const D: usize>(
 }
 
 /// Opens indices of a tree, verifies what is opened, and tells how many digests were sent.
-///
-/// # Errors
-///
-/// Only `OutOfMemory`.
 fn check_text<
     W: Word + PackedValue<Value = W>,
     H: CryptographicHasher<W, W, D>,

@@ -104,10 +104,6 @@ pub(crate) fn are_numbers(words: &[String]) -> bool
 }
 
 /// The numbers of words. Each word must be a number.
-///
-/// # Errors
-///
-/// `AllocError` if memory runs out.
 pub(crate) fn indices_of(alloc: Global, words: &[String]) -> Result<Vec<usize>, AllocError>
     requires { All IsNumberWord (texts_of words.now) }
     ensures { IfOk result (λ indices. indices.items ≡ map (digits_value 10) (texts_of words.now)) }

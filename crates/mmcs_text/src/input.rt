@@ -153,11 +153,6 @@ impl<W: Word> Block<W> {
     }
 
     /// Appends a line that is not blank, the one of this number, as a row of numbers, each at most `W::MAX`.
-    ///
-    /// # Errors
-    ///
-    /// `Number` where a part of the line is no such number, else `Count` where the row is of another width than the
-    /// rows before it; `Tree(OutOfMemory)` if memory runs out.
     fn push_row(&mut self, text: &[u8], line: usize) -> Result<(), Fault>
         requires full { is_blank text.now ≡ false }
         ensures row { (lines : List (List ℕ)) →

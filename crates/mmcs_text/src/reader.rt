@@ -148,10 +148,6 @@ impl<'a, W: Word, H: LineDigest> Reader<'a, W, H> {
     }
 
     /// Reads the line of this number.
-    ///
-    /// # Errors
-    ///
-    /// `Line` where it is not what may stand there, or `Tree(OutOfMemory)`.
     fn take_line(
         &mut self,
         alloc: Global,
@@ -175,10 +171,6 @@ impl<'a, W: Word, H: LineDigest> Reader<'a, W, H> {
     }
 
     /// Reads a line, if it is what may stand there.
-    ///
-    /// # Errors
-    ///
-    /// `AllocError` if memory runs out.
     fn took(
         &mut self,
         alloc: Global,
@@ -198,10 +190,6 @@ impl<'a, W: Word, H: LineDigest> Reader<'a, W, H> {
     }
 
     /// Reads a digest of the cap, or the blank line that ends it.
-    ///
-    /// # Errors
-    ///
-    /// `AllocError` if memory runs out.
     fn took_cap_line(&mut self, text: &[u8]) -> Result<bool, AllocError>
         ensures { IfOk result (λ took. after_cap_line H.hash (reading_of W.value H.words self.old) text.now
             ≡ (if took then Some (reading_of W.value H.words self.new) else None)) }
@@ -218,10 +206,6 @@ impl<'a, W: Word, H: LineDigest> Reader<'a, W, H> {
     }
 
     /// Reads an index that may come next, or how many digests there are.
-    ///
-    /// # Errors
-    ///
-    /// `AllocError` if memory runs out.
     fn took_query(
         &mut self,
         alloc: Global,
@@ -252,10 +236,6 @@ impl<'a, W: Word, H: LineDigest> Reader<'a, W, H> {
     }
 
     /// Reads the row of the next matrix.
-    ///
-    /// # Errors
-    ///
-    /// `AllocError` if memory runs out.
     fn took_row(
         &mut self,
         alloc: Global,
@@ -278,10 +258,6 @@ impl<'a, W: Word, H: LineDigest> Reader<'a, W, H> {
     }
 
     /// Ends an index that has all its rows.
-    ///
-    /// # Errors
-    ///
-    /// `AllocError` if memory runs out.
     fn settle(&mut self, alloc: Global, dimensions: &[Dimensions]) -> Result<(), AllocError>
         ensures { OnOk result
             (reading_of W.value H.words self.new ≡ settled dimensions.now (reading_of W.value H.words self.old)) }
@@ -295,10 +271,6 @@ impl<'a, W: Word, H: LineDigest> Reader<'a, W, H> {
     }
 
     /// Reads a digest of the proof, or a blank line behind the last of them.
-    ///
-    /// # Errors
-    ///
-    /// `AllocError` if memory runs out.
     fn took_digest(&mut self, count: usize, text: &[u8]) -> Result<bool, AllocError>
         ensures { IfOk result (λ took. after_digest H.hash count (reading_of W.value H.words self.old) text.now
             ≡ (if took then Some (reading_of W.value H.words self.new) else None)) }
@@ -337,10 +309,6 @@ impl<'a, W: Word, H: LineDigest> Reader<'a, W, H> {
     }
 
     /// Reads lines until an opening is whole.
-    ///
-    /// # Errors
-    ///
-    /// `Line` for the first line that is not what may stand there, or `Tree(OutOfMemory)`.
     fn read_opening(
         &mut self,
         alloc: Global,
@@ -369,10 +337,6 @@ impl<'a, W: Word, H: LineDigest> Reader<'a, W, H> {
     }
 
     /// Reads all lines that are left.
-    ///
-    /// # Errors
-    ///
-    /// `Line` for the first line that is not what may stand there, or `Tree(OutOfMemory)`.
     fn read_to_end(
         &mut self,
         alloc: Global,
@@ -408,10 +372,6 @@ fn number_behind(label: &[u8], line: &[u8]) -> Option<usize>
 }
 
 /// The row of a line, if it has `width` numbers, each at most `W::MAX`, and nothing else.
-///
-/// # Errors
-///
-/// `AllocError` if memory runs out.
 fn row_of<W: Word>(alloc: Global, width: usize, line: &[u8]) -> Result<Option<Vec<W>>, AllocError>
     ensures { IfOk result (λ row. option_map (λ r. map W.value r.items) row ≡ row_of (W.MAX + 1) width line.now) }
 {
@@ -425,10 +385,6 @@ fn row_of<W: Word>(alloc: Global, width: usize, line: &[u8]) -> Result<Option<Ve
 }
 
 /// Reads the blank line between two openings.
-///
-/// # Errors
-///
-/// `Line` where the next line is not blank, or is missing.
 fn take_blank_line(lines: &mut Lines<'_>) -> Result<(), Fault>
     requires { AreCounted lines.now }
     ensures counted { AreCounted lines.new }

@@ -170,10 +170,6 @@ fn dimensions_of_word(word: &[u8]) -> Option<Dimensions>
 }
 
 /// The dimensions that words name. Each word must name the dimensions of a matrix.
-///
-/// # Errors
-///
-/// `AllocError` if memory runs out.
 fn dimensions_of(alloc: Global, words: &[String]) -> Result<Vec<Dimensions>, AllocError>
     requires { are_dimensions (texts_of words.now) ≡ true }
     ensures { IfOk result

@@ -90,10 +90,6 @@ pub fn push_rows<W: Word>(
 }
 
 /// The numbers of a row in decimal, with one space between, and a line feed.
-///
-/// # Errors
-///
-/// `AllocError` if memory runs out.
 fn row_line<W: Word>(alloc: Global, row: &[W]) -> Result<String, AllocError>
     ensures { IfOk result (λ line. string_bytes line ≡ row_line (map W.value row.now)) }
 {

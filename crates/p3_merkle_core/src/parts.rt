@@ -62,10 +62,6 @@ fn is_power(arity: usize, height: usize) -> bool
 }
 
 /// Checks the heights of parts. The arity must be a power of two from 2 to 2^62.
-///
-/// # Errors
-///
-/// `PartHeight` for the first part that has another height than it may have.
 fn check_heights_of_parts(arity: usize, heights: &[usize]) -> Result<(), PartsError>
     requires arity { IsArity arity }
     requires some { 0 < length heights.now }
@@ -89,10 +85,6 @@ fn check_heights_of_parts(arity: usize, heights: &[usize]) -> Result<(), PartsEr
 }
 
 /// The sum of the heights of parts.
-///
-/// # Errors
-///
-/// `TooLarge` if it is above [`MAX_HEIGHT`].
 fn height_of_whole(heights: &[usize]) -> Result<usize, PartsError>
     ensures answer { let fits = sum heights.now ≤ height_limit in
         MatchResult result (λ height. fits) (λ e. (height_limit < sum heights.now) × (e ≡ TooLarge)) }

@@ -24,10 +24,6 @@ use p3_support::packed::PackedValue;
 use std::alloc::{AllocError, Global};
 
 /// The parents of some nodes in a row: each `N` of them compressed, and those that are left with default digests.
-///
-/// # Errors
-///
-/// `AllocError` if memory runs out.
 fn parents<PW: PackedValue, C: PseudoCompressionFunction<PW, N, D>, const N: usize, const D: usize>(
     alloc: Global,
     compress: &C,
@@ -52,10 +48,6 @@ fn parents<PW: PackedValue, C: PseudoCompressionFunction<PW, N, D>, const N: usi
 
 /// Puts in place of the nodes from `start` on, which are in one layer, the nodes so many levels above them. `start`
 /// must be at most the number of nodes.
-///
-/// # Errors
-///
-/// `AllocError` if memory runs out.
 fn raise<PW: PackedValue, C: PseudoCompressionFunction<PW, N, D>, const N: usize, const D: usize>(
     alloc: Global,
     compress: &C,
@@ -79,10 +71,6 @@ fn raise<PW: PackedValue, C: PseudoCompressionFunction<PW, N, D>, const N: usize
 }
 
 /// The nodes that the caps of parts give in the layer of the first part's cap, one part after another.
-///
-/// # Errors
-///
-/// `AllocError` if memory runs out.
 fn nodes_of_parts<
     F,
     PW: PackedValue,

@@ -98,12 +98,6 @@ where
 }
 
 /// The dimensions of matrices with `salt_elems` salts beside each row.
-///
-/// # Errors
-///
-/// `EmptyBatch`, `TooLarge` or `IncompatibleHeights` for the heights of the matrices, as a commitment refuses them;
-/// else `TooLarge` for the first matrix whose width with its salts does not fit `usize`. `OutOfMemory` may come at any
-/// time.
 fn salted_dimensions<T, M: Matrix<T>>(
     alloc: Global,
     matrices: &[M],
@@ -123,11 +117,6 @@ fn salted_dimensions<T, M: Matrix<T>>(
 
 /// Draws `salt_elems` salts for each row of the matrices, and returns each matrix beside its salts. Each salt takes one
 /// call of `next_u64`: matrix by matrix in input order, row by row. `dimensions` are those of the pairs.
-///
-/// # Errors
-///
-/// `AllocError` if memory runs out; then the generator has drawn the salts of the first few matrices, perhaps of none
-/// or of all.
 fn salted_pairs<T: SaltWord, M: Matrix<T> + Drop, R: Rng>(
     alloc: Global,
     rng: &mut R,

@@ -85,11 +85,6 @@ pub fn salted_sets<T: Copy>(
 
 /// Checks that there is one row for each matrix, of the matrix's width without salts, and one list of salts for each
 /// row.
-///
-/// # Errors
-///
-/// `WrongBatchSize` if the number of rows is not that of the matrices; else `WrongWidth` for the first row whose length
-/// is not its matrix's width; else `WrongBatchSize` if the number of lists of salts is not that of the rows.
 fn check_salts<T>(
     dimensions: &[Dimensions],
     rows: &[Vec<T>],
@@ -109,10 +104,6 @@ fn check_salts<T>(
 }
 
 /// Checks that each matrix can have `salt_elems` more columns.
-///
-/// # Errors
-///
-/// `TooLarge` for the first matrix whose width plus `salt_elems` does not fit `usize`; its `size` is the width alone.
 fn check_widening(dimensions: &[Dimensions], salt_elems: usize) -> Result<(), MerkleTreeError>
     ensures answer { let refusal = widening_refusal salt_elems dimensions.now in
         MatchResult result (λ ok. refusal ≡ None) (λ e. refusal ≡ Some e) }
@@ -156,10 +147,6 @@ pub fn widened_dimensions(
 }
 
 /// Each row followed by its salts. Rows and lists of salts are paired in order, up to the end of the shorter list.
-///
-/// # Errors
-///
-/// `AllocError` if memory runs out.
 fn joined_rows<T: Copy>(
     alloc: Global,
     rows: &[Vec<T>],
@@ -179,10 +166,6 @@ fn joined_rows<T: Copy>(
 
 /// Each row of several queries followed by its salts, as [`joined_rows`] pairs them. Each query has a row set and a
 /// salt set.
-///
-/// # Errors
-///
-/// `AllocError` if memory runs out.
 fn joined_row_sets<T: Copy>(
     alloc: Global,
     sets: &[Vec<Vec<T>>],

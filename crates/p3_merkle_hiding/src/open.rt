@@ -31,10 +31,6 @@ use p3_support::pair::HorizontalPair;
 use std::alloc::{AllocError, Global};
 
 /// The matrices of a tree without their salts, in input order.
-///
-/// # Errors
-///
-/// Only `OutOfMemory`.
 fn left_matrices<'a, F, X, G, A: Matrix<F>, B: Matrix<F>, const N: usize>(
     alloc: Global,
     tree: &'a Tree<F, X, G, HorizontalPair<F, A, B>, N>,
@@ -52,10 +48,6 @@ fn left_matrices<'a, F, X, G, A: Matrix<F>, B: Matrix<F>, const N: usize>(
 
 /// Splits the rows of one index into the matrices' own words and their salts. `pairs` has a matrix beside its salts for
 /// each row. A row keeps its own words, and gives its salts away.
-///
-/// # Errors
-///
-/// `AllocError` if memory runs out.
 fn split_rows<F: Copy, A: Matrix<F>, B: Matrix<F>>(
     alloc: Global,
     pairs: &[&HorizontalPair<F, A, B>],
@@ -77,10 +69,6 @@ fn split_rows<F: Copy, A: Matrix<F>, B: Matrix<F>>(
 }
 
 /// Splits the rows of several indices, those of each as [`split_rows`] does: the row sets and the salt sets.
-///
-/// # Errors
-///
-/// Only `OutOfMemory`.
 fn split_row_sets<F: Copy, X, G, A: Matrix<F>, B: Matrix<F>, const N: usize>(
     alloc: Global,
     tree: &Tree<F, X, G, HorizontalPair<F, A, B>, N>,

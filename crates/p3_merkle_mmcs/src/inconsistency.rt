@@ -79,10 +79,6 @@ impl<
 
     /// Extracts a collision from two openings of one index, where the matrices of each tree have one height, and the
     /// widths are the same in both. The growth, the steps and the cap layers must be those of this scheme.
-    ///
-    /// # Errors
-    ///
-    /// Those of [`extract_inconsistency`](Self::extract_inconsistency), from `OldOpening` on.
     fn checked_inconsistency(
         &self,
         alloc: Global,

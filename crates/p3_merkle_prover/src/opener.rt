@@ -132,10 +132,6 @@ pub fn siblings_of_index<F, X: Copy, G, M: Matrix<F>, const N: usize>(
 }
 
 /// The words of a row.
-///
-/// # Errors
-///
-/// `AllocError` if memory runs out.
 fn words_of_row<F: Copy, M: Matrix<F>>(
     alloc: Global,
     matrix: &M,
@@ -158,10 +154,6 @@ fn words_of_row<F: Copy, M: Matrix<F>>(
 }
 
 /// A copy of some words.
-///
-/// # Errors
-///
-/// `AllocError` if memory runs out.
 fn copy_of<F: Copy>(alloc: Global, words: &[F]) -> Result<Vec<F>, AllocError>
     ensures { IfOk result (λ copy. copy.items ≡ words.now) }
 {

@@ -170,10 +170,6 @@ impl<F: Copy, W: Copy, M: Matrix<F> + Clone + Drop, const N: usize, const D: usi
 }
 
 /// Copies of some layers.
-///
-/// # Errors
-///
-/// `AllocError` if memory runs out.
 fn copies_of<X: Copy>(alloc: Global, layers: &[Vec<X>]) -> Result<Vec<Vec<X>>, AllocError>
     ensures { IfOk result (λ copies. map (λ nodes. nodes.items) copies.items ≡ map (λ nodes. nodes.items) layers.now) }
 {

@@ -195,10 +195,6 @@ impl<
 
     /// The mixed node of the layer above, from the old cap on, and the values of the old nodes there. `known` has those
     /// of this layer's old nodes; new children were sent.
-    ///
-    /// # Errors
-    ///
-    /// `AllocError` if memory runs out.
     pub(crate) fn mixed_above_old_cap(
         &self,
         alloc: Global,
@@ -282,10 +278,6 @@ impl<
 
     /// The mixed node of the new cap's layer, and the values of the old nodes there, from the old cap up. The old cap
     /// must have an entry for each old node of its layer.
-    ///
-    /// # Errors
-    ///
-    /// `AllocError` if memory runs out.
     fn mixed_at_new_cap(
         &self,
         alloc: Global,

@@ -60,10 +60,6 @@ impl<'a, T: Eq> RowPair<'a, T> {
 }
 
 /// Both lists of digests at a place, if they differ.
-///
-/// # Errors
-///
-/// `AllocError` if memory runs out.
 pub(crate) fn differing_digests<T, W: Copy + Eq, const D: usize>(
     alloc: Global,
     place: Place,
@@ -84,10 +80,6 @@ pub(crate) fn differing_digests<T, W: Copy + Eq, const D: usize>(
 }
 
 /// The words of the rows of the matrices of one exponent, one row after another.
-///
-/// # Errors
-///
-/// `AllocError` if memory runs out.
 fn opened_words<T: Copy + Drop>(
     alloc: Global,
     dimensions: &[Dimensions],
@@ -110,10 +102,6 @@ fn opened_words<T: Copy + Drop>(
 }
 
 /// Both lists of words at a place, if they differ.
-///
-/// # Errors
-///
-/// `AllocError` if memory runs out.
 fn differing_words<T: Copy + Eq + Drop, W, const D: usize>(
     alloc: Global,
     place: Place,
@@ -137,10 +125,6 @@ fn differing_words<T: Copy + Eq + Drop, W, const D: usize>(
 }
 
 /// The words that are hashed for the leaf, if the openings are of one leaf and differ there.
-///
-/// # Errors
-///
-/// `AllocError` if memory runs out.
 fn leaf_difference<T: Copy + Eq + Drop, W: Copy + Eq, const D: usize>(
     alloc: Global,
     steps: &Steps<'_>,
@@ -165,10 +149,6 @@ fn leaf_difference<T: Copy + Eq + Drop, W: Copy + Eq, const D: usize>(
 
 /// The last place of a level above its group at which two checks differ: the pair, else the rows. `rows` are the rows
 /// of both openings at the layer above.
-///
-/// # Errors
-///
-/// `AllocError` if memory runs out.
 fn differing_above<T: Copy + Eq + Drop, W: Copy + Eq, const N: usize, const D: usize>(
     alloc: Global,
     rows: &RowPair<'_, T>,
@@ -190,10 +170,6 @@ fn differing_above<T: Copy + Eq + Drop, W: Copy + Eq, const N: usize, const D: u
 
 /// The last place of a level at which two checks differ, if they share the node above the level. `rows` are the rows of
 /// both openings at the layer above.
-///
-/// # Errors
-///
-/// `AllocError` if memory runs out.
 fn level_difference<T: Copy + Eq + Drop, W: Copy + Eq, const N: usize, const D: usize>(
     alloc: Global,
     rows: &RowPair<'_, T>,
@@ -230,10 +206,6 @@ impl<
     /// The last place that the checks of two openings share and at which they differ, with both inputs. Both openings
     /// must have their siblings up to the cap. It allocates at shared places alone: the rows there, and the inputs that
     /// differ.
-    ///
-    /// # Errors
-    ///
-    /// `AllocError` if memory runs out.
     pub(crate) fn last_difference(
         &self,
         alloc: Global,

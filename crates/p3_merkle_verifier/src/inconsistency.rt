@@ -108,10 +108,6 @@ fn lemma_reach<T, W: Copy, const N: usize, const D: usize>(
 {}
 
 /// Puts a group at the end of a list of groups.
-///
-/// # Errors
-///
-/// `AllocError` if memory runs out.
 fn push_group<X: Copy + Drop>(
     alloc: Global,
     groups: &mut Vec<Vec<X>>,
@@ -205,10 +201,6 @@ impl<
 
     /// The groups on the path of a leaf below the old cap, from the given layer up, in both trees; and the mixed node
     /// of the old cap's layer. The given layer must be that of the index.
-    ///
-    /// # Errors
-    ///
-    /// `AllocError` if memory runs out.
     fn path_below_old_cap(
         &self,
         alloc: Global,
@@ -250,10 +242,6 @@ impl<
     /// The groups on the path of a leaf in the new tree, from the given layer up to the new cap. `below` has those up
     /// to the old cap, and `mixed` is the mixed node of the old cap's layer. The old cap must have an entry for each
     /// old node of its layer.
-    ///
-    /// # Errors
-    ///
-    /// `AllocError` if memory runs out.
     fn path_above_old_cap(
         &self,
         alloc: Global,
@@ -315,10 +303,6 @@ impl<
 
     /// The last group that differs of an opening's check and of a list of groups, which begins at a layer and ends at
     /// the cap.
-    ///
-    /// # Errors
-    ///
-    /// `AllocError` if memory runs out.
     fn tree_difference(
         &self,
         alloc: Global,
@@ -350,10 +334,6 @@ impl<
     }
 
     /// The last difference of two openings of one leaf below a layer: in the groups, else in the rows of the leaf.
-    ///
-    /// # Errors
-    ///
-    /// `AllocError` if memory runs out.
     fn difference_below(
         &self,
         alloc: Global,
@@ -411,10 +391,6 @@ impl<
 
     /// The first of these differences: the last one of the old opening's check and of the proof's, the last one of the
     /// new opening's check and of the proof's, the last one of both openings below the given node.
-    ///
-    /// # Errors
-    ///
-    /// `AllocError` if memory runs out.
     fn difference_between(
         &self,
         alloc: Global,

@@ -91,13 +91,6 @@ fn lemma_step<X>(
 /// matrix, of its width, and the siblings of the levels below the cap.
 ///
 /// The arity must be a power of two from 2 to 2^62, and `cap_layer` at most the number of levels.
-///
-/// # Errors
-///
-/// The first of these that holds: `WrongBatchSize` if the number of rows is not that of the dimensions; `EmptyBatch`,
-/// `TooLarge` or `IncompatibleHeights` if no tree can be built over such heights; `WrongHeight` if `num_siblings` is
-/// not what the levels below the cap need; `WrongWidth` for the first row whose length is not the width of its matrix;
-/// `IndexOutOfBounds` if the index is not below the tallest height.
 fn check_form<T>(
     steps: &Steps<'_>,
     cap_layer: usize,

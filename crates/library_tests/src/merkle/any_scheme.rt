@@ -20,10 +20,6 @@ type Batches<M> = (Vec<M>, Vec<M>);
 
 /// The words that callers read out of two commitments to matrices of `DIMENSIONS`, and the verdicts of another one on
 /// openings under commitments to two other batches.
-///
-/// # Errors
-///
-/// What the scheme answers.
 fn words_and_verdicts<M: Matrix<u32> + Drop, S: Mmcs<u32, M, Error = MerkleTreeError>>(
     alloc: Global,
     scheme: &mut S,

@@ -9,10 +9,6 @@ use std::alloc::Global;
 use test_fixtures::matrices::{Numbers, numbered};
 
 /// Opens a leaf, and checks the opening.
-///
-/// # Errors
-///
-/// That there is no such leaf, or why the opening is refused.
 fn check_leaf<
     P: PackedValue<Value = u32>,
     PW: PackedValue,

@@ -36,10 +36,6 @@ fn named_rejection(error: MerkleTreeError) -> Rejection
 }
 
 /// Verifies an opening in any scheme of these errors that has `OutOfMemory` alone for want of memory.
-///
-/// # Errors
-///
-/// What the verifier makes of the scheme's refusal, or that memory ran out.
 fn checked<T: Copy, M: Matrix<T>, S: Mmcs<T, M, Error = MerkleTreeError>>(
     alloc: Global,
     verifier: &S,
@@ -86,11 +82,6 @@ fn named_unfit(error: MerkleTreeError) -> Unfit
 }
 
 /// Commits to matrices with salts.
-///
-/// # Errors
-///
-/// What the committer makes of the scheme's refusal, and then the next salts are those that would have come; or that
-/// memory ran out.
 fn committed(
     alloc: Global,
     scheme: &mut Salted,

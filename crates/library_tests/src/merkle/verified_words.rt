@@ -21,10 +21,6 @@ struct Place {
 }
 
 /// The word at a place in the rows of an index, once these are verified. No length is looked at.
-///
-/// # Errors
-///
-/// Why the opening is not accepted, or that there is no memory.
 fn verified_word<T: Copy, M: Matrix<T>, S: Mmcs<T, M>>(
     alloc: Global,
     verifier: &S,
@@ -46,10 +42,6 @@ fn verified_word<T: Copy, M: Matrix<T>, S: Mmcs<T, M>>(
 }
 
 /// The same of one of several indices, which are verified together.
-///
-/// # Errors
-///
-/// Why the openings are not accepted, or that there is no memory.
 fn verified_word_of<T: Copy, M: Matrix<T>, S: Mmcs<T, M>>(
     alloc: Global,
     verifier: &S,
@@ -74,10 +66,6 @@ fn verified_word_of<T: Copy, M: Matrix<T>, S: Mmcs<T, M>>(
 
 /// Opens an index alone and behind another one, and reads the word at a place out of both openings once they are
 /// verified: None where the matrices have no such index.
-///
-/// # Errors
-///
-/// Only if memory runs out.
 fn words_opened<T: Copy, M: Matrix<T>, S: Mmcs<T, M>>(
     alloc: Global,
     scheme: &S,
@@ -112,10 +100,6 @@ fn words_opened<T: Copy, M: Matrix<T>, S: Mmcs<T, M>>(
 }
 
 /// Commits to matrices, and reads the word at a place of an index twice, as `words_opened`.
-///
-/// # Errors
-///
-/// Why the scheme doesn't commit to the matrices, or that there is no memory. What it opens is not refused.
 fn words_read<T: Copy, M: Matrix<T> + Drop, S: Mmcs<T, M>>(
     alloc: Global,
     scheme: &mut S,
