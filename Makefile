@@ -12,7 +12,7 @@ KIT := rattle-kit-13f
 LOGIC := dac8208d650f15bf
 KIT_CHECK := yes
 
-VERSION := $(shell sed -n 's/^pub const VERSION.*"\(.*\)";/\1/p' crates/mmcs_text/src/lib.rt)
+VERSION := $(shell sed -n 's/^pub const VERSION.*"\(.*\)";/\1/p' crates/mmcs_engine/src/lib.rt)
 PROGRAMS := fohlazu mmcs mmcs-verify
 FILES := $(PROGRAMS) libmmcs_verify.a
 CPUS := x86-64-v2 x86-64-v3

@@ -9,7 +9,7 @@ use clap::{Arg, ArgAction, ArgMatches, Command as Words, Error, value_parser};
 use fohlazu_engine::ending::Names;
 use fohlazu_engine::run::Command;
 use fohlazu_engine::{Arity, Kind, Scheme, is_label};
-use mmcs_text::VERSION;
+use mmcs_engine::VERSION;
 use std::alloc::{AllocError, AllocFailed, Global};
 
 /// Why a command is refused whose numbers are not such as its help says.

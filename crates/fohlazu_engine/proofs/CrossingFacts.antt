@@ -20,7 +20,7 @@ use Rattle.p3_merkle_core.specs.Views.{inputs_in}
 use Rattle.p3_merkle_core.specs.declared.collision.Inconsistency.{Inconsistency}
 use Rattle.p3_merkle_core.specs.declared.consistency.Growth.{Growth}
 use Rattle.p3_merkle_core.specs.declared.error.ConsistencyError.{ConsistencyError}
-use Rattle.mmcs_text.specs.declared.command.HashName.TheVariants.{Sha256}
+use Rattle.mmcs_engine.specs.declared.command.HashName.TheVariants.{Sha256}
 use Rattle.mmcs_engine.specs.Program.{sha_functions}
 use Rattle.mmcs_verify_engine.specs.Collisions.{collision_text}
 use Rattle.mmcs_verify_engine.specs.Inner.TypedCollisions.{typed_text}

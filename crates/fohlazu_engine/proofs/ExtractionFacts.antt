@@ -10,9 +10,9 @@ use Rattle.p3_merkle_core.specs.Views.{found_pair, inputs_in}
 use Rattle.p3_merkle_core.specs.declared.cap.CapRule.{CapRule}
 use Rattle.p3_merkle_core.specs.declared.collision.InputPair.{InputPair}
 use Rattle.p3_merkle_core.specs.declared.error.MerkleTreeError.{MerkleTreeError}
-use Rattle.mmcs_text.proofs.MatrixFacts.{digests_plain}
-use Rattle.mmcs_text.specs.Text.{hex_lines}
-use Rattle.mmcs_text.specs.declared.command.HashName.TheVariants.{Sha256}
+use Rattle.mmcs_engine.proofs.MatrixFacts.{digests_plain}
+use Rattle.mmcs_engine.specs.Text.{hex_lines}
+use Rattle.mmcs_engine.specs.declared.command.HashName.TheVariants.{Sha256}
 use Rattle.mmcs_engine.specs.Program.{sha_functions}
 use Rattle.mmcs_verify_engine.specs.Collisions.{collision_text, hashed_words, index_lines, place_line}
 use Rattle.mmcs_verify_engine.specs.Inner.TypedCollisions.{typed_text}

@@ -24,7 +24,7 @@ use Rattle.p3_merkle_core.proofs.Growths.VerdictFacts.{unrefused_consistent}
 use Rattle.p3_merkle_core.proofs.Pruned.NoneFacts.{none_of_both, none_unless}
 use Rattle.p3_merkle_mmcs.proofs.OwnGrowth.{own_consistent, own_digests}
 use Rattle.mmcs_text.specs.Printing.{IsDigestOf}
-use Rattle.mmcs_text.specs.declared.command.HashName.TheVariants.{Sha256}
+use Rattle.mmcs_engine.specs.declared.command.HashName.TheVariants.{Sha256}
 use Rattle.mmcs_engine.specs.Program.{sha_functions}
 use Rattle.mmcs_verify_engine.proofs.AcceptedFacts.{arity_lawful}
 use Rattle.mmcs_verify_engine.proofs.DigestFacts.{node_digest}

@@ -16,7 +16,7 @@ use Rattle.p3_merkle_core.specs.Openings.{honest_rows}
 use Rattle.p3_merkle_core.specs.Pruning.{honest_query, pruned_of, PrunedOpening}
 use Rattle.p3_merkle_core.specs.Refusals.{first_of, ok_unless, pruned_refusal_under, unless}
 use Rattle.p3_merkle_core.proofs.Pruned.NoneFacts.{none_of_both, none_unless}
-use Rattle.mmcs_text.specs.declared.command.HashName.TheVariants.{Sha256}
+use Rattle.mmcs_engine.specs.declared.command.HashName.TheVariants.{Sha256}
 use Rattle.mmcs_engine.specs.Program.{sha_functions}
 use Rattle.mmcs_verify_engine.proofs.DigestFacts.{boundary_digests, layer_digests}
 use Rattle.fohlazu_entries.specs.Entries.{can_be_entry, digests_of, entries_in, entry_at}

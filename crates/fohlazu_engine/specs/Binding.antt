@@ -5,7 +5,7 @@ use Rattle.p3_merkle_core.specs.Checks.{Input}
 use Rattle.p3_merkle_core.specs.Extraction.{IsFirstCollision}
 use Rattle.p3_merkle_core.specs.Inconsistency.{IsInconsistency}
 use Rattle.p3_merkle_core.specs.declared.collision.Between.{Between}
-use Rattle.mmcs_text.specs.declared.command.HashName.TheVariants.{Sha256}
+use Rattle.mmcs_engine.specs.declared.command.HashName.TheVariants.{Sha256}
 use Rattle.mmcs_verify_engine.specs.Collisions.{collision_text}
 use Rattle.fohlazu_text.specs.Fields.{EntryFields, ProofFields, SealFields}
 use Rattle.fohlazu_text.specs.Reading.{consistency_in, proof_in, seal_in}

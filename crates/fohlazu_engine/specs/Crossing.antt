@@ -12,7 +12,7 @@ use Rattle.p3_merkle_core.specs.Pruning.{restored_path}
 use Rattle.p3_merkle_core.specs.Refusals.{first_of, first_some, ok_unless, unless}
 use Rattle.p3_merkle_core.specs.declared.collision.Between.{Between}
 use Rattle.p3_merkle_core.specs.declared.collision.Between.TheVariants.{NewTree, OldTree, Openings}
-use Rattle.mmcs_text.specs.declared.command.HashName.TheVariants.{Sha256}
+use Rattle.mmcs_engine.specs.declared.command.HashName.TheVariants.{Sha256}
 use Rattle.mmcs_verify_engine.specs.Collisions.{collision_text}
 use Rattle.fohlazu_text.specs.Fields.{EntryFields, ProofFields, SealFields}
 use Rattle.fohlazu_text.specs.Printing.{line}

@@ -7,7 +7,7 @@ use Rattle.std.specs.List.{list_any}
 use Rattle.p3_merkle_core.specs.Pruning.{pruned_of, PrunedOpening}
 use Rattle.p3_support.specs.Shown.{row_sets}
 use Rattle.p3_merkle_core.specs.Refusals.{ok_unless, unless}
-use Rattle.mmcs_text.specs.declared.command.HashName.TheVariants.{Sha256}
+use Rattle.mmcs_engine.specs.declared.command.HashName.TheVariants.{Sha256}
 use Rattle.mmcs_verify_engine.specs.Collisions.{collision_text}
 use Rattle.fohlazu_entries.specs.Entries.{AreRead}
 use Rattle.fohlazu_entries.specs.declared.fault.ReadFault.{ReadFault}

@@ -8,8 +8,8 @@ use Rattle.sha2.specs.Sha256.{sha256}
 use Rattle.p3_merkle_core.specs.Commitments.{cap_over}
 use Rattle.p3_merkle_core.specs.Pruning.{honest_query}
 use Rattle.p3_merkle_core.specs.Refusals.{first_of, ok_unless, unless}
-use Rattle.mmcs_text.specs.Text.{hex_lines, labelled}
-use Rattle.mmcs_text.specs.declared.command.HashName.TheVariants.{Sha256}
+use Rattle.mmcs_engine.specs.Text.{hex_lines, labelled}
+use Rattle.mmcs_engine.specs.declared.command.HashName.TheVariants.{Sha256}
 use Rattle.mmcs_engine.specs.Program.{sha_functions}
 use Rattle.mmcs_verify_engine.specs.Collisions.{collision_text}
 use Rattle.fohlazu_entries.specs.Entries.{can_be_entry, digests_of, entries_in, entry_at}

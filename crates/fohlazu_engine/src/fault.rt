@@ -8,7 +8,7 @@ ghost use Rattle.fohlazu_engine.specs.declared.fault.Fault.TheVariants.{OutOfMem
 
 use fohlazu_entries::fault::ReadFault;
 use fohlazu_text::fault::{Expected, TextFault};
-use mmcs_text::process::ProgramFault;
+use mmcs_engine::process::ProgramFault;
 use p3_merkle_core::error::{ConsistencyError, MerkleTreeError, PartsError};
 use std::alloc::{AllocError, AllocFailed};
 use thiserror::Error;

@@ -22,4 +22,4 @@ pub mod verify;
 pub mod verify_consistency;
 
 pub use fohlazu_text::seal::{Kind, Scheme, is_label};
-pub use mmcs_text::command::Arity;
+pub use mmcs_engine::command::Arity;

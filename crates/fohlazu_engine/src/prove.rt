@@ -12,7 +12,7 @@ ghost use Rattle.p3_merkle_core.specs.declared.error.MerkleTreeError.TheVariants
 ghost use Rattle.p3_merkle_prover.specs.Parts.{layers_of, tree_batch};
 ghost use Rattle.mmcs_engine.specs.Inner.Alike.{is_taken_arity};
 ghost use Rattle.mmcs_engine.specs.Program.{sha_functions};
-ghost use Rattle.mmcs_text.specs.Words.{arity_number};
+ghost use Rattle.mmcs_engine.specs.Words.{arity_number};
 ghost use Rattle.fohlazu_entries.specs.Entries.{HoldsOfFile};
 ghost use Rattle.fohlazu_text.specs.Fields.{entry_fields, proof_fields, seal_fields, IsSeal};
 ghost use Rattle.fohlazu_engine.specs.Inner.{cap_refusal, entry_of, file_text, IsReadOf};
@@ -26,7 +26,7 @@ use crate::tree::{Sha256Tree, commit, scheme_of};
 use fohlazu_entries::reading::{Entries, entries_of_file};
 use fohlazu_text::proof::{Entry, Proof};
 use fohlazu_text::seal::{Scheme, Seal};
-use mmcs_text::command::Arity;
+use mmcs_engine::command::Arity;
 use p3_merkle_core::error::MerkleTreeError;
 use std::alloc::{AllocError, Global};
 use std::io::Read;

@@ -29,7 +29,7 @@ use crate::shown::{Shown, read_proof, read_seal};
 use crate::verify::verify_under;
 use crate::verify_consistency::verify_consistency_under;
 use fohlazu_text::seal::{Kind, Scheme, Seal};
-use mmcs_text::streams::write_text;
+use mmcs_engine::streams::write_text;
 use p3_merkle_core::consistency::ConsistencyProof;
 use std::alloc::Global;
 use std::io::{Read, Write};

@@ -1,7 +1,7 @@
 -- A text shows a consistency proof exactly where it is the text of that proof.
 use Rattle.std.proofs.Common.{◌≡◌, List, ℕ, [], ◌++◌, Result, Ok, refl, sym, ap, ◌∙◌, subst, append-nil}
 use Rattle.std.specs.Result.{result_map_both}
-use Rattle.mmcs_text.specs.Text.{digest_lines}
+use Rattle.mmcs_engine.specs.Text.{digest_lines}
 use Rattle.fohlazu_text.specs.Fields.{AreDigests}
 use Rattle.fohlazu_text.specs.Printing.{consistency_text, consistency_version, line}
 use Rattle.fohlazu_text.specs.Reading.{consistency_by, consistency_in, consistency_version_by, counted_digests_by}

@@ -12,9 +12,9 @@ use Rattle.std.proofs.lemmas.List.Elements.{All-nil, All-cons}
 use Rattle.std.proofs.lemmas.List.Folds.{list_all-append}
 use Rattle.mmcs_text.specs.Lines.{digest_of, words_of}
 use Rattle.mmcs_text.specs.Printing.{AreWordsOf, IsDigestOf}
-use Rattle.mmcs_text.specs.Text.{hex_digit, hex_word}
-use Rattle.mmcs_text.specs.Words.{max_word}
-use Rattle.mmcs_text.specs.declared.command.HashName.TheVariants.{Sha256}
+use Rattle.mmcs_engine.specs.Text.{hex_digit, hex_word}
+use Rattle.mmcs_engine.specs.Words.{max_word}
+use Rattle.mmcs_engine.specs.declared.command.HashName.TheVariants.{Sha256}
 use Rattle.mmcs_text.proofs.HexFacts.{digest_back, hex_digits_all}
 use Rattle.mmcs_text.proofs.LineFacts.{digits_decided}
 use Rattle.mmcs_text.proofs.PlainLines.{digits_plain, IsPlain}

@@ -2,8 +2,8 @@
 use Rattle.std.proofs.Common.{◌++◌, length, refl, sym, ap, ◌∙◌, arith, append_assoc}
 use Rattle.std.specs.Prelude.{codes}
 use Rattle.mmcs_text.specs.Printing.{IsDigestOf}
-use Rattle.mmcs_text.specs.Text.{digest_lines, hex_line, hex_lines, labelled}
-use Rattle.mmcs_text.specs.declared.command.HashName.TheVariants.{Sha256}
+use Rattle.mmcs_engine.specs.Text.{digest_lines, hex_line, hex_lines, labelled}
+use Rattle.mmcs_engine.specs.declared.command.HashName.TheVariants.{Sha256}
 use Rattle.fohlazu_text.specs.Fields.{AreDigests}
 use Rattle.fohlazu_text.specs.Reading.{counted_digests_by, digest_by, digest_count_by, digests_by}
 use Rattle.fohlazu_text.specs.declared.fault.Expected.TheVariants.{DigestCount}

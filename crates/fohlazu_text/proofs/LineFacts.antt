@@ -19,11 +19,11 @@ use Rattle.std.proofs.lemmas.Str.Ascii.{IsAscii-from_all}
 use Rattle.p3_merkle_core.specs.Geometry.{IsArity}
 use Rattle.p3_merkle_core.proofs.Shapes.ArityFacts.{arity_from}
 use Rattle.mmcs_text.specs.Printing.{IsDigestOf}
-use Rattle.mmcs_text.specs.Text.{hex_line, hex_word}
-use Rattle.mmcs_text.specs.Words.{arity_number}
-use Rattle.mmcs_text.specs.declared.command.Arity.{Arity}
-use Rattle.mmcs_text.specs.declared.command.Arity.TheVariants.{Two, Four, Eight}
-use Rattle.mmcs_text.specs.declared.command.HashName.TheVariants.{Sha256}
+use Rattle.mmcs_engine.specs.Text.{hex_line, hex_word}
+use Rattle.mmcs_engine.specs.Words.{arity_number}
+use Rattle.mmcs_engine.specs.declared.command.Arity.{Arity}
+use Rattle.mmcs_engine.specs.declared.command.Arity.TheVariants.{Two, Four, Eight}
+use Rattle.mmcs_engine.specs.declared.command.HashName.TheVariants.{Sha256}
 use Rattle.mmcs_text.proofs.PlainLines.{differs, IsPlain}
 use Rattle.fohlazu_text.specs.Fields.{IsKind, IsLabel}
 use Rattle.fohlazu_text.specs.Pieces.{any_content_of, arity_of, behind, content_of, cut_at, head_of, is_content}

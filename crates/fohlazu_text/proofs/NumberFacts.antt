@@ -9,7 +9,7 @@ use Rattle.std.proofs.lemmas.Bool.Decides.{not_from_Decides, Decides-eqb, Decide
 use Rattle.std.proofs.lemmas.Fmt.{decimal-digits_value, decimal_digit, decimal_is_IsNumeral, first_decimal}
 use Rattle.std.proofs.lemmas.List.Elements.{All-weaker}
 use Rattle.std.proofs.lemmas.Str.Parse.{IsNumeralModel}
-use Rattle.mmcs_text.specs.Input.{is_gap}
+use Rattle.mmcs_engine.specs.Input.{is_gap}
 use Rattle.mmcs_text.specs.Lines.{is_number_below}
 use Rattle.mmcs_text.proofs.DecimalFacts.{number_back as lenient_back}
 use Rattle.mmcs_text.proofs.LineFacts.{number_decided}

@@ -7,7 +7,7 @@ use Rattle.std.specs.Result.{result_map_both}
 use Rattle.std.proofs.Math.Seq.{drop-append-add, get_or-append_seam, take-append_seam}
 use Rattle.std.proofs.lemmas.Bool.Decides.{Decides-and, Decides-eqb, Decides-ltb}
 use Rattle.std.proofs.lemmas.List.{take-append-drop}
-use Rattle.mmcs_text.specs.Text.{digest_lines, labelled}
+use Rattle.mmcs_engine.specs.Text.{digest_lines, labelled}
 use Rattle.fohlazu_text.specs.Fields.{AreDigests, EntryFields, IsEntry, IsProof, ProofFields}
 use Rattle.fohlazu_text.specs.Pieces.{head_of}
 use Rattle.fohlazu_text.specs.Printing.{entry_lines, labelled_pair, line, proof_text, proof_version}

@@ -3,8 +3,8 @@ use Rattle.std.proofs.Common.{◌≡◌, ℕ, List, [], ◌∷◌, ◌++◌, len
 use Rattle.std.proofs.Common.{subst, append-nil}
 use Rattle.std.specs.Result.{result_map_both}
 use Rattle.mmcs_text.specs.Printing.{IsDigestOf}
-use Rattle.mmcs_text.specs.Text.{hex_line, hex_lines}
-use Rattle.mmcs_text.specs.declared.command.HashName.TheVariants.{Sha256}
+use Rattle.mmcs_engine.specs.Text.{hex_line, hex_lines}
+use Rattle.mmcs_engine.specs.declared.command.HashName.TheVariants.{Sha256}
 use Rattle.fohlazu_text.specs.Fields.{cap_len, IsSeal, SealFields}
 use Rattle.fohlazu_text.specs.Printing.{content_line, label_line, line, scheme_line, seal_text, seal_version}
 use Rattle.fohlazu_text.specs.Reading.{content_by, content_expected, digest_by, digests_by, ended, fault_of, label_by}

@@ -1,6 +1,6 @@
 -- Texts that are appended part by part.
 use Rattle.std.proofs.Common.{◌≡◌, ℕ, List, [], ◌∷◌, ◌++◌, map, refl, ap, ◌∙◌, append_assoc}
-use Rattle.mmcs_text.specs.Text.{hex_lines}
+use Rattle.mmcs_engine.specs.Text.{hex_lines}
 
 -- parts, each behind those before it: two, and four, and five
 pub two_parts : (none first all a b : List ℕ) → none ≡ [] → first ≡ none ++ a → all ≡ first ++ b → all ≡ a ++ b

@@ -2,7 +2,7 @@
 use Rattle.std.specs.Prelude.{◌≡◌, ℕ, List, [], ◌∷◌, ◌++◌, codes, None, Some, Ok, Err, refl}
 use Rattle.std.specs.Fmt.{digits}
 use Rattle.mmcs_text.specs.Lines.{words_of}
-use Rattle.mmcs_text.specs.declared.command.Arity.TheVariants.{Two, Four}
+use Rattle.mmcs_engine.specs.declared.command.Arity.TheVariants.{Two, Four}
 use Rattle.fohlazu_text.specs.Fields.{ProofFields, SealFields}
 use Rattle.fohlazu_text.specs.Pieces.{head_of, label_of, number_of, scheme_of, strict_digest_of}
 use Rattle.fohlazu_text.specs.Printing.{proof_text, seal_text}

@@ -7,9 +7,9 @@ use Rattle.std.specs.List.{list_all}
 use Rattle.std.specs.Option.{option_and_then, option_or}
 use Rattle.std.specs.Str.Parse.{digits_value}
 use Rattle.mmcs_text.specs.Lines.{digest_of, is_number_below}
-use Rattle.mmcs_text.specs.declared.command.Arity.{Arity}
-use Rattle.mmcs_text.specs.declared.command.Arity.TheVariants.{Two, Four, Eight}
-use Rattle.mmcs_text.specs.declared.command.HashName.TheVariants.{Sha256}
+use Rattle.mmcs_engine.specs.declared.command.Arity.{Arity}
+use Rattle.mmcs_engine.specs.declared.command.Arity.TheVariants.{Two, Four, Eight}
+use Rattle.mmcs_engine.specs.declared.command.HashName.TheVariants.{Sha256}
 use Rattle.fohlazu_text.specs.declared.seal.Content.{Content}
 use Rattle.fohlazu_text.specs.declared.seal.Kind.{Kind}
 use Rattle.fohlazu_text.specs.declared.seal.Kind.TheVariants.{Lines, Blocks}

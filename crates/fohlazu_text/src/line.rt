@@ -8,8 +8,8 @@ ghost use Rattle.fohlazu_text.specs.Reading.{counted_digests_by, digest_by, dige
 ghost use Rattle.fohlazu_text.specs.declared.fault.Stop.TheVariants.{Memory};
 
 use crate::fault::{Expected, Stop, missing};
+use mmcs_engine::number::parse_number;
 use mmcs_text::digest::LineDigest;
-use mmcs_text::number::parse_number;
 use std::alloc::Global;
 
 /// The bytes in front of the first byte that is this one, and those behind it.

@@ -13,7 +13,7 @@ ghost use Rattle.fohlazu_text.specs.declared.fault.TextFault.TheVariants.{OutOfM
 use crate::fault::{Expected, Stop, TextFault, fault_of, missing};
 use crate::line::{counted_digests_by, cut_at, ended, number_by, pair_behind, spelled_by};
 use crate::text::{push_counted_digests, push_line, push_pair};
-use mmcs_text::text::push_labelled;
+use mmcs_engine::text::push_labelled;
 use std::alloc::{AllocError, Global};
 
 /// The first line of a proof.

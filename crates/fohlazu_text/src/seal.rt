@@ -3,7 +3,7 @@
 ghost use Rattle.std.specs.Prelude.{◌≡◌, ◌⊎◌, ◌≤◌, ◌^◌, ◌++◌, IfErr, IfOk, OnOk, Ok, Err, option_map, string_bytes};
 ghost use Rattle.std.specs.Option.{option_eq};
 ghost use Rattle.std.specs.Result.{result_map_both};
-ghost use Rattle.mmcs_text.specs.Words.{arity_number};
+ghost use Rattle.mmcs_engine.specs.Words.{arity_number};
 ghost use Rattle.fohlazu_text.specs.Fields.{cap_len, seal_fields};
 ghost use Rattle.fohlazu_text.specs.Pieces.{any_content_of, arity_of, content_of, is_content, is_label, label_of};
 ghost use Rattle.fohlazu_text.specs.Pieces.{scheme_of};
@@ -15,8 +15,8 @@ ghost use Rattle.fohlazu_text.specs.declared.fault.TextFault.TheVariants.{OutOfM
 use crate::fault::{Expected, Stop, TextFault, fault_of, missing};
 use crate::line::{cut_at, digests_by, ended, number_behind, pair_behind, spelled_by};
 use crate::text::{push_line, push_pair};
-use mmcs_text::command::Arity;
-use mmcs_text::text::{push_digests, push_labelled};
+use mmcs_engine::command::Arity;
+use mmcs_engine::text::{push_digests, push_labelled};
 use p3_merkle_core::geometry::padded_len;
 use p3_merkle_core::parts::{cap_layer_of_height, nodes_of_height};
 use std::alloc::{AllocError, Global};

@@ -1,10 +1,10 @@
 //! Printed lines.
 
 ghost use Rattle.std.specs.Prelude.{◌≡◌, ◌++◌, OnOk};
-ghost use Rattle.mmcs_text.specs.Text.{digest_lines};
+ghost use Rattle.mmcs_engine.specs.Text.{digest_lines};
 ghost use Rattle.fohlazu_text.specs.Printing.{labelled_pair, line};
 
-use mmcs_text::text::{push_digests, push_labelled};
+use mmcs_engine::text::{push_digests, push_labelled};
 use std::alloc::{AllocError, Global};
 
 /// Appends some bytes and a line feed.

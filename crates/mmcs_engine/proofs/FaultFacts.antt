@@ -6,14 +6,14 @@ use Rattle.std.specs.List.{AllZip}
 use Rattle.std.proofs.lemmas.List.{length_push}
 use Rattle.std.proofs.lemmas.List.Elements.{All-nil, All-cons, All-push, All-contains, Contains-append_left}
 use Rattle.std.proofs.lemmas.List.Elements.{Contains-push, Contains-get_or}
-use Rattle.mmcs_text.specs.Numbers.{IsNumberBelow}
-use Rattle.mmcs_text.specs.declared.fault.Fault.{Fault}
-use Rattle.mmcs_text.specs.declared.fault.Fault.TheVariants.{Usage, Read, Number, Count, Tree, Write}
-use Rattle.mmcs_text.specs.Input.{is_blank, numerals_of, numbers_of, rows_at_end, runs_between, AreLinesOf}
-use Rattle.mmcs_text.specs.Input.{IsFirstFault, IsLineFault, IsMatrix}
-use Rattle.mmcs_text.proofs.Runs.{first_run}
-use Rattle.mmcs_text.proofs.BlockFacts.{all_from_map}
-use Rattle.mmcs_text.proofs.InputFacts.{zip_at, rows_are_last, runs_ended, IsEnded}
+use Rattle.mmcs_engine.specs.Numbers.{IsNumberBelow}
+use Rattle.mmcs_engine.specs.declared.fault.Fault.{Fault}
+use Rattle.mmcs_engine.specs.declared.fault.Fault.TheVariants.{Usage, Read, Number, Count, Tree, Write}
+use Rattle.mmcs_engine.specs.Input.{is_blank, numerals_of, numbers_of, rows_at_end, runs_between, AreLinesOf}
+use Rattle.mmcs_engine.specs.Input.{IsFirstFault, IsLineFault, IsMatrix}
+use Rattle.mmcs_engine.proofs.Runs.{first_run}
+use Rattle.mmcs_engine.proofs.BlockFacts.{all_from_map}
+use Rattle.mmcs_engine.proofs.InputFacts.{zip_at, rows_are_last, runs_ended, IsEnded}
 
 -- ---- lines, cut behind the last blank one
 

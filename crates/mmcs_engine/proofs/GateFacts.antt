@@ -14,7 +14,7 @@ use Rattle.p3_merkle_core.specs.declared.error.MerkleTreeError.{MerkleTreeError}
 use Rattle.p3_merkle_core.specs.declared.error.MerkleTreeError.TheVariants.{IndexOutOfBounds, OutOfMemory}
 use Rattle.p3_merkle_core.proofs.Shapes.GateFacts.{gate_lawful}
 use Rattle.p3_merkle_core.proofs.Pruned.NoneFacts.{below_from, none_unless}
-use Rattle.mmcs_text.specs.Matrices.{batch_of_rows}
+use Rattle.mmcs_engine.specs.Matrices.{batch_of_rows}
 use Rattle.mmcs_engine.specs.Program.{heights_of_rows}
 
 -- where both of two reasons fail

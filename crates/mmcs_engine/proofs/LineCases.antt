@@ -4,14 +4,14 @@ use Rattle.std.proofs.Common.{◌++◌, length, sym, refl, ◌∙◌, subst, ari
 use Rattle.std.specs.Prelude.{All}
 use Rattle.std.proofs.lemmas.Bool.{cases_eq}
 use Rattle.std.proofs.lemmas.List.Elements.{All-nil, All-get_or}
-use Rattle.mmcs_text.specs.declared.fault.Fault.{Fault}
-use Rattle.mmcs_text.specs.declared.fault.Fault.TheVariants.{Number, Count}
-use Rattle.mmcs_text.specs.Numbers.{IsNumberBelow}
-use Rattle.mmcs_text.specs.Input.{is_blank, numerals_of, numbers_of, AreLinesOf, IsFirstFault}
-use Rattle.mmcs_text.specs.Inner.Blocks.{IsBlock}
-use Rattle.mmcs_text.proofs.BlockFacts.{block_more}
-use Rattle.mmcs_text.proofs.InputFacts.{LinesSoFar, lines_start, lines_blank, lines_ended, lines_row, lines_fault}
-use Rattle.mmcs_text.proofs.InputFacts.{lines_end, lines_end_block}
+use Rattle.mmcs_engine.specs.declared.fault.Fault.{Fault}
+use Rattle.mmcs_engine.specs.declared.fault.Fault.TheVariants.{Number, Count}
+use Rattle.mmcs_engine.specs.Numbers.{IsNumberBelow}
+use Rattle.mmcs_engine.specs.Input.{is_blank, numerals_of, numbers_of, AreLinesOf, IsFirstFault}
+use Rattle.mmcs_engine.specs.Inner.Blocks.{IsBlock}
+use Rattle.mmcs_engine.proofs.BlockFacts.{block_more}
+use Rattle.mmcs_engine.proofs.InputFacts.{LinesSoFar, lines_start, lines_blank, lines_ended, lines_row, lines_fault}
+use Rattle.mmcs_engine.proofs.InputFacts.{lines_end, lines_end_block}
 use Rattle.mmcs_engine.proofs.WordCases.{settled_each, settled_number}
 
 module _ (max : ℕ) (lines : List (List ℕ)) where

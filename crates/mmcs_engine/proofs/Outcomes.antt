@@ -9,15 +9,15 @@ use Rattle.p3_support.specs.Batches.{greatest}
 use Rattle.p3_merkle_core.specs.Nodes.{shape}
 use Rattle.p3_merkle_core.specs.declared.error.MerkleTreeError.{MerkleTreeError}
 use Rattle.p3_merkle_core.specs.declared.error.MerkleTreeError.TheVariants.{OutOfMemory}
-use Rattle.mmcs_text.specs.declared.command.Command.{Command}
-use Rattle.mmcs_text.specs.declared.fault.Fault.{Fault}
-use Rattle.mmcs_text.specs.declared.fault.Fault.TheVariants.{Usage, Read, Number, Count, Tree, Write}
-use Rattle.mmcs_text.specs.Input.{pieces_of, runs_between, is_blank, IsFirstFault, IsMatrix, StandsFor}
-use Rattle.mmcs_text.specs.Words.{max_word, AreNoCommand, AreWords}
-use Rattle.mmcs_text.specs.Words.{arity_number}
+use Rattle.mmcs_engine.specs.declared.command.Command.{Command}
+use Rattle.mmcs_engine.specs.declared.fault.Fault.{Fault}
+use Rattle.mmcs_engine.specs.declared.fault.Fault.TheVariants.{Usage, Read, Number, Count, Tree, Write}
+use Rattle.mmcs_engine.specs.Input.{pieces_of, runs_between, is_blank, IsFirstFault, IsMatrix, StandsFor}
+use Rattle.mmcs_engine.specs.Words.{max_word, AreNoCommand, AreWords}
+use Rattle.mmcs_engine.specs.Words.{arity_number}
 use Rattle.mmcs_engine.specs.Program.{batch_asked, output_of, refusal_of, AreTaken, EndsIn, IsOutcome, IsReply, IsTold}
 use Rattle.mmcs_engine.specs.Program.{Prints}
-use Rattle.mmcs_text.proofs.WordFacts.{same_command}
+use Rattle.mmcs_engine.proofs.WordFacts.{same_command}
 use Rattle.mmcs_engine.proofs.FaultFacts.{fault_excludes, one_first_fault}
 use Rattle.mmcs_engine.proofs.GateFacts.{heights_are, taken_unrefused}
 

@@ -11,12 +11,12 @@ use Rattle.p3_merkle_core.specs.Nodes.{shape, Batch}
 use Rattle.p3_merkle_core.specs.Pruning.{IsPrunedAccepted, PrunedOpening}
 use Rattle.p3_merkle_core.specs.declared.error.MerkleTreeError.{MerkleTreeError}
 use Rattle.p3_merkle_core.specs.declared.error.MerkleTreeError.TheVariants.{OutOfMemory}
-use Rattle.mmcs_text.specs.declared.command.Command.{Command}
-use Rattle.mmcs_text.specs.declared.fault.Fault.{Fault}
-use Rattle.mmcs_text.specs.declared.fault.Fault.TheVariants.{Usage, Tree, Write}
-use Rattle.mmcs_text.specs.Input.{StandsFor}
-use Rattle.mmcs_text.specs.Matrices.{batch_of_rows}
-use Rattle.mmcs_text.specs.Words.{arity_number, max_word, AreNoCommand}
+use Rattle.mmcs_engine.specs.declared.command.Command.{Command}
+use Rattle.mmcs_engine.specs.declared.fault.Fault.{Fault}
+use Rattle.mmcs_engine.specs.declared.fault.Fault.TheVariants.{Usage, Tree, Write}
+use Rattle.mmcs_engine.specs.Input.{StandsFor}
+use Rattle.mmcs_engine.specs.Matrices.{batch_of_rows}
+use Rattle.mmcs_engine.specs.Words.{arity_number, max_word, AreNoCommand}
 use Rattle.mmcs_engine.specs.Program.{batch_asked, layer_of_cap, refusal_of, text_of, IsAnswer, IsReply, IsTold, Prints}
 use Rattle.mmcs_engine.proofs.GateFacts.{heights_are, taken_from_none}
 use Rattle.mmcs_engine.proofs.Outcomes.{ends_in}

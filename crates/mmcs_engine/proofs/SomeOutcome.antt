@@ -2,11 +2,11 @@
 use Rattle.std.proofs.Common.{◌≡◌, ⊎_elim, ℕ, ◌+◌, List, Option, Some, None, Result, Ok, Err, refl}
 use Rattle.p3_merkle_core.specs.declared.error.MerkleTreeError.{MerkleTreeError}
 use Rattle.p3_merkle_core.specs.Nodes.{shape}
-use Rattle.mmcs_text.specs.declared.command.Command.{Command}
-use Rattle.mmcs_text.specs.declared.fault.Fault.{Fault}
-use Rattle.mmcs_text.specs.declared.fault.Fault.TheVariants.{Usage, Read, Number, Count, Tree, Write}
-use Rattle.mmcs_text.specs.Input.{pieces_of, IsFirstFault, StandsFor}
-use Rattle.mmcs_text.specs.Words.{arity_number, max_word, AreWords}
+use Rattle.mmcs_engine.specs.declared.command.Command.{Command}
+use Rattle.mmcs_engine.specs.declared.fault.Fault.{Fault}
+use Rattle.mmcs_engine.specs.declared.fault.Fault.TheVariants.{Usage, Read, Number, Count, Tree, Write}
+use Rattle.mmcs_engine.specs.Input.{pieces_of, IsFirstFault, StandsFor}
+use Rattle.mmcs_engine.specs.Words.{arity_number, max_word, AreWords}
 use Rattle.mmcs_engine.specs.Program.{batch_asked, output_of, refusal_of, IsOutcome}
 use Rattle.mmcs_engine.proofs.LineCases.{matrices_or_fault}
 use Rattle.mmcs_engine.proofs.ReplyFacts.{reply_text}

@@ -9,17 +9,17 @@ use Rattle.std.proofs.lemmas.Bool.{cases_eq, cases_lt, false≢true}
 use Rattle.std.proofs.lemmas.List.{length_push}
 use Rattle.std.proofs.lemmas.List.Elements.{All-nil, All-cons, All-head, All-tail}
 use Rattle.p3_merkle_core.specs.declared.cap.CapRule.TheVariants.{Lowered, Fixed}
-use Rattle.mmcs_text.specs.declared.command.Action.{Action}
-use Rattle.mmcs_text.specs.declared.command.Action.TheVariants.{Commit, Open, Check}
-use Rattle.mmcs_text.specs.declared.command.Arity.{Arity}
-use Rattle.mmcs_text.specs.declared.command.Arity.TheVariants.{Two, Four, Eight}
-use Rattle.mmcs_text.specs.declared.command.CapChoice.{CapChoice}
-use Rattle.mmcs_text.specs.declared.command.Command.{Command}
-use Rattle.mmcs_text.specs.declared.command.HashName.{HashName}
-use Rattle.mmcs_text.specs.declared.command.HashName.TheVariants.{Fold, Sha256}
-use Rattle.mmcs_text.specs.Numbers.{IsNumberBelow}
-use Rattle.mmcs_text.specs.Words.{action_word, arity_word, hash_word, AreWords, IsCapWord, IsNumberWord, MayFollow}
-use Rattle.mmcs_text.proofs.WordFacts.{cap_fixed, no_cap_fixed, no_cap_lowered}
+use Rattle.mmcs_engine.specs.declared.command.Action.{Action}
+use Rattle.mmcs_engine.specs.declared.command.Action.TheVariants.{Commit, Open, Check}
+use Rattle.mmcs_engine.specs.declared.command.Arity.{Arity}
+use Rattle.mmcs_engine.specs.declared.command.Arity.TheVariants.{Two, Four, Eight}
+use Rattle.mmcs_engine.specs.declared.command.CapChoice.{CapChoice}
+use Rattle.mmcs_engine.specs.declared.command.Command.{Command}
+use Rattle.mmcs_engine.specs.declared.command.HashName.{HashName}
+use Rattle.mmcs_engine.specs.declared.command.HashName.TheVariants.{Fold, Sha256}
+use Rattle.mmcs_engine.specs.Numbers.{IsNumberBelow}
+use Rattle.mmcs_engine.specs.Words.{action_word, arity_word, hash_word, AreWords, IsCapWord, IsNumberWord, MayFollow}
+use Rattle.mmcs_engine.proofs.WordFacts.{cap_fixed, no_cap_fixed, no_cap_lowered}
 
 -- ---- facts that hold or do not
 

@@ -1,2 +1,4 @@
--- Words that proofs and internal calls use.
+-- Definitions that only proofs, and calls that no public contract mentions, use.
+pub mod Blocks
+pub mod Stored
 pub mod Alike

@@ -1,8 +1,8 @@
-pub use Rattle.mmcs_text.specs.Numbers
-pub use Rattle.mmcs_text.specs.Faults
-pub use Rattle.mmcs_text.specs.Input
-pub use Rattle.mmcs_text.specs.Words
-pub use Rattle.mmcs_text.specs.Text
-pub use Rattle.mmcs_text.specs.Matrices
+pub mod Numbers
+pub mod Faults
+pub mod Input
+pub mod Words
+pub mod Text
+pub mod Matrices
 pub mod Program
 pub mod Inner

@@ -13,18 +13,18 @@ use Rattle.p3_merkle_core.specs.Nodes.{Batch, Functions, functions_of, layer, la
 use Rattle.p3_merkle_core.specs.Openings.{honest_rows, node_in}
 use Rattle.p3_merkle_core.specs.declared.error.MerkleTreeError.{MerkleTreeError}
 use Rattle.p3_merkle_core.specs.declared.error.MerkleTreeError.TheVariants.{OutOfMemory}
-use Rattle.mmcs_text.specs.declared.command.Action.{Action}
-use Rattle.mmcs_text.specs.declared.command.Action.TheVariants.{Commit, Open, Check}
-use Rattle.mmcs_text.specs.declared.command.CapChoice.{CapChoice}
-use Rattle.mmcs_text.specs.declared.command.Command.{Command}
-use Rattle.mmcs_text.specs.declared.command.HashName.{HashName}
-use Rattle.mmcs_text.specs.declared.command.HashName.TheVariants.{Fold, Sha256}
-use Rattle.mmcs_text.specs.declared.fault.Fault.{Fault}
-use Rattle.mmcs_text.specs.declared.fault.Fault.TheVariants.{Usage, Read, Tree, Write}
-use Rattle.mmcs_text.specs.Input.{pieces_of, IsFirstFault, StandsFor}
-use Rattle.mmcs_text.specs.Matrices.{batch_of_rows}
-use Rattle.mmcs_text.specs.Text.{digest_lines, hex_lines, ok_line, query_lines}
-use Rattle.mmcs_text.specs.Words.{arity_number, max_word, AreNoCommand, AreWords}
+use Rattle.mmcs_engine.specs.declared.command.Action.{Action}
+use Rattle.mmcs_engine.specs.declared.command.Action.TheVariants.{Commit, Open, Check}
+use Rattle.mmcs_engine.specs.declared.command.CapChoice.{CapChoice}
+use Rattle.mmcs_engine.specs.declared.command.Command.{Command}
+use Rattle.mmcs_engine.specs.declared.command.HashName.{HashName}
+use Rattle.mmcs_engine.specs.declared.command.HashName.TheVariants.{Fold, Sha256}
+use Rattle.mmcs_engine.specs.declared.fault.Fault.{Fault}
+use Rattle.mmcs_engine.specs.declared.fault.Fault.TheVariants.{Usage, Read, Tree, Write}
+use Rattle.mmcs_engine.specs.Input.{pieces_of, IsFirstFault, StandsFor}
+use Rattle.mmcs_engine.specs.Matrices.{batch_of_rows}
+use Rattle.mmcs_engine.specs.Text.{digest_lines, hex_lines, ok_line, query_lines}
+use Rattle.mmcs_engine.specs.Words.{arity_number, max_word, AreNoCommand, AreWords}
 
 -- ---- what is printed
 

@@ -1,10 +1,10 @@
 //! What follows from the meaning of words and of inputs.
 
 ghost use Rattle.std.specs.Prelude.{◌≡◌, ◌↔◌, ℕ, true, List, ◌∷◌, ◌++◌, All, Result};
-ghost use Rattle.mmcs_text.specs.declared.command.Command.{Command};
-ghost use Rattle.mmcs_text.specs.declared.fault.Fault.{Fault};
-ghost use Rattle.mmcs_text.specs.Input.{is_blank, pieces_of, StandsFor};
-ghost use Rattle.mmcs_text.specs.Words.{AreWords};
+ghost use Rattle.mmcs_engine.specs.declared.command.Command.{Command};
+ghost use Rattle.mmcs_engine.specs.declared.fault.Fault.{Fault};
+ghost use Rattle.mmcs_engine.specs.Input.{is_blank, pieces_of, StandsFor};
+ghost use Rattle.mmcs_engine.specs.Words.{AreWords};
 ghost use Rattle.mmcs_engine.specs.Program.{IsOutcome};
 
 /// Some words are those of at most one command with its indices, an input stands for at most one list of matrices, and

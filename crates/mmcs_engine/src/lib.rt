@@ -1,8 +1,18 @@
-//! The engine of the program `mmcs`: from the words of a command and an input to an output, or to a fault.
+//! The program `mmcs`: from its arguments and an input to an output or an error, with the exit code. Matrices are read,
+//! committed to, opened and checked, and lines are printed.
 #![tactic(auto)]
 
+pub mod command;
 pub mod engine;
+pub mod fault;
+pub mod input;
 pub mod laws;
+pub mod number;
+pub mod process;
 pub mod schemes;
+pub mod streams;
+pub mod text;
+pub mod word;
 
-pub use mmcs_text::{fault, process};
+/// The version of the programs and of the library. The Makefile reads it here.
+pub const VERSION: &str = "0.1.0";

@@ -2,11 +2,11 @@
 
 ghost use Rattle.std.specs.Prelude.{IsTrue};
 ghost use Rattle.p3_merkle_mmcs.specs.Schemes.{cap_height_of, cap_rule_of, scheme_functions};
-ghost use Rattle.mmcs_text.specs.declared.command.HashName.TheVariants.{Fold, Sha256};
+ghost use Rattle.mmcs_engine.specs.declared.command.HashName.TheVariants.{Fold, Sha256};
 ghost use Rattle.mmcs_engine.specs.Inner.Alike.{is_taken_arity, IsSchemeOf};
 
-use mmcs_text::command::CapChoice;
-use mmcs_text::word::Word;
+use crate::command::CapChoice;
+use crate::word::Word;
 use p3_hashes::fold::{FoldCompress, FoldHash};
 use p3_hashes::sha_eights::{Sha256NodesInEights, Sha256RowsInEights};
 use p3_merkle_mmcs::mmcs::MerkleTreeMmcs;

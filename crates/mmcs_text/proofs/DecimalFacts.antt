@@ -7,9 +7,9 @@ use Rattle.std.specs.Str.Parse.{digits_value}
 use Rattle.std.proofs.lemmas.Bool.Decides.{Decides-eqb}
 use Rattle.std.proofs.lemmas.Fmt.{decimal_is_IsNumeral}
 use Rattle.std.proofs.lemmas.List.Elements.{All-head, All-tail}
-use Rattle.mmcs_text.specs.Input.{is_gap, numbers_of, numerals_of}
-use Rattle.mmcs_text.specs.Text.{spaced}
-use Rattle.mmcs_text.proofs.Runs.{run_ends, run_whole}
+use Rattle.mmcs_engine.specs.Input.{is_gap, numbers_of, numerals_of}
+use Rattle.mmcs_engine.specs.Text.{spaced}
+use Rattle.mmcs_engine.proofs.Runs.{run_ends, run_whole}
 use Rattle.mmcs_text.specs.Lines.{is_number_below, row_of}
 use Rattle.mmcs_text.proofs.LineFacts.{number_decided}
 use Rattle.mmcs_text.proofs.PlainLines.{digits_no_gap}

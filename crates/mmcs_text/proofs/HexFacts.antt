@@ -9,11 +9,11 @@ use Rattle.std.proofs.Math.Seq.{take-append_seam, drop-append_seam}
 use Rattle.std.proofs.lemmas.Int.Digits.{digits_value_push}
 use Rattle.std.proofs.lemmas.List.Elements.{All-head, All-tail, All-weaker}
 use Rattle.std.proofs.lemmas.Str.{digit_value-digit_char}
-use Rattle.mmcs_text.specs.Text.{hex_digit, hex_word}
-use Rattle.mmcs_text.specs.Words.{max_word}
-use Rattle.mmcs_text.specs.declared.command.HashName.{HashName}
-use Rattle.mmcs_text.specs.declared.command.HashName.TheVariants.{Fold, Sha256}
-use Rattle.mmcs_text.proofs.TextFacts.{length-hex_word}
+use Rattle.mmcs_engine.specs.Text.{hex_digit, hex_word}
+use Rattle.mmcs_engine.specs.Words.{max_word}
+use Rattle.mmcs_engine.specs.declared.command.HashName.{HashName}
+use Rattle.mmcs_engine.specs.declared.command.HashName.TheVariants.{Fold, Sha256}
+use Rattle.mmcs_engine.proofs.TextFacts.{length-hex_word}
 use Rattle.mmcs_text.specs.Lines.{digest_digits, digest_of, digest_words, word_digits, words_of}
 use Rattle.mmcs_text.specs.Printing.{IsDigestOf}
 use Rattle.mmcs_text.proofs.LineFacts.{digest_shown, digits_decided}

@@ -1,15 +1,3 @@
-pub mod WordFacts
-pub mod NumberFacts
-pub mod ByNumber
-pub mod Runs
-pub mod BlankFacts
-pub mod RowsCut
-pub mod BlockFacts
-pub mod MatrixFacts
-pub mod InputLaws
-pub mod InputFacts
-pub mod RowFacts
-pub mod TextFacts
 pub mod LineFacts
 pub mod PlainLines
 pub mod HexFacts

@@ -16,9 +16,9 @@ use Rattle.std.proofs.lemmas.Grind.{take-set_at}
 use Rattle.std.proofs.lemmas.List.{drop-drop, length-drop, take_all}
 use Rattle.std.proofs.Math.Nat.{pow-le-pow_right}
 use Rattle.p3_support.specs.declared.matrix.Dimensions.{Dimensions}
-use Rattle.mmcs_text.specs.Numbers.{IsNumberBelow}
-use Rattle.mmcs_text.specs.declared.command.HashName.{HashName}
-use Rattle.mmcs_text.specs.Input.{numbers_of, numerals_of}
+use Rattle.mmcs_engine.specs.Numbers.{IsNumberBelow}
+use Rattle.mmcs_engine.specs.declared.command.HashName.{HashName}
+use Rattle.mmcs_engine.specs.Input.{numbers_of, numerals_of}
 use Rattle.mmcs_text.specs.Lines.{digest_digits, digest_of, digest_words, is_number_below, number_behind}
 use Rattle.mmcs_text.specs.Lines.{row_of, word_digits, words_of}
 use Rattle.mmcs_text.specs.Requests.{dimensions_of_word}

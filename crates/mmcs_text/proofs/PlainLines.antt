@@ -9,7 +9,7 @@ use Rattle.std.specs.Str.Parse.{AllDigits}
 use Rattle.std.proofs.lemmas.Bool.Decides.{Decides-eqb}
 use Rattle.std.proofs.lemmas.List.Elements.{All-nil, All-cons, All-get_or, All-weaker}
 use Rattle.std.proofs.lemmas.List.Splits.{slice_split_at}
-use Rattle.mmcs_text.specs.Input.{is_blank, is_gap, pieces_of}
+use Rattle.mmcs_engine.specs.Input.{is_blank, is_gap, pieces_of}
 
 -- no control characters
 abbrev pub IsPlain : List ℕ → Type 0

@@ -10,9 +10,9 @@ use Rattle.std.proofs.lemmas.Option.{slice_get_read}
 use Rattle.std.proofs.lemmas.List.Splits.{length-slice_split}
 use Rattle.std.proofs.lemmas.List.Sums.{count_by-le-length}
 use Rattle.p3_support.specs.declared.matrix.Dimensions.{Dimensions}
-use Rattle.mmcs_text.specs.Input.{is_blank, pieces_of}
-use Rattle.mmcs_text.specs.Words.{max_word}
-use Rattle.mmcs_text.specs.declared.command.HashName.{HashName}
+use Rattle.mmcs_engine.specs.Input.{is_blank, pieces_of}
+use Rattle.mmcs_engine.specs.Words.{max_word}
+use Rattle.mmcs_engine.specs.declared.command.HashName.{HashName}
 use Rattle.mmcs_text.specs.Lines.{digest_of, number_behind, row_of}
 use Rattle.mmcs_text.specs.Readings.{after_at, after_line, after_row, asked_behind, behind_first, expected_after}
 use Rattle.mmcs_text.specs.Readings.{is_answered, pair_by, pair_in, paired_with, settled, shown_by, unread, whole_at}

@@ -11,8 +11,8 @@ use Rattle.std.proofs.lemmas.Bool.{false≢true}
 use Rattle.std.proofs.lemmas.List.{drop_more, map-append, take_all, take_rest, take-append-drop}
 use Rattle.p3_support.specs.declared.matrix.Dimensions.{Dimensions}
 use Rattle.mmcs_text.specs.Inner.Sizes.{are_dimensions}
-use Rattle.mmcs_text.specs.Words.{arity_word, hash_word, texts_of, IsCapWord, IsNumberWord}
-use Rattle.mmcs_text.specs.declared.command.CapChoice.{CapChoice}
+use Rattle.mmcs_engine.specs.Words.{arity_word, hash_word, texts_of, IsCapWord, IsNumberWord}
+use Rattle.mmcs_engine.specs.declared.command.CapChoice.{CapChoice}
 use Rattle.mmcs_text.specs.Requests.{dimensions_of_word, task_word, task_words, AreNoCommand, AreTaskWords, AreWords}
 use Rattle.mmcs_text.specs.declared.request.Setting.{Setting}
 use Rattle.mmcs_text.specs.declared.request.Task.{Task}

@@ -1,6 +1,4 @@
 -- Definitions that only proofs, and calls that no public contract mentions, use.
-pub mod Blocks
-pub mod Stored
 pub mod Left
 pub mod Typed
 pub mod Sizes

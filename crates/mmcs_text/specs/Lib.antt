@@ -1,9 +1,3 @@
-pub mod Numbers
-pub mod Input
-pub mod Words
-pub mod Text
-pub mod Matrices
-pub mod Faults
 pub mod OpeningFaults
 pub mod Lines
 pub mod Printing

@@ -5,9 +5,9 @@ use Rattle.std.specs.Char.{is_digit}
 use Rattle.std.specs.Cmp.Lexicographic.{pointwise}
 use Rattle.std.specs.List.{list_all}
 use Rattle.std.specs.Str.Parse.{digits_value}
-use Rattle.mmcs_text.specs.Input.{numbers_of, numerals_of}
-use Rattle.mmcs_text.specs.declared.command.HashName.{HashName}
-use Rattle.mmcs_text.specs.declared.command.HashName.TheVariants.{Fold, Sha256}
+use Rattle.mmcs_engine.specs.Input.{numbers_of, numerals_of}
+use Rattle.mmcs_engine.specs.declared.command.HashName.{HashName}
+use Rattle.mmcs_engine.specs.declared.command.HashName.TheVariants.{Fold, Sha256}
 
 -- whether these are the digits of a number below the limit: one or more ASCII digits
 abbrev pub is_number_below : ℕ → List ℕ → Bool

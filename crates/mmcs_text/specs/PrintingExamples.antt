@@ -2,7 +2,7 @@
 use Rattle.std.specs.Prelude.{◌≡◌, List, [], ◌∷◌, ◌++◌, codes, None, Some, Ok, refl}
 use Rattle.std.specs.Fmt.{digits}
 use Rattle.p3_support.specs.declared.matrix.Dimensions.{Dimensions}
-use Rattle.mmcs_text.specs.declared.command.HashName.TheVariants.{Fold}
+use Rattle.mmcs_engine.specs.declared.command.HashName.TheVariants.{Fold}
 use Rattle.mmcs_text.specs.Lines.{words_of}
 use Rattle.mmcs_text.specs.Printing.{text_shown}
 use Rattle.mmcs_text.specs.Readings.{shown_by, shown_in, Shown}

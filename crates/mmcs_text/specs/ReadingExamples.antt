@@ -1,7 +1,7 @@
 -- Worked values, which the checker computes.
 use Rattle.std.specs.Prelude.{◌≡◌, List, [], ◌∷◌, ◌++◌, codes, None, Some, Ok, Err, refl}
 use Rattle.p3_support.specs.declared.matrix.Dimensions.{Dimensions}
-use Rattle.mmcs_text.specs.declared.command.HashName.TheVariants.{Fold}
+use Rattle.mmcs_engine.specs.declared.command.HashName.TheVariants.{Fold}
 use Rattle.mmcs_text.specs.Lines.{digest_of, number_behind, row_of, words_of}
 use Rattle.mmcs_text.specs.Readings.{pair_by, pair_in, shown_by, shown_in}
 use Rattle.mmcs_text.specs.Requests.{dimensions_of_word}

@@ -4,7 +4,7 @@ use Rattle.std.specs.Prelude.{take, drop, All, Option, None, Some}
 use Rattle.std.specs.Option.{option_and_then}
 use Rattle.std.specs.Str.Parse.{digits_value}
 use Rattle.p3_support.specs.declared.matrix.Dimensions.{Dimensions}
-use Rattle.mmcs_text.specs.Words.{arity_word, hash_word, IsCapWord, IsNumberWord}
+use Rattle.mmcs_engine.specs.Words.{arity_word, hash_word, IsCapWord, IsNumberWord}
 use Rattle.mmcs_text.specs.Lines.{is_number_below}
 use Rattle.mmcs_text.specs.declared.request.Setting.{Setting}
 use Rattle.mmcs_text.specs.declared.request.Task.{Task}

@@ -5,8 +5,8 @@ ghost use Rattle.std.specs.Prelude.{take};
 ghost use Rattle.std.specs.Char.{digit_value, is_digit};
 ghost use Rattle.std.specs.List.{list_all};
 ghost use Rattle.std.specs.Str.Parse.{digits_value, AllDigits};
-ghost use Rattle.mmcs_text.specs.declared.command.HashName.{HashName};
-ghost use Rattle.mmcs_text.specs.declared.command.HashName.TheVariants.{Fold, Sha256};
+ghost use Rattle.mmcs_engine.specs.declared.command.HashName.{HashName};
+ghost use Rattle.mmcs_engine.specs.declared.command.HashName.TheVariants.{Fold, Sha256};
 ghost use Rattle.mmcs_text.specs.Lines.{digest_digits, digest_of, words_of};
 
 /// A digest that a line shows in hexadecimal.

@@ -1,10 +1,10 @@
 //! The lines of an input, one after another.
 
 ghost use Rattle.std.specs.Prelude.{◌≡◌, ◌+◌, ◌∷◌, [], IfNone, IfSome};
-ghost use Rattle.mmcs_text.specs.Input.{pieces_of};
+ghost use Rattle.mmcs_engine.specs.Input.{pieces_of};
 ghost use Rattle.mmcs_text.specs.Inner.Left.{lines_left, AreCounted};
 
-use crate::input::{cut_line, without_return};
+use mmcs_engine::input::{cut_line, without_return};
 
 /// The lines of an input that were not read yet.
 #[derive(Drop)]

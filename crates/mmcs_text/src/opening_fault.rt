@@ -5,7 +5,7 @@ ghost use Rattle.p3_merkle_core.specs.declared.error.MerkleTreeError.TheVariants
 ghost use Rattle.mmcs_text.specs.declared.opening_fault.Fault.TheVariants.{Tree};
 ghost use Rattle.mmcs_text.specs.OpeningFaults.{status_of};
 
-use crate::process::ProgramFault;
+use mmcs_engine::process::ProgramFault;
 use p3_merkle_core::error::MerkleTreeError;
 use std::alloc::AllocError;
 use thiserror::Error;

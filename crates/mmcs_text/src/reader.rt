@@ -3,9 +3,9 @@
 ghost use Rattle.std.specs.Prelude.{◌≡◌, ◌⊎◌, ◌+◌, ℕ, true, false, if◌then◌else◌, List, [], ◌∷◌, IfOk, IfErr, None};
 ghost use Rattle.std.specs.Prelude.{OnOk, Some, Ok, Err, map, option_map};
 ghost use Rattle.p3_merkle_core.specs.declared.error.MerkleTreeError.TheVariants.{OutOfMemory};
-ghost use Rattle.mmcs_text.specs.Input.{is_blank};
+ghost use Rattle.mmcs_engine.specs.Input.{is_blank};
 ghost use Rattle.mmcs_text.specs.Lines.{number_behind, row_of};
-ghost use Rattle.mmcs_text.specs.Words.{max_word};
+ghost use Rattle.mmcs_engine.specs.Words.{max_word};
 ghost use Rattle.mmcs_text.specs.declared.opening_fault.Expected.TheVariants.{BlankLine};
 ghost use Rattle.mmcs_text.specs.declared.opening_fault.Fault.TheVariants.{Line, Tree};
 ghost use Rattle.mmcs_text.specs.Inner.Left.{lines_left, AreCounted};
@@ -15,12 +15,12 @@ ghost use Rattle.mmcs_text.specs.Inner.Typed.{asked_by, pair_of, reading_of, sho
 ghost use Rattle.mmcs_text.specs.Readings.{settled, shown_by, shown_in, unread, whole_at};
 
 use crate::digest::LineDigest;
-use crate::input::{append_row, is_blank};
 use crate::lines::Lines;
-use crate::number::parse_number;
 use crate::opening_fault::{Expected, Fault};
 use crate::question::Question;
-use crate::word::Word;
+use mmcs_engine::input::{append_row, is_blank};
+use mmcs_engine::number::parse_number;
+use mmcs_engine::word::Word;
 use p3_support::matrix::Dimensions;
 use std::alloc::{AllocError, Global};
 use std::mem;

@@ -3,7 +3,7 @@
 ghost use Rattle.std.specs.Prelude.{◌≡◌, ◌⊎◌, ◌∷◌, [], true, All, IfErr, IfNone, IfOk, IfSome, List, ℕ, Some, map};
 ghost use Rattle.p3_merkle_core.specs.declared.error.MerkleTreeError.TheVariants.{OutOfMemory};
 ghost use Rattle.p3_support.specs.declared.matrix.Dimensions.{Dimensions};
-ghost use Rattle.mmcs_text.specs.Words.{arity_word, hash_word, texts_of, IsCapWord, IsNumberWord};
+ghost use Rattle.mmcs_engine.specs.Words.{arity_word, hash_word, texts_of, IsCapWord, IsNumberWord};
 ghost use Rattle.mmcs_text.specs.declared.opening_fault.Fault.TheVariants.{Usage, Tree};
 ghost use Rattle.mmcs_text.specs.Requests.{dimensions_of_word, task_word, task_words, AreNoCommand, AreTaskWords};
 ghost use Rattle.mmcs_text.specs.Requests.{AreWords};
@@ -11,9 +11,9 @@ ghost use Rattle.mmcs_text.specs.Inner.Sizes.{are_dimensions};
 ghost use Rattle.mmcs_text.specs.declared.request.Task.{Task};
 ghost use Rattle.mmcs_text.specs.declared.request.Task.TheVariants.{Collide};
 
-use crate::command::{Arity, CapChoice, HashName, are_numbers, indices_of};
-use crate::number::parse_number;
 use crate::opening_fault::Fault;
+use mmcs_engine::command::{Arity, CapChoice, HashName, are_numbers, indices_of};
+use mmcs_engine::number::parse_number;
 use p3_support::matrix::Dimensions;
 use std::alloc::{AllocError, Global};
 

@@ -3,7 +3,7 @@
 //! `mmcs-verify fold|sha256 2|4|8 CAP[f] collide HEIGHTxWIDTH..`. It also answers `--help` and `--version`.
 #![tactic(auto)]
 
-use mmcs_text::VERSION;
+use mmcs_engine::VERSION;
 use mmcs_verify_engine::engine::run;
 use mmcs_verify_engine::opening_fault::Fault;
 use mmcs_verify_engine::process::{ended, words_of};

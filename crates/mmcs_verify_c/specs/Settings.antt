@@ -4,10 +4,10 @@ use Rattle.std.specs.Option.{option_and_then, option_map}
 use Rattle.p3_support.specs.declared.matrix.Dimensions.{Dimensions}
 use Rattle.p3_merkle_core.specs.declared.cap.CapRule.{CapRule}
 use Rattle.p3_merkle_core.specs.declared.cap.CapRule.TheVariants.{Lowered, Fixed}
-use Rattle.mmcs_text.specs.declared.command.Arity.{Arity}
-use Rattle.mmcs_text.specs.declared.command.Arity.TheVariants.{Two, Four, Eight}
-use Rattle.mmcs_text.specs.declared.command.HashName.{HashName}
-use Rattle.mmcs_text.specs.declared.command.HashName.TheVariants.{Fold, Sha256}
+use Rattle.mmcs_engine.specs.declared.command.Arity.{Arity}
+use Rattle.mmcs_engine.specs.declared.command.Arity.TheVariants.{Two, Four, Eight}
+use Rattle.mmcs_engine.specs.declared.command.HashName.{HashName}
+use Rattle.mmcs_engine.specs.declared.command.HashName.TheVariants.{Fold, Sha256}
 use Rattle.mmcs_text.specs.declared.request.Setting.{Setting}
 use Rattle.mmcs_verify_c.specs.declared.setting.MatrixSize.{MatrixSize}
 use Rattle.mmcs_verify_c.specs.declared.setting.TreeSetting.{TreeSetting}

@@ -4,7 +4,7 @@ ghost use Rattle.std.specs.Prelude.{◌≡◌, map, IfOk};
 ghost use Rattle.mmcs_text.specs.declared.request.Task.TheVariants.{Verify};
 ghost use Rattle.mmcs_verify_c.specs.Settings.{dimensions_of_size, setting_shown};
 
-use mmcs_text::command::{Arity, CapChoice, HashName};
+use mmcs_engine::command::{Arity, CapChoice, HashName};
 use mmcs_text::request::{Request, Setting, Task};
 use p3_merkle_core::cap::CapRule;
 use p3_support::matrix::Dimensions;

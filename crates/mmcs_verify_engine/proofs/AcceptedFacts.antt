@@ -21,18 +21,18 @@ use Rattle.p3_merkle_core.proofs.Covered.CoveredFacts.{counted_at, pruned_next, 
 use Rattle.p3_merkle_core.proofs.Pruned.AnswerLaws.{honest_accepted_pruned}
 use Rattle.p3_merkle_core.proofs.Shapes.ArityFacts.{arity_from}
 use Rattle.p3_merkle_core.proofs.Shapes.LadderFacts.{row_below}
-use Rattle.mmcs_text.specs.Input.{StandsFor}
-use Rattle.mmcs_text.specs.Matrices.{batch_of_rows}
-use Rattle.mmcs_text.specs.Text.{digest_lines, hex_lines, ok_line, query_lines, row_line}
-use Rattle.mmcs_text.specs.Words.{arity_number, max_word, AreWords}
-use Rattle.mmcs_text.specs.declared.command.Action.TheVariants.{Commit, Open, Check}
-use Rattle.mmcs_text.specs.declared.command.Arity.{Arity}
-use Rattle.mmcs_text.specs.declared.command.Arity.TheVariants.{Two, Four, Eight}
-use Rattle.mmcs_text.specs.declared.command.CapChoice.{CapChoice}
-use Rattle.mmcs_text.specs.declared.command.Command.{Command}
-use Rattle.mmcs_text.specs.declared.command.HashName.{HashName}
-use Rattle.mmcs_text.specs.declared.command.HashName.TheVariants.{Fold, Sha256}
-use Rattle.mmcs_text.proofs.WordFacts.{same_command}
+use Rattle.mmcs_engine.specs.Input.{StandsFor}
+use Rattle.mmcs_engine.specs.Matrices.{batch_of_rows}
+use Rattle.mmcs_engine.specs.Text.{digest_lines, hex_lines, ok_line, query_lines, row_line}
+use Rattle.mmcs_engine.specs.Words.{arity_number, max_word, AreWords}
+use Rattle.mmcs_engine.specs.declared.command.Action.TheVariants.{Commit, Open, Check}
+use Rattle.mmcs_engine.specs.declared.command.Arity.{Arity}
+use Rattle.mmcs_engine.specs.declared.command.Arity.TheVariants.{Two, Four, Eight}
+use Rattle.mmcs_engine.specs.declared.command.CapChoice.{CapChoice}
+use Rattle.mmcs_engine.specs.declared.command.Command.{Command}
+use Rattle.mmcs_engine.specs.declared.command.HashName.{HashName}
+use Rattle.mmcs_engine.specs.declared.command.HashName.TheVariants.{Fold, Sha256}
+use Rattle.mmcs_engine.proofs.WordFacts.{same_command}
 use Rattle.mmcs_engine.specs.Program.{functions_of_hash, heights_of_rows, hex_digits, layer_of_cap, output_of, AreTaken}
 use Rattle.mmcs_engine.specs.Program.{IsOutcome, IsReply}
 use Rattle.mmcs_engine.proofs.GateFacts.{heights_are}

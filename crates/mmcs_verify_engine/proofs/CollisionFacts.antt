@@ -8,13 +8,13 @@ use Rattle.p3_merkle_core.specs.Nodes.{Functions}
 use Rattle.p3_merkle_core.specs.Presented.{presented_pruned}
 use Rattle.p3_merkle_core.specs.Pruning.{PrunedOpening}
 use Rattle.p3_merkle_core.specs.Refusals.{IsEquality}
-use Rattle.mmcs_text.specs.Text.{hex_lines}
-use Rattle.mmcs_text.specs.declared.command.HashName.{HashName}
-use Rattle.mmcs_text.proofs.ByNumber.{by_number}
-use Rattle.mmcs_text.proofs.MatrixFacts.{digests_plain}
+use Rattle.mmcs_engine.specs.Text.{hex_lines}
+use Rattle.mmcs_engine.specs.declared.command.HashName.{HashName}
+use Rattle.mmcs_engine.proofs.ByNumber.{by_number}
+use Rattle.mmcs_engine.proofs.MatrixFacts.{digests_plain}
 use Rattle.mmcs_engine.specs.Program.{functions_of_hash, hex_digits}
 use Rattle.mmcs_engine.specs.Inner.Alike.{pruned_in_numbers, ComputeAlike}
-use Rattle.mmcs_engine.proofs.NumberFacts.{alike_plain, equality_plain, pruned_plain}
+use Rattle.mmcs_engine.proofs.TreesInNumbers.{alike_plain, equality_plain, pruned_plain}
 use Rattle.mmcs_verify_engine.specs.Collisions.{collision_text, hashed_words, index_lines, place_line}
 use Rattle.mmcs_verify_engine.specs.Inner.TypedCollisions.{typed_text}
 

@@ -10,8 +10,8 @@ use Rattle.p3_hashes.specs.Fold.{fold_compress, fold_hash, mix_in, placed_elemen
 use Rattle.p3_merkle_core.specs.Geometry.{has_rows, layer_len, raw_len, Shape}
 use Rattle.p3_merkle_core.specs.Nodes.{layer, node, shape, Batch, Functions}
 use Rattle.p3_merkle_core.specs.Pruning.{boundary, boundary_by}
-use Rattle.mmcs_text.specs.declared.command.HashName.{HashName}
-use Rattle.mmcs_text.specs.declared.command.HashName.TheVariants.{Fold, Sha256}
+use Rattle.mmcs_engine.specs.declared.command.HashName.{HashName}
+use Rattle.mmcs_engine.specs.declared.command.HashName.TheVariants.{Fold, Sha256}
 use Rattle.mmcs_engine.specs.Program.{fold_functions, functions_of_hash, sha_functions}
 use Rattle.mmcs_text.specs.Printing.{IsDigestOf}
 

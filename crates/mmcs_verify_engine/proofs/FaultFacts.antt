@@ -6,7 +6,7 @@ use Rattle.std.specs.Option.{option_map_or}
 use Rattle.p3_support.specs.declared.matrix.Dimensions.{Dimensions}
 use Rattle.p3_merkle_core.specs.Checks.{Input}
 use Rattle.p3_merkle_core.specs.declared.error.MerkleTreeError.{MerkleTreeError}
-use Rattle.mmcs_text.specs.declared.command.HashName.{HashName}
+use Rattle.mmcs_engine.specs.declared.command.HashName.{HashName}
 use Rattle.mmcs_text.specs.Readings.{after_line, behind_first, expected_after, pair_by, pair_in, paired_with}
 use Rattle.mmcs_text.specs.Readings.{shown_by, shown_in, unread, whole_at, Reading, Shown, ShownPair}
 use Rattle.mmcs_text.specs.declared.opening_fault.Expected.{Expected}
@@ -16,7 +16,7 @@ use Rattle.mmcs_text.specs.declared.opening_fault.Fault.TheVariants.{Usage, Line
 use Rattle.mmcs_text.specs.declared.request.Setting.{Setting}
 use Rattle.mmcs_text.specs.declared.request.Task.{Task}
 use Rattle.mmcs_text.specs.declared.request.Task.TheVariants.{Verify, Rows, Collide}
-use Rattle.mmcs_text.specs.Input.{is_blank, pieces_of}
+use Rattle.mmcs_engine.specs.Input.{is_blank, pieces_of}
 use Rattle.mmcs_verify_engine.specs.Outcomes.{answer_to, answer_to_pair, extraction_asked, outcome_of, refusal_asked}
 use Rattle.mmcs_verify_engine.specs.Outcomes.{rows_lines, sent_line, told, told_of_pair}
 

@@ -8,11 +8,11 @@ use Rattle.std.proofs.lemmas.List.Elements.{All-weaker}
 use Rattle.p3_support.specs.Batches.{rows_in}
 use Rattle.p3_merkle_core.specs.Geometry.{halved_index}
 use Rattle.p3_merkle_core.specs.Nodes.{dimensions_of, HasFullRows, Matrix}
-use Rattle.mmcs_text.specs.Input.{numbers_of, numerals_of, IsMatrix}
-use Rattle.mmcs_text.specs.Matrices.{batch_of_rows, matrix_of_rows}
-use Rattle.mmcs_text.specs.Numbers.{IsNumberBelow}
-use Rattle.mmcs_text.specs.Words.{max_word}
-use Rattle.mmcs_text.specs.declared.command.HashName.{HashName}
+use Rattle.mmcs_engine.specs.Input.{numbers_of, numerals_of, IsMatrix}
+use Rattle.mmcs_engine.specs.Matrices.{batch_of_rows, matrix_of_rows}
+use Rattle.mmcs_engine.specs.Numbers.{IsNumberBelow}
+use Rattle.mmcs_engine.specs.Words.{max_word}
+use Rattle.mmcs_engine.specs.declared.command.HashName.{HashName}
 use Rattle.mmcs_text.specs.Printing.{IsRowOf}
 
 -- each row is as long as the first, of numbers below the limit

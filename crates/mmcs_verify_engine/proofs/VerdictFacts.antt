@@ -16,11 +16,11 @@ use Rattle.p3_merkle_core.specs.Refusals.{ok_unless, pruned_refusal_under, IsEqu
 use Rattle.p3_merkle_core.specs.declared.cap.CapRule.{CapRule}
 use Rattle.p3_merkle_core.specs.declared.error.MerkleTreeError.{MerkleTreeError}
 use Rattle.p3_merkle_core.specs.declared.error.MerkleTreeError.TheVariants.{OutOfMemory}
-use Rattle.mmcs_text.specs.Words.{arity_number}
-use Rattle.mmcs_text.specs.declared.command.HashName.{HashName}
+use Rattle.mmcs_engine.specs.Words.{arity_number}
+use Rattle.mmcs_engine.specs.declared.command.HashName.{HashName}
 use Rattle.mmcs_engine.specs.Program.{functions_of_hash}
 use Rattle.mmcs_engine.specs.Inner.Alike.{pruned_in_numbers, IsSchemeOf}
-use Rattle.mmcs_engine.proofs.NumberFacts.{refusal_in_numbers}
+use Rattle.mmcs_engine.proofs.TreesInNumbers.{refusal_in_numbers}
 use Rattle.mmcs_text.specs.Readings.{pair_in, shown_in, Shown, ShownPair}
 use Rattle.mmcs_text.specs.Inner.Typed.{pair_of, shown_of, shown_under}
 use Rattle.mmcs_text.specs.declared.opening_fault.Fault.{Fault}

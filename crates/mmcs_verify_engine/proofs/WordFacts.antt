@@ -3,9 +3,9 @@ use Rattle.std.proofs.Common.{eqb, get_or, ◌≡◌, ℕ, List, [], ◌∷◌, 
 use Rattle.std.specs.Prelude.{map}
 use Rattle.std.specs.Str.Parse.{digits_value}
 use Rattle.p3_support.specs.declared.matrix.Dimensions.{Dimensions}
-use Rattle.mmcs_text.specs.Words.{arity_word, hash_word}
+use Rattle.mmcs_engine.specs.Words.{arity_word, hash_word}
 use Rattle.mmcs_text.proofs.RequestFacts.{all_sizes, no_size, same_cut}
-use Rattle.mmcs_text.proofs.WordFacts.{same_arity, same_cap, same_hash}
+use Rattle.mmcs_engine.proofs.WordFacts.{same_arity, same_cap, same_hash}
 use Rattle.mmcs_text.specs.Requests.{dimensions_of_word, task_word, AreTaskWords, AreWords}
 use Rattle.mmcs_text.specs.declared.request.Setting.{Setting}
 use Rattle.mmcs_text.specs.declared.request.Task.{Task}

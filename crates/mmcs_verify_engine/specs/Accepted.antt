@@ -3,13 +3,13 @@ use Rattle.std.specs.Prelude.{◌≡◌, ℕ, ◌+◌, List, [], ◌∷◌, ◌+
 use Rattle.p3_support.specs.declared.matrix.Dimensions.{Dimensions}
 use Rattle.p3_merkle_core.specs.Nodes.{dimensions_of}
 use Rattle.p3_merkle_core.specs.Openings.{honest_rows}
-use Rattle.mmcs_text.specs.Input.{StandsFor}
-use Rattle.mmcs_text.specs.Matrices.{batch_of_rows, matrix_of_rows}
-use Rattle.mmcs_text.specs.Text.{row_line}
-use Rattle.mmcs_text.specs.Words.{arity_number, max_word, AreWords}
-use Rattle.mmcs_text.specs.declared.command.Action.{Action}
-use Rattle.mmcs_text.specs.declared.command.Action.TheVariants.{Commit, Open, Check}
-use Rattle.mmcs_text.specs.declared.command.Command.{Command}
+use Rattle.mmcs_engine.specs.Input.{StandsFor}
+use Rattle.mmcs_engine.specs.Matrices.{batch_of_rows, matrix_of_rows}
+use Rattle.mmcs_engine.specs.Text.{row_line}
+use Rattle.mmcs_engine.specs.Words.{arity_number, max_word, AreWords}
+use Rattle.mmcs_engine.specs.declared.command.Action.{Action}
+use Rattle.mmcs_engine.specs.declared.command.Action.TheVariants.{Commit, Open, Check}
+use Rattle.mmcs_engine.specs.declared.command.Command.{Command}
 use Rattle.mmcs_engine.specs.Program.{output_of, AreTaken, IsOutcome}
 use Rattle.mmcs_text.specs.declared.request.Setting.{Setting}
 use Rattle.mmcs_text.specs.declared.request.Task.TheVariants.{Verify, Rows}

@@ -7,8 +7,8 @@ use Rattle.p3_merkle_core.specs.Nodes.{node}
 use Rattle.p3_merkle_core.specs.Pruning.{restored_node}
 use Rattle.p3_merkle_core.specs.declared.cap.CapRule.TheVariants.{Lowered}
 use Rattle.p3_merkle_core.specs.declared.error.MerkleTreeError.TheVariants.{CapMismatch}
-use Rattle.mmcs_text.specs.declared.command.Arity.TheVariants.{Two}
-use Rattle.mmcs_text.specs.declared.command.HashName.TheVariants.{Fold}
+use Rattle.mmcs_engine.specs.declared.command.Arity.TheVariants.{Two}
+use Rattle.mmcs_engine.specs.declared.command.HashName.TheVariants.{Fold}
 use Rattle.mmcs_text.specs.Lines.{words_of}
 use Rattle.mmcs_text.specs.Readings.{shown_by}
 use Rattle.mmcs_text.specs.declared.opening_fault.Expected.TheVariants.{Count, Index}

@@ -3,8 +3,8 @@ use Rattle.std.specs.Prelude.{ℕ, List, [], ◌∷◌, ◌++◌, codes, flat_ma
 use Rattle.p3_merkle_core.specs.Checks.{input_digest, Content, Digests, Input, Words}
 use Rattle.p3_merkle_core.specs.declared.collision.Place.{Place}
 use Rattle.p3_merkle_core.specs.declared.collision.Place.TheVariants.{Leaf, Group, Rows, Pair}
-use Rattle.mmcs_text.specs.Text.{hex_lines, labelled}
-use Rattle.mmcs_text.specs.declared.command.HashName.{HashName}
+use Rattle.mmcs_engine.specs.Text.{hex_lines, labelled}
+use Rattle.mmcs_engine.specs.declared.command.HashName.{HashName}
 use Rattle.mmcs_engine.specs.Program.{functions_of_hash, hex_digits}
 
 -- the words of an input as they are hashed: those of rows, or those of digests, one digest after another

@@ -10,9 +10,9 @@ use Rattle.p3_merkle_core.specs.Pruning.{pruned_of}
 use Rattle.p3_merkle_core.specs.Presented.{presented_pruned, Presented}
 use Rattle.p3_merkle_core.specs.declared.error.MerkleTreeError.{MerkleTreeError}
 use Rattle.p3_merkle_core.specs.declared.error.MerkleTreeError.TheVariants.{OutOfMemory}
-use Rattle.mmcs_text.specs.Text.{ok_line, row_line}
-use Rattle.mmcs_text.specs.Words.{arity_number}
-use Rattle.mmcs_text.specs.declared.command.HashName.{HashName}
+use Rattle.mmcs_engine.specs.Text.{ok_line, row_line}
+use Rattle.mmcs_engine.specs.Words.{arity_number}
+use Rattle.mmcs_engine.specs.declared.command.HashName.{HashName}
 use Rattle.mmcs_engine.specs.Program.{functions_of_hash, layer_of_cap}
 use Rattle.mmcs_text.specs.Readings.{pair_in, shown_in, Shown, ShownPair}
 use Rattle.mmcs_text.specs.Requests.{AreNoCommand, AreWords}

@@ -6,12 +6,12 @@ ghost use Rattle.std.specs.Option.{option_map};
 ghost use Rattle.p3_merkle_core.specs.Checks.{HasDigests};
 ghost use Rattle.p3_merkle_core.specs.Nodes.{functions_of};
 ghost use Rattle.p3_merkle_core.specs.Views.{inputs_in};
-ghost use Rattle.mmcs_text.specs.Text.{hex_lines};
+ghost use Rattle.mmcs_engine.specs.Text.{hex_lines};
 ghost use Rattle.mmcs_verify_engine.specs.Collisions.{index_lines, place_line};
 ghost use Rattle.mmcs_verify_engine.specs.Inner.TypedCollisions.{typed_lines, typed_text};
 
-use mmcs_text::text::{push_hex_line, push_labelled};
-use mmcs_text::word::Word;
+use mmcs_engine::text::{push_hex_line, push_labelled};
+use mmcs_engine::word::Word;
 use p3_merkle_core::collision::{Collision, InputPair, Place};
 use p3_support::compress::PseudoCompressionFunction;
 use p3_support::hasher::CryptographicHasher;

@@ -6,4 +6,5 @@ pub mod collision;
 pub mod engine;
 pub mod laws;
 
-pub use mmcs_text::{opening_fault, process};
+pub use mmcs_engine::process;
+pub use mmcs_text::opening_fault;

@@ -4,10 +4,10 @@ use Rattle.p3_merkle_core.specs.Nodes.{shape, Batch, Functions, Matrix}
 use Rattle.p3_merkle_core.specs.Openings.{honest_rows, node_in}
 use Rattle.p3_merkle_core.specs.Pruning.{boundary_by, pruned_of, PrunedOpening}
 use Rattle.p3_merkle_core.specs.declared.cap.CapRule.{CapRule}
-use Rattle.mmcs_text.specs.declared.command.CapChoice.{CapChoice}
-use Rattle.mmcs_text.specs.declared.command.HashName.{HashName}
-use Rattle.mmcs_text.specs.Text.{digest_lines, query_lines}
-use Rattle.mmcs_text.specs.Words.{max_word}
+use Rattle.mmcs_engine.specs.declared.command.CapChoice.{CapChoice}
+use Rattle.mmcs_engine.specs.declared.command.HashName.{HashName}
+use Rattle.mmcs_engine.specs.Text.{digest_lines, query_lines}
+use Rattle.mmcs_engine.specs.Words.{max_word}
 use Rattle.mmcs_engine.specs.Program.{functions_of_hash, hex_digits}
 
 -- whether a number is 2, 4 or 8

@@ -1,7 +1,7 @@
 -- The lines of an input that were not read yet.
 use Rattle.std.specs.Prelude.{◌+◌, ◌<◌, ◌-◌, ◌^◌, ℕ, List, [], length}
 use Rattle.std.specs.Option.{option_map_or}
-use Rattle.mmcs_text.specs.Input.{pieces_of}
+use Rattle.mmcs_engine.specs.Input.{pieces_of}
 use Rattle.mmcs_text.specs.declared.lines.Lines.{Lines}
 
 -- the lines that are left

@@ -8,7 +8,7 @@ use Rattle.p3_merkle_core.specs.Nodes.{Functions}
 use Rattle.p3_merkle_core.specs.Presented.{presented_pruned, Presented}
 use Rattle.p3_merkle_core.specs.Pruning.{pruned_of, PrunedOpening}
 use Rattle.p3_merkle_core.specs.declared.error.MerkleTreeError.{MerkleTreeError}
-use Rattle.mmcs_text.specs.Text.{hex_lines}
+use Rattle.mmcs_engine.specs.Text.{hex_lines}
 use Rattle.mmcs_text.specs.declared.reader.Opening.{Opening}
 use Rattle.mmcs_text.specs.declared.reader.Pair.{Pair}
 use Rattle.mmcs_verify_engine.specs.Collisions.{hashed_words, index_lines, place_line}

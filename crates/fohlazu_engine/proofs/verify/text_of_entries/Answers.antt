@@ -2,7 +2,7 @@
 use Rattle.std.proofs.Common.{◌∙◌, [], ap, map}
 use Rattle.std.specs.Prelude.{flat_map}
 use Rattle.std.proofs.lemmas.List.{take_all}
-use Rattle.mmcs_text.proofs.TextFacts.{texts_more}
+use Rattle.mmcs_engine.proofs.TextFacts.{texts_more}
 use Rattle.fohlazu_text.specs.Fields.{entry_fields}
 use Rattle.fohlazu_engine.specs.Outcomes.{entry_text}
 use Rattle.fohlazu_engine.proofs.verify.text_of_entries.Goals as goal

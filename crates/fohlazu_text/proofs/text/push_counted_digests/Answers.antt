@@ -1,6 +1,6 @@
 use Rattle.std.proofs.Common.{◌++◌, ap, ◌∙◌, append_assoc, length}
 use Rattle.std.specs.Prelude.{codes}
-use Rattle.mmcs_text.specs.Text.{hex_lines, labelled}
+use Rattle.mmcs_engine.specs.Text.{hex_lines, labelled}
 use Rattle.fohlazu_text.proofs.TextFacts.{same_digests}
 use Rattle.fohlazu_text.proofs.text.push_counted_digests.Goals as goal
 

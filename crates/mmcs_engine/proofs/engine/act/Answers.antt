@@ -10,11 +10,11 @@ use Rattle.p3_merkle_core.specs.Pruning.{pruned_len}
 use Rattle.p3_merkle_core.specs.Refusals.{pruned_len_refusal, queries_refusal, AnswersUnlessMemory}
 use Rattle.p3_merkle_prover.specs.Parts.{layers_of, tree_batch}
 use Rattle.p3_merkle_mmcs.specs.Schemes.{cap_layer_over, params_over}
-use Rattle.mmcs_text.specs.Inner.Stored.{stored_batch}
-use Rattle.mmcs_text.specs.Text.{ok_line}
+use Rattle.mmcs_engine.specs.Inner.Stored.{stored_batch}
+use Rattle.mmcs_engine.specs.Text.{ok_line}
 use Rattle.mmcs_engine.specs.Inner.Alike.{opened_text}
 use Rattle.mmcs_engine.proofs.GateFacts.{heights_refused, indices_refused, none_refused}
-use Rattle.mmcs_engine.proofs.NumberFacts.{check_printed, commit_printed, open_printed, stored_shape}
+use Rattle.mmcs_engine.proofs.TreesInNumbers.{check_printed, commit_printed, open_printed, stored_shape}
 use Rattle.mmcs_engine.proofs.engine.act.Given.{Over}
 use Rattle.mmcs_engine.proofs.engine.act.Goals as goal
 use Rattle.mmcs_engine.proofs.engine.act.Goals.{After-check_indices}

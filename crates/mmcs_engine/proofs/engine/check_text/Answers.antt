@@ -9,7 +9,7 @@ use Rattle.p3_merkle_core.specs.Pruning.{pruned_len, pruned_of}
 use Rattle.p3_merkle_core.specs.Views.{pruned_lent, pruned_made}
 use Rattle.p3_merkle_prover.specs.Parts.{tree_batch}
 use Rattle.p3_merkle_mmcs.specs.Schemes.{cap_layer_over, params_over}
-use Rattle.mmcs_text.specs.Text.{ok_line}
+use Rattle.mmcs_engine.specs.Text.{ok_line}
 use Rattle.mmcs_engine.proofs.ReplyFacts.{accepted_lent, failed_alone}
 use Rattle.mmcs_engine.proofs.engine.check_text.Goals as goal
 

@@ -5,9 +5,9 @@ use Rattle.p3_support.specs.Shown.{row_sets}
 use Rattle.p3_merkle_core.specs.Openings.{honest_rows}
 use Rattle.p3_merkle_core.specs.Pruning.{PrunedOpening}
 use Rattle.p3_merkle_prover.specs.Parts.{tree_batch}
-use Rattle.mmcs_text.specs.Text.{digest_lines}
+use Rattle.mmcs_engine.specs.Text.{digest_lines}
 use Rattle.mmcs_engine.specs.Inner.Alike.{opened_lines}
-use Rattle.mmcs_engine.proofs.TextFacts.{sets_long}
+use Rattle.mmcs_engine.proofs.OpenedLines.{sets_long}
 use Rattle.mmcs_engine.proofs.engine.open_text.Goals as goal
 
 pub returns-clause-text : goal.returns-clause-text

@@ -1,5 +1,5 @@
 use Rattle.std.proofs.Common.{refl}
-use Rattle.mmcs_engine.proofs.NumberFacts.{plain_alike}
+use Rattle.mmcs_engine.proofs.TreesInNumbers.{plain_alike}
 use Rattle.mmcs_engine.proofs.schemes.fold_scheme.Goals as goal
 
 pub returns : goal.returns

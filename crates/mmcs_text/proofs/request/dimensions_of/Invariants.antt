@@ -1,6 +1,6 @@
 use Rattle.std.proofs.Common.{◌≡◌, take, map}
 use Rattle.std.specs.Prelude.{Some}
-use Rattle.mmcs_text.specs.Words.{texts_of}
+use Rattle.mmcs_engine.specs.Words.{texts_of}
 use Rattle.mmcs_text.specs.Requests.{dimensions_of_word}
 use Rattle.mmcs_text.proofs.request.dimensions_of.Given as goal
 

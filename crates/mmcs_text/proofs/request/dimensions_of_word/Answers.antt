@@ -3,7 +3,7 @@ use Rattle.std.specs.Prelude.{position}
 use Rattle.std.specs.Str.Parse.{digits_value}
 use Rattle.std.proofs.lemmas.Iterator.{YieldsList-from_slice}
 use Rattle.std.proofs.lemmas.Iterator.Search.{position_from_yields_List}
-use Rattle.mmcs_text.specs.Numbers.{IsNumberBelow}
+use Rattle.mmcs_engine.specs.Numbers.{IsNumberBelow}
 use Rattle.mmcs_text.proofs.LineFacts.{both_parts, no_height, no_place, no_width, rest_taken}
 use Rattle.mmcs_text.proofs.request.dimensions_of_word.Goals as goal
 use Rattle.mmcs_text.proofs.request.dimensions_of_word.Goals.{After-position}

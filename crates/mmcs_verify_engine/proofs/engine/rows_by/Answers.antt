@@ -1,7 +1,7 @@
 use Rattle.std.proofs.Common.{◌∙◌, ⊎_elim, inl, inr, map, ap, sym}
 use Rattle.std.specs.Prelude.{flat_map}
 use Rattle.std.proofs.lemmas.Result.{err_from_is_err_and}
-use Rattle.mmcs_text.specs.Text.{row_line}
+use Rattle.mmcs_engine.specs.Text.{row_line}
 use Rattle.mmcs_verify_engine.specs.Outcomes.{rows_lines}
 use Rattle.mmcs_verify_engine.proofs.VerdictFacts.{answer_text}
 use Rattle.mmcs_verify_engine.proofs.engine.rows_by.Goals as goal

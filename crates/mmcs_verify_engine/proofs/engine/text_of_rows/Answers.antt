@@ -2,8 +2,8 @@
 use Rattle.std.proofs.Common.{◌++◌, ◌∙◌, [], ap, map}
 use Rattle.std.specs.Prelude.{flat_map}
 use Rattle.std.proofs.lemmas.List.{take_all}
-use Rattle.mmcs_text.specs.Text.{row_line}
-use Rattle.mmcs_text.proofs.TextFacts.{texts_more}
+use Rattle.mmcs_engine.specs.Text.{row_line}
+use Rattle.mmcs_engine.proofs.TextFacts.{texts_more}
 use Rattle.mmcs_verify_engine.proofs.engine.text_of_rows.Goals as goal
 
 pub loop-set-init : goal.loop-set-init

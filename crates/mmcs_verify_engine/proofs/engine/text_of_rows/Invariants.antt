@@ -1,6 +1,6 @@
 use Rattle.std.proofs.Common.{◌≡◌, take, map}
 use Rattle.std.specs.Prelude.{flat_map}
-use Rattle.mmcs_text.specs.Text.{row_line}
+use Rattle.mmcs_engine.specs.Text.{row_line}
 use Rattle.mmcs_verify_engine.proofs.engine.text_of_rows.Given as goal
 
 abbrev pub invariant-loop-set : goal.invariant-loop-set

@@ -1,6 +1,6 @@
 use Rattle.std.proofs.Common.{◌∙◌, ⊎_elim, inl, inr, ap, sym}
 use Rattle.std.proofs.lemmas.Result.{err_from_is_err_and}
-use Rattle.mmcs_text.specs.Text.{ok_line}
+use Rattle.mmcs_engine.specs.Text.{ok_line}
 use Rattle.mmcs_verify_engine.specs.Outcomes.{sent_line}
 use Rattle.mmcs_verify_engine.proofs.VerdictFacts.{answer_text}
 use Rattle.mmcs_verify_engine.proofs.engine.verify_by.Goals as goal

@@ -1,5 +1,5 @@
 use Rattle.std.proofs.Common.{◌++◌, ap, ◌∙◌}
-use Rattle.mmcs_text.specs.Text.{digest_lines}
+use Rattle.mmcs_engine.specs.Text.{digest_lines}
 use Rattle.fohlazu_text.specs.Printing.{consistency_version, line}
 use Rattle.fohlazu_text.proofs.TextFacts.{two_parts}
 use Rattle.fohlazu_text.proofs.consistency.Consistency.to_text.Goals as goal

@@ -1,7 +1,7 @@
 use Rattle.std.proofs.Common.{◌++◌, ap, ◌∙◌, length, map, sym}
 use Rattle.std.specs.Prelude.{codes, flat_map}
 use Rattle.std.proofs.lemmas.List.{length-map}
-use Rattle.mmcs_text.specs.Text.{digest_lines, labelled}
+use Rattle.mmcs_engine.specs.Text.{digest_lines, labelled}
 use Rattle.fohlazu_text.specs.Fields.{entry_fields}
 use Rattle.fohlazu_text.specs.Printing.{entry_lines, line, proof_version}
 use Rattle.fohlazu_text.proofs.TextFacts.{four_parts}

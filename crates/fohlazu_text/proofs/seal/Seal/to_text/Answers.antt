@@ -1,6 +1,6 @@
 use Rattle.std.proofs.Common.{◌++◌, ap, ◌∙◌}
 use Rattle.std.specs.Prelude.{codes, option_map, string_bytes}
-use Rattle.mmcs_text.specs.Text.{hex_lines}
+use Rattle.mmcs_engine.specs.Text.{hex_lines}
 use Rattle.fohlazu_text.specs.Printing.{content_line, label_line, labelled_pair, line, scheme_line, seal_version}
 use Rattle.fohlazu_text.proofs.TextFacts.{five_parts, same_digests}
 use Rattle.fohlazu_text.proofs.seal.Seal.to_text.Goals as goal

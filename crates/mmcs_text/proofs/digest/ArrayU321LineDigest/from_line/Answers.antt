@@ -1,5 +1,5 @@
 use Rattle.std.proofs.Common.{arith, sym, ◌∙◌, ◌∷◌, []}
-use Rattle.mmcs_text.specs.declared.command.HashName.TheVariants.{Fold}
+use Rattle.mmcs_engine.specs.declared.command.HashName.TheVariants.{Fold}
 use Rattle.mmcs_text.proofs.LineFacts.{digest_shown, digits_decided, one_word}
 use Rattle.mmcs_text.proofs.digest.ArrayU321LineDigest.from_line.Goals as goal
 

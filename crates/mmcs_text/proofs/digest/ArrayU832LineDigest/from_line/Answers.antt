@@ -1,5 +1,5 @@
 use Rattle.std.proofs.Common.{sym, ◌∙◌}
-use Rattle.mmcs_text.specs.declared.command.HashName.TheVariants.{Sha256}
+use Rattle.mmcs_engine.specs.declared.command.HashName.TheVariants.{Sha256}
 use Rattle.mmcs_text.proofs.LineFacts.{digest_shown, digits_decided}
 use Rattle.mmcs_text.proofs.digest.ArrayU832LineDigest.from_line.Goals as goal
 

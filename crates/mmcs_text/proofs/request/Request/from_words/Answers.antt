@@ -2,7 +2,7 @@ use Rattle.std.proofs.Common.{◌≡◌, ◌∙◌, ap, refl, inl, inr}
 use Rattle.std.specs.Option.{ok_or}
 use Rattle.mmcs_text.specs.declared.opening_fault.Fault.TheVariants.{Usage}
 use Rattle.std.proofs.lemmas.Result.{err_from_is_err_and}
-use Rattle.mmcs_text.specs.Words.{texts_of}
+use Rattle.mmcs_engine.specs.Words.{texts_of}
 use Rattle.mmcs_text.proofs.RequestFacts.{command_from_parts, no_command_from_rest, some_dimensions}
 use Rattle.mmcs_text.proofs.request.Request.from_words.Goals as goal
 

@@ -1,5 +1,5 @@
 use Rattle.std.proofs.Common.{sym, ◌∙◌, subst, List, ℕ}
-use Rattle.mmcs_text.specs.Words.{IsCapWord}
+use Rattle.mmcs_engine.specs.Words.{IsCapWord}
 use Rattle.mmcs_text.proofs.RequestFacts.{no_command_from_cap, setting_from_parts, three_elements}
 use Rattle.mmcs_text.proofs.request.Setting.from_words.Goals as goal
 

@@ -2,10 +2,10 @@ use Rattle.std.proofs.Common.{rules, tests, ◌∙◌, ◌<◌, sym, length}
 use Rattle.std.specs.Prelude.{MatchOption}
 use Rattle.std.specs.List.{AllWithin, HoldsAt}
 use Rattle.std.proofs.lemmas.Iterator.{IsFirst-from_position, YieldsList-from_slice}
-use Rattle.mmcs_text.specs.Words.{texts_of}
+use Rattle.mmcs_engine.specs.Words.{texts_of}
 use Rattle.mmcs_text.proofs.RequestFacts.{about_spelled, all_are_sizes, cut_found, no_numbers, no_word, none_found}
 use Rattle.mmcs_text.proofs.RequestFacts.{NotSized, Sized}
-use Rattle.mmcs_text.proofs.WordFacts.{none_from_test, some_from_test}
+use Rattle.mmcs_engine.proofs.WordFacts.{none_from_test, some_from_test}
 use Rattle.mmcs_text.proofs.request.Task.about_indices.Goals as goal
 use Rattle.mmcs_text.proofs.request.Task.about_indices.Goals.{After-position}
 

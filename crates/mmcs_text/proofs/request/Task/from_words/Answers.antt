@@ -1,6 +1,6 @@
 use Rattle.std.proofs.Common.{rules, ◌≡◌, ◌∙◌, string_bytes, sym}
 use Rattle.std.specs.Prelude.{codes}
-use Rattle.mmcs_text.specs.Words.{texts_of}
+use Rattle.mmcs_engine.specs.Words.{texts_of}
 use Rattle.mmcs_text.proofs.RequestFacts.{collide_none, collide_spelled, neither, none_given, not_collide, some_given}
 use Rattle.mmcs_text.proofs.request.Task.from_words.Goals as goal
 

@@ -1,0 +1,199 @@
+-- A tree over words is the tree over their numbers.
+use Rattle.std.proofs.Common.{◌≡◌, ℕ, Bool, true, false, Decides, List, [], ◌∷◌, ◌++◌, map, refl, sym, ap, ◌∙◌}
+use Rattle.std.specs.Prelude.{flat_map, nat_eq, IfOk, Result}
+use Rattle.std.specs.Cmp.{unsigned_Decides}
+use Rattle.std.proofs.lemmas.List.{map-id}
+use Rattle.std.proofs.lemmas.Result.{IfOk-weaker}
+use Rattle.p3_support.specs.Batches.{dimensions_in}
+use Rattle.p3_support.specs.RowMajor.{row_count, row_width}
+use Rattle.p3_support.specs.declared.matrix.Dimensions.{Dimensions}
+use Rattle.p3_support.specs.declared.matrix.RowMajorMatrix.{RowMajorMatrix}
+use Rattle.p3_merkle_core.specs.Caps.{cap_layer}
+use Rattle.p3_merkle_core.specs.declared.cap.CapRule.{CapRule}
+use Rattle.p3_merkle_core.specs.Checks.{params}
+use Rattle.p3_merkle_core.specs.Geometry.{shape_of, Shape}
+use Rattle.p3_merkle_core.specs.Nodes.{layer, layers, shape, Batch, Functions, Matrix}
+use Rattle.p3_merkle_core.specs.Openings.{honest_rows, node_in}
+use Rattle.p3_merkle_core.specs.Pruning.{boundary_by, pruned_len, pruned_of, PrunedOpening}
+use Rattle.p3_merkle_core.specs.Refusals.{pruned_refusal_under, IsEquality}
+use Rattle.mmcs_engine.specs.declared.command.Action.{Action}
+use Rattle.mmcs_engine.specs.declared.command.Action.TheVariants.{Commit, Open, Check}
+use Rattle.mmcs_engine.specs.declared.command.CapChoice.{CapChoice}
+use Rattle.mmcs_engine.specs.declared.command.HashName.{HashName}
+use Rattle.mmcs_engine.specs.Matrices.{batch_of_rows, matrix_of_rows}
+use Rattle.mmcs_engine.specs.Inner.Stored.{stored_batch, stored_matrix}
+use Rattle.mmcs_engine.specs.Text.{digest_lines, hex_lines, ok_line, query_lines}
+use Rattle.mmcs_engine.proofs.ByNumber.{by_number}
+use Rattle.mmcs_engine.proofs.MatrixFacts.{digests_plain, stored_dimensions, stored_plain}
+use Rattle.mmcs_engine.specs.Program.{functions_of_hash, hex_digits, layer_of_cap, text_of}
+use Rattle.mmcs_engine.specs.Inner.Alike.{batch_in_numbers, matrix_in_numbers, opened_text, pruned_in_numbers}
+use Rattle.mmcs_engine.specs.Inner.Alike.{ComputeAlike, IsSchemeOf}
+
+-- ---- numbers stand for themselves
+
+matrix_plain : (m : Matrix ℕ) → matrix_in_numbers (λ n. n) m ≡ m
+matrix_plain m = λ i. record { height = m.height; width = m.width; row = λ j. map-id (m.row j) i }
+
+matrices_plain : (ms : List (Matrix ℕ)) → map (matrix_in_numbers (λ n. n)) ms ≡ ms
+matrices_plain [] = refl
+matrices_plain (m ∷ ms) = λ i. matrix_plain m i ∷ matrices_plain ms i
+
+batch_plain : (b : Batch ℕ) → batch_in_numbers (λ n. n) b ≡ b
+batch_plain b = λ i. record { arity = b.arity; matrices = matrices_plain b.matrices i }
+
+-- functions of numbers compute what they compute
+pub plain_alike : (f g : Functions ℕ ℕ) → f ≡ g → ComputeAlike (λ n. n) f g
+plain_alike f g same = record {
+  hash = λ words. map-id (f.hash words) ∙ (λ i. (same i).hash (sym (map-id words) i));
+  compression = λ digests. map-id (f.compression digests) ∙ (λ i. (same i).compression (sym (digests_plain digests) i));
+  default_digest = map-id f.default_digest ∙ ap (λ (h : Functions ℕ ℕ). h.default_digest) same;
+}
+
+-- and nothing else does
+pub alike_plain : (f g : Functions ℕ ℕ) → ComputeAlike (λ n. n) f g → f ≡ g
+alike_plain f g alike = λ i. record {
+  hash = λ words. (sym (map-id (f.hash words)) ∙ alike.hash words ∙ ap g.hash (map-id words)) i;
+  compression = λ digests. (sym (map-id (f.compression digests)) ∙ alike.compression digests
+      ∙ ap g.compression (digests_plain digests)) i;
+  default_digest = (sym (map-id f.default_digest) ∙ alike.default_digest) i;
+}
+
+sets_plain : (sets : List (List (List ℕ))) → map (map (map (λ n. n))) sets ≡ sets
+sets_plain [] = refl
+sets_plain (rows ∷ sets) = λ i. digests_plain rows i ∷ sets_plain sets i
+
+pub pruned_plain : (p : PrunedOpening ℕ ℕ) → pruned_in_numbers (λ n. n) p ≡ p
+pruned_plain p = λ i. pruned_of p.indices (sets_plain p.rows i) (digests_plain p.digests i)
+
+-- a test that decides equality of numbers is the one of numbers
+test_is : (a b : Bool) {P : Type 0} → Decides a P → Decides b P → a ≡ b
+test_is true true one other = refl
+test_is true false one other = sym (other.1 (one.0 refl))
+test_is false true one other = one.1 (other.0 refl)
+test_is false false one other = refl
+
+pub equality_plain : (eq : ℕ → ℕ → Bool) → IsEquality eq → eq ≡ nat_eq
+equality_plain eq decides = λ i m n. test_is (eq m n) (nat_eq m n) (decides m n) (unsigned_Decides m n) i
+
+-- ---- what is said of words is said of their numbers
+
+-- what `open` prints of a batch of numbers, whose layers functions of numbers make
+abbrev printed : ℕ → Functions ℕ ℕ → Batch ℕ → List ℕ → ℕ → List ℕ
+printed digits g b indices t =
+    flat_map (λ i. query_lines i (honest_rows b i)) indices
+    ++ digest_lines digits (boundary_by (node_in [] (layers g b)) (shape b) indices t)
+
+record InNumbers {T : Type 0} (value : T → ℕ) : Type 0 where
+  pub stored : (ms : List (RowMajorMatrix T)) (matrices : List (List (List ℕ))) (arity : ℕ) →
+      map (stored_matrix (map value)) ms ≡ map matrix_of_rows matrices →
+      batch_in_numbers value (stored_batch arity ms) ≡ batch_of_rows arity matrices
+  pub same_shape : (b : Batch T) → shape b ≡ shape (batch_in_numbers value b)
+  pub layer_is : (f : Functions T T) (g : Functions ℕ ℕ) → ComputeAlike value f g → (b : Batch T) (l : ℕ) →
+      map (map value) (layer f b l) ≡ layer g (batch_in_numbers value b) l
+  pub opened_is : (f : Functions T T) (g : Functions ℕ ℕ) → ComputeAlike value f g → (b : Batch T) (digits : ℕ)
+      (indices : List ℕ) (t : ℕ) → opened_text value digits b (layers f b) indices t
+      ≡ printed digits g (batch_in_numbers value b) indices t
+  pub refusal_is : (f : Functions T T) (g : Functions ℕ ℕ) → ComputeAlike value f g → (eq : T → T → Bool) →
+      IsEquality eq → (s : Shape) (t : ℕ) (roots : List (List T)) (p : PrunedOpening T T) →
+      pruned_refusal_under eq eq (params f s t) roots p
+      ≡ pruned_refusal_under nat_eq nat_eq (params g s t) (map (map value) roots) (pruned_in_numbers value p)
+
+-- this holds of numbers
+plain : InNumbers (λ n. n)
+plain = record {
+  stored = λ ms matrices arity same. batch_plain (stored_batch arity ms)
+      ∙ (λ i. record { arity = arity; matrices = (stored_plain ms ∙ same) i });
+  same_shape = λ b. ap shape (sym (batch_plain b));
+  layer_is = λ f g alike b l. digests_plain (layer f b l)
+      ∙ (λ i. layer (alike_plain f g alike i) (sym (batch_plain b) i) l);
+  opened_is = λ f g alike b digits indices t.
+      (λ i. flat_map (λ k. query_lines k (digests_plain (honest_rows b k) i)) indices
+      ++ digest_lines digits (digests_plain (boundary_by (node_in [] (layers f b)) (shape b) indices t) i))
+      ∙ (λ i. printed digits (alike_plain f g alike i) (sym (batch_plain b) i) indices t);
+  refusal_is = λ f g alike eq decides s t roots p i. pruned_refusal_under (equality_plain eq decides i)
+      (equality_plain eq decides i) (params (alike_plain f g alike i) s t) (sym (digests_plain roots) i)
+      (sym (pruned_plain p) i);
+}
+
+module _ {T : Type 0} (value : T → ℕ) (some_word : (n : ℕ) → (w : T) × (value w ≡ n))
+    (one_word : (v w : T) → value v ≡ value w → v ≡ w) where
+  -- and so of words
+  in_numbers : InNumbers value
+  in_numbers = by_number value some_word one_word (λ W v. InNumbers v) plain
+
+  -- matrices that an input stands for, once they are stored
+  pub stored_in_numbers : (ms : List (RowMajorMatrix T)) (matrices : List (List (List ℕ))) (arity : ℕ) →
+      map (stored_matrix (map value)) ms ≡ map matrix_of_rows matrices →
+      batch_in_numbers value (stored_batch arity ms) ≡ batch_of_rows arity matrices
+  stored_in_numbers = in_numbers.stored
+
+  -- why an opening is refused
+  pub refusal_in_numbers : (f : Functions T T) (g : Functions ℕ ℕ) → ComputeAlike value f g → (eq : T → T → Bool) →
+      IsEquality eq → (s : Shape) (t : ℕ) (roots : List (List T)) (p : PrunedOpening T T) →
+      pruned_refusal_under eq eq (params f s t) roots p
+      ≡ pruned_refusal_under nat_eq nat_eq (params g s t) (map (map value) roots) (pruned_in_numbers value p)
+  refusal_in_numbers = in_numbers.refusal_is
+
+  -- the shape of a batch
+  pub shape_in_numbers : (b : Batch T) → shape b ≡ shape (batch_in_numbers value b)
+  shape_in_numbers = in_numbers.same_shape
+
+  -- ---- what is printed
+
+  module _ {V E : Type 0} (hash : HashName) (cap : CapChoice) (max digits : ℕ) (f : Functions T T) (cap_height : ℕ)
+      (rule : CapRule) (asked : IsSchemeOf hash cap value max digits f cap_height rule) (b : Batch T)
+      (action : Action) (indices : List ℕ) (result : Result V E) (text : V → List ℕ) where
+    abbrev numbers : Batch ℕ
+    numbers = batch_in_numbers value b
+
+    abbrev own_layer : ℕ
+    own_layer = cap_layer (shape b) rule cap_height
+
+    abbrev due : Action → List ℕ
+    due asked_for = text_of hash asked_for indices numbers (layer_of_cap cap (shape numbers))
+
+    own_layer_is : own_layer ≡ layer_of_cap cap (shape numbers)
+    own_layer_is = λ i. cap_layer (in_numbers.same_shape b i) (asked.same_rule i) (asked.same_height i)
+
+    pub commit_printed : (roots : List (List T)) → roots ≡ layer f b own_layer → action ≡ Commit →
+        IfOk result (λ v. text v ≡ hex_lines digits (map (map value) roots)) → IfOk result (λ v. text v ≡ due action)
+    commit_printed roots roots_are action_is printed_is =
+        IfOk-weaker result _ _
+        (λ v text_is. text_is
+        ∙ (λ i. hex_lines (asked.printed_digits i) (map (map value) (roots_are i)))
+        ∙ ap (hex_lines (hex_digits hash)) (in_numbers.layer_is f (functions_of_hash hash) asked.alike b own_layer)
+        ∙ ap (λ l. hex_lines (hex_digits hash) (layer (functions_of_hash hash) numbers l)) own_layer_is
+        ∙ ap due (sym action_is))
+        printed_is
+
+    pub open_printed : (nodes : List (List (List T))) (lent : List ℕ) → nodes ≡ layers f b → lent ≡ indices →
+        action ≡ Open → IfOk result (λ v. text v ≡ opened_text value digits b nodes lent own_layer) →
+        IfOk result (λ v. text v ≡ due action)
+    open_printed nodes lent nodes_are same action_is printed_is =
+        IfOk-weaker result _ _
+        (λ v text_is. text_is
+        ∙ (λ i. opened_text value (asked.printed_digits i) b (nodes_are i) (same i) own_layer)
+        ∙ in_numbers.opened_is f (functions_of_hash hash) asked.alike b (hex_digits hash) indices own_layer
+        ∙ ap (printed (hex_digits hash) (functions_of_hash hash) numbers indices) own_layer_is
+        ∙ ap due (sym action_is))
+        printed_is
+
+    pub check_printed : (lent : List ℕ) → lent ≡ indices → action ≡ Check →
+        IfOk result (λ v. text v ≡ ok_line (pruned_len (shape b) lent own_layer)) →
+        IfOk result (λ v. text v ≡ due action)
+    check_printed lent same action_is printed_is =
+        IfOk-weaker result _ _
+        (λ v text_is. text_is
+        ∙ (λ i. ok_line (pruned_len (in_numbers.same_shape b i) (same i) (own_layer_is i)))
+        ∙ ap due (sym action_is))
+        printed_is
+
+-- ---- stored matrices
+
+-- the shape of stored matrices, from their dimensions
+pub stored_shape : {T : Type 0} (ms stored : List (RowMajorMatrix T)) (dimensions lent : List Dimensions) (arity : ℕ) →
+    lent ≡ dimensions → dimensions ≡ dimensions_in row_count row_width ms → ms ≡ stored →
+    shape_of arity lent ≡ shape (stored_batch arity stored)
+stored_shape ms stored dimensions lent arity lent_is dimensions_are same =
+    ap (shape_of arity)
+    (lent_is ∙ dimensions_are ∙ ap (dimensions_in row_count row_width) same ∙ stored_dimensions stored arity)

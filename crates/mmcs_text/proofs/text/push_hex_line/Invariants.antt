@@ -1,8 +1,0 @@
-use Rattle.std.proofs.Common.{◌≡◌, ◌++◌, map, take}
-use Rattle.std.specs.Prelude.{flat_map}
-use Rattle.mmcs_text.specs.Text.{hex_word}
-use Rattle.mmcs_text.proofs.text.push_hex_line.Given as goal
-
-abbrev pub invariant-loop-word : goal.invariant-loop-word
-invariant-loop-word g l = l.text.items
-    ≡ l.fn.text.items ++ flat_map (hex_word g.W.Word.HEX_DIGITS) (map g.W.Word.value (take l.word-index l.words))
