@@ -323,7 +323,7 @@ fn seal_asked<'a>(
         Some(bytes) => Kind::Blocks(bytes),
         None => Kind::Lines,
     };
-    let Some(arity) = found.get_str("arity").and_then(Arity::from_word) else {
+    let Some(arity) = found.get_str("arity").and_then(Arity::parse) else {
         return Err(Unread::Refused("the arity is 2, 4 or 8"));
     };
     let cap_height = found.get_one::<usize>("cap-height").unwrap_or(0);

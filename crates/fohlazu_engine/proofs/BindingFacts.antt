@@ -9,7 +9,7 @@ use Rattle.p3_merkle_core.specs.Refusals.{first_of, ok_unless}
 use Rattle.p3_merkle_core.specs.declared.cap.CapRule.TheVariants.{Lowered}
 use Rattle.p3_merkle_core.proofs.Collisions.ExtractionFacts.{all_authenticated, AllAuthenticated}
 use Rattle.p3_merkle_core.proofs.Pruned.NoneFacts.{none_of_both, none_parts, none_unless, unless_none}
-use Rattle.mmcs_engine.specs.Words.{arity_number}
+use Rattle.mmcs_engine.specs.Args.{arity_number}
 use Rattle.mmcs_engine.specs.declared.command.HashName.TheVariants.{Sha256}
 use Rattle.mmcs_verify_engine.specs.Collisions.{collision_text}
 use Rattle.mmcs_verify_engine.proofs.AcceptedFacts.{arity_lawful}

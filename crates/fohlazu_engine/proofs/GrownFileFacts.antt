@@ -20,7 +20,7 @@ use Rattle.p3_merkle_core.specs.declared.error.ConsistencyError.TheVariants.{Hei
 use Rattle.p3_merkle_core.proofs.Growths.VerdictFacts.{growth_taken}
 use Rattle.p3_merkle_core.proofs.Pruned.NoneFacts.{none_of_both, none_parts, none_unless, unless_none}
 use Rattle.mmcs_engine.specs.Program.{sha_functions}
-use Rattle.mmcs_engine.specs.Words.{arity_number}
+use Rattle.mmcs_engine.specs.Args.{arity_number}
 use Rattle.fohlazu_entries.specs.Entries.{digests_of, entries_in, AreRead, HoldsOfFile}
 use Rattle.fohlazu_text.specs.Fields.{SealFields}
 use Rattle.fohlazu_text.specs.Printing.{consistency_text}

@@ -12,7 +12,7 @@ use Rattle.p3_merkle_core.specs.Parts.{AreHeights, parts_refusal}
 use Rattle.p3_merkle_core.specs.Refusals.{unless}
 use Rattle.p3_merkle_core.specs.declared.cap.CapRule.TheVariants.{Lowered}
 use Rattle.p3_merkle_core.proofs.Pruned.NoneFacts.{none_of_both, none_unless}
-use Rattle.mmcs_engine.specs.Words.{arity_number}
+use Rattle.mmcs_engine.specs.Args.{arity_number}
 use Rattle.mmcs_engine.specs.Program.{sha_functions}
 use Rattle.fohlazu_entries.specs.Entries.{digests_of}
 use Rattle.fohlazu_text.specs.Fields.{SealFields}

@@ -28,7 +28,7 @@ use Rattle.p3_merkle_core.proofs.Growths.VerdictFacts.{unrefused_consistent}
 use Rattle.p3_merkle_core.proofs.Pruned.NoneFacts.{none_of_both, none_parts, none_unless, unless_none}
 use Rattle.p3_merkle_core.proofs.Shapes.OneHeight.{cap_layer_is}
 use Rattle.mmcs_engine.specs.Program.{sha_functions}
-use Rattle.mmcs_engine.specs.Words.{arity_number}
+use Rattle.mmcs_engine.specs.Args.{arity_number}
 use Rattle.mmcs_verify_engine.proofs.AcceptedFacts.{arity_lawful}
 use Rattle.fohlazu_text.specs.Fields.{EntryFields, ProofFields, SealFields}
 use Rattle.fohlazu_text.specs.Reading.{consistency_in, seal_in}

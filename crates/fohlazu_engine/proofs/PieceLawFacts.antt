@@ -8,7 +8,7 @@ use Rattle.std.proofs.lemmas.List.Sums.{sum_by_more_le}
 use Rattle.std.proofs.lemmas.Simd.{map-map}
 use Rattle.sha2.specs.Sha256.{sha256}
 use Rattle.p3_merkle_core.specs.Parts.{AreHeights}
-use Rattle.mmcs_engine.specs.Words.{arity_number}
+use Rattle.mmcs_engine.specs.Args.{arity_number}
 use Rattle.fohlazu_entries.specs.Entries.{digests_of, entries_in, EndsAnEntry}
 use Rattle.fohlazu_entries.proofs.PieceFacts.{entries_of_pieces}
 use Rattle.fohlazu_text.specs.Fields.{IsKind, SealFields}

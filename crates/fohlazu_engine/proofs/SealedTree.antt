@@ -23,7 +23,7 @@ use Rattle.p3_merkle_core.proofs.Covered.CoveredFacts.{counted_at, pruned_next, 
 use Rattle.p3_merkle_core.proofs.Pruned.AnswerLaws.{honest_accepted_pruned}
 use Rattle.p3_merkle_core.proofs.Pruned.NoneFacts.{verdict_ok}
 use Rattle.p3_merkle_core.proofs.Shapes.OneHeight.{cap_layer_is, raw_is}
-use Rattle.mmcs_engine.specs.Words.{arity_number}
+use Rattle.mmcs_engine.specs.Args.{arity_number}
 use Rattle.mmcs_engine.specs.Program.{sha_functions}
 use Rattle.mmcs_verify_engine.proofs.AcceptedFacts.{arity_lawful}
 use Rattle.fohlazu_text.specs.Fields.{cap_len}

@@ -5,7 +5,7 @@ use Rattle.p3_merkle_core.specs.Checks.{Params}
 use Rattle.p3_merkle_core.specs.Commitments.{IsCommitment}
 use Rattle.p3_merkle_core.specs.Nodes.{Batch}
 use Rattle.p3_merkle_core.specs.Views.{batch_of}
-use Rattle.mmcs_engine.specs.Words.{arity_number}
+use Rattle.mmcs_engine.specs.Args.{arity_number}
 use Rattle.fohlazu_text.specs.declared.seal.Scheme.{Scheme}
 use Rattle.fohlazu_engine.specs.Inner.{rows_of}
 use Rattle.fohlazu_engine.specs.Trees.{batch_over, matrix_over}

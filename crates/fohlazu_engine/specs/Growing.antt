@@ -15,7 +15,7 @@ use Rattle.p3_merkle_core.specs.Parts.{parts_refusal}
 use Rattle.p3_merkle_core.specs.Raised.{cap_of_parts, compress_up_to}
 use Rattle.p3_merkle_core.specs.Refusals.{first_of, first_some, ok_unless, unless}
 use Rattle.p3_merkle_core.specs.declared.consistency.Growth.{Growth}
-use Rattle.mmcs_engine.specs.Words.{arity_number}
+use Rattle.mmcs_engine.specs.Args.{arity_number}
 use Rattle.mmcs_engine.specs.Program.{sha_functions}
 use Rattle.fohlazu_entries.specs.Entries.{digests_of, entries_in}
 use Rattle.fohlazu_text.specs.Fields.{SealFields}

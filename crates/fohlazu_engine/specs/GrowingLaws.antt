@@ -3,7 +3,7 @@ use Rattle.std.specs.Prelude.{◌≡◌, ℕ, ◌-◌, ◌^◌, ◌≤◌, List,
 use Rattle.std.specs.Prelude.{IfSome, Result, Ok}
 use Rattle.std.specs.List.{concat, sum}
 use Rattle.p3_merkle_core.specs.Parts.{AreHeights}
-use Rattle.mmcs_engine.specs.Words.{arity_number}
+use Rattle.mmcs_engine.specs.Args.{arity_number}
 use Rattle.fohlazu_entries.specs.Entries.{entries_in, EndsAnEntry}
 use Rattle.fohlazu_text.specs.Fields.{IsKind, IsLabel}
 use Rattle.fohlazu_text.specs.Printing.{labelled_pair}

@@ -11,7 +11,7 @@ use Rattle.p3_merkle_core.specs.Presented.{presented_pruned, Presented}
 use Rattle.p3_merkle_core.specs.Pruning.{pruned_of, PrunedOpening}
 use Rattle.p3_merkle_core.specs.Views.{matrix_of}
 use Rattle.p3_merkle_core.specs.declared.cap.CapRule.TheVariants.{Lowered}
-use Rattle.mmcs_engine.specs.Words.{arity_number}
+use Rattle.mmcs_engine.specs.Args.{arity_number}
 use Rattle.mmcs_engine.specs.Program.{sha_functions}
 use Rattle.fohlazu_text.specs.Fields.{ProofFields, SealFields}
 use Rattle.fohlazu_text.specs.declared.seal.Scheme.{Scheme}

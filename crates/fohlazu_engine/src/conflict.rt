@@ -4,7 +4,7 @@ ghost use Rattle.std.specs.BTreeMap.{get};
 ghost use Rattle.std.specs.Ordering.{nat_cmp};
 ghost use Rattle.std.specs.Prelude.{◌≡◌, ◌⊎◌, ◌++◌, IfErr, IfOk, IsTrue, Ok, Err, map, option_map};
 ghost use Rattle.mmcs_engine.specs.Inner.Alike.{is_taken_arity};
-ghost use Rattle.mmcs_engine.specs.Words.{arity_number};
+ghost use Rattle.mmcs_engine.specs.Args.{arity_number};
 ghost use Rattle.fohlazu_text.specs.Fields.{entry_fields, seal_fields};
 ghost use Rattle.fohlazu_engine.specs.Inner.{opening_of, other_by, proof_of, tree_found};
 ghost use Rattle.fohlazu_engine.specs.Outcomes.{conflict_outcome, conflict_text, first_pair, pair_text};

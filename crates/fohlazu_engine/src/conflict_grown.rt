@@ -13,7 +13,7 @@ ghost use Rattle.p3_merkle_core.specs.Pruning.{value_at};
 ghost use Rattle.p3_merkle_core.specs.Refusals.{first_of};
 ghost use Rattle.p3_merkle_core.specs.Views.{inputs_in, opening_made, shown_paths};
 ghost use Rattle.mmcs_engine.specs.Inner.Alike.{is_taken_arity};
-ghost use Rattle.mmcs_engine.specs.Words.{arity_number};
+ghost use Rattle.mmcs_engine.specs.Args.{arity_number};
 ghost use Rattle.fohlazu_text.specs.Fields.{entry_fields};
 ghost use Rattle.fohlazu_engine.specs.Crossing.{between_line, conflict_grown_text, difference_text, each_refusal};
 ghost use Rattle.fohlazu_engine.specs.Crossing.{entry_opening, inconsistency_text, openings_across};

@@ -6,7 +6,7 @@ ghost use Rattle.fohlazu_engine.specs.Faults.{status_of, status_of_ending};
 
 use crate::fault::{Fault, Source};
 use crate::run::Ending;
-use mmcs_engine::process::ProgramFault;
+use mmcs_engine::process::ProgramError;
 use std::io::Eprint;
 use std::process::ExitCode;
 

@@ -8,7 +8,7 @@ ghost use Rattle.fohlazu_engine.specs.declared.fault.Fault.TheVariants.{OutOfMem
 
 use fohlazu_entries::fault::ReadFault;
 use fohlazu_text::fault::{Expected, TextFault};
-use mmcs_engine::process::ProgramFault;
+use mmcs_engine::process::ProgramError;
 use p3_merkle_core::error::{ConsistencyError, MerkleTreeError, PartsError};
 use std::alloc::{AllocError, AllocFailed};
 use thiserror::Error;
@@ -154,7 +154,7 @@ impl Fault {
     }
 }
 
-impl ProgramFault for Fault {
+impl ProgramError for Fault {
     ghost status_of = { status_of };
 
     fn status(&self) -> u8 {

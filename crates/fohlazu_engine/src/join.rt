@@ -9,7 +9,7 @@ ghost use Rattle.p3_merkle_core.specs.Geometry.{IsArity};
 ghost use Rattle.p3_merkle_core.specs.Parts.{parts_refusal};
 ghost use Rattle.p3_merkle_core.specs.declared.error.PartsError.TheVariants.{OutOfMemory as NoPartsMemory};
 ghost use Rattle.mmcs_engine.specs.Inner.Alike.{is_taken_arity};
-ghost use Rattle.mmcs_engine.specs.Words.{arity_number};
+ghost use Rattle.mmcs_engine.specs.Args.{arity_number};
 ghost use Rattle.fohlazu_text.specs.Fields.{seal_fields};
 ghost use Rattle.fohlazu_engine.specs.Growing.{cap_of_whole, join_outcome, join_text, joined, seals_shown};
 ghost use Rattle.fohlazu_engine.specs.Growing.{unlike_refusal};

@@ -12,7 +12,7 @@ ghost use Rattle.p3_merkle_core.specs.declared.error.MerkleTreeError.TheVariants
 ghost use Rattle.p3_merkle_prover.specs.Parts.{layers_of, tree_batch};
 ghost use Rattle.mmcs_engine.specs.Inner.Alike.{is_taken_arity};
 ghost use Rattle.mmcs_engine.specs.Program.{sha_functions};
-ghost use Rattle.mmcs_engine.specs.Words.{arity_number};
+ghost use Rattle.mmcs_engine.specs.Args.{arity_number};
 ghost use Rattle.fohlazu_entries.specs.Entries.{HoldsOfFile};
 ghost use Rattle.fohlazu_text.specs.Fields.{entry_fields, proof_fields, seal_fields, IsSeal};
 ghost use Rattle.fohlazu_engine.specs.Inner.{cap_refusal, entry_of, file_text, IsReadOf};

@@ -8,7 +8,7 @@ ghost use Rattle.p3_merkle_core.specs.Openings.{node_in};
 ghost use Rattle.p3_merkle_core.specs.declared.error.ConsistencyError.TheVariants.{OutOfMemory as NoMemory};
 ghost use Rattle.p3_merkle_prover.specs.Parts.{layers_of, tree_batch};
 ghost use Rattle.mmcs_engine.specs.Inner.Alike.{is_taken_arity};
-ghost use Rattle.mmcs_engine.specs.Words.{arity_number};
+ghost use Rattle.mmcs_engine.specs.Args.{arity_number};
 ghost use Rattle.fohlazu_text.specs.Fields.{seal_fields, IsSeal};
 ghost use Rattle.fohlazu_entries.specs.Entries.{HoldsOfFile};
 ghost use Rattle.fohlazu_engine.specs.Growing.{caps_refusal, consistency_over, growth_of_counts, growth_text};

@@ -5,7 +5,7 @@ ghost use Rattle.std.specs.Prelude.{option_map, string_bytes};
 ghost use Rattle.p3_merkle_core.specs.Commitments.{cap_over};
 ghost use Rattle.p3_merkle_core.specs.declared.error.MerkleTreeError.TheVariants.{OutOfMemory as NoMemory};
 ghost use Rattle.mmcs_engine.specs.Inner.Alike.{is_taken_arity};
-ghost use Rattle.mmcs_engine.specs.Words.{arity_number};
+ghost use Rattle.mmcs_engine.specs.Args.{arity_number};
 ghost use Rattle.fohlazu_text.specs.Fields.{seal_fields, IsKind};
 ghost use Rattle.fohlazu_entries.specs.Entries.{digests_of, entries_in, HoldsOfFile};
 ghost use Rattle.fohlazu_engine.specs.Outcomes.{seal_outcome, seal_over};

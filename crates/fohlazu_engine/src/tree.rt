@@ -9,7 +9,7 @@ ghost use Rattle.p3_merkle_core.specs.declared.cap.CapRule.TheVariants.{Lowered}
 ghost use Rattle.p3_merkle_mmcs.specs.Schemes.{cap_height_of, cap_rule_of, params_of};
 ghost use Rattle.p3_merkle_prover.specs.Parts.{layers_of, tree_batch};
 ghost use Rattle.mmcs_engine.specs.Inner.Alike.{is_taken_arity};
-ghost use Rattle.mmcs_engine.specs.Words.{arity_number};
+ghost use Rattle.mmcs_engine.specs.Args.{arity_number};
 ghost use Rattle.fohlazu_engine.specs.Trees.{batch_over, dimensions_for, params_for};
 
 use fohlazu_text::seal::Scheme;

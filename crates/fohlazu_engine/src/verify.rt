@@ -5,7 +5,7 @@ ghost use Rattle.std.specs.Prelude.{flat_map, map};
 ghost use Rattle.std.specs.Option.{option_map, option_or};
 ghost use Rattle.p3_merkle_core.specs.Refusals.{first_of, AnswersUnlessMemory};
 ghost use Rattle.mmcs_engine.specs.Inner.Alike.{is_taken_arity};
-ghost use Rattle.mmcs_engine.specs.Words.{arity_number};
+ghost use Rattle.mmcs_engine.specs.Args.{arity_number};
 ghost use Rattle.fohlazu_text.specs.Fields.{entry_fields, seal_fields};
 ghost use Rattle.fohlazu_engine.specs.Faults.{tree_fault as fault_of_tree};
 ghost use Rattle.fohlazu_engine.specs.Inner.{opening_of, proof_of};

@@ -3,7 +3,7 @@
 ghost use Rattle.std.specs.Prelude.{◌≡◌, ◌⊎◌, IfErr, IfOk, IsTrue, MatchResult, None, Some, Ok, Err, codes, nat_eq};
 ghost use Rattle.p3_merkle_core.specs.ConsistencyRefusals.{consistency_refusal, ConsistencyAnswers};
 ghost use Rattle.mmcs_engine.specs.Inner.Alike.{is_taken_arity};
-ghost use Rattle.mmcs_engine.specs.Words.{arity_number};
+ghost use Rattle.mmcs_engine.specs.Args.{arity_number};
 ghost use Rattle.fohlazu_text.specs.Fields.{seal_fields};
 ghost use Rattle.fohlazu_text.specs.Printing.{labelled_pair};
 ghost use Rattle.fohlazu_engine.specs.Growing.{consistency_refused, evidence_under, verify_consistency_outcome};

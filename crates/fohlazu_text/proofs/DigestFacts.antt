@@ -13,7 +13,7 @@ use Rattle.std.proofs.lemmas.List.Folds.{list_all-append}
 use Rattle.mmcs_text.specs.Lines.{digest_of, words_of}
 use Rattle.mmcs_text.specs.Printing.{AreWordsOf, IsDigestOf}
 use Rattle.mmcs_engine.specs.Text.{hex_digit, hex_word}
-use Rattle.mmcs_engine.specs.Words.{max_word}
+use Rattle.mmcs_engine.specs.Args.{max_word}
 use Rattle.mmcs_engine.specs.declared.command.HashName.TheVariants.{Sha256}
 use Rattle.mmcs_text.proofs.HexFacts.{digest_back, hex_digits_all}
 use Rattle.mmcs_text.proofs.LineFacts.{digits_decided}

@@ -20,7 +20,7 @@ use Rattle.p3_merkle_core.specs.Geometry.{IsArity}
 use Rattle.p3_merkle_core.proofs.Shapes.ArityFacts.{arity_from}
 use Rattle.mmcs_text.specs.Printing.{IsDigestOf}
 use Rattle.mmcs_engine.specs.Text.{hex_line, hex_word}
-use Rattle.mmcs_engine.specs.Words.{arity_number}
+use Rattle.mmcs_engine.specs.Args.{arity_number}
 use Rattle.mmcs_engine.specs.declared.command.Arity.{Arity}
 use Rattle.mmcs_engine.specs.declared.command.Arity.TheVariants.{Two, Four, Eight}
 use Rattle.mmcs_engine.specs.declared.command.HashName.TheVariants.{Sha256}

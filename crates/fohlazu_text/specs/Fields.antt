@@ -4,7 +4,7 @@ use Rattle.std.specs.Prelude.{option_map, string_bytes}
 use Rattle.p3_merkle_core.specs.Geometry.{padded_len}
 use Rattle.p3_merkle_core.specs.OneHeight.{cap_layer_of_height, nodes_of_height}
 use Rattle.mmcs_text.specs.Printing.{IsDigestOf}
-use Rattle.mmcs_engine.specs.Words.{arity_number}
+use Rattle.mmcs_engine.specs.Args.{arity_number}
 use Rattle.mmcs_engine.specs.declared.command.HashName.TheVariants.{Sha256}
 use Rattle.fohlazu_text.specs.declared.proof.Entry.{Entry}
 use Rattle.fohlazu_text.specs.declared.proof.Proof.{Proof}

@@ -1,7 +1,7 @@
 -- The texts of seals, proofs and consistency proofs.
 use Rattle.std.specs.Prelude.{ℕ, List, [], ◌∷◌, ◌++◌, length, flat_map, codes, decimal, Option, None, Some}
 use Rattle.mmcs_engine.specs.Text.{digest_lines, hex_lines, labelled}
-use Rattle.mmcs_engine.specs.Words.{arity_number}
+use Rattle.mmcs_engine.specs.Args.{arity_number}
 use Rattle.fohlazu_text.specs.Fields.{EntryFields, ProofFields, SealFields}
 use Rattle.fohlazu_text.specs.declared.seal.Kind.{Kind}
 use Rattle.fohlazu_text.specs.declared.seal.Kind.TheVariants.{Lines, Blocks}

@@ -3,7 +3,7 @@
 ghost use Rattle.std.specs.Prelude.{◌≡◌, ◌⊎◌, ◌≤◌, ◌^◌, ◌++◌, IfErr, IfOk, OnOk, Ok, Err, option_map, string_bytes};
 ghost use Rattle.std.specs.Option.{option_eq};
 ghost use Rattle.std.specs.Result.{result_map_both};
-ghost use Rattle.mmcs_engine.specs.Words.{arity_number};
+ghost use Rattle.mmcs_engine.specs.Args.{arity_number};
 ghost use Rattle.fohlazu_text.specs.Fields.{cap_len, seal_fields};
 ghost use Rattle.fohlazu_text.specs.Pieces.{any_content_of, arity_of, content_of, is_content, is_label, label_of};
 ghost use Rattle.fohlazu_text.specs.Pieces.{scheme_of};

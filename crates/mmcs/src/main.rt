@@ -4,15 +4,15 @@
 
 use mmcs_engine::engine::run;
 use mmcs_engine::fault::Fault;
-use mmcs_engine::process::{ended, words_of};
+use mmcs_engine::process::{exit_code, read_args};
 use std::process::ExitCode;
 
 fn main(rt: HostRuntime) -> ExitCode {
-    let answer = words_of(&rt, Fault::Usage).and_then(|words| run(
+    let answer = read_args(&rt, Fault::Usage).and_then(|words| run(
         rt.alloc(),
         &words,
         &mut rt.stdin(),
         &mut rt.stdout(),
     ));
-    ended(&rt, answer)
+    exit_code(&rt, answer)
 }

@@ -7,7 +7,7 @@ use fohlazu_text::consistency::Consistency;
 use fohlazu_text::proof::Proof;
 use fohlazu_text::seal::Seal;
 use mmcs_engine::engine::run;
-use mmcs_engine::process::ProgramFault;
+use mmcs_engine::process::ProgramError;
 use mmcs_verify_engine::engine::run as verify;
 use std::alloc::{AllocError, Global};
 
@@ -185,7 +185,7 @@ fn read_again(alloc: Global, kind: &str, text: &[u8]) -> Result<String, Error> {
 }
 
 /// An output as text, and behind it the line and the status of a fault.
-fn told<F: ProgramFault>(
+fn told<F: ProgramError>(
     alloc: Global,
     output: &[u8],
     outcome: Result<(), F>,

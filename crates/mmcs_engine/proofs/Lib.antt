@@ -1,4 +1,4 @@
-pub mod WordFacts
+pub mod ArgFacts
 pub mod NumberFacts
 pub mod ByNumber
 pub mod Runs
@@ -16,6 +16,6 @@ pub mod TreesInNumbers
 pub mod OpenedLines
 pub mod Outcomes
 pub mod ReplyFacts
-pub mod WordCases
+pub mod ArgCases
 pub mod LineCases
 pub mod SomeOutcome

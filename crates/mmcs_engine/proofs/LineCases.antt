@@ -12,7 +12,7 @@ use Rattle.mmcs_engine.specs.Inner.Blocks.{IsBlock}
 use Rattle.mmcs_engine.proofs.BlockFacts.{block_more}
 use Rattle.mmcs_engine.proofs.InputFacts.{LinesSoFar, lines_start, lines_blank, lines_ended, lines_row, lines_fault}
 use Rattle.mmcs_engine.proofs.InputFacts.{lines_end, lines_end_block}
-use Rattle.mmcs_engine.proofs.WordCases.{settled_each, settled_number}
+use Rattle.mmcs_engine.proofs.ArgCases.{settled_each, settled_number}
 
 module _ (max : ℕ) (lines : List (List ℕ)) where
   -- what is told of each matrix: nothing

@@ -13,11 +13,11 @@ use Rattle.mmcs_engine.specs.declared.command.Command.{Command}
 use Rattle.mmcs_engine.specs.declared.fault.Fault.{Fault}
 use Rattle.mmcs_engine.specs.declared.fault.Fault.TheVariants.{Usage, Read, Number, Count, Tree, Write}
 use Rattle.mmcs_engine.specs.Input.{pieces_of, runs_between, is_blank, IsFirstFault, IsMatrix, StandsFor}
-use Rattle.mmcs_engine.specs.Words.{max_word, AreNoCommand, AreWords}
-use Rattle.mmcs_engine.specs.Words.{arity_number}
-use Rattle.mmcs_engine.specs.Program.{batch_asked, output_of, refusal_of, AreTaken, EndsIn, IsOutcome, IsReply, IsTold}
-use Rattle.mmcs_engine.specs.Program.{Prints}
-use Rattle.mmcs_engine.proofs.WordFacts.{same_command}
+use Rattle.mmcs_engine.specs.Args.{max_word, AreNoCommand, AreArgs}
+use Rattle.mmcs_engine.specs.Args.{arity_number}
+use Rattle.mmcs_engine.specs.Program.{batch_of_command, output_of, refusal_of, AreTaken, EndsIn, IsOutcome}
+use Rattle.mmcs_engine.specs.Program.{IsReply, IsReported, Prints}
+use Rattle.mmcs_engine.proofs.ArgFacts.{same_command}
 use Rattle.mmcs_engine.proofs.FaultFacts.{fault_excludes, one_first_fault}
 use Rattle.mmcs_engine.proofs.GateFacts.{heights_are, taken_unrefused}
 
@@ -46,7 +46,7 @@ module _ (command : Command) (indices input : List ℕ) where
   unrefused matrices taken =
       let there = subst (λ (hs : List ℕ). IsLawful hs × All (λ i. i < greatest hs) indices)
       (sym (heights_are matrices (arity_number command.arity))) taken in
-      taken_unrefused (shape (batch_asked command matrices)) indices there.0 there.1
+      taken_unrefused (shape (batch_of_command command matrices)) indices there.0 there.1
 
   -- a fault is of the tree, or of a line
   fault_parts : (fault : Fault) → IsReply command indices input (Err fault) →
@@ -95,31 +95,31 @@ module _ (command : Command) (indices input : List ℕ) where
   one_reply (Err f) (Ok s) u v = absurd (not_both s f v u)
   one_reply (Err f) (Err g) u v = ap Err (one_fault_told f g u v)
 
--- the usage of words that are no command, or what a command is answered
-outcome_parts : (words : List (List ℕ)) (input : List ℕ) (o : Result (List ℕ) Fault) → IsOutcome words input o →
-    ((o ≡ Err Usage) × AreNoCommand words) ⊎
-    ((command : Command) × (indices : List ℕ) × AreWords words command indices × IsReply command indices input o)
-outcome_parts words input (Ok t) told = inr told
-outcome_parts words input (Err Usage) told = inl (refl, told)
-outcome_parts words input (Err Read) told = inr told
-outcome_parts words input (Err (Number n m)) told = inr told
-outcome_parts words input (Err (Count n e g)) told = inr told
-outcome_parts words input (Err (Tree e)) told = inr told
-outcome_parts words input (Err Write) told = inr told
+-- the usage of arguments that are no command, or what a command is answered
+outcome_parts : (args : List (List ℕ)) (input : List ℕ) (o : Result (List ℕ) Fault) → IsOutcome args input o →
+    ((o ≡ Err Usage) × AreNoCommand args) ⊎
+    ((command : Command) × (indices : List ℕ) × AreArgs args command indices × IsReply command indices input o)
+outcome_parts args input (Ok t) told = inr told
+outcome_parts args input (Err Usage) told = inl (refl, told)
+outcome_parts args input (Err Read) told = inr told
+outcome_parts args input (Err (Number n m)) told = inr told
+outcome_parts args input (Err (Count n e g)) told = inr told
+outcome_parts args input (Err (Tree e)) told = inr told
+outcome_parts args input (Err Write) told = inr told
 
-pub one_outcome : (words : List (List ℕ)) (input : List ℕ) (o p : Result (List ℕ) Fault) → IsOutcome words input o →
-    IsOutcome words input p → o ≡ p
-one_outcome words input o p u v =
+pub one_outcome : (args : List (List ℕ)) (input : List ℕ) (o p : Result (List ℕ) Fault) → IsOutcome args input o →
+    IsOutcome args input p → o ≡ p
+one_outcome args input o p u v =
     ⊎_elim
-    (λ a. ⊎_elim (λ b. a.0 ∙ sym b.0) (λ b. absurd (a.1 b.0 b.1 b.2)) (outcome_parts words input p v))
+    (λ a. ⊎_elim (λ b. a.0 ∙ sym b.0) (λ b. absurd (a.1 b.0 b.1 b.2)) (outcome_parts args input p v))
     (λ a. ⊎_elim (λ b. absurd (b.1 a.0 a.1 a.2))
     (λ b.
-    let same = same_command words a.0 b.0 a.1 b.1 a.2 b.2 in
+    let same = same_command args a.0 b.0 a.1 b.1 a.2 b.2 in
     one_reply b.0 b.1 input o p
     (subst (λ (is : List ℕ). IsReply b.0 is input o) same.1 (subst (λ (c : Command). IsReply c a.1 input o) same.0 a.3))
     b.3)
-    (outcome_parts words input p v))
-    (outcome_parts words input o u)
+    (outcome_parts args input p v))
+    (outcome_parts args input o u)
 
 -- ---- and it is what is answered
 
@@ -131,33 +131,33 @@ after_memory : (outcome : Result (List ℕ) Fault) → EndsIn outcome (Err (Tree
 after_memory (Ok text) = inr (inr (inr refl))
 after_memory (Err fault) = inr (inr refl)
 
-module _ (words : List (List ℕ)) (known old new : Option (List ℕ)) (input : List ℕ) (known_is : known ≡ Some input)
-    (outcome : Result (List ℕ) Fault) (told : IsOutcome words input outcome) where
+module _ (args : List (List ℕ)) (known old new : Option (List ℕ)) (input : List ℕ) (known_is : known ≡ Some input)
+    (outcome : Result (List ℕ) Fault) (told : IsOutcome args input outcome) where
   -- a fault that is the outcome
-  same_fault : (fault : Fault) → IfSome known (λ bytes. IsOutcome words bytes (Err fault)) → EndsIn outcome (Err fault)
+  same_fault : (fault : Fault) → IfSome known (λ bytes. IsOutcome args bytes (Err fault)) → EndsIn outcome (Err fault)
   same_fault fault there =
-      let known_told = subst (λ (k : Option (List ℕ)). IfSome k (λ bytes. IsOutcome words bytes (Err fault))) known_is
+      let known_told = subst (λ (k : Option (List ℕ)). IfSome k (λ bytes. IsOutcome args bytes (Err fault))) known_is
       there in
       subst (λ (o : Result (List ℕ) Fault). EndsIn o (Err fault))
-      (one_outcome words input (Err fault) outcome known_told told) (inl refl)
+      (one_outcome args input (Err fault) outcome known_told told) (inl refl)
 
   -- a text that is the outcome
-  same_text : (H : List ℕ → Type 0) (result : Result (Unit {0}) Fault) → Prints words known H →
+  same_text : (H : List ℕ → Type 0) (result : Result (Unit {0}) Fault) → Prints args known H →
       ((text : List ℕ) → EndsIn (Ok text) result) → EndsIn outcome result
   same_text H result there ends =
       let known_told =
-      subst (λ (k : Option (List ℕ)). IfSome k (λ bytes. (text : List ℕ) × IsOutcome words bytes (Ok text) ×
+      subst (λ (k : Option (List ℕ)). IfSome k (λ bytes. (text : List ℕ) × IsOutcome args bytes (Ok text) ×
       H text)) known_is there in
       subst (λ (o : Result (List ℕ) Fault). EndsIn o result)
-      (one_outcome words input (Ok known_told.0) outcome known_told.1 told) (ends known_told.0)
+      (one_outcome args input (Ok known_told.0) outcome known_told.1 told) (ends known_told.0)
 
-  pub ends_in : (result : Result (Unit {0}) Fault) → (result ≡ Err Usage → AreNoCommand words) →
-      OnOk result (Prints words known (λ text. Appends old new text)) →
-      (result ≡ Err Write → Prints words known (λ text. Unit {0})) → IfErr result (IsTold words known) →
+  pub ends_in : (result : Result (Unit {0}) Fault) → (result ≡ Err Usage → AreNoCommand args) →
+      OnOk result (Prints args known (λ text. Appends old new text)) →
+      (result ≡ Err Write → Prints args known (λ text. Unit {0})) → IfErr result (IsReported args known) →
       EndsIn outcome result
   ends_in (Ok tt) usage ok last fault = same_text (λ text. Appends old new text) (Ok tt) ok (λ text. inr (inl refl))
   ends_in (Err Usage) usage ok last fault = subst (λ (o : Result (List ℕ) Fault). EndsIn o (Err Usage))
-      (one_outcome words input (Err Usage) outcome (usage refl) told) (inl refl)
+      (one_outcome args input (Err Usage) outcome (usage refl) told) (inl refl)
   ends_in (Err Read) usage ok last fault = after_read outcome
   ends_in (Err (Number n m)) usage ok last fault = same_fault (Number n m) fault
   ends_in (Err (Count n e g)) usage ok last fault = same_fault (Count n e g) fault

@@ -16,8 +16,9 @@ use Rattle.mmcs_engine.specs.declared.fault.Fault.{Fault}
 use Rattle.mmcs_engine.specs.declared.fault.Fault.TheVariants.{Usage, Tree, Write}
 use Rattle.mmcs_engine.specs.Input.{StandsFor}
 use Rattle.mmcs_engine.specs.Matrices.{batch_of_rows}
-use Rattle.mmcs_engine.specs.Words.{arity_number, max_word, AreNoCommand}
-use Rattle.mmcs_engine.specs.Program.{batch_asked, layer_of_cap, refusal_of, text_of, IsAnswer, IsReply, IsTold, Prints}
+use Rattle.mmcs_engine.specs.Args.{arity_number, max_word, AreNoCommand}
+use Rattle.mmcs_engine.specs.Program.{batch_of_command, layer_of_cap, refusal_of, text_of, IsAnswer}
+use Rattle.mmcs_engine.specs.Program.{IsReply, IsReported, Prints}
 use Rattle.mmcs_engine.proofs.GateFacts.{heights_are, taken_from_none}
 use Rattle.mmcs_engine.proofs.Outcomes.{ends_in}
 
@@ -29,7 +30,7 @@ module _ (command : Command) (indices input : List ℕ) (max n : ℕ) (max_is : 
   stands : StandsFor (max_word command.hash + 1) input matrices
   stands = subst (λ (m : ℕ). StandsFor (m + 1) input matrices) max_is read
 
-  batch_is : b ≡ batch_asked command matrices
+  batch_is : b ≡ batch_of_command command matrices
   batch_is = b_is ∙ ap (λ a. batch_of_rows a matrices) n_is
 
   refusal_is : pruned_len_refusal s indices ≡ refusal_of command indices matrices
@@ -39,7 +40,7 @@ module _ (command : Command) (indices input : List ℕ) (max n : ℕ) (max_is : 
       ≡ text_of command.hash command.action indices b (layer_of_cap command.cap (shape b)) →
       IsReply command indices input (Ok text)
   reply_text text none text_is =
-      let there = taken_from_none (shape (batch_asked command matrices)) indices (sym refusal_is ∙ none) in (
+      let there = taken_from_none (shape (batch_of_command command matrices)) indices (sym refusal_is ∙ none) in (
         matrices,
         stands,
         subst (λ (hs : List ℕ). IsLawful hs × All (λ i. i < greatest hs) indices)
@@ -59,28 +60,28 @@ module _ (command : Command) (indices input : List ℕ) (max n : ℕ) (max_is : 
 -- ---- the outcome
 
 -- the usage is told of no command alone
-pub usage_told : {V : Type 0} (words : List (List ℕ)) (fault : Fault) → ((fault ≡ Usage) × AreNoCommand words) ⊎
-    ((fault ≡ Tree OutOfMemory) × (AreNoCommand words → ⊥)) →
-    (◌≡◌ {A = Result V Fault} (Err fault) (Err Usage)) ↔ AreNoCommand words
-usage_told words fault told = (
+pub usage_told : {V : Type 0} (args : List (List ℕ)) (fault : Fault) → ((fault ≡ Usage) × AreNoCommand args) ⊎
+    ((fault ≡ Tree OutOfMemory) × (AreNoCommand args → ⊥)) →
+    (◌≡◌ {A = Result V Fault} (Err fault) (Err Usage)) ↔ AreNoCommand args
+usage_told args fault told = (
   λ is. ⊎_elim (λ usage. usage.1)
       (λ memory. absurd (let same : fault ≡ Usage = cc in let apart = sym same ∙ memory.0 in cc)) told,
   λ none. ⊎_elim (λ usage. ap Err usage.0) (λ memory. absurd (memory.1 none)) told,
 )
 
-module _ {S D V : Type 0} (remaining : S → Option (List ℕ)) (contents : D → Option (List ℕ)) (words : List (List ℕ))
+module _ {S D V : Type 0} (remaining : S → Option (List ℕ)) (contents : D → Option (List ℕ)) (args : List (List ℕ))
     (input input_left : S) (output : D) (answer : Result V Fault)
-    (usage : (answer ≡ Err Usage) ↔ AreNoCommand words) (unread : answer ≡ Err Usage → input_left ≡ input) where
+    (usage : (answer ≡ Err Usage) ↔ AreNoCommand args) (unread : answer ≡ Err Usage → input_left ≡ input) where
   -- a fault before anything is written
-  at_fault : (fault : Fault) → answer ≡ Err fault → (fault ≡ Write → ⊥) × IsTold words (remaining input) fault →
-      IsAnswer remaining contents words input input_left output output (Err fault)
+  at_fault : (fault : Fault) → answer ≡ Err fault → (fault ≡ Write → ⊥) × IsReported args (remaining input) fault →
+      IsAnswer remaining contents args input input_left output output (Err fault)
   at_fault fault answer_is told =
       let is_usage : ◌≡◌ {A = Result (Unit {0}) Fault} (Err fault) (Err Usage) → answer ≡ Err Usage = λ is. answer_is
       ∙ ap Err (let same : fault ≡ Usage = cc in same) in
       let told_usage : ◌≡◌ {A = Result (Unit {0}) Fault} (Err fault) (Err Usage) →
-      AreNoCommand words = λ is. usage.0 (is_usage is) in
+      AreNoCommand args = λ is. usage.0 (is_usage is) in
       let last : ◌≡◌ {A = Result (Unit {0}) Fault} (Err fault) (Err Write) →
-      Prints words (remaining input) (λ text. Unit {0}) =
+      Prints args (remaining input) (λ text. Unit {0}) =
       λ is. absurd (told.0 (let same : fault ≡ Write = cc in same)) in
       record {
         usage = (
@@ -93,35 +94,35 @@ module _ {S D V : Type 0} (remaining : S → Option (List ℕ)) (contents : D �
         ok = tt;
         last = last;
         fault = told.1;
-        ends = λ bytes outcome known outcome_is. ends_in words (remaining input) (contents output) (contents output)
+        ends = λ bytes outcome known outcome_is. ends_in args (remaining input) (contents output) (contents output)
             bytes known outcome outcome_is (Err fault) told_usage tt last told.1;
       }
 
   pub failed_answer : (result : Result (Unit {0}) Fault) (fault : Fault) → answer ≡ Err fault → result ≡ Err fault →
-      IfErr answer (λ f. (f ≡ Write → ⊥) × IsTold words (remaining input) f) →
-      IsAnswer remaining contents words input input_left output output result
+      IfErr answer (λ f. (f ≡ Write → ⊥) × IsReported args (remaining input) f) →
+      IsAnswer remaining contents args input input_left output output result
   failed_answer result fault answer_is result_is told =
-      subst (λ (r : Result (Unit {0}) Fault). IsAnswer remaining contents words input input_left output output r)
+      subst (λ (r : Result (Unit {0}) Fault). IsAnswer remaining contents args input input_left output output r)
       (sym result_is)
       (at_fault fault answer_is
-      (subst (λ (r : Result V Fault). IfErr r (λ f. (f ≡ Write → ⊥) × IsTold words (remaining input) f)) answer_is
+      (subst (λ (r : Result V Fault). IfErr r (λ f. (f ≡ Write → ⊥) × IsReported args (remaining input) f)) answer_is
       told))
 
   -- a text that is written
   module _ (output_left : D) (value : V) (text : List ℕ) (answer_is : answer ≡ Ok value)
-      (prints : Prints words (remaining input) (λ t. text ≡ t)) where
-    no_usage : (result : Result (Unit {0}) Fault) → (result ≡ Err Usage → ⊥) → (result ≡ Err Usage) ↔ AreNoCommand words
+      (prints : Prints args (remaining input) (λ t. text ≡ t)) where
+    no_usage : (result : Result (Unit {0}) Fault) → (result ≡ Err Usage → ⊥) → (result ≡ Err Usage) ↔ AreNoCommand args
     no_usage result never = (λ is. absurd (never is), λ none. absurd (let same = sym answer_is ∙ usage.1 none in cc))
 
     -- what is printed, of which another fact holds
     printed : (known : Option (List ℕ)) (H : List ℕ → Type 0) → (((t : List ℕ) → text ≡ t → H t)) →
-        Prints words known (λ t. text ≡ t) → Prints words known H
+        Prints args known (λ t. text ≡ t) → Prints args known H
     printed None H holds there = tt
     printed (Some bytes) H holds there = (there.0, there.1, holds there.0 there.2)
 
     pub written_answer : (result : Result (Unit {0}) Fault) →
         OnOk result (Appends (contents output) (contents output_left) text) → IfErr result (λ f. f ≡ Write) →
-        IsAnswer remaining contents words input input_left output output_left result
+        IsAnswer remaining contents args input input_left output output_left result
     written_answer (Ok tt) wrote failed =
         let told = printed (remaining input) (λ t. Appends (contents output) (contents output_left) t)
         (λ t same. subst (λ (s : List ℕ). Appends (contents output) (contents output_left) s) same wrote) prints in
@@ -133,21 +134,21 @@ module _ {S D V : Type 0} (remaining : S → Option (List ℕ)) (contents : D �
           ok = told;
           last = λ is. absurd cc;
           fault = tt;
-          ends = λ bytes outcome known outcome_is. ends_in words (remaining input) (contents output)
+          ends = λ bytes outcome known outcome_is. ends_in args (remaining input) (contents output)
               (contents output_left) bytes known outcome outcome_is (Ok tt) (λ is. absurd (never is)) told
               (λ is. absurd cc) tt;
         }
     written_answer (Err f) wrote failed =
-        subst (λ (e : Fault). IsAnswer remaining contents words input input_left output output_left (Err e))
+        subst (λ (e : Fault). IsAnswer remaining contents args input input_left output output_left (Err e))
         (sym failed) at_write
       where
-        told : Prints words (remaining input) (λ t. Unit {0})
+        told : Prints args (remaining input) (λ t. Unit {0})
         told = printed (remaining input) (λ t. Unit {0}) (λ t same. tt) prints
 
         never : ◌≡◌ {A = Result (Unit {0}) Fault} (Err Write) (Err Usage) → ⊥
         never is = cc
 
-        at_write : IsAnswer remaining contents words input input_left output output_left (Err Write)
+        at_write : IsAnswer remaining contents args input input_left output output_left (Err Write)
         at_write = record {
           usage = no_usage (Err Write) never;
           unread = λ is. absurd (never is);
@@ -155,7 +156,7 @@ module _ {S D V : Type 0} (remaining : S → Option (List ℕ)) (contents : D �
           ok = tt;
           last = λ is. told;
           fault = tt;
-          ends = λ bytes outcome known outcome_is. ends_in words (remaining input) (contents output)
+          ends = λ bytes outcome known outcome_is. ends_in args (remaining input) (contents output)
               (contents output_left) bytes known outcome outcome_is (Err Write) (λ is. absurd (never is)) tt
               (λ is. told) tt;
         }

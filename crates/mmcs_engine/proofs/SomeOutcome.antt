@@ -6,18 +6,18 @@ use Rattle.mmcs_engine.specs.declared.command.Command.{Command}
 use Rattle.mmcs_engine.specs.declared.fault.Fault.{Fault}
 use Rattle.mmcs_engine.specs.declared.fault.Fault.TheVariants.{Usage, Read, Number, Count, Tree, Write}
 use Rattle.mmcs_engine.specs.Input.{pieces_of, IsFirstFault, StandsFor}
-use Rattle.mmcs_engine.specs.Words.{arity_number, max_word, AreWords}
-use Rattle.mmcs_engine.specs.Program.{batch_asked, output_of, refusal_of, IsOutcome}
+use Rattle.mmcs_engine.specs.Args.{arity_number, max_word, AreArgs}
+use Rattle.mmcs_engine.specs.Program.{batch_of_command, output_of, refusal_of, IsOutcome}
 use Rattle.mmcs_engine.proofs.LineCases.{matrices_or_fault}
 use Rattle.mmcs_engine.proofs.ReplyFacts.{reply_text}
-use Rattle.mmcs_engine.proofs.WordCases.{settled_command}
+use Rattle.mmcs_engine.proofs.ArgCases.{settled_command}
 
-module _ (words : List (List ℕ)) (input : List ℕ) where
-  -- some outcome is that of the words and the input
+module _ (args : List (List ℕ)) (input : List ℕ) where
+  -- some outcome is that of the arguments and the input
   abbrev HaveOutcome : Type 0
-  HaveOutcome = (outcome : Result (List ℕ) Fault) × IsOutcome words input outcome
+  HaveOutcome = (outcome : Result (List ℕ) Fault) × IsOutcome args input outcome
 
-  module _ (command : Command) (indices : List ℕ) (are : AreWords words command indices) where
+  module _ (command : Command) (indices : List ℕ) (are : AreArgs args command indices) where
     -- a text or a refusal, where the input stands for matrices
     of_matrices : (matrices : List (List (List ℕ))) → StandsFor (max_word command.hash + 1) input matrices →
         (refusal : Option MerkleTreeError) → refusal_of command indices matrices ≡ refusal → HaveOutcome
@@ -28,7 +28,7 @@ module _ (words : List (List ℕ)) (input : List ℕ) where
         indices,
         are,
         reply_text command indices input (max_word command.hash) (arity_number command.arity) refl refl matrices stands
-            (batch_asked command matrices) refl (shape (batch_asked command matrices)) refl
+            (batch_of_command command matrices) refl (shape (batch_of_command command matrices)) refl
             (output_of command indices matrices) taken refl,
       ),
     )
@@ -55,4 +55,4 @@ module _ (words : List (List ℕ)) (input : List ℕ) where
       ⊎_elim
       (λ some. of_command some.0 some.1 some.2)
       (λ none. (Err Usage, λ command indices are. none (command, indices, are)))
-      (settled_command words)
+      (settled_command args)

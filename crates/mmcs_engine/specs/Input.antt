@@ -47,7 +47,7 @@ AreLinesOf limit lines matrices = AllZip (IsMatrix limit) (runs_between is_blank
 abbrev pub StandsFor : ℕ → List ℕ → List (List (List ℕ)) → Type 0
 StandsFor limit input matrices = AreLinesOf limit (pieces_of input) matrices
 
--- the rows that lines end with: those behind the last blank line
+-- the rows that lines end with: those after the last blank line
 abbrev pub rows_at_end : List (List ℕ) → List (List ℕ)
 rows_at_end lines = last_of [] (slice_split is_blank lines)
 
@@ -61,7 +61,7 @@ IsLineFault limit rows at line (Count number expected got) =
     (got ≡ length (numbers_of line)) × (got ≢ expected) × All (IsNumberBelow limit) (numerals_of line)
 IsLineFault limit rows at line fault = ⊥
 
--- the fault of the first faulty line, numbered from 1: the lines above it stand for matrices, and it does not go on
+-- the error of the first faulty line, numbered from 1: the lines above it stand for matrices, and it does not go on
 -- with the rows that they end with
 pub record IsFirstFault (limit : ℕ) (lines : List (List ℕ)) (fault : Fault) : Type 0 where
   pub above : List (List ℕ)

@@ -1,7 +1,7 @@
 pub mod Numbers
 pub mod Faults
 pub mod Input
-pub mod Words
+pub mod Args
 pub mod Text
 pub mod Matrices
 pub mod Program

@@ -24,7 +24,7 @@ use Rattle.mmcs_engine.specs.declared.fault.Fault.TheVariants.{Usage, Read, Tree
 use Rattle.mmcs_engine.specs.Input.{pieces_of, IsFirstFault, StandsFor}
 use Rattle.mmcs_engine.specs.Matrices.{batch_of_rows}
 use Rattle.mmcs_engine.specs.Text.{digest_lines, hex_lines, ok_line, query_lines}
-use Rattle.mmcs_engine.specs.Words.{arity_number, max_word, AreNoCommand, AreWords}
+use Rattle.mmcs_engine.specs.Args.{arity_number, max_word, AreNoCommand, AreArgs}
 
 -- ---- what is printed
 
@@ -50,8 +50,8 @@ hex_digits Sha256 = 2
 abbrev pub layer_of_cap : CapChoice → Shape → ℕ
 layer_of_cap cap s = cap_layer s cap.rule cap.height
 
--- what an action prints under a hash of some indices of a batch, whose cap is layer t: for `commit` the cap; for
--- `open` the rows of each index, and the digests that are sent for all of them; for `check` how many digests that are
+-- what an action prints for indices of a batch, under a hash, where the cap is layer t: for `commit` the cap; for
+-- `open` the rows of each index and the proof digests for all of them; for `check` the count of proof digests
 abbrev pub text_of : HashName → Action → List ℕ → Batch ℕ → ℕ → List ℕ
 text_of hash Commit indices b t = hex_lines (hex_digits hash) (layer (functions_of_hash hash) b t)
 text_of hash Open indices b t =
@@ -61,13 +61,13 @@ text_of hash Open indices b t =
 text_of hash Check indices b t = ok_line (pruned_len (shape b) indices t)
 
 -- the batch of a command and some matrices
-abbrev pub batch_asked : Command → List (List (List ℕ)) → Batch ℕ
-batch_asked command matrices = batch_of_rows (arity_number command.arity) matrices
+abbrev pub batch_of_command : Command → List (List (List ℕ)) → Batch ℕ
+batch_of_command command matrices = batch_of_rows (arity_number command.arity) matrices
 
--- what a command prints of some matrices and indices
+-- what a command prints for matrices and indices
 abbrev pub output_of : Command → List ℕ → List (List (List ℕ)) → List ℕ
 output_of command indices matrices =
-    let b = batch_asked command matrices in
+    let b = batch_of_command command matrices in
     text_of command.hash command.action indices b (layer_of_cap command.cap (shape b))
 
 -- ---- what is refused
@@ -76,18 +76,18 @@ output_of command indices matrices =
 abbrev pub heights_of_rows : List (List (List ℕ)) → List ℕ
 heights_of_rows matrices = map length matrices
 
--- why the tree refuses what is asked: the heights, else the highest index
+-- why the tree refuses matrices or indices: the heights, else the highest index
 abbrev pub refusal_of : Command → List ℕ → List (List (List ℕ)) → Option MerkleTreeError
-refusal_of command indices matrices = pruned_len_refusal (shape (batch_asked command matrices)) indices
+refusal_of command indices matrices = pruned_len_refusal (shape (batch_of_command command matrices)) indices
 
--- the tree takes what is asked: heights that it can have, and indices below the greatest of them
+-- the tree takes matrices and indices: lawful heights, and indices below the greatest of them
 abbrev pub AreTaken : List ℕ → List (List (List ℕ)) → Type 0
 AreTaken indices matrices = let hs = heights_of_rows matrices in IsLawful hs × All (λ i. i < greatest hs) indices
 
 -- ---- the outcome
 
--- what a command with indices is answered of an input by definition: a text is printed of matrices that the tree
--- takes, what it refuses is told, and so is the first faulty line
+-- the outcome of a command with indices for an input: a text, where the tree takes the matrices and indices; else its
+-- refusal, or the error of the first faulty line
 abbrev pub IsReply : Command → List ℕ → List ℕ → Result (List ℕ) Fault → Type 0
 IsReply command indices input (Ok text) =
     (matrices : List (List (List ℕ))) × StandsFor (max_word command.hash + 1) input matrices ×
@@ -97,48 +97,48 @@ IsReply command indices input (Err (Tree e)) =
     (refusal_of command indices matrices ≡ Some e)
 IsReply command indices input (Err fault) = IsFirstFault (max_word command.hash + 1) (pieces_of input) fault
 
--- what words and an input are answered by definition: the usage of words that are no command
+-- the outcome of arguments and an input: `Usage`, where the arguments are no command
 abbrev pub IsOutcome : List (List ℕ) → List ℕ → Result (List ℕ) Fault → Type 0
-IsOutcome words input (Err Usage) = AreNoCommand words
-IsOutcome words input outcome =
-    (command : Command) × (indices : List ℕ) × AreWords words command indices × IsReply command indices input outcome
+IsOutcome args input (Err Usage) = AreNoCommand args
+IsOutcome args input outcome =
+    (command : Command) × (indices : List ℕ) × AreArgs args command indices × IsReply command indices input outcome
 
--- a fault is that of the definition for known bytes of the input, but where it tells of memory, a read or a write
-abbrev pub IsTold : List (List ℕ) → Option (List ℕ) → Fault → Type 0
-IsTold words known Read = Unit {0}
-IsTold words known Write = Unit {0}
-IsTold words known (Tree e) = (e ≡ OutOfMemory) ⊎ IfSome known (λ input. IsOutcome words input (Err (Tree e)))
-IsTold words known fault = IfSome known (λ input. IsOutcome words input (Err fault))
+-- an error is the outcome for the bytes of the input, where they are known, unless memory, a read or a write failed
+abbrev pub IsReported : List (List ℕ) → Option (List ℕ) → Fault → Type 0
+IsReported args known Read = Unit {0}
+IsReported args known Write = Unit {0}
+IsReported args known (Tree e) = (e ≡ OutOfMemory) ⊎ IfSome known (λ input. IsOutcome args input (Err (Tree e)))
+IsReported args known fault = IfSome known (λ input. IsOutcome args input (Err fault))
 
--- a fact holds of the text that is the outcome by definition, for known bytes of the input
+-- the outcome is a text of which a fact holds, where the bytes of the input are known
 abbrev pub Prints : List (List ℕ) → Option (List ℕ) → (List ℕ → Type 0) → Type 0
-Prints words known Holds = IfSome known (λ input. (text : List ℕ) × IsOutcome words input (Ok text) × Holds text)
+Prints args known Holds = IfSome known (λ input. (text : List ℕ) × IsOutcome args input (Ok text) × Holds text)
 
 -- the result is this one, unless a read failed or memory ran out
 abbrev pub IsUnlessFailed : Result (Unit {0}) Fault → Result (Unit {0}) Fault → Type 0
 IsUnlessFailed result due = (result ≡ due) ⊎ ((result ≡ Err Read) ⊎ (result ≡ Err (Tree OutOfMemory)))
 
--- an outcome by definition ends in this result: a text in Ok, or in a failed write; a fault in itself
+-- the result that an outcome ends in: Ok for a text, unless the write fails; an error for itself
 abbrev pub EndsIn : Result (List ℕ) Fault → Result (Unit {0}) Fault → Type 0
 EndsIn (Ok text) result = (result ≡ Err Write) ⊎ IsUnlessFailed result (Ok tt)
 EndsIn (Err fault) result = IsUnlessFailed result (Err fault)
 
--- what `run` answers to words, with what its reader and its writer were and what they are then, whose bytes are told
--- by `remaining` and `contents`, where they are known
+-- what `run` returns for arguments, with its reader and writer before and after; `remaining` and `contents` are their
+-- bytes, where they are known
 pub record IsAnswer {S D : Type 0} (remaining : S → Option (List ℕ)) (contents : D → Option (List ℕ))
-    (words : List (List ℕ)) (input input_left : S) (output output_left : D)
+    (args : List (List ℕ)) (input input_left : S) (output output_left : D)
     (result : Result (Unit {0}) Fault) : Type 0 where
-  -- words that are no command, and only these, are told by the usage, and then nothing is read
-  pub usage : (result ≡ Err Usage) ↔ AreNoCommand words
+  -- `Usage` comes exactly where the arguments are no command, and then nothing is read
+  pub usage : (result ≡ Err Usage) ↔ AreNoCommand args
   pub unread : result ≡ Err Usage → input_left ≡ input
-  -- no fault but a failed write leaves anything written
+  -- no error but a failed write leaves anything written
   pub silent : OnErr result ((result ≡ Err Write) ⊎ (output_left ≡ output))
-  -- Ok tells that the outcome by definition is a text, and that it was written and nothing else
-  pub ok : OnOk result (Prints words (remaining input) (λ text. Appends (contents output) (contents output_left) text))
-  -- a write comes last
-  pub last : result ≡ Err Write → Prints words (remaining input) (λ text. Unit {0})
-  -- a fault is that of the definition
-  pub fault : IfErr result (IsTold words (remaining input))
-  -- the outcome by definition is what the call ends in
+  -- at Ok the outcome is a text, and it was written and nothing else
+  pub ok : OnOk result (Prints args (remaining input) (λ text. Appends (contents output) (contents output_left) text))
+  -- a write comes last: it fails only where the outcome is a text
+  pub last : result ≡ Err Write → Prints args (remaining input) (λ text. Unit {0})
+  -- an error is the outcome
+  pub fault : IfErr result (IsReported args (remaining input))
+  -- the outcome is what the call ends in
   pub ends : (bytes : List ℕ) (outcome : Result (List ℕ) Fault) → remaining input ≡ Some bytes →
-      IsOutcome words bytes outcome → EndsIn outcome result
+      IsOutcome args bytes outcome → EndsIn outcome result

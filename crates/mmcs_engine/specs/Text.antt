@@ -1,4 +1,4 @@
--- The printed text.
+-- Printed lines.
 use Rattle.std.specs.Prelude.{ℕ, zero, suc, ◌+◌, ◌/◌, ◌%◌, nat_lt, if◌then◌else◌, List, [], ◌∷◌, ◌++◌, length, flat_map}
 use Rattle.std.specs.Prelude.{codes, decimal}
 
@@ -6,7 +6,7 @@ use Rattle.std.specs.Prelude.{codes, decimal}
 abbrev pub hex_digit : ℕ → ℕ
 hex_digit d = if nat_lt d 10 then 48 + d else 87 + d
 
--- so many digits in lower case hexadecimal; the last digit counts ones
+-- a number in `width` digits of lower case hexadecimal
 abbrev pub hex_word : ℕ → ℕ → List ℕ
 hex_word zero word = []
 hex_word (suc width) word = hex_word width (word / 16) ++ hex_digit (word % 16) ∷ []
@@ -28,18 +28,18 @@ spaced (word ∷ words) = decimal word ++ flat_map (λ w. 32 ∷ decimal w) word
 abbrev pub row_line : List ℕ → List ℕ
 row_line row = spaced row ++ 10 ∷ []
 
--- a word, a space, a number in decimal, and a line feed
+-- a label, a space, a number in decimal, and a line feed
 abbrev pub labelled : List ℕ → ℕ → List ℕ
 labelled label number = label ++ (32 ∷ (decimal number ++ 10 ∷ []))
 
--- what is opened of an index: it, and a line for the row of each matrix
+-- the opening of an index: it, and a line for the row of each matrix
 abbrev pub query_lines : ℕ → List (List ℕ) → List ℕ
 query_lines index rows = labelled (codes "index") index ++ flat_map row_line rows
 
--- how many digests there are, and a line for each
+-- the count of digests, and a line for each
 abbrev pub digest_lines : ℕ → List (List ℕ) → List ℕ
 digest_lines width digests = labelled (codes "digests") (length digests) ++ hex_lines width digests
 
--- `ok` and how many digests were sent
+-- `ok` and the count of proof digests
 abbrev pub ok_line : ℕ → List ℕ
 ok_line count = labelled (codes "ok") count

@@ -1,4 +1,4 @@
-//! Commands, from the words after the program's name.
+//! The arguments of a command.
 
 ghost use Rattle.std.specs.Prelude.{◌≡◌, ◌⊎◌, All, Decides, List, ℕ, IfErr, IfNone, IfOk, IfSome, map};
 ghost use Rattle.std.specs.Str.Parse.{digits_value};
@@ -6,24 +6,24 @@ ghost use Rattle.p3_merkle_core.specs.declared.error.MerkleTreeError.TheVariants
 ghost use Rattle.mmcs_engine.specs.declared.command.CapChoice.{CapChoice};
 ghost use Rattle.mmcs_engine.specs.declared.command.HashName.{HashName};
 ghost use Rattle.mmcs_engine.specs.declared.fault.Fault.TheVariants.{Usage, Tree};
-ghost use Rattle.mmcs_engine.specs.Words.{action_word, arity_word, hash_word, texts_of, AreNoCommand, AreWords};
-ghost use Rattle.mmcs_engine.specs.Words.{IsCapWord, IsNumberWord, MayFollow};
+ghost use Rattle.mmcs_engine.specs.Args.{action_arg, arity_arg, hash_arg, texts_of, AreNoCommand, AreArgs};
+ghost use Rattle.mmcs_engine.specs.Args.{IsCapArg, IsNumberArg, MayFollow};
 
 use crate::fault::Fault;
 use crate::number::parse_number;
 use p3_merkle_core::cap::CapRule;
 use std::alloc::{AllocError, Global};
 
-/// What the program is asked for: a command, and the indices that it opens.
+/// The arguments, parsed: a command, and the indices that it opens.
 #[derive(Drop)]
-pub struct Request {
+pub struct Args {
     /// The command.
     pub command: Command,
-    /// The indices, in the order of their words; none of `commit`.
+    /// The indices, in the order of their arguments; none of `commit`.
     pub indices: Vec<usize>,
 }
 
-/// What is asked, but for the indices.
+/// All arguments but the indices.
 #[derive(Clone, Copy)]
 pub struct Command {
     /// The hash of rows and nodes.
@@ -32,7 +32,7 @@ pub struct Command {
     pub arity: Arity,
     /// Which layer is the cap.
     pub cap: CapChoice,
-    /// What is done with the matrices of the input.
+    /// What to do with the matrices of the input.
     pub action: Action,
 }
 
@@ -45,7 +45,7 @@ pub struct CapChoice {
     pub rule: CapRule,
 }
 
-/// The hashes that the program takes.
+/// The hashes that the program supports.
 #[derive(Clone, Copy)]
 pub enum HashName {
     /// The fold functions on words of 32 bits, with digests of one word. They are not secure.
@@ -54,7 +54,7 @@ pub enum HashName {
     Sha256,
 }
 
-/// The arities that the program takes.
+/// The arities that the program supports.
 #[derive(Clone, Copy)]
 pub enum Arity {
     /// 2 children.
@@ -72,45 +72,44 @@ pub enum Action {
     Commit,
     /// Opens the indices by one pruned proof, and writes their rows and its digests.
     Open,
-    /// Opens the indices, verifies what is opened, and writes how many digests the proof has.
+    /// Opens the indices, verifies the opening, and writes how many digests the proof has.
     Check,
 }
 
-impl Request {
-    /// What the words after the program's name ask for: a hash, an arity, a cap, an action, and the indices. Numbers
-    /// are one or more ASCII digits, and fit `usize`.
+impl Args {
+    /// Parses the arguments after the program's name: a hash, an arity, a cap, an action, and the indices. Numbers are
+    /// one or more ASCII digits, and fit `usize`.
     ///
     /// # Errors
     ///
-    /// `Usage` where the words are no command; else `Tree(OutOfMemory)` if memory runs out.
-    pub fn from_words(alloc: Global, words: &[String]) -> Result<Request, Fault>
-        ensures request { IfOk result (λ request. AreWords (texts_of words.now) request.command request.indices.items) }
-        ensures fault { IfErr result (λ fault. ((fault ≡ Usage) × AreNoCommand (texts_of words.now)) ⊎
-            ((fault ≡ Tree OutOfMemory) × (AreNoCommand (texts_of words.now) → ⊥))) }
+    /// `Usage` where the arguments are no command; else `Tree(OutOfMemory)` if memory runs out.
+    pub fn parse(alloc: Global, args: &[String]) -> Result<Args, Fault>
+        ensures parsed { IfOk result (λ parsed. AreArgs (texts_of args.now) parsed.command parsed.indices.items) }
+        ensures fault { IfErr result (λ fault. ((fault ≡ Usage) × AreNoCommand (texts_of args.now)) ⊎
+            ((fault ≡ Tree OutOfMemory) × (AreNoCommand (texts_of args.now) → ⊥))) }
     {
-        let (command, places) = Command::from_words(words).ok_or(Fault::Usage)?;
-        let indices = indices_of(alloc, places)?;
-        Ok(Request { command, indices })
+        let (command, index_args) = Command::parse(args).ok_or(Fault::Usage)?;
+        let indices = indices_of(alloc, index_args)?;
+        Ok(Args { command, indices })
     }
 }
 
-/// Whether each of some words is a number.
-pub fn are_numbers(words: &[String]) -> bool
-    ensures { Decides result (All IsNumberWord (texts_of words.now)) }
+/// Whether each argument is a number that fits `usize`.
+pub fn are_numbers(args: &[String]) -> bool
+    ensures { Decides result (All IsNumberArg (texts_of args.now)) }
 {
-    words
-        .iter()
-        .all(|word| parse_number(word.as_bytes()).is_some())
+    args.iter()
+        .all(|arg| parse_number(arg.as_bytes()).is_some())
 }
 
-/// The numbers of words. Each word must be a number.
-pub fn indices_of(alloc: Global, words: &[String]) -> Result<Vec<usize>, AllocError>
-    requires { All IsNumberWord (texts_of words.now) }
-    ensures { IfOk result (λ indices. indices.items ≡ map (digits_value 10) (texts_of words.now)) }
+/// The numbers of arguments. Each argument must be a number that fits `usize`.
+pub fn indices_of(alloc: Global, args: &[String]) -> Result<Vec<usize>, AllocError>
+    requires { All IsNumberArg (texts_of args.now) }
+    ensures { IfOk result (λ indices. indices.items ≡ map (digits_value 10) (texts_of args.now)) }
 {
-    let mut indices = Vec::with_capacity(alloc, words.len())?;
-    for word in words {
-        if let Some(index) = parse_number(word.as_bytes()) {
+    let mut indices = Vec::with_capacity(alloc, args.len())?;
+    for arg in args {
+        if let Some(index) = parse_number(arg.as_bytes()) {
             indices.push(index)?;
         }
     }
@@ -118,52 +117,52 @@ pub fn indices_of(alloc: Global, words: &[String]) -> Result<Vec<usize>, AllocEr
 }
 
 impl Command {
-    /// The command of the words after the program's name, and the words of its indices, if they are one.
-    fn from_words(words: &[String]) -> Option<(Command, &[String])>
-        ensures found { IfSome result (λ (command, places). All IsNumberWord (texts_of places.now) ×
-            AreWords (texts_of words.now) command (map (digits_value 10) (texts_of places.now))) }
-        ensures none { IfNone result (AreNoCommand (texts_of words.now)) }
+    /// The command of the arguments, and the arguments of its indices; `None` where they are no command.
+    fn parse(args: &[String]) -> Option<(Command, &[String])>
+        ensures found { IfSome result (λ (command, index_args). All IsNumberArg (texts_of index_args.now) ×
+            AreArgs (texts_of args.now) command (map (digits_value 10) (texts_of index_args.now))) }
+        ensures none { IfNone result (AreNoCommand (texts_of args.now)) }
     {
-        let [hash, arity, cap, action, places @ ..] = words else {
+        let [hash, arity, cap, action, index_args @ ..] = args else {
             return None;
         };
         let command = Command {
-            hash: HashName::from_word(hash.as_str())?,
-            arity: Arity::from_word(arity.as_str())?,
-            cap: CapChoice::from_word(cap.as_bytes())?,
-            action: Action::from_word(action.as_str())?,
+            hash: HashName::parse(hash.as_str())?,
+            arity: Arity::parse(arity.as_str())?,
+            cap: CapChoice::parse(cap.as_bytes())?,
+            action: Action::parse(action.as_str())?,
         };
         command
             .action
-            .may_precede(places)
-            .then_some((command, places))
+            .may_precede(index_args)
+            .then_some((command, index_args))
     }
 }
 
 impl CapChoice {
-    /// The cap of a word: a cap height, and `f` behind it for the fixed rule.
-    pub fn from_word(word: &[u8]) -> Option<CapChoice>
-        ensures found { IfSome result (IsCapWord word.now) }
-        ensures none { IfNone result ((cap : CapChoice) → IsCapWord word.now cap → ⊥) }
+    /// The cap of an argument: a cap height, followed by `f` for the fixed rule.
+    pub fn parse(arg: &[u8]) -> Option<CapChoice>
+        ensures found { IfSome result (IsCapArg arg.now) }
+        ensures none { IfNone result ((cap : CapChoice) → IsCapArg arg.now cap → ⊥) }
     {
-        if let Some(digits) = word.strip_suffix(b"f") {
+        if let Some(digits) = arg.strip_suffix(b"f") {
             let height = parse_number(digits)?;
             let rule = CapRule::Fixed;
             return Some(CapChoice { height, rule });
         }
-        let height = parse_number(word)?;
+        let height = parse_number(arg)?;
         let rule = CapRule::Lowered;
         Some(CapChoice { height, rule })
     }
 }
 
 impl HashName {
-    /// The hash of a word: `fold` or `sha256`.
-    pub fn from_word(word: &str) -> Option<HashName>
-        ensures found { IfSome result (λ hash. word.now ≡ hash_word hash) }
-        ensures none { IfNone result ((hash : HashName) → word.now ≡ hash_word hash → ⊥) }
+    /// The hash of an argument: `fold` or `sha256`.
+    pub fn parse(arg: &str) -> Option<HashName>
+        ensures found { IfSome result (λ hash. arg.now ≡ hash_arg hash) }
+        ensures none { IfNone result ((hash : HashName) → arg.now ≡ hash_arg hash → ⊥) }
     {
-        match word {
+        match arg {
             "fold" => Some(HashName::Fold),
             "sha256" => Some(HashName::Sha256),
             _ => None,
@@ -172,12 +171,12 @@ impl HashName {
 }
 
 impl Arity {
-    /// The arity of a word: `2`, `4` or `8`.
-    pub fn from_word(word: &str) -> Option<Arity>
-        ensures found { IfSome result (λ arity. word.now ≡ arity_word arity) }
-        ensures none { IfNone result ((arity : Arity) → word.now ≡ arity_word arity → ⊥) }
+    /// The arity of an argument: `2`, `4` or `8`.
+    pub fn parse(arg: &str) -> Option<Arity>
+        ensures found { IfSome result (λ arity. arg.now ≡ arity_arg arity) }
+        ensures none { IfNone result ((arity : Arity) → arg.now ≡ arity_arg arity → ⊥) }
     {
-        match word {
+        match arg {
             "2" => Some(Arity::Two),
             "4" => Some(Arity::Four),
             "8" => Some(Arity::Eight),
@@ -187,12 +186,12 @@ impl Arity {
 }
 
 impl Action {
-    /// The action of a word: `commit`, `open` or `check`.
-    fn from_word(word: &str) -> Option<Action>
-        ensures found { IfSome result (λ action. word.now ≡ action_word action) }
-        ensures none { IfNone result ((action : Action) → word.now ≡ action_word action → ⊥) }
+    /// The action of an argument: `commit`, `open` or `check`.
+    fn parse(arg: &str) -> Option<Action>
+        ensures found { IfSome result (λ action. arg.now ≡ action_arg action) }
+        ensures none { IfNone result ((action : Action) → arg.now ≡ action_arg action → ⊥) }
     {
-        match word {
+        match arg {
             "commit" => Some(Action::Commit),
             "open" => Some(Action::Open),
             "check" => Some(Action::Check),
@@ -200,13 +199,13 @@ impl Action {
         }
     }
 
-    /// Whether these words may follow: numbers, and none after `commit`.
-    fn may_precede(self, places: &[String]) -> bool
-        ensures { Decides result (MayFollow self (texts_of places.now)) }
+    /// Whether these arguments may follow the action: numbers, and none after `commit`.
+    fn may_precede(self, index_args: &[String]) -> bool
+        ensures { Decides result (MayFollow self (texts_of index_args.now)) }
     {
         match self {
-            Action::Commit => places.is_empty(),
-            Action::Open | Action::Check => are_numbers(places),
+            Action::Commit => index_args.is_empty(),
+            Action::Open | Action::Check => are_numbers(index_args),
         }
     }
 }

@@ -1,4 +1,4 @@
-//! From words and an input to an output.
+//! Runs a command: arguments and an input give an output.
 
 ghost use Rattle.std.specs.Prelude.{◌≡◌, ◌⊎◌, ℕ, ◌++◌, ◌<◌, ◌↔◌, All, Ok, Err, IfOk, IfErr, IfSome, None, OnOk};
 ghost use Rattle.std.specs.Prelude.{flat_map, length, map, IsTrue};
@@ -18,12 +18,12 @@ ghost use Rattle.p3_merkle_mmcs.specs.Schemes.{params_over};
 ghost use Rattle.mmcs_engine.specs.declared.fault.Fault.TheVariants.{Usage, Read, Tree, Write};
 ghost use Rattle.mmcs_engine.specs.Inner.Stored.{stored_batch};
 ghost use Rattle.mmcs_engine.specs.Text.{digest_lines, hex_lines, ok_line};
-ghost use Rattle.mmcs_engine.specs.Words.{arity_number, texts_of, AreNoCommand};
-ghost use Rattle.mmcs_engine.specs.Program.{layer_of_cap, text_of, IsAnswer, IsReply, IsTold, Prints};
+ghost use Rattle.mmcs_engine.specs.Args.{arity_number, texts_of, AreNoCommand};
+ghost use Rattle.mmcs_engine.specs.Program.{layer_of_cap, text_of, IsAnswer, IsReply, IsReported, Prints};
 ghost use Rattle.mmcs_engine.specs.Inner.Alike.{batch_in_numbers, is_taken_arity, opened_lines};
 ghost use Rattle.mmcs_engine.specs.Inner.Alike.{opened_text, IsSchemeOf};
 
-use crate::command::{Action, Arity, HashName, Request};
+use crate::command::{Action, Args, Arity, HashName};
 use crate::fault::Fault;
 use crate::input::read_matrices;
 use crate::schemes::{fold_scheme, sha_scheme};
@@ -42,10 +42,10 @@ use p3_support::packed::PackedValue;
 use std::alloc::{AllocError, Global};
 use std::io::{Read, Write};
 
-/// Runs the command of `words`, those after the program's name: reads the whole input, and writes the output once all
-/// else has succeeded.
+/// Runs the command of `args`, the arguments after the program's name. It reads the whole input, and writes the output
+/// once all else has succeeded.
 ///
-/// The words are `HASH ARITY CAP[f] ACTION I..`: a hash (`fold` or `sha256`), an arity (`2`, `4` or `8`), the cap
+/// The arguments are `HASH ARITY CAP[f] ACTION I..`: a hash (`fold` or `sha256`), an arity (`2`, `4` or `8`), the cap
 /// height in levels below the root (by the rule `Lowered`, or by the rule `Fixed` if an `f` follows it), an action, and
 /// after `open` and `check` any number of indices. The lines of the input are the rows of matrices: decimal numbers, up
 /// to 4294967295 for `fold` and up to 255 for `sha256`, with spaces or tabs between; blank lines end a matrix.
@@ -57,77 +57,77 @@ use std::io::{Read, Write};
 ///
 /// # Errors
 ///
-/// The first of these that holds, where `Tree(OutOfMemory)` may come at any time:
+/// The first of these that applies. `Tree(OutOfMemory)` may come at any time.
 ///
-/// - `Usage`: the words are no command. Nothing was read.
+/// - `Usage`: the arguments are no command. Nothing was read.
 /// - `Read`: a read failed.
-/// - `Number` or `Count`, for the first line that has a part which is no number that the hash takes, or else not as
-///   many numbers as the first row of its matrix.
+/// - `Number` or `Count`, for the first faulty line: a part of it is no number that the hash takes, or else it has
+///   another count of numbers than the first row of its matrix.
 /// - `Tree`: why the tree refuses the heights; else `IndexOutOfBounds` for the highest index, where it is not below the
 ///   tallest height.
-/// - `Write`: a write failed. No other fault leaves anything written.
+/// - `Write`: a write failed. No other error leaves anything written.
 pub fn run<Src: Read, Dst: Write>(
     alloc: Global,
-    words: &[String],
+    args: &[String],
     input: &mut Src,
     output: &mut Dst,
 ) -> Result<(), Fault>
-    ensures { IsAnswer Src.remaining Dst.contents (texts_of words.now) input.old input.new output.old output.new
+    ensures { IsAnswer Src.remaining Dst.contents (texts_of args.now) input.old input.new output.old output.new
         result }
 {
-    let text = answer_to(alloc, words, input)?;
+    let text = answer_to(alloc, args, input)?;
     write_text(output, &text, Fault::Write)
 }
 
-/// What is written for some words and an input, once all of it was read.
-fn answer_to<Src: Read>(alloc: Global, words: &[String], input: &mut Src) -> Result<Vec<u8>, Fault>
-    ensures usage { (result ≡ Err Fault.Usage) ↔ AreNoCommand (texts_of words.now) }
+/// The text that `run` writes.
+fn answer_to<Src: Read>(alloc: Global, args: &[String], input: &mut Src) -> Result<Vec<u8>, Fault>
+    ensures usage { (result ≡ Err Fault.Usage) ↔ AreNoCommand (texts_of args.now) }
     ensures unread { result ≡ Err Fault.Usage → input.new ≡ input.old }
-    ensures text { IfOk result (λ text. Prints (texts_of words.now) (Src.remaining input.old) (λ t. text.items ≡ t)) }
+    ensures text { IfOk result (λ text. Prints (texts_of args.now) (Src.remaining input.old) (λ t. text.items ≡ t)) }
     ensures fault { IfErr result
-        (λ fault. (fault ≡ Fault.Write → ⊥) × IsTold (texts_of words.now) (Src.remaining input.old) fault) }
+        (λ fault. (fault ≡ Fault.Write → ⊥) × IsReported (texts_of args.now) (Src.remaining input.old) fault) }
 {
-    let request = Request::from_words(alloc, words)?;
+    let parsed = Args::parse(alloc, args)?;
     let bytes = read_all(alloc, input, Fault::Read)?;
-    reply(alloc, &request, bytes)
+    reply(alloc, &parsed, bytes)
 }
 
-/// The text that is printed of an input, which is given up once it is read.
-fn reply(alloc: Global, request: &Request, input: Vec<u8>) -> Result<Vec<u8>, Fault>
+/// The text that a command prints for an input. The input is dropped once its matrices are read.
+fn reply(alloc: Global, args: &Args, input: Vec<u8>) -> Result<Vec<u8>, Fault>
     ensures text { IfOk result
-        (λ text. IsReply request.now.command request.now.indices.items input.items (Ok text.items)) }
+        (λ text. IsReply args.now.command args.now.indices.items input.items (Ok text.items)) }
     ensures fault { IfErr result (λ fault. (fault ≡ Fault.Tree OutOfMemory) ⊎
-        IsReply request.now.command request.now.indices.items input.items (Err fault)) }
+        IsReply args.now.command args.now.indices.items input.items (Err fault)) }
 {
-    match request.command.arity {
-        Arity::Two => reply_at::<2>(alloc, request, input),
-        Arity::Four => reply_at::<4>(alloc, request, input),
-        Arity::Eight => reply_at::<8>(alloc, request, input),
+    match args.command.arity {
+        Arity::Two => reply_with_arity::<2>(alloc, args, input),
+        Arity::Four => reply_with_arity::<4>(alloc, args, input),
+        Arity::Eight => reply_with_arity::<8>(alloc, args, input),
     }
 }
 
-/// The same at the arity of the command.
-fn reply_at<const N: usize>(
+/// The same, at the arity of the command.
+fn reply_with_arity<const N: usize>(
     alloc: Global,
-    request: &Request,
+    args: &Args,
     input: Vec<u8>,
 ) -> Result<Vec<u8>, Fault>
     requires taken { IsTrue (is_taken_arity N) }
-    requires arity { N ≡ arity_number request.now.command.arity }
+    requires arity { N ≡ arity_number args.now.command.arity }
     ensures text { IfOk result
-        (λ text. IsReply request.now.command request.now.indices.items input.items (Ok text.items)) }
+        (λ text. IsReply args.now.command args.now.indices.items input.items (Ok text.items)) }
     ensures fault { IfErr result (λ fault. (fault ≡ Fault.Tree OutOfMemory) ⊎
-        IsReply request.now.command request.now.indices.items input.items (Err fault)) }
+        IsReply args.now.command args.now.indices.items input.items (Err fault)) }
 {
-    let cap = request.command.cap;
-    match request.command.hash {
-        HashName::Fold => reply_by(alloc, &fold_scheme::<N>(cap), request, input),
-        HashName::Sha256 => reply_by(alloc, &sha_scheme::<N>(cap), request, input),
+    let cap = args.command.cap;
+    match args.command.hash {
+        HashName::Fold => reply_with_scheme(alloc, &fold_scheme::<N>(cap), args, input),
+        HashName::Sha256 => reply_with_scheme(alloc, &sha_scheme::<N>(cap), args, input),
     }
 }
 
-/// The same under the scheme of the command.
-fn reply_by<
+/// The same, under the scheme of the command.
+fn reply_with_scheme<
     W: Word + PackedValue<Value = W>,
     H: CryptographicHasher<W, W, D>,
     C: PseudoCompressionFunction<W, N, D>,
@@ -136,26 +136,26 @@ fn reply_by<
 >(
     alloc: Global,
     scheme: &MerkleTreeMmcs<W, W, H, C, N, D>,
-    request: &Request,
+    args: &Args,
     input: Vec<u8>,
 ) -> Result<Vec<u8>, Fault>
-    requires scheme { IsSchemeOf request.now.command.hash request.now.command.cap W.value W.MAX W.HEX_DIGITS
+    requires scheme { IsSchemeOf args.now.command.hash args.now.command.cap W.value W.MAX W.HEX_DIGITS
         (scheme_functions H.hash C.compression D scheme.now) (cap_height_of scheme.now) (cap_rule_of scheme.now) }
-    requires arity { N ≡ arity_number request.now.command.arity }
+    requires arity { N ≡ arity_number args.now.command.arity }
     ensures text { IfOk result
-        (λ text. IsReply request.now.command request.now.indices.items input.items (Ok text.items)) }
+        (λ text. IsReply args.now.command args.now.indices.items input.items (Ok text.items)) }
     ensures fault { IfErr result (λ fault. (fault ≡ Fault.Tree OutOfMemory) ⊎
-        IsReply request.now.command request.now.indices.items input.items (Err fault)) }
+        IsReply args.now.command args.now.indices.items input.items (Err fault)) }
 {
-    // Its memory is free again before the tree is built.
+    // The input is dropped before the tree is built.
     let matrices = {
         let text = input;
         read_matrices::<W>(alloc, &text)?
     };
-    Ok(act(alloc, scheme, request, matrices)?)
+    Ok(act(alloc, scheme, args, matrices)?)
 }
 
-/// The text that a command prints of some matrices, under its scheme.
+/// The text that a command prints for matrices, under its scheme.
 fn act<
     W: Word + PackedValue<Value = W>,
     H: CryptographicHasher<W, W, D>,
@@ -165,24 +165,24 @@ fn act<
 >(
     alloc: Global,
     scheme: &MerkleTreeMmcs<W, W, H, C, N, D>,
-    request: &Request,
+    args: &Args,
     matrices: Vec<RowMajorMatrix<W>>,
 ) -> Result<Vec<u8>, MerkleTreeError>
-    requires scheme { IsSchemeOf request.now.command.hash request.now.command.cap W.value W.MAX W.HEX_DIGITS
+    requires scheme { IsSchemeOf args.now.command.hash args.now.command.cap W.value W.MAX W.HEX_DIGITS
         (scheme_functions H.hash C.compression D scheme.now) (cap_height_of scheme.now) (cap_rule_of scheme.now) }
     ensures text { let b = batch_in_numbers W.value (stored_batch N matrices.items) in
         IfOk result (λ text. text.items
-        ≡ text_of request.now.command.hash request.now.command.action request.now.indices.items b
-        (layer_of_cap request.now.command.cap (shape b))) }
+        ≡ text_of args.now.command.hash args.now.command.action args.now.indices.items b
+        (layer_of_cap args.now.command.cap (shape b))) }
     ensures answer { AnswersUnlessMemory result
-        (pruned_len_refusal (shape (stored_batch N matrices.items)) request.now.indices.items) }
+        (pruned_len_refusal (shape (stored_batch N matrices.items)) args.now.indices.items) }
 {
     let dimensions = dimensions_of(alloc, &matrices)?;
     let (roots, tree) = scheme.commit(alloc, matrices)?;
-    // What is wrong with the heights is told first, and the commit finds it.
-    let indices = request.indices.as_slice();
+    // A refusal of the heights comes first, and the commit finds it.
+    let indices = args.indices.as_slice();
     check_indices(scheme.get_max_height(&tree), indices)?;
-    match request.command.action {
+    match args.command.action {
         Action::Commit => cap_text(alloc, &roots),
         Action::Open => open_text(alloc, scheme, indices, &tree),
         Action::Check => check_text(alloc, scheme, indices, &dimensions, &roots, &tree),
@@ -202,7 +202,7 @@ fn cap_text<W: Word, const D: usize>(
     Ok(text)
 }
 
-/// The rows of each index of a tree, and the digests of one pruned proof for all of them.
+/// Opens indices of a tree, and prints their rows and the digests of one pruned proof.
 fn open_text<
     W: Word + PackedValue<Value = W>,
     H: CryptographicHasher<W, W, D>,
@@ -226,7 +226,7 @@ fn open_text<
     Ok(text_of_opening(alloc, indices, &opening.opened_values, digests)?)
 }
 
-/// The rows of each index, and the digests that prove them.
+/// The rows of each index, and the digests of their proof.
 fn text_of_opening<W: Word, const D: usize>(
     alloc: Global,
     indices: &[usize],
@@ -248,7 +248,7 @@ fn text_of_opening<W: Word, const D: usize>(
     Ok(text)
 }
 
-/// Opens indices of a tree, verifies what is opened, and tells how many digests were sent.
+/// Opens indices of a tree, verifies the opening, and prints how many digests its proof has.
 fn check_text<
     W: Word + PackedValue<Value = W>,
     H: CryptographicHasher<W, W, D>,
@@ -278,7 +278,7 @@ fn check_text<
     Ok(text_of_count(alloc, proof.sibling_hashes.len())?)
 }
 
-/// The line that tells how many digests were sent.
+/// The line `ok` with the count of proof digests.
 ///
 /// # Errors
 ///

@@ -1,19 +1,19 @@
-//! Why `mmcs` stops short.
+//! The errors of `mmcs`.
 
 ghost use Rattle.std.specs.Prelude.{◌≡◌};
 ghost use Rattle.p3_merkle_core.specs.declared.error.MerkleTreeError.TheVariants.{OutOfMemory};
 ghost use Rattle.mmcs_engine.specs.declared.fault.Fault.TheVariants.{Tree};
 ghost use Rattle.mmcs_engine.specs.Faults.{status_of};
 
-use crate::process::ProgramFault;
+use crate::process::ProgramError;
 use p3_merkle_core::error::MerkleTreeError;
 use std::alloc::{AllocError, AllocFailed};
 use thiserror::Error;
 
-/// What went wrong. It prints as one line, and ends the program with its status.
+/// Why `mmcs` fails. It prints as one line.
 #[derive(Debug, Drop, Error)]
 pub enum Fault {
-    /// The words are no command.
+    /// The arguments are no command.
     #[error("usage: mmcs fold|sha256 2|4|8 CAP[f] commit|open I..|check I..")]
     Usage,
     /// The input could not be read.
@@ -46,7 +46,7 @@ pub enum Fault {
 }
 
 impl Fault {
-    /// The exit status: 2 for words that are no command, else 1.
+    /// The exit code: 2 for `Usage`, else 1.
     pub fn status(&self) -> u8
         ensures { result ≡ status_of self.now }
     {
@@ -57,7 +57,7 @@ impl Fault {
     }
 }
 
-impl ProgramFault for Fault {
+impl ProgramError for Fault {
     ghost status_of = { status_of };
 
     fn status(&self) -> u8 {

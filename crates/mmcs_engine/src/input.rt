@@ -52,7 +52,7 @@ fn skip_blocks(input: &[u8]) -> usize
     at
 }
 
-/// The bytes in front of the first line feed, and those behind it; or all bytes, where there is none.
+/// The bytes before the first line feed, and those after it; or all bytes, where there is none.
 pub fn cut_line(input: &[u8]) -> (&[u8], Option<&[u8]>)
     ensures cut { IfSome result.1 (λ rest.
         slice_split (λ b. b == 10) input.now ≡ result.0.now ∷ slice_split (λ b. b == 10) rest.now) }
@@ -80,7 +80,7 @@ pub fn without_return(line: &[u8]) -> &[u8]
     line.strip_suffix(b"\r").unwrap_or(line)
 }
 
-/// The number, at most `max`, that a digit makes with the digits in front of it, whose number is `before`.
+/// The number, at most `max`, of the digits of `before` followed by one more digit.
 fn with_digit(before: Option<u32>, digit: u8, max: u32) -> Option<u32>
     ensures some { IfSome result
         (λ number. (digits : List ℕ) → IsRead (max + 1) digits before →
@@ -132,7 +132,7 @@ pub fn append_row<W: Word>(values: &mut Vec<W>, line: &[u8]) -> Result<Option<us
     Ok(Some(values.len() - len))
 }
 
-/// The rows of a matrix that has not ended.
+/// The rows of a matrix so far.
 #[derive(Drop)]
 struct Block<W> {
     /// Row after row.
@@ -152,7 +152,7 @@ impl<W: Word> Block<W> {
         }
     }
 
-    /// Appends a line that is not blank, the one of this number, as a row of numbers, each at most `W::MAX`.
+    /// Appends line number `line`, which is not blank, as a row of numbers, each at most `W::MAX`.
     fn push_row(&mut self, text: &[u8], line: usize) -> Result<(), Fault>
         requires full { is_blank text.now ≡ false }
         ensures row { (lines : List (List ℕ)) →
@@ -182,8 +182,7 @@ impl<W: Word> Block<W> {
         }
     }
 
-    /// The matrix of the rows, if there are any, and no rows are left. The values are those of rows that have `width`
-    /// values each.
+    /// Takes the rows, if there are any, as a matrix. The values are those of rows of `width` values each.
     fn take_matrix(&mut self, alloc: Global) -> Option<RowMajorMatrix<W>>
         requires { (limit : ℕ) × (lines : List (List ℕ)) ×
             IsBlock limit lines (map W.value self.old.values.items) self.old.width }
@@ -206,10 +205,10 @@ impl<W: Word> Block<W> {
 
 /// The matrices that the lines of an input stand for, in order.
 ///
-/// A line feed, with a carriage return before it or not, ends a line, and may be missing at the end. A line of spaces
-/// and tabs alone, or empty, is blank: one or more of these end a matrix, and are ignored before the first and after
-/// the last. Any other line is a row of numbers from 0 to `W::MAX` in decimal, with spaces or tabs between them; the
-/// rows of a matrix have equally many.
+/// Lines end in LF or CRLF, and the last line feed may be missing. A line of spaces and tabs alone, or empty, is
+/// blank: one or more of these end a matrix, and are ignored before the first matrix and after the last. Any other line
+/// is a row of numbers from 0 to `W::MAX` in decimal, with spaces or tabs between them; the rows of a matrix have
+/// equally many.
 ///
 /// # Errors
 ///

@@ -5,11 +5,11 @@ ghost use Rattle.std.specs.Option.{SomeIff};
 ghost use Rattle.std.specs.Str.Parse.{digits_value};
 ghost use Rattle.mmcs_engine.specs.Numbers.{IsNumberBelow};
 
-/// The number that one or more ASCII digits stand for, if it fits `usize`. There is none for any other text.
+/// The number of one or more ASCII digits, if it fits `usize`; `None` for any other text.
 pub fn parse_number(digits: &[u8]) -> Option<usize>
     ensures { SomeIff result (IsNumberBelow (2 ^ 64) digits.now) (digits_value 10 digits.now) }
 {
-    // `parse` takes a sign too.
+    // `parse` takes a sign as well.
     if digits.first() == Some(&b'+') {
         return None;
     }

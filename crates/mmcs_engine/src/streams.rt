@@ -1,4 +1,4 @@
-//! A program's streams: the whole input, and the output in one piece.
+//! Reads a whole input, and writes an output in one piece.
 
 ghost use Rattle.std.specs.Prelude.{◌≡◌, ◌⊎◌, IfErr, IfOk, IfSome, OnOk};
 ghost use Rattle.std.specs.Io.KnownBytes.{Appends};
@@ -31,7 +31,7 @@ pub fn read_all<Src: Read, E: From<MerkleTreeError> + Drop>(
     }
 }
 
-/// Writes a text, and sees it through.
+/// Writes a text, and flushes.
 ///
 /// # Errors
 ///

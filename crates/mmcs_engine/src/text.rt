@@ -1,4 +1,4 @@
-//! The printed text.
+//! Printed lines.
 
 ghost use Rattle.std.specs.Prelude.{◌≡◌, ◌∷◌, ◌++◌, ◌<◌, IfOk, OnOk, decimal, flat_map, map, string_bytes};
 ghost use Rattle.mmcs_engine.specs.Text.{hex_digit, hex_line, hex_lines, hex_word, labelled, row_line};
@@ -6,7 +6,7 @@ ghost use Rattle.mmcs_engine.specs.Text.{hex_digit, hex_line, hex_lines, hex_wor
 use crate::word::Word;
 use std::alloc::{AllocError, Global};
 
-/// Appends a line for each digest: its words in lower case hexadecimal, without a gap.
+/// Appends a line for each digest: its words in lower case hexadecimal, one after another.
 ///
 /// # Errors
 ///
@@ -24,7 +24,7 @@ pub fn push_digests<W: Word, const D: usize>(
     Ok(())
 }
 
-/// Appends a line of words in lower case hexadecimal, `W::HEX_DIGITS` digits each, without a gap.
+/// Appends a line of words in lower case hexadecimal, `W::HEX_DIGITS` digits each, one after another.
 ///
 /// # Errors
 ///
@@ -106,7 +106,7 @@ fn row_line<W: Word>(alloc: Global, row: &[W]) -> Result<String, AllocError>
     Ok(line)
 }
 
-/// Appends a word, a space, a number in decimal, and a line feed.
+/// Appends a label, a space, a number in decimal, and a line feed.
 ///
 /// # Errors
 ///

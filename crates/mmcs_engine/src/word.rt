@@ -8,7 +8,7 @@ ghost use Rattle.std.proofs.Common.{rules};
 pub trait Word: Copy {
     /// The greatest of them.
     const MAX: u32;
-    /// How many digits a word is printed with in hexadecimal, at most 8.
+    /// How many hexadecimal digits a word is printed with, at most 8.
     const HEX_DIGITS: usize;
 
     // The constants above, and which number a word is.

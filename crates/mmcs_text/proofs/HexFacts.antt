@@ -10,7 +10,7 @@ use Rattle.std.proofs.lemmas.Int.Digits.{digits_value_push}
 use Rattle.std.proofs.lemmas.List.Elements.{All-head, All-tail, All-weaker}
 use Rattle.std.proofs.lemmas.Str.{digit_value-digit_char}
 use Rattle.mmcs_engine.specs.Text.{hex_digit, hex_word}
-use Rattle.mmcs_engine.specs.Words.{max_word}
+use Rattle.mmcs_engine.specs.Args.{max_word}
 use Rattle.mmcs_engine.specs.declared.command.HashName.{HashName}
 use Rattle.mmcs_engine.specs.declared.command.HashName.TheVariants.{Fold, Sha256}
 use Rattle.mmcs_engine.proofs.TextFacts.{length-hex_word}

@@ -21,7 +21,7 @@ use Rattle.mmcs_engine.specs.declared.command.HashName.{HashName}
 use Rattle.mmcs_engine.specs.Input.{numbers_of, numerals_of}
 use Rattle.mmcs_text.specs.Lines.{digest_digits, digest_of, digest_words, is_number_below, number_behind}
 use Rattle.mmcs_text.specs.Lines.{row_of, word_digits, words_of}
-use Rattle.mmcs_text.specs.Requests.{dimensions_of_word}
+use Rattle.mmcs_text.specs.Requests.{dimensions_of_arg}
 
 -- ---- tests
 
@@ -198,12 +198,12 @@ module _ (word : List ℕ) (place : Option ℕ) (place_is : place ≡ position (
       then Some (record { width = digits_value 10 (back at); height = digits_value 10 (front at) })
       else None
 
-  pub no_place : place ≡ None → None ≡ dimensions_of_word word
+  pub no_place : place ≡ None → None ≡ dimensions_of_arg word
   unfolding parts
   no_place none = ap (option_and_then parts) (sym none ∙ place_is)
 
   pub no_height : (at : ℕ) → place ≡ Some at → (IsNumberBelow (2 ^ 64) (front at) → ⊥) →
-      None ≡ dimensions_of_word word
+      None ≡ dimensions_of_arg word
   unfolding parts
   no_height at is bad =
       none_by_test (is_number_below (2 ^ 64) (front at) && is_number_below (2 ^ 64) (back at))
@@ -212,7 +212,7 @@ module _ (word : List ℕ) (place : Option ℕ) (place_is : place ≡ position (
       (number_decided (2 ^ 64) (front at)) (number_decided (2 ^ 64) (back at))).0 both).0)
       ∙ ap (option_and_then parts) (sym is ∙ place_is)
 
-  pub no_width : (at : ℕ) → place ≡ Some at → (IsNumberBelow (2 ^ 64) (back at) → ⊥) → None ≡ dimensions_of_word word
+  pub no_width : (at : ℕ) → place ≡ Some at → (IsNumberBelow (2 ^ 64) (back at) → ⊥) → None ≡ dimensions_of_arg word
   unfolding parts
   no_width at is bad =
       none_by_test (is_number_below (2 ^ 64) (front at) && is_number_below (2 ^ 64) (back at))
@@ -224,7 +224,7 @@ module _ (word : List ℕ) (place : Option ℕ) (place_is : place ≡ position (
   pub both_parts : (at height width : ℕ) → place ≡ Some at →
       IsNumberBelow (2 ^ 64) (front at) × (height ≡ digits_value 10 (front at)) →
       IsNumberBelow (2 ^ 64) (back at) × (width ≡ digits_value 10 (back at)) →
-      Some (record { width = width; height = height }) ≡ dimensions_of_word word
+      Some (record { width = width; height = height }) ≡ dimensions_of_arg word
   unfolding parts
   both_parts at height width is high wide =
       let front_is = (number_decided (2 ^ 64) (front at)).1 high.0 in

@@ -6,7 +6,7 @@ use Rattle.std.specs.Option.{option_and_then, option_map_or}
 use Rattle.std.proofs.lemmas.Bool.Decides.{Decides-eqb}
 use Rattle.p3_support.specs.declared.matrix.Dimensions.{Dimensions}
 use Rattle.mmcs_engine.specs.Input.{is_blank, pieces_of}
-use Rattle.mmcs_engine.specs.Words.{max_word}
+use Rattle.mmcs_engine.specs.Args.{max_word}
 use Rattle.mmcs_engine.specs.declared.command.HashName.{HashName}
 use Rattle.mmcs_text.specs.Lines.{digest_of, number_behind, row_of}
 use Rattle.mmcs_text.specs.Readings.{after_at, after_line, asked_behind, expected_after, is_answered, settled, shown_by}

@@ -4,7 +4,7 @@ use Rattle.p3_support.specs.declared.matrix.Dimensions.{Dimensions}
 use Rattle.mmcs_engine.specs.declared.command.HashName.TheVariants.{Fold}
 use Rattle.mmcs_text.specs.Lines.{digest_of, number_behind, row_of, words_of}
 use Rattle.mmcs_text.specs.Readings.{pair_by, pair_in, shown_by, shown_in}
-use Rattle.mmcs_text.specs.Requests.{dimensions_of_word}
+use Rattle.mmcs_text.specs.Requests.{dimensions_of_arg}
 use Rattle.mmcs_text.specs.declared.opening_fault.Expected.TheVariants.{BlankLine, Count, Index, Query, Row}
 use Rattle.mmcs_text.specs.declared.opening_fault.Fault.TheVariants.{Line}
 
@@ -27,7 +27,7 @@ pub no_row : row_of 256 2 (codes "3 256") ≡ None
 no_row = refl
 
 -- a height, then a width
-pub dimensions : dimensions_of_word (codes "4x1") ≡ Some (record { width = 1; height = 4 })
+pub dimensions : dimensions_of_arg (codes "4x1") ≡ Some (record { width = 1; height = 4 })
 dimensions = refl
 
 -- the dimensions of one matrix

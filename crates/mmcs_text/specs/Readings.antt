@@ -4,7 +4,7 @@ use Rattle.std.specs.Prelude.{slice_get, Option, None, Some, option_map, Result,
 use Rattle.std.specs.Option.{option_and_then, option_map_or}
 use Rattle.p3_support.specs.declared.matrix.Dimensions.{Dimensions}
 use Rattle.mmcs_engine.specs.Input.{is_blank, pieces_of}
-use Rattle.mmcs_engine.specs.Words.{max_word}
+use Rattle.mmcs_engine.specs.Args.{max_word}
 use Rattle.mmcs_engine.specs.declared.command.HashName.{HashName}
 use Rattle.mmcs_text.specs.Lines.{digest_digits, digest_of, number_behind, row_of}
 use Rattle.mmcs_text.specs.declared.opening_fault.Expected.{Expected}

@@ -1,5 +1,5 @@
-//! What `mmcs_verify` reads as text: the words of its command, a cap with an opening or two as `mmcs` prints them, and
-//! its fault. No tree is known of here.
+//! What `mmcs_verify` reads: its arguments, and a cap with one opening or two as `mmcs` prints them; and its errors. It
+//! calls no tree.
 #![tactic(auto)]
 
 pub mod digest;

@@ -5,7 +5,7 @@ ghost use Rattle.p3_merkle_core.specs.declared.error.MerkleTreeError.TheVariants
 ghost use Rattle.mmcs_text.specs.declared.opening_fault.Fault.TheVariants.{Tree};
 ghost use Rattle.mmcs_text.specs.OpeningFaults.{status_of};
 
-use mmcs_engine::process::ProgramFault;
+use mmcs_engine::process::ProgramError;
 use p3_merkle_core::error::MerkleTreeError;
 use std::alloc::AllocError;
 use thiserror::Error;
@@ -90,7 +90,7 @@ impl Fault {
     }
 }
 
-impl ProgramFault for Fault {
+impl ProgramError for Fault {
     ghost status_of = { status_of };
 
     fn status(&self) -> u8 {

@@ -5,7 +5,7 @@ ghost use Rattle.std.specs.Prelude.{OnOk, Some, Ok, Err, map, option_map};
 ghost use Rattle.p3_merkle_core.specs.declared.error.MerkleTreeError.TheVariants.{OutOfMemory};
 ghost use Rattle.mmcs_engine.specs.Input.{is_blank};
 ghost use Rattle.mmcs_text.specs.Lines.{number_behind, row_of};
-ghost use Rattle.mmcs_engine.specs.Words.{max_word};
+ghost use Rattle.mmcs_engine.specs.Args.{max_word};
 ghost use Rattle.mmcs_text.specs.declared.opening_fault.Expected.TheVariants.{BlankLine};
 ghost use Rattle.mmcs_text.specs.declared.opening_fault.Fault.TheVariants.{Line, Tree};
 ghost use Rattle.mmcs_text.specs.Inner.Left.{lines_left, AreCounted};

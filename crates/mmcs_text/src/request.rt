@@ -1,12 +1,12 @@
-//! Commands, from the words after the program's name.
+//! Commands, from the arguments after the program's name.
 
 ghost use Rattle.std.specs.Prelude.{◌≡◌, ◌⊎◌, ◌∷◌, [], true, All, IfErr, IfNone, IfOk, IfSome, List, ℕ, Some, map};
 ghost use Rattle.p3_merkle_core.specs.declared.error.MerkleTreeError.TheVariants.{OutOfMemory};
 ghost use Rattle.p3_support.specs.declared.matrix.Dimensions.{Dimensions};
-ghost use Rattle.mmcs_engine.specs.Words.{arity_word, hash_word, texts_of, IsCapWord, IsNumberWord};
+ghost use Rattle.mmcs_engine.specs.Args.{arity_arg, hash_arg, texts_of, IsCapArg, IsNumberArg};
 ghost use Rattle.mmcs_text.specs.declared.opening_fault.Fault.TheVariants.{Usage, Tree};
-ghost use Rattle.mmcs_text.specs.Requests.{dimensions_of_word, task_word, task_words, AreNoCommand, AreTaskWords};
-ghost use Rattle.mmcs_text.specs.Requests.{AreWords};
+ghost use Rattle.mmcs_text.specs.Requests.{dimensions_of_arg, task_arg, task_args, AreNoCommand, AreTaskArgs};
+ghost use Rattle.mmcs_text.specs.Requests.{AreArgs};
 ghost use Rattle.mmcs_text.specs.Inner.Sizes.{are_dimensions};
 ghost use Rattle.mmcs_text.specs.declared.request.Task.{Task};
 ghost use Rattle.mmcs_text.specs.declared.request.Task.TheVariants.{Collide};
@@ -24,9 +24,9 @@ pub struct Request {
     pub setting: Setting,
     /// What is done with the input.
     pub task: Task,
-    /// The dimensions of each matrix, in the order of their words.
+    /// The dimensions of each matrix, in the order of their arguments.
     pub dimensions: Vec<Dimensions>,
-    /// The indices that the answer has to be about, in the order of their words; none of `collide`.
+    /// The indices that the answer has to be about, in the order of their arguments; none of `collide`.
     pub indices: Vec<usize>,
 }
 
@@ -53,23 +53,23 @@ pub enum Task {
 }
 
 impl Request {
-    /// What the words after the program's name ask for: a hash, an arity, a cap, a height and a width with an `x`
+    /// What the arguments after the program's name ask for: a hash, an arity, a cap, a height and a width with an `x`
     /// between for each matrix, and `open` or `rows` with indices behind it; or `collide` before the dimensions, and no
     /// indices. Numbers are one or more ASCII digits, and fit `usize`.
     ///
     /// # Errors
     ///
-    /// `Usage` where the words are no command; else `Tree(OutOfMemory)` if memory runs out.
-    pub fn from_words(alloc: Global, words: &[String]) -> Result<Request, Fault>
-        ensures request { IfOk result (λ request. AreWords (texts_of words.now) request.setting request.task
+    /// `Usage` where the arguments are no command; else `Tree(OutOfMemory)` if memory runs out.
+    pub fn parse(alloc: Global, args: &[String]) -> Result<Request, Fault>
+        ensures request { IfOk result (λ request. AreArgs (texts_of args.now) request.setting request.task
             request.dimensions.items request.indices.items) }
-        ensures fault { IfErr result (λ fault. ((fault ≡ Usage) × AreNoCommand (texts_of words.now)) ⊎
-            ((fault ≡ Tree OutOfMemory) × (AreNoCommand (texts_of words.now) → ⊥))) }
+        ensures fault { IfErr result (λ fault. ((fault ≡ Usage) × AreNoCommand (texts_of args.now)) ⊎
+            ((fault ≡ Tree OutOfMemory) × (AreNoCommand (texts_of args.now) → ⊥))) }
     {
-        let (setting, behind) = Setting::from_words(words).ok_or(Fault::Usage)?;
-        let (task, sizes, places) = Task::from_words(behind).ok_or(Fault::Usage)?;
+        let (setting, behind) = Setting::parse(args).ok_or(Fault::Usage)?;
+        let (task, sizes, index_args) = Task::parse(behind).ok_or(Fault::Usage)?;
         let dimensions = dimensions_of(alloc, sizes)?;
-        let indices = indices_of(alloc, places)?;
+        let indices = indices_of(alloc, index_args)?;
         Ok(Request {
             setting,
             task,
@@ -80,69 +80,69 @@ impl Request {
 }
 
 impl Setting {
-    /// The setting of the words after the program's name, and the words behind it, if there is one.
-    fn from_words(words: &[String]) -> Option<(Setting, &[String])>
-        ensures found { IfSome result (λ (setting, behind). (cap : List ℕ) × (texts_of words.now
-            ≡ hash_word setting.hash ∷ arity_word setting.arity ∷ cap ∷ texts_of behind.now) ×
-            IsCapWord cap setting.cap) }
-        ensures none { IfNone result (AreNoCommand (texts_of words.now)) }
+    /// The setting of the arguments after the program's name, and the arguments behind it, if there is one.
+    fn parse(args: &[String]) -> Option<(Setting, &[String])>
+        ensures found { IfSome result (λ (setting, behind). (cap : List ℕ) × (texts_of args.now
+            ≡ hash_arg setting.hash ∷ arity_arg setting.arity ∷ cap ∷ texts_of behind.now) ×
+            IsCapArg cap setting.cap) }
+        ensures none { IfNone result (AreNoCommand (texts_of args.now)) }
     {
-        let [hash, arity, cap, behind @ ..] = words else {
+        let [hash, arity, cap, behind @ ..] = args else {
             return None;
         };
         let setting = Setting {
-            hash: HashName::from_word(hash.as_str())?,
-            arity: Arity::from_word(arity.as_str())?,
-            cap: CapChoice::from_word(cap.as_bytes())?,
+            hash: HashName::parse(hash.as_str())?,
+            arity: Arity::parse(arity.as_str())?,
+            cap: CapChoice::parse(cap.as_bytes())?,
         };
         Some((setting, behind))
     }
 }
 
 impl Task {
-    /// The task of the words behind a cap, with those of dimensions and those of indices, if they ask for one.
-    fn from_words(words: &[String]) -> Option<(Task, &[String], &[String])>
-        ensures spelling { IfSome result (λ (task, sizes, places).
-            texts_of words.now ≡ task_words task (texts_of sizes.now) (texts_of places.now)) }
+    /// The task of the arguments behind a cap, with those of dimensions and those of indices, if they ask for one.
+    fn parse(args: &[String]) -> Option<(Task, &[String], &[String])>
+        ensures spelling { IfSome result (λ (task, sizes, index_args).
+            texts_of args.now ≡ task_args task (texts_of sizes.now) (texts_of index_args.now)) }
         ensures sizes { IfSome result (λ (_, sizes, _). are_dimensions (texts_of sizes.now) ≡ true) }
-        ensures places { IfSome result (λ (task, _, places). All IsNumberWord (texts_of places.now) ×
-            (task ≡ Collide → texts_of places.now ≡ [])) }
+        ensures index_args { IfSome result (λ (task, _, index_args). All IsNumberArg (texts_of index_args.now) ×
+            (task ≡ Collide → texts_of index_args.now ≡ [])) }
         ensures none { IfNone result ((task : Task) (dimensions : List Dimensions) (indices : List ℕ) →
-            AreTaskWords (texts_of words.now) task dimensions indices → ⊥) }
+            AreTaskArgs (texts_of args.now) task dimensions indices → ⊥) }
     {
-        let [first, sizes @ ..] = words else {
+        let [first, sizes @ ..] = args else {
             return None;
         };
         if first.as_str() == "collide" {
             return are_dimensions(sizes).then_some((Task::Collide, sizes, &[]));
         }
-        Task::about_indices(words)
+        Task::about_indices(args)
     }
 
-    /// The same of a task about indices: its word is the first that is no dimensions.
-    fn about_indices(words: &[String]) -> Option<(Task, &[String], &[String])>
-        ensures spelling { IfSome result (λ (task, sizes, places).
-            texts_of words.now ≡ task_words task (texts_of sizes.now) (texts_of places.now)) }
+    /// The same of a task about indices: its argument is the first that is no dimensions.
+    fn about_indices(args: &[String]) -> Option<(Task, &[String], &[String])>
+        ensures spelling { IfSome result (λ (task, sizes, index_args).
+            texts_of args.now ≡ task_args task (texts_of sizes.now) (texts_of index_args.now)) }
         ensures sizes { IfSome result (λ (_, sizes, _). are_dimensions (texts_of sizes.now) ≡ true) }
-        ensures places { IfSome result (λ (task, _, places). All IsNumberWord (texts_of places.now) ×
-            (task ≡ Collide → texts_of places.now ≡ [])) }
+        ensures index_args { IfSome result (λ (task, _, index_args). All IsNumberArg (texts_of index_args.now) ×
+            (task ≡ Collide → texts_of index_args.now ≡ [])) }
         ensures none { IfNone result ((task : Task) (dimensions : List Dimensions) (indices : List ℕ) →
-            AreTaskWords (texts_of words.now) task dimensions indices → task ≡ Collide) }
+            AreTaskArgs (texts_of args.now) task dimensions indices → task ≡ Collide) }
     {
-        let at = words
+        let at = args
             .iter()
-            .position(|word| dimensions_of_word(word.as_bytes()).is_none())?;
-        let task = Task::from_word(words[at].as_str())?;
-        let (sizes, places) = (&words[..at], &words[at + 1..]);
-        are_numbers(places).then_some((task, sizes, places))
+            .position(|arg| dimensions_of_arg(arg.as_bytes()).is_none())?;
+        let task = Task::parse_name(args[at].as_str())?;
+        let (sizes, index_args) = (&args[..at], &args[at + 1..]);
+        are_numbers(index_args).then_some((task, sizes, index_args))
     }
 
-    /// The task of a word that stands between dimensions and indices: `open` or `rows`.
-    fn from_word(word: &str) -> Option<Task>
-        ensures found { IfSome result (λ task. (word.now ≡ task_word task) × (task ≡ Collide → ⊥)) }
-        ensures none { IfNone result ((task : Task) → word.now ≡ task_word task → task ≡ Collide) }
+    /// The task of an argument that stands between dimensions and indices: `open` or `rows`.
+    fn parse_name(arg: &str) -> Option<Task>
+        ensures found { IfSome result (λ task. (arg.now ≡ task_arg task) × (task ≡ Collide → ⊥)) }
+        ensures none { IfNone result ((task : Task) → arg.now ≡ task_arg task → task ≡ Collide) }
     {
-        match word {
+        match arg {
             "open" => Some(Task::Verify),
             "rows" => Some(Task::Rows),
             _ => None,
@@ -150,34 +150,33 @@ impl Task {
     }
 }
 
-/// Whether each of some words is the dimensions of a matrix.
-fn are_dimensions(words: &[String]) -> bool
-    ensures { result ≡ are_dimensions (texts_of words.now) }
+/// Whether each of some arguments is the dimensions of a matrix.
+fn are_dimensions(args: &[String]) -> bool
+    ensures { result ≡ are_dimensions (texts_of args.now) }
 {
-    words
-        .iter()
-        .all(|word| dimensions_of_word(word.as_bytes()).is_some())
+    args.iter()
+        .all(|arg| dimensions_of_arg(arg.as_bytes()).is_some())
 }
 
-/// The dimensions of a word: a height, an `x` and a width.
-fn dimensions_of_word(word: &[u8]) -> Option<Dimensions>
-    ensures { result ≡ dimensions_of_word word.now }
+/// The dimensions of an argument: a height, an `x` and a width.
+fn dimensions_of_arg(arg: &[u8]) -> Option<Dimensions>
+    ensures { result ≡ dimensions_of_arg arg.now }
 {
-    let at = word.iter().position(|byte| *byte == b'x')?;
-    let height = parse_number(&word[..at])?;
-    let width = parse_number(&word[at + 1..])?;
+    let at = arg.iter().position(|byte| *byte == b'x')?;
+    let height = parse_number(&arg[..at])?;
+    let width = parse_number(&arg[at + 1..])?;
     Some(Dimensions { width, height })
 }
 
-/// The dimensions that words name. Each word must name the dimensions of a matrix.
-fn dimensions_of(alloc: Global, words: &[String]) -> Result<Vec<Dimensions>, AllocError>
-    requires { are_dimensions (texts_of words.now) ≡ true }
+/// The dimensions that arguments name. Each argument must name the dimensions of a matrix.
+fn dimensions_of(alloc: Global, args: &[String]) -> Result<Vec<Dimensions>, AllocError>
+    requires { are_dimensions (texts_of args.now) ≡ true }
     ensures { IfOk result
-        (λ dimensions. map dimensions_of_word (texts_of words.now) ≡ map Some dimensions.items) }
+        (λ dimensions. map dimensions_of_arg (texts_of args.now) ≡ map Some dimensions.items) }
 {
-    let mut dimensions = Vec::with_capacity(alloc, words.len())?;
-    for word in words {
-        let Some(size) = dimensions_of_word(word.as_bytes()) else {
+    let mut dimensions = Vec::with_capacity(alloc, args.len())?;
+    for arg in args {
+        let Some(size) = dimensions_of_arg(arg.as_bytes()) else {
             unreachable!()
         };
         dimensions.push(size)?;

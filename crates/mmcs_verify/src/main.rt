@@ -6,7 +6,7 @@
 use mmcs_engine::VERSION;
 use mmcs_verify_engine::engine::run;
 use mmcs_verify_engine::opening_fault::Fault;
-use mmcs_verify_engine::process::{ended, words_of};
+use mmcs_verify_engine::process::{exit_code, read_args};
 use std::process::ExitCode;
 
 /// What `--help` prints behind the usage.
@@ -22,8 +22,8 @@ collide       compares two openings of a cap
 It reads what `mmcs .. commit` printed, a blank line, and what `mmcs .. open I..` printed.";
 
 fn main(rt: HostRuntime) -> ExitCode {
-    let answer = words_of(&rt, Fault::Usage).and_then(|words| answer(&rt, &words));
-    ended(&rt, answer)
+    let answer = read_args(&rt, Fault::Usage).and_then(|words| answer(&rt, &words));
+    exit_code(&rt, answer)
 }
 
 /// Tells about the program if that alone is asked for, and runs it else.

@@ -12,7 +12,7 @@ use crate::buffer::{ACCEPTED, told, told_no_memory};
 use fohlazu_engine::fault::{Fault, Source};
 use fohlazu_engine::verify::verify;
 use fohlazu_engine::verify_consistency::verify_consistency;
-use mmcs_engine::process::ProgramFault;
+use mmcs_engine::process::ProgramError;
 use std::alloc::{AllocError, Global};
 
 /// Verifies a proof of entries of a file from memory, and keeps nothing: `fohlazu verify` as a call.

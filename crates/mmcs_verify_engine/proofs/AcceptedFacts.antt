@@ -24,7 +24,7 @@ use Rattle.p3_merkle_core.proofs.Shapes.LadderFacts.{row_below}
 use Rattle.mmcs_engine.specs.Input.{StandsFor}
 use Rattle.mmcs_engine.specs.Matrices.{batch_of_rows}
 use Rattle.mmcs_engine.specs.Text.{digest_lines, hex_lines, ok_line, query_lines, row_line}
-use Rattle.mmcs_engine.specs.Words.{arity_number, max_word, AreWords}
+use Rattle.mmcs_engine.specs.Args.{arity_number, max_word, AreArgs}
 use Rattle.mmcs_engine.specs.declared.command.Action.TheVariants.{Commit, Open, Check}
 use Rattle.mmcs_engine.specs.declared.command.Arity.{Arity}
 use Rattle.mmcs_engine.specs.declared.command.Arity.TheVariants.{Two, Four, Eight}
@@ -32,7 +32,7 @@ use Rattle.mmcs_engine.specs.declared.command.CapChoice.{CapChoice}
 use Rattle.mmcs_engine.specs.declared.command.Command.{Command}
 use Rattle.mmcs_engine.specs.declared.command.HashName.{HashName}
 use Rattle.mmcs_engine.specs.declared.command.HashName.TheVariants.{Fold, Sha256}
-use Rattle.mmcs_engine.proofs.WordFacts.{same_command}
+use Rattle.mmcs_engine.proofs.ArgFacts.{same_command}
 use Rattle.mmcs_engine.specs.Program.{functions_of_hash, heights_of_rows, hex_digits, layer_of_cap, output_of, AreTaken}
 use Rattle.mmcs_engine.specs.Program.{IsOutcome, IsReply}
 use Rattle.mmcs_engine.proofs.GateFacts.{heights_are}
@@ -218,7 +218,7 @@ printed_is_accepted = answered
 -- ---- outcomes
 
 -- what words of a command are answered
-module _ (words : List (List ℕ)) (command : Command) (indices : List ℕ) (are : AreWords words command indices)
+module _ (words : List (List ℕ)) (command : Command) (indices : List ℕ) (are : AreArgs words command indices)
     (input text : List ℕ) (is : IsOutcome words input (Ok text)) where
   replied : IsReply command indices input (Ok text)
   replied =

@@ -5,7 +5,7 @@ use Rattle.std.specs.Prelude.{◌↔◌, IfErr, IfOk, IfSome, OnOk}
 use Rattle.std.specs.Io.KnownBytes.{Appends}
 use Rattle.p3_support.specs.declared.matrix.Dimensions.{Dimensions}
 use Rattle.p3_merkle_core.specs.declared.error.MerkleTreeError.TheVariants.{OutOfMemory}
-use Rattle.mmcs_text.specs.Requests.{AreNoCommand, AreWords}
+use Rattle.mmcs_text.specs.Requests.{AreNoCommand, AreArgs}
 use Rattle.mmcs_text.specs.declared.opening_fault.Fault.{Fault}
 use Rattle.mmcs_text.specs.declared.opening_fault.Fault.TheVariants.{Usage, Read, Tree, Write}
 use Rattle.mmcs_text.specs.declared.request.Setting.{Setting}
@@ -30,7 +30,7 @@ module _ {S D V : Type 0} (remaining : S → Option (List ℕ)) (contents : D �
   -- what a fault tells, before anything is written
   abbrev pub IsTold : Fault → Type 0
   IsTold fault = (setting : Setting) (task : Task) (dimensions : List Dimensions) (indices bytes : List ℕ) →
-      AreWords words setting task dimensions indices → remaining input ≡ Some bytes →
+      AreArgs words setting task dimensions indices → remaining input ≡ Some bytes →
       (fault ≡ Read) ⊎ ((fault ≡ Tree OutOfMemory) ⊎ (outcome_of setting task dimensions indices bytes ≡ Err fault))
 
   at_fault : (fault : Fault) → answer ≡ Err fault → IsTold fault →
@@ -71,7 +71,7 @@ module _ {S D V : Type 0} (remaining : S → Option (List ℕ)) (contents : D �
   -- a text that is written
   module _ (output_left : D) (value : V) (text : List ℕ) (answer_is : answer ≡ Ok value)
       (due : (setting : Setting) (task : Task) (dimensions : List Dimensions) (indices bytes : List ℕ) →
-      AreWords words setting task dimensions indices → remaining input ≡ Some bytes →
+      AreArgs words setting task dimensions indices → remaining input ≡ Some bytes →
       outcome_of setting task dimensions indices bytes ≡ Ok text)
     where
       no_usage : (result : Result (Unit {0}) Fault) → (result ≡ Err Usage → ⊥) →
@@ -80,7 +80,7 @@ module _ {S D V : Type 0} (remaining : S → Option (List ℕ)) (contents : D �
 
       ends : (result : Result (Unit {0}) Fault) → EndsIn (contents output) (contents output_left) (Ok text) result →
           (setting : Setting) (task : Task) (dimensions : List Dimensions) (indices bytes : List ℕ) →
-          AreWords words setting task dimensions indices → remaining input ≡ Some bytes →
+          AreArgs words setting task dimensions indices → remaining input ≡ Some bytes →
           EndsIn (contents output) (contents output_left) (outcome_of setting task dimensions indices bytes) result
       ends result end setting task dimensions indices bytes are known =
           subst (λ (o : Result (List ℕ) Fault). EndsIn (contents output) (contents output_left) o result)
@@ -118,15 +118,15 @@ module _ {S D V : Type 0} (remaining : S → Option (List ℕ)) (contents : D �
 pub request_fault : {S : Type 0} (remaining : S → Option (List ℕ)) (words : List (List ℕ)) (input : S) (fault : Fault) →
     ((fault ≡ Usage) × AreNoCommand words) ⊎ ((fault ≡ Tree OutOfMemory) × (AreNoCommand words → ⊥)) →
     (setting : Setting) (task : Task) (dimensions : List Dimensions) (indices bytes : List ℕ) →
-    AreWords words setting task dimensions indices → remaining input ≡ Some bytes →
+    AreArgs words setting task dimensions indices → remaining input ≡ Some bytes →
     (fault ≡ Read) ⊎ ((fault ≡ Tree OutOfMemory) ⊎ (outcome_of setting task dimensions indices bytes ≡ Err fault))
 request_fault remaining words input fault told setting task dimensions indices bytes are known =
     ⊎_elim (λ usage. absurd (usage.1 setting task dimensions indices are)) (λ memory. inr (inl memory.0)) told
 
 module _ (known : Option (List ℕ)) (words : List (List ℕ)) (got : List ℕ) (got_all : IfSome known (λ all. got ≡ all))
-    (s : Setting) (k : Task) (ds : List Dimensions) (is : List ℕ) (are : AreWords words s k ds is) where
+    (s : Setting) (k : Task) (ds : List Dimensions) (is : List ℕ) (are : AreArgs words s k ds is) where
   outcome_is : (o : Result (List ℕ) Fault) → outcome_of s k ds is got ≡ o → (t : Setting) (l : Task)
-      (es : List Dimensions) (js bytes : List ℕ) → AreWords words t l es js → known ≡ Some bytes →
+      (es : List Dimensions) (js bytes : List ℕ) → AreArgs words t l es js → known ≡ Some bytes →
       outcome_of t l es js bytes ≡ o
   outcome_is o due t l es js bytes other all =
       let same = same_request words s t k l ds es is js are other in
@@ -135,14 +135,14 @@ module _ (known : Option (List ℕ)) (words : List (List ℕ)) (got : List ℕ) 
 
   pub reply_text : {V : Type 0} (result : Result V Fault) (text : V → List ℕ) →
       IfOk result (λ v. outcome_of s k ds is got ≡ Ok (text v)) →
-      IfOk result (λ v. (t : Setting) (l : Task) (es : List Dimensions) (js bytes : List ℕ) → AreWords words t l es js →
+      IfOk result (λ v. (t : Setting) (l : Task) (es : List Dimensions) (js bytes : List ℕ) → AreArgs words t l es js →
       known ≡ Some bytes → outcome_of t l es js bytes ≡ Ok (text v))
   reply_text (Ok v) text due = outcome_is (Ok (text v)) due
   reply_text (Err f) text due = tt
 
   pub reply_fault : {V : Type 0} (result : Result V Fault) →
       IfErr result (λ f. (f ≡ Tree OutOfMemory) ⊎ (outcome_of s k ds is got ≡ Err f)) →
-      IfErr result (λ f. (t : Setting) (l : Task) (es : List Dimensions) (js bytes : List ℕ) → AreWords words t l es js →
+      IfErr result (λ f. (t : Setting) (l : Task) (es : List Dimensions) (js bytes : List ℕ) → AreArgs words t l es js →
       known ≡ Some bytes → (f ≡ Read) ⊎ ((f ≡ Tree OutOfMemory) ⊎ (outcome_of t l es js bytes ≡ Err f)))
   reply_fault (Ok v) told = tt
   reply_fault (Err f) told = λ t l es js bytes other all.

@@ -15,7 +15,7 @@ use Rattle.p3_merkle_core.specs.Refusals.{ok_unless}
 use Rattle.p3_merkle_core.specs.declared.cap.CapRule.TheVariants.{Lowered}
 use Rattle.p3_merkle_core.specs.declared.error.MerkleTreeError.{MerkleTreeError}
 use Rattle.p3_merkle_core.proofs.Collisions.ExtractionFacts.{all_authenticated, answer_is_extraction, pruned_presented}
-use Rattle.mmcs_engine.specs.Words.{arity_number}
+use Rattle.mmcs_engine.specs.Args.{arity_number}
 use Rattle.mmcs_text.specs.Printing.{text_of_pair, text_shown}
 use Rattle.mmcs_text.specs.Readings.{shown_in, Shown}
 use Rattle.mmcs_text.specs.declared.opening_fault.Fault.{Fault}

@@ -11,7 +11,7 @@ use Rattle.p3_merkle_core.specs.Nodes.{dimensions_of, HasFullRows, Matrix}
 use Rattle.mmcs_engine.specs.Input.{numbers_of, numerals_of, IsMatrix}
 use Rattle.mmcs_engine.specs.Matrices.{batch_of_rows, matrix_of_rows}
 use Rattle.mmcs_engine.specs.Numbers.{IsNumberBelow}
-use Rattle.mmcs_engine.specs.Words.{max_word}
+use Rattle.mmcs_engine.specs.Args.{max_word}
 use Rattle.mmcs_engine.specs.declared.command.HashName.{HashName}
 use Rattle.mmcs_text.specs.Printing.{IsRowOf}
 

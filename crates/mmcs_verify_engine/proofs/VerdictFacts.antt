@@ -16,7 +16,7 @@ use Rattle.p3_merkle_core.specs.Refusals.{ok_unless, pruned_refusal_under, IsEqu
 use Rattle.p3_merkle_core.specs.declared.cap.CapRule.{CapRule}
 use Rattle.p3_merkle_core.specs.declared.error.MerkleTreeError.{MerkleTreeError}
 use Rattle.p3_merkle_core.specs.declared.error.MerkleTreeError.TheVariants.{OutOfMemory}
-use Rattle.mmcs_engine.specs.Words.{arity_number}
+use Rattle.mmcs_engine.specs.Args.{arity_number}
 use Rattle.mmcs_engine.specs.declared.command.HashName.{HashName}
 use Rattle.mmcs_engine.specs.Program.{functions_of_hash}
 use Rattle.mmcs_engine.specs.Inner.Alike.{pruned_in_numbers, IsSchemeOf}

@@ -6,7 +6,7 @@ use Rattle.p3_merkle_core.specs.Openings.{honest_rows}
 use Rattle.mmcs_engine.specs.Input.{StandsFor}
 use Rattle.mmcs_engine.specs.Matrices.{batch_of_rows, matrix_of_rows}
 use Rattle.mmcs_engine.specs.Text.{row_line}
-use Rattle.mmcs_engine.specs.Words.{arity_number, max_word, AreWords}
+use Rattle.mmcs_engine.specs.Args.{arity_number, max_word, AreArgs}
 use Rattle.mmcs_engine.specs.declared.command.Action.{Action}
 use Rattle.mmcs_engine.specs.declared.command.Action.TheVariants.{Commit, Open, Check}
 use Rattle.mmcs_engine.specs.declared.command.Command.{Command}
@@ -55,7 +55,7 @@ PrintedIsAccepted =
 abbrev pub OutcomesAreAccepted : Type 0
 OutcomesAreAccepted =
     (setting : Setting) (indices : List ℕ) (for_cap for_opening : List (List ℕ)) (input cap opening : List ℕ) →
-    AreWords for_cap (command_for setting Commit) [] → AreWords for_opening (command_for setting Open) indices →
+    AreArgs for_cap (command_for setting Commit) [] → AreArgs for_opening (command_for setting Open) indices →
     IsOutcome for_cap input (Ok cap) → IsOutcome for_opening input (Ok opening) →
     (matrices : List (List (List ℕ))) × StandsFor (max_word setting.hash + 1) input matrices ×
     IsAccepted setting indices matrices (cap ++ 10 ∷ opening)

@@ -11,11 +11,11 @@ use Rattle.p3_merkle_core.specs.Presented.{presented_pruned, Presented}
 use Rattle.p3_merkle_core.specs.declared.error.MerkleTreeError.{MerkleTreeError}
 use Rattle.p3_merkle_core.specs.declared.error.MerkleTreeError.TheVariants.{OutOfMemory}
 use Rattle.mmcs_engine.specs.Text.{ok_line, row_line}
-use Rattle.mmcs_engine.specs.Words.{arity_number}
+use Rattle.mmcs_engine.specs.Args.{arity_number}
 use Rattle.mmcs_engine.specs.declared.command.HashName.{HashName}
 use Rattle.mmcs_engine.specs.Program.{functions_of_hash, layer_of_cap}
 use Rattle.mmcs_text.specs.Readings.{pair_in, shown_in, Shown, ShownPair}
-use Rattle.mmcs_text.specs.Requests.{AreNoCommand, AreWords}
+use Rattle.mmcs_text.specs.Requests.{AreNoCommand, AreArgs}
 use Rattle.mmcs_text.specs.declared.opening_fault.Fault.{Fault}
 use Rattle.mmcs_text.specs.declared.opening_fault.Fault.TheVariants.{Usage, Read, Tree, Write}
 use Rattle.mmcs_text.specs.declared.request.Setting.{Setting}
@@ -107,5 +107,5 @@ pub record IsAnswer {S D : Type 0} (remaining : S → Option (List ℕ)) (conten
   pub silent : OnErr result ((result ≡ Err Write) ⊎ (output_left ≡ output))
   -- the outcome by definition is what the call ends in
   pub ends : (setting : Setting) (task : Task) (dimensions : List Dimensions) (indices bytes : List ℕ) →
-      AreWords words setting task dimensions indices → remaining input ≡ Some bytes →
+      AreArgs words setting task dimensions indices → remaining input ≡ Some bytes →
       EndsIn (contents output) (contents output_left) (outcome_of setting task dimensions indices bytes) result

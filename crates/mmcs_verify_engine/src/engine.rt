@@ -8,9 +8,9 @@ ghost use Rattle.p3_merkle_core.specs.Nodes.{functions_of};
 ghost use Rattle.p3_merkle_core.specs.declared.error.MerkleTreeError.TheVariants.{OutOfMemory};
 ghost use Rattle.p3_merkle_mmcs.specs.Schemes.{cap_height_of, cap_rule_of, scheme_functions};
 ghost use Rattle.mmcs_engine.specs.Text.{row_line};
-ghost use Rattle.mmcs_engine.specs.Words.{arity_number, texts_of};
+ghost use Rattle.mmcs_engine.specs.Args.{arity_number, texts_of};
 ghost use Rattle.mmcs_engine.specs.Inner.Alike.{is_taken_arity, IsSchemeOf};
-ghost use Rattle.mmcs_text.specs.Requests.{AreNoCommand, AreWords};
+ghost use Rattle.mmcs_text.specs.Requests.{AreNoCommand, AreArgs};
 ghost use Rattle.mmcs_text.specs.declared.opening_fault.Fault.TheVariants.{Usage, Read, Tree, Write};
 ghost use Rattle.mmcs_text.specs.declared.request.Setting.{Setting};
 ghost use Rattle.mmcs_text.specs.declared.request.Task.{Task};
@@ -87,16 +87,16 @@ fn answer_to<Src: Read>(alloc: Global, words: &[String], input: &mut Src) -> Res
     ensures usage { (result ≡ Err Fault.Usage) ↔ AreNoCommand (texts_of words.now) }
     ensures unread { result ≡ Err Fault.Usage → input.new ≡ input.old }
     ensures text { IfOk result (λ text. (setting : Setting) (task : Task) (dimensions : List Dimensions)
-        (indices bytes : List ℕ) → AreWords (texts_of words.now) setting task dimensions indices →
+        (indices bytes : List ℕ) → AreArgs (texts_of words.now) setting task dimensions indices →
         Src.remaining input.old ≡ Some bytes →
         outcome_of setting task dimensions indices bytes ≡ Ok text.items) }
     ensures fault { IfErr result (λ fault. (setting : Setting) (task : Task) (dimensions : List Dimensions)
-        (indices bytes : List ℕ) → AreWords (texts_of words.now) setting task dimensions indices →
+        (indices bytes : List ℕ) → AreArgs (texts_of words.now) setting task dimensions indices →
         Src.remaining input.old ≡ Some bytes →
         (fault ≡ Fault.Read) ⊎ ((fault ≡ Fault.Tree OutOfMemory) ⊎
         (outcome_of setting task dimensions indices bytes ≡ Err fault))) }
 {
-    let request = Request::from_words(alloc, words)?;
+    let request = Request::parse(alloc, words)?;
     let bytes = read_all(alloc, input, Fault::Read)?;
     reply(alloc, &request, &bytes)
 }

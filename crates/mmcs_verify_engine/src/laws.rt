@@ -2,7 +2,7 @@
 
 ghost use Rattle.std.specs.Prelude.{◌≡◌, ℕ, List};
 ghost use Rattle.p3_support.specs.declared.matrix.Dimensions.{Dimensions};
-ghost use Rattle.mmcs_text.specs.Requests.{AreWords};
+ghost use Rattle.mmcs_text.specs.Requests.{AreArgs};
 ghost use Rattle.mmcs_text.specs.declared.request.Setting.{Setting};
 ghost use Rattle.mmcs_text.specs.declared.request.Task.{Task};
 ghost use Rattle.mmcs_verify_engine.specs.Accepted.{OutcomesAreAccepted, PrintedIsAccepted};
@@ -12,7 +12,7 @@ ghost use Rattle.mmcs_verify_engine.specs.Binding.{AnswersAreAsked, CapIsBinding
 /// and the input.
 pub fn commands_are_unique()
     ensures { (words : List (List ℕ)) (s t : Setting) (k l : Task) (ds es : List Dimensions) (is js : List ℕ) →
-        AreWords words s k ds is → AreWords words t l es js → (s ≡ t) × (k ≡ l) × (ds ≡ es) × (is ≡ js) }
+        AreArgs words s k ds is → AreArgs words t l es js → (s ≡ t) × (k ≡ l) × (ds ≡ es) × (is ≡ js) }
 {}
 
 /// The verifier accepts what `mmcs` prints. For matrices and indices that the tree accepts, the text of the cap, a

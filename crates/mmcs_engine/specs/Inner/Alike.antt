@@ -7,7 +7,7 @@ use Rattle.p3_merkle_core.specs.declared.cap.CapRule.{CapRule}
 use Rattle.mmcs_engine.specs.declared.command.CapChoice.{CapChoice}
 use Rattle.mmcs_engine.specs.declared.command.HashName.{HashName}
 use Rattle.mmcs_engine.specs.Text.{digest_lines, query_lines}
-use Rattle.mmcs_engine.specs.Words.{max_word}
+use Rattle.mmcs_engine.specs.Args.{max_word}
 use Rattle.mmcs_engine.specs.Program.{functions_of_hash, hex_digits}
 
 -- whether a number is 2, 4 or 8
@@ -33,11 +33,11 @@ pub record ComputeAlike {T : Type 0} (value : T → ℕ) (f : Functions T T) (g 
       map value (f.compression digests) ≡ g.compression (map (map value) digests)
   pub default_digest : map value f.default_digest ≡ g.default_digest
 
--- what is opened of an index: it, and a line for the row of each matrix
+-- the opening of an index: it, and a line for the row of each matrix
 abbrev pub opened_lines : {T : Type 0} → (T → ℕ) → Batch T → ℕ → List ℕ
 opened_lines value b i = query_lines i (map (map value) (honest_rows b i))
 
--- what `open` prints of some indices, where digests of words are sent that the layers of a tree have
+-- what `open` prints for indices, with proof digests from the layers of a tree
 abbrev pub opened_text : {T : Type 0} → (T → ℕ) → ℕ → Batch T → List (List (List T)) → List ℕ → ℕ → List ℕ
 opened_text value digits b nodes indices t =
     flat_map (opened_lines value b) indices

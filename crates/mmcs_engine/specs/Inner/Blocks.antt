@@ -1,4 +1,4 @@
--- The rows of a matrix that has not ended.
+-- The rows of a matrix so far.
 use Rattle.std.specs.Prelude.{◌≡◌, ℕ, ◌<◌, false, List, [], length, flat_map, All}
 use Rattle.mmcs_engine.specs.Numbers.{IsNumberBelow}
 use Rattle.mmcs_engine.specs.Input.{is_blank, numerals_of, numbers_of}

@@ -27,7 +27,7 @@ same_batch g c = ap (stored_batch g.row.N) c.in_ok-roots.ensures.matrices
 
 -- the test of the indices is that of the tallest matrix
 same_test : (g : Over) (c : After-check_indices g) →
-    queries_refusal (greatest (heights (shape (batch_given g c)))) c.args.request.now.indices.items
+    queries_refusal (greatest (heights (shape (batch_given g c)))) c.args.args.now.indices.items
     ≡ queries_refusal c.get_max_height.result c.as_slice-indices.result.now
 same_test g c = λ i. queries_refusal
     (sym (c.get_max_height.ensures ∙ ap (λ (b : Batch g.row.W.Denot). greatest (heights (shape b))) (same_batch g c)) i)
@@ -36,16 +36,16 @@ same_test g c = λ i. queries_refusal
 -- nothing is refused
 taken : (g : Over) (c : After-check_indices g) →
     queries_refusal c.get_max_height.result c.as_slice-indices.result.now ≡ None →
-    pruned_len_refusal (shape (batch_given g c)) c.args.request.now.indices.items ≡ None
+    pruned_len_refusal (shape (batch_given g c)) c.args.args.now.indices.items ≡ None
 taken g c below =
-    none_refused (shape (batch_given g c)) c.args.request.now.indices.items c.in_ok-roots.ensures.answer
+    none_refused (shape (batch_given g c)) c.args.args.now.indices.items c.in_ok-roots.ensures.answer
     (same_test g c ∙ below)
 
 pub returns-in_err-roots-clause-answer : goal.returns-in_err-roots-clause-answer
 returns-in_err-roots-clause-answer g c =
     let r = c.from_residual-in_err-roots in
     let left = err_from_is_err_and r.result r.ensures.1 in
-    heights_refused r.result _ (shape (stored_batch g.row.N c.args.matrices.items)) c.args.request.now.indices.items
+    heights_refused r.result _ (shape (stored_batch g.row.N c.args.matrices.items)) c.args.args.now.indices.items
     (left.1 ∙ ap Err left.2) c.in_err-roots.ensures.answer
 
 pub returns-in_err-check_indices-clause-answer : goal.returns-in_err-check_indices-clause-answer
@@ -53,14 +53,14 @@ returns-in_err-check_indices-clause-answer g c =
     let at = (goal.at.returns-in_err-check_indices-clause-answer g c).After-check_indices in
     let r = c.from_residual-in_err-check_indices in
     let left = err_from_is_err_and r.result r.ensures.1 in
-    indices_refused r.result _ (shape (batch_given g at)) c.args.request.now.indices.items (left.1 ∙ ap Err left.2)
+    indices_refused r.result _ (shape (batch_given g at)) c.args.args.now.indices.items (left.1 ∙ ap Err left.2)
     c.in_ok-roots.ensures.answer (same_test g at ∙ c.in_err-check_indices.ensures.answer)
 
 pub returns-in-Commit-clause-text : goal.returns-in-Commit-clause-text
 returns-in-Commit-clause-text g c =
     let w = g.met.W.Word in
     commit_printed g.W.Word.value w.some_word w.one_word _ _ _ _ _ _ _ c.requires.scheme
-    (stored_batch g.row.N c.args.matrices.items) c.args.request.now.command.action c.args.request.now.indices.items
+    (stored_batch g.row.N c.args.matrices.items) c.args.args.now.command.action c.args.args.now.indices.items
     c.cap_text.result (λ text. text.items) (roots_of c.in_ok-roots.roots) c.in_ok-roots.ensures.committed.own_cap
     c.in-Commit.is c.cap_text.ensures.text
 
@@ -76,7 +76,7 @@ returns-in-Open-clause-text g c =
     let nodes = layers_of c.in_ok-roots.tree in
     let lent = c.as_slice-indices.result.now in
     open_printed g.W.Word.value w.some_word w.one_word _ _ _ _ _ _ _ c.requires.scheme
-    (stored_batch g.row.N c.args.matrices.items) c.args.request.now.command.action c.args.request.now.indices.items
+    (stored_batch g.row.N c.args.matrices.items) c.args.args.now.command.action c.args.args.now.indices.items
     c.open_text.result (λ text. text.items) nodes lent c.in_ok-roots.ensures.committed.own_layers
     c.as_slice-indices.ensures.value c.in-Open.is
     (subst (λ (b : Batch g.row.W.Denot). IfOk c.open_text.result (λ text. text.items
@@ -94,7 +94,7 @@ returns-clause-text g c =
     let w = g.met.W.Word in
     let lent = c.as_slice-indices.result.now in
     check_printed g.W.Word.value w.some_word w.one_word _ _ _ _ _ _ _ c.requires.scheme
-    (stored_batch g.row.N c.args.matrices.items) c.args.request.now.command.action c.args.request.now.indices.items
+    (stored_batch g.row.N c.args.matrices.items) c.args.args.now.command.action c.args.args.now.indices.items
     c.check_text.result (λ text. text.items) lent c.as_slice-indices.ensures.value c.in-Check.is
     (subst (λ (b : Batch g.row.W.Denot). IfOk c.check_text.result (λ text. text.items
     ≡ ok_line (pruned_len (shape b) lent (cap_layer_over c.args.scheme.now (shape b)))))

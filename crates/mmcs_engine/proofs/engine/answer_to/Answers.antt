@@ -3,10 +3,10 @@ use Rattle.std.proofs.lemmas.Result.{err_from_is_err_and}
 use Rattle.mmcs_engine.proofs.ReplyFacts.{usage_told}
 use Rattle.mmcs_engine.proofs.engine.answer_to.Goals as goal
 
-pub returns-in_err-request-clause-usage : goal.returns-in_err-request-clause-usage
-returns-in_err-request-clause-usage g c =
+pub returns-in_err-parsed-clause-usage : goal.returns-in_err-parsed-clause-usage
+returns-in_err-parsed-clause-usage g c =
     let left = err_from_is_err_and c.from_residual.result c.from_residual.ensures.1 in
-    rw (left.1, left.2) (usage_told _ _ c.in_err-request.ensures.fault)
+    rw (left.1, left.2) (usage_told _ _ c.in_err-parsed.ensures.fault)
 
-pub returns-in_err-request-clause-unread : goal.returns-in_err-request-clause-unread
-returns-in_err-request-clause-unread g c = λ is. refl
+pub returns-in_err-parsed-clause-unread : goal.returns-in_err-parsed-clause-unread
+returns-in_err-parsed-clause-unread g c = λ is. refl

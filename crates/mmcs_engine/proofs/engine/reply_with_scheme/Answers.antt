@@ -5,7 +5,7 @@ use Rattle.mmcs_engine.specs.Inner.Stored.{stored_batch}
 use Rattle.mmcs_engine.specs.Inner.Alike.{batch_in_numbers}
 use Rattle.mmcs_engine.proofs.TreesInNumbers.{shape_in_numbers, stored_in_numbers}
 use Rattle.mmcs_engine.proofs.ReplyFacts.{reply_fault, reply_text}
-use Rattle.mmcs_engine.proofs.engine.reply_by.Goals as goal
+use Rattle.mmcs_engine.proofs.engine.reply_with_scheme.Goals as goal
 
 pub returns-in_err-act-clause-fault : goal.returns-in_err-act-clause-fault
 returns-in_err-act-clause-fault g c =
@@ -14,7 +14,7 @@ returns-in_err-act-clause-fault g c =
     let found = c.in_ok-matrices.ensures.matrices in
     let read = rw c.deref.ensures.value at found.1 in
     let left = err_from_is_err_and c.from_residual-in_err-act.result c.from_residual-in_err-act.ensures.1 in
-    reply_fault c.args.request.now.command c.args.request.now.indices.items c.args.input.items g.W.Word.MAX g.row.N
+    reply_fault c.args.args.now.command c.args.args.now.indices.items c.args.input.items g.W.Word.MAX g.row.N
     c.requires.scheme.greatest_word c.requires.arity found.0 read (batch_in_numbers g.W.Word.value given)
     (stored_in_numbers g.W.Word.value w.some_word w.one_word c.in_ok-matrices.matrices.items found.0 g.row.N found.2)
     (shape given) (shape_in_numbers g.W.Word.value w.some_word w.one_word given) c.from_residual-in_err-act.result _
@@ -26,7 +26,7 @@ returns-clause-text g c =
     let given = stored_batch g.row.N c.in_ok-matrices.matrices.items in
     let found = c.in_ok-matrices.ensures.matrices in
     let read = rw c.deref.ensures.value at found.1 in
-    reply_text c.args.request.now.command c.args.request.now.indices.items c.args.input.items g.W.Word.MAX g.row.N
+    reply_text c.args.args.now.command c.args.args.now.indices.items c.args.input.items g.W.Word.MAX g.row.N
     c.requires.scheme.greatest_word c.requires.arity found.0 read (batch_in_numbers g.W.Word.value given)
     (stored_in_numbers g.W.Word.value w.some_word w.one_word c.in_ok-matrices.matrices.items found.0 g.row.N found.2)
     (shape given) (shape_in_numbers g.W.Word.value w.some_word w.one_word given) c.in_ok-act.field-0.items

@@ -1,4 +1,4 @@
--- Words of commands.
+-- Arguments of commands.
 use Rattle.std.proofs.Common.{eqb, get_or, ◌≡◌, ◌<◌, ◌≤◌, ◌+◌, ◌-◌, Bool, true, false, MatchBool, Decides, ℕ, List, []}
 use Rattle.std.proofs.Common.{◌∷◌, ◌++◌, length, take, drop, Option, String, string_bytes, sym, refl, ap, ◌∙◌, subst}
 use Rattle.std.proofs.Common.{arith, append-nil}
@@ -21,21 +21,21 @@ use Rattle.mmcs_engine.specs.declared.command.CapChoice.{CapChoice}
 use Rattle.mmcs_engine.specs.declared.command.Command.{Command}
 use Rattle.mmcs_engine.specs.declared.command.HashName.{HashName}
 use Rattle.mmcs_engine.specs.declared.command.HashName.TheVariants.{Fold, Sha256}
-use Rattle.mmcs_engine.specs.Words.{action_word, arity_word, hash_word, rule_mark, texts_of, AreNoCommand, AreWords}
-use Rattle.mmcs_engine.specs.Words.{IsCapWord, IsNumberWord, MayFollow}
+use Rattle.mmcs_engine.specs.Args.{action_arg, arity_arg, hash_arg, rule_mark, texts_of, AreNoCommand, AreArgs}
+use Rattle.mmcs_engine.specs.Args.{IsCapArg, IsNumberArg, MayFollow}
 use Rattle.mmcs_engine.proofs.BlockFacts.{all_from_map}
 
--- ---- words are of one command
+-- ---- arguments are of one command
 
--- a word is of one hash
-pub same_hash : (a b : HashName) → hash_word a ≡ hash_word b → a ≡ b
+-- an argument is of one hash
+pub same_hash : (a b : HashName) → hash_arg a ≡ hash_arg b → a ≡ b
 same_hash Fold Fold is = refl
 same_hash Fold Sha256 is = absurd (let apart = ap (λ w. eqb (get_or w 0 0) 102) is in cc)
 same_hash Sha256 Fold is = absurd (let apart = ap (λ w. eqb (get_or w 0 0) 115) is in cc)
 same_hash Sha256 Sha256 is = refl
 
 -- of one arity
-pub same_arity : (a b : Arity) → arity_word a ≡ arity_word b → a ≡ b
+pub same_arity : (a b : Arity) → arity_arg a ≡ arity_arg b → a ≡ b
 same_arity Two Two is = refl
 same_arity Two Four is = absurd (let apart = ap (λ w. eqb (get_or w 0 0) 50) is in cc)
 same_arity Two Eight is = absurd (let apart = ap (λ w. eqb (get_or w 0 0) 50) is in cc)
@@ -47,7 +47,7 @@ same_arity Eight Four is = absurd (let apart = ap (λ w. eqb (get_or w 0 0) 56) 
 same_arity Eight Eight is = refl
 
 -- and of one action
-same_action : (a b : Action) → action_word a ≡ action_word b → a ≡ b
+same_action : (a b : Action) → action_arg a ≡ action_arg b → a ≡ b
 same_action Commit Commit is = refl
 same_action Commit Open is = absurd (let apart = ap (λ w. eqb (get_or w 0 0) 99) is in cc)
 same_action Commit Check is = absurd (let apart = ap (λ w. eqb (get_or w 1 0) 111) is in cc)
@@ -99,76 +99,76 @@ same_ends (d ∷ ds) (e ∷ es) r q u v is =
     let rest = same_ends ds es r q u.1 v.1 tail in
     (rest.0, λ i. head i ∷ rest.1 i)
 
--- a word is of one cap
-pub same_cap : (word other : List ℕ) (c d : CapChoice) → word ≡ other → IsCapWord word c → IsCapWord other d → c ≡ d
-same_cap word other c d same u v =
+-- an argument is of one cap
+pub same_cap : (arg other : List ℕ) (c d : CapChoice) → arg ≡ other → IsCapArg arg c → IsCapArg other d → c ≡ d
+same_cap arg other c d same u v =
     let ends = same_ends u.0 v.0 c.rule d.rule u.2.numeral.1 v.2.numeral.1 (sym u.1 ∙ same ∙ v.1) in
     let height = u.3 ∙ ap (digits_value 10) ends.1 ∙ sym v.3 in
     λ i. record { height = height i; rule = ends.0 i }
 
--- words are of one command, with one list of indices
-pub same_command : (words : List (List ℕ)) (c d : Command) (is js : List ℕ) → AreWords words c is →
-    AreWords words d js → (c ≡ d) × (is ≡ js)
-same_command words c d is js u v =
+-- arguments are of one command, with one list of indices
+pub same_command : (args : List (List ℕ)) (c d : Command) (is js : List ℕ) → AreArgs args c is →
+    AreArgs args d js → (c ≡ d) × (is ≡ js)
+same_command args c d is js u v =
     let e = u.spelling in
     let f = v.spelling in
-    let first : hash_word c.hash ≡ hash_word d.hash = cc in
-    let second : arity_word c.arity ≡ arity_word d.arity = cc in
+    let first : hash_arg c.hash ≡ hash_arg d.hash = cc in
+    let second : arity_arg c.arity ≡ arity_arg d.arity = cc in
     let third : u.cap ≡ v.cap = cc in
-    let fourth : action_word c.action ≡ action_word d.action = cc in
-    let rest : u.places ≡ v.places = cc in
+    let fourth : action_arg c.action ≡ action_arg d.action = cc in
+    let rest : u.index_args ≡ v.index_args = cc in
     let hash_is = same_hash c.hash d.hash first in
     let arity_is = same_arity c.arity d.arity second in
-    let cap_is = same_cap u.cap v.cap c.cap d.cap third u.cap_word v.cap_word in
+    let cap_is = same_cap u.cap v.cap c.cap d.cap third u.cap_arg v.cap_arg in
     let action_is = same_action c.action d.action fourth in (
       (λ i. record { hash = hash_is i; arity = arity_is i; cap = cap_is i; action = action_is i }),
       u.indices_are
           ∙ ap (map (digits_value 10)) rest ∙ sym v.indices_are,
     )
 
--- ---- words are read
+-- ---- arguments are read
 
--- a word that ends with the mark of the fixed rule
-module _ (word : List ℕ) where
-  pub with_mark : (digits : List ℕ) → (pointwise nat_eq (drop (length word - 1) word) (102 ∷ []) ≡ true) ×
-      (digits ≡ take (length word - 1) word) × (length digits + 1 ≡ length word) → word ≡ digits ++ 102 ∷ []
+-- an argument that ends with the mark of the fixed rule
+module _ (arg : List ℕ) where
+  pub with_mark : (digits : List ℕ) → (pointwise nat_eq (drop (length arg - 1) arg) (102 ∷ []) ≡ true) ×
+      (digits ≡ take (length arg - 1) arg) × (length digits + 1 ≡ length arg) → arg ≡ digits ++ 102 ∷ []
   with_mark digits cases =
-      let end = (bytes_decides (drop (length word - 1) word) (102 ∷ [])).0 cases.0 in
-      sym (take-append-drop (length word - 1) word) ∙ (λ i. sym cases.1 i ++ end i)
+      let end = (bytes_decides (drop (length arg - 1) arg) (102 ∷ [])).0 cases.0 in
+      sym (take-append-drop (length arg - 1) arg) ∙ (λ i. sym cases.1 i ++ end i)
 
--- a cap of a word with the mark
-pub cap_fixed : (word digits : List ℕ) (height : ℕ) → word ≡ digits ++ 102 ∷ [] → IsNumberWord digits ×
-    (height ≡ digits_value 10 digits) → IsCapWord word (record { height = height; rule = Fixed })
-cap_fixed word digits height is number = (digits, is, number.0, number.1)
+-- a cap of an argument with the mark
+pub cap_fixed : (arg digits : List ℕ) (height : ℕ) → arg ≡ digits ++ 102 ∷ [] → IsNumberArg digits ×
+    (height ≡ digits_value 10 digits) → IsCapArg arg (record { height = height; rule = Fixed })
+cap_fixed arg digits height is number = (digits, is, number.0, number.1)
 
 -- no cap, where what stands in front of the mark is no number
-pub no_cap_fixed : (word digits : List ℕ) (cap : CapChoice) → word ≡ digits ++ 102 ∷ [] → (IsNumberWord digits → ⊥) →
-    IsCapWord word cap → ⊥
-no_cap_fixed word digits cap is bad spelled = by_rule cap.rule refl
+pub no_cap_fixed : (arg digits : List ℕ) (cap : CapChoice) → arg ≡ digits ++ 102 ∷ [] → (IsNumberArg digits → ⊥) →
+    IsCapArg arg cap → ⊥
+no_cap_fixed arg digits cap is bad spelled = by_rule cap.rule refl
   where
     by_rule : (r : CapRule) → cap.rule ≡ r → ⊥
     by_rule Fixed rule_is =
         let same : spelled.0 ++ 102 ∷ [] ≡ digits ++ 102 ∷ [] = sym (ap (λ q. spelled.0 ++ rule_mark q) rule_is)
         ∙ sym spelled.1 ∙ is in
-        bad (subst (λ (ds : List ℕ). IsNumberWord ds) (push_same spelled.0 digits 102 102 same) spelled.2)
+        bad (subst (λ (ds : List ℕ). IsNumberArg ds) (push_same spelled.0 digits 102 102 same) spelled.2)
     by_rule Lowered rule_is =
         let same : spelled.0 ≡ digits ++ 102 ∷ [] = sym (append-nil spelled.0)
         ∙ sym (ap (λ q. spelled.0 ++ rule_mark q) rule_is) ∙ sym spelled.1 ∙ is in
         let all = subst (λ (ds : List ℕ). AllDigits 10 ds) same spelled.2.numeral.1 in
         no_mark Fixed 102 [] refl (last_digit digits 102 all)
 
--- no cap, where a word without the mark is no number
-pub no_cap_lowered : (word : List ℕ) (cap : CapChoice) → ((digits : List ℕ) → word ≡ digits ++ 102 ∷ [] → ⊥) →
-    (IsNumberWord word → ⊥) → IsCapWord word cap → ⊥
-no_cap_lowered word cap unmarked bad spelled = by_rule cap.rule refl
+-- no cap, where an argument without the mark is no number
+pub no_cap_lowered : (arg : List ℕ) (cap : CapChoice) → ((digits : List ℕ) → arg ≡ digits ++ 102 ∷ [] → ⊥) →
+    (IsNumberArg arg → ⊥) → IsCapArg arg cap → ⊥
+no_cap_lowered arg cap unmarked bad spelled = by_rule cap.rule refl
   where
     by_rule : (r : CapRule) → cap.rule ≡ r → ⊥
     by_rule Fixed rule_is = unmarked spelled.0 (spelled.1 ∙ ap (λ q. spelled.0 ++ rule_mark q) rule_is)
     by_rule Lowered rule_is =
-        let same : word ≡ spelled.0 = spelled.1 ∙ ap (λ q. spelled.0 ++ rule_mark q) rule_is ∙ append-nil spelled.0 in
-        bad (subst (λ (ds : List ℕ). IsNumberWord ds) (sym same) spelled.2)
+        let same : arg ≡ spelled.0 = spelled.1 ∙ ap (λ q. spelled.0 ++ rule_mark q) rule_is ∙ append-nil spelled.0 in
+        bad (subst (λ (ds : List ℕ). IsNumberArg ds) (sym same) spelled.2)
 
--- ---- the words of a command, from their parts
+-- ---- the arguments of a command, from their parts
 
 -- a list that begins with four elements
 pub four_elements : {A : Type 0} (xs : List A) (x y z u : A) → 4 ≤ length xs → x ≡ get_or xs 0 x → y ≡ get_or xs 1 y → z
@@ -182,42 +182,42 @@ four_elements (a ∷ b ∷ c ∷ d ∷ xs) x y z u long x_is y_is z_is u_is =
     ≡ xs = take_all (length (a ∷ b ∷ c ∷ d ∷ xs) - 4) xs (omega arith) in
     λ i. sym x_is i ∷ sym y_is i ∷ sym z_is i ∷ sym u_is i ∷ sym shown i
 
-module _ {A : Type 0} (words : List (String A)) (hash arity cap action : String A) (rest : List (String A))
-    (parts : words ≡ hash ∷ arity ∷ cap ∷ action ∷ rest) where
-  spelled : texts_of words ≡ string_bytes hash ∷ string_bytes arity ∷ string_bytes cap ∷ string_bytes action
+module _ {A : Type 0} (args : List (String A)) (hash arity cap action : String A) (rest : List (String A))
+    (parts : args ≡ hash ∷ arity ∷ cap ∷ action ∷ rest) where
+  spelled : texts_of args ≡ string_bytes hash ∷ string_bytes arity ∷ string_bytes cap ∷ string_bytes action
       ∷ texts_of rest
   spelled = ap (map string_bytes) parts
 
-  pub words_from_parts : (command : Command) → string_bytes hash ≡ hash_word command.hash → string_bytes arity
-      ≡ arity_word command.arity → IsCapWord (string_bytes cap) command.cap →
-      string_bytes action ≡ action_word command.action → MayFollow command.action (texts_of rest) →
-      AreWords (texts_of words) command (map (digits_value 10) (texts_of rest))
+  pub words_from_parts : (command : Command) → string_bytes hash ≡ hash_arg command.hash → string_bytes arity
+      ≡ arity_arg command.arity → IsCapArg (string_bytes cap) command.cap →
+      string_bytes action ≡ action_arg command.action → MayFollow command.action (texts_of rest) →
+      AreArgs (texts_of args) command (map (digits_value 10) (texts_of rest))
   words_from_parts command hash_is arity_is cap_is action_is follows = record {
     cap = string_bytes cap;
-    places = texts_of rest;
+    index_args = texts_of rest;
     spelling = spelled ∙ (λ i. hash_is i ∷ arity_is i ∷ string_bytes cap ∷ action_is i ∷ texts_of rest);
-    cap_word = cap_is;
+    cap_arg = cap_is;
     may_follow = follows;
     indices_are = refl;
   }
 
-  -- no command, where the third word is no cap
-  pub no_command_from_cap : ((c : CapChoice) → IsCapWord (string_bytes cap) c → ⊥) → AreNoCommand (texts_of words)
+  -- no command, where the third argument is no cap
+  pub no_command_from_cap : ((c : CapChoice) → IsCapArg (string_bytes cap) c → ⊥) → AreNoCommand (texts_of args)
   no_command_from_cap bad command indices are =
       let both = sym spelled ∙ are.spelling in
       let same : string_bytes cap ≡ are.cap = cc in
-      bad command.cap (subst (λ (w : List ℕ). IsCapWord w command.cap) (sym same) are.cap_word)
+      bad command.cap (subst (λ (w : List ℕ). IsCapArg w command.cap) (sym same) are.cap_arg)
 
   -- or where the rest may not follow the action
-  pub no_command_from_rest : (own : Action) → string_bytes action ≡ action_word own →
-      (MayFollow own (texts_of rest) → ⊥) → AreNoCommand (texts_of words)
+  pub no_command_from_rest : (own : Action) → string_bytes action ≡ action_arg own →
+      (MayFollow own (texts_of rest) → ⊥) → AreNoCommand (texts_of args)
   no_command_from_rest own own_is bad command indices are =
       let both = sym spelled ∙ are.spelling in
-      let same_word : string_bytes action ≡ action_word command.action = cc in
-      let same_rest : texts_of rest ≡ are.places = cc in
+      let same_word : string_bytes action ≡ action_arg command.action = cc in
+      let same_rest : texts_of rest ≡ are.index_args = cc in
       let same = same_action command.action own (sym same_word ∙ own_is) in
       bad (subst (λ (ws : List (List ℕ)). MayFollow own ws) (sym same_rest)
-      (subst (λ (a : Action). MayFollow a are.places) same are.may_follow))
+      (subst (λ (a : Action). MayFollow a are.index_args) same are.may_follow))
 
 -- what `then_some` gives
 pub some_from_test : {X : Type 0} (P : Type 0) (b : Bool) (value : X) (r : Option X) (Q : X → Type 0) → r
@@ -232,41 +232,41 @@ none_from_test {X = X} P true value r Q is test failed = subst (λ (o : Option X
 none_from_test {X = X} P false value r Q is test failed =
     subst (λ (o : Option X). IfNone o Q) (sym is) (failed (λ p. absurd (false≢true (test.1 p))))
 
--- ---- words that are numbers
+-- ---- arguments that are numbers
 
--- what the words are, each is
-each_number : {A : Type 0} (words : List (String A)) → All IsNumberWord (texts_of words) →
-    All (λ w. IsNumberWord (string_bytes w)) words
-each_number words each = all_from_map IsNumberWord string_bytes words each
+-- what the arguments are, each is
+each_number : {A : Type 0} (args : List (String A)) → All IsNumberArg (texts_of args) →
+    All (λ w. IsNumberArg (string_bytes w)) args
+each_number args each = all_from_map IsNumberArg string_bytes args each
 
-pub numbers_decided : {A : Type 0} (r : Bool) (words : List (String A)) →
-    MatchBool r (AllWithin (λ w. IsNumberWord (string_bytes w)) words 0 (length words)) ((k : ℕ) × (k < length words) ×
-    HoldsAt (λ w. (IsNumberWord (string_bytes w) → ⊥)) words k) → Decides r (All IsNumberWord (texts_of words))
-numbers_decided true words said = (
-  λ is. All-map IsNumberWord string_bytes words
-      (All-from_all_within (λ w. IsNumberWord (string_bytes w)) words said),
+pub numbers_decided : {A : Type 0} (r : Bool) (args : List (String A)) →
+    MatchBool r (AllWithin (λ w. IsNumberArg (string_bytes w)) args 0 (length args)) ((k : ℕ) × (k < length args) ×
+    HoldsAt (λ w. (IsNumberArg (string_bytes w) → ⊥)) args k) → Decides r (All IsNumberArg (texts_of args))
+numbers_decided true args said = (
+  λ is. All-map IsNumberArg string_bytes args
+      (All-from_all_within (λ w. IsNumberArg (string_bytes w)) args said),
   λ each. refl,
 )
 numbers_decided false [] said = absurd (omega (arith, said.1))
-numbers_decided false (w ∷ words) said = (
+numbers_decided false (w ∷ args) said = (
   λ is. absurd (false≢true is),
   λ each. absurd
-      (said.2 w (All-get_or (λ x. IsNumberWord (string_bytes x)) (w ∷ words) said.0 w said.1
-      (each_number (w ∷ words) each))),
+      (said.2 w (All-get_or (λ x. IsNumberArg (string_bytes x)) (w ∷ args) said.0 w said.1
+      (each_number (w ∷ args) each))),
 )
 
-module _ {A : Type 0} (words : List (String A)) (i : ℕ) (word : String A) (within : i < length words) (word_is : word
-    ≡ get_or words i word) where
-  pub number_at : All IsNumberWord (texts_of words) → IsNumberWord (string_bytes word)
-  number_at each = subst (λ (w : String A). IsNumberWord (string_bytes w)) (sym word_is)
-      (All-get_or (λ w. IsNumberWord (string_bytes w)) words i word within (each_number words each))
+module _ {A : Type 0} (args : List (String A)) (i : ℕ) (arg : String A) (within : i < length args) (word_is : arg
+    ≡ get_or args i arg) where
+  pub number_at : All IsNumberArg (texts_of args) → IsNumberArg (string_bytes arg)
+  number_at each = subst (λ (w : String A). IsNumberArg (string_bytes w)) (sym word_is)
+      (All-get_or (λ w. IsNumberArg (string_bytes w)) args i arg within (each_number args each))
 
   -- one more number
-  pub indices_more : (so_far new : List ℕ) (index : ℕ) → so_far ≡ map (digits_value 10) (texts_of (take i words)) →
-      index ≡ digits_value 10 (string_bytes word) → new ≡ so_far ++ index ∷ [] →
-      new ≡ map (digits_value 10) (texts_of (take (i + 1) words))
+  pub indices_more : (so_far new : List ℕ) (index : ℕ) → so_far ≡ map (digits_value 10) (texts_of (take i args)) →
+      index ≡ digits_value 10 (string_bytes arg) → new ≡ so_far ++ index ∷ [] →
+      new ≡ map (digits_value 10) (texts_of (take (i + 1) args))
   indices_more so_far new index so_far_is index_is new_is =
       new_is
       ∙ (λ j. so_far_is j ++ (index_is ∙ ap (λ w. digits_value 10 (string_bytes w)) word_is) j ∷ [])
-      ∙ sym (ap (map (digits_value 10)) (map_more string_bytes words i word within)
-      ∙ map-append (digits_value 10) (texts_of (take i words)) (string_bytes (get_or words i word) ∷ []))
+      ∙ sym (ap (map (digits_value 10)) (map_more string_bytes args i arg within)
+      ∙ map-append (digits_value 10) (texts_of (take i args)) (string_bytes (get_or args i arg) ∷ []))

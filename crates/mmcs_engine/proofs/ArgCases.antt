@@ -18,8 +18,8 @@ use Rattle.mmcs_engine.specs.declared.command.Command.{Command}
 use Rattle.mmcs_engine.specs.declared.command.HashName.{HashName}
 use Rattle.mmcs_engine.specs.declared.command.HashName.TheVariants.{Fold, Sha256}
 use Rattle.mmcs_engine.specs.Numbers.{IsNumberBelow}
-use Rattle.mmcs_engine.specs.Words.{action_word, arity_word, hash_word, AreWords, IsCapWord, IsNumberWord, MayFollow}
-use Rattle.mmcs_engine.proofs.WordFacts.{cap_fixed, no_cap_fixed, no_cap_lowered}
+use Rattle.mmcs_engine.specs.Args.{action_arg, arity_arg, hash_arg, AreArgs, IsCapArg, IsNumberArg, MayFollow}
+use Rattle.mmcs_engine.proofs.ArgFacts.{cap_fixed, no_cap_fixed, no_cap_lowered}
 
 -- ---- facts that hold or do not
 
@@ -78,30 +78,30 @@ settled_number limit digits =
 
 -- ---- the parts of a command
 
-settled_hash : (word : List ℕ) → IsSettled ((hash : HashName) × (word ≡ hash_word hash))
-settled_hash word =
+settled_hash : (arg : List ℕ) → IsSettled ((hash : HashName) × (arg ≡ hash_arg hash))
+settled_hash arg =
     settled_as (λ either. ⊎_elim (λ is. (Fold, is)) (λ is. (Sha256, is)) either) (λ some. by_hash some.0 some.1)
-    (settled_either (settled_same word (hash_word Fold)) (settled_same word (hash_word Sha256)))
+    (settled_either (settled_same arg (hash_arg Fold)) (settled_same arg (hash_arg Sha256)))
   where
-    by_hash : (hash : HashName) → word ≡ hash_word hash → (word ≡ hash_word Fold) ⊎ (word ≡ hash_word Sha256)
+    by_hash : (hash : HashName) → arg ≡ hash_arg hash → (arg ≡ hash_arg Fold) ⊎ (arg ≡ hash_arg Sha256)
     by_hash Fold is = inl is
     by_hash Sha256 is = inr is
 
-settled_arity : (word : List ℕ) → IsSettled ((arity : Arity) × (word ≡ arity_word arity))
-settled_arity word =
+settled_arity : (arg : List ℕ) → IsSettled ((arity : Arity) × (arg ≡ arity_arg arity))
+settled_arity arg =
     settled_as (λ either. ⊎_elim (λ is. (Two, is)) (λ others. ⊎_elim (λ is. (Four, is)) (λ is. (Eight, is)) others)
     either) (λ some. by_arity some.0 some.1)
-    (settled_either (settled_same word (arity_word Two))
-    (settled_either (settled_same word (arity_word Four)) (settled_same word (arity_word Eight))))
+    (settled_either (settled_same arg (arity_arg Two))
+    (settled_either (settled_same arg (arity_arg Four)) (settled_same arg (arity_arg Eight))))
   where
-    by_arity : (arity : Arity) → word ≡ arity_word arity → (word ≡ arity_word Two) ⊎
-        ((word ≡ arity_word Four) ⊎ (word ≡ arity_word Eight))
+    by_arity : (arity : Arity) → arg ≡ arity_arg arity → (arg ≡ arity_arg Two) ⊎
+        ((arg ≡ arity_arg Four) ⊎ (arg ≡ arity_arg Eight))
     by_arity Two is = inl is
     by_arity Four is = inr (inl is)
     by_arity Eight is = inr (inr is)
 
 -- whether the last byte is the mark of the fixed rule
-settled_mark : (word : List ℕ) → IsSettled ((digits : List ℕ) × (word ≡ digits ++ 102 ∷ []))
+settled_mark : (arg : List ℕ) → IsSettled ((digits : List ℕ) × (arg ≡ digits ++ 102 ∷ []))
 settled_mark [] = inr (λ some. absurd (omega (arith, ap length some.1, length_push some.0 102)))
 settled_mark (b ∷ []) =
     ⊎_elim (λ is. inl ([], λ i. is i ∷ [])) (λ other. inr (λ some. other (by_front some.0 some.1))) (cases_eq b 102)
@@ -109,51 +109,51 @@ settled_mark (b ∷ []) =
     by_front : (digits : List ℕ) → b ∷ [] ≡ digits ++ 102 ∷ [] → b ≡ 102
     by_front [] is = cc
     by_front (d ∷ digits) is = absurd (omega (arith, ap length is, length_push digits 102))
-settled_mark (b ∷ c ∷ word) =
-    settled_as (λ some. (b ∷ some.0, ap (λ w. b ∷ w) some.1)) (λ some. by_front some.0 some.1) (settled_mark (c ∷ word))
+settled_mark (b ∷ c ∷ arg) =
+    settled_as (λ some. (b ∷ some.0, ap (λ w. b ∷ w) some.1)) (λ some. by_front some.0 some.1) (settled_mark (c ∷ arg))
   where
-    by_front : (digits : List ℕ) → b ∷ c ∷ word ≡ digits ++ 102 ∷ [] → (front : List ℕ) × (c ∷ word ≡ front ++ 102 ∷ [])
+    by_front : (digits : List ℕ) → b ∷ c ∷ arg ≡ digits ++ 102 ∷ [] → (front : List ℕ) × (c ∷ arg ≡ front ++ 102 ∷ [])
     by_front [] is = absurd (omega (arith, ap length is))
     by_front (d ∷ digits) is = (digits, cc)
 
-settled_cap : (word : List ℕ) → IsSettled ((cap : CapChoice) × IsCapWord word cap)
-settled_cap word =
+settled_cap : (arg : List ℕ) → IsSettled ((cap : CapChoice) × IsCapArg arg cap)
+settled_cap arg =
     ⊎_elim
     (λ marked. ⊎_elim
     (λ number. inl (
       record { height = digits_value 10 marked.0; rule = Fixed },
-      cap_fixed word marked.0 (digits_value 10 marked.0) marked.1 (number, refl),
+      cap_fixed arg marked.0 (digits_value 10 marked.0) marked.1 (number, refl),
     ))
-    (λ bad. inr (λ some. no_cap_fixed word marked.0 some.0 marked.1 bad some.1))
+    (λ bad. inr (λ some. no_cap_fixed arg marked.0 some.0 marked.1 bad some.1))
     (settled_number (2 ^ 64) marked.0))
     (λ unmarked. ⊎_elim
     (λ number. inl (
-      record { height = digits_value 10 word; rule = Lowered },
-      (word, sym (append-nil word), number, refl),
+      record { height = digits_value 10 arg; rule = Lowered },
+      (arg, sym (append-nil arg), number, refl),
     ))
-    (λ bad. inr (λ some. no_cap_lowered word some.0 (λ digits is. unmarked (digits, is)) bad some.1))
-    (settled_number (2 ^ 64) word))
-    (settled_mark word)
+    (λ bad. inr (λ some. no_cap_lowered arg some.0 (λ digits is. unmarked (digits, is)) bad some.1))
+    (settled_number (2 ^ 64) arg))
+    (settled_mark arg)
 
-settled_follow : (action : Action) (places : List (List ℕ)) → IsSettled (MayFollow action places)
-settled_follow action places = settled_both (settled_each IsNumberWord (settled_number (2 ^ 64)) places)
-    (none_after action places)
+settled_follow : (action : Action) (index_args : List (List ℕ)) → IsSettled (MayFollow action index_args)
+settled_follow action index_args = settled_both (settled_each IsNumberArg (settled_number (2 ^ 64)) index_args)
+    (none_after action index_args)
   where
-    none_after : (action : Action) (places : List (List ℕ)) → IsSettled (action ≡ Commit → places ≡ [])
+    none_after : (action : Action) (index_args : List (List ℕ)) → IsSettled (action ≡ Commit → index_args ≡ [])
     none_after action [] = inl (λ is. refl)
-    none_after Commit (place ∷ places) = inr (λ none. absurd (let apart = none refl in cc))
-    none_after Open (place ∷ places) = inl (λ is. absurd cc)
-    none_after Check (place ∷ places) = inl (λ is. absurd cc)
+    none_after Commit (arg ∷ index_args) = inr (λ none. absurd (let apart = none refl in cc))
+    none_after Open (arg ∷ index_args) = inl (λ is. absurd cc)
+    none_after Check (arg ∷ index_args) = inl (λ is. absurd cc)
 
-module _ (word : List ℕ) (places : List (List ℕ)) where
-  -- the word of an action, and what may follow it
+module _ (arg : List ℕ) (index_args : List (List ℕ)) where
+  -- the argument of an action, and what may follow it
   abbrev Asks : Action → Type 0
-  Asks action = (word ≡ action_word action) × MayFollow action places
+  Asks action = (arg ≡ action_arg action) × MayFollow action index_args
 
   settled_asks : (action : Action) → IsSettled (Asks action)
-  settled_asks action = settled_both (settled_same word (action_word action)) (settled_follow action places)
+  settled_asks action = settled_both (settled_same arg (action_arg action)) (settled_follow action index_args)
 
-  settled_action : IsSettled ((action : Action) × (word ≡ action_word action) × MayFollow action places)
+  settled_action : IsSettled ((action : Action) × (arg ≡ action_arg action) × MayFollow action index_args)
   settled_action =
       settled_as
       (λ either. ⊎_elim (λ it. (Commit, it.0, it.1))
@@ -168,47 +168,48 @@ module _ (word : List ℕ) (places : List (List ℕ)) where
 
 -- ---- commands
 
--- the words of some command and its indices
+-- the arguments of some command and its indices
 abbrev pub AreSomeCommand : List (List ℕ) → Type 0
-AreSomeCommand words = (command : Command) × (indices : List ℕ) × AreWords words command indices
+AreSomeCommand args = (command : Command) × (indices : List ℕ) × AreArgs args command indices
 
-module _ (hash arity cap action : List ℕ) (places : List (List ℕ)) where
-  -- a part for each word
+module _ (hash arity cap action : List ℕ) (index_args : List (List ℕ)) where
+  -- a part for each argument
   abbrev HaveParts : Type 0
   HaveParts =
-      ((h : HashName) × (hash ≡ hash_word h))
-      × (((n : Arity) × (arity ≡ arity_word n))
-      × (((c : CapChoice) × IsCapWord cap c)
-      × ((a : Action) × (action ≡ action_word a) × MayFollow a places)))
+      ((h : HashName) × (hash ≡ hash_arg h))
+      × (((n : Arity) × (arity ≡ arity_arg n))
+      × (((c : CapChoice) × IsCapArg cap c)
+      × ((a : Action) × (action ≡ action_arg a) × MayFollow a index_args)))
 
-  command_from : HaveParts → AreSomeCommand (hash ∷ arity ∷ cap ∷ action ∷ places)
+  command_from : HaveParts → AreSomeCommand (hash ∷ arity ∷ cap ∷ action ∷ index_args)
   command_from parts = (
     record { hash = parts.0.0; arity = parts.1.0.0; cap = parts.1.1.0.0; action = parts.1.1.1.0 },
-    map (digits_value 10) places,
+    map (digits_value 10) index_args,
     record {
       cap = cap;
-      places = places;
-      spelling = λ i. parts.0.1 i ∷ parts.1.0.1 i ∷ cap ∷ parts.1.1.1.1 i ∷ places;
-      cap_word = parts.1.1.0.1;
+      index_args = index_args;
+      spelling = λ i. parts.0.1 i ∷ parts.1.0.1 i ∷ cap ∷ parts.1.1.1.1 i ∷ index_args;
+      cap_arg = parts.1.1.0.1;
       may_follow = parts.1.1.1.2;
       indices_are = refl;
     },
   )
 
-  parts_of : (command : Command) (indices : List ℕ) → AreWords (hash ∷ arity ∷ cap ∷ action ∷ places) command indices →
+  parts_of : (command : Command) (indices : List ℕ) →
+      AreArgs (hash ∷ arity ∷ cap ∷ action ∷ index_args) command indices →
       HaveParts
   parts_of command indices are =
       let e = are.spelling in
-      let hash_is : hash ≡ hash_word command.hash = cc in
-      let arity_is : arity ≡ arity_word command.arity = cc in
+      let hash_is : hash ≡ hash_arg command.hash = cc in
+      let arity_is : arity ≡ arity_arg command.arity = cc in
       let cap_is : cap ≡ are.cap = cc in
-      let action_is : action ≡ action_word command.action = cc in
-      let places_are : places ≡ are.places = cc in (
+      let action_is : action ≡ action_arg command.action = cc in
+      let places_are : index_args ≡ are.index_args = cc in (
         (command.hash, hash_is),
         (
           (command.arity, arity_is),
           (
-            (command.cap, subst (λ (w : List ℕ). IsCapWord w command.cap) (sym cap_is) are.cap_word),
+            (command.cap, subst (λ (w : List ℕ). IsCapArg w command.cap) (sym cap_is) are.cap_arg),
             (
               command.action,
               action_is,
@@ -219,19 +220,19 @@ module _ (hash arity cap action : List ℕ) (places : List (List ℕ)) where
         ),
       )
 
-  settled_words : IsSettled (AreSomeCommand (hash ∷ arity ∷ cap ∷ action ∷ places))
+  settled_words : IsSettled (AreSomeCommand (hash ∷ arity ∷ cap ∷ action ∷ index_args))
   settled_words =
       settled_as command_from (λ some. parts_of some.0 some.1 some.2)
       (settled_both (settled_hash hash)
-      (settled_both (settled_arity arity) (settled_both (settled_cap cap) (settled_action action places))))
+      (settled_both (settled_arity arity) (settled_both (settled_cap cap) (settled_action action index_args))))
 
--- a command has at least four words
-no_short : (words : List (List ℕ)) → length words < 4 → AreSomeCommand words → ⊥
-no_short words short some = absurd (let lengths = ap length some.2.spelling in omega (arith, lengths, short))
+-- a command has at least four arguments
+no_short : (args : List (List ℕ)) → length args < 4 → AreSomeCommand args → ⊥
+no_short args short some = absurd (let lengths = ap length some.2.spelling in omega (arith, lengths, short))
 
-pub settled_command : (words : List (List ℕ)) → IsSettled (AreSomeCommand words)
+pub settled_command : (args : List (List ℕ)) → IsSettled (AreSomeCommand args)
 settled_command [] = inr (no_short [] (omega arith))
 settled_command (a ∷ []) = inr (no_short (a ∷ []) (omega arith))
 settled_command (a ∷ b ∷ []) = inr (no_short (a ∷ b ∷ []) (omega arith))
 settled_command (a ∷ b ∷ c ∷ []) = inr (no_short (a ∷ b ∷ c ∷ []) (omega arith))
-settled_command (a ∷ b ∷ c ∷ d ∷ places) = settled_words a b c d places
+settled_command (a ∷ b ∷ c ∷ d ∷ index_args) = settled_words a b c d index_args
