@@ -6,12 +6,12 @@ use Rattle.std.specs.Prelude.{All, IfNone, IfSome}
 use Rattle.std.specs.List.{slice_split, AllZip}
 use Rattle.std.specs.Str.Lines.{strip_carriage_return}
 use Rattle.std.proofs.lemmas.List.{take_more, take_all, take-append-drop, drop_more, get_or-map, length-drop}
-use Rattle.std.proofs.lemmas.List.{length-map, length-take-le}
+use Rattle.std.proofs.lemmas.List.{get_or-take, length-map, length-take-le}
 use Rattle.std.proofs.lemmas.List.Splits.{slice_split_at, slice_split_none, length-slice_split}
-use Rattle.std.proofs.lemmas.Bool.Decides.{eqb_tells}
-use Rattle.std.proofs.Math.Bool.{Bool, ◌||◌}
-use borrow.Author.Tests.{clash}
+use Rattle.std.proofs.lemmas.Bool.{false_from_ne_true}
+use Rattle.std.proofs.lemmas.Grind.{get_or_default_zero}
 use Rattle.std.proofs.lemmas.List.Sums.{count_by-le-length}
+use Rattle.memchr.specs.Find.{is_byte, Nowhere, Passes}
 use Rattle.p3_merkle_core.specs.Checks.{last_of}
 use Rattle.p3_merkle_core.specs.declared.error.MerkleTreeError.TheVariants.{OutOfMemory}
 use Rattle.mmcs_engine.specs.declared.fault.Fault.{Fault}
@@ -307,24 +307,24 @@ next_piece (Some r) bytes pieces n left piece left_is more last =
     let first = front_cut pieces n piece (slice_split (λ b. b == 10) (bytes r)) (left_is ∙ more) in
     (first.0, first.1, first.2, tt)
 
--- a byte that ends no line
-pub no_line_feed : (b : ℕ) → (b ≡ 10 → ⊥) → (b == 10) ≡ false
-no_line_feed b other = ⊎_elim (λ is. absurd (other is.1)) (λ is. is.0) (eqb_tells b 10)
-
--- what was not seen before, nor now
-pub not_seen : (before now : Bool) → (before || now) ≡ false → (before ≡ false) × (now ≡ false)
-not_seen false now none = (refl, none)
-not_seen true now none = absurd (clash (sym none))
+-- the bytes in front of the first line feed have none
+pub no_line_feed : (input : List ℕ) (n : ℕ) → n ≤ length input → Nowhere (Passes (is_byte 10) input) 0 n →
+    All (λ b. (b == 10) ≡ false) (take n input)
+no_line_feed input n within none = λ k d inside.
+    let below : k < n = omega (arith, length-take-le n input within) in
+    rw (get_or-take n input k d below) (rw (get_or_default_zero input k d (omega (arith, within)))
+    (false_from_ne_true _ (none k (omega arith) below)))
 
 -- an input is cut at its first line feed
-pub cut_at : (input : List ℕ) (n : ℕ) → n < length input → All (λ b. (b == 10) ≡ false) (take n input) →
-    get_or input n 0 ≡ 10 →
+pub cut_at : (input : List ℕ) (n : ℕ) → n < length input → Nowhere (Passes (is_byte 10) input) 0 n →
+    (get_or input n 0 == 10) ≡ true →
     slice_split (λ b. b == 10) input
     ≡ take n input ∷ slice_split (λ b. b == 10) (take (length input - (n + 1)) (drop (n + 1) input))
 cut_at input n within none is =
     ap (slice_split (λ b. b == 10)) (sym (take-append-drop n input)
     ∙ ap (λ bs. take n input ++ bs) (drop_more input n 0 within))
-    ∙ slice_split_at (λ b. b == 10) (take n input) (get_or input n 0) (drop (n + 1) input) none (ap (λ b. b == 10) is)
+    ∙ slice_split_at (λ b. b == 10) (take n input) (get_or input n 0) (drop (n + 1) input)
+    (no_line_feed input n (omega (arith, within)) none) is
     ∙ ap (λ bs. take n input ∷ slice_split (λ b. b == 10) bs)
     (sym (take_all (length input - (n + 1)) (drop (n + 1) input) (omega (arith, length-drop (n + 1) input))))
 

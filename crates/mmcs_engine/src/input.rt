@@ -15,6 +15,7 @@ ghost use Rattle.mmcs_engine.specs.Matrices.{matrix_of_rows};
 
 use crate::fault::Fault;
 use crate::word::Word;
+use memchr::memchr;
 use p3_support::matrix::RowMajorMatrix;
 use std::alloc::{AllocError, Global};
 use std::mem;
@@ -26,44 +27,16 @@ fn is_gap(byte: u8) -> bool
     byte == b' ' || byte == b'\t'
 }
 
-/// Whether a block has a line feed. It tests all bytes without an early exit, so that vector instructions can do it.
-fn has_line_feed(block: &[u8; 16]) -> bool
-    ensures { result ≡ false → All (λ b. (b == 10) ≡ false) block.now }
-{
-    let mut found = false;
-    for byte in block {
-        found |= *byte == b'\n';
-    }
-    found
-}
-
-/// How many bytes at the front stand in blocks without a line feed.
-fn skip_blocks(input: &[u8]) -> usize
-    ensures inside { result ≤ length input.now }
-    ensures none { All (λ b. (b == 10) ≡ false) (take result input.now) }
-{
-    let mut at = 0;
-    while let Some(block) = input[at..].first_chunk::<16>() {
-        if has_line_feed(block) {
-            return at;
-        }
-        at += 16;
-    }
-    at
-}
-
 /// The bytes before the first line feed, and those after it; or all bytes, where there is none.
 pub fn cut_line(input: &[u8]) -> (&[u8], Option<&[u8]>)
     ensures cut { IfSome result.1 (λ rest.
         slice_split (λ b. b == 10) input.now ≡ result.0.now ∷ slice_split (λ b. b == 10) rest.now) }
     ensures last { IfNone result.1 (slice_split (λ b. b == 10) input.now ≡ result.0.now ∷ []) }
 {
-    for at in skip_blocks(input)..input.len() {
-        if input[at] == b'\n' {
-            return (&input[..at], Some(&input[at + 1..]));
-        }
+    match memchr(b'\n', input) {
+        Some(at) => (&input[..at], Some(&input[at + 1..])),
+        None => (input, None),
     }
-    (input, None)
 }
 
 /// Whether the line is empty, or has spaces and tabs alone.

@@ -1,22 +1,18 @@
-use Rattle.std.proofs.Common.{◌≡◌, ◌≤◌, ◌==◌, false, get_or, length, take, arith}
-use Rattle.std.proofs.lemmas.List.{take_all, take_more}
-use Rattle.std.proofs.lemmas.List.Elements.{All-push}
+use Rattle.std.proofs.Common.{◌≡◌, ◌==◌, false, length, arith, subst}
+use Rattle.std.specs.Prelude.{All}
+use Rattle.std.proofs.lemmas.List.{take_all}
 use Rattle.std.proofs.lemmas.List.Splits.{slice_split_none}
 use Rattle.mmcs_engine.proofs.InputFacts.{cut_at, no_line_feed}
 use Rattle.mmcs_engine.proofs.input.cut_line.Goals as goal
 
-pub loop-at-preserved : goal.loop-at-preserved
-loop-at-preserved c =
-    rw (take_more c.args.input.now c.loop-at.at 0 c.loop-at-test.true)
-    (All-push (λ b. (b == 10) ≡ false) (take c.loop-at.at c.args.input.now) (get_or c.args.input.now c.loop-at.at 0)
-    c.loop-at.invariant (no_line_feed _ c.if-input-at-eq10.false))
+pub returns-in-Some-clause-cut : goal.returns-in-Some-clause-cut
+returns-in-Some-clause-cut c =
+    let first = c.in-Some.ensures in
+    cut_at c.args.input.now c.in-Some.at first.0.high first.0.before first.1
 
-pub returns-then-input-at-eq10-clause-cut : goal.returns-then-input-at-eq10-clause-cut
-returns-then-input-at-eq10-clause-cut c = cut_at c.args.input.now c.loop-at.at c.loop-at-test.true c.loop-at.invariant
-    c.if-input-at-eq10.true
-
-pub returns-clause-last : goal.returns-clause-last
-returns-clause-last c =
-    let ended : length c.args.input.now ≤ c.loop-at.at = omega (arith, c.loop-at-test.false) in
-    slice_split_none (λ b. b == 10) c.args.input.now
-    (rw (take_all c.loop-at.at c.args.input.now ended) at c.loop-at.invariant)
+pub returns-in-None-clause-last : goal.returns-in-None-clause-last
+returns-in-None-clause-last c =
+    let input = c.args.input.now in
+    slice_split_none (λ b. b == 10) input
+    (subst (All (λ b. (b == 10) ≡ false)) (take_all (length input) input (omega arith))
+    (no_line_feed input (length input) (omega arith) c.in-None.ensures))

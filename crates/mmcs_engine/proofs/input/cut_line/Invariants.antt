@@ -1,6 +1,0 @@
-use Rattle.std.proofs.Common.{◌≡◌, ◌==◌, false, take}
-use Rattle.std.specs.Prelude.{All}
-use Rattle.mmcs_engine.proofs.input.cut_line.Given as goal
-
-abbrev pub invariant-loop-at : goal.invariant-loop-at
-invariant-loop-at l = All (λ b. (b == 10) ≡ false) (take l.at l.input)
