@@ -55,44 +55,33 @@ func root(size int64) tlog.Hash {
 	return must(tlog.TreeHash(size, reader))
 }
 
-// A question to ANSWERS, and Go's answer.
-type question struct {
-	text    string
-	digests []tlog.Hash
-}
-
 // Roots and proofs of all sizes up to whole, and of random ones.
-func questions(random *rand.Rand) (asked []question) {
-	add := func(size int64, kind string, n int64, digests ...tlog.Hash) {
-		asked = append(asked, question{fmt.Sprint(size, " ", kind, " ", n), digests})
+func compareAnswers(program string, random *rand.Rand) {
+	var input, expected bytes.Buffer
+	asked := 0
+	ask := func(size int64, kind string, n int64, digests ...tlog.Hash) {
+		fmt.Fprintln(&input, size, kind, n)
+		for _, digest := range digests {
+			fmt.Fprintf(&expected, "%x\n", digest[:])
+		}
+		fmt.Fprintln(&expected)
+		asked++
 	}
-	of := func(size int64, indices []int64) {
-		add(size, "root", 0, root(size))
+	askAll := func(size int64, indices []int64) {
+		ask(size, "root", 0, root(size))
 		for _, n := range indices {
-			add(size, "inclusion", n, record(size, n)...)
-			add(size, "consistency", n+1, tree(size, n+1)...)
+			ask(size, "inclusion", n, record(size, n)...)
+			ask(size, "consistency", n+1, tree(size, n+1)...)
 		}
 	}
 	var indices []int64
 	for size := int64(0); size <= whole; size++ {
-		of(size, indices)
+		askAll(size, indices)
 		indices = append(indices, size)
 	}
 	for k := 0; k < sizes; k++ {
 		size := whole + 1 + random.Int63n(most-whole)
-		of(size, []int64{random.Int63n(size), random.Int63n(size), size - 1})
-	}
-	return asked
-}
-
-func compareAnswers(program string, asked []question) {
-	var input, expected bytes.Buffer
-	for _, q := range asked {
-		fmt.Fprintln(&input, q.text)
-		for _, digest := range q.digests {
-			fmt.Fprintf(&expected, "%x\n", digest[:])
-		}
-		fmt.Fprintln(&expected)
+		askAll(size, []int64{random.Int63n(size), random.Int63n(size), size - 1})
 	}
 	command := exec.Command(program)
 	command.Stdin, command.Stderr = &input, os.Stderr
@@ -102,7 +91,7 @@ func compareAnswers(program string, asked []question) {
 			log.Fatalf("line %d of the answers: Go has %q", k+1, line)
 		}
 	}
-	fmt.Printf("%d roots and proofs are Go's\n", len(asked))
+	fmt.Printf("%d roots and proofs are Go's\n", asked)
 }
 
 // A number, or one beside it, or another.
@@ -144,6 +133,7 @@ func of(proof []tlog.Hash) (digests []fohlazu.Digest) {
 	return digests
 }
 
+// Verdicts on proofs of random entries and between random sizes, as they are and damaged.
 func compareVerdicts(random *rand.Rand) {
 	counts := map[string]int{}
 	for k := 0; k < verdicts; {
@@ -195,5 +185,5 @@ func main() {
 		stored = append(stored, must(tlog.StoredHashes(n, entry(n), reader))...)
 	}
 	compareVerdicts(random)
-	compareAnswers(os.Args[1], questions(random))
+	compareAnswers(os.Args[1], random)
 }
