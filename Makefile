@@ -14,7 +14,9 @@ KIT_CHECK := yes
 
 VERSION := $(shell sed -n 's/^pub const VERSION.*"\(.*\)";/\1/p' crates/mmcs_engine/src/lib.rt)
 PROGRAMS := fohlazu mmcs mmcs-verify
-FILES := $(PROGRAMS) libmmcs_verify.a
+WITH_PROGRAMS := $(PROGRAMS) libmmcs_verify.a
+LOGS := libfohlazu.a libfohlazu.so
+FILES := $(WITH_PROGRAMS) $(LOGS)
 CPUS := x86-64-v2 x86-64-v3
 QUICK := $(PROGRAMS:%=build/quick/%)
 LIBRARIES := build/libraries.tar.zst
@@ -32,8 +34,9 @@ TO = $(DESTDIR)$(PREFIX)
 FROM := build
 INSTALLED := $(PROGRAMS:%=bin/%) $(PROGRAMS:%=share/man/man1/%.1)
 INSTALLED += $(PROGRAMS:%=share/bash-completion/completions/%) $(addprefix share/zsh/site-functions/_,fohlazu mmcs)
-INSTALLED_LIBRARY := lib/libmmcs_verify.a lib/pkgconfig/mmcs_verify.pc include/mmcs_verify.h include/fohlazu.h
-LIBRARY := $(addsuffix /libmmcs_verify.a,$(filter-out build/quick,$(FROM)))
+INSTALLED_LIBRARY := $(addprefix lib/,libmmcs_verify.a $(LOGS))
+INSTALLED_LIBRARY += $(foreach name,mmcs_verify fohlazu,lib/pkgconfig/$(name).pc include/$(name).h)
+LIBRARY := $(foreach folder,$(filter-out build/quick,$(FROM)),$(addprefix $(folder)/,libmmcs_verify.a $(LOGS)))
 
 # What crates are built from, with those that they stand on: a folder is newer where a file went.
 sources_of = crates.txt $(shell find $(patsubst %,crates/%,$(shell sh tests/crates $(1))) -name out -prune -o $(2) -print)
@@ -69,9 +72,14 @@ $(QUICK) &: tools/quick $(call sources_of,fohlazu mmcs mmcs_verify,$(CODE))
 	$(kit)
 	@bash tools/quick build/quick $(PROGRAMS)
 
-$(addprefix build/x86-64-%/,$(FILES)): tools/build $(call sources_of,fohlazu mmcs mmcs_verify mmcs_verify_c,$(ALL))
+$(addprefix build/x86-64-%/,$(WITH_PROGRAMS)): tools/build \
+    $(call sources_of,fohlazu mmcs mmcs_verify mmcs_verify_c,$(ALL))
 	$(kit)
 	@bash tools/build programs x86-64-$*
+
+$(addprefix build/x86-64-%/,$(LOGS)): tools/build $(call sources_of,fohlazu_c,$(ALL))
+	$(kit)
+	@bash tools/build logs x86-64-$*
 
 $(FILES:%=build/%): build/%: build/$(CPU)/% build/cpu
 	@cp $< build/partial && mv -f build/partial $@
@@ -110,8 +118,10 @@ install: $(PROGRAMS:%=$(FROM)/%) $(LIBRARY)
 	@for name in fohlazu mmcs; do install -Dm 644 "share/$$name.zsh" "$(TO)/share/zsh/site-functions/_$$name"; done
 ifdef LIBRARY
 	@install -Dm 644 -t "$(TO)/lib" $(LIBRARY)
-	@install -Dm 644 -t "$(TO)/include" examples/c/mmcs_verify.h examples/c/fohlazu.h
-	@install -Dm 644 <(sed 's/@VERSION@/$(VERSION)/' share/mmcs_verify.pc) "$(TO)/lib/pkgconfig/mmcs_verify.pc"
+	@for name in mmcs_verify fohlazu; do \
+	  install -Dm 644 -t "$(TO)/include" "examples/c/$$name.h"; \
+	  install -Dm 644 <(sed 's/@VERSION@/$(VERSION)/' "share/$$name.pc") "$(TO)/lib/pkgconfig/$$name.pc"; \
+	done
 endif
 	@printf '%s\n' $(patsubst %,"$(TO)/%",$(INSTALLED) $(if $(LIBRARY),$(INSTALLED_LIBRARY)))
 
@@ -128,15 +138,16 @@ clean:
 help:
 	@sed -n 's/^#: \{0,1\}//p' Makefile
 
-#: make              the programs and the library for C, proved, for this processor, in build/: about an hour of
-#:                   processor time the first time. CPU=x86-64-v2 or CPU=x86-64-v3 names another processor
+#: make              the programs and the libraries for C, proved, for this processor, in build/: about an hour of
+#:                   processor time the first time. CPU=x86-64-v2 or CPU=x86-64-v3 names another processor.
+#:                   `make build/libfohlazu.a` proves the verifiers of logs alone, in minutes
 #: make quick        the programs with no proof, in build/quick/: two minutes
 #: make check-quick  what can be tried with no proof: documents, tests, stored runs, exchanges; 15 minutes
 #: make check        the gate: documents, then every proof, test and refused edit; 80 to 170 processor minutes
 #: make libraries    the proved libraries, for share/rattle-with: a crate over them is checked in a minute
 #: make dist         archives of the programs and of the libraries, with their checksums, in build/dist/
 #: make documents    compares docs/ with the sources: seconds
-#: make install      the programs, manual pages, completions and the library for C, below $DESTDIR$PREFIX; PREFIX is
+#: make install      the programs, manual pages, completions and the libraries for C, below $DESTDIR$PREFIX; PREFIX is
 #:                   /usr/local if it is not given. FROM=build/quick installs what has no proof
 #: make uninstall    removes what was installed there
 #: make bench        the benchmark; PARTS names parts of it (docs/PERFORMANCE.md)

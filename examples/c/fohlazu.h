@@ -1,40 +1,45 @@
-/* The verifiers of the program fohlazu, as calls. The library is that of mmcs_verify.h. */
+/* Verifiers of logs as RFC 9162 has them, as Go's checksum database, Sigstore and Sigsum keep them. They take no memory
+ * and keep nothing, so any threads may call them at once. */
 #ifndef FOHLAZU_H
 #define FOHLAZU_H
 
 #include <stddef.h>
 #include <stdint.h>
 
-/* What the calls return. */
+#ifdef __cplusplus
+extern "C" {
+#endif
+
+/* What a verifier returns: 0, or the first of the other reasons that applies. */
 enum {
-  FOHLAZU_ACCEPTED = 0,       /* the proof is accepted */
-  FOHLAZU_REFUSED = 1,        /* it is refused, or a line of it is faulty; the text says why */
-  FOHLAZU_MALFORMED_SEAL = 2, /* a line of a seal is faulty; the text says which */
-  FOHLAZU_OUT_OF_MEMORY = 3   /* there is no memory */
+  FOHLAZU_ACCEPTED = 0,          /* the proof is accepted */
+  FOHLAZU_SIZE_TOO_LARGE = 1,    /* a size is above 2^62 */
+  FOHLAZU_INDEX_PAST_END = 2,    /* the index is not below the size */
+  FOHLAZU_SMALLER_NEW_SIZE = 3,  /* the new size is below the old one */
+  FOHLAZU_TOO_FEW_DIGESTS = 4,   /* the proof ends before it leads to a root */
+  FOHLAZU_TOO_MANY_DIGESTS = 5,  /* the proof leads to a root before it ends */
+  FOHLAZU_OLD_ROOT_MISMATCH = 6, /* the proof leads to another old root */
+  FOHLAZU_ROOT_MISMATCH = 7      /* the proof leads to another root, in a proof of consistency another new one */
 };
 
-/* Verifies a proof of entries: the seal is what `fohlazu seal` printed, and the proof what `fohlazu prove` printed.
- * numbers has the numbers of the entries that were asked for, from 1 on: the proof has to be of these entries, in this
- * order, and of no others. A proof of no entries is accepted under any seal: make sure that numbers is not empty. The
- * seal and the numbers are the verifier's own knowledge. No pointer may be null, also where a length is 0, and no two
- * of text, size and what is only read may overlap.
- *
- * If the proof is accepted, the text is the entries, as the program prints them: lines with a line feed each, blocks as
- * they are. Else it is one line that says why not, and begins with what is at fault, `seal: ` or `proof: `. So look at
- * the status first. As much of the text as there is room for goes to text, without a zero byte behind it; all of it has
- * *size bytes, and a call that is made again with so much room gives all of it. The entries are shorter than the proof.
- * Status 3 has no text. Nothing that is allocated is kept. */
-uint8_t fohlazu_verify(const uint8_t *seal, size_t seal_length, const uint8_t *proof, size_t proof_length,
-                       const size_t *numbers, size_t numbers_length, uint8_t *text, size_t text_length, size_t *size);
+/* A digest has 32 bytes, and proof_length counts digests. No pointer may be null, also where a length is 0. What a
+ * verifier says holds of a log only if the root is of one: sizes and roots are the caller's own knowledge. */
 
-/* Verifies that the file of a new seal begins with the entries of an old one: the proof is what
- * `fohlazu prove-consistency` printed. Both seals are the verifier's own knowledge. Pointers and room are as above.
- *
- * If the proof is accepted, the text is the line `ok OLD NEW`, with how many entries both seals have. Else it is one
- * line that says why not, and begins with `seal: `, if the old one is at fault, `new seal: ` or `proof: `. Seals that
- * cannot be compared are refused, and so is a new one with fewer entries. */
-uint8_t fohlazu_verify_consistency(const uint8_t *old_seal, size_t old_seal_length, const uint8_t *new_seal,
-                                   size_t new_seal_length, const uint8_t *proof, size_t proof_length, uint8_t *text,
-                                   size_t text_length, size_t *size);
+/* Verifies that the log of size entries under root has the leaf hash leaf at index, which counts from 0 (RFC 9162,
+ * 2.1.3.2). */
+int fohlazu_verify_inclusion(uint64_t index, uint64_t size, const uint8_t leaf[32], const uint8_t (*proof)[32],
+                             size_t proof_length, const uint8_t root[32]);
+
+/* Verifies that the log of new_size entries under new_root begins with the old_size entries under old_root (RFC 9162,
+ * 2.1.4.2). From size 0, whose root is SHA-256 of nothing, and between equal sizes there are no digests. */
+int fohlazu_verify_consistency(uint64_t old_size, uint64_t new_size, const uint8_t (*proof)[32], size_t proof_length,
+                               const uint8_t old_root[32], const uint8_t new_root[32]);
+
+/* Writes the leaf hash of an entry: SHA-256 of a byte 0 and the entry (RFC 9162, 2.1.1). leaf may not overlap it. */
+void fohlazu_leaf_hash(const uint8_t *entry, size_t length, uint8_t leaf[32]);
+
+#ifdef __cplusplus
+}
+#endif
 
 #endif

@@ -1,8 +1,6 @@
-//! The verifiers of `mmcs_verify` and `fohlazu` as a static library for C: `examples/c/mmcs_verify.h` and
-//! `examples/c/fohlazu.h` declare its calls.
+//! The verifier of `mmcs_verify` as a static library for C: `examples/c/mmcs_verify.h` declares its call.
 #![tactic(auto)]
 
 mod buffer;
 pub mod call;
-pub mod files;
 pub mod setting;

@@ -19,7 +19,7 @@ fn entries(alloc: Global, count: u8) -> Result<Vec<Vec<u8>>, AllocError> {
 }
 
 /// The first four bytes.
-fn prefix(digest: &[u8; 32]) -> [u8; 4] {
+pub fn prefix(digest: &[u8; 32]) -> [u8; 4] {
     [digest[0], digest[1], digest[2], digest[3]]
 }
 

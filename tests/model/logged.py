@@ -1,0 +1,72 @@
+"""Random questions to the verifiers of logs: honest proofs, and these damaged, of other sizes, indices, leaves and
+roots; and proofs of any sizes whose root is computed from random digests, which are accepted as well."""
+
+import logs
+from logs import MOST, Log
+
+SIZES = [0, 1, 2, MOST - 1, MOST, MOST + 1, (1 << 63) + 1, (1 << 64) - 1]
+
+
+def digests(rng, count):
+    return [rng.randbytes(32) for _ in range(count)]
+
+
+def near(rng, number):
+    """A number, or one beside it, or any."""
+    kind = rng.randrange(8)
+    if kind == 0:
+        return rng.choice(SIZES)
+    return max(0, number + (rng.choice([-1, 1, 2, number]) if kind < 3 else 0))
+
+
+def damaged(rng, proof, pool):
+    """A proof with a digest or two dropped, put in, replaced or moved; or as it was."""
+    proof = list(proof)
+    for _ in range(rng.choice([0, 0, 1, 1, 2])):
+        kind = rng.randrange(4)
+        if kind == 0:
+            proof.insert(rng.randint(0, len(proof)), rng.choice(pool))
+        elif proof and kind == 1:
+            proof.pop(rng.randrange(len(proof)))
+        elif proof and kind == 2:
+            proof[rng.randrange(len(proof))] = rng.choice(pool)
+        elif proof:
+            proof.append(proof.pop(rng.randrange(len(proof))))
+    return proof
+
+
+def of_a_log(rng, log):
+    """A question about a log of entries."""
+    size = rng.randint(1, len(log.leaves))
+    root, pool = log.root(0, size), [*log.leaves, *log.roots.values(), *digests(rng, 1)]
+    other = rng.choice(pool) if rng.randrange(6) == 0 else None
+    if rng.randrange(2):
+        index = rng.randrange(size)
+        proof = damaged(rng, log.path(index, 0, size), pool)
+        return "inclusion", near(rng, index), near(rng, size), other or log.leaves[index], proof, root
+    old = rng.randint(0, size)
+    proof = damaged(rng, log.subproof(old, 0, size, True) if old else [], pool)
+    roots = [log.root(0, old), root]
+    if other:
+        roots[rng.randrange(2)] = other
+    return "consistency", near(rng, old), near(rng, size), proof, *roots
+
+
+def sown(rng):
+    """A question about random digests, which lead to a root."""
+    size = rng.choice([rng.randint(1, 40), rng.randint(1, MOST), rng.choice(SIZES[1:5])])
+    if rng.randrange(2):
+        index = rng.randrange(size)
+        leaf, *proof = digests(rng, 1 + logs.path_length(index, size))
+        return "inclusion", index, size, leaf, proof, logs.root_of_path(index, size, leaf, proof)
+    old = rng.randint(1, size)
+    known, *proof = digests(rng, 1 + logs.subproof_length(old, size, True))
+    return "consistency", old, size, proof, *logs.roots_of_subproof(old, size, known, proof)
+
+
+def questions(rng):
+    """Questions without end."""
+    while True:
+        log = Log([rng.randbytes(rng.randrange(70)) for _ in range(rng.choice([3, 10, 70, 300]))])
+        for _ in range(100):
+            yield of_a_log(rng, log) if rng.randrange(4) else sown(rng)
