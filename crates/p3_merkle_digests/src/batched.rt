@@ -37,97 +37,10 @@ pub(crate) fn row_len<T: Copy, M: Matrix<T>>(matrices: &[M]) -> Result<usize, Al
     Ok(len)
 }
 
-/// The `count` rows from `first` on as one slice, row after row, if there is only one matrix and it has them in one
-/// piece. Each matrix has `height` rows, and `first + count` is at most `height`.
-pub(crate) fn contiguous_rows<T: Copy, M: Matrix<T>>(
-    matrices: &[M],
-    height: usize,
-    first: usize,
-    count: usize,
-) -> Option<&[T]>
-    requires heights { All (λ m. M.height_of m ≡ height) matrices.now }
-    requires inside { first + count ≤ height }
-    ensures { let rows = λ (j : ℕ). rows_over M.row_of matrices.now (first + j) in
-        IfSome result (λ words. IsStaged rows count words.now) }
-{
-    let [matrix] = matrices else {
-        return None;
-    };
-    matrix.row_chunk(first, count)
-}
-
-/// Copies a row of a matrix into its place, which has as many words.
-fn put_row<T: Copy, M: Matrix<T>>(place: &mut [T], matrix: &M, row: usize)
-    requires row { row < M.height_of matrix.now }
-    requires place { length place.old ≡ M.width_of matrix.now }
-    ensures { place.new ≡ M.row_of matrix.now row }
-{
-    if let Some((left, right)) = matrix.row_halves(row) {
-        place[..left.len()].copy_from_slice(left);
-        place[left.len()..].copy_from_slice(right);
-        return;
-    }
-    for column in 0..place.len() {
-        place[column] = matrix.get(row, column);
-    }
-}
-
-/// Copies row `first + j` of a matrix into row `j` of the staged ones, from word `offset` on, for each `j` below
-/// `count`. There are `count` staged rows, of `len` words each. The words of a row before `offset` stay.
-fn put_rows<T: Copy, M: Matrix<T>>(
-    staged: &mut [T],
-    len: usize,
-    offset: usize,
-    matrix: &M,
-    first: usize,
-    count: usize,
-)
-    requires rows { first + count ≤ M.height_of matrix.now }
-    requires staged { length staged.old ≡ count * len }
-    requires fits { offset + M.width_of matrix.now ≤ len }
-    ensures long { length staged.new ≡ length staged.old }
-    ensures put { (d : T) → (j c : ℕ) → j < count → c < M.width_of matrix.now →
-        slice_index_or staged.new (j * len + (offset + c)) d ≡ slice_index_or (M.row_of matrix.now (first + j)) c d }
-    ensures kept { (d : T) → (j c : ℕ) → j < count → c < offset →
-        slice_index_or staged.new (j * len + c) d ≡ slice_index_or staged.old (j * len + c) d }
-{
-    // The height is a usize, and so is the index of each row.
-    let _height = matrix.height();
-    let width = matrix.width();
-    for j in 0..count {
-        let start = j * len + offset;
-        put_row(&mut staged[start..start + width], matrix, first + j);
-    }
-}
-
-/// Copies `count` rows of the matrices from `first` on into the staged ones, matrix by matrix. The matrices all have
-/// this height, `first + count` is at most that, and a row has `len` words.
-fn put_matrices<T: Copy, M: Matrix<T>>(
-    staged: &mut [T],
-    len: usize,
-    matrices: &[M],
-    height: usize,
-    first: usize,
-    count: usize,
-)
-    requires heights { All (λ m. M.height_of m ≡ height) matrices.now }
-    requires inside { first + count ≤ height }
-    requires len { len ≡ sum_by M.width_of matrices.now }
-    requires staged { length staged.old ≡ count * len }
-    ensures { let rows = λ (j : ℕ). rows_over M.row_of matrices.now (first + j) in
-        IsStaged rows count staged.new }
-{
-    let mut offset = 0;
-    for matrix in matrices {
-        put_rows(staged, len, offset, matrix, first, count);
-        offset += matrix.width();
-    }
-}
-
-/// The words of `count` rows of the matrices from `first` on, one row after another: a slice of the matrix if there is
-/// only one and it has these rows in one piece, else a copy in `staged`. The matrices all have this height, a row has
-/// `len` words, and `first + count` is at most the height.
-pub(crate) fn words_of_rows<'b, T: Copy + Default, M: Matrix<T>>(
+/// The words of `count` rows of the matrices from `first` on, one row after another: a piece of the matrix if there is
+/// only one and it has these rows in one, else a copy in `staged`. The matrices all have this height, a row has `len`
+/// words, and `first + count` is at most the height.
+pub(crate) fn words_of_rows<'b, T: Copy, M: Matrix<T>>(
     staged: &'b mut Vec<T>,
     matrices: &'b [M],
     height: usize,
@@ -137,16 +50,25 @@ pub(crate) fn words_of_rows<'b, T: Copy + Default, M: Matrix<T>>(
 ) -> Result<&'b [T], AllocError>
     requires heights { All (λ m. M.height_of m ≡ height) matrices.now }
     requires len { len ≡ sum_by M.width_of matrices.now }
+    requires some { 0 < count }
     requires inside { first + count ≤ height }
     ensures { let rows = λ (j : ℕ). rows_over M.row_of matrices.now (first + j) in
         IfOk result (λ words. IsStaged rows count words.now) }
 {
-    if let Some(words) = contiguous_rows(matrices, height, first, count) {
-        return Ok(words);
-    }
     let words = len.checked_mul(count).ok_or(AllocError)?;
-    staged.resize(words, T::default())?;
-    put_matrices(staged, len, matrices, height, first, count);
+    if let [matrix] = matrices {
+        let piece = matrix.piece(first, 0);
+        if words <= piece.len() {
+            return Ok(&piece[..words]);
+        }
+    }
+    staged.clear();
+    staged.reserve(words)?;
+    for row in first..first + count {
+        for matrix in matrices {
+            matrix.append_row(row, staged)?;
+        }
+    }
     Ok(staged.as_slice())
 }
 

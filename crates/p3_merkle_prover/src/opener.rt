@@ -20,9 +20,6 @@ use p3_support::matrix::Matrix;
 use p3_support::opening::MerkleCap;
 use std::alloc::{AllocError, Global};
 
-/// So many words of a row, or fewer, are copied one by one.
-const FEW_WORDS: usize = 4;
-
 /// The steps of a tree, from the leaves to the root, as it keeps them.
 pub fn steps_in<F, X, G, M: Matrix<F>, const N: usize>(tree: &Tree<F, X, G, M, N>) -> Steps<'_>
     ensures { shape_of result.arity result.dimensions.now ≡ shape (tree_batch tree.now) }
@@ -72,7 +69,9 @@ pub fn rows_of_index<F: Copy, X, G, M: Matrix<F>, const N: usize>(
     let mut rows = Vec::with_capacity(alloc, tree.matrices.len())?;
     for matrix in &tree.matrices {
         let row = index >> bits_reduced_of(max_height, matrix.height());
-        rows.push_reserved(words_of_row(alloc, matrix, row)?);
+        let mut words = Vec::with_capacity(alloc, matrix.width())?;
+        matrix.append_row(row, &mut words)?;
+        rows.push_reserved(words);
     }
     Ok(rows)
 }
@@ -129,41 +128,4 @@ pub fn siblings_of_index<F, X: Copy, G, M: Matrix<F>, const N: usize>(
         node = parent_of(node, step);
     }
     Ok(siblings)
-}
-
-/// The words of a row.
-fn words_of_row<F: Copy, M: Matrix<F>>(
-    alloc: Global,
-    matrix: &M,
-    row: usize,
-) -> Result<Vec<F>, AllocError>
-    requires { row < M.height_of matrix.now }
-    ensures { IfOk result (λ words. words.items ≡ M.row_of matrix.now row) }
-{
-    if let Some(words) = matrix.row_slice(row) {
-        return copy_of(alloc, words);
-    }
-    let mut words = Vec::with_capacity(alloc, matrix.width())?;
-    if let Some((left, right)) = matrix.row_halves(row) {
-        words.extend_from_slice(left)?;
-        words.extend_from_slice(right)?;
-        return Ok(words);
-    }
-    words.extend(matrix.row(row))?;
-    Ok(words)
-}
-
-/// A copy of some words.
-fn copy_of<F: Copy>(alloc: Global, words: &[F]) -> Result<Vec<F>, AllocError>
-    ensures { IfOk result (λ copy. copy.items ≡ words.now) }
-{
-    // A call that copies so few words takes longer.
-    if words.len() > FEW_WORDS {
-        return Vec::from_slice(alloc, words);
-    }
-    let mut copy = Vec::with_capacity(alloc, words.len())?;
-    for word in words {
-        copy.push_reserved(*word);
-    }
-    Ok(copy)
 }
