@@ -20,6 +20,9 @@ use p3_support::matrix::Matrix;
 use p3_support::opening::MerkleCap;
 use std::alloc::{AllocError, Global};
 
+/// So many words of a row, or fewer, are copied one by one.
+const FEW_WORDS: usize = 4;
+
 /// The steps of a tree, from the leaves to the root, as it keeps them.
 pub fn steps_in<F, X, G, M: Matrix<F>, const N: usize>(tree: &Tree<F, X, G, M, N>) -> Steps<'_>
     ensures { shape_of result.arity result.dimensions.now ≡ shape (tree_batch tree.now) }
@@ -69,9 +72,7 @@ pub fn rows_of_index<F: Copy, X, G, M: Matrix<F>, const N: usize>(
     let mut rows = Vec::with_capacity(alloc, tree.matrices.len())?;
     for matrix in &tree.matrices {
         let row = index >> bits_reduced_of(max_height, matrix.height());
-        let mut words = Vec::with_capacity(alloc, matrix.width())?;
-        matrix.append_row(row, &mut words)?;
-        rows.push_reserved(words);
+        rows.push_reserved(words_of_row(alloc, matrix, row)?);
     }
     Ok(rows)
 }
@@ -128,4 +129,24 @@ pub fn siblings_of_index<F, X: Copy, G, M: Matrix<F>, const N: usize>(
         node = parent_of(node, step);
     }
     Ok(siblings)
+}
+
+/// The words of a row.
+fn words_of_row<F: Copy, M: Matrix<F>>(
+    alloc: Global,
+    matrix: &M,
+    row: usize,
+) -> Result<Vec<F>, AllocError>
+    requires { row < M.height_of matrix.now }
+    ensures { IfOk result (λ words. words.items ≡ M.row_of matrix.now row) }
+{
+    let width = matrix.width();
+    let mut words = Vec::with_capacity(alloc, width)?;
+    if width > FEW_WORDS {
+        matrix.append_row(row, &mut words)?;
+        return Ok(words);
+    }
+    // A call that copies so few words takes longer.
+    words.extend(matrix.row(row))?;
+    Ok(words)
 }
