@@ -147,6 +147,8 @@ fn words_of_row<F: Copy, M: Matrix<F>>(
         return Ok(words);
     }
     // A call that copies so few words takes longer.
-    words.extend(matrix.row(row))?;
+    for column in 0..width {
+        words.push_reserved(matrix.get(row, column));
+    }
     Ok(words)
 }
