@@ -76,12 +76,8 @@ impl Matrix<u8> for DigestRows {
         self.digests[row][column]
     }
 
-    fn row_slice(&self, row: usize) -> Option<&[u8]> {
-        Some(&self.digests[row])
-    }
-
-    fn row_chunk(&self, first: usize, count: usize) -> Option<&[u8]> {
-        Some(self.digests[first..first + count].as_flattened())
+    fn piece(&self, row: usize, column: usize) -> &[u8] {
+        &self.digests[row..].as_flattened()[column..]
     }
 
     ghost length_row_of = { λ m row below. m.full row [] below };

@@ -1,116 +1,101 @@
 -- Messages that are laid one after another, and slots that are filled part by part.
 use Rattle.std.proofs.Common.{◌≡◌, ℕ, zero, suc, ◌+◌, ◌-◌, ◌*◌, ◌/◌, ◌<◌, ◌≤◌, List, [], ◌∷◌, ◌++◌, length, map, take}
-use Rattle.std.proofs.Common.{drop, get_or, replicate, All, refl, sym, ap, subst, add-one, ◌∙◌, arith, inl, inr}
-use Rattle.std.proofs.Common.{length-append, length-drop, length-take, append-nil}
+use Rattle.std.proofs.Common.{drop, get_or, replicate, All, refl, sym, ap, ◌∙◌, arith, inl, inr}
+use Rattle.std.proofs.Common.{length-append, length-drop, length-take, append-nil, append_assoc}
 use Rattle.std.specs.List.{flat_map, range_with_len}
 use Rattle.std.specs.Prelude.{sum_by}
 use Rattle.std.specs.Simd.{first_chunks}
 use Rattle.std.proofs.lemmas.Bool.{cases_lt, cases_eq}
-use Rattle.std.proofs.lemmas.List.{drop_at, take_all, take-append-le, drop-append-le, get_or-append_right, get_or-drop}
-use Rattle.std.proofs.lemmas.List.{get_or-take, drop-drop, flat_map_more, length-take-le, length-map, get_or-map}
-use Rattle.std.proofs.lemmas.List.{get_or_append_left, same_lists}
+use Rattle.std.proofs.lemmas.List.{get_or-append_right, get_or-drop, get_or-take, drop-drop, length-take-le, length-map}
+use Rattle.std.proofs.lemmas.List.{get_or-map, get_or_append_left, same_lists, take_at}
 use Rattle.std.proofs.lemmas.List.FromFn.{fill_by_all, get_or-map-range_with_len, length-map-range_with_len}
-use Rattle.std.proofs.lemmas.List.Recursion.{is_sum_by}
+use Rattle.std.proofs.lemmas.List.Sums.{sum_by-cons}
+use Rattle.std.proofs.Math.Seq.{drop-append-add}
 use Rattle.std.proofs.lemmas.Simd.{map-map}
 use Rattle.std.proofs.Math.Nat.{mul-le-mul_left, mul-le-mul_right, mul_comm, mul-suc}
 use Rattle.p3_support.specs.Lists.{message, messages}
 use Rattle.p3_support.specs.Inner.RowLengths.{next_start}
 use Rattle.p3_merkle_digests.specs.Inner.Slots.{rows_over, IsFilled, IsStaged}
-use Rattle.p3_merkle_digests.proofs.LaneFacts.{group_end, part_written, part_before, rows_alone}
+use Rattle.p3_merkle_digests.proofs.LaneFacts.{group_end, part_written, part_before}
 use borrow.Rule.Slice.PartMut.{put_mid, same_len_mid}
 
--- messages that are there stay
-message_kept : {A : Type 0} (xs ys : List A) (w i j : ℕ) → length xs ≡ i * w → j < i → message w (xs ++ ys) j
-    ≡ message w xs j
-message_kept xs ys w i j long below =
-    let fits : (j + 1) * w ≤ i * w = mul-le-mul_right w (omega arith) in
-    let more = next_start j w in
-    let start : j * w ≤ length xs = omega (arith, long, fits, more) in
-    let k : ℕ = (j + 1) * w - j * w in
-    let enough : k ≤ length (drop (j * w) xs) = omega (arith, length-drop (j * w) xs, long, fits, more) in
-    ap (λ l. take k l) (drop-append-le (j * w) xs ys start) ∙ take-append-le k (drop (j * w) xs) ys enough
+-- n rows of w elements, one after another
+module _ {A : Type 0} (row : ℕ → List A) (w : ℕ) where
+  length-rows : (a n : ℕ) → ((r : ℕ) → r < a + n → length (row r) ≡ w) → length (flat_map row (range_with_len a n))
+      ≡ w * n
+  length-rows a zero wide = omega arith
+  length-rows a (suc n) wide =
+      length-append (row a) (flat_map row (range_with_len (a + 1) n))
+      ∙ omega (
+        arith,
+        wide a (omega arith),
+        length-rows (a + 1) n (λ r below. wide r (omega arith)),
+        mul-suc w n,
+      )
 
--- one that is added is the next
-message_new : {A : Type 0} (xs ys : List A) (w i : ℕ) → length xs ≡ i * w → length ys ≡ w → message w (xs ++ ys) i ≡ ys
-message_new xs ys w i long width =
-    let k : ℕ = (i + 1) * w - i * w in
-    ap (λ l. take k l) (drop_at xs ys (i * w) long) ∙ take_all k ys (omega (arith, next_start i w, width))
+  -- what stands in place j of them
+  row_at : (a n j : ℕ) → ((r : ℕ) → r < a + n → length (row r) ≡ w) → j < n →
+      message w (flat_map row (range_with_len a n)) j ≡ row (a + j)
+  row_at a zero j wide below = absurd (omega arith)
+  row_at a (suc n) zero wide below =
+      let later = flat_map row (range_with_len (a + 1) n) in
+      let start : 0 * w ≡ 0 = omega arith in
+      let count : (0 + 1) * w - 0 * w ≡ w = omega arith in
+      let here : a + 0 ≡ a = omega arith in
+      rw (count, start, here) (take_at (row a) later w (wide a (omega arith)))
+  row_at a (suc n) (suc j) wide below =
+      let later = flat_map row (range_with_len (a + 1) n) in
+      let k : ℕ = (suc j + 1) * w - suc j * w in
+      let same : k ≡ (j + 1) * w - j * w = omega (arith, next_start j w, next_start (suc j) w) in
+      let past : suc j * w ≡ length (row a) + j * w = omega (arith, wide a (omega arith), next_start j w) in
+      ap (λ i. take k (drop i (row a ++ later))) past
+      ∙ ap (take k) (drop-append-add (row a) later (j * w))
+      ∙ ap (λ i. take i (drop (j * w) later)) same
+      ∙ row_at (a + 1) n j (λ r h. wide r (omega (arith, h))) (omega arith)
+      ∙ ap row (omega arith)
 
--- so far, i messages of w words each are laid one after another
-pub record IsStagedTo {A : Type 0} (f : ℕ → List A) (w i : ℕ) (xs : List A) : Type 0 where
-  pub long : length xs ≡ i * w
-  pub each : (j : ℕ) → j < i → message w xs j ≡ f j
+  -- so they are staged
+  pub staged_rows : (f : ℕ → List A) (a n : ℕ) → ((r : ℕ) → r < a + n → length (row r) ≡ w) →
+      ((j : ℕ) → j < n → row (a + j) ≡ f j) → IsStaged f n (flat_map row (range_with_len a n))
+  staged_rows f a n wide are =
+      let xs = flat_map row (range_with_len a n) in
+      record {
+        width = w;
+        long = length-rows a n wide;
+        are = fill_by_all f (messages w n xs) n [] (length-map-range_with_len (message w xs) 0 n)
+            (λ j below. get_or-map-range_with_len (message w xs) 0 n j j [] below (omega arith)
+            ∙ row_at a n j wide below ∙ are j below);
+      }
 
--- one more message
-pub staged_more : {A : Type 0} (f : ℕ → List A) (xs ys : List A) (w i : ℕ) → IsStagedTo f w i xs → length ys ≡ w → ys
-    ≡ f i → IsStagedTo f w (i + 1) (xs ++ ys)
-staged_more f xs ys w i s width is =
-    record {
-      long = omega (arith, length-append xs ys, s.long, next_start i w, width);
-      each = λ j below. elim (cases_eq j i) [
-        | inl same ↦ rw same (message_new xs ys w i s.long width ∙ is)
-        | inr other ↦ let low : j < i = omega (arith, below, other) in message_kept xs ys w i j s.long low
-            ∙ s.each j low
-      ];
-    }
-
--- and then all are staged
-pub staged_all : {A : Type 0} (f : ℕ → List A) (xs : List A) (w i n : ℕ) → IsStagedTo f w i xs → i ≡ n → IsStaged f n xs
-staged_all f xs w i n s e =
-    record {
-      width = w;
-      long = s.long ∙ ap (λ k. k * w) e ∙ mul_comm n w;
-      are = fill_by_all f (messages w n xs) n [] (length-map-range_with_len (message w xs) 0 n)
-          (λ k h. get_or-map-range_with_len (message w xs) 0 n k k [] h (omega arith) ∙ s.each k (omega arith));
-    }
-
--- one more number at the end
-range_more : (a n : ℕ) → range_with_len a (suc n) ≡ range_with_len a n ++ (a + n) ∷ []
-range_more a zero = ap (λ k. k ∷ []) (omega arith)
-range_more a (suc n) =
-    ap (λ l. a ∷ l) (range_more (a + 1) n ∙ ap (λ k. range_with_len (a + 1) n ++ k ∷ []) (omega arith))
-
--- rows that stand one after another as they are
-staged_rows : {A : Type 0} (row f : ℕ → List A) (w a n : ℕ) → ((j : ℕ) → j < n → length (row (a + j)) ≡ w) →
-    ((j : ℕ) → j < n → row (a + j) ≡ f j) → IsStagedTo f w n (flat_map row (range_with_len a n))
-staged_rows row f w a zero long are = record { long = omega arith; each = λ j none. absurd (omega (arith, none)) }
-staged_rows row f w a (suc n) long are =
-    let ys = flat_map row (range_with_len a n) in
-    let before = staged_rows row f w a n (λ j h. long j (omega (arith, h))) (λ j h. are j (omega (arith, h))) in
-    let words : flat_map row (range_with_len a (suc n)) ≡ ys ++ row (a + n) = ap (flat_map row) (range_more a n)
-    ∙ sym (flat_map_more row [] (range_with_len a n) (a + n)) in
-    let more : IsStagedTo f w (suc n) (ys ++ row (a + n)) =
-    subst (λ (k : ℕ). IsStagedTo f w k (ys ++ row (a + n))) (add-one n)
-    (staged_more f ys (row (a + n)) w n before (long n (omega arith)) (are n (omega arith))) in
-    rw words more
-
--- how wide the matrices are together
-abbrev pub all_widths : {M : Type 0} → (M → ℕ) → List M → ℕ
-all_widths width [] = 0
-all_widths width (m ∷ ms) = width m + all_widths width ms
-
--- so many elements has each row of all
-pub length-rows : {A M : Type 0} (height width : M → ℕ) (row : M → ℕ → List A) (h : ℕ) →
+-- so many elements has a row of each of the matrices together
+length-all : {A M : Type 0} (height width : M → ℕ) (row : M → ℕ → List A) (h : ℕ) →
     ((m : M) (r : ℕ) → r < height m → length (row m r) ≡ width m) → (r : ℕ) → r < h → (ms : List M) →
-    All (λ m. height m ≡ h) ms → length (rows_over row ms r) ≡ all_widths width ms
-length-rows height width row h each r below [] all = refl
-length-rows height width row h each r below (m ∷ ms) all =
-    let rest = length-rows height width row h each r below ms (λ k d b. all (suc k) d (omega arith)) in
+    All (λ m. height m ≡ h) ms → length (rows_over row ms r) ≡ sum_by width ms
+length-all height width row h each r below [] all = refl
+length-all height width row h each r below (m ∷ ms) all =
+    let rest = length-all height width row h each r below ms (λ k d b. all (suc k) d (omega arith)) in
     let same : height m ≡ h = all 0 m (omega arith) in
-    let long : length (rows_over row (m ∷ ms) r)
-    ≡ length (row m r) + length (rows_over row ms r) = length-append (row m r) (rows_over row ms r) in
-    omega (arith, long, each m r (rw same below), rest)
+    length-append (row m r) (rows_over row ms r)
+    ∙ omega (arith, each m r (rw same below), rest, sum_by-cons width m ms)
 
--- those of a matrix that stands alone
-pub staged_alone : {A M : Type 0} (height width : M → ℕ) (row : M → ℕ → List A) (h a n : ℕ) (ms : List M) (m : M)
-    (xs : List A) → ((m : M) (r : ℕ) → r < height m → length (row m r) ≡ width m)
-    → length ms ≡ 1 → m ≡ get_or ms 0 m → height m ≡ h → a + n ≤ h → xs ≡ flat_map (row m) (range_with_len a n) →
-    IsStaged (λ j. rows_over row ms (a + j)) n xs
-staged_alone height width row h a n ms m xs each one is same inside words =
-    let f = λ (j : ℕ). rows_over row ms (a + j) in
-    let staged = staged_rows (row m) f (width m) a n (λ j below. each m (a + j) (omega (arith, same, below, inside)))
-    (λ j below. sym (rows_alone row (a + j) ms m one is)) in
-    rw words (staged_all f (flat_map (row m) (range_with_len a n)) (width m) n n staged refl)
+-- and of each of the first i
+pub length-first : {A M : Type 0} (height width : M → ℕ) (row : M → ℕ → List A) (h : ℕ) →
+    ((m : M) (r : ℕ) → r < height m → length (row m r) ≡ width m) → (r : ℕ) → r < h → (ms : List M) →
+    All (λ m. height m ≡ h) ms → (i : ℕ) → length (rows_over row (take i ms) r) ≡ sum_by width (take i ms)
+length-first height width row h each r below ms all i =
+    length-all height width row h each r below (take i ms)
+    (λ k d inside.
+    let low : k < i = omega (arith, length-take i ms, inside) in
+    rw (get_or-take i ms k d low) (all k d (omega (arith, length-take i ms, inside))))
+
+-- with one more part behind the first a elements, these are longer
+pub part_put : {X : Type 0} (xs ys : List X) (a k n : ℕ) → length ys ≡ n → a ≤ length xs →
+    take (a + n) (put_mid a k xs ys) ≡ take a xs ++ ys
+part_put xs ys a k n long inside =
+    let rest = drop k (drop a xs) in
+    ap (take (a + n)) (sym (append_assoc (take a xs) ys rest))
+    ∙ take_at (take a xs ++ ys) rest (a + n)
+    (omega (arith, length-append (take a xs) ys, length-take-le a xs inside, long))
 
 -- a list made by index has its length
 pub made_long : {X : Type 0} (f : ℕ → X) (n : ℕ) (xs : List X) → xs ≡ map f (range_with_len 0 n) → length xs ≡ n
@@ -314,29 +299,20 @@ pub staged_in_place : {A : Type 0} (f : ℕ → List A) (xs : List A) (w n : ℕ
     ((j : ℕ) → j < n → length (f j) ≡ w) →
     ((d : A) (j c : ℕ) → j < n → c < w → get_or xs (j * w + c) d ≡ get_or (f j) c d) → IsStaged f n xs
 staged_in_place f xs w n long wide put =
-    staged_all f xs w n n (record {
-      long = long;
-      each = λ j below.
+    record {
+      width = w;
+      long = long ∙ mul_comm n w;
+      are = fill_by_all f (messages w n xs) n [] (length-map-range_with_len (message w xs) 0 n) (λ j below.
           let fits : (j + 1) * w ≤ n * w = mul-le-mul_right w (omega arith) in
           let k : ℕ = (j + 1) * w - j * w in
           let same : k ≡ w = omega (arith, next_start j w) in
           let size : length (take k (drop (j * w) xs)) ≡ k = length-take-le k (drop (j * w) xs)
           (omega (arith, length-drop (j * w) xs, long, fits, next_start j w)) in
-          same_lists (take k (drop (j * w) xs)) (f j) (omega (arith, size, same, wide j below))
+          get_or-map-range_with_len (message w xs) 0 n j j [] below (omega arith)
+          ∙ same_lists (take k (drop (j * w) xs)) (f j) (omega (arith, size, same, wide j below))
           (λ c d inside. get_or-take k (drop (j * w) xs) c d (omega (arith, inside, size))
-          ∙ get_or-drop (j * w) xs c d ∙ put d j c below (omega (arith, inside, size, same)));
-    }) refl
-
--- so many elements has each row of the first matrices
-pub length-first_rows : {A M : Type 0} (height width : M → ℕ) (row : M → ℕ → List A) (h : ℕ) →
-    ((m : M) (r : ℕ) → r < height m → length (row m r) ≡ width m) → (r : ℕ) → r < h → (ms : List M) →
-    All (λ m. height m ≡ h) ms → (i : ℕ) → length (rows_over row (take i ms) r) ≡ sum_by width (take i ms)
-length-first_rows height width row h each r below ms all i =
-    length-rows height width row h each r below (take i ms)
-    (λ k d inside.
-    let low : k < i = omega (arith, length-take i ms, inside) in
-    rw (get_or-take i ms k d low) (all k d (omega (arith, length-take i ms, inside))))
-    ∙ is_sum_by (all_widths width) width refl (λ m ms. refl) (take i ms)
+          ∙ get_or-drop (j * w) xs c d ∙ put d j c below (omega (arith, inside, size, same))));
+    }
 
 -- w words from the offset of row j on end within the rows
 pub row_inside : (j n len offset w m : ℕ) → j < n → m ≡ n * len → offset + w ≤ len → j * len + offset + w ≤ m

@@ -1,4 +1,4 @@
-//! Many messages a call: how many, and the words of rows and the groups of digests that one call takes.
+//! The digests of the rows of a layer, and of groups of digests, many messages a call.
 
 ghost use Rattle.std.specs.Mem.{FitsInMemory};
 ghost use denote.Param.{ArrayAt};
@@ -9,13 +9,15 @@ ghost use Rattle.p3_merkle_digests.specs.Inner.Slots.{rows_over, IsFilled, IsSta
 
 use p3_merkle_core::group::{padded_group, pair_group};
 use p3_support::compress::PseudoCompressionFunction;
+use p3_support::hasher::CryptographicHasher;
 use p3_support::matrix::Matrix;
 use p3_support::packed::PackedValue;
 use std::alloc::AllocError;
+use std::marker::PhantomData;
 
 /// How many messages of `bytes` bytes one call takes: the greatest multiple of `lanes` with at most 16384 bytes in all,
 /// but at least `lanes`. A number of 0 counts as 1.
-pub(crate) fn messages_per_call(bytes: usize, lanes: usize) -> usize
+fn messages_per_call(bytes: usize, lanes: usize) -> usize
     ensures whole { result % max lanes 1 ≡ 0 }
     ensures some { max lanes 1 ≤ result }
     ensures fits { result * max bytes 1 ≤ max 16384 (max lanes 1 * max bytes 1) }
@@ -26,8 +28,23 @@ pub(crate) fn messages_per_call(bytes: usize, lanes: usize) -> usize
     (16384 / bytes / lanes).max(1) * lanes
 }
 
+/// The rows of one layer, and the hasher that digests them. Row `j` of the layer is row `j` of each of its matrices,
+/// one matrix after another. `X` is the type of a digest.
+#[derive(Drop)]
+pub struct LayerRows<'a, P: PackedValue, PW, H, M: Matrix<P::Value>, X> {
+    /// The hasher of rows.
+    pub hash: &'a H,
+    /// The matrices of the layer, in input order.
+    pub matrices: &'a [M],
+    /// The height of each of these matrices.
+    pub height: usize,
+    /// How words are packed, and the digest of a row.
+    pub item: PhantomData<(P, PW, X)>,
+    ghost of_height: { All (λ m. M.height_of m ≡ height) matrices.now },
+}
+
 /// How many elements a row of the matrices has; `AllocError` if they are 2^64 or more.
-pub(crate) fn row_len<T: Copy, M: Matrix<T>>(matrices: &[M]) -> Result<usize, AllocError>
+fn row_len<T: Copy, M: Matrix<T>>(matrices: &[M]) -> Result<usize, AllocError>
     ensures { IfOk result (λ len. len ≡ sum_by M.width_of matrices.now) }
 {
     let mut len = 0usize;
@@ -37,72 +54,29 @@ pub(crate) fn row_len<T: Copy, M: Matrix<T>>(matrices: &[M]) -> Result<usize, Al
     Ok(len)
 }
 
-/// The `count` rows from `first` on as one slice, row after row, if there is only one matrix and it has them in one
-/// piece. Each matrix has `height` rows, and `first + count` is at most `height`.
-pub(crate) fn contiguous_rows<T: Copy, M: Matrix<T>>(
-    matrices: &[M],
-    height: usize,
-    first: usize,
-    count: usize,
-) -> Option<&[T]>
-    requires heights { All (λ m. M.height_of m ≡ height) matrices.now }
-    requires inside { first + count ≤ height }
-    ensures { let rows = λ (j : ℕ). rows_over M.row_of matrices.now (first + j) in
-        IfSome result (λ words. IsStaged rows count words.now) }
-{
-    let [matrix] = matrices else {
-        return None;
-    };
-    matrix.row_chunk(first, count)
-}
-
 /// Copies a row of a matrix into its place, which has as many words.
 fn put_row<T: Copy, M: Matrix<T>>(place: &mut [T], matrix: &M, row: usize)
     requires row { row < M.height_of matrix.now }
     requires place { length place.old ≡ M.width_of matrix.now }
     ensures { place.new ≡ M.row_of matrix.now row }
 {
-    if let Some((left, right)) = matrix.row_halves(row) {
-        place[..left.len()].copy_from_slice(left);
-        place[left.len()..].copy_from_slice(right);
-        return;
-    }
-    for column in 0..place.len() {
-        place[column] = matrix.get(row, column);
+    let mut column = 0;
+    while column < place.len() {
+        let piece = matrix.piece(row, column);
+        if piece.is_empty() {
+            place[column] = matrix.get(row, column);
+            column += 1;
+        } else {
+            let count = piece.len().min(place.len() - column);
+            place[column..column + count].copy_from_slice(&piece[..count]);
+            column += count;
+        }
     }
 }
 
-/// Copies row `first + j` of a matrix into row `j` of the staged ones, from word `offset` on, for each `j` below
-/// `count`. There are `count` staged rows, of `len` words each. The words of a row before `offset` stay.
+/// Copies `count` rows of the matrices from `first` on into the staged ones, one row after another. The matrices all
+/// have this height, `first + count` is at most that, and a row has `len` words.
 fn put_rows<T: Copy, M: Matrix<T>>(
-    staged: &mut [T],
-    len: usize,
-    offset: usize,
-    matrix: &M,
-    first: usize,
-    count: usize,
-)
-    requires rows { first + count ≤ M.height_of matrix.now }
-    requires staged { length staged.old ≡ count * len }
-    requires fits { offset + M.width_of matrix.now ≤ len }
-    ensures long { length staged.new ≡ length staged.old }
-    ensures put { (d : T) → (j c : ℕ) → j < count → c < M.width_of matrix.now →
-        slice_index_or staged.new (j * len + (offset + c)) d ≡ slice_index_or (M.row_of matrix.now (first + j)) c d }
-    ensures kept { (d : T) → (j c : ℕ) → j < count → c < offset →
-        slice_index_or staged.new (j * len + c) d ≡ slice_index_or staged.old (j * len + c) d }
-{
-    // The height is a usize, and so is the index of each row.
-    let _height = matrix.height();
-    let width = matrix.width();
-    for j in 0..count {
-        let start = j * len + offset;
-        put_row(&mut staged[start..start + width], matrix, first + j);
-    }
-}
-
-/// Copies `count` rows of the matrices from `first` on into the staged ones, matrix by matrix. The matrices all have
-/// this height, `first + count` is at most that, and a row has `len` words.
-fn put_matrices<T: Copy, M: Matrix<T>>(
     staged: &mut [T],
     len: usize,
     matrices: &[M],
@@ -117,17 +91,22 @@ fn put_matrices<T: Copy, M: Matrix<T>>(
     ensures { let rows = λ (j : ℕ). rows_over M.row_of matrices.now (first + j) in
         IsStaged rows count staged.new }
 {
+    // Matrix by matrix: row by row each matrix is asked for anew, which takes longer.
     let mut offset = 0;
     for matrix in matrices {
-        put_rows(staged, len, offset, matrix, first, count);
-        offset += matrix.width();
+        let width = matrix.width();
+        for j in 0..count {
+            let start = j * len + offset;
+            put_row(&mut staged[start..start + width], matrix, first + j);
+        }
+        offset += width;
     }
 }
 
-/// The words of `count` rows of the matrices from `first` on, one row after another: a slice of the matrix if there is
-/// only one and it has these rows in one piece, else a copy in `staged`. The matrices all have this height, a row has
-/// `len` words, and `first + count` is at most the height.
-pub(crate) fn words_of_rows<'b, T: Copy + Default, M: Matrix<T>>(
+/// The words of `count` rows of the matrices from `first` on, one row after another: a piece of the matrix if there is
+/// only one and it has these rows in one, else a copy in `staged`. The matrices all have this height, a row has `len`
+/// words, and `first + count` is at most the height.
+fn words_of_rows<'b, T: Copy + Default, M: Matrix<T>>(
     staged: &'b mut Vec<T>,
     matrices: &'b [M],
     height: usize,
@@ -137,17 +116,71 @@ pub(crate) fn words_of_rows<'b, T: Copy + Default, M: Matrix<T>>(
 ) -> Result<&'b [T], AllocError>
     requires heights { All (λ m. M.height_of m ≡ height) matrices.now }
     requires len { len ≡ sum_by M.width_of matrices.now }
+    requires some { 0 < count }
     requires inside { first + count ≤ height }
     ensures { let rows = λ (j : ℕ). rows_over M.row_of matrices.now (first + j) in
         IfOk result (λ words. IsStaged rows count words.now) }
 {
-    if let Some(words) = contiguous_rows(matrices, height, first, count) {
-        return Ok(words);
+    let words = count.checked_mul(len).ok_or(AllocError)?;
+    if let [matrix] = matrices {
+        let piece = matrix.piece(first, 0);
+        if words <= piece.len() {
+            return Ok(&piece[..words]);
+        }
     }
-    let words = len.checked_mul(count).ok_or(AllocError)?;
     staged.resize(words, T::default())?;
-    put_matrices(staged, len, matrices, height, first, count);
+    put_rows(staged, len, matrices, height, first, count);
     Ok(staged.as_slice())
+}
+
+impl<
+    'a,
+    P: PackedValue,
+    PW: PackedValue,
+    H: CryptographicHasher<P, PW, D>,
+    M: Matrix<P::Value>,
+    const D: usize,
+> LayerRows<'a, P, PW, H, M, [PW::Value; D]> {
+    /// Writes the digests of the rows from `first` on into the slots, as many rows per call as [`messages_per_call`]
+    /// says. There must be at most as many slots as rows from `first` on. `staged` is a buffer for rows.
+    ///
+    /// # Errors
+    ///
+    /// `AllocError` if memory runs out.
+    pub fn write_batched(
+        &self,
+        staged: &mut Vec<P::Value>,
+        first: usize,
+        slots: &mut [[PW::Value; D]],
+    ) -> Result<(), AllocError>
+        requires { length slots.old ≤ self.now.height - first }
+        ensures { let rows = rows_over M.row_of self.now.matrices.now in
+            let digest = λ (j : ℕ). H.hash self.now.hash.now (rows (first + j)) in
+            IfOk result (λ done. slots.new ≡ map digest (range_with_len 0 (length slots.old))) }
+    {
+        // With no slots no row is read, however wide the matrices are.
+        if slots.is_empty() {
+            return Ok(());
+        }
+        let len = row_len(self.matrices)?;
+        let bytes = len.saturating_mul(std::mem::size_of_val(&P::Value::default()));
+        let rows = messages_per_call(bytes, H::LANES);
+        let mut done = 0;
+        while done < slots.len() {
+            let count = rows.min(slots.len() - done);
+            let words = words_of_rows(
+                staged,
+                self.matrices,
+                self.height,
+                len,
+                first + done,
+                count,
+            )?;
+            self.hash.hash_many(words, &mut slots[done..done + count]);
+            done += count;
+        }
+        Ok(())
+    }
 }
 
 /// Fills `groups`, in place of what it has, with the children of the nodes `first..end` over a layer, each group

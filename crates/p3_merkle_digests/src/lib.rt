@@ -5,4 +5,3 @@
 pub mod batched;
 pub mod packed;
 pub mod parts;
-pub mod rows;

@@ -1,14 +1,21 @@
-//! As many rows or nodes as a packed value has lanes, each in a lane of its own.
+//! The digests of as many rows or nodes as a packed value has lanes, each in a lane of its own.
 
 ghost use Rattle.std.specs.Mem.{FitsInMemory};
 ghost use denote.Param.{ArrayAt};
 ghost use Rattle.std.specs.Prelude.{◌≡◌, ℕ, ◌+◌, ◌-◌, ◌*◌, ◌^◌, ◌<◌, ◌≤◌, ◌++◌, [], ◌∷◌, length, map, take, drop};
-ghost use Rattle.std.specs.Prelude.{replicate, slice_index_or};
+ghost use Rattle.std.specs.Prelude.{All, IfOk, replicate, slice_index_or};
+ghost use Rattle.std.specs.List.{range_with_len};
 ghost use Rattle.p3_support.specs.Lists.{lane_of};
+ghost use Rattle.p3_merkle_digests.specs.Inner.Slots.{leaf_over, rows_over, IsFilled};
 
+use crate::batched::LayerRows;
 use p3_merkle_core::group::pair_group;
 use p3_support::compress::PseudoCompressionFunction;
-use p3_support::packed::{PackedValue, lemma_row};
+use p3_support::hasher::CryptographicHasher;
+use p3_support::matrix::Matrix;
+use p3_support::packed::{PackedValue, lemma_row, unpack_at};
+use p3_support::rows::packed_rows_of;
+use std::alloc::AllocError;
 
 /// How many blocks of `PW::WIDTH` slots are filled lane by lane, of `count` slots. There are none if there is one lane,
 /// or if a packed group of `N` children would have 2^63 bytes or more, the limit for a value. `N` must be above 0.
@@ -27,6 +34,81 @@ pub fn packed_blocks<PW: PackedValue, const N: usize, const D: usize>(count: usi
         count / PW::WIDTH
     } else {
         0
+    }
+}
+
+impl<
+    'a,
+    P: PackedValue,
+    PW: PackedValue,
+    H: CryptographicHasher<P, PW, D>,
+    M: Matrix<P::Value>,
+    const D: usize,
+> LayerRows<'a, P, PW, H, M, [PW::Value; D]> {
+    /// The digests of the rows from `row` on: lane `k` is that of row `row + k`, for each lane that both packings have.
+    /// `row + P::WIDTH` must be at most the height.
+    pub fn packed_digest(&self, row: usize) -> [PW; D]
+        requires { row + P.WIDTH ≤ self.now.height }
+        ensures { (k : ℕ) → k < P.WIDTH → k < PW.WIDTH →
+            lane_of PW.lanes PW.default_value k result
+            ≡ H.hash self.now.hash.now (rows_over M.row_of self.now.matrices.now (row + k)) }
+    {
+        // One matrix: no test after each column for the end of its rows.
+        if let [matrix] = self.matrices {
+            return self
+                .hash
+                .hash_packed(matrix.vertically_packed_row::<P>(row));
+        }
+        self.hash
+            .hash_packed(packed_rows_of::<_, P, _>(self.matrices, row))
+    }
+
+    /// Writes the digests of the rows from `first` on into the first slots, lane by lane, as many as fill all lanes.
+    /// Returns how many these are. There are at most as many slots as rows from `first` on. Both packings have equally
+    /// many lanes.
+    fn write_packed(&self, first: usize, slots: &mut [[PW::Value; D]]) -> usize
+        requires lanes { P.WIDTH ≡ PW.WIDTH }
+        requires rows { length slots.old ≤ self.now.height - first }
+        ensures fits { result ≤ length slots.old }
+        ensures filled { let rows = rows_over M.row_of self.now.matrices.now in
+            IsFilled (λ j. H.hash self.now.hash.now (rows (first + j))) result (length slots.old) slots.new }
+    {
+        let blocks = packed_blocks::<PW, 1, D>(slots.len());
+        for block in 0..blocks {
+            let start = block * PW::WIDTH;
+            let digests = self.packed_digest(first + start);
+            unpack_at(&digests, slots, start);
+        }
+        blocks * PW::WIDTH
+    }
+
+    /// Writes into each slot `j` the digest of row `first + j`, in batches where the hasher takes several messages at a
+    /// time, else lane by lane while there are enough rows. Past the height the slots keep default digests, which all
+    /// must have. Both packings must have equally many lanes. `staged` is a buffer for rows: a caller that keeps it
+    /// from layer to layer seldom allocates.
+    ///
+    /// # Errors
+    ///
+    /// `AllocError` if memory runs out.
+    pub fn write(
+        &self,
+        staged: &mut Vec<P::Value>,
+        first: usize,
+        slots: &mut [[PW::Value; D]],
+    ) -> Result<(), AllocError>
+        requires lanes { P.WIDTH ≡ PW.WIDTH }
+        requires blank { All (λ digest. digest ≡ replicate D PW.default_value) slots.old }
+        ensures { let leaf = leaf_over (H.hash self.now.hash.now) (replicate D PW.default_value)
+            (rows_over M.row_of self.now.matrices.now) self.now.height in
+            IfOk result (λ done. slots.new ≡ map (λ j. leaf (first + j)) (range_with_len 0 (length slots.old))) }
+    {
+        let count = self.height.saturating_sub(first).min(slots.len());
+        let done = if H::LANES > 1 {
+            0
+        } else {
+            self.write_packed(first, &mut slots[..count])
+        };
+        self.write_batched(staged, first + done, &mut slots[done..count])
     }
 }
 

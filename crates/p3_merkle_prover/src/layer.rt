@@ -12,9 +12,8 @@ ghost use Rattle.p3_merkle_prover.specs.Inner.Levels.{HasChildren};
 ghost use Rattle.p3_merkle_digests.specs.Inner.Slots.{IsFilled};
 
 use p3_merkle_core::levels::Level;
-use p3_merkle_digests::batched::{compress_children, inject_row_digests};
+use p3_merkle_digests::batched::{LayerRows, compress_children, inject_row_digests};
 use p3_merkle_digests::packed::{compress_children_packed, compress_pairs_packed, packed_blocks};
-use p3_merkle_digests::rows::LayerRows;
 use p3_support::compress::PseudoCompressionFunction;
 use p3_support::hasher::CryptographicHasher;
 use p3_support::matrix::Matrix;

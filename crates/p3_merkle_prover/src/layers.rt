@@ -13,7 +13,7 @@ use crate::layer::{Buffers, LayerBuilder};
 use p3_merkle_core::geometry::padded_len;
 use p3_merkle_core::levels::Level;
 use p3_merkle_core::steps::Steps;
-use p3_merkle_digests::rows::LayerRows;
+use p3_merkle_digests::batched::LayerRows;
 use p3_support::compress::PseudoCompressionFunction;
 use p3_support::hasher::CryptographicHasher;
 use p3_support::matrix::Matrix;

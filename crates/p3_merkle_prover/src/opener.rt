@@ -140,30 +140,15 @@ fn words_of_row<F: Copy, M: Matrix<F>>(
     requires { row < M.height_of matrix.now }
     ensures { IfOk result (λ words. words.items ≡ M.row_of matrix.now row) }
 {
-    if let Some(words) = matrix.row_slice(row) {
-        return copy_of(alloc, words);
-    }
-    let mut words = Vec::with_capacity(alloc, matrix.width())?;
-    if let Some((left, right)) = matrix.row_halves(row) {
-        words.extend_from_slice(left)?;
-        words.extend_from_slice(right)?;
+    let width = matrix.width();
+    let mut words = Vec::with_capacity(alloc, width)?;
+    if width > FEW_WORDS {
+        matrix.append_row(row, &mut words)?;
         return Ok(words);
     }
-    words.extend(matrix.row(row))?;
-    Ok(words)
-}
-
-/// A copy of some words.
-fn copy_of<F: Copy>(alloc: Global, words: &[F]) -> Result<Vec<F>, AllocError>
-    ensures { IfOk result (λ copy. copy.items ≡ words.now) }
-{
     // A call that copies so few words takes longer.
-    if words.len() > FEW_WORDS {
-        return Vec::from_slice(alloc, words);
+    for column in 0..width {
+        words.push_reserved(matrix.get(row, column));
     }
-    let mut copy = Vec::with_capacity(alloc, words.len())?;
-    for word in words {
-        copy.push_reserved(*word);
-    }
-    Ok(copy)
+    Ok(words)
 }

@@ -124,8 +124,8 @@ impl<'a, T: Copy> Matrix<T> for OpenedMatrix<'a, T> {
         self.words(row)[column]
     }
 
-    fn row_slice(&self, row: usize) -> Option<&[T]> {
-        Some(self.words(row))
+    fn piece(&self, row: usize, column: usize) -> &[T] {
+        &self.words(row)[column..]
     }
 
     ghost length_row_of = { λ m r h. length-opened_row (row_sets m.sets.now) m.queries.now m.place m.width

@@ -4,12 +4,13 @@ use Rattle.std.proofs.Common.{All, get_or, refl, sym, ap, ◌∙◌, arith, true
 use Rattle.std.specs.Prelude.{Bool, false, cond, ◌==◌, slice_get, slice_index_or, slice_range, Some}
 use Rattle.std.specs.List.{flat_map, range_with_len}
 use Rattle.std.proofs.Math.Nat.{mul-le-mul_right}
-use Rattle.std.proofs.Math.Seq.{drop-cons, take-append-add}
+use Rattle.std.proofs.Math.Seq.{drop-append-add, drop-cons, take-append-add}
 use Rattle.std.proofs.lemmas.List.Folds.{drop_split}
 use Rattle.std.proofs.lemmas.Option.{slice_get_within, slice_get_read, get_or_from_slice_get}
 use Rattle.std.proofs.lemmas.List.Edits.{get_or-between}
 use Rattle.std.proofs.Math.ListN.{get_or-append}
-use Rattle.std.proofs.lemmas.List.{drop_all, get_or-append_right, length-append, map-append}
+use Rattle.std.proofs.lemmas.List.{drop_all, drop-append-le, get_or-append_right, length-append, length-drop}
+use Rattle.std.proofs.lemmas.List.{map-append, take-append-le, take-take}
 use Rattle.std.proofs.lemmas.List.FromFn.{fill_by_all, get_or-map-range_with_len, length-map-range_with_len}
 use Rattle.std.proofs.lemmas.Simd.{map-map}
 use Rattle.std.proofs.lemmas.Bool.{eqb-true}
@@ -42,62 +43,57 @@ message_at xs w h r c x full below inside read =
     slice_get_read (message w xs r) w c x (sym (length-message xs w h r full below)) inside
     (read ∙ sym (get_or-between xs (r * w) ((r + 1) * w) c x (omega (arith, more))))
 
--- n of h rows are within all their elements
-pub rows_inside : (w h n words : ℕ) → n ≤ h → words ≡ h * w → n * w ≤ words
-rows_inside w h n words few full = omega (arith, mul-le-mul_right w few, full)
+-- the n rows from r on, stored to the end
+pub stored_rows : {A : Type 0} (xs : List A) (w r n : ℕ) → length xs ≡ (r + n) * w
+    → drop (r * w) xs ≡ flat_map (message w xs) (range_with_len r n)
+stored_rows xs w r zero full = drop_all (r * w) xs (omega (arith, full))
+stored_rows xs w r (suc n) full =
+    let step = next_start r w in
+    let end : r + suc n ≡ r + 1 + n = omega arith in
+    drop_split xs (r * w) ((r + 1) * w) (omega (arith, step))
+    ∙ ap (λ l. message w xs r ++ l) (stored_rows xs w (r + 1) n (full ∙ ap (λ k. k * w) end))
 
--- rows that stand one after another
-pub chunk_of_rows : {A : Type 0} (xs : List A) (w h a n : ℕ) → length xs ≡ h * w → a + n ≤ h
-    → slice_range xs (a * w) ((a + n) * w) ≡ flat_map (message w xs) (range_with_len a n)
-chunk_of_rows xs w h a zero full fits =
-    let none : a + 0 ≡ a = omega arith in
-    let same : (a + 0) * w ≡ a * w = ap (λ k. k * w) none in
-    let nothing : (a + 0) * w - a * w ≡ 0 = omega (arith, same) in
-    ap (λ k. take k (drop (a * w) xs)) nothing
-chunk_of_rows xs w h a (suc n) full fits =
-    let one = message w xs a in
-    let later = drop ((a + 1) * w) xs in
-    let left : ℕ = (a + 1 + n) * w - (a + 1) * w in
-    let end : a + suc n ≡ a + 1 + n = omega arith in
-    let step = next_start a w in
-    let up : (a + 1) * w ≤ (a + 1 + n) * w = mul-le-mul_right w (omega arith) in
-    let long : length one ≡ w = length-message xs w h a full (omega (arith, fits)) in
-    let whole : (a + suc n) * w - a * w ≡ length one + left = rw end (omega (arith, step, up, long)) in
-    ap (λ k. take k (drop (a * w) xs)) whole
-    ∙ ap (take (length one + left)) (drop_split xs (a * w) ((a + 1) * w) (omega (arith, step)))
-    ∙ take-append-add one later left ∙ ap (λ l. one ++ l) (chunk_of_rows xs w h (a + 1) n full (omega (arith, fits)))
+-- what a piece begins with
+pub cut_piece : {A : Type 0} (xs whole : List A) (n : ℕ) → xs ≡ take (length xs) whole → n ≤ length xs →
+    take n xs ≡ take n whole
+cut_piece xs whole n is few = ap (take n) is ∙ take-take n (length xs) whole few
 
 module _ {A : Type 0} (row : ℕ → List A) (w : ℕ) where
-  -- the elements of n rows of one width
-  pub length_of_rows : (r n : ℕ) → ((j : ℕ) → j < r + n → length (row j) ≡ w)
-      → length (flat_map row (range_with_len r n)) ≡ n * w
-  length_of_rows r zero long = omega arith
-  length_of_rows r (suc n) long =
-      length-append (row r) (flat_map row (range_with_len (r + 1) n))
-      ∙ omega (
-        arith,
-        long r (omega arith),
-        length_of_rows (r + 1) n (λ j h. long j (omega (arith, h))),
-        next_start n w,
-      )
+  -- the first n of the rows from r to h
+  pub whole_rows : (h r n : ℕ) → ((j : ℕ) → j < h → length (row j) ≡ w) → r + n ≤ h
+      → take (n * w) (flat_map row (range_with_len r (h - r))) ≡ flat_map row (range_with_len r n)
+  whole_rows h r zero long fits = let none : 0 * w ≡ 0 = omega arith in rw none refl
+  whole_rows h r (suc n) long fits =
+      let more : h - r ≡ suc (h - (r + 1)) = omega arith in
+      let later = flat_map row (range_with_len (r + 1) (h - (r + 1))) in
+      let first : suc n * w ≡ length (row r) + n * w = omega (arith, long r (omega arith), next_start n w) in
+      rw (more, first) (take-append-add (row r) later (n * w)
+      ∙ ap (λ l. row r ++ l) (whole_rows h (r + 1) n long (omega arith)))
 
-  -- an element of one of them
-  pub at_row : (r n k c : ℕ) (d : A) → ((j : ℕ) → j < r + n → length (row j) ≡ w) → k < n → c < w
-      → slice_index_or (flat_map row (range_with_len r n)) (k * w + c) d ≡ slice_index_or (row (r + k)) c d
-  at_row r zero k c d long few inside = absurd (omega (arith, few))
-  at_row r (suc n) zero c d long few inside =
-      let here : r + 0 ≡ r = omega arith in
-      let start : 0 * w + c ≡ c = omega arith in
-      rw (here, start) (get_or-append (row r) (flat_map row (range_with_len (r + 1) n)) d c
-      (omega (arith, inside, long r (omega arith))))
-  at_row r (suc n) (suc k) c d long few inside =
-      let rest = flat_map row (range_with_len (r + 1) n) in
-      let past : suc k * w + c - w ≡ k * w + c = omega (arith, next_start k w) in
-      let there : r + 1 + k ≡ r + suc k = omega arith in
-      get_or-append_right (row r) rest w (suc k * w + c) d (long r (omega arith)) (omega (arith, next_start k w))
-      ∙ ap (λ i. slice_index_or rest i d) past
-      ∙ at_row (r + 1) n k c d (λ j h. long j (omega (arith, h))) (omega (arith, few)) inside
-      ∙ ap (λ j. slice_index_or (row j) c d) there
+  -- n elements of row r, from column c on
+  pub within_row : (h r c n : ℕ) → ((j : ℕ) → j < h → length (row j) ≡ w) → r < h → c + n ≤ w
+      → take n (drop c (flat_map row (range_with_len r (h - r)))) ≡ take n (drop c (row r))
+  within_row h r c n long below fits =
+      let more : h - r ≡ suc (h - (r + 1)) = omega arith in
+      let later = flat_map row (range_with_len (r + 1) (h - (r + 1))) in
+      let wide : length (row r) ≡ w = long r below in
+      rw more (ap (take n) (drop-append-le c (row r) later (omega arith))
+      ∙ take-append-le n (drop c (row r)) later (omega (arith, length-drop c (row r))))
+
+  -- so a piece from there on begins
+  pub piece_read : (h r c n : ℕ) (xs : List A) → ((j : ℕ) → j < h → length (row j) ≡ w) → r < h → c + n ≤ w
+      → n ≤ length xs → xs ≡ take (length xs) (drop c (flat_map row (range_with_len r (h - r))))
+      → take n xs ≡ take n (drop c (row r))
+  piece_read h r c n xs long below fits few is =
+      cut_piece xs (drop c (flat_map row (range_with_len r (h - r)))) n is few ∙ within_row h r c n long below fits
+
+  -- and they make one
+  pub piece_made : (h r c n : ℕ) (xs : List A) → ((j : ℕ) → j < h → length (row j) ≡ w) → r < h → c + n ≤ w
+      → length xs ≡ n → xs ≡ take n (drop c (row r))
+      → xs ≡ take (length xs) (drop c (flat_map row (range_with_len r (h - r))))
+  piece_made h r c n xs long below fits size is =
+      is ∙ sym (within_row h r c n long below fits)
+      ∙ ap (λ k. take k (drop c (flat_map row (range_with_len r (h - r))))) (sym size)
 
 module _ {A M : Type 0} (height : M → ℕ) (row : M → ℕ → List A) (h r : ℕ) where
   -- one more element of the first matrix
@@ -199,6 +195,19 @@ module _ {A M : Type 0} (row : M → ℕ → List A) (width : M → ℕ) (d : A)
   lane_of_rows height lanes k ps ms below each all packed =
       let pick = λ (xs : List A). get_or xs k d in
       sym (map-map pick lanes ps) ∙ ap (map pick) packed ∙ picked_rows height k below each ms all
+
+-- n elements within the first of two lists, read in the two, one after the other
+pub joined_front : {A : Type 0} (xs ys : List A) (c n : ℕ) → c + n ≤ length xs → take n (drop c (xs ++ ys))
+    ≡ take n (drop c xs)
+joined_front xs ys c n fits =
+    ap (take n) (drop-append-le c xs ys (omega arith))
+    ∙ take-append-le n (drop c xs) ys (omega (arith, length-drop c xs))
+
+-- what stands behind the first, which has n elements
+pub joined_back : {A : Type 0} (xs ys : List A) (n c : ℕ) → length xs ≡ n → n ≤ c → drop c (xs ++ ys) ≡ drop (c - n) ys
+joined_back xs ys n c long above =
+    let at : c ≡ length xs + (c - n) = omega (arith, long) in
+    ap (λ k. drop k (xs ++ ys)) at ∙ drop-append-add xs ys (c - n)
 
 -- an element of the first of two lists, read in the two, one after the other
 pub joined_first : {A : Type 0} (xs ys : List A) (c : ℕ) (x : A) → slice_get xs c ≡ Some x → slice_get (xs ++ ys) c

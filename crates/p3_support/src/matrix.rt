@@ -1,6 +1,6 @@
 //! Matrices: a height, a width, and rows.
-ghost use Rattle.std.specs.Prelude.{◌≡◌, ℕ, ◌+◌, ◌*◌, ◌<◌, ◌≤◌, ◌^◌, ◌++◌, List, length, map, slice_get};
-ghost use Rattle.std.specs.Prelude.{slice_index_or};
+ghost use Rattle.std.specs.Prelude.{◌≡◌, ℕ, ◌+◌, ◌-◌, ◌*◌, ◌<◌, ◌≤◌, ◌^◌, ◌++◌, List, drop, length, map, slice_get};
+ghost use Rattle.std.specs.Prelude.{take};
 ghost use Rattle.std.specs.Prelude.{◌↔◌, IfErr, IfOk, IfSome, IsOk, Some};
 ghost use Rattle.std.specs.List.{flat_map, range_with_len};
 ghost use Rattle.std.specs.Iterator.{YieldsFirst, YieldsFirstBy, item_count};
@@ -49,34 +49,16 @@ pub trait Matrix<T> {
         requires column_in { column < width_of self.now }
         ensures { slice_get (row_of self.now row) column ≡ Some result };
 
-    /// The elements of a row as a slice, by ascending columns. A matrix that does not store its rows in one piece
-    /// returns `None`. The row must be below the height.
-    fn row_slice(&self, row: usize) -> Option<&[T]>
-        requires { row < height_of self.now }
-        ensures { IfSome result (λ words. words.now ≡ row_of self.now row) }
+    /// The elements from a column of a row on, to its end and row after row, as far as they lie in one piece. It may
+    /// hold none of them, as it does for a matrix that stores no elements, and then [`get`](Self::get) reads them. The
+    /// row must be below the height, and the column at most the width.
+    fn piece(&self, row: usize, column: usize) -> &[T]
+        requires row_in { row < height_of self.now }
+        requires column_in { column ≤ width_of self.now }
+        ensures { let rows = range_with_len row (height_of self.now - row) in
+            result.now ≡ take (length result.now) (drop column (flat_map (row_of self.now) rows)) }
     {
-        None
-    }
-
-    /// The elements of a row as two slices, those of the first before those of the second, by ascending columns. A
-    /// matrix that stores its rows in one piece returns this piece and an empty slice; one that stores them in more
-    /// than two returns `None`. The row must be below the height.
-    fn row_halves(&self, row: usize) -> Option<(&[T], &[T])>
-        requires { row < height_of self.now }
-        ensures { IfSome result (λ (left, right). left.now ++ right.now ≡ row_of self.now row) }
-    {
-        let words = self.row_slice(row)?;
-        Some((words, &[]))
-    }
-
-    /// The elements of `count` rows from `first` on as one slice, row after row. A matrix that does not store them in
-    /// one piece returns `None`. `first + count` must be at most the height.
-    fn row_chunk(&self, first: usize, count: usize) -> Option<&[T]>
-        requires { first + count ≤ height_of self.now }
-        ensures { IfSome result (λ words. words.now
-            ≡ flat_map (row_of self.now) (range_with_len first count)) }
-    {
-        None
+        &[]
     }
 
     /// Width and height.
@@ -103,6 +85,29 @@ pub trait Matrix<T> {
             next: 0,
             item: PhantomData,
         }
+    }
+
+    /// Appends the elements of a row to `words`, by ascending columns. The row must be below the height.
+    final fn append_row(&self, row: usize, words: &mut Vec<T>) -> Result<(), AllocError>
+    where
+        T: Copy,
+        requires { row < height_of self.now }
+        ensures { IfOk result (λ done. words.new.items ≡ words.old.items ++ row_of self.now row) }
+    {
+        let width = self.width();
+        let mut column = 0;
+        while column < width {
+            let piece = self.piece(row, column);
+            if piece.is_empty() {
+                words.push(self.get(row, column))?;
+                column += 1;
+            } else {
+                let count = piece.len().min(width - column);
+                words.extend_from_slice(&piece[..count])?;
+                column += count;
+            }
+        }
+        Ok(())
     }
 
     /// As many rows from `row` on as `P` has lanes, packed column by column: lane `k` of an item is the element of row
@@ -149,16 +154,8 @@ impl<T, M: Matrix<T>> Matrix<T> for &M {
         (**self).get(row, column)
     }
 
-    fn row_slice(&self, row: usize) -> Option<&[T]> {
-        (**self).row_slice(row)
-    }
-
-    fn row_halves(&self, row: usize) -> Option<(&[T], &[T])> {
-        (**self).row_halves(row)
-    }
-
-    fn row_chunk(&self, first: usize, count: usize) -> Option<&[T]> {
-        (**self).row_chunk(first, count)
+    fn piece(&self, row: usize, column: usize) -> &[T] {
+        (**self).piece(row, column)
     }
 
     ghost length_row_of = { λ m r h. M.length_row_of m.now r h };
@@ -241,30 +238,8 @@ impl<'a, T, P: PackedValue<Value = T>, M: Matrix<T>> Iterator for PackedRow<'a, 
     }
 }
 
-/// One column of rows that lie in one piece, row after row, `width` elements each: lane `k` is the element of row `k`.
-/// There are `P::WIDTH` rows, and the column is below the width.
-#[inline(always)]
-fn column_in_piece<P: PackedValue>(words: &[P::Value], width: usize, column: usize) -> P
-    requires rows { length words.now ≡ P.WIDTH * width }
-    requires column { column < width }
-    ensures { (k : ℕ) → k < P.WIDTH →
-        slice_index_or (P.lanes result) k P.default_value
-        ≡ slice_index_or words.now (k * width + column) P.default_value }
-{
-    // The length is a usize, and so is the index of each element.
-    let _len = words.len();
-    P::from_fn(
-        |k| -> P::Value
-            requires inside { k * width + column < length words.now }
-            requires fits { k * width + column < 2 ^ 64 }
-            ensures { (d : _) → result ≡ slice_index_or words.entry.now (k * width + column) d }
-        { words[k * width + column] },
-    )
-}
-
 /// One column of `P::WIDTH` rows from `row` on: lane `k` is the element of row `row + k`. `row + P::WIDTH` must be at
 /// most the height, and the column below the width.
-// The rows of a piece take one multiplication for their place, and others one for each lane.
 pub(crate) fn packed_column<P: PackedValue, M: Matrix<P::Value>>(
     matrix: &M,
     row: usize,
@@ -275,9 +250,6 @@ pub(crate) fn packed_column<P: PackedValue, M: Matrix<P::Value>>(
     ensures { P.lanes result
         ≡ column_of_rows (M.row_of matrix.now) P.default_value row P.WIDTH column }
 {
-    if let Some(words) = matrix.row_chunk(row, P::WIDTH) {
-        return column_in_piece(words, matrix.width(), column);
-    }
     // The height is a usize, and so is the index of each row.
     let _height = matrix.height();
     P::from_fn(
@@ -398,12 +370,8 @@ impl<T: Copy> Matrix<T> for RowMajorMatrix<T> {
         self.values[row * self.width + column]
     }
 
-    fn row_slice(&self, row: usize) -> Option<&[T]> {
-        Some(&self.values[row * self.width..(row + 1) * self.width])
-    }
-
-    fn row_chunk(&self, first: usize, count: usize) -> Option<&[T]> {
-        Some(&self.values[first * self.width..(first + count) * self.width])
+    fn piece(&self, row: usize, column: usize) -> &[T] {
+        &self.values[row * self.width + column..]
     }
 
     ghost length_row_of = { λ m r h. length-message m.values.items m.width m.height r m.full h };

@@ -75,8 +75,16 @@ impl<T, A: Matrix<T>, B: Matrix<T>> Matrix<T> for HorizontalPair<T, A, B> {
         }
     }
 
-    fn row_halves(&self, row: usize) -> Option<(&[T], &[T])> {
-        Some((self.left.row_slice(row)?, self.right.row_slice(row)?))
+    fn piece(&self, row: usize, column: usize) -> &[T] {
+        // A piece of a side may run on into its next row, which the pair's next elements are not.
+        let width = self.left.width();
+        if column < width {
+            let piece = self.left.piece(row, column);
+            &piece[..piece.len().min(width - column)]
+        } else {
+            let piece = self.right.piece(row, column - width);
+            &piece[..piece.len().min(self.width() - column)]
+        }
     }
 
     ghost length_row_of = { λ p r h. length-pair_row A.row_of B.row_of p.left p.right r

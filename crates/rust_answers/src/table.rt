@@ -42,17 +42,10 @@ impl<T: Copy + Default> Matrix<T> for Table<T> {
         }
     }
 
-    fn row_slice(&self, row: usize) -> Option<&[T]> {
+    fn piece(&self, row: usize, column: usize) -> &[T] {
         match self {
-            Table::Rows(rows) => rows.row_slice(row),
-            Table::Blank(_) => Some(&[]),
-        }
-    }
-
-    fn row_chunk(&self, first: usize, count: usize) -> Option<&[T]> {
-        match self {
-            Table::Rows(rows) => rows.row_chunk(first, count),
-            Table::Blank(_) => None,
+            Table::Rows(rows) => rows.piece(row, column),
+            Table::Blank(_) => &[],
         }
     }
 

@@ -56,9 +56,10 @@ fn assert_pair(rt: &impl Abort, pair: &Pair)
         pair.row(1),
     );
     assert_words(rt, &digest, &[32818]);
-    let (words, salts) = pair.row_halves(1).unwrap_or((&[], &[]));
-    assert_words(rt, words, &[3, 4]);
-    assert_words(rt, salts, &[20]);
+    assert_words(rt, pair.piece(0, 1), &[2]);
+    assert_words(rt, pair.piece(1, 0), &[3, 4]);
+    assert_words(rt, pair.piece(1, 2), &[20]);
+    assert_words(rt, pair.piece(0, 3), &[]);
     assert_words(rt, pair.left().values(), &[1, 2, 3, 4]);
     assert_words(rt, pair.right().values(), &[10, 20]);
 }

@@ -64,12 +64,9 @@ fn assert_rows(rt: &impl Abort, matrix: &RowMajorMatrix<u32>)
     requires height { row_count matrix.now ≡ 2 }
     requires width { row_width matrix.now ≡ 2 }
 {
-    assert_words(rt, matrix.row_slice(1).unwrap_or(&[]), &[3, 4]);
-    let (words, rest) = matrix.row_halves(1).unwrap_or((&[], &[]));
-    assert_words(rt, words, &[3, 4]);
-    assert_words(rt, rest, &[]);
-    assert_words(rt, matrix.row_chunk(0, 2).unwrap_or(&[]), &[1, 31, 3, 4]);
-    assert_words(rt, matrix.row_chunk(1, 1).unwrap_or(&[]), &[3, 4]);
+    assert_words(rt, matrix.piece(0, 0), &[1, 31, 3, 4]);
+    assert_words(rt, matrix.piece(0, 1), &[31, 3, 4]);
+    assert_words(rt, matrix.piece(1, 2), &[]);
     assert_size(rt, matrix.dimensions(), 2, 2);
     assert_eq!(rt; matrix.get(1, 0), 3);
 }

@@ -1,6 +1,6 @@
 use Rattle.std.proofs.Common.{ℕ, ◌≤◌, ◌+◌, ◌-◌, length}
 use Rattle.p3_merkle_digests.specs.Inner.Slots.{rows_over, IsFilled}
-use Rattle.p3_merkle_digests.proofs.rows.LayerRows+P+PW+H+M+array+D+PW+Value.write_batched.Given as goal
+use Rattle.p3_merkle_digests.proofs.batched.LayerRows+P+PW+H+M+array+D+PW+Value.write_batched.Given as goal
 
 -- the slots so far are written
 abbrev pub invariant-loop-done : goal.invariant-loop-done

@@ -3,7 +3,7 @@ use Rattle.std.proofs.Common.{arith, ℕ, ◌≡◌, ◌+◌, ◌-◌, ◌≤◌
 use Rattle.std.proofs.lemmas.List.FromFn.{fill_by_all}
 use Rattle.p3_merkle_digests.specs.Inner.Slots.{rows_over}
 use Rattle.p3_merkle_digests.proofs.StageFacts.{leaves_part}
-use Rattle.p3_merkle_digests.proofs.rows.LayerRows+P+PW+H+M+array+D+PW+Value.write_batched.Goals as goal
+use Rattle.p3_merkle_digests.proofs.batched.LayerRows+P+PW+H+M+array+D+PW+Value.write_batched.Goals as goal
 
 pub loop-done-preserved : goal.loop-done-preserved
 loop-done-preserved g c =

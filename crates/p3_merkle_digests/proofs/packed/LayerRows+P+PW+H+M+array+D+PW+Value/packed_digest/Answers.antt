@@ -6,7 +6,7 @@ use Rattle.p3_support.proofs.RowReads.{lane_of_columns, lane_of_rows}
 use Rattle.p3_support.proofs.Runs.{fact_of_run}
 use Rattle.p3_merkle_digests.specs.Inner.Slots.{rows_over}
 use Rattle.p3_merkle_digests.proofs.LaneFacts.{height_at, rows_alone}
-use Rattle.p3_merkle_digests.proofs.rows.LayerRows+P+PW+H+M+array+D+PW+Value.packed_digest.Goals as goal
+use Rattle.p3_merkle_digests.proofs.packed.LayerRows+P+PW+H+M+array+D+PW+Value.packed_digest.Goals as goal
 
 pub returns-in-len1 : goal.returns-in-len1
 returns-in-len1 g c = λ k below in_digest.

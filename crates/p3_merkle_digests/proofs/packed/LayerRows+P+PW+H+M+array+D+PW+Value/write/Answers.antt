@@ -6,9 +6,9 @@ use Rattle.std.proofs.lemmas.Result.{IfOk-weaker}
 use Rattle.std.proofs.lemmas.List.{length-take-le}
 use Rattle.p3_merkle_digests.specs.Inner.Slots.{leaf_over, rows_over}
 use Rattle.p3_merkle_digests.proofs.StageFacts.{all_written, none_written, some_written, IsWritten}
-use Rattle.p3_merkle_digests.proofs.rows.LayerRows+P+PW+H+M+array+D+PW+Value.write.Goals as goal
-use Rattle.p3_merkle_digests.proofs.rows.LayerRows+P+PW+H+M+array+D+PW+Value.write.Goals.{then-LANES-gt1}
-use Rattle.p3_merkle_digests.proofs.rows.LayerRows+P+PW+H+M+array+D+PW+Value.write.Goals.{else-LANES-gt1}
+use Rattle.p3_merkle_digests.proofs.packed.LayerRows+P+PW+H+M+array+D+PW+Value.write.Goals as goal
+use Rattle.p3_merkle_digests.proofs.packed.LayerRows+P+PW+H+M+array+D+PW+Value.write.Goals.{then-LANES-gt1}
+use Rattle.p3_merkle_digests.proofs.packed.LayerRows+P+PW+H+M+array+D+PW+Value.write.Goals.{else-LANES-gt1}
 
 pub write_packed-done-requires : goal.write_packed-done-requires
 write_packed-done-requires g c =

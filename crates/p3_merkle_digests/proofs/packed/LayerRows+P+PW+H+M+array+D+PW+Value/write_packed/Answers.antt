@@ -3,7 +3,7 @@ use Rattle.std.proofs.Common.{rules, arith, ◌≡◌, ℕ, ◌+◌, ◌*◌, �
 use Rattle.p3_support.specs.Lists.{lane_of}
 use Rattle.p3_merkle_digests.specs.Inner.Slots.{rows_over}
 use Rattle.p3_merkle_digests.proofs.LaneFacts.{group_end, group_more}
-use Rattle.p3_merkle_digests.proofs.rows.LayerRows+P+PW+H+M+array+D+PW+Value.write_packed.Goals as goal
+use Rattle.p3_merkle_digests.proofs.packed.LayerRows+P+PW+H+M+array+D+PW+Value.write_packed.Goals as goal
 
 pub loop-block-init : goal.loop-block-init
 loop-block-init g c = record { long = refl; filled = λ j none. absurd (omega (arith, none)) }
