@@ -2,13 +2,13 @@
 //! queries of one index have one row set, and queries under one node have the same rows of the matrices that belong to
 //! the node's layer.
 
-ghost use Rattle.std.specs.Prelude.{◌≡◌, ℕ, ◌<◌, ◌≤◌, ◌⊎◌, Some, None, List, [], All, false, length, slice_index_or};
-ghost use Rattle.std.specs.Prelude.{IfOk, MatchResult};
+ghost use Rattle.std.specs.Prelude.{◌≡◌, ℕ, ◌/◌, ◌^◌, ◌<◌, ◌≤◌, ◌⊎◌, Some, None, List, [], All, length, map};
+ghost use Rattle.std.specs.Prelude.{slice_index_or, IfOk, MatchResult};
 ghost use Rattle.std.specs.Cmp.Lexicographic.{pointwise};
 ghost use Rattle.std.specs.List.Sorted.{IsStrictlyIncreasing};
 ghost use Rattle.p3_support.specs.Batches.{heights_of, greatest};
 ghost use Rattle.p3_support.specs.Shown.{row_lists, row_sets};
-ghost use Rattle.p3_merkle_core.specs.Geometry.{has_rows, height_limit, shape_of, IsArity};
+ghost use Rattle.p3_merkle_core.specs.Geometry.{height_limit, shape_of, IsArity};
 ghost use Rattle.p3_merkle_core.specs.Inner.Agreement.{distinct, early_refusal, layers_refusal, matrices_with};
 ghost use Rattle.p3_merkle_core.specs.Inner.Agreement.{nodes_refusal, opened_of, opened_with, rows_refusal, slot_rows};
 ghost use Rattle.p3_merkle_core.specs.Inner.Agreement.{AreDistinctOf, AreSlots, AreSorted, IsAscending};
@@ -18,7 +18,7 @@ ghost use Rattle.p3_merkle_core.specs.declared.error.MerkleTreeError.TheVariants
 
 use crate::error::{MerkleTreeError, PrunedProofError};
 use crate::geometry::{check_widths, exponent_of};
-use crate::pruning::{check_indices, to_parents};
+use crate::pruning::check_indices;
 use crate::steps::{Steps, check_heights};
 use p3_support::matrix::Dimensions;
 use std::alloc::{AllocError, Global};
@@ -150,24 +150,27 @@ fn check_same_rows<T: Eq>(
 }
 
 /// Checks that slots under one node have the same rows of the matrices of its layer: each slot is compared with the
-/// first one under its node. The nodes of the slots ascend.
+/// first one under its node. The indices ascend, and a node has so many bits fewer than an index under it.
 fn check_layer<T: Eq>(
     matrices: &[usize],
-    nodes: &[usize],
+    indices: &[usize],
+    bits: usize,
     first_queries: &[usize],
     rows: &[Vec<Vec<T>>],
 ) -> Result<(), MerkleTreeError>
-    requires pairs { length nodes.now ≡ length first_queries.now }
-    requires ascending { IsAscending nodes.now }
+    requires pairs { length indices.now ≡ length first_queries.now }
+    requires ascending { IsAscending indices.now }
+    requires bits { bits < 64 }
     requires queries { All (λ query. query < length rows.now) first_queries.now }
     requires full { (k : ℕ) → k < length first_queries.now →
         All (λ matrix. matrix < length (slot_rows first_queries.now (row_sets rows.now) k)) matrices.now }
-    ensures { let refusal = nodes_refusal T.eq matrices.now nodes.now first_queries.now (row_sets rows.now) in
+    ensures { let nodes = map (λ i. i / 2 ^ bits) indices.now in
+        let refusal = nodes_refusal T.eq matrices.now nodes first_queries.now (row_sets rows.now) in
         MatchResult result (λ ok. refusal ≡ None) (λ e. refusal ≡ Some e) }
 {
     let mut first_slot = 0;
-    for slot in 1..nodes.len() {
-        if nodes[slot] == nodes[first_slot] {
+    for slot in 1..indices.len() {
+        if indices[slot] >> bits == indices[first_slot] >> bits {
             let own_rows = &rows[first_queries[slot]];
             let first_rows = &rows[first_queries[first_slot]];
             check_same_rows(matrices, slot, own_rows, first_rows)?;
@@ -195,26 +198,6 @@ fn list_matrices(
     Ok(())
 }
 
-/// The last layer above the leaves that has matrices, up to the cap's layer, and 0 where none has. `cap_layer` is at
-/// most the number of levels.
-fn last_with_rows(steps: &Steps<'_>, cap_layer: usize) -> usize
-    requires { cap_layer ≤ steps.now.num_levels }
-    ensures inside { result ≤ cap_layer }
-    ensures rest { let s = shape_of steps.now.arity steps.now.dimensions.now in
-        (l : ℕ) → result < l → l ≤ cap_layer → has_rows s l ≡ false }
-{
-    let mut last = 0;
-    let mut exponent = steps.exponent;
-    for level in 0..cap_layer {
-        let up = steps.up(steps.arity, level, exponent);
-        exponent = up.exponent;
-        if up.has_rows {
-            last = level + 1;
-        }
-    }
-    last
-}
-
 /// Checks that slots under one node have the same rows of the matrices of its layer, layer by layer up to the cap's.
 /// The row set of each slot has a row for each matrix.
 fn check_shared_rows<T: Eq>(
@@ -224,6 +207,9 @@ fn check_shared_rows<T: Eq>(
     queried: &DistinctQueries,
     rows: &[Vec<Vec<T>>],
 ) -> Result<(), MerkleTreeError>
+    requires arity { IsArity steps.now.arity }
+    requires low { greatest (heights_of steps.now.dimensions.now) ≤ height_limit }
+    requires below { All (λ i. i < greatest (heights_of steps.now.dimensions.now)) queried.now.indices.items }
     requires layer { cap_layer ≤ steps.now.num_levels }
     requires pairs { length queried.now.indices.items ≡ length queried.now.first_queries.items }
     requires ascending { IsStrictlyIncreasing queried.now.indices.items }
@@ -235,18 +221,22 @@ fn check_shared_rows<T: Eq>(
         (row_sets rows.now) in
         AnswersUnlessMemory result refusal }
 {
-    let mut nodes = Vec::from_slice(alloc, &queried.indices)?;
     let mut matrices = Vec::new(alloc);
     let mut exponent = steps.exponent;
-    let last = last_with_rows(steps, cap_layer);
     // No two slots are under one leaf, so the first layer to look at is the one above the leaves.
-    for level in 0..last {
+    for level in 0..cap_layer {
         let up = steps.up(steps.arity, level, exponent);
-        to_parents(&mut nodes, up.step);
         exponent = up.exponent;
         if up.has_rows {
             list_matrices(&mut matrices, steps.dimensions, exponent)?;
-            check_layer(&matrices, &nodes, &queried.first_queries, rows)?;
+            let bits = steps.exponent - exponent;
+            check_layer(
+                &matrices,
+                &queried.indices,
+                bits,
+                &queried.first_queries,
+                rows,
+            )?;
         }
     }
     Ok(())

@@ -137,17 +137,6 @@ pub fn position_of(node: usize, step: usize) -> usize
     node - step * parent_of(node, step)
 }
 
-/// Turns the nodes of a layer into their parents, in place. `step` is the number of a parent's children, and must be at
-/// least 1.
-pub(crate) fn to_parents(nodes: &mut [usize], step: usize)
-    requires { 0 < step }
-    ensures { nodes.new ≡ map (λ j. j / step) nodes.old }
-{
-    for node in nodes.iter_mut() {
-        *node = parent_of(*node, step);
-    }
-}
-
 /// Moves the parents of the nodes to the front, in order, each once where nodes side by side have it, and returns how
 /// many those are. What stands behind them then is of no use. `step` is the number of a parent's children, at least 1.
 fn parents_to_front(nodes: &mut [usize], step: usize) -> usize

@@ -129,7 +129,12 @@ check_shared_rows-requires g c =
     let firsts = c.in_ok-queried.queried.first_queries.items in
     let asked = asked_from (heights_of c.args.steps.now.dimensions.now) c.args.indices.now (length c.args.rows.now)
     c.args.num_digests c.in_ok-check_queries.ensures.answer in
+    let s = shape_of c.args.steps.now.arity c.args.steps.now.dimensions.now in
+    let leaves = slot_leaves s indices d c.args.cap_layer c.requires.arity asked.highest refl in
     record {
+      arity = c.requires.arity;
+      low = c.in_ok-check_queries.ensures.low;
+      below = rw c.in_ok-queried.ensures.indices leaves.below;
       layer = c.requires.layer;
       pairs = ap length c.in_ok-queried.ensures.indices ∙ sym (length-map d (first_query indices))
           ∙ ap length (sym c.in_ok-queried.ensures.first_queries);
