@@ -12,8 +12,8 @@ ghost use Rattle.p3_merkle_core.specs.Geometry.{height_limit, shape_of, IsArity}
 ghost use Rattle.p3_merkle_core.specs.Inner.Agreement.{distinct, early_refusal, layers_refusal, matrices_with};
 ghost use Rattle.p3_merkle_core.specs.Inner.Agreement.{nodes_refusal, opened_of, opened_with, rows_refusal, slot_rows};
 ghost use Rattle.p3_merkle_core.specs.Inner.Agreement.{AreDistinctOf, AreSlots, AreSorted, IsAscending};
-ghost use Rattle.p3_merkle_core.specs.Refusals.{digest_count_refusal, first_of, pruned_refusal, duplicate_refusal};
-ghost use Rattle.p3_merkle_core.specs.Refusals.{width_refusal, AnswersUnlessMemory};
+ghost use Rattle.p3_merkle_core.specs.Refusals.{digest_count_refusal, pruned_refusal, duplicate_refusal};
+ghost use Rattle.p3_merkle_core.specs.Refusals.{AnswersUnlessMemory};
 ghost use Rattle.p3_merkle_core.specs.declared.error.MerkleTreeError.TheVariants.{OutOfMemory};
 
 use crate::error::{MerkleTreeError, PrunedProofError};
@@ -32,19 +32,6 @@ pub struct DistinctQueries {
     pub first_queries: Vec<usize>,
     /// For each query, the slot of its index.
     pub slots: Vec<usize>,
-}
-
-/// The queries by ascending index: the index of each, and its position among the queries.
-fn sorted_queries(alloc: Global, indices: &[usize]) -> Result<Vec<(usize, usize)>, AllocError>
-    ensures { IfOk result (λ sorted. AreSorted sorted.items indices.now) }
-{
-    let count = indices.len();
-    let mut queries = Vec::with_capacity(alloc, count)?;
-    for query in 0..count {
-        queries.push_reserved((indices[query], query));
-    }
-    queries.sort_unstable();
-    Ok(queries)
 }
 
 /// The distinct indices of sorted queries, and the slot of each query's index, in query order.
@@ -75,12 +62,16 @@ fn distinct_slots(
 fn distinct_queries_of(alloc: Global, queries: &[usize]) -> Result<DistinctQueries, AllocError>
     ensures { IfOk result (λ queried. AreDistinctOf queried queries.now) }
 {
-    let sorted = sorted_queries(alloc, queries)?;
+    let mut sorted = Vec::with_capacity(alloc, queries.len())?;
+    for query in 0..queries.len() {
+        sorted.push_reserved((queries[query], query));
+    }
+    sorted.sort_unstable();
     let (indices, slots) = distinct_slots(alloc, &sorted, queries)?;
     let mut first_queries = vec![in alloc; queries.len(); indices.len()]?;
     // From the last query on, so that the first one of an index is written last.
-    for query in (0..queries.len()).rev() {
-        first_queries[slots[query]] = query;
+    for first in (0..queries.len()).rev() {
+        first_queries[slots[first]] = first;
     }
     Ok(DistinctQueries {
         indices,
@@ -107,23 +98,6 @@ fn check_repeats<T: Eq>(
         if query != first && rows[query] != rows[first] {
             return Err(PrunedProofError::InconsistentDuplicateOpenings { slot }.into());
         }
-    }
-    Ok(())
-}
-
-/// Checks that the row set of each of some queries has one row for each matrix, as wide as its matrix.
-fn check_first_widths<T>(
-    dimensions: &[Dimensions],
-    rows: &[Vec<Vec<T>>],
-    first_queries: &[usize],
-) -> Result<(), MerkleTreeError>
-    requires { All (λ query. query < length rows.now) first_queries.now }
-    ensures { let refusal = first_of
-        (λ query. width_refusal dimensions.now (slice_index_or (row_sets rows.now) query [])) first_queries.now in
-        MatchResult result (λ ok. refusal ≡ None) (λ e. refusal ≡ Some e) }
-{
-    for query in first_queries {
-        check_widths(dimensions, &rows[*query])?;
     }
     Ok(())
 }
@@ -283,7 +257,9 @@ pub fn check_pruned<T: Eq>(
     check_repeats(indices, rows, &queried)?;
     let mut leaves = Vec::from_slice(alloc, &queried.indices)?;
     check_digest_count(steps.boundary_len(cap_layer, &mut leaves), num_digests)?;
-    check_first_widths(steps.dimensions, rows, &queried.first_queries)?;
+    for query in &queried.first_queries {
+        check_widths(steps.dimensions, &rows[*query])?;
+    }
     check_shared_rows(alloc, steps, cap_layer, &queried, rows)?;
     Ok(queried)
 }

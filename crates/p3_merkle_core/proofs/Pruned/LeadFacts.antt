@@ -1,5 +1,5 @@
 -- The lowest slot under a node, and the rows that are compared with its rows.
-use Rattle.std.proofs.Common.{◌++◌, All, ◌≡◌, ◌≢◌, ℕ, zero, suc, ◌+◌, ◌-◌, ◌/◌, ◌^◌, ◌<◌, Bool, true, false, eqb, List}
+use Rattle.std.proofs.Common.{◌++◌, All, ◌≡◌, ◌≢◌, ℕ, zero, suc, ◌+◌, ◌-◌, ◌/◌, ◌^◌, ◌<◌, ◌≤◌, Bool, true, false, eqb, List}
 use Rattle.std.proofs.Common.{[], ◌∷◌, map, refl, ap, sym, ◌∙◌, arith, inl, inr, length, filter, get_or, eq-eqb, Option}
 use Rattle.std.proofs.Common.{None, Some, Vec, drop, drop-cons, add-one, not}
 use Rattle.std.specs.List.{list_any, range_with_len}
@@ -11,7 +11,7 @@ use Rattle.std.specs.Cmp.{IsEquivalence}
 use Rattle.std.specs.Cmp.Lexicographic.{pointwise}
 use Rattle.std.specs.List.Sorted.{IsStrictlyIncreasing}
 use Rattle.std.proofs.lemmas.Cmp.{lists_equiv}
-use Rattle.std.proofs.lemmas.List.{append_assoc, get_or_default, get_or-map, length-map}
+use Rattle.std.proofs.lemmas.List.{append_assoc, drop_all, get_or_default, get_or-map, length-map}
 use Rattle.p3_support.specs.Shown.{row_lists, row_sets}
 use Rattle.p3_support.specs.Lists.{is_among}
 use Rattle.p3_support.specs.Batches.{greatest, heights_of}
@@ -164,6 +164,12 @@ pub firsts_next : (h : ℕ → Option MerkleTreeError) (xs : List ℕ) (n : ℕ)
     n < length xs → first_of h (drop n xs) ≡ total → option_or (h (get_or xs n 0)) (first_of h (drop (n + 1) xs))
     ≡ total
 firsts_next h xs n total l so_far = rw add-one (rw (drop-cons xs n 0 l) at so_far)
+
+-- none is left to refuse, so none is refused
+pub all_fit : (read firsts : List ℕ) (h : ℕ → Option MerkleTreeError) (n : ℕ) → length read ≤ n → read ≡ firsts →
+    first_of h (drop n read) ≡ first_of h read → first_of h firsts ≡ None
+all_fit read firsts h n all is so_far =
+    ap (first_of h) (sym is) ∙ sym so_far ∙ ap (first_of h) (drop_all n read all)
 
 pub kept_or : {E : Type 0} (x y total : Option E) → option_or x y ≡ total → x ≡ None → y ≡ total
 kept_or x y total e n = rw n at e
