@@ -137,17 +137,17 @@ pub fn position_of(node: usize, step: usize) -> usize
     node - step * parent_of(node, step)
 }
 
-/// Moves the parents of the nodes to the front, in order, each once where nodes side by side have it, and returns how
-/// many those are. What stands behind them then is of no use. `step` is the number of a parent's children, at least 1.
-fn parents_to_front(nodes: &mut [usize], step: usize) -> usize
+/// Turns the covered nodes of a layer into those of the layer above, in place: each node's parent once, ascending. The
+/// nodes must ascend. `step` is the number of a parent's children, and must be at least 1.
+pub fn climb(covered: &mut Vec<usize>, step: usize)
     requires { 0 < step }
-    ensures count { result ≤ length nodes.new }
-    ensures front { take result nodes.new ≡ dedup nat_eq (map (λ j. j / step) nodes.old) }
+    ensures { IsAscending covered.old.items → covered.new.items ≡ distinct (map (λ j. j / step) covered.old.items) }
 {
-    let Some(first) = nodes.first() else {
-        return 0;
-    };
-    let mut last = parent_of(*first, step);
+    if covered.is_empty() {
+        return;
+    }
+    let nodes = covered.as_mut_slice();
+    let mut last = parent_of(nodes[0], step);
     nodes[0] = last;
     let mut kept = 0;
     for place in 1..nodes.len() {
@@ -157,17 +157,7 @@ fn parents_to_front(nodes: &mut [usize], step: usize) -> usize
         nodes[kept] = node;
         last = node;
     }
-    kept + 1
-}
-
-/// Turns the covered nodes of a layer into those of the layer above, in place: each node's parent once, ascending. The
-/// nodes must ascend. `step` is the number of a parent's children, and must be at least 1.
-pub fn climb(covered: &mut Vec<usize>, step: usize)
-    requires { 0 < step }
-    ensures { IsAscending covered.old.items → covered.new.items ≡ distinct (map (λ j. j / step) covered.old.items) }
-{
-    let count = parents_to_front(covered, step);
-    covered.truncate(count);
+    covered.truncate(kept + 1);
 }
 
 /// The digests of the children of some parents, `step` of each, parent by parent: a covered child has its digest, and
@@ -206,8 +196,7 @@ pub fn children_of<X: Copy>(
 }
 
 /// The path of each of some queries, in order, out of the layers up to the cap's, from the leaves on: on each layer
-/// below it all digests of the path's group except its own, ascending. A path has room for `capacity` siblings at
-/// first.
+/// below it all digests of the path's group except its own, ascending.
 ///
 /// # Errors
 ///
@@ -216,7 +205,6 @@ pub fn paths_out_of<X: Copy>(
     alloc: Global,
     layers: &[CoveredLayer<X>],
     indices: &[usize],
-    capacity: usize,
 ) -> Result<Vec<AuthPath<X>>, AllocError>
     requires some { 0 < length layers.now }
     requires linked { AreLinked layers.now }
@@ -224,6 +212,10 @@ pub fn paths_out_of<X: Copy>(
         HaveLeaves (slice_index_or layers.now 0 x).nodes.items (slice_index_or layers.now 0 x).slots.items indices.now }
     ensures { IfOk result (λ paths. shown_paths paths.items ≡ paths_out_of (levels_in layers.now) indices.now) }
 {
+    let mut capacity = 0usize;
+    for layer in layers {
+        capacity = capacity.saturating_add(layer.step.saturating_sub(1));
+    }
     let mut paths = Vec::with_capacity(alloc, indices.len())?;
     for query in 0..indices.len() {
         let siblings = path_out_of(alloc, layers, layers[0].slots[query], capacity)?;
@@ -235,7 +227,8 @@ pub fn paths_out_of<X: Copy>(
     Ok(paths)
 }
 
-/// The siblings on the path of the leaf at this position, out of the layers from the leaves on.
+/// The siblings on the path of the leaf at this position, out of the layers from the leaves on, with room for
+/// `capacity` of them at first.
 fn path_out_of<X: Copy>(
     alloc: Global,
     layers: &[CoveredLayer<X>],
