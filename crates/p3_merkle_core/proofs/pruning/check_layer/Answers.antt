@@ -71,7 +71,8 @@ loop-slot-preserved g c =
           (rows_read rows firsts first w.index-rows-first_queries-then-indices-slot.result
           w.deref-then-indices-slot.result.now c.requires.queries (omega (arith, c.requires.pairs))
           w.index-rows-first_queries-then-indices-slot.is w.deref-then-indices-slot.ensures.value)
-          (first_slot_kept nodes k first l is (mine ∙ w.if-indices-slot.true ∙ sym its_first)) w.in_ok-check_same_rows.ensures
+          (first_slot_kept nodes k first l is (mine ∙ w.if-indices-slot.true ∙ sym its_first))
+          w.in_ok-check_same_rows.ensures
       | else-indices-slot w ↦
           first_slot_agrees eq g.met.T.Eq.laws matrices nodes firsts (row_sets rows) k
           (first_slot_new nodes k first up l is
@@ -115,7 +116,8 @@ returns-in_err-check_same_rows g c =
     (rows_read rows firsts first c.index-rows-first_queries-then-indices-slot.result
     c.deref-then-indices-slot.result.now c.requires.queries (omega (arith, c.requires.pairs))
     c.index-rows-first_queries-then-indices-slot.is c.deref-then-indices-slot.ensures.value)
-    (first_slot_kept nodes k first (omega (arith, long, c.loop-slot-test.true)) is (mine ∙ c.if-indices-slot.true ∙ sym its_first)) c.in_err-check_same_rows.ensures in
+    (first_slot_kept nodes k first (omega (arith, long, c.loop-slot-test.true)) is (mine ∙ c.if-indices-slot.true ∙ sym
+    its_first)) c.in_err-check_same_rows.ensures in
     let found = found_or (h k) (first_of h (range_with_len (k + 1) (length nodes - (k + 1)))) total
     c.in_err-check_same_rows.field-0.0
     (slots_next h (length nodes) k total (omega (arith, long)) c.loop-slot.invariant.so_far) some in

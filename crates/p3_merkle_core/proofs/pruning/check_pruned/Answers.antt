@@ -1,5 +1,6 @@
 -- Each call answers one part of the definition, in its order.
-use Rattle.std.proofs.Common.{◌≡◌, ◌+◌, ◌<◌, ◌∙◌, ℕ, All, ap, arith, drop, get_or, sym, inl, inr, length, refl, [], None, Some}
+use Rattle.std.proofs.Common.{◌≡◌, ◌+◌, ◌<◌, ◌∙◌, ℕ, All, ap, arith, drop, get_or, sym, inl, inr, length, refl, []}
+use Rattle.std.proofs.Common.{None, Some}
 use Rattle.std.specs.Prelude.{slice_index_or}
 use Rattle.std.proofs.lemmas.List.{length-map}
 use Rattle.std.proofs.lemmas.Result.{err_from_is_err_and}
@@ -122,7 +123,8 @@ loop-query-preserved g c =
     rw (c.deref-query-items.ensures.value, ← asked.pairs) (firsts_inside
     c.in_ok-queried.queried.first_queries.items c.args.indices.now c.in_ok-queried.ensures.first_queries) in
     let read = set_read c.args.rows.now (get_or firsts n 0) c.index-rows-query.result
-    (inside n 0 c.loop-query-test.true) c.index-rows-query.is ∙ ap row_lists (sym c.deref-in-loop-query.ensures.value) in
+    (inside n 0 c.loop-query-test.true) c.index-rows-query.is ∙ ap row_lists (sym c.deref-in-loop-query.ensures.value)
+    in
     let h = λ (query : ℕ). width_refusal c.args.steps.now.dimensions.now
     (slice_index_or (row_sets c.args.rows.now) query []) in
     let none : h (get_or firsts n 0) ≡ None = rw read c.in_ok-check_widths.ensures in
@@ -148,7 +150,8 @@ returns-in_err-check_widths g c =
     let firsts = c.deref-query-items.result.now in
     let n = c.loop-query.query-index in
     let read = set_read c.args.rows.now (get_or firsts n 0) c.index-rows-query.result
-    (inside n 0 c.loop-query-test.true) c.index-rows-query.is ∙ ap row_lists (sym c.deref-in-loop-query.ensures.value) in
+    (inside n 0 c.loop-query-test.true) c.index-rows-query.is ∙ ap row_lists (sym c.deref-in-loop-query.ensures.value)
+    in
     let h = λ (query : ℕ). width_refusal c.args.steps.now.dimensions.now (slice_index_or sets query []) in
     let e = c.in_err-check_widths.field-0.0 in
     let here : h (get_or firsts n 0) ≡ Some e = rw read c.in_err-check_widths.ensures in

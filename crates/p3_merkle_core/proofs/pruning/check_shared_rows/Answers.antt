@@ -1,5 +1,6 @@
 -- Each turn is one level. No two slots are under one leaf.
-use Rattle.std.proofs.Common.{◌≡◌, ◌-◌, ◌+◌, ◌/◌, ◌^◌, ◌∙◌, suc, map, arith, refl, None, Some, add-one, ap, sym, inl, inr}
+use Rattle.std.proofs.Common.{◌≡◌, ◌-◌, ◌+◌, ◌/◌, ◌^◌, ◌∙◌, suc, map, arith, refl, None, Some, add-one, ap, sym, inl}
+use Rattle.std.proofs.Common.{inr}
 use Rattle.std.specs.List.{range_with_len}
 use Rattle.std.proofs.lemmas.Result.{err_from_is_err_and}
 use Rattle.p3_merkle_core.specs.Geometry.{ancestor, heights, layer_exponent, shape_of}
@@ -14,7 +15,8 @@ use Rattle.p3_merkle_core.proofs.Shapes.StepFacts.{layer_start}
 use Rattle.p3_merkle_core.proofs.Pruned.LeadFacts.{found_or, kept_or, layer_fault, layer_read}
 use Rattle.p3_merkle_core.proofs.Pruned.LeadFacts.{leaves_agree, levels_next, matrices_full, no_matrix, nodes_by_bits}
 use Rattle.p3_merkle_core.proofs.Pruned.SlotFacts.{ascending_from}
-use Rattle.p3_merkle_core.proofs.pruning.check_shared_rows.Goals.{then-up+in_ok-list_matrices+in_ok-check_layer, else-up}
+use Rattle.p3_merkle_core.proofs.pruning.check_shared_rows.Goals.{then-up+in_ok-list_matrices+in_ok-check_layer}
+use Rattle.p3_merkle_core.proofs.pruning.check_shared_rows.Goals.{else-up}
 use Rattle.p3_merkle_core.proofs.pruning.check_shared_rows.Goals as goal
 
 pub loop-level-init : goal.loop-level-init
@@ -98,7 +100,8 @@ returns-in_err-check_layer g c =
     let bits = c.args.steps.now.exponent - c.up-up.result.exponent in
     let nodes = map (λ i. i / 2 ^ bits) c.deref-then-up.result.now in
     let above : nodes ≡ map (ancestor s (l + 1)) leaves = rw c.deref-then-up.ensures.value
-    (nodes_by_bits s c.requires.arity (l + 1) bits (rw (at, c.args.steps.now.walked.leaves, layer_start s) refl) leaves c.requires.below) in
+    (nodes_by_bits s c.requires.arity (l + 1) bits (rw (at, c.args.steps.now.walked.leaves, layer_start s) refl) leaves
+    c.requires.below) in
     let some = layer_read eq s leaves firsts c.deref-then-up-2.result.now c.deref.result.now
     nodes sets (l + 1) c.up-up.result.exponent (Some e) at
     (c.deref.ensures.value ∙ c.in_ok-list_matrices.ensures) above
