@@ -3,7 +3,6 @@
 //! computes shapes and says why dimensions or rows are refused.
 #![tactic(auto)]
 
-pub mod agreement;
 pub mod cap;
 pub mod collision;
 pub mod consistency;

@@ -1,16 +1,26 @@
-//! Which nodes a pruned opening covers, and the paths that its levels hold: what needs no hash.
+//! Pruned openings: their form, and whether their rows agree; the nodes that they cover, and the paths that their
+//! layers hold. It needs no cap and no hash. Rows agree where queries of one index have one row set, and queries under
+//! one node have the same rows of the matrices that belong to the node's layer.
 
-ghost use Rattle.std.specs.Prelude.{◌≡◌, ◌+◌, ◌-◌, ◌*◌, ◌/◌, ◌%◌, ◌<◌, ◌≤◌, ◌++◌, Some, None, false, All, IfOk};
-ghost use Rattle.std.specs.Prelude.{MatchResult, length, map, nat_eq, remove, slice_index, slice_index_or, take};
-ghost use Rattle.std.specs.List.{dedup};
-ghost use Rattle.p3_merkle_core.specs.Geometry.{levels};
-ghost use Rattle.p3_merkle_core.specs.Inner.Agreement.{distinct, IsAscending};
-ghost use Rattle.p3_merkle_core.specs.Inner.Children.{levels_in, path_out_of, paths_out_of, AreChildren, AreLinked};
-ghost use Rattle.p3_merkle_core.specs.Inner.Children.{HaveLeaves, IsFamily};
-ghost use Rattle.p3_merkle_core.specs.Refusals.{queries_refusal};
-ghost use Rattle.p3_merkle_core.specs.Views.{shown_paths};
+ghost use Rattle.std.specs.Prelude.{◌≡◌, ℕ, ◌+◌, ◌-◌, ◌*◌, ◌/◌, ◌%◌, ◌^◌, ◌<◌, ◌≤◌, ◌⊎◌, ◌++◌, Some, None, List};
+ghost use Rattle.std.specs.Prelude.{[], All, IfOk, MatchResult, length, map, remove, slice_index, slice_index_or};
+ghost use Rattle.std.specs.Cmp.Lexicographic.{pointwise};
+ghost use Rattle.std.specs.List.Sorted.{IsStrictlyIncreasing};
+ghost use Rattle.p3_support.specs.Batches.{heights_of, greatest};
+ghost use Rattle.p3_support.specs.Shown.{row_lists, row_sets};
+ghost use Rattle.p3_merkle_core.specs.Geometry.{height_limit, shape_of, IsArity};
+ghost use Rattle.p3_merkle_core.specs.Inner.Agreement.{distinct, early_refusal, layers_refusal, matrices_with};
+ghost use Rattle.p3_merkle_core.specs.Inner.Agreement.{nodes_refusal, opened_of, opened_with, rows_refusal, slot_rows};
+ghost use Rattle.p3_merkle_core.specs.Inner.Agreement.{AreDistinctOf, AreSlots, AreSorted, IsAscending};
+ghost use Rattle.p3_merkle_core.specs.Inner.Children.{levels_in, path_out_of, AreChildren, AreLinked, IsFamily};
+ghost use Rattle.p3_merkle_core.specs.Refusals.{digest_count_refusal, duplicate_refusal, pruned_refusal};
+ghost use Rattle.p3_merkle_core.specs.Refusals.{queries_refusal, AnswersUnlessMemory};
+ghost use Rattle.p3_merkle_core.specs.declared.error.MerkleTreeError.TheVariants.{OutOfMemory};
 
-use crate::error::MerkleTreeError;
+use crate::error::{MerkleTreeError, PrunedProofError};
+use crate::geometry::{check_widths, exponent_of};
+use crate::steps::{Steps, check_heights};
+use p3_support::matrix::Dimensions;
 use std::alloc::{AllocError, Global};
 
 /// The digests of a pruned proof, which opens several leaves at once. [`PrunedMerklePaths`] is this proof at digests of
@@ -75,6 +85,17 @@ pub struct CoveredLayer<X> {
     pub children: Vec<X>,
 }
 
+/// The distinct indices of some queries, ascending. The slot of an index is its position among them.
+#[derive(Debug, Drop)]
+pub struct DistinctQueries {
+    /// The distinct indices, ascending.
+    pub indices: Vec<usize>,
+    /// For each of them, the position of its first query among the queries.
+    pub first_queries: Vec<usize>,
+    /// For each query, the slot of its index.
+    pub slots: Vec<usize>,
+}
+
 /// Checks that each index is below `max_height`, the tallest height of some matrices.
 ///
 /// # Errors
@@ -97,6 +118,273 @@ pub fn check_indices(max_height: usize, indices: &[usize]) -> Result<(), MerkleT
             max_height,
             index: highest,
         })
+    }
+}
+
+/// The distinct indices of sorted queries, and the slot of each query's index, in query order.
+fn distinct_slots(
+    alloc: Global,
+    sorted: &[(usize, usize)],
+    indices: &[usize],
+) -> Result<(Vec<usize>, Vec<usize>), AllocError>
+    requires { AreSorted sorted.now indices.now }
+    ensures distinct { IfOk result (λ found. found.0.items ≡ distinct indices.now) }
+    ensures slots { IfOk result (λ found. AreSlots found.1.items indices.now) }
+{
+    let mut distinct = Vec::with_capacity(alloc, sorted.len())?;
+    let mut slots = vec![in alloc; 0; indices.len()]?;
+    let mut previous = 0;
+    for position in 0..sorted.len() {
+        let (index, query) = sorted[position];
+        if position == 0 || previous != index {
+            distinct.push_reserved(index);
+        }
+        previous = index;
+        slots[query] = distinct.len() - 1;
+    }
+    Ok((distinct, slots))
+}
+
+/// The distinct indices of some queries, with the first query of each, and the slot of each query.
+fn distinct_queries_of(alloc: Global, queries: &[usize]) -> Result<DistinctQueries, AllocError>
+    ensures { IfOk result (λ queried. AreDistinctOf queried queries.now) }
+{
+    let mut sorted = Vec::with_capacity(alloc, queries.len())?;
+    for query in 0..queries.len() {
+        sorted.push_reserved((queries[query], query));
+    }
+    sorted.sort_unstable();
+    let (indices, slots) = distinct_slots(alloc, &sorted, queries)?;
+    let mut first_queries = vec![in alloc; queries.len(); indices.len()]?;
+    // From the last query on, so that the first one of an index is written last.
+    for first in (0..queries.len()).rev() {
+        first_queries[slots[first]] = first;
+    }
+    Ok(DistinctQueries {
+        indices,
+        first_queries,
+        slots,
+    })
+}
+
+/// Checks that each query has the row set of the first query of its index.
+fn check_repeats<T: Eq>(
+    indices: &[usize],
+    rows: &[Vec<Vec<T>>],
+    queried: &DistinctQueries,
+) -> Result<(), MerkleTreeError>
+    requires queried { AreDistinctOf queried.now indices.now }
+    requires pairs { length indices.now ≡ length rows.now }
+    ensures { let p = opened_of indices.now (row_sets rows.now) in
+        MatchResult result (λ ok. duplicate_refusal T.eq p ≡ None) (λ e. duplicate_refusal T.eq p ≡ Some e) }
+{
+    for query in 0..indices.len() {
+        let slot = queried.slots[query];
+        let first = queried.first_queries[slot];
+        // Nothing is compared where both are the same query.
+        if query != first && rows[query] != rows[first] {
+            return Err(PrunedProofError::InconsistentDuplicateOpenings { slot }.into());
+        }
+    }
+    Ok(())
+}
+
+/// Checks that a slot has the same rows of some matrices, given by their positions, as the first slot under its node.
+fn check_same_rows<T: Eq>(
+    matrices: &[usize],
+    slot: usize,
+    rows: &[Vec<T>],
+    first_rows: &[Vec<T>],
+) -> Result<(), MerkleTreeError>
+    requires rows { All (λ matrix. matrix < length rows.now) matrices.now }
+    requires first_rows { All (λ matrix. matrix < length first_rows.now) matrices.now }
+    ensures { let refusal = rows_refusal T.eq matrices.now slot (row_lists rows.now) (row_lists first_rows.now) in
+        MatchResult result (λ ok. refusal ≡ None) (λ e. refusal ≡ Some e) }
+{
+    for matrix in matrices {
+        let matrix = *matrix;
+        if rows[matrix] != first_rows[matrix] {
+            return Err(PrunedProofError::InconsistentGroupOpening { slot, matrix }.into());
+        }
+    }
+    Ok(())
+}
+
+/// Checks that slots under one node have the same rows of the matrices of its layer: each slot is compared with the
+/// first one under its node. The indices ascend, and a node has so many bits fewer than an index under it.
+fn check_layer<T: Eq>(
+    matrices: &[usize],
+    indices: &[usize],
+    bits: usize,
+    first_queries: &[usize],
+    rows: &[Vec<Vec<T>>],
+) -> Result<(), MerkleTreeError>
+    requires pairs { length indices.now ≡ length first_queries.now }
+    requires ascending { IsAscending indices.now }
+    requires bits { bits < 64 }
+    requires queries { All (λ query. query < length rows.now) first_queries.now }
+    requires full { (k : ℕ) → k < length first_queries.now →
+        All (λ matrix. matrix < length (slot_rows first_queries.now (row_sets rows.now) k)) matrices.now }
+    ensures { let nodes = map (λ i. i / 2 ^ bits) indices.now in
+        let refusal = nodes_refusal T.eq matrices.now nodes first_queries.now (row_sets rows.now) in
+        MatchResult result (λ ok. refusal ≡ None) (λ e. refusal ≡ Some e) }
+{
+    let mut first_slot = 0;
+    for slot in 1..indices.len() {
+        if indices[slot] >> bits == indices[first_slot] >> bits {
+            let own_rows = &rows[first_queries[slot]];
+            let first_rows = &rows[first_queries[first_slot]];
+            check_same_rows(matrices, slot, own_rows, first_rows)?;
+        } else {
+            first_slot = slot;
+        }
+    }
+    Ok(())
+}
+
+/// Fills a list with the positions of the matrices of this exponent, in input order, in place of what it has.
+fn list_matrices(
+    matrices: &mut Vec<usize>,
+    dimensions: &[Dimensions],
+    exponent: usize,
+) -> Result<(), AllocError>
+    ensures { IfOk result (λ done. matrices.new.items ≡ matrices_with (heights_of dimensions.now) exponent) }
+{
+    matrices.clear();
+    for matrix in 0..dimensions.len() {
+        if exponent_of(dimensions[matrix].height) == exponent {
+            matrices.push(matrix)?;
+        }
+    }
+    Ok(())
+}
+
+/// Checks that slots under one node have the same rows of the matrices of its layer, layer by layer up to the cap's.
+/// The row set of each slot has a row for each matrix.
+fn check_shared_rows<T: Eq>(
+    alloc: Global,
+    steps: &Steps<'_>,
+    cap_layer: usize,
+    queried: &DistinctQueries,
+    rows: &[Vec<Vec<T>>],
+) -> Result<(), MerkleTreeError>
+    requires arity { IsArity steps.now.arity }
+    requires low { greatest (heights_of steps.now.dimensions.now) ≤ height_limit }
+    requires below { All (λ i. i < greatest (heights_of steps.now.dimensions.now)) queried.now.indices.items }
+    requires layer { cap_layer ≤ steps.now.num_levels }
+    requires pairs { length queried.now.indices.items ≡ length queried.now.first_queries.items }
+    requires ascending { IsStrictlyIncreasing queried.now.indices.items }
+    requires queries { All (λ query. query < length rows.now) queried.now.first_queries.items }
+    requires full { (k : ℕ) → k < length queried.now.first_queries.items →
+        length (slot_rows queried.now.first_queries.items (row_sets rows.now) k) ≡ length steps.now.dimensions.now }
+    ensures { let s = shape_of steps.now.arity steps.now.dimensions.now in
+        let refusal = layers_refusal T.eq s cap_layer queried.now.indices.items queried.now.first_queries.items
+        (row_sets rows.now) in
+        AnswersUnlessMemory result refusal }
+{
+    let mut matrices = Vec::new(alloc);
+    let mut exponent = steps.exponent;
+    // No two slots are under one leaf, so the first layer to look at is the one above the leaves.
+    for level in 0..cap_layer {
+        let up = steps.up(steps.arity, level, exponent);
+        exponent = up.exponent;
+        if up.has_rows {
+            list_matrices(&mut matrices, steps.dimensions, exponent)?;
+            let bits = steps.exponent - exponent;
+            check_layer(
+                &matrices,
+                &queried.indices,
+                bits,
+                &queried.first_queries,
+                rows,
+            )?;
+        }
+    }
+    Ok(())
+}
+
+/// Checks all of a pruned opening that doesn't depend on the cap, which is layer `cap_layer`: whether paths can be
+/// restored from it. Returns its distinct indices, with their queries. `cap_layer` must be at most the number of
+/// levels, and the arity a power of two from 2 to 2^62.
+///
+/// It sorts the indices once, and allocates at most five numbers for each index at a time, and one for each matrix of a
+/// layer above the leaves. The number of allocations doesn't depend on the indices.
+///
+/// # Errors
+///
+/// The first of these that holds, where `OutOfMemory` may come once the indices are known to be in range:
+///
+/// - the error of [`check_heights`];
+/// - `WrongBatchSize`: the number of row sets is not that of the indices;
+/// - `SiblingCountMismatch`: there is a digest, and no index;
+/// - `IndexOutOfBounds`: the highest index is not below the tallest height;
+/// - `InconsistentDuplicateOpenings`: the row set of a query is not that of the first query of its index;
+/// - `SiblingCountMismatch`: the number of digests is not that of the boundary nodes;
+/// - `WrongBatchSize`, `WrongWidth`: by ascending indices, the error of [`check_widths`] for the first query of the
+///   index;
+/// - `InconsistentGroupOpening`: layer by layer, by ascending indices and in input order of the matrices, a row is
+///   not that of the lowest index under the same node.
+pub fn check_pruned<T: Eq>(
+    alloc: Global,
+    steps: &Steps<'_>,
+    cap_layer: usize,
+    indices: &[usize],
+    rows: &[Vec<Vec<T>>],
+    num_digests: usize,
+) -> Result<DistinctQueries, MerkleTreeError>
+    requires arity { IsArity steps.now.arity }
+    requires layer { cap_layer ≤ steps.now.num_levels }
+    ensures { let refusal = pruned_refusal T.eq (shape_of steps.now.arity steps.now.dimensions.now) cap_layer
+        (opened_with indices.now (row_sets rows.now) num_digests) in
+        MatchResult result (λ queried. (refusal ≡ None) × AreDistinctOf queried indices.now)
+        (λ e. (e ≡ OutOfMemory) ⊎ (refusal ≡ Some e)) }
+{
+    check_queries(steps, indices, rows.len(), num_digests)?;
+    let queried = distinct_queries_of(alloc, indices)?;
+    check_repeats(indices, rows, &queried)?;
+    let mut leaves = Vec::from_slice(alloc, &queried.indices)?;
+    check_digest_count(steps.boundary_len(cap_layer, &mut leaves), num_digests)?;
+    for query in &queried.first_queries {
+        check_widths(steps.dimensions, &rows[*query])?;
+    }
+    check_shared_rows(alloc, steps, cap_layer, &queried, rows)?;
+    Ok(queried)
+}
+
+/// Checks whether some indices can be queried with so many row sets and digests. It does not allocate.
+fn check_queries(
+    steps: &Steps<'_>,
+    indices: &[usize],
+    num_row_sets: usize,
+    num_digests: usize,
+) -> Result<(), MerkleTreeError>
+    ensures answer { let heights = heights_of steps.now.dimensions.now in
+        let refusal = early_refusal heights indices.now num_row_sets num_digests in
+        MatchResult result (λ ok. refusal ≡ None) (λ e. refusal ≡ Some e) }
+    ensures low { IfOk result (λ ok. greatest (heights_of steps.now.dimensions.now) ≤ height_limit) }
+{
+    check_heights(steps.dimensions)?;
+    if num_row_sets != indices.len() {
+        return Err(MerkleTreeError::WrongBatchSize {
+            expected: indices.len(),
+            got: num_row_sets,
+        });
+    }
+    if indices.is_empty() {
+        check_digest_count(0, num_digests)?;
+    }
+    check_indices(steps.max_height, indices)
+}
+
+/// Checks that a proof has as many digests as it should have.
+fn check_digest_count(expected: usize, got: usize) -> Result<(), MerkleTreeError>
+    ensures { MatchResult result (λ ok. digest_count_refusal expected got ≡ None)
+        (λ e. digest_count_refusal expected got ≡ Some e) }
+{
+    if expected == got {
+        Ok(())
+    } else {
+        Err(PrunedProofError::SiblingCountMismatch { expected, got }.into())
     }
 }
 
@@ -137,28 +425,17 @@ pub fn position_of(node: usize, step: usize) -> usize
     node - step * parent_of(node, step)
 }
 
-/// Turns the nodes of a layer into their parents, in place. `step` is the number of a parent's children, and must be at
-/// least 1.
-pub(crate) fn to_parents(nodes: &mut [usize], step: usize)
+/// Turns the covered nodes of a layer into those of the layer above, in place: each node's parent once, ascending. The
+/// nodes must ascend. `step` is the number of a parent's children, and must be at least 1.
+pub fn climb(covered: &mut Vec<usize>, step: usize)
     requires { 0 < step }
-    ensures { nodes.new ≡ map (λ j. j / step) nodes.old }
+    ensures { IsAscending covered.old.items → covered.new.items ≡ distinct (map (λ j. j / step) covered.old.items) }
 {
-    for node in nodes.iter_mut() {
-        *node = parent_of(*node, step);
+    if covered.is_empty() {
+        return;
     }
-}
-
-/// Moves the parents of the nodes to the front, in order, each once where nodes side by side have it, and returns how
-/// many those are. What stands behind them then is of no use. `step` is the number of a parent's children, at least 1.
-fn parents_to_front(nodes: &mut [usize], step: usize) -> usize
-    requires { 0 < step }
-    ensures count { result ≤ length nodes.new }
-    ensures front { take result nodes.new ≡ dedup nat_eq (map (λ j. j / step) nodes.old) }
-{
-    let Some(first) = nodes.first() else {
-        return 0;
-    };
-    let mut last = parent_of(*first, step);
+    let nodes = covered.as_mut_slice();
+    let mut last = parent_of(nodes[0], step);
     nodes[0] = last;
     let mut kept = 0;
     for place in 1..nodes.len() {
@@ -168,17 +445,7 @@ fn parents_to_front(nodes: &mut [usize], step: usize) -> usize
         nodes[kept] = node;
         last = node;
     }
-    kept + 1
-}
-
-/// Turns the covered nodes of a layer into those of the layer above, in place: each node's parent once, ascending. The
-/// nodes must ascend. `step` is the number of a parent's children, and must be at least 1.
-pub fn climb(covered: &mut Vec<usize>, step: usize)
-    requires { 0 < step }
-    ensures { IsAscending covered.old.items → covered.new.items ≡ distinct (map (λ j. j / step) covered.old.items) }
-{
-    let count = parents_to_front(covered, step);
-    covered.truncate(count);
+    covered.truncate(kept + 1);
 }
 
 /// The digests of the children of some parents, `step` of each, parent by parent: a covered child has its digest, and
@@ -216,38 +483,14 @@ pub fn children_of<X: Copy>(
     Ok(children)
 }
 
-/// The path of each of some queries, in order, out of the layers up to the cap's, from the leaves on: on each layer
-/// below it all digests of the path's group except its own, ascending. A path has room for `capacity` siblings at
-/// first.
+/// The siblings on the path of the leaf at this position, out of the layers from the leaves on, with room for
+/// `capacity` of them at first: on each layer below the last one all digests of the path's group except its own,
+/// ascending.
 ///
 /// # Errors
 ///
 /// `AllocError` if memory runs out.
-pub fn paths_out_of<X: Copy>(
-    alloc: Global,
-    layers: &[CoveredLayer<X>],
-    indices: &[usize],
-    capacity: usize,
-) -> Result<Vec<AuthPath<X>>, AllocError>
-    requires some { 0 < length layers.now }
-    requires linked { AreLinked layers.now }
-    requires queried { (x : CoveredLayer X) →
-        HaveLeaves (slice_index_or layers.now 0 x).nodes.items (slice_index_or layers.now 0 x).slots.items indices.now }
-    ensures { IfOk result (λ paths. shown_paths paths.items ≡ paths_out_of (levels_in layers.now) indices.now) }
-{
-    let mut paths = Vec::with_capacity(alloc, indices.len())?;
-    for query in 0..indices.len() {
-        let siblings = path_out_of(alloc, layers, layers[0].slots[query], capacity)?;
-        paths.push_reserved(AuthPath {
-            leaf_index: indices[query],
-            siblings,
-        });
-    }
-    Ok(paths)
-}
-
-/// The siblings on the path of the leaf at this position, out of the layers from the leaves on.
-fn path_out_of<X: Copy>(
+pub fn path_out_of<X: Copy>(
     alloc: Global,
     layers: &[CoveredLayer<X>],
     leaf: usize,

@@ -502,12 +502,14 @@ impl<'a> Steps<'a> {
     {
         let covered = leaves;
         let mut count = 0;
+        let mut exponent = self.exponent;
         for level in 0..layer {
-            let step = self.step(level);
+            let up = self.up(self.arity, level, exponent);
             let below = covered.len();
-            climb(covered, step);
-            let children = step * covered.len();
+            climb(covered, up.step);
+            let children = up.step * covered.len();
             count += children - below;
+            exponent = up.exponent;
         }
         count
     }

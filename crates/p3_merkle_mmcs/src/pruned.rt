@@ -23,7 +23,7 @@ use p3_merkle_core::pruning::{
 };
 use p3_merkle_core::steps::{check_heights, steps_of};
 use p3_merkle_prover::opener::steps_in;
-use p3_merkle_prover::pruned::{digests_of_boundary, rows_of_indices};
+use p3_merkle_prover::pruned_opener::{digests_of_boundary, rows_of_indices};
 use p3_merkle_prover::tree::MerkleTree;
 use p3_merkle_verifier::openings::PrunedOpeningRef;
 use p3_support::compress::PseudoCompressionFunction;

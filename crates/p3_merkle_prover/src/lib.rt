@@ -7,5 +7,5 @@ pub mod consistency;
 mod layer;
 mod layers;
 pub mod opener;
-pub mod pruned;
+pub mod pruned_opener;
 pub mod tree;

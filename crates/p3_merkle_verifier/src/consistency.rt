@@ -13,7 +13,8 @@ ghost use Rattle.p3_merkle_core.specs.Refusals.{is_entry as is_entry_of};
 ghost use Rattle.p3_merkle_verifier.specs.Inner.Checks.{functions_by};
 ghost use Rattle.p3_merkle_verifier.specs.Inner.Consistency.{evidence_in, old_values, IsAtMixed, IsCounted};
 
-use crate::path::{Checker, is_entry};
+use crate::path::Checker;
+use crate::pruned_check::is_entry;
 use p3_merkle_core::consistency::{Growth, LayerParts, MixedChildren};
 use p3_merkle_core::error::ConsistencyError;
 use p3_merkle_core::group::mixed_group;

@@ -8,12 +8,13 @@ ghost use Rattle.p3_support.specs.Shown.{row_lists};
 ghost use Rattle.p3_merkle_core.specs.Geometry.{layer_exponent, shape_of, step as step_of};
 ghost use Rattle.p3_merkle_core.specs.Checks.{params, siblings_below, words_of_exponent};
 ghost use Rattle.p3_merkle_core.specs.Nodes.{functions_of, padded};
-ghost use Rattle.p3_merkle_core.specs.Refusals.{answer_under, form_refusal, is_entry as is_entry_of};
+ghost use Rattle.p3_merkle_core.specs.Refusals.{answer_under, form_refusal};
 ghost use Rattle.p3_merkle_verifier.specs.Inner.Checks.{functions_by, opening_in, step_siblings, CanStep};
 ghost use Rattle.p3_merkle_verifier.specs.Inner.Checks.{IsLevelOfCheck, IsProgress};
 ghost use Rattle.p3_merkle_verifier.specs.Inner.Paths.{CanCheck, CanReach};
 
 use crate::openings::{OpenedRows, OpeningRef};
+use crate::pruned_check::is_entry;
 use p3_merkle_core::error::MerkleTreeError;
 use p3_merkle_core::geometry::check_widths;
 use p3_merkle_core::group::{group_with, pair_group};
@@ -126,16 +127,6 @@ fn check_form<T>(
         return Err(MerkleTreeError::IndexOutOfBounds { max_height, index });
     }
     Ok(())
-}
-
-/// Whether the roots have this digest at `node`.
-pub(crate) fn is_entry<X: PartialEq>(roots: &[X], node: usize, digest: &X) -> bool
-    ensures { result ≡ is_entry_of X.eq roots.now node digest.now }
-{
-    match roots.get(node) {
-        Some(root) => *root == *digest,
-        None => false,
-    }
 }
 
 /// Checks openings: it borrows the hasher of rows and the compression of nodes. `G` is the type of a group.

@@ -1,7 +1,7 @@
 -- Ascending lists of numbers: there is one of the numbers that pass a test, in groups, and with repeats dropped.
 use Rattle.std.proofs.Common.{◌≡◌, ℕ, zero, suc, ◌+◌, ◌-◌, ◌*◌, ◌/◌, ◌%◌, ◌<◌, ◌≤◌, Bool, true, false, not, eqb, ◌||◌}
 use Rattle.std.proofs.Common.{List, [], ◌∷◌, ◌++◌, map, refl, ap, sym, ◌∙◌, arith, inl, inr, length, filter, get_or}
-use Rattle.std.proofs.Common.{eq-eqb, AllPairs, length-append, take, drop, set, append-nil}
+use Rattle.std.proofs.Common.{eq-eqb, AllPairs, length-append}
 use Rattle.std.specs.List.{list_any, range_with_len, dedup, dedup_from, flat_map}
 use Rattle.std.specs.List.Sorted.{IsStrictlyIncreasing}
 use Rattle.std.proofs.lemmas.Bool.{cases_Bool, cases_eq, cases_lt, eqb-true, eqb-false, or_cases, or_left, or_right}
@@ -11,7 +11,6 @@ use Rattle.std.proofs.Math.Nat.{mul_comm, mul-le-mul_left}
 use Rattle.std.proofs.lemmas.List.Folds.{list_any-append, list_any_at}
 use Rattle.std.proofs.lemmas.List.Filters.{length-filter_both}
 use Rattle.std.proofs.lemmas.List.FromFn.{length-range_with_len}
-use Rattle.std.proofs.lemmas.List.{take_all, drop_all}
 use Rattle.std.proofs.lemmas.List.Kept.{AllPairs-from_increasing}
 use Rattle.p3_merkle_core.specs.Inner.Agreement.{IsAscending}
 
@@ -361,20 +360,6 @@ rising_length a b (x ∷ xs) le r below =
       rising_length (suc x) b xs (below x (or_left (eqb x x) (is_listed xs x) (eq-eqb x x refl))) r.1
           (λ j h. below j (or_right (eqb x j) (is_listed xs j) h)),
     )
-
--- ---- a list that is mapped in place
-
-pub mapped_more : (f : ℕ → ℕ) (zs xs : List ℕ) (i : ℕ) → i < length zs → xs ≡ map f (take i zs) ++ drop i zs →
-    set xs i (f (get_or xs i 0)) ≡ map f (take (i + 1) zs) ++ drop (i + 1) zs
-mapped_more f [] xs i h e = absurd (omega arith)
-mapped_more f (z ∷ zs) xs zero h e = rw e refl
-mapped_more f (z ∷ zs) xs (suc i) h e =
-    let k : suc i + 1 ≡ suc (i + 1) = omega arith in
-    rw (e, k) (ap (λ ys. f z ∷ ys) (mapped_more f zs (map f (take i zs) ++ drop i zs) i (omega arith) refl))
-
-pub mapped_all : (f : ℕ → ℕ) (zs xs : List ℕ) (i : ℕ) → length zs ≤ i → xs ≡ map f (take i zs) ++ drop i zs → xs
-    ≡ map f zs
-mapped_all f zs xs i h e = e ∙ rw (take_all i zs h, drop_all i zs h) (append-nil (map f zs))
 
 -- ---- by places
 

@@ -1,5 +1,5 @@
 -- The lowest slot under a node, and the rows that are compared with its rows.
-use Rattle.std.proofs.Common.{◌++◌, All, ◌≡◌, ◌≢◌, ℕ, zero, suc, ◌+◌, ◌-◌, ◌/◌, ◌<◌, ◌≤◌, Bool, true, false, eqb, List}
+use Rattle.std.proofs.Common.{◌++◌, All, ◌≡◌, ◌≢◌, ℕ, zero, suc, ◌+◌, ◌-◌, ◌/◌, ◌^◌, ◌<◌, ◌≤◌, Bool, true, false, eqb, List}
 use Rattle.std.proofs.Common.{[], ◌∷◌, map, refl, ap, sym, ◌∙◌, arith, inl, inr, length, filter, get_or, eq-eqb, Option}
 use Rattle.std.proofs.Common.{None, Some, Vec, drop, drop-cons, add-one, not}
 use Rattle.std.specs.List.{list_any, range_with_len}
@@ -11,15 +11,14 @@ use Rattle.std.specs.Cmp.{IsEquivalence}
 use Rattle.std.specs.Cmp.Lexicographic.{pointwise}
 use Rattle.std.specs.List.Sorted.{IsStrictlyIncreasing}
 use Rattle.std.proofs.lemmas.Cmp.{lists_equiv}
-use Rattle.std.specs.Vec.{with_items}
-use Rattle.std.proofs.lemmas.List.{append_assoc, get_or_default, get_or-map, length-map, with_items_is}
+use Rattle.std.proofs.lemmas.List.{append_assoc, drop_all, get_or_default, get_or-map, length-map}
 use Rattle.p3_support.specs.Shown.{row_lists, row_sets}
 use Rattle.p3_support.specs.Lists.{is_among}
-use Rattle.p3_support.specs.Batches.{heights_of}
-use Rattle.p3_merkle_core.specs.Geometry.{Shape, ancestor, exponent, has_rows, heights, layer_exponent, leaves_under}
-use Rattle.p3_merkle_core.specs.Geometry.{step}
-use Rattle.p3_merkle_core.proofs.Covered.CoveredFacts.{leaves_above_0}
-use Rattle.p3_merkle_core.proofs.Shapes.StepFacts.{anc_next, anc_start}
+use Rattle.p3_support.specs.Batches.{greatest, heights_of}
+use Rattle.p3_merkle_core.specs.Geometry.{Shape, ancestor, exponent, heights, layer_exponent, IsArity}
+use Rattle.p3_merkle_core.proofs.Shapes.LadderFacts.{shifted_is_anc}
+use Rattle.p3_merkle_core.proofs.Shapes.LevelFacts.{exponent_low}
+use Rattle.p3_merkle_core.proofs.Shapes.StepFacts.{anc_start}
 use Rattle.p3_support.specs.declared.matrix.Dimensions.{Dimensions}
 use Rattle.p3_merkle_core.specs.Refusals.{first_of}
 use Rattle.p3_merkle_core.specs.Inner.Agreement.{first_query, matrices_with, row_fault, rows_refusal, slot_rows}
@@ -27,7 +26,7 @@ use Rattle.p3_merkle_core.specs.Inner.Agreement.{nodes_refusal, IsAscending}
 use Rattle.p3_merkle_core.specs.declared.error.MerkleTreeError.{MerkleTreeError}
 use Rattle.p3_merkle_core.specs.declared.error.MerkleTreeError.TheVariants.{MalformedPrunedProof}
 use Rattle.p3_merkle_core.specs.declared.error.PrunedProofError.TheVariants.{InconsistentGroupOpening}
-use Rattle.p3_merkle_core.proofs.Lists.RisingFacts.{div_mono, listed_at, listed_in, none_kept, rising_from}
+use Rattle.p3_merkle_core.proofs.Lists.RisingFacts.{listed_at, listed_in, none_kept, rising_from}
 use Rattle.p3_merkle_core.proofs.Pruned.SlotFacts.{first_place, rising_order, set_read}
 
 -- ---- the first place of a number
@@ -166,6 +165,12 @@ pub firsts_next : (h : ℕ → Option MerkleTreeError) (xs : List ℕ) (n : ℕ)
     ≡ total
 firsts_next h xs n total l so_far = rw add-one (rw (drop-cons xs n 0 l) at so_far)
 
+-- none is left to refuse, so none is refused
+pub all_fit : (read firsts : List ℕ) (h : ℕ → Option MerkleTreeError) (n : ℕ) → length read ≤ n → read ≡ firsts →
+    first_of h (drop n read) ≡ first_of h read → first_of h firsts ≡ None
+all_fit read firsts h n all is so_far =
+    ap (first_of h) (sym is) ∙ sym so_far ∙ ap (first_of h) (drop_all n read all)
+
 pub kept_or : {E : Type 0} (x y total : Option E) → option_or x y ≡ total → x ≡ None → y ≡ total
 kept_or x y total e n = rw n at e
 
@@ -268,13 +273,6 @@ none_within g a zero none = refl
 none_within g a (suc n) none =
     rw (none a (omega arith)) (none_within g (a + 1) n (λ k h. none k (omega arith)))
 
-none_between : (g : ℕ → Option MerkleTreeError) (a n : ℕ) → ((k : ℕ) → a ≤ k → k < a + n → g k ≡ None) →
-    first_of g (range_with_len a n) ≡ None
-none_between g a zero none = refl
-none_between g a (suc n) none =
-    rw (none a (omega arith) (omega arith))
-    (none_between g (a + 1) n (λ k low high. none k (omega arith) (omega arith)))
-
 pub full_rows : {T A : Type 0} (rows : List (Vec T A)) (set : List (List T)) (n : ℕ) → row_lists rows ≡ set → length set
     ≡ n → length rows ≡ n
 full_rows rows set n e l = sym (length-map rows (λ row. row.items)) ∙ ap length e ∙ l
@@ -291,42 +289,21 @@ abbrev pub layer_fault : {T : Type 0} → (T → T → Bool) → Shape → List 
 layer_fault row_eq s leaves firsts sets l =
     nodes_refusal row_eq (matrices_with (heights s) (layer_exponent s l)) (map (ancestor s l) leaves) firsts sets
 
--- no row is refused above the last layer that has matrices
-pub none_above : {T : Type 0} (row_eq : T → T → Bool) (s : Shape) (leaves firsts : List ℕ)
-    (sets : List (List (List T))) (t last l : ℕ) (total : Option MerkleTreeError) →
-    ((k : ℕ) → last < k → k ≤ t → has_rows s k ≡ false) → last ≤ t → l ≡ last →
-    first_of (layer_fault row_eq s leaves firsts sets) (range_with_len (l + 1) (t - l)) ≡ total → total ≡ None
-none_above row_eq s leaves firsts sets t last l total rest inside here so_far =
-    sym so_far ∙ none_between (layer_fault row_eq s leaves firsts sets) (l + 1) (t - l)
-    (λ k low high. no_matrix row_eq (heights s) (layer_exponent s k) (map (ancestor s k) leaves) firsts sets
-    (rest k (omega arith) (omega arith)))
-
 pub nodes_start : (s : Shape) (leaves : List ℕ) → leaves ≡ map (ancestor s 0) leaves
 nodes_start s [] = refl
 nodes_start s (i ∷ leaves) = rw (anc_start s i) (ap (λ xs. i ∷ xs) (nodes_start s leaves))
 
-pub nodes_more : (s : Shape) (l n : ℕ) (leaves : List ℕ) → n ≡ step s l →
-    map (λ j. j / n) (map (ancestor s l) leaves) ≡ map (ancestor s (l + 1)) leaves
-nodes_more s l n [] is = refl
-nodes_more s l n (i ∷ leaves) is =
-    let here : ancestor s l i / n ≡ ancestor s (l + 1) i = rw (is, add-one) (sym (anc_next s l i)) in
-    rw (here, nodes_more s l n leaves is) refl
+-- the nodes of a layer: the leaves without the bits by which its exponent is below theirs
+pub nodes_by_bits : (s : Shape) → IsArity s.arity → (l bits : ℕ) →
+    bits ≡ exponent (greatest (heights s)) - layer_exponent s l → (leaves : List ℕ) →
+    All (λ i. i < greatest (heights s)) leaves → map (λ i. i / 2 ^ bits) leaves ≡ map (ancestor s l) leaves
+nodes_by_bits s w l bits is [] below = refl
+nodes_by_bits s w l bits is (i ∷ leaves) below =
+    let here : i / 2 ^ bits ≡ ancestor s l i =
+    rw is (shifted_is_anc s w l i (below 0 0 (omega arith)) (exponent_low s l)) in
+    rw (here, nodes_by_bits s w l bits is leaves (λ k d h. below (suc k) d (omega arith))) refl
 
--- the nodes of the next layer, which are written in place of a layer's
-pub nodes_above : {A : Type 0} (s : Shape) (l n : ℕ) (leaves slice divided : List ℕ) (nodes : Vec ℕ A) →
-    length slice ≡ nodes.len → slice ≡ nodes.items → nodes.items ≡ map (ancestor s l) leaves → divided
-    ≡ map (λ j. j / n) slice → n ≡ step s l → (with_items nodes divided).items ≡ map (ancestor s (l + 1)) leaves
-nodes_above s l n leaves slice divided nodes long value above is_divided is =
-    let same : length divided ≡ nodes.len = ap length is_divided ∙ length-map slice (λ j. j / n) ∙ long in
-    with_items_is nodes divided same ∙ is_divided ∙ ap (λ (js : List ℕ). map (λ j. j / n) js) (value ∙ above)
-    ∙ nodes_more s l n leaves is
-
--- what the check of a layer asks: a first query for each node, and rows of all matrices
-pub layer_pairs : (s : Shape) (l : ℕ) (leaves firsts nodes read : List ℕ) → length leaves ≡ length firsts → nodes
-    ≡ map (ancestor s l) leaves → read ≡ firsts → length nodes ≡ length read
-layer_pairs s l leaves firsts nodes read pairs is is_read =
-    ap length is ∙ length-map leaves (ancestor s l) ∙ pairs ∙ ap length (sym is_read)
-
+-- rows of all matrices
 pub matrices_full : {T : Type 0} (dimensions : List Dimensions) (firsts read matrices : List ℕ)
     (sets : List (List (List T))) (x : ℕ) →
     ((k : ℕ) → k < length firsts → length (slot_rows firsts sets k) ≡ length dimensions) → matrices
@@ -358,13 +335,3 @@ layer_read row_eq s leaves firsts read matrices nodes sets l x o is_x is_matrice
     ∙ ap (λ ys. nodes_refusal row_eq matrices ys firsts sets) (sym is_nodes)
     ∙ ap (λ ys. nodes_refusal row_eq matrices nodes ys sets) (sym is_read)
     ∙ e
-
--- nodes of ascending leaves ascend
-pub ascending_above : (s : Shape) (l : ℕ) (leaves nodes : List ℕ) → 2 ≤ s.arity → nodes ≡ map (ancestor s l) leaves →
-    IsAscending leaves → IsAscending nodes
-ascending_above s l leaves nodes two is up i j h k =
-    let low : j < length leaves = omega (arith, ap length is, length-map leaves (ancestor s l)) in
-    let read = get_or-map (ancestor s l) leaves in
-    rw (is, read i 0 0 (omega arith), read j 0 0 low)
-    (div_mono (leaves_under s l) (get_or leaves i 0) (get_or leaves j 0) (omega (arith, leaves_above_0 s two l))
-    (up i j h low))

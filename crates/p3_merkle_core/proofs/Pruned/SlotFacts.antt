@@ -251,7 +251,7 @@ queried_at indices k h = listed_at indices k 0 h
 
 -- ---- from layer to layer
 
-divided : (xs : List ℕ) (n : ℕ) → 0 < n → IsAscending xs → IsAscending (map (λ j. j / n) xs)
+pub divided : (xs : List ℕ) (n : ℕ) → 0 < n → IsAscending xs → IsAscending (map (λ j. j / n) xs)
 divided xs n some up i j h k =
     let low : j < length xs = omega (arith, length-map xs (λ j. j / n)) in
     let read = get_or-map (λ j. j / n) xs in

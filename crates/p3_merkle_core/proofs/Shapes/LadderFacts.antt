@@ -186,24 +186,30 @@ leaves_under_is s w l h le =
     ∙ ap (λ n. n / 2 ^ x) (exact s w l h ∙ sym (ap (λ n. 2 ^ n) sum) ∙ pow-add 2 (e - x) x)
     ∙ mul-div_cancel (2 ^ (e - x)) (pow_pos x)
 
+-- the ancestor of an index has as many bits fewer as the layer's exponent is below that of the leaves
+pub shifted_is_anc : (s : Shape) → IsArity s.arity → (l index : ℕ) → index < greatest (heights s) →
+    layer_exponent s l ≤ exponent (greatest (heights s)) →
+    index / 2 ^ (exponent (greatest (heights s)) - layer_exponent s l) ≡ ancestor s l index
+shifted_is_anc s w l index below le =
+    let top = exponent_covers (greatest (heights s)) in
+    elim (cases_eq (layer_exponent s l) 0) [
+      | inl z ↦
+          let c = rw z at (covers s w l) in
+          let first : index < 2 ^ (exponent (greatest (heights s)) - layer_exponent s l) =
+          rw (z, sub-zero) (omega arith) in
+          let second : index < leaves_under s l = omega arith in
+          div-eq_of_lt first ∙ sym (div-eq_of_lt second)
+      | inr nz ↦ ap (λ n. index / n) (sym (leaves_under_is s w l (omega arith) le))
+    ]
+
 -- the row of a matrix that belongs to an index is the index's ancestor at the layer of the matrix's exponent
 pub row_is_anc_at : (s : Shape) → IsArity s.arity → (height index l : ℕ) → height ≤ greatest (heights s) →
     index < greatest (heights s) → layer_exponent s l ≡ exponent height →
     halved_index (greatest (heights s)) height index ≡ ancestor s l index
 row_is_anc_at s w height index l in_reach below is =
-    let top = exponent_covers (greatest (heights s)) in
     let le = exponent_mono height (greatest (heights s)) in_reach in
-    elim (cases_eq (exponent height) 0) [
-      | inl z ↦
-          let c = rw (is ∙ z) at (covers s w l) in
-          let first : index < 2 ^ (exponent (greatest (heights s)) - exponent height) =
-          rw (z, sub-zero) (omega arith) in
-          let second : index < leaves_under s l = omega arith in
-          div-eq_of_lt first ∙ sym (div-eq_of_lt second)
-      | inr nz ↦
-          ap (λ n. index / n) (ap (λ x. 2 ^ (exponent (greatest (heights s)) - x)) (sym is)
-          ∙ sym (leaves_under_is s w l (omega arith) (omega arith)))
-    ]
+    ap (λ x. index / 2 ^ (exponent (greatest (heights s)) - x)) (sym is)
+    ∙ shifted_is_anc s w l index below (omega arith)
 
 pub row_is_anc : (s : Shape) → IsArity s.arity → (i index : ℕ) → i < length (heights s) → index < greatest (heights s) →
     halved_index (greatest (heights s)) (get_or (heights s) i 0) index

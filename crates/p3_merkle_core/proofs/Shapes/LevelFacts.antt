@@ -28,7 +28,7 @@ pub height_at_is : (m x e a k : ℕ) → a ≡ m - 1 → e ≡ exponent m → k 
 height_at_is m x e a k is_a is_e is_k = rw (is_a, is_k, is_e) refl
 
 -- no layer's exponent is above the tallest height's
-exponent_low : (s : Shape) (l : ℕ) → layer_exponent s l ≤ exponent (greatest (heights s))
+pub exponent_low : (s : Shape) (l : ℕ) → layer_exponent s l ≤ exponent (greatest (heights s))
 exponent_low s zero = omega (arith, layer_start s)
 exponent_low s (suc l) = elim (step_cases s l) [
   | inl k ↦ omega (arith, k.1, exponent_low s l)

@@ -12,7 +12,7 @@ use Rattle.p3_merkle_core.specs.Refusals.{slots_below, slot_of, unless, width_re
 use Rattle.p3_merkle_core.specs.declared.error.MerkleTreeError.{MerkleTreeError}
 use Rattle.p3_merkle_core.specs.declared.error.MerkleTreeError.TheVariants.{MalformedPrunedProof}
 use Rattle.p3_merkle_core.specs.declared.error.PrunedProofError.TheVariants.{InconsistentGroupOpening}
-use Rattle.p3_merkle_core.specs.declared.agreement.DistinctQueries.{DistinctQueries}
+use Rattle.p3_merkle_core.specs.declared.pruning.DistinctQueries.{DistinctQueries}
 
 -- the distinct indices, ascending
 unfoldable pub distinct : List ℕ → List ℕ

@@ -1,5 +1,5 @@
 -- Each turn is one level.
-use Rattle.std.proofs.Common.{◌≡◌, length, refl, arith, ap, ◌∙◌}
+use Rattle.std.proofs.Common.{◌≡◌, add-one, length, refl, arith, ap, ◌∙◌}
 use Rattle.p3_merkle_core.specs.Geometry.{shape_of, layer_exponent}
 use Rattle.p3_merkle_core.specs.Pruning.{CanQuery, pruned_len}
 use Rattle.p3_merkle_core.proofs.Shapes.StepFacts.{step_above_1}
@@ -12,6 +12,7 @@ pub loop-level-init : goal.loop-level-init
 loop-level-init c =
     let s = shape_of c.args.self.now.arity c.args.self.now.dimensions.now in
     record {
+      at = c.args.self.now.walked.leaves;
       covered = leaves_alone s c.args.leaves.now.items c.requires.ascending c.requires.below;
       so_far = refl;
     }
@@ -19,7 +20,7 @@ loop-level-init c =
 pub climb-requires : goal.climb-requires
 climb-requires c =
     let s = shape_of c.args.self.now.arity c.args.self.now.dimensions.now in
-    omega (arith, c.step-step.ensures, step_above_1 s c.loop-level.level c.args.self.now.walked.wide)
+    omega (arith, c.up-up.ensures.step, step_above_1 s c.loop-level.level c.args.self.now.walked.wide)
 
 pub overflow_mul-children : goal.overflow_mul-children
 overflow_mul-children c =
@@ -34,10 +35,10 @@ overflow_mul-children c =
     let many : c.len-below.result ≡ length c.loop-level.covered.items = omega arith in
     let fewer : c.len.result ≡ length c.climb.new.covered.items = omega arith in
     let k = turned s c.args.leaves.now.items c.args.layer w c.requires.low l (layer_exponent s l)
-    c.step-step.result c.loop-level.count c.len-below.result c.len.result c.loop-level.covered.items
+    c.up-up.result.step c.loop-level.count c.len-below.result c.len.result c.loop-level.covered.items
     c.climb.new.covered.items c.loop-level-test.true
-    refl c.step-step.ensures c.loop-level.invariant.so_far c.loop-level.invariant.covered
-    (climbed s c.args.leaves.now.items c.args.layer w l c.step-step.result c.loop-level.covered.items
+    refl c.up-up.ensures.step c.loop-level.invariant.so_far c.loop-level.invariant.covered
+    (climbed s c.args.leaves.now.items c.args.layer w l c.up-up.result.step c.loop-level.covered.items
     c.climb.new.covered.items c.loop-level-test.true c.climb.ensures) many fewer in
     omega (arith, k.1.mul_fits)
 
@@ -54,10 +55,10 @@ overflow_sub-count c =
     let many : c.len-below.result ≡ length c.loop-level.covered.items = omega arith in
     let fewer : c.len.result ≡ length c.climb.new.covered.items = omega arith in
     let k = turned s c.args.leaves.now.items c.args.layer w c.requires.low l (layer_exponent s l)
-    c.step-step.result c.loop-level.count c.len-below.result c.len.result c.loop-level.covered.items
+    c.up-up.result.step c.loop-level.count c.len-below.result c.len.result c.loop-level.covered.items
     c.climb.new.covered.items c.loop-level-test.true
-    refl c.step-step.ensures c.loop-level.invariant.so_far c.loop-level.invariant.covered
-    (climbed s c.args.leaves.now.items c.args.layer w l c.step-step.result c.loop-level.covered.items
+    refl c.up-up.ensures.step c.loop-level.invariant.so_far c.loop-level.invariant.covered
+    (climbed s c.args.leaves.now.items c.args.layer w l c.up-up.result.step c.loop-level.covered.items
     c.climb.new.covered.items c.loop-level-test.true c.climb.ensures) many fewer in
     k.1.sub_fits
 
@@ -74,10 +75,10 @@ overflow_add-count c =
     let many : c.len-below.result ≡ length c.loop-level.covered.items = omega arith in
     let fewer : c.len.result ≡ length c.climb.new.covered.items = omega arith in
     let k = turned s c.args.leaves.now.items c.args.layer w c.requires.low l (layer_exponent s l)
-    c.step-step.result c.loop-level.count c.len-below.result c.len.result c.loop-level.covered.items
+    c.up-up.result.step c.loop-level.count c.len-below.result c.len.result c.loop-level.covered.items
     c.climb.new.covered.items c.loop-level-test.true
-    refl c.step-step.ensures c.loop-level.invariant.so_far c.loop-level.invariant.covered
-    (climbed s c.args.leaves.now.items c.args.layer w l c.step-step.result c.loop-level.covered.items
+    refl c.up-up.ensures.step c.loop-level.invariant.so_far c.loop-level.invariant.covered
+    (climbed s c.args.leaves.now.items c.args.layer w l c.up-up.result.step c.loop-level.covered.items
     c.climb.new.covered.items c.loop-level-test.true c.climb.ensures) many fewer in
     omega (arith, k.1.add_fits)
 
@@ -94,12 +95,12 @@ loop-level-preserved c =
     let many : c.len-below.result ≡ length c.loop-level.covered.items = omega arith in
     let fewer : c.len.result ≡ length c.climb.new.covered.items = omega arith in
     let k = turned s c.args.leaves.now.items c.args.layer w c.requires.low l (layer_exponent s l)
-    c.step-step.result c.loop-level.count c.len-below.result c.len.result c.loop-level.covered.items
+    c.up-up.result.step c.loop-level.count c.len-below.result c.len.result c.loop-level.covered.items
     c.climb.new.covered.items c.loop-level-test.true
-    refl c.step-step.ensures c.loop-level.invariant.so_far c.loop-level.invariant.covered
-    (climbed s c.args.leaves.now.items c.args.layer w l c.step-step.result c.loop-level.covered.items
+    refl c.up-up.ensures.step c.loop-level.invariant.so_far c.loop-level.invariant.covered
+    (climbed s c.args.leaves.now.items c.args.layer w l c.up-up.result.step c.loop-level.covered.items
     c.climb.new.covered.items c.loop-level-test.true c.climb.ensures) many fewer in
-    record { covered = k.0; so_far = k.1.next }
+    record { at = rw add-one c.up-up.ensures.exponent; covered = k.0; so_far = k.1.next }
 
 pub returns : goal.returns
 returns c =

@@ -1,0 +1,247 @@
+-- Each call answers one part of the definition, in its order.
+use Rattle.std.proofs.Common.{◌≡◌, ◌+◌, ◌<◌, ◌∙◌, ℕ, All, ap, arith, drop, get_or, sym, inl, inr, length, refl, []}
+use Rattle.std.proofs.Common.{None, Some}
+use Rattle.std.specs.Prelude.{slice_index_or}
+use Rattle.std.proofs.lemmas.List.{length-map}
+use Rattle.std.proofs.lemmas.Result.{err_from_is_err_and}
+use Rattle.p3_support.specs.Shown.{row_lists, row_sets}
+use Rattle.p3_support.specs.Batches.{heights_of}
+use Rattle.p3_merkle_core.specs.Geometry.{shape_of}
+use Rattle.p3_merkle_core.specs.Refusals.{first_of, width_refusal}
+use Rattle.p3_merkle_core.specs.Inner.Agreement.{distinct, first_query, layers_refusal}
+use Rattle.p3_merkle_core.proofs.Lists.RisingFacts.{increasing_from}
+use Rattle.p3_merkle_core.proofs.Covered.LeafFacts.{slot_leaves}
+use Rattle.p3_merkle_core.proofs.Pruned.AgreeFacts.{firsts_inside}
+use Rattle.p3_merkle_core.proofs.Pruned.LeadFacts.{all_fit, firsts_next, found_or, kept_or}
+use Rattle.p3_merkle_core.proofs.Pruned.SlotFacts.{distinct_rising, set_read}
+use Rattle.p3_merkle_core.proofs.Pruned.PrunedFacts.{asked_from, full_from, late_from, pruned_counted, pruned_early}
+use Rattle.p3_merkle_core.proofs.Pruned.PrunedFacts.{pruned_late}
+use Rattle.p3_merkle_core.proofs.pruning.check_pruned.Goals as goal
+
+pub returns-in_err-check_queries : goal.returns-in_err-check_queries
+returns-in_err-check_queries g c =
+    let s = shape_of c.args.steps.now.arity c.args.steps.now.dimensions.now in
+    let e = c.in_err-check_queries.field-0.0 in
+    let early = rw (← length-map c.args.rows.now (λ rows. row_lists rows.items)) at
+    c.in_err-check_queries.ensures.answer in
+    let left = err_from_is_err_and c.from_residual.result c.from_residual.ensures.1 in
+    let found = pruned_early g.T.PartialEq.eq s c.args.cap_layer c.args.indices.now (row_sets c.args.rows.now)
+    c.args.num_digests e early in
+    rw left.1 (inr (found ∙ ap (λ e. Some e) (sym left.2)))
+
+pub returns-in_err-queried : goal.returns-in_err-queried
+returns-in_err-queried g c =
+    let left = err_from_is_err_and c.from_residual-in_err-queried.result c.from_residual-in_err-queried.ensures.1 in
+    rw left.1 (inl left.2)
+
+pub check_repeats-requires-clause-queried : goal.check_repeats-requires-clause-queried
+check_repeats-requires-clause-queried g c = c.in_ok-queried.ensures
+
+pub check_repeats-requires-clause-pairs : goal.check_repeats-requires-clause-pairs
+check_repeats-requires-clause-pairs g c = (
+    asked_from (heights_of c.args.steps.now.dimensions.now) c.args.indices.now (length c.args.rows.now)
+    c.args.num_digests c.in_ok-check_queries.ensures.answer
+    ).pairs
+
+pub returns-in_err-check_repeats : goal.returns-in_err-check_repeats
+returns-in_err-check_repeats g c =
+    let s = shape_of c.args.steps.now.arity c.args.steps.now.dimensions.now in
+    let early = rw (← length-map c.args.rows.now (λ rows. row_lists rows.items)) at
+    c.in_ok-check_queries.ensures.answer in
+    let left = err_from_is_err_and c.from_residual-in_err-check_repeats.result
+    c.from_residual-in_err-check_repeats.ensures.1 in
+    let found = pruned_counted g.T.PartialEq.eq s c.args.cap_layer c.args.indices.now (row_sets c.args.rows.now)
+    c.args.num_digests c.in_err-check_repeats.field-0.0 early (rw c.in_err-check_repeats.ensures refl) in
+    rw left.1 (inr (found ∙ ap (λ e. Some e) (sym left.2)))
+
+pub returns-in_err-leaves : goal.returns-in_err-leaves
+returns-in_err-leaves g c =
+    let left = err_from_is_err_and c.from_residual-in_err-leaves.result c.from_residual-in_err-leaves.ensures.1 in
+    rw left.1 (inl left.2)
+
+pub boundary_len-requires : goal.boundary_len-requires
+boundary_len-requires g c =
+    let s = shape_of c.args.steps.now.arity c.args.steps.now.dimensions.now in
+    let leaves = slot_leaves s c.args.indices.now c.in_ok-leaves.leaves.items c.args.cap_layer c.requires.arity
+    (asked_from (heights_of c.args.steps.now.dimensions.now) c.args.indices.now (length c.args.rows.now)
+    c.args.num_digests c.in_ok-check_queries.ensures.answer).highest
+    (c.in_ok-leaves.ensures.items ∙ c.deref.ensures.value ∙ c.in_ok-queried.ensures.indices) in
+    record {
+      arity = c.requires.arity;
+      low = c.in_ok-check_queries.ensures.low;
+      layer = c.requires.layer;
+      below = leaves.below;
+      ascending = leaves.ascending;
+    }
+
+pub returns-in_err-check_digest_count : goal.returns-in_err-check_digest_count
+returns-in_err-check_digest_count g c =
+    let s = shape_of c.args.steps.now.arity c.args.steps.now.dimensions.now in
+    let early = rw (← length-map c.args.rows.now (λ rows. row_lists rows.items)) at
+    c.in_ok-check_queries.ensures.answer in
+    let leaves = slot_leaves s c.args.indices.now c.in_ok-leaves.leaves.items c.args.cap_layer c.requires.arity
+    (asked_from (heights_of c.args.steps.now.dimensions.now) c.args.indices.now (length c.args.rows.now)
+    c.args.num_digests c.in_ok-check_queries.ensures.answer).highest
+    (c.in_ok-leaves.ensures.items ∙ c.deref.ensures.value ∙ c.in_ok-queried.ensures.indices) in
+    let left = err_from_is_err_and c.from_residual-in_err-check_digest_count.result
+    c.from_residual-in_err-check_digest_count.ensures.1 in
+    let some = rw (c.boundary_len.ensures ∙ leaves.count) at c.in_err-check_digest_count.ensures in
+    let found = pruned_counted g.T.PartialEq.eq s c.args.cap_layer c.args.indices.now (row_sets c.args.rows.now)
+    c.args.num_digests c.in_err-check_digest_count.field-0.0 early
+    (rw (c.in_ok-check_repeats.ensures, some) refl) in
+    rw left.1 (inr (found ∙ ap (λ e. Some e) (sym left.2)))
+
+pub loop-query-init : goal.loop-query-init
+loop-query-init g c = refl
+
+-- a first query is a query
+pub bounds-rows-query : goal.bounds-rows-query
+bounds-rows-query g c =
+    let asked = asked_from (heights_of c.args.steps.now.dimensions.now) c.args.indices.now (length c.args.rows.now)
+    c.args.num_digests c.in_ok-check_queries.ensures.answer in
+    let inside : All (λ query. query < length c.args.rows.now) c.deref-query-items.result.now =
+    rw (c.deref-query-items.ensures.value, ← asked.pairs) (firsts_inside
+    c.in_ok-queried.queried.first_queries.items c.args.indices.now c.in_ok-queried.ensures.first_queries) in
+    inside c.loop-query.query-index 0 c.loop-query-test.true
+
+pub offset_bounds-rows-query : goal.offset_bounds-rows-query
+offset_bounds-rows-query g c =
+    let asked = asked_from (heights_of c.args.steps.now.dimensions.now) c.args.indices.now (length c.args.rows.now)
+    c.args.num_digests c.in_ok-check_queries.ensures.answer in
+    let inside : All (λ query. query < length c.args.rows.now) c.deref-query-items.result.now =
+    rw (c.deref-query-items.ensures.value, ← asked.pairs) (firsts_inside
+    c.in_ok-queried.queried.first_queries.items c.args.indices.now c.in_ok-queried.ensures.first_queries) in
+    omega (arith, inside c.loop-query.query-index 0 c.loop-query-test.true)
+
+pub loop-query-preserved : goal.loop-query-preserved
+loop-query-preserved g c =
+    let firsts = c.deref-query-items.result.now in
+    let n = c.loop-query.query-index in
+    let asked = asked_from (heights_of c.args.steps.now.dimensions.now) c.args.indices.now (length c.args.rows.now)
+    c.args.num_digests c.in_ok-check_queries.ensures.answer in
+    let inside : All (λ query. query < length c.args.rows.now) c.deref-query-items.result.now =
+    rw (c.deref-query-items.ensures.value, ← asked.pairs) (firsts_inside
+    c.in_ok-queried.queried.first_queries.items c.args.indices.now c.in_ok-queried.ensures.first_queries) in
+    let read = set_read c.args.rows.now (get_or firsts n 0) c.index-rows-query.result
+    (inside n 0 c.loop-query-test.true) c.index-rows-query.is ∙ ap row_lists (sym c.deref-in-loop-query.ensures.value)
+    in
+    let h = λ (query : ℕ). width_refusal c.args.steps.now.dimensions.now
+    (slice_index_or (row_sets c.args.rows.now) query []) in
+    let none : h (get_or firsts n 0) ≡ None = rw read c.in_ok-check_widths.ensures in
+    kept_or (h (get_or firsts n 0)) (first_of h (drop (n + 1) firsts)) (first_of h firsts)
+    (firsts_next h firsts n (first_of h firsts) c.loop-query-test.true c.loop-query.invariant) none
+
+pub returns-in_err-check_widths : goal.returns-in_err-check_widths
+returns-in_err-check_widths g c =
+    let s = shape_of c.args.steps.now.arity c.args.steps.now.dimensions.now in
+    let early = rw (← length-map c.args.rows.now (λ rows. row_lists rows.items)) at
+    c.in_ok-check_queries.ensures.answer in
+    let leaves = slot_leaves s c.args.indices.now c.in_ok-leaves.leaves.items c.args.cap_layer c.requires.arity
+    (asked_from (heights_of c.args.steps.now.dimensions.now) c.args.indices.now (length c.args.rows.now)
+    c.args.num_digests c.in_ok-check_queries.ensures.answer).highest
+    (c.in_ok-leaves.ensures.items ∙ c.deref.ensures.value ∙ c.in_ok-queried.ensures.indices) in
+    let queried = c.in_ok-queried.queried in
+    let sets = row_sets c.args.rows.now in
+    let asked = asked_from (heights_of c.args.steps.now.dimensions.now) c.args.indices.now (length c.args.rows.now)
+    c.args.num_digests c.in_ok-check_queries.ensures.answer in
+    let inside : All (λ query. query < length c.args.rows.now) c.deref-query-items.result.now =
+    rw (c.deref-query-items.ensures.value, ← asked.pairs) (firsts_inside queried.first_queries.items
+    c.args.indices.now c.in_ok-queried.ensures.first_queries) in
+    let firsts = c.deref-query-items.result.now in
+    let n = c.loop-query.query-index in
+    let read = set_read c.args.rows.now (get_or firsts n 0) c.index-rows-query.result
+    (inside n 0 c.loop-query-test.true) c.index-rows-query.is ∙ ap row_lists (sym c.deref-in-loop-query.ensures.value)
+    in
+    let h = λ (query : ℕ). width_refusal c.args.steps.now.dimensions.now (slice_index_or sets query []) in
+    let e = c.in_err-check_widths.field-0.0 in
+    let here : h (get_or firsts n 0) ≡ Some e = rw read c.in_err-check_widths.ensures in
+    let some : first_of h queried.first_queries.items ≡ Some e = rw c.deref-query-items.ensures.value at
+    (found_or (h (get_or firsts n 0)) (first_of h (drop (n + 1) firsts)) (first_of h firsts) e
+    (firsts_next h firsts n (first_of h firsts) c.loop-query-test.true c.loop-query.invariant) here) in
+    let count = rw (c.boundary_len.ensures ∙ leaves.count) at c.in_ok-check_digest_count.ensures in
+    let left = err_from_is_err_and c.from_residual-in_err-check_widths.result
+    c.from_residual-in_err-check_widths.ensures.1 in
+    let found = pruned_late g.T.PartialEq.eq s c.args.cap_layer queried.indices.items queried.first_queries.items
+    c.args.indices.now sets c.args.num_digests (Some e) c.in_ok-queried.ensures.indices
+    c.in_ok-queried.ensures.first_queries early c.in_ok-check_repeats.ensures count
+    (rw some refl) in
+    rw left.1 (inr (found ∙ ap (λ e. Some e) (sym left.2)))
+
+pub check_shared_rows-requires : goal.check_shared_rows-requires
+check_shared_rows-requires g c =
+    let indices = c.args.indices.now in
+    let d = distinct indices in
+    let firsts = c.in_ok-queried.queried.first_queries.items in
+    let asked = asked_from (heights_of c.args.steps.now.dimensions.now) c.args.indices.now (length c.args.rows.now)
+    c.args.num_digests c.in_ok-check_queries.ensures.answer in
+    let s = shape_of c.args.steps.now.arity c.args.steps.now.dimensions.now in
+    let leaves = slot_leaves s indices d c.args.cap_layer c.requires.arity asked.highest refl in
+    record {
+      arity = c.requires.arity;
+      low = c.in_ok-check_queries.ensures.low;
+      below = rw c.in_ok-queried.ensures.indices leaves.below;
+      layer = c.requires.layer;
+      pairs = ap length c.in_ok-queried.ensures.indices ∙ sym (length-map d (first_query indices))
+          ∙ ap length (sym c.in_ok-queried.ensures.first_queries);
+      ascending = rw c.in_ok-queried.ensures.indices (increasing_from 0 d (distinct_rising indices));
+      queries = rw (← asked.pairs) (firsts_inside firsts indices c.in_ok-queried.ensures.first_queries);
+      full = full_from c.args.steps.now.dimensions.now firsts (row_sets c.args.rows.now)
+          (all_fit c.deref-query-items.result.now _ _ c.loop-query.query-index (omega arith)
+          c.deref-query-items.ensures.value c.loop-query.invariant);
+    }
+
+pub returns-in_err-check_shared_rows : goal.returns-in_err-check_shared_rows
+returns-in_err-check_shared_rows g c =
+    let s = shape_of c.args.steps.now.arity c.args.steps.now.dimensions.now in
+    let early = rw (← length-map c.args.rows.now (λ rows. row_lists rows.items)) at
+    c.in_ok-check_queries.ensures.answer in
+    let leaves = slot_leaves s c.args.indices.now c.in_ok-leaves.leaves.items c.args.cap_layer c.requires.arity
+    (asked_from (heights_of c.args.steps.now.dimensions.now) c.args.indices.now (length c.args.rows.now)
+    c.args.num_digests c.in_ok-check_queries.ensures.answer).highest
+    (c.in_ok-leaves.ensures.items ∙ c.deref.ensures.value ∙ c.in_ok-queried.ensures.indices) in
+    let queried = c.in_ok-queried.queried in
+    let sets = row_sets c.args.rows.now in
+    let widths = first_of (λ query. width_refusal c.args.steps.now.dimensions.now (slice_index_or sets query []))
+    queried.first_queries.items in
+    let groups = layers_refusal g.T.PartialEq.eq s c.args.cap_layer queried.indices.items queried.first_queries.items
+    sets in
+    let count = rw (c.boundary_len.ensures ∙ leaves.count) at c.in_ok-check_digest_count.ensures in
+    let left = err_from_is_err_and c.from_residual-in_err-check_shared_rows.result
+    c.from_residual-in_err-check_shared_rows.ensures.1 in
+    let e = c.in_err-check_shared_rows.field-0.0 in
+    let none : widths ≡ None = all_fit c.deref-query-items.result.now _ _
+    c.loop-query.query-index (omega arith) c.deref-query-items.ensures.value c.loop-query.invariant in
+    elim c.in_err-check_shared_rows.ensures [
+      | inl memory ↦ rw left.1 (inl (left.2 ∙ memory))
+      | inr some ↦
+          let found = pruned_late g.T.PartialEq.eq s c.args.cap_layer queried.indices.items queried.first_queries.items
+          c.args.indices.now sets c.args.num_digests (Some e) c.in_ok-queried.ensures.indices
+          c.in_ok-queried.ensures.first_queries early c.in_ok-check_repeats.ensures count
+          (late_from widths groups (Some e) none some) in
+          rw left.1 (inr (found ∙ ap (λ e. Some e) (sym left.2)))
+    ]
+
+pub returns : goal.returns
+returns g c =
+    let s = shape_of c.args.steps.now.arity c.args.steps.now.dimensions.now in
+    let early = rw (← length-map c.args.rows.now (λ rows. row_lists rows.items)) at
+    c.in_ok-check_queries.ensures.answer in
+    let leaves = slot_leaves s c.args.indices.now c.in_ok-leaves.leaves.items c.args.cap_layer c.requires.arity
+    (asked_from (heights_of c.args.steps.now.dimensions.now) c.args.indices.now (length c.args.rows.now)
+    c.args.num_digests c.in_ok-check_queries.ensures.answer).highest
+    (c.in_ok-leaves.ensures.items ∙ c.deref.ensures.value ∙ c.in_ok-queried.ensures.indices) in
+    let queried = c.in_ok-queried.queried in
+    let sets = row_sets c.args.rows.now in
+    let widths = first_of (λ query. width_refusal c.args.steps.now.dimensions.now (slice_index_or sets query []))
+    queried.first_queries.items in
+    let groups = layers_refusal g.T.PartialEq.eq s c.args.cap_layer queried.indices.items queried.first_queries.items
+    sets in
+    let count = rw (c.boundary_len.ensures ∙ leaves.count) at c.in_ok-check_digest_count.ensures in
+    let none : widths ≡ None = all_fit c.deref-query-items.result.now _ _
+    c.loop-query.query-index (omega arith) c.deref-query-items.ensures.value c.loop-query.invariant in (
+      pruned_late g.T.PartialEq.eq s c.args.cap_layer queried.indices.items queried.first_queries.items
+          c.args.indices.now sets c.args.num_digests None c.in_ok-queried.ensures.indices
+          c.in_ok-queried.ensures.first_queries early c.in_ok-check_repeats.ensures count
+          (late_from widths groups None none c.in_ok-check_shared_rows.ensures),
+      c.in_ok-queried.ensures,
+    )

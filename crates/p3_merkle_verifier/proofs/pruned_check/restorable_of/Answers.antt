@@ -1,0 +1,88 @@
+-- What is not refused restores, and its distinct indices are the covered leaves.
+use Rattle.std.proofs.Common.{◌∙◌, [], ap, length, map, refl, replicate, sym}
+use Rattle.std.proofs.lemmas.List.{length-map, length-replicate}
+use Rattle.std.proofs.lemmas.Result.{err_from_is_err_and}
+use Rattle.p3_support.specs.Batches.{greatest}
+use Rattle.p3_support.specs.Shown.{row_lists, row_sets}
+use Rattle.p3_merkle_core.specs.Geometry.{heights, shape_of}
+use Rattle.p3_merkle_core.specs.Inner.Agreement.{distinct, opened_with}
+use Rattle.p3_merkle_core.specs.Refusals.{ok_unless}
+use Rattle.p3_merkle_core.proofs.Pruned.AgreeFacts.{firsts_inside}
+use Rattle.p3_merkle_core.proofs.Pruned.Answered.{restorable}
+use Rattle.p3_merkle_core.proofs.Pruned.PrunedFacts.{asked_of}
+use Rattle.p3_merkle_core.proofs.Pruned.SlotFacts.{all_below, distinct_from, distinct_queried}
+use Rattle.p3_merkle_core.proofs.Shapes.GateFacts.{none_large_from_lawful, tallest_fits}
+use Rattle.p3_merkle_verifier.specs.Inner.RestoredLevels.{node_of_query}
+use Rattle.p3_merkle_verifier.proofs.LayerFacts.{agreed_with}
+use Rattle.p3_merkle_verifier.proofs.RefusalFacts.{handed_on}
+use Rattle.p3_merkle_verifier.proofs.StartFacts.{queried_by_firsts}
+use Rattle.p3_merkle_verifier.proofs.pruned_check.restorable_of.Goals as goal
+
+pub returns-in_err-queried-clause-steps : goal.returns-in_err-queried-clause-steps
+returns-in_err-queried-clause-steps g c =
+    let p = err_from_is_err_and c.from_residual.result c.from_residual.ensures.1 in
+    rw p.1 tt
+
+pub returns-in_err-queried-clause-layer : goal.returns-in_err-queried-clause-layer
+returns-in_err-queried-clause-layer g c =
+    let p = err_from_is_err_and c.from_residual.result c.from_residual.ensures.1 in
+    rw p.1 tt
+
+pub returns-in_err-queried-clause-opening : goal.returns-in_err-queried-clause-opening
+returns-in_err-queried-clause-opening g c =
+    let p = err_from_is_err_and c.from_residual.result c.from_residual.ensures.1 in
+    rw p.1 tt
+
+pub returns-in_err-queried-clause-leaves : goal.returns-in_err-queried-clause-leaves
+returns-in_err-queried-clause-leaves g c =
+    let p = err_from_is_err_and c.from_residual.result c.from_residual.ensures.1 in
+    rw p.1 tt
+
+pub returns-in_err-queried-clause-answer : goal.returns-in_err-queried-clause-answer
+returns-in_err-queried-clause-answer g c =
+    handed_on c.from_residual.result c.in_err-queried.field-0.0 _ c.from_residual.ensures.1 c.in_err-queried.ensures
+
+pub invariant_of-restorable : goal.invariant_of-restorable
+invariant_of-restorable g c =
+    let eq = g.P.Value.PartialEq.eq in
+    let s = shape_of c.args.steps.now.arity c.args.steps.now.dimensions.now in
+    let t = c.args.cap_layer in
+    let opening = c.args.opening in
+    let rows = row_sets opening.sets.now in
+    let p = opened_with opening.indices.now rows (length opening.sent.now) in
+    let none = c.in_ok-queried.ensures.0 in
+    let r = restorable eq s t p g.met.P.PackedValue.eq_is_equality (ap (λ refusal. ok_unless refusal (tt {0})) none) in
+    let asked = asked_of eq s t p none in
+    record {
+      queried = record { well_shaped = c.requires.arity; below = r.below; in_tree = c.requires.in_tree };
+      low = tallest_fits (heights s) (none_large_from_lawful (heights s) r.lawful);
+      pairs = sym (length-map opening.sets.now (λ rows. row_lists rows.items)) ∙ sym asked.pairs;
+      all_sent = sym (length-replicate (length opening.sent.now) []) ∙ r.count;
+      agreed = agreed_with s t opening.indices.now rows (replicate (length opening.sent.now) []) [] r.agreed;
+      fit = r.rows_fit;
+    }
+
+pub returns-clause-leaves : goal.returns-clause-leaves
+returns-clause-leaves g c =
+    let s = shape_of c.args.steps.now.arity c.args.steps.now.dimensions.now in
+    let opening = c.args.opening in
+    let indices = opening.indices.now in
+    let p = opened_with indices (row_sets opening.sets.now) (length opening.sent.now) in
+    let asked = asked_of g.P.Value.PartialEq.eq s c.args.cap_layer p c.in_ok-queried.ensures.0 in
+    let queried = c.in_ok-queried.ensures.1 in
+    record {
+      coverage = record {
+        nodes_are = queried.indices
+            ∙ sym (distinct_from s indices (all_below (greatest (heights s)) indices asked.highest));
+        queries_are = queried.indices ∙ queried_by_firsts s indices (distinct indices) (distinct_queried indices)
+            ∙ ap (map (node_of_query s indices 0)) (sym queried.first_queries);
+        among = firsts_inside c.in_ok-queried.queried.first_queries.items indices queried.first_queries;
+        at_exponent = c.args.steps.now.walked.leaves;
+        sent_below = refl;
+      };
+      childless = refl;
+      slots = record {
+        one_each = queried.slots.one_each;
+        leaf = λ k h. let slot = queried.slots.each k h in rw queried.indices (slot.place, slot.there);
+      };
+    }

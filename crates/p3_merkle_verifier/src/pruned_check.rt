@@ -1,0 +1,483 @@
+//! Pruned openings: their check, and the path of each query, restored. Both walk up the covered nodes layer by layer,
+//! and digest the rows that queries opened there and the nodes' children.
+
+ghost use Rattle.std.specs.Prelude.{◌≡◌, ◌/◌, ◌<◌, ◌≤◌, ◌==◌, ℕ, [], All, IfOk, length, map, replicate, slice_index};
+ghost use Rattle.std.specs.Prelude.{slice_index_or, zip};
+ghost use Rattle.std.specs.List.{dedup, list_all, range_with_len};
+ghost use Rattle.p3_support.specs.Batches.{heights_of};
+ghost use Rattle.p3_support.specs.Shown.{row_sets};
+ghost use Rattle.p3_merkle_core.specs.Checks.{params, words_of_exponent};
+ghost use Rattle.p3_merkle_core.specs.Geometry.{shape_of};
+ghost use Rattle.p3_merkle_core.specs.Inner.Agreement.{opened_with};
+ghost use Rattle.p3_merkle_core.specs.Inner.Children.{AreParentSlots};
+ghost use Rattle.p3_merkle_core.specs.Nodes.{functions_of, Functions};
+ghost use Rattle.p3_merkle_core.specs.Pruning.{restored_paths};
+ghost use Rattle.p3_merkle_core.specs.Refusals.{cap_refusal, is_entry as is_entry_of, pruned_refusal};
+ghost use Rattle.p3_merkle_core.specs.Refusals.{pruned_refusal_under, AnswersUnlessMemory};
+ghost use Rattle.p3_merkle_core.specs.Views.{shown_paths};
+ghost use Rattle.p3_merkle_digests.specs.Inner.Slots.{rows_over};
+ghost use Rattle.p3_merkle_verifier.specs.Inner.Checks.{functions_by};
+ghost use Rattle.p3_merkle_verifier.specs.Inner.NodeDigests.{child_group, group_digest, query_digest};
+ghost use Rattle.p3_merkle_verifier.specs.Inner.OpenedMatrices.{row_in};
+ghost use Rattle.p3_merkle_verifier.specs.Inner.Paths.{CanCheck};
+ghost use Rattle.p3_merkle_verifier.specs.Inner.RestoredLevels.{opened_by, pruned_in, tree_of, AreLayers, AreLeaves};
+ghost use Rattle.p3_merkle_verifier.specs.Inner.RestoredLevels.{AreRestored, IsClimb, IsCoveredAt, IsLayer};
+ghost use Rattle.p3_merkle_verifier.specs.Inner.RestoredLevels.{IsLayerAbove};
+
+use crate::openings::{OpenedMatrix, PrunedOpeningRef, RestorableOpening};
+use crate::path::Checker;
+use p3_merkle_core::error::MerkleTreeError;
+use p3_merkle_core::geometry::exponent_of;
+use p3_merkle_core::pruning::{
+    AuthPath, CoveredLayer, check_pruned, children_of, parent_of, path_out_of,
+};
+use p3_merkle_core::steps::{StepUp, Steps};
+use p3_merkle_digests::batched::{compress_children, inject_row_digests};
+use p3_merkle_digests::batched::LayerRows;
+use p3_support::compress::PseudoCompressionFunction;
+use p3_support::hasher::CryptographicHasher;
+use p3_support::packed::PackedValue;
+use std::alloc::{AllocError, Global};
+use std::marker::PhantomData;
+
+/// The parents of some nodes, each once, a query under each, and for each node the position of its parent. The nodes
+/// ascend, and `queries` has a query under each; a parent has that of its first child.
+fn parents_of(
+    alloc: Global,
+    nodes: &[usize],
+    queries: &[usize],
+    step: usize,
+) -> Result<(Vec<usize>, Vec<usize>, Vec<usize>), AllocError>
+    requires step { 0 < step }
+    requires pairs { length queries.now ≡ length nodes.now }
+    ensures parents { IfOk result (λ above. above.0.items ≡ dedup ◌==◌ (map (λ j. j / step) nodes.now)) }
+    ensures queries { (node : ℕ → ℕ) → nodes.now ≡ map node queries.now →
+        IfOk result (λ above. map (λ k. node k / step) above.1.items ≡ dedup ◌==◌ (map (λ j. j / step) nodes.now)) }
+    ensures among { (n : ℕ) → All (λ k. k < n) queries.now → IfOk result (λ above. All (λ k. k < n) above.1.items) }
+    ensures slots { IfOk result (λ above. AreParentSlots step nodes.now above.0.items above.2.items) }
+{
+    let mut parents = Vec::with_capacity(alloc, nodes.len())?;
+    let mut above = Vec::with_capacity(alloc, nodes.len())?;
+    let mut slots = Vec::with_capacity(alloc, nodes.len())?;
+    let mut previous = 0;
+    for slot in 0..nodes.len() {
+        let parent = parent_of(nodes[slot], step);
+        if slot == 0 || previous != parent {
+            parents.push_reserved(parent);
+            above.push_reserved(queries[slot]);
+        }
+        slots.push_reserved(parents.len() - 1);
+        previous = parent;
+    }
+    Ok((parents, above, slots))
+}
+
+/// A pruned opening that restores, under a cap that is a layer of the tree, and its covered leaves.
+fn restorable_of<'a, P: PackedValue, X>(
+    alloc: Global,
+    steps: &'a Steps<'a>,
+    cap_layer: usize,
+    opening: PrunedOpeningRef<'a, P::Value, X>,
+) -> Result<(RestorableOpening<'a, P::Value, X>, CoveredLayer<X>), MerkleTreeError>
+    requires { CanCheck (shape_of steps.now.arity steps.now.dimensions.now) cap_layer }
+    ensures answer { let s = shape_of steps.now.arity steps.now.dimensions.now in
+        let p = opened_with opening.entry.indices.now (row_sets opening.entry.sets.now)
+        (length opening.entry.sent.now) in
+        AnswersUnlessMemory result (pruned_refusal P.Value.eq s cap_layer p) }
+    ensures steps { IfOk result (λ made. made.0.steps.now ≡ steps.now) }
+    ensures layer { IfOk result (λ made. made.0.cap_layer ≡ cap_layer) }
+    ensures opening { IfOk result (λ made. made.0.opening ≡ opening.entry) }
+    ensures leaves { IfOk result (λ made. AreLeaves (tree_of made.0) made.0.opening.indices.now made.1) }
+{
+    let PrunedOpeningRef {
+        indices,
+        sets,
+        sent,
+    } = opening;
+    let queried = check_pruned(alloc, steps, cap_layer, indices, sets, sent.len())?;
+    let restorable = RestorableOpening {
+        steps,
+        cap_layer,
+        opening,
+    };
+    let leaves = CoveredLayer {
+        nodes: queried.indices,
+        queries: queried.first_queries,
+        slots: queried.slots,
+        exponent: steps.exponent,
+        used: 0,
+        step: 0,
+        has_rows: true,
+        children: Vec::new(alloc),
+    };
+    Ok((restorable, leaves))
+}
+
+/// The layer above `level`, which is below the cap's layer. A covered child has its digest in `digests`; each other
+/// child has the next digest of the proof.
+fn layer_above<T, X: Copy>(
+    alloc: Global,
+    restorable: &RestorableOpening<'_, T, X>,
+    level: usize,
+    below: &CoveredLayer<X>,
+    digests: &[X],
+) -> Result<CoveredLayer<X>, AllocError>
+    requires level { level < restorable.now.cap_layer }
+    requires coverage { IsCoveredAt (tree_of restorable.now) restorable.now.opening.indices.now level below.now }
+    requires digests { length digests.now ≡ length below.now.nodes.items }
+    ensures { IfOk result (λ above. IsLayerAbove (tree_of restorable.now) restorable.now.opening.indices.now level
+        below.now digests.now restorable.now.opening.sent.now above) }
+{
+    let steps = restorable.steps;
+    let StepUp {
+        step,
+        has_rows,
+        exponent,
+    } = steps.up(steps.arity, level, below.exponent);
+    let (nodes, queries, slots) = parents_of(alloc, &below.nodes, &below.queries, step)?;
+    let left = &restorable.opening.sent[below.used..];
+    let children = children_of(alloc, &below.nodes, digests, &nodes, step, left)?;
+    let used = below.used + (children.len() - below.nodes.len());
+    Ok(CoveredLayer {
+        nodes,
+        queries,
+        slots,
+        exponent,
+        used,
+        step,
+        has_rows,
+        children,
+    })
+}
+
+/// The rows that the queries of some covered nodes opened, of the matrices that have the layer's exponent, in input
+/// order.
+fn opened_matrices<'a, T, X>(
+    alloc: Global,
+    restorable: &'a RestorableOpening<'_, T, X>,
+    covered: &'a CoveredLayer<X>,
+) -> Result<Vec<OpenedMatrix<'a, T>>, AllocError>
+    requires { All (λ k. k < length restorable.now.opening.indices.now) covered.now.queries.items }
+    ensures heights { let queries = covered.now.queries.items in
+        IfOk result (λ matrices. All (λ m. length m.queries.now ≡ length queries) matrices.items) }
+    ensures rows { let sets = row_sets restorable.now.opening.sets.now in
+        let heights = heights_of restorable.now.steps.now.dimensions.now in
+        let queries = covered.now.queries.items in
+        IfOk result (λ matrices. (j : ℕ) → j < length queries → rows_over row_in matrices.items j
+        ≡ words_of_exponent covered.now.exponent (zip heights (slice_index_or sets (slice_index queries j) []))) }
+{
+    let dimensions = restorable.steps.dimensions;
+    let mut matrices = Vec::new(alloc);
+    for place in 0..dimensions.len() {
+        if exponent_of(dimensions[place].height) == covered.exponent {
+            matrices.push(OpenedMatrix {
+                sets: restorable.opening.sets,
+                queries: &covered.queries,
+                place,
+                width: dimensions[place].width,
+            })?;
+        }
+    }
+    Ok(matrices)
+}
+
+/// The path of each query of an opening, out of its layers: on each layer below the cap's all digests of the path's
+/// group except its own, ascending.
+fn paths_of<T, W: Copy, const D: usize>(
+    alloc: Global,
+    restorable: &RestorableOpening<'_, T, [W; D]>,
+    layers: &[CoveredLayer<[W; D]>],
+) -> Result<Vec<AuthPath<[W; D]>>, AllocError>
+    requires { IsClimb (tree_of restorable.now) restorable.now.opening.indices.now restorable.now.cap_layer layers.now }
+    ensures { (f : Functions T W) → let c = params f (tree_of restorable.now) restorable.now.cap_layer in
+        AreLayers f c.shape c.layer (opened_by restorable.now) c.layer layers.now →
+        IfOk result (λ paths. shown_paths paths.items ≡ restored_paths c (opened_by restorable.now)) }
+{
+    let mut capacity = 0usize;
+    for layer in layers {
+        capacity = capacity.saturating_add(layer.step.saturating_sub(1));
+    }
+    let indices = restorable.opening.indices;
+    let mut paths = Vec::with_capacity(alloc, indices.len())?;
+    for query in 0..indices.len() {
+        let siblings = path_out_of(alloc, layers, layers[0].slots[query], capacity)?;
+        paths.push_reserved(AuthPath {
+            leaf_index: indices[query],
+            siblings,
+        });
+    }
+    Ok(paths)
+}
+
+/// Whether the roots have this digest at `node`.
+pub(crate) fn is_entry<X: PartialEq>(roots: &[X], node: usize, digest: &X) -> bool
+    ensures { result ≡ is_entry_of X.eq roots.now node digest.now }
+{
+    match roots.get(node) {
+        Some(root) => *root == *digest,
+        None => false,
+    }
+}
+
+/// Whether the roots have each node's digest at its place. `digests[k]` is the digest of `nodes[k]`.
+fn are_entries<X: PartialEq>(roots: &[X], nodes: &[usize], digests: &[X]) -> bool
+    ensures { result ≡ list_all (λ (node, digest). is_entry_of X.eq roots.now node digest) (zip nodes.now digests.now) }
+{
+    nodes
+        .iter()
+        .zip(digests)
+        .all(|(node, digest)| is_entry(roots, *node, digest))
+}
+
+impl<
+    'a,
+    P: PackedValue,
+    PW: PackedValue,
+    H: CryptographicHasher<P, PW, D>,
+    C: PseudoCompressionFunction<PW, N, D>,
+    const N: usize,
+    const D: usize,
+> Checker<'a, P, PW, H, C, [[PW::Value; D]; N]> {
+    /// For each of some covered nodes the digest of its query's rows, of the matrices that have the layer's exponent.
+    fn row_digests(
+        &self,
+        alloc: Global,
+        restorable: &RestorableOpening<'_, P::Value, [PW::Value; D]>,
+        covered: &CoveredLayer<[PW::Value; D]>,
+    ) -> Result<Vec<[PW::Value; D]>, AllocError>
+        requires { All (λ k. k < length restorable.now.opening.indices.now) covered.now.queries.items }
+        ensures count { IfOk result (λ digests. length digests.items ≡ length covered.now.queries.items) }
+        ensures digests { let digest = query_digest (H.hash self.now.hash.now) covered.now.exponent
+            (heights_of restorable.now.steps.now.dimensions.now) (row_sets restorable.now.opening.sets.now) in
+            IfOk result (λ digests. digests.items ≡ map digest covered.now.queries.items) }
+    {
+        let matrices = opened_matrices(alloc, restorable, covered)?;
+        let height = covered.queries.len();
+        let rows = LayerRows::<P, PW, H, OpenedMatrix<'_, P::Value>, [PW::Value; D]> {
+            hash: self.hash,
+            matrices: &matrices,
+            height,
+            item: PhantomData,
+        };
+        let mut digests = vec![in alloc; [PW::Value::default(); D]; height]?;
+        rows.write_batched(&mut Vec::new(alloc), 0, &mut digests)?;
+        Ok(digests)
+    }
+
+    /// The digests of groups of `step` children, at least one and at most `N`, one group after another.
+    pub(crate) fn group_digests(
+        &self,
+        alloc: Global,
+        children: &[[PW::Value; D]],
+        step: usize,
+    ) -> Result<Vec<[PW::Value; D]>, AllocError>
+        requires step { 0 < step }
+        requires few { step ≤ N }
+        ensures count { IfOk result (λ digests. length digests.items ≡ length children.now / step) }
+        ensures digests { let digest = group_digest (C.compression self.now.compress.now) N
+            (replicate D PW.default_value) step children.now in
+            IfOk result (λ digests. digests.items ≡ map digest (range_with_len 0 (length children.now / step))) }
+    {
+        let mut digests = vec![in alloc; [PW::Value::default(); D]; children.len() / step]?;
+        let mut groups = Vec::new(alloc);
+        let compress = self.compress;
+        compress_children::<PW, C, N, D>(compress, &mut groups, children, step, &mut digests)?;
+        Ok(digests)
+    }
+
+    /// The restored digests of the covered nodes of a layer, in order: those of the rows of a query under each at the
+    /// leaves, and above them those of the nodes' children, each compressed with that of such rows where matrices
+    /// belong to the layer.
+    pub(crate) fn node_digests(
+        &self,
+        alloc: Global,
+        restorable: &RestorableOpening<'_, P::Value, [PW::Value; D]>,
+        layer: usize,
+        covered: &CoveredLayer<[PW::Value; D]>,
+    ) -> Result<Vec<[PW::Value; D]>, AllocError>
+        requires arity { restorable.now.steps.now.arity ≡ N }
+        requires in_tree { layer ≤ restorable.now.cap_layer }
+        requires covered { let f = functions_by H.hash C.compression (replicate D PW.default_value) self.now in
+            IsLayer f (tree_of restorable.now) restorable.now.cap_layer (opened_by restorable.now) layer covered.now }
+        ensures count { IfOk result (λ digests. length digests.items ≡ length covered.now.nodes.items) }
+        ensures restored { let f = functions_by H.hash C.compression (replicate D PW.default_value) self.now in
+            IfOk result (λ digests. AreRestored f (tree_of restorable.now) restorable.now.cap_layer
+            (opened_by restorable.now) layer digests.items) }
+    {
+        if layer == 0 {
+            return self.row_digests(alloc, restorable, covered);
+        }
+        let mut digests = self.group_digests(alloc, &covered.children, covered.step)?;
+        if !covered.has_rows {
+            return Ok(digests);
+        }
+        let rows = self.row_digests(alloc, restorable, covered)?;
+        let mut pairs = Vec::with_capacity(alloc, rows.len())?;
+        inject_row_digests::<PW, C, N, D>(self.compress, &mut pairs, &rows, &mut digests)?;
+        Ok(digests)
+    }
+
+    /// Compares the digests of the covered nodes of the cap's layer with the roots.
+    fn check_roots(
+        &self,
+        alloc: Global,
+        restorable: &RestorableOpening<'_, P::Value, [PW::Value; D]>,
+        covered: &CoveredLayer<[PW::Value; D]>,
+        roots: &[[PW::Value; D]],
+    ) -> Result<(), MerkleTreeError>
+        requires arity { restorable.now.steps.now.arity ≡ N }
+        requires covered { let f = functions_by H.hash C.compression (replicate D PW.default_value) self.now in
+            IsLayer f (tree_of restorable.now) restorable.now.cap_layer (opened_by restorable.now)
+            restorable.now.cap_layer covered.now }
+        ensures { let f = functions_by H.hash C.compression (replicate D PW.default_value) self.now in
+            let c = params f (tree_of restorable.now) restorable.now.cap_layer in
+            AnswersUnlessMemory result (cap_refusal PW.Value.eq c roots.now (opened_by restorable.now)) }
+    {
+        let digests = self.node_digests(alloc, restorable, restorable.cap_layer, covered)?;
+        if !are_entries(roots, &covered.nodes, &digests) {
+            return Err(MerkleTreeError::CapMismatch);
+        }
+        Ok(())
+    }
+
+    /// The cap's layer of a pruned opening, reached from the covered leaves. No other layer is kept.
+    fn top_layer(
+        &self,
+        alloc: Global,
+        restorable: &RestorableOpening<'_, P::Value, [PW::Value; D]>,
+        leaves: CoveredLayer<[PW::Value; D]>,
+    ) -> Result<CoveredLayer<[PW::Value; D]>, AllocError>
+        requires arity { restorable.now.steps.now.arity ≡ N }
+        requires leaves { AreLeaves (tree_of restorable.now) restorable.now.opening.indices.now leaves }
+        ensures { let f = functions_by H.hash C.compression (replicate D PW.default_value) self.now in
+            let cap_layer = restorable.now.cap_layer in
+            IfOk result (λ top. IsLayer f (tree_of restorable.now) cap_layer (opened_by restorable.now) cap_layer top) }
+    {
+        let mut layer = leaves;
+        for level in 0..restorable.cap_layer {
+            let digests = self.node_digests(alloc, restorable, level, &layer)?;
+            // The children are freed before those of the next layer are listed.
+            layer.children = Vec::new(alloc);
+            layer = layer_above(alloc, restorable, level, &layer, &digests)?;
+        }
+        Ok(layer)
+    }
+
+    /// The layers of a pruned opening, from the covered leaves up to the cap's layer, with the digests of the covered
+    /// nodes' children: each is computed from the rows and the digests of the proof, or is one of the latter.
+    fn restored_layers(
+        &self,
+        alloc: Global,
+        restorable: &RestorableOpening<'_, P::Value, [PW::Value; D]>,
+        leaves: CoveredLayer<[PW::Value; D]>,
+    ) -> Result<Vec<CoveredLayer<[PW::Value; D]>>, AllocError>
+        requires arity { restorable.now.steps.now.arity ≡ N }
+        requires leaves { AreLeaves (tree_of restorable.now) restorable.now.opening.indices.now leaves }
+        ensures { let f = functions_by H.hash C.compression (replicate D PW.default_value) self.now in
+            let cap_layer = restorable.now.cap_layer in
+            IfOk result (λ layers. AreLayers f (tree_of restorable.now) cap_layer (opened_by restorable.now) cap_layer
+            layers.items) }
+    {
+        let mut layers = Vec::with_capacity(alloc, restorable.cap_layer)?;
+        layers.push(leaves)?;
+        for level in 0..restorable.cap_layer {
+            let below = &layers[level];
+            let digests = self.node_digests(alloc, restorable, level, below)?;
+            let above = layer_above(alloc, restorable, level, below, &digests)?;
+            layers.push(above)?;
+        }
+        Ok(layers)
+    }
+
+    /// Checks a pruned opening against the roots of a cap: checks its form, computes the digest of each covered node of
+    /// the cap's layer from the rows and the digests that were sent, and compares it with the root at that node.
+    ///
+    /// `N` is a power of two from 2 to 2^62 and the arity of `steps`; the cap's layer is at most the number of levels.
+    ///
+    /// # Errors
+    ///
+    /// The error of `check_pruned`; else `CapMismatch` where a root is another, or is not there. `OutOfMemory` may come
+    /// at any time.
+    pub fn check_pruned_opening(
+        &self,
+        alloc: Global,
+        roots: &[[PW::Value; D]],
+        steps: &Steps<'_>,
+        cap_layer: usize,
+        opening: PrunedOpeningRef<'_, P::Value, [PW::Value; D]>,
+    ) -> Result<(), MerkleTreeError>
+        requires arity { steps.now.arity ≡ N }
+        requires check { CanCheck (shape_of steps.now.arity steps.now.dimensions.now) cap_layer }
+        ensures { let f = functions_by H.hash C.compression (replicate D PW.default_value) self.now in
+            let c = params f (shape_of steps.now.arity steps.now.dimensions.now) cap_layer in
+            AnswersUnlessMemory result
+            (pruned_refusal_under P.Value.eq PW.Value.eq c roots.now (pruned_in opening.entry)) }
+    {
+        let (restorable, leaves) = restorable_of::<P, [PW::Value; D]>(
+            alloc, steps, cap_layer, opening,
+        )?;
+        let top = self.top_layer(alloc, &restorable, leaves)?;
+        self.check_roots(alloc, &restorable, &top, roots)
+    }
+
+    /// The covered leaves of a pruned opening that is checked as [`check_pruned_opening`](Self::check_pruned_opening)
+    /// does, and the path of each query, as [`restored_paths`](Self::restored_paths) restores it.
+    pub(crate) fn checked_paths(
+        &self,
+        alloc: Global,
+        roots: &[[PW::Value; D]],
+        steps: &Steps<'_>,
+        cap_layer: usize,
+        opening: PrunedOpeningRef<'_, P::Value, [PW::Value; D]>,
+    ) -> Result<(CoveredLayer<[PW::Value; D]>, Vec<AuthPath<[PW::Value; D]>>), MerkleTreeError>
+        requires arity { steps.now.arity ≡ N }
+        requires check { CanCheck (shape_of steps.now.arity steps.now.dimensions.now) cap_layer }
+        ensures answer { let f = functions_by H.hash C.compression (replicate D PW.default_value) self.now in
+            let c = params f (shape_of steps.now.arity steps.now.dimensions.now) cap_layer in
+            AnswersUnlessMemory result
+            (pruned_refusal_under P.Value.eq PW.Value.eq c roots.now (pruned_in opening.entry)) }
+        ensures paths { let f = functions_by H.hash C.compression (replicate D PW.default_value) self.now in
+            let c = params f (shape_of steps.now.arity steps.now.dimensions.now) cap_layer in
+            IfOk result (λ made. shown_paths made.1.items ≡ restored_paths c (pruned_in opening.entry)) }
+        ensures leaves { let s = shape_of steps.now.arity steps.now.dimensions.now in
+            IfOk result (λ made. IsCoveredAt s opening.entry.indices.now 0 made.0) }
+    {
+        let (restorable, leaves) = restorable_of::<P, [PW::Value; D]>(
+            alloc, steps, cap_layer, opening,
+        )?;
+        let mut layers = self.restored_layers(alloc, &restorable, leaves)?;
+        self.check_roots(alloc, &restorable, &layers[restorable.cap_layer], roots)?;
+        let paths = paths_of(alloc, &restorable, &layers)?;
+        Ok((layers.swap_remove(0), paths))
+    }
+
+    /// Restores the path of each query up to the cap's layer, in query order, from a pruned opening: each sibling is a
+    /// digest of the proof, or is computed from the rows and these digests. No cap is compared.
+    ///
+    /// `N` is a power of two from 2 to 2^62 and the arity of `steps`; the cap's layer is at most the number of levels.
+    ///
+    /// # Errors
+    ///
+    /// The error of `check_pruned`. `OutOfMemory` may come at any time.
+    pub fn restored_paths(
+        &self,
+        alloc: Global,
+        steps: &Steps<'_>,
+        cap_layer: usize,
+        opening: PrunedOpeningRef<'_, P::Value, [PW::Value; D]>,
+    ) -> Result<Vec<AuthPath<[PW::Value; D]>>, MerkleTreeError>
+        requires arity { steps.now.arity ≡ N }
+        requires check { CanCheck (shape_of steps.now.arity steps.now.dimensions.now) cap_layer }
+        ensures answer { AnswersUnlessMemory result (pruned_refusal P.Value.eq
+            (shape_of steps.now.arity steps.now.dimensions.now) cap_layer (pruned_in opening.entry)) }
+        ensures paths { let f = functions_by H.hash C.compression (replicate D PW.default_value) self.now in
+            let c = params f (shape_of steps.now.arity steps.now.dimensions.now) cap_layer in
+            IfOk result (λ paths. shown_paths paths.items ≡ restored_paths c (pruned_in opening.entry)) }
+    {
+        let (restorable, leaves) = restorable_of::<P, [PW::Value; D]>(
+            alloc, steps, cap_layer, opening,
+        )?;
+        let layers = self.restored_layers(alloc, &restorable, leaves)?;
+        Ok(paths_of(alloc, &restorable, &layers)?)
+    }
+}
