@@ -32,8 +32,7 @@ use p3_merkle_core::pruning::{
     AuthPath, CoveredLayer, check_pruned, children_of, parent_of, path_out_of,
 };
 use p3_merkle_core::steps::{StepUp, Steps};
-use p3_merkle_digests::batched::{compress_children, inject_row_digests};
-use p3_merkle_digests::batched::LayerRows;
+use p3_merkle_digests::batched::{LayerRows, compress_children, inject_row_digests};
 use p3_support::compress::PseudoCompressionFunction;
 use p3_support::hasher::CryptographicHasher;
 use p3_support::packed::PackedValue;
