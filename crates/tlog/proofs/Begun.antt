@@ -2,7 +2,7 @@
 use Rattle.std.proofs.Common.{◌≡◌, ℕ, List, [], ◌∷◌, refl, sym, ◌∙◌, arith, true, false}
 use Rattle.std.specs.Prelude.{Bool}
 use Rattle.std.specs.Int.{is_power_of_two}
-use Rattle.tlog.specs.Inner.Climbs.{Begins, climb_end}
+use Rattle.tlog.specs.Climbs.{Begins, climb_end}
 use Rattle.tlog.specs.Rfc9162.{Hash, consistency_end, consistency_from}
 use Rattle.tlog.proofs.Honest.{end-at}
 

@@ -1,3 +1,2 @@
 -- Definitions that only proofs, and calls that no public contract mentions, use.
 pub mod Inputs
-pub mod Climbs

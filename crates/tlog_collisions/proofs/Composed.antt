@@ -6,7 +6,7 @@ use Rattle.std.specs.Result.{IfErr, IsErrAnd}
 use Rattle.std.specs.Int.{w64, trailing_ones, is_power_of_two}
 use Rattle.std.proofs.lemmas.Nat.Bits.{bit_at-trailing_ones}
 use Rattle.std.proofs.Math.Nat.{div-div-eq-div-mul, mul_left_comm, pow-succ'}
-use Rattle.tlog.specs.Inner.Climbs.{Begins, climb_end}
+use Rattle.tlog.specs.Climbs.{Begins, climb_end}
 use Rattle.tlog.specs.Rfc9162.{Hash}
 use Rattle.tlog.specs.Verdicts.{IsConsistent}
 use Rattle.tlog.specs.declared.error.ProofError.{ProofError}

@@ -10,7 +10,7 @@ use Rattle.std.proofs.lemmas.List.{length-take-le, take-map}
 use Rattle.std.proofs.Math.Nat.{div-le_self, div-mul-le_self}
 use Rattle.std.proofs.lemmas.Nat.{le-div, pow_pos}
 use Rattle.tlog.specs.Collisions.{RootsFixEntries, entries_of}
-use Rattle.tlog.specs.Inner.Climbs.{Begins, climb_end}
+use Rattle.tlog.specs.Climbs.{Begins, climb_end}
 use Rattle.tlog.specs.Rfc9162.{Hash, inclusion_walk, leaf_hash, proof_of, root_of}
 use Rattle.tlog.specs.Verdicts.{IsConsistent, IsIncluded, is_same, size_limit}
 use Rattle.tlog.specs.declared.error.ProofError.{ProofError}

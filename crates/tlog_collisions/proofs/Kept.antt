@@ -5,7 +5,7 @@ use Rattle.std.specs.Prelude.{Bool, Result, Ok, Err, IsOk, ◌↔◌}
 use Rattle.std.specs.Result.{is_err}
 use Rattle.std.specs.Int.{w64, trailing_zeros}
 use Rattle.std.proofs.lemmas.Bool.Decides.{eqb_tells}
-use Rattle.tlog.specs.Inner.Climbs.{climb_end}
+use Rattle.tlog.specs.Climbs.{climb_end}
 use Rattle.tlog.specs.Rfc9162.{Hash, consistency_walk, inclusion_walk, is_left, node_hash}
 use Rattle.tlog.specs.Verdicts.{IsConsistent, IsIncluded, size_limit}
 use Rattle.tlog.proofs.Climbs.{as_inclusion}

@@ -5,7 +5,7 @@ use Rattle.std.specs.Prelude.{Option}
 use Rattle.std.specs.Int.{w64, trailing_zeros}
 use Rattle.std.proofs.lemmas.Bool.Decides.{eqb_tells, nat_tests}
 use Rattle.std.proofs.lemmas.Nat.{div-mul-add, pow_pos}
-use Rattle.tlog.specs.Inner.Climbs.{climb_end}
+use Rattle.tlog.specs.Climbs.{climb_end}
 use Rattle.tlog.specs.Rfc9162.{Hash, consistency_walk, is_left, node_hash, split}
 use Rattle.tlog.specs.Verdicts.{consistency_end_refusal}
 use Rattle.tlog.specs.declared.error.ProofError.{ProofError}

@@ -6,7 +6,7 @@ use Rattle.std.proofs.lemmas.Bool.Decides.{leb_tells}
 use Rattle.std.proofs.lemmas.Nat.{div-add-mod', div-mul-add, le-div, pow_pos}
 use Rattle.std.proofs.Math.Nat.{add-mul, div-div-eq-div-mul, div-le_self, mod-lt, mul-div_cancel, mul_left_comm}
 use Rattle.std.proofs.Math.Nat.{mul-le-mul_right, pow-le-pow_right, pow-succ'}
-use Rattle.tlog.specs.Inner.Climbs.{climb_end}
+use Rattle.tlog.specs.Climbs.{climb_end}
 use Rattle.tlog.specs.Rfc9162.{Hash, node_hash, split}
 use Rattle.tlog.proofs.Splits.{split_by_power, split_is, split_of_half}
 use Rattle.tlog_collisions.proofs.Halves.{left_half, right_half}

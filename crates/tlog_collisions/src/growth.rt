@@ -120,8 +120,8 @@ pub fn compose<H: LogHash<D>, const D: usize>(
 ) -> Result<Vec<[u8; D]>, ComposeError>
     ensures composed { IfOk result (λ proof.
         IsConsistent H.hash old_size new_size proof.items old_root.now new_root.now) }
-    ensures given { IfOk result (λ _.
-        IsConsistent H.hash old_size middle_size first.now old_root.now middle_root.now
+    ensures given { IfOk result (λ _. (new_size ≤ size_limit)
+        × IsConsistent H.hash old_size middle_size first.now old_root.now middle_root.now
         × IsConsistent H.hash middle_size new_size second.now middle_root.now new_root.now) }
     ensures refused { IfErr result (IsReason H.hash
         (consistency_refusal H.hash old_size middle_size first.now old_root.now middle_root.now)

@@ -107,13 +107,15 @@ fn composed_of_any(rt: HostRuntime) -> Result<(), Fail> {
             &second.proof,
         );
         match answer {
-            Ok(_) => composed += 1,
-            Err(ComposeError::Collision(found)) => {
-                assert_eq!(rt; found.first.first().copied(), Some(1));
-                assert_eq!(rt; found.second.first().copied(), Some(1));
-                collisions += 1;
-            }
-            Err(_) => assert!(rt; false),
+            Ok(_proof) => composed += 1,
+            Err(error) => match error {
+                ComposeError::Collision(found) => {
+                    assert_eq!(rt; found.first.first().copied(), Some(1));
+                    assert_eq!(rt; found.second.first().copied(), Some(1));
+                    collisions += 1;
+                }
+                _other => assert!(rt; false),
+            },
         }
     }
     assert!(rt; composed > 3);

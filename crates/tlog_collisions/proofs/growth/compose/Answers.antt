@@ -110,28 +110,28 @@ pub returns-then-old_size-eq0-clause-given : goal.returns-then-old_size-eq0-clau
 returns-then-old_size-eq0-clause-given g c =
     let one = c.in_default.ensures.accepted.0 refl in
     let two = c.in_default-verify.ensures.accepted.0 refl in
-    (one.1, two.1)
+    (two.0, one.1, two.1)
 
 pub returns-in_default-of_proof-clause-given : goal.returns-in_default-of_proof-clause-given
 returns-in_default-of_proof-clause-given g c =
     let one = c.in_default.ensures.accepted.0 refl in
     let two = c.in_default-verify.ensures.accepted.0 refl in
-    (one.1, two.1)
+    (two.0, one.1, two.1)
 
 pub returns-in_default-of_proof-2-clause-given : goal.returns-in_default-of_proof-2-clause-given
 returns-in_default-of_proof-2-clause-given g c =
     let one = c.in_default.ensures.accepted.0 refl in
     let two = c.in_default-verify.ensures.accepted.0 refl in
-    (one.1, two.1)
+    (two.0, one.1, two.1)
 
 pub returns-then-is_power_of_two-clause-given : goal.returns-then-is_power_of_two-clause-given
 returns-then-is_power_of_two-clause-given g c =
     let one = c.in_default.ensures.accepted.0 refl in
     let two = c.in_default-verify.ensures.accepted.0 refl in
-    (one.1, two.1)
+    (two.0, one.1, two.1)
 
 pub returns-clause-given : goal.returns-clause-given
 returns-clause-given g c =
     let one = c.in_default.ensures.accepted.0 refl in
     let two = c.in_default-verify.ensures.accepted.0 refl in
-    (one.1, two.1)
+    (two.0, one.1, two.1)

@@ -1,5 +1,5 @@
 use Rattle.std.proofs.Common.{◌≡◌, drop}
-use Rattle.tlog.specs.Inner.Climbs.{climb_end}
+use Rattle.tlog.specs.Climbs.{climb_end}
 use Rattle.tlog.specs.Rfc9162.{consistency_walk}
 use Rattle.tlog.proofs.consistency.Climb.roots.Given as goal
 
