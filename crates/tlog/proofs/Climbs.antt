@@ -28,6 +28,19 @@ shifted i t =
     let d : i + i ≡ 2 * i = omega arith in
     rw (p, d) (mul-div-mul_left i (2 ^ t) (omega arith))
 
+-- a walk with digests is that from the only child below
+pub skip_more : (hash : Hash) (c : List ℕ) (digests : List (List ℕ)) (i : ℕ) (fr sr : List ℕ) → 0 < i → i ≤ 2 ^ 62 →
+    consistency_walk hash (c ∷ digests) (i + i) (i + i) fr sr ≡ consistency_walk hash (c ∷ digests) i i fr sr
+skip_more hash c digests i fr sr some small =
+    let z : (i == 0) ≡ false = grind (arith, nat_tests) in
+    let z2 : (i + i == 0) ≡ false = grind (arith, nat_tests) in
+    let l : is_left i i ≡ true = grind (arith, nat_tests) in
+    let l2 : is_left (i + i) (i + i) ≡ true = grind (arith, nat_tests) in
+    let below = consistency_left hash (c ∷ digests) 0 (i + i) (i + i) fr sr [] (omega arith) z2 l2 in
+    let here = consistency_left hash (c ∷ digests) 0 i i fr sr [] (omega arith) z l in
+    let t = zeros_of_double i some small in
+    below ∙ rw (t, shifted i (trailing_zeros w64 i)) (sym here)
+
 -- a walk that ends starts as well at the only child below
 skip : (hash : Hash) (digests : List (List ℕ)) (i : ℕ) (fr sr a b : List ℕ) → 0 < i → i ≤ 2 ^ 62 →
     consistency_walk hash digests i i fr sr ≡ Some (0, a, b) →
@@ -36,15 +49,7 @@ unfolding consistency_walk
 skip hash [] i fr sr a b some small h =
     let e : ◌≡◌ {A = ℕ × List ℕ × List ℕ} (i, fr, sr) (0, a, b) = cc in
     let z : i ≡ 0 = ap (λ (p : ℕ × List ℕ × List ℕ). p.0) e in absurd (omega arith)
-skip hash (c ∷ digests) i fr sr a b some small h =
-    let z : (i == 0) ≡ false = grind (arith, nat_tests) in
-    let z2 : (i + i == 0) ≡ false = grind (arith, nat_tests) in
-    let l : is_left i i ≡ true = grind (arith, nat_tests) in
-    let l2 : is_left (i + i) (i + i) ≡ true = grind (arith, nat_tests) in
-    let below = consistency_left hash (c ∷ digests) 0 (i + i) (i + i) fr sr [] (omega arith) z2 l2 in
-    let here = consistency_left hash (c ∷ digests) 0 i i fr sr [] (omega arith) z l in
-    let t = zeros_of_double i some small in
-    below ∙ rw (t, shifted i (trailing_zeros w64 i)) (sym here ∙ h)
+skip hash (c ∷ digests) i fr sr a b some small h = skip_more hash c digests i fr sr some small ∙ h
 
 -- ---- a walk up an honest path: the old list has all nodes up to its last, the new one these and more, but that the
 -- last old one may be another

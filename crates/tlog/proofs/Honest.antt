@@ -5,12 +5,13 @@ use Rattle.std.proofs.Common.{List, [], ◌∷◌, ◌++◌, length, take, drop,
 use Rattle.std.specs.Prelude.{◌==◌, Bool, true, false, nat_le, Option, ◌⊎◌}
 use Rattle.std.specs.Int.{w64, trailing_ones, is_power_of_two}
 use Rattle.std.proofs.lemmas.Bool.Decides.{eqb_tells, leb_tells, nat_tests}
-use Rattle.std.proofs.lemmas.List.{get_or-drop, get_or-take, length-take-le, length-drop}
+use Rattle.std.proofs.lemmas.List.{get_or-drop, get_or-take, length-take-le, length-drop, take_all}
 use Rattle.std.proofs.Math.Nat.{div-div-eq-div-mul, pow-succ'}
 use Rattle.std.specs.Prelude.{nat_lt}
 use Rattle.tlog.specs.Rfc9162.{node_hash}
 use Rattle.tlog.specs.Rfc9162.{Hash, consistency_end, consistency_from, consistency_proof, consistency_walk}
-use Rattle.tlog.specs.Rfc9162.{inclusion_end}
+use Rattle.tlog.specs.Rfc9162.{inclusion_end, leaf_hash, proof_of, root_of}
+use Rattle.tlog.specs.Verdicts.{IsConsistent, size_limit}
 use Rattle.tlog.specs.Rfc9162.{mth, mth_within, path, path_within, split, subproof, subproof_within}
 use Rattle.tlog.proofs.Bits.{ones_of_double, ones_of_odd, power_of_double, power_of_odd, power_of_one}
 use Rattle.tlog.proofs.Splits.{split_is, split_parity}
@@ -528,3 +529,16 @@ sub_right hash leaf m L b within h = by (length L) refl
           sub_depth depth (length (drop (split (length L)) L)) hash leaf (m - split (length L))
               (drop (split (length L)) L) false (omega arith) (omega arith) (omega arith) (omega arith),
         )
+
+-- PROOF(m, D) is accepted
+pub honest_grown : (hash : Hash) (D : List (List ℕ)) (m : ℕ) → 0 < m → m ≤ length D → length D ≤ size_limit →
+    IsConsistent hash m (length D) (proof_of hash m D) (root_of hash (take m D)) (root_of hash D)
+honest_grown hash D m some within small = record {
+  ordered = within;
+  from_nothing = λ z. absurd (omega arith);
+  unchanged = λ p same. (
+    ap (λ (x : ℕ). proof_of hash x D) same ∙ sub_whole hash (leaf_hash hash) D true (omega arith),
+    ap (λ (L : List (List ℕ)). root_of hash L) (take_all m D (omega arith)),
+  );
+  grown = λ p l. consistent (length D) hash (leaf_hash hash) m D [] some l (omega arith) small;
+}

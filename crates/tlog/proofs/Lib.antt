@@ -6,5 +6,4 @@ pub mod Layers
 pub mod Climbs
 pub mod Honest
 pub mod Entries
-pub mod TwoWalks
-pub mod Prefixes
+pub mod Begun

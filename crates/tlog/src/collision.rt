@@ -17,7 +17,7 @@ pub struct Collision {
 }
 
 /// The largest power of two below `n`.
-fn split(n: usize) -> usize
+pub fn split(n: usize) -> usize
     requires { 1 < n }
     ensures value { result ≡ split_of n }
     ensures some { 0 < result }
@@ -48,7 +48,7 @@ fn are_equal(d: &[Vec<u8>], e: &[Vec<u8>]) -> bool
 }
 
 /// The byte string whose hash is that of a leaf.
-pub(crate) fn leaf_input(alloc: Global, entry: &[u8]) -> Result<Vec<u8>, AllocError>
+pub fn leaf_input(alloc: Global, entry: &[u8]) -> Result<Vec<u8>, AllocError>
     ensures { IfOk result (λ input. input.items ≡ 0 ∷ entry.now) }
 {
     let mut input = Vec::from_slice(alloc, &[0])?;
@@ -57,7 +57,7 @@ pub(crate) fn leaf_input(alloc: Global, entry: &[u8]) -> Result<Vec<u8>, AllocEr
 }
 
 /// The byte string whose hash is that of a node.
-pub(crate) fn node_input<const D: usize>(
+pub fn node_input<const D: usize>(
     alloc: Global,
     left: &[u8; D],
     right: &[u8; D],

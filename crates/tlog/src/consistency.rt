@@ -1,7 +1,8 @@
 //! The verifier of consistency (RFC 9162, 2.1.4.2).
-ghost use Rattle.std.specs.Prelude.{◌≡◌, ℕ, ◌<◌, ◌≤◌, ◌↔◌, List, IsOk, IfOk, IfErr, Some};
+ghost use Rattle.std.specs.Prelude.{◌≡◌, ℕ, ◌<◌, ◌≤◌, ◌↔◌, List, [], IsOk, IfOk, IfErr, MatchOption, Some};
 ghost use Rattle.std.specs.Result.{result_err};
 ghost use Rattle.sha2.specs.Sha256.{sha256};
+ghost use Rattle.tlog.specs.Climbs.{Begins, climb_end};
 ghost use Rattle.tlog.specs.Rfc9162.{consistency_end};
 ghost use Rattle.tlog.specs.Verdicts.{IsConsistent, consistency_end_refusal, consistency_refusal, growth_end};
 ghost use Rattle.tlog.specs.Verdicts.{size_limit};
@@ -40,7 +41,7 @@ pub fn verify_consistency(
 
 /// The same under any hash function.
 #[tactic(auto, unfolding(crate::specs::Verdicts::consistency_refusal))]
-pub(crate) fn verify<H: LogHash<D>, const D: usize>(
+pub fn verify<H: LogHash<D>, const D: usize>(
     old_size: usize,
     new_size: usize,
     proof: &[[u8; D]],
@@ -117,40 +118,89 @@ fn grown_roots<H: LogHash<D>, const D: usize>(
         consistency_end_refusal (consistency_end H.hash old_size new_size old_root.now proof.now) first second
         ≡ Some e) }
 {
-    let Some((first, rest)) = proof.split_first() else {
+    let Some(climb) = Climb::of_proof(old_size, proof, old_root) else {
         return Err(ProofError::TooFewDigests);
     };
-    let mut start = old_root;
-    let mut path = proof;
-    if !old_size.is_power_of_two() {
-        start = first;
-        path = rest;
-    }
-    let mut node = old_size - 1;
-    let mut last = new_size - 1;
-    let ones = node.trailing_ones();
-    node >>= ones;
-    last >>= ones;
-    let mut old = *start;
-    let mut new = *start;
-    for digest in path {
-        if last == 0 {
-            return Err(ProofError::TooManyDigests);
+    climb.roots::<H>(new_size)
+}
+
+/// A node of a tree, and the digests that lead from it to the root.
+#[derive(Clone, Copy)]
+pub struct Climb<'a, const D: usize> {
+    /// The node's layer: leaves stand in layer 0.
+    pub layer: u32,
+    /// Its index in its layer.
+    pub node: usize,
+    /// Its hash.
+    pub value: &'a [u8; D],
+    /// The digests, from below.
+    pub digests: &'a [[u8; D]],
+}
+
+impl<'a, const D: usize> Climb<'a, D> {
+    /// From the node where a proof of consistency begins, the last whole one of the old tree (RFC 9162, 2.1.4.2, 1 to
+    /// 5). `None` if the proof has no digests.
+    pub fn of_proof(old_size: usize, proof: &'a [[u8; D]], old_root: &'a [u8; D]) -> Option<Self>
+        requires { 0 < old_size }
+        ensures { MatchOption result (proof.now ≡ []) (λ climb.
+            Begins old_size proof.now old_root.now climb.layer climb.node climb.value.now climb.digests.now) }
+    {
+        let (first, rest) = proof.split_first()?;
+        let layer = (old_size - 1).trailing_ones();
+        let node = (old_size - 1) >> layer;
+        if old_size.is_power_of_two() {
+            return Some(Climb {
+                layer,
+                node,
+                value: old_root,
+                digests: proof,
+            });
         }
-        if is_left(node, last) {
-            let zeros = node.trailing_zeros();
-            node >>= zeros;
-            last >>= zeros;
-            old = H::node_hash(digest, &old);
-            new = H::node_hash(digest, &new);
-        } else {
-            new = H::node_hash(&new, digest);
+        Some(Climb {
+            layer,
+            node,
+            value: first,
+            digests: rest,
+        })
+    }
+
+    /// The roots of the entries up to the last of the node, and of all `size` entries.
+    ///
+    /// # Errors
+    ///
+    /// `TooManyDigests`, `TooFewDigests` if a path from this node has fewer digests, or more.
+    pub fn roots<H: LogHash<D>>(&self, size: usize) -> Result<([u8; D], [u8; D]), ProofError>
+        requires some { 0 < size }
+        requires layer { self.now.layer < 64 }
+        ensures roots { IfOk result (λ roots. climb_end H.hash self.now.layer self.now.node size self.now.value.now
+            self.now.digests.now ≡ Some (0, roots.0, roots.1)) }
+        ensures refused { IfErr result (λ e. (first second : List ℕ) →
+            consistency_end_refusal (climb_end H.hash self.now.layer self.now.node size self.now.value.now
+            self.now.digests.now) first second ≡ Some e) }
+    {
+        let mut node = self.node;
+        let mut last = (size - 1) >> self.layer;
+        let mut old = *self.value;
+        let mut new = *self.value;
+        for digest in self.digests {
+            if last == 0 {
+                return Err(ProofError::TooManyDigests);
+            }
+            if is_left(node, last) {
+                let zeros = node.trailing_zeros();
+                node >>= zeros;
+                last >>= zeros;
+                old = H::node_hash(digest, &old);
+                new = H::node_hash(digest, &new);
+            } else {
+                new = H::node_hash(&new, digest);
+            }
+            node >>= 1;
+            last >>= 1;
         }
-        node >>= 1;
-        last >>= 1;
+        if last > 0 {
+            return Err(ProofError::TooFewDigests);
+        }
+        Ok((old, new))
     }
-    if last > 0 {
-        return Err(ProofError::TooFewDigests);
-    }
-    Ok((old, new))
 }

@@ -39,7 +39,7 @@ pub fn verify_inclusion(
 
 /// The same under any hash function.
 #[tactic(auto, unfolding(crate::specs::Verdicts::inclusion_refusal))]
-pub(crate) fn verify<H: LogHash<D>, const D: usize>(
+pub fn verify<H: LogHash<D>, const D: usize>(
     index: usize,
     size: usize,
     leaf: &[u8; D],
@@ -84,7 +84,7 @@ pub(crate) fn verify<H: LogHash<D>, const D: usize>(
 }
 
 /// Whether the next digest is the left sibling of node `node` of a layer whose last node is `last`.
-pub(crate) fn is_left(node: usize, last: usize) -> bool
+pub fn is_left(node: usize, last: usize) -> bool
     ensures { result ≡ is_left_by node last }
 {
     node % 2 == 1 || node == last

@@ -3,12 +3,11 @@
 #![tactic(auto)]
 
 pub mod collision;
-mod consistency;
+pub mod consistency;
 mod error;
 mod hash;
-mod inclusion;
+pub mod inclusion;
 pub mod laws;
-pub mod soundness;
 
 pub use consistency::verify_consistency;
 pub use error::ProofError;

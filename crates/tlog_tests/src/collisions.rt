@@ -6,10 +6,10 @@ use std::alloc::{AllocError, Global};
 use std::test::Fail;
 use tlog::LogHash;
 use tlog::collision::{consistency_proof, inclusion_proof, root, root_collision};
-use tlog::soundness::{entry_collision, leaf_collision, prefix_collision, proof_collision};
+use tlog_collisions::{entry_collision, leaf_collision, prefix_collision, proof_collision};
 
 /// So many entries, each of two bytes and its place.
-fn entries(alloc: Global, count: u8, seed: u16) -> Result<Vec<Vec<u8>>, AllocError> {
+pub(crate) fn entries(alloc: Global, count: u8, seed: u16) -> Result<Vec<Vec<u8>>, AllocError> {
     let mut entries = Vec::new(alloc);
     for place in 0..count {
         let [high, low] = seed.to_be_bytes();

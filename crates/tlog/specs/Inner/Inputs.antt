@@ -1,6 +1,6 @@
--- What is hashed for a root, and for a node.
-use Rattle.std.specs.Prelude.{◌≡◌, ℕ, List, [], ◌∷◌, ◌++◌, length, take, drop}
-use Rattle.tlog.specs.Rfc9162.{Hash, node_hash, root_of, split}
+-- What is hashed for a root.
+use Rattle.std.specs.Prelude.{ℕ, List, [], ◌∷◌, ◌++◌, length, take, drop}
+use Rattle.tlog.specs.Rfc9162.{Hash, root_of, split}
 
 -- the byte string whose hash is the root of entries
 abbrev pub root_input : Hash → List (List ℕ) → List ℕ
@@ -9,8 +9,3 @@ root_input hash (d ∷ []) = 0 ∷ d
 root_input hash (d ∷ (e ∷ rest)) =
     let k = split (length (d ∷ (e ∷ rest))) in
     1 ∷ (root_of hash (take k (d ∷ (e ∷ rest))) ++ root_of hash (drop k (d ∷ (e ∷ rest))))
-
--- of two nodes: equal hashes mean equal children
-abbrev pub HashFixesChildren : Hash → List ℕ → List ℕ → List ℕ → List ℕ → Type 0
-HashFixesChildren hash left right other_left other_right =
-    node_hash hash left right ≡ node_hash hash other_left other_right → (left ≡ other_left) × (right ≡ other_right)

@@ -1,0 +1,3 @@
+pub mod Fixed
+pub mod Composed
+pub mod Inner
