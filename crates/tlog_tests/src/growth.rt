@@ -73,8 +73,8 @@ fn accepted(
 
 #[test]
 fn composed_of_any(rt: HostRuntime) -> Result<(), Fail> {
-    let mut composed = 0;
-    let mut collisions = 0;
+    let mut is_composed = false;
+    let mut is_found = false;
     for seed in 0..40 {
         let [a, b, c, ..] = leaf_hash(&u32::to_be_bytes(seed));
         let old_size = 1 + usize::from(a % 11);
@@ -107,19 +107,19 @@ fn composed_of_any(rt: HostRuntime) -> Result<(), Fail> {
             &second.proof,
         );
         match answer {
-            Ok(_proof) => composed += 1,
+            Ok(_proof) => is_composed = true,
             Err(error) => match error {
                 ComposeError::Collision(found) => {
                     assert_eq!(rt; found.first.first().copied(), Some(1));
                     assert_eq!(rt; found.second.first().copied(), Some(1));
-                    collisions += 1;
+                    is_found = true;
                 }
                 _other => assert!(rt; false),
             },
         }
     }
-    assert!(rt; composed > 3);
-    assert!(rt; collisions > 3);
+    assert!(rt; is_composed);
+    assert!(rt; is_found);
     Ok(())
 }
 
