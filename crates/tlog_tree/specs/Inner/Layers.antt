@@ -1,0 +1,15 @@
+-- What is computed of a layer's nodes.
+use Rattle.std.specs.Prelude.{List, [], ◌∷◌, ℕ}
+use Rattle.tlog.specs.Rfc9162.{Hash, node_hash}
+
+-- the root by the whole nodes: of none HASH(), of one itself, of more the hash of the first and the root of the others
+abbrev pub joined : Hash → List (List ℕ) → List ℕ
+joined hash [] = hash []
+joined hash (node ∷ []) = node
+joined hash (node ∷ (next ∷ rest)) = node_hash hash node (joined hash (next ∷ rest))
+
+-- the parents of the nodes of a layer, but for a last one without a sibling
+abbrev pub parents_of : Hash → List (List ℕ) → List (List ℕ)
+parents_of hash [] = []
+parents_of hash (node ∷ []) = []
+parents_of hash (left ∷ (right ∷ rest)) = node_hash hash left right ∷ parents_of hash rest
