@@ -2,7 +2,10 @@
 use Rattle.std.proofs.Common.{◌≡◌, ℕ, zero, suc, ◌+◌, ◌-◌, ◌*◌, ◌/◌, ◌%◌, ◌^◌, ◌<◌, ◌≤◌, refl, sym, ap, ◌∙◌, arith}
 use Rattle.std.proofs.Common.{List, [], ◌∷◌, ◌++◌, length, take, drop, length-append, length-drop}
 use Rattle.std.proofs.Common.{inl, inr}
+use Rattle.std.specs.Prelude.{Some, None}
+use Rattle.std.proofs.Math.Nat.{div-div-eq-div-mul, div-mul-le_self, pow-succ'}
 use Rattle.std.proofs.Math.Seq.{take-add}
+use Rattle.std.proofs.lemmas.List.{drop-append-le}
 use Rattle.std.proofs.lemmas.Bool.Decides.{leb_tells}
 use Rattle.std.proofs.lemmas.List.{drop-drop, drop_all, drop_at, length-take-le, take_all, take_at}
 use Rattle.std.specs.Prelude.{count_ones}
@@ -12,7 +15,7 @@ use Rattle.tlog.specs.Rfc9162.{Hash, mth_within, node_hash, split}
 use Rattle.tlog.proofs.Honest.{root_more}
 use Rattle.tlog.proofs.Layers.{above, itself, mth_above}
 use Rattle.tlog.proofs.Splits.{split_by_power, split_is, split_of_half}
-use Rattle.tlog_tree.specs.Inner.Layers.{joined, parents_of}
+use Rattle.tlog_tree.specs.Inner.Layers.{joined, parents_of, root_of_rest}
 use Rattle.tlog_tree.specs.Trees.{leaves_root, whole_nodes, whole_within}
 
 -- the first subtree of some leaves: as many as the largest power of two that is not above their number
@@ -308,3 +311,57 @@ next_piece all rest chunk behind m within left fits front back =
       count = omega arith;
       within = omega arith;
     }
+
+-- ---- behind the first nodes of a layer
+
+pub fewer_ones : (l n : ℕ) → count_ones (n / 2 ^ l) ≤ count_ones n
+fewer_ones zero n = let e : n / 1 ≡ n = omega arith in rw e (omega arith)
+fewer_ones (suc l) n =
+    let half : n / 2 ^ suc l ≡ n / 2 / 2 ^ l =
+    ap (λ (m : ℕ). n / m) (pow-succ' 2 l) ∙ sym (div-div-eq-div-mul n 2 (2 ^ l)) in
+    let deep = fewer_ones l (n / 2) in
+    rw half (omega (arith, ones_step n, deep))
+
+-- the whole nodes of the first nodes of a layer, as many as have all their leaves, come before those of the leaves
+-- behind them
+pub behind_layer : (l : ℕ) (hash : Hash) (L : List (List ℕ)) →
+    drop (count_ones (length L / 2 ^ l)) (whole_nodes hash L) ≡ whole_nodes hash (drop (length L / 2 ^ l * 2 ^ l) L)
+behind_layer zero hash L =
+    let n : length L / 1 ≡ length L = omega arith in
+    let all : length L * 1 ≡ length L = omega arith in
+    let count = count_whole hash L in
+    rw (n, all) (drop_all (count_ones (length L)) (whole_nodes hash L) (omega arith)
+    ∙ sym (ap (whole_nodes hash) (drop_all (length L) L (omega arith)) ∙ whole_none hash))
+behind_layer (suc l) hash L =
+    let P = parents_of hash L in
+    let m = 2 ^ l in
+    let len = length-parents hash L in
+    let half : length L / 2 ^ suc l ≡ length P / m =
+    ap (λ (n : ℕ). length L / n) (pow-succ' 2 l) ∙ sym (div-div-eq-div-mul (length L) 2 m)
+    ∙ ap (λ (n : ℕ). n / m) (sym len) in
+    let j = length P / m * m in
+    let k = length L / 2 ^ suc l * 2 ^ suc l in
+    let twice : k ≡ j + j =
+    ap (λ (n : ℕ). n * 2 ^ suc l) half ∙ ap (λ (n : ℕ). length P / m * n) (pow-succ' 2 l) ∙ omega arith in
+    let within : k ≤ length L = div-mul-le_self (length L) (2 ^ suc l) in
+    let few = fewer_ones l (length P) in
+    let count = count_whole hash P in
+    ap (λ (n : ℕ). drop (count_ones n) (whole_nodes hash L)) half
+    ∙ ap (drop (count_ones (length P / m))) (whole_by_layers hash L)
+    ∙ drop-append-le (count_ones (length P / m)) (whole_nodes hash P) (single L) (omega arith)
+    ∙ ap (λ (nodes : List (List ℕ)). nodes ++ single L) (behind_layer l hash P)
+    ∙ sym (whole_by_layers hash (drop k L)
+    ∙ rw (parents-drop hash j k L twice within, single-drop j k L twice within))
+
+-- the root of what they are the whole nodes of
+pub root_by_rest : (hash : Hash) (M behind : List (List ℕ)) → behind ≡ whole_nodes hash M → 0 < length behind →
+    Some (joined hash behind) ≡ root_of_rest hash M
+root_by_rest hash [] behind are some = absurd (omega (arith, ap length (are ∙ whole_none hash)))
+root_by_rest hash (leaf ∷ rest) behind are some =
+    ap (λ (node : List ℕ). Some node) (ap (joined hash) are ∙ sym (root_is_joined hash (leaf ∷ rest)))
+
+pub no_rest : (hash : Hash) (M behind : List (List ℕ)) → behind ≡ whole_nodes hash M → length behind ≡ 0 →
+    None ≡ root_of_rest hash M
+no_rest hash [] behind are none = refl
+no_rest hash (leaf ∷ rest) behind are none =
+    absurd (omega (arith, ap length are, some_whole hash (leaf ∷ rest) (omega arith)))

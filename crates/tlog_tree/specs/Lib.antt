@@ -1,3 +1,4 @@
 pub mod Trees
 pub mod Frontiers
+pub mod Builders
 pub mod Inner

@@ -1,5 +1,6 @@
 -- The trees of logs that grow, by their leaf hashes.
-use Rattle.std.specs.Prelude.{ℕ, zero, suc, ◌+◌, List, [], ◌∷◌, length, take, drop}
+use Rattle.std.specs.Prelude.{ℕ, zero, suc, ◌+◌, ◌*◌, ◌^◌, nat_lt, List, [], ◌∷◌, length, take, drop}
+use Rattle.std.specs.Prelude.{Option, Some, None, if◌then◌else◌}
 use Rattle.tlog.specs.Rfc9162.{Hash, mth, split}
 
 -- MTH of leaf hashes
@@ -17,3 +18,14 @@ whole_within (suc depth) hash (d ∷ rest) =
 
 abbrev pub whole_nodes : Hash → List (List ℕ) → List (List ℕ)
 whole_nodes hash leaves = whole_within (length leaves) hash leaves
+
+-- ---- nodes by their places: layer 0 has the leaf hashes, and each node 2^layer leaves below it, from slot · 2^layer on
+
+-- MTH of the leaves below a node
+abbrev pub node_at : Hash → List (List ℕ) → ℕ → ℕ → List ℕ
+node_at hash leaves layer slot = leaves_root hash (take (2 ^ layer) (drop (slot * 2 ^ layer) leaves))
+
+-- the value of a node, if it has leaves. One that the end cuts off has the value that is passed on.
+abbrev pub value_at : Hash → List (List ℕ) → ℕ → ℕ → Option (List ℕ)
+value_at hash leaves layer slot =
+    if nat_lt (slot * 2 ^ layer) (length leaves) then Some (node_at hash leaves layer slot) else None

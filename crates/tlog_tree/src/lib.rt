@@ -1,9 +1,13 @@
 //! Trees of logs by RFC 9162 that only grow, under SHA-256 eight nodes at a time.
 #![tactic(auto)]
 
+mod builder;
 mod error;
 mod frontier;
 mod layer;
+mod wanted;
 
+pub use builder::TreeBuilder;
 pub use error::TreeError;
 pub use frontier::Frontier;
+pub use wanted::WantedNode;

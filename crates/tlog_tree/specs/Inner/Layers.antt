@@ -1,6 +1,7 @@
 -- What is computed of a layer's nodes.
-use Rattle.std.specs.Prelude.{List, [], ◌∷◌, ℕ}
+use Rattle.std.specs.Prelude.{List, [], ◌∷◌, ℕ, Option, Some, None}
 use Rattle.tlog.specs.Rfc9162.{Hash, node_hash}
+use Rattle.tlog_tree.specs.Trees.{leaves_root}
 
 -- the root by the whole nodes: of none HASH(), of one itself, of more the hash of the first and the root of the others
 abbrev pub joined : Hash → List (List ℕ) → List ℕ
@@ -13,3 +14,8 @@ abbrev pub parents_of : Hash → List (List ℕ) → List (List ℕ)
 parents_of hash [] = []
 parents_of hash (node ∷ []) = []
 parents_of hash (left ∷ (right ∷ rest)) = node_hash hash left right ∷ parents_of hash rest
+
+-- the root of leaves, if there are any
+abbrev pub root_of_rest : Hash → List (List ℕ) → Option (List ℕ)
+root_of_rest hash [] = None
+root_of_rest hash (leaf ∷ rest) = Some (leaves_root hash (leaf ∷ rest))

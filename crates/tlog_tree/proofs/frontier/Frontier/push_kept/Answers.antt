@@ -2,8 +2,9 @@ use Rattle.std.proofs.Common.{arith, length, take, drop, sym, ap, ◌∙◌, Lis
 use Rattle.std.proofs.lemmas.List.{append-nil, length-take-le}
 use Rattle.sha2.specs.Sha256.{sha256}
 use Rattle.tlog_tree.specs.Trees.{whole_nodes}
+use Rattle.tlog_tree.proofs.Places.{wanted_more, wanted_none}
 use Rattle.tlog_tree.proofs.Whole.{next_piece}
-use Rattle.tlog_tree.proofs.frontier.Frontier.push_many.Goals as goal
+use Rattle.tlog_tree.proofs.frontier.Frontier.push_kept.Goals as goal
 
 pub loop-rest-init : goal.loop-rest-init
 loop-rest-init c =
@@ -16,6 +17,8 @@ loop-rest-init c =
       grown = λ leaves is.
           c.in_ok-nodes.ensures.items ∙ c.deref.ensures.value ∙ is.nodes
           ∙ ap (whole_nodes sha256) (sym (append-nil leaves) ∙ ap (λ (n : ℕ). leaves ++ take n X) (sym none));
+      wanted = λ leaves is. wanted_none sha256 0 (length leaves) (leaves ++ take (length X - length X) X) c.args.wanted.now
+          (omega (arith, length-append leaves (take (length X - length X) X), length-take-le (length X - length X) X (omega arith)));
     }
 
 pub loop-rest-preserved : goal.loop-rest-preserved
@@ -33,7 +36,17 @@ loop-rest-preserved c =
       grown = λ leaves is.
           let long : length (leaves ++ take d X) ≡ c.loop-rest.size =
           length-append leaves (take d X) ∙ omega (arith, length-take-le d X (omega arith), is.size, kept.size) in
-          c.in_ok-nodes-2.ensures (leaves ++ take d X) long (c.deref-in-loop-rest.ensures.value ∙ kept.grown leaves is)
+          c.in_ok-nodes-2.ensures.whole (leaves ++ take d X) long (c.deref-in-loop-rest.ensures.value ∙ kept.grown leaves is)
           ∙ ap (whole_nodes sha256) (append_assoc leaves (take d X) c.split_at.result.0.now
           ∙ ap (λ (xs : List (List ℕ)). leaves ++ xs) (sym next.taken));
+      wanted = λ leaves is.
+          let A = leaves ++ take d X in
+          let len = length-append leaves (take d X) in
+          let long : length A ≡ c.loop-rest.size = len ∙ omega (arith, length-take-le d X (omega arith), is.size, kept.size) in
+          let all : leaves ++ take (length X - length c.split_at.result.1.now) X ≡ A ++ c.split_at.result.0.now =
+          ap (λ (xs : List (List ℕ)). leaves ++ xs) next.taken ∙ sym (append_assoc leaves (take d X) c.split_at.result.0.now) in
+          wanted_more sha256 (length leaves) c.loop-rest.size A c.split_at.result.0.now
+          (leaves ++ take (length X - length c.split_at.result.1.now) X) c.args.wanted.now c.loop-rest.wanted
+          c.grown.new.wanted (omega arith) (sym long) all (kept.wanted leaves is)
+          (c.in_ok-nodes-2.ensures.wanted A long (c.deref-in-loop-rest.ensures.value ∙ kept.grown leaves is));
     }
