@@ -1,3 +1,4 @@
 pub mod Whole
 pub mod Inputs
-pub mod Places
+pub mod Kept
+pub mod Paths

@@ -1,6 +1,6 @@
 -- The trees of logs that grow, by their leaf hashes.
 use Rattle.std.specs.Prelude.{ℕ, zero, suc, ◌+◌, ◌*◌, ◌^◌, nat_lt, List, [], ◌∷◌, length, take, drop}
-use Rattle.std.specs.Prelude.{Option, Some, None, if◌then◌else◌}
+use Rattle.std.specs.Prelude.{Option, Some, None, map, if◌then◌else◌}
 use Rattle.tlog.specs.Rfc9162.{Hash, mth, split}
 
 -- MTH of leaf hashes
@@ -29,3 +29,11 @@ node_at hash leaves layer slot = leaves_root hash (take (2 ^ layer) (drop (slot 
 abbrev pub value_at : Hash → List (List ℕ) → ℕ → ℕ → Option (List ℕ)
 value_at hash leaves layer slot =
     if nat_lt (slot * 2 ^ layer) (length leaves) then Some (node_at hash leaves layer slot) else None
+
+-- the values of the nodes of these layers and slots
+abbrev pub values_at : Hash → List (List ℕ) → List (ℕ × ℕ) → List (Option (List ℕ))
+values_at hash leaves places = map (λ (place : ℕ × ℕ). value_at hash leaves place.0 place.1) places
+
+-- digests that are all there
+abbrev pub all_there : List (List ℕ) → List (Option (List ℕ))
+all_there digests = map (λ (digest : List ℕ). Some digest) digests

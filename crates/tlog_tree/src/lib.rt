@@ -5,9 +5,11 @@ mod builder;
 mod error;
 mod frontier;
 mod layer;
+mod places;
 mod wanted;
 
 pub use builder::TreeBuilder;
 pub use error::TreeError;
 pub use frontier::Frontier;
+pub use places::{consistency_places, inclusion_places};
 pub use wanted::WantedNode;

@@ -1,5 +1,5 @@
 -- What is computed of a layer's nodes.
-use Rattle.std.specs.Prelude.{List, [], ◌∷◌, ℕ, Option, Some, None}
+use Rattle.std.specs.Prelude.{zero, suc, List, [], ◌∷◌, ℕ, Option, Some, None}
 use Rattle.tlog.specs.Rfc9162.{Hash, node_hash}
 use Rattle.tlog_tree.specs.Trees.{leaves_root}
 
@@ -19,3 +19,14 @@ parents_of hash (left ∷ (right ∷ rest)) = node_hash hash left right ∷ pare
 abbrev pub root_of_rest : Hash → List (List ℕ) → Option (List ℕ)
 root_of_rest hash [] = None
 root_of_rest hash (leaf ∷ rest) = Some (leaves_root hash (leaf ∷ rest))
+
+-- the layer above: each pair is hashed, an only child is passed on
+abbrev pub above_of : Hash → List (List ℕ) → List (List ℕ)
+above_of hash [] = []
+above_of hash (node ∷ []) = node ∷ []
+above_of hash (left ∷ (right ∷ rest)) = node_hash hash left right ∷ above_of hash rest
+
+-- the nodes of a layer
+unfoldable pub layer_of : Hash → ℕ → List (List ℕ) → List (List ℕ)
+layer_of hash zero leaves = leaves
+layer_of hash (suc layer) leaves = layer_of hash layer (above_of hash leaves)

@@ -5,7 +5,7 @@ use Rattle.std.proofs.lemmas.Result.{IfOk-weaker}
 use Rattle.sha2.specs.Sha256.{sha256}
 use Rattle.tlog_tree.specs.Inner.Layers.{parents_of}
 use Rattle.tlog_tree.specs.Trees.{whole_nodes}
-use Rattle.tlog_tree.proofs.Places.{wanted_none, wanted_step}
+use Rattle.tlog_tree.proofs.Kept.{wanted_none, wanted_step}
 use Rattle.tlog_tree.proofs.Whole.{cut_whole, length-parents, parents-append, single, single_is, whole_grows}
 use Rattle.tlog_tree.proofs.frontier.+grown.Goals as goal
 

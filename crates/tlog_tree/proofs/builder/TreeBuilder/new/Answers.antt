@@ -2,7 +2,7 @@ use Rattle.std.proofs.Common.{arith, sym, ap, ◌∙◌, ◌++◌, ◌∷◌, []
 use Rattle.std.proofs.lemmas.List.{map_push, take_all, take_more}
 use Rattle.sha2.specs.Sha256.{sha256}
 use Rattle.tlog_tree.specs.Builders.{place_of}
-use Rattle.tlog_tree.proofs.Places.{none_has_value}
+use Rattle.tlog_tree.proofs.Kept.{none_has_value}
 use Rattle.tlog_tree.proofs.builder.TreeBuilder.new.Goals as goal
 
 pub loop-place-preserved : goal.loop-place-preserved

@@ -5,7 +5,7 @@ use Rattle.std.proofs.lemmas.List.Elements.{All-same}
 use Rattle.sha2.specs.Sha256.{sha256}
 use Rattle.tlog_tree.specs.Builders.{place_of}
 use Rattle.tlog_tree.specs.Inner.Wanted.{updated}
-use Rattle.tlog_tree.proofs.Places.{HasValue, places_stay, values_grow}
+use Rattle.tlog_tree.proofs.Kept.{HasValue, places_stay, values_grow}
 use Rattle.tlog_tree.proofs.builder.TreeBuilder.push_many.Goals as goal
 
 pub returns-clause-built : goal.returns-clause-built

@@ -6,7 +6,7 @@ use Rattle.tlog_tree.specs.Builders.{IsBuilderOf, place_of}
 use Rattle.tlog_tree.specs.Trees.{value_at}
 use Rattle.tlog_tree.specs.declared.builder.TreeBuilder.{TreeBuilder}
 use Rattle.tlog_tree.specs.declared.wanted.WantedNode.{WantedNode}
-use Rattle.tlog_tree.proofs.Places.{HasValue, value_of_none, value_of_rest, value_of_whole}
+use Rattle.tlog_tree.proofs.Kept.{HasValue, value_of_none, value_of_rest, value_of_whole}
 use Rattle.tlog_tree.proofs.builder.TreeBuilder.value.Goals as goal
 
 -- the place that was asked for is that of the node

@@ -2,7 +2,7 @@ use Rattle.std.proofs.Common.{arith, length, take, drop, sym, ap, ◌∙◌, Lis
 use Rattle.std.proofs.lemmas.List.{append-nil, length-take-le}
 use Rattle.sha2.specs.Sha256.{sha256}
 use Rattle.tlog_tree.specs.Trees.{whole_nodes}
-use Rattle.tlog_tree.proofs.Places.{wanted_more, wanted_none}
+use Rattle.tlog_tree.proofs.Kept.{wanted_more, wanted_none}
 use Rattle.tlog_tree.proofs.Whole.{next_piece}
 use Rattle.tlog_tree.proofs.frontier.Frontier.push_kept.Goals as goal
 
