@@ -3,7 +3,7 @@ ghost use Rattle.std.specs.Prelude.{◌≡◌, ℕ, ◌<◌, ◌≤◌, ◌+◌,
 ghost use Rattle.std.specs.Prelude.{slice_index_or};
 ghost use Rattle.sha2.specs.Sha256.{sha256};
 ghost use Rattle.tlog.specs.Verdicts.{size_limit};
-ghost use Rattle.tlog_tree.specs.Trees.{value_at};
+ghost use Rattle.tlog_tree.specs.Trees.{value_at, values_at};
 ghost use Rattle.tlog_tree.specs.declared.error.TreeError.TheVariants.{SizeTooLarge};
 
 use crate::error::TreeError;
@@ -67,9 +67,26 @@ impl TreeBuilder {
         &self.frontier
     }
 
-    /// The value of wanted node `k`, counted from 0, in the tree so far, or `None` if it has no leaves. A node that the
-    /// end of the log cuts off has the value that is passed on: the root of the leaves that it has.
-    pub fn value(&self, k: usize) -> Option<[u8; 32]>
+    /// The values of the wanted nodes in the tree so far, in the order in which they were wanted: `None` if a node has no
+    /// leaves. A node that the end of the log cuts off has the value that is passed on, the root of the leaves that it
+    /// has.
+    ///
+    /// # Errors
+    ///
+    /// `AllocError` if memory runs out.
+    pub fn values(&self, alloc: Global) -> Result<Vec<Option<[u8; 32]>>, AllocError>
+        ensures { IfOk result (λ values. (leaves : List (List ℕ)) (places : List (ℕ × ℕ)) →
+            IsBuilderOf leaves places self.now → values.items ≡ values_at sha256 leaves places) }
+    {
+        let mut values = Vec::with_capacity(alloc, self.wanted.len())?;
+        for k in 0..self.wanted.len() {
+            values.push(self.value(k))?;
+        }
+        Ok(values)
+    }
+
+    /// The value of wanted node `k`.
+    fn value(&self, k: usize) -> Option<[u8; 32]>
         requires { k < vec_len self.now.wanted }
         ensures { (leaves : List (List ℕ)) (places : List (ℕ × ℕ)) → IsBuilderOf leaves places self.now →
             let place = slice_index_or places k (0, 0) in result ≡ value_at sha256 leaves place.0 place.1 }

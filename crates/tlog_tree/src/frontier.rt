@@ -16,7 +16,7 @@ use tlog::{EMPTY_ROOT, node_hash};
 /// The greatest size.
 const SIZE_LIMIT: usize = 1 << 62;
 
-/// So many leaf hashes of a piece are taken at once.
+/// So many leaf hashes of a piece are taken at once: what is computed of these needs less than 1 MiB.
 const CHUNK: usize = 4096;
 
 /// The tree of a log that only grows, by its whole nodes (the roots of the largest perfect subtrees, from left to
