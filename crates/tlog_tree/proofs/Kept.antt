@@ -6,7 +6,8 @@ use Rattle.std.proofs.Math.Nat.{div-add-mod', div-mul-le_self, mod-lt, mul-le-mu
 use Rattle.std.specs.Prelude.{Some, None}
 use Rattle.std.proofs.lemmas.Nat.{pow_pos}
 use Rattle.std.proofs.lemmas.Bool.Decides.{eqb_tells, leb_tells, nat_tests}
-use Rattle.std.proofs.lemmas.List.{drop-append-le, drop_all, drop_more, take_all, get_or-append_right, length-take-le, take-append-le}
+use Rattle.std.proofs.lemmas.List.{drop-append-le, drop_all, drop_more, take_all, get_or-append_right, length-take-le}
+use Rattle.std.proofs.lemmas.List.{take-append-le}
 use Rattle.std.specs.List.{All}
 use Rattle.std.proofs.Common.{subst}
 use Rattle.std.proofs.lemmas.List.Elements.{All-map, All-weaker}
@@ -23,7 +24,8 @@ unfolding mth_within
 root_of_one hash node rest = refl
 
 -- a node of the lowest layer is the leaf
-pub node_here : (hash : Hash) (L : List (List ℕ)) (slot : ℕ) → slot < length L → node_at hash L 0 slot ≡ get_or L slot []
+pub node_here : (hash : Hash) (L : List (List ℕ)) (slot : ℕ) → slot < length L →
+    node_at hash L 0 slot ≡ get_or L slot []
 node_here hash L slot h =
     let one : slot * 1 ≡ slot = omega arith in
     ap (λ (n : ℕ). leaves_root hash (take 1 (drop n L))) one
@@ -37,14 +39,16 @@ node_above hash L e slot h =
     let m = 2 ^ e in
     let pos = pow_pos e in
     let twice : 2 ^ suc e ≡ m + m = pow-succ' 2 e ∙ omega arith in
-    let end : (slot + 1) * 2 ^ suc e ≡ (slot * m + slot * m) + (m + m) = ap (λ (n : ℕ). (slot + 1) * n) twice ∙ omega arith in
+    let end : (slot + 1) * 2 ^ suc e ≡ (slot * m + slot * m) + (m + m) = ap (λ (n : ℕ). (slot + 1) * n) twice
+    ∙ omega arith in
     let start : slot * 2 ^ suc e ≡ slot * m + slot * m = ap (λ (n : ℕ). slot * n) twice ∙ omega arith in
     let rest = drop (slot * m + slot * m) L in
     let len : length rest ≡ length L - (slot * m + slot * m) = length-drop (slot * m + slot * m) L in
     let back = parents-drop hash (slot * m) (slot * m + slot * m) L refl (omega arith) in
     let front = parents-take hash m (m + m) rest refl (omega arith) in
     let taken : length (take (m + m) rest) ≡ m + m = length-take-le (m + m) rest (omega arith) in
-    rw (twice) (ap (λ (n : ℕ). leaves_root hash (take (m + m) (drop n L))) (ap (λ (n : ℕ). slot * n) (sym twice) ∙ start)
+    rw (twice) (ap (λ (n : ℕ). leaves_root hash (take (m + m) (drop n L))) (ap (λ (n : ℕ). slot * n) (sym twice)
+    ∙ start)
     ∙ root_of_parents hash m (take (m + m) rest) taken (omega arith)
     ∙ ap (leaves_root hash) (front ∙ ap (take m) back))
 

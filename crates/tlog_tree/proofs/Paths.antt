@@ -1,5 +1,6 @@
 -- The values of nodes are those of the layers, and proofs go from layer to layer.
-use Rattle.std.proofs.Common.{◌≡◌, ℕ, zero, suc, ◌+◌, ◌-◌, ◌*◌, ◌/◌, ◌%◌, ◌^◌, ◌<◌, ◌≤◌, refl, sym, ap, ◌∙◌, arith, inl, inr}
+use Rattle.std.proofs.Common.{◌≡◌, ℕ, zero, suc, ◌+◌, ◌-◌, ◌*◌, ◌/◌, ◌%◌, ◌^◌, ◌<◌, ◌≤◌, refl, sym, ap, ◌∙◌, arith, inl}
+use Rattle.std.proofs.Common.{inr}
 use Rattle.std.proofs.Common.{List, [], ◌∷◌, ◌++◌, length, take, drop, get_or, append_assoc, length-drop, length-take}
 use Rattle.std.specs.Prelude.{true, false, nat_lt, Some}
 use Rattle.std.proofs.Math.Nat.{pow-succ'}
@@ -49,7 +50,8 @@ value_above hash L layer slot =
           let rest = drop (x + x) L in
           let rest_len : length rest ≡ length L - (x + x) = length-drop (x + x) L in
           let taken = length-take (m + m) rest in
-          rw (above_is, start, twice, t, u) (ap (λ (v : List ℕ). Some v) (mth_above hash itself (take (m + m) rest) (omega arith)
+          rw (above_is, start, twice, t, u) (ap (λ (v : List ℕ). Some v) (mth_above hash itself (take (m + m) rest)
+          (omega arith)
           ∙ ap (leaves_root hash) (above-take hash itself m (m + m) rest refl
           ∙ ap (take m) (above-drop hash itself x (x + x) L refl))))
       | inr (f, h) ↦

@@ -1,6 +1,6 @@
 -- Worked answers under SHA-256: the entries are the decimal numbers 1, 2, 3 and so on, and of each digest stand the
 -- first four bytes.
-use Rattle.std.specs.Prelude.{◌≡◌, ℕ, List, [], ◌∷◌, codes, map, take, refl, Option, option_map, Some, None}
+use Rattle.std.specs.Prelude.{◌≡◌, ℕ, List, [], ◌∷◌, codes, map, take, refl, option_map, Some, None}
 use Rattle.sha2.specs.Sha256.{compress, digest_bytes, first_words, hash_after, rounds, schedule, sha256}
 use Rattle.tlog.specs.Rfc9162.{doubled, leaf_hash, mth_within}
 use Rattle.tlog_tree.specs.Trees.{values_at, whole_nodes, whole_within}

@@ -19,7 +19,7 @@ whole_within (suc depth) hash (d ∷ rest) =
 abbrev pub whole_nodes : Hash → List (List ℕ) → List (List ℕ)
 whole_nodes hash leaves = whole_within (length leaves) hash leaves
 
--- ---- nodes by their places: layer 0 has the leaf hashes, and each node 2^layer leaves below it, from slot · 2^layer on
+-- ---- nodes by their places: layer 0 has the leaf hashes, and each node 2^layer leaves, from slot · 2^layer on
 
 -- MTH of the leaves below a node
 abbrev pub node_at : Hash → List (List ℕ) → ℕ → ℕ → List ℕ

@@ -67,9 +67,9 @@ impl TreeBuilder {
         &self.frontier
     }
 
-    /// The values of the wanted nodes in the tree so far, in the order in which they were wanted: `None` if a node has no
-    /// leaves. A node that the end of the log cuts off has the value that is passed on, the root of the leaves that it
-    /// has.
+    /// The values of the wanted nodes in the tree so far, in the order in which they were wanted: `None` if a node has
+    /// no leaves. A node that the end of the log cuts off has the value that is passed on, the root of the leaves that
+    /// it has.
     ///
     /// # Errors
     ///

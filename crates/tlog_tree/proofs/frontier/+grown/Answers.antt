@@ -1,4 +1,5 @@
-use Rattle.std.proofs.Common.{arith, length, sym, ap, ◌∙◌, List, ℕ, [], ◌++◌, ◌≡◌, ◌≤◌, ◌<◌, ◌+◌, ◌*◌, ◌/◌, ◌%◌, length-append, drop, vec_len}
+use Rattle.std.proofs.Common.{arith, length, sym, ap, ◌∙◌, List, ℕ, [], ◌++◌, ◌≡◌, ◌≤◌, ◌<◌, ◌+◌, ◌*◌, ◌/◌, ◌%◌}
+use Rattle.std.proofs.Common.{length-append, drop, vec_len}
 use Rattle.std.proofs.lemmas.List.{append-nil, nil_from_length}
 use Rattle.std.proofs.lemmas.Bool.Decides.{nat_tests}
 use Rattle.std.proofs.lemmas.Result.{IfOk-weaker}
@@ -35,11 +36,13 @@ returns-clause-whole t c = λ L long are.
     c.deref-2.ensures.value ∙ c.in_ok-above.ensures ∙ ap (parents_of sha256) layer in
     let half : length (parents_of sha256 L) ≡ c.args.size / 2 =
     length-parents sha256 L ∙ ap (λ (n : ℕ). n / 2) long in
-    let deep : c.in_ok-whole.whole.items ≡ whole_nodes sha256 (parents_of sha256 L ++ parents_of sha256 (single L ++ X)) =
+    let deep : c.in_ok-whole.whole.items
+    ≡ whole_nodes sha256 (parents_of sha256 L ++ parents_of sha256 (single L ++ X)) =
     c.in_ok-whole.ensures.whole (parents_of sha256 L) half cut.front
     ∙ ap (λ (nodes : List (List ℕ)). whole_nodes sha256 (parents_of sha256 L ++ nodes)) above in
     let same : c.deref-3.result.now ≡ single L ++ X = c.deref-3.ensures.value ∙ sym c.deref.ensures.value ∙ layer in
-    let count : vec_len c.extend_from_slice.new.self ≡ length (single L ++ X) = sym c.deref-3.ensures.len ∙ ap length same in
+    let count : vec_len c.extend_from_slice.new.self ≡ length (single L ++ X) = sym c.deref-3.ensures.len
+    ∙ ap length same in
     let last : c.split_at-2.result.1.now ≡ single (single L ++ X) =
     c.split_at-2.ensures.back ∙ ap (λ (nodes : List (List ℕ)). drop (2 * (c.len.result / 2)) nodes) same
     ∙ single_is (single L ++ X) (c.len.result / 2) (ap (λ (n : ℕ). n / 2) (c.len.ensures ∙ count)) in
@@ -68,7 +71,8 @@ returns-then-is_empty-clause-whole t c =
     let none : c.args.more.now ≡ [] =
     nil_from_length c.args.more.now (grind (arith, nat_tests)) in
     IfOk-weaker c.from_slice.result _ _
-    (λ whole is layer long are. is ∙ are ∙ ap (whole_nodes sha256) (sym (append-nil layer) ∙ ap (λ (nodes : List (List ℕ)). layer ++ nodes) (sym none)))
+    (λ whole is layer long are. is ∙ are ∙ ap (whole_nodes sha256) (sym (append-nil layer)
+    ∙ ap (λ (nodes : List (List ℕ)). layer ++ nodes) (sym none)))
     c.from_slice.ensures.items
 
 pub returns-then-is_empty-clause-wanted : goal.returns-then-is_empty-clause-wanted

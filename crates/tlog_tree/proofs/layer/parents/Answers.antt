@@ -1,4 +1,5 @@
-use Rattle.std.proofs.Common.{arith, length, sym, ap, ◌∙◌, List, ◌∷◌, [], ◌++◌, append_assoc, drop, ℕ, ◌≡◌, ◌+◌, ◌*◌, ◌/◌, get_or}
+use Rattle.std.proofs.Common.{arith, length, sym, ap, ◌∙◌, List, ◌∷◌, [], ◌++◌, append_assoc, drop, ℕ, ◌≡◌, ◌+◌, ◌*◌}
+use Rattle.std.proofs.Common.{◌/◌, get_or}
 use Rattle.std.proofs.lemmas.List.{append-nil, take_at}
 use Rattle.sha2.specs.Sha256.{sha256}
 use Rattle.tlog_tree.proofs.Inputs.{flat_inputs, hashes_are_parents, inputs_end, inputs_more, length-flat}

@@ -10,7 +10,8 @@ invariant-loop-last l = record {
   fits : l.layer + l.last < 2 ^ 64;
   path : (hash : Hash) (leaves : List (List ℕ)) → length (layer_of hash l.initial.layer leaves) ≡ l.initial.last + 1 →
       (length (layer_of hash l.layer leaves) ≡ l.last + 1)
-      × (values_at hash leaves l.places.items ++ all_there (path hash (λ leaf. leaf) l.node (layer_of hash l.layer leaves))
+      × (values_at hash leaves l.places.items
+      ++ all_there (path hash (λ leaf. leaf) l.node (layer_of hash l.layer leaves))
       ≡ values_at hash leaves l.initial.places.items
       ++ all_there (path hash (λ leaf. leaf) l.initial.node (layer_of hash l.initial.layer leaves)));
 }

@@ -59,4 +59,5 @@ returns c = λ hash leaves long.
     ] in
     c.in_ok-add_path.ensures hash leaves kept.0
     ∙ consistency_is hash leaves layer old c.loop-old.last places
-    (subproof hash (λ (leaf : List ℕ). leaf) c.args.old_size leaves true) kept.0 below kept.1 c.loop-old-test.false first
+    (subproof hash (λ (leaf : List ℕ). leaf) c.args.old_size leaves true) kept.0 below kept.1
+    c.loop-old-test.false first

@@ -9,7 +9,8 @@ pub loop-place-preserved : goal.loop-place-preserved
 loop-place-preserved c =
     ap (map place_of) c.in_ok-push.ensures.items
     ∙ map_push place_of c.loop-place.wanted.items _
-    ∙ ap (λ (ps : List (ℕ × ℕ)). ps ++ get_or c.args.places.now c.loop-place.place-index (0, 0) ∷ []) c.loop-place.invariant
+    ∙ ap (λ (ps : List (ℕ × ℕ)). ps ++ get_or c.args.places.now c.loop-place.place-index (0, 0) ∷ [])
+    c.loop-place.invariant
     ∙ sym (take_more c.args.places.now c.loop-place.place-index (0, 0) (omega arith))
 
 pub returns : goal.returns

@@ -1,4 +1,4 @@
-use Rattle.std.proofs.Common.{arith, length, map, take, get_or, sym, ap, ◌∙◌, ◌≡◌, ◌<◌, ◌≤◌, ◌++◌, ◌∷◌, List, ℕ, []}
+use Rattle.std.proofs.Common.{arith, length, take, get_or, sym, ap, ◌∙◌, ◌≡◌, ◌<◌, ◌≤◌, ◌++◌, ◌∷◌, List, ℕ, []}
 use Rattle.std.specs.Prelude.{Option}
 use Rattle.std.proofs.lemmas.List.{length-map, map-append, take_all, take_more}
 use Rattle.sha2.specs.Sha256.{sha256}

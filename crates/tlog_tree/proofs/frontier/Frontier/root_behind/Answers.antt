@@ -11,7 +11,8 @@ behind_is : (L nodes behind : List (List ℕ)) (layer whole at : ℕ) → nodes 
     whole ≡ length L / 2 ^ layer → at ≡ count_ones whole → behind ≡ drop at nodes →
     behind ≡ whole_nodes sha256 (drop (whole * 2 ^ layer) L)
 behind_is L nodes behind layer whole at are place first rest =
-    rest ∙ ap (λ (n : ℕ). drop n nodes) (first ∙ ap count_ones place) ∙ ap (drop (count_ones (length L / 2 ^ layer))) are
+    rest ∙ ap (λ (n : ℕ). drop n nodes) (first ∙ ap count_ones place)
+    ∙ ap (drop (count_ones (length L / 2 ^ layer))) are
     ∙ behind_layer layer sha256 L ∙ ap (λ (n : ℕ). whole_nodes sha256 (drop (n * 2 ^ layer) L)) (sym place)
 
 -- no more nodes are passed than there are
