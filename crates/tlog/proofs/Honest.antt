@@ -45,7 +45,7 @@ sub-more depth hash leaf m L b h =
     let f : (m == length L) ≡ false = grind (arith, nat_tests) in rw (f, subproof_within)
 
 -- from one entry, whose root the verifier has
-sub-one : {X : Type 0} (depth : ℕ) (hash : Hash) (leaf : X → List ℕ) (L : List X) → 0 < length L → length L ≤ depth →
+pub sub-one : {X : Type 0} (depth : ℕ) (hash : Hash) (leaf : X → List ℕ) (L : List X) → 0 < length L → length L ≤ depth →
     subproof_within depth hash leaf 1 L true ≡ path_within depth hash leaf 0 L
 unfolding subproof_within path_within
 sub-one depth hash leaf [] some enough = absurd (omega arith)
@@ -99,7 +99,7 @@ sub-odd-more depth hash leaf i L b d within left right =
           (sym (ap (λ (p : List (List ℕ)). leaf (get_or L (i + i) d) ∷ p) (there ∙ rw (f, m2))))
     ]
 
-sub-odd : {X : Type 0} (depth : ℕ) (hash : Hash) (leaf : X → List ℕ) (i : ℕ) (L : List X) (b : Bool) (d : X) →
+pub sub-odd : {X : Type 0} (depth : ℕ) (hash : Hash) (leaf : X → List ℕ) (i : ℕ) (L : List X) (b : Bool) (d : X) →
     (b ≡ false) ⊎ (0 < i) → (suc (i + i) < length L) ⊎ (length L ≡ 1) → suc (i + i) ≤ length L → length L ≤ depth →
     subproof_within depth hash leaf (suc (i + i)) L b
     ≡ leaf (get_or L (i + i) d) ∷ path_within depth hash leaf (i + i) L
@@ -163,7 +163,7 @@ sub-even-more depth other hash leaf i L b some within left right =
           )
     ]
 
-sub-even : {X : Type 0} (depth other : ℕ) (hash : Hash) (leaf : X → List ℕ) (i : ℕ) (L : List X) (b : Bool) → 0 < i →
+pub sub-even : {X : Type 0} (depth other : ℕ) (hash : Hash) (leaf : X → List ℕ) (i : ℕ) (L : List X) (b : Bool) → 0 < i →
     i + i ≤ length L → length L ≤ depth → length (above hash leaf L) ≤ other →
     subproof_within depth hash leaf (i + i) L b ≡ subproof_within other hash itself i (above hash leaf L) b
 unfolding subproof_within

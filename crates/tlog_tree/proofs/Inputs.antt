@@ -1,0 +1,120 @@
+-- The hashes of inputs of one length, which lie one after another, are the parents of a layer.
+use Rattle.std.proofs.Common.{◌≡◌, ℕ, zero, suc, ◌+◌, ◌-◌, ◌*◌, ◌/◌, ◌<◌, List, [], ◌∷◌, ◌++◌, length, map, take}
+use Rattle.std.proofs.Common.{drop, get_or, refl, sym, ap, ◌∙◌, arith}
+use Rattle.std.proofs.Math.Nat.{add-mul, mul-add, one-mul}
+use Rattle.std.proofs.Math.Seq.{take-append_seam, drop-append-add}
+use Rattle.std.proofs.Common.{length-append, ◌%◌}
+use Rattle.std.proofs.lemmas.List.{drop_more, get_or-map, length-map}
+use Rattle.std.proofs.lemmas.List.FromFn.{fill_by_all}
+use Rattle.std.proofs.lemmas.Simd.{map-map}
+use Rattle.std.specs.List.{flat_map, range_with_len}
+use Rattle.tlog.specs.Rfc9162.{Hash}
+use Rattle.p3_support.specs.Lists.{message, messages}
+use Rattle.tlog_tree.specs.Inner.Layers.{parents_of}
+use Rattle.tlog_tree.proofs.Whole.{length-single, single, single_is}
+
+-- a piece, from where it stands
+piece : (n : ℕ) (xs : List (List ℕ)) → ((k : ℕ) → k < length xs → length (get_or xs k []) ≡ n) → (j : ℕ) →
+    j < length xs → take n (drop (j * n) (flat_map (λ x. x) xs)) ≡ get_or xs j []
+piece n [] each j below = absurd (omega arith)
+piece n (x ∷ xs) each zero below =
+    let first : length x ≡ n = each 0 (omega arith) in
+    let none : 0 * n ≡ 0 = omega arith in
+    ap (λ (i : ℕ). take n (drop i (x ++ flat_map (λ y. y) xs))) none
+    ∙ ap (λ (m : ℕ). take m (x ++ flat_map (λ y. y) xs)) (sym first)
+    ∙ take-append_seam x (flat_map (λ y. y) xs)
+piece n (x ∷ xs) each (suc j) below =
+    let first : length x ≡ n = each 0 (omega arith) in
+    let past : suc j * n ≡ length x + j * n = omega (arith, first, add-mul 1 j n, one-mul n) in
+    ap (λ (i : ℕ). take n (drop i (x ++ flat_map (λ y. y) xs))) past
+    ∙ ap (take n) (drop-append-add x (flat_map (λ y. y) xs) (j * n))
+    ∙ piece n xs (λ k h. each (suc k) (omega arith)) j (omega arith)
+
+-- the hashes of the messages are those of the pieces
+hashed_pieces : (n : ℕ) (hash : Hash) (xs : List (List ℕ)) →
+    ((k : ℕ) → k < length xs → length (get_or xs k []) ≡ n) →
+    map hash (messages n (length xs) (flat_map (λ x. x) xs)) ≡ map hash xs
+hashed_pieces n hash xs each =
+    let of = λ (k : ℕ). hash (message n (flat_map (λ x. x) xs) k) in
+    map-map hash (message n (flat_map (λ x. x) xs)) (range_with_len 0 (length xs))
+    ∙ sym (fill_by_all of (map hash xs) (length xs) [] (length-map xs hash) (λ k h.
+    let span : (k + 1) * n - k * n ≡ n = omega (arith, add-mul k 1 n, one-mul n) in
+    get_or-map hash xs k [] [] h ∙ ap hash (sym (ap (λ (m : ℕ). take m (drop (k * n) (flat_map (λ x. x) xs))) span
+    ∙ piece n xs each k h))))
+
+-- the inputs of the hashes of a layer's parents
+abbrev pub node_inputs : List (List ℕ) → List (List ℕ)
+node_inputs [] = []
+node_inputs (node ∷ []) = []
+node_inputs (left ∷ (right ∷ rest)) = (1 ∷ (left ++ right)) ∷ node_inputs rest
+
+-- these bytes, one input after another
+abbrev pub flat_inputs : List (List ℕ) → List ℕ
+flat_inputs layer = flat_map (λ x. x) (node_inputs layer)
+
+length-inputs : (L : List (List ℕ)) → length (node_inputs L) ≡ length L / 2
+length-inputs [] = refl
+length-inputs (node ∷ []) = refl
+length-inputs (left ∷ (right ∷ rest)) = let h = length-inputs rest in omega arith
+
+each_input : (n : ℕ) (L : List (List ℕ)) → ((k : ℕ) → k < length L → length (get_or L k []) ≡ n) → (k : ℕ) →
+    k < length (node_inputs L) → length (get_or (node_inputs L) k []) ≡ suc (n + n)
+each_input n [] each k h = absurd (omega arith)
+each_input n (node ∷ []) each k h = absurd (omega arith)
+each_input n (left ∷ (right ∷ rest)) each zero h =
+    let l : length left ≡ n = each 0 (omega arith) in
+    let r : length right ≡ n = each 1 (omega arith) in
+    omega (arith, length-append left right)
+each_input n (left ∷ (right ∷ rest)) each (suc k) h =
+    each_input n rest (λ i b. each (suc (suc i)) (omega arith)) k (omega arith)
+
+hashed_inputs : (hash : Hash) (L : List (List ℕ)) → map hash (node_inputs L) ≡ parents_of hash L
+hashed_inputs hash [] = refl
+hashed_inputs hash (node ∷ []) = refl
+hashed_inputs hash (left ∷ (right ∷ rest)) =
+    ap (λ (nodes : List (List ℕ)). hash (1 ∷ (left ++ right)) ∷ nodes) (hashed_inputs hash rest)
+
+pub length-flat : (n : ℕ) (L : List (List ℕ)) → ((k : ℕ) → k < length L → length (get_or L k []) ≡ n) →
+    length (flat_inputs L) ≡ suc (n + n) * (length L / 2)
+length-flat n [] each = omega arith
+length-flat n (node ∷ []) each = omega arith
+length-flat n (left ∷ (right ∷ rest)) each =
+    let l : length left ≡ n = each 0 (omega arith) in
+    let r : length right ≡ n = each 1 (omega arith) in
+    let rest_len = length-flat n rest (λ i b. each (suc (suc i)) (omega arith)) in
+    let both = length-append left right in
+    let all = length-append (1 ∷ (left ++ right)) (flat_inputs rest) in
+    let half : suc (suc (length rest)) / 2 ≡ suc (length rest / 2) = omega arith in
+    rw half (all ∙ omega (arith, mul-add (suc (n + n)) 1 (length rest / 2)))
+
+-- one more input
+pub inputs_more : (L : List (List ℕ)) (i : ℕ) → 2 * i + 1 < length L →
+    flat_inputs (drop (2 * i) L)
+    ≡ (1 ∷ (get_or L (2 * i) [] ++ get_or L (2 * i + 1) [])) ++ flat_inputs (drop (2 * (i + 1)) L)
+inputs_more L i h =
+    let twice : 2 * i + 1 + 1 ≡ 2 * (i + 1) = omega arith in
+    let one = drop_more L (2 * i) [] (omega arith) in
+    let two = drop_more L (2 * i + 1) [] h in
+    ap flat_inputs (one ∙ ap (λ (rest : List (List ℕ)). get_or L (2 * i) [] ∷ rest) two)
+    ∙ ap (λ (j : ℕ). (1 ∷ (get_or L (2 * i) [] ++ get_or L (2 * i + 1) [])) ++ flat_inputs (drop j L)) twice
+
+-- no input is left
+pub inputs_end : (L : List (List ℕ)) (i : ℕ) → i ≡ length L / 2 → flat_inputs (drop (2 * i) L) ≡ []
+inputs_end L i e =
+    rw (single_is L i e) (none (single L) (length-single L))
+  where
+    none : (M : List (List ℕ)) → length M ≡ length L % 2 → flat_inputs M ≡ []
+    none [] m = refl
+    none (node ∷ []) m = refl
+    none (left ∷ (right ∷ rest)) m = absurd (omega arith)
+
+-- the hashes of the inputs of a layer's nodes of n bytes are the parents
+pub hashes_are_parents : (n m : ℕ) (hash : Hash) (L hashes : List (List ℕ)) (flat : List ℕ) →
+    flat ≡ flat_inputs L → m ≡ length L / 2 →
+    ((k : ℕ) → k < length L → length (get_or L k []) ≡ n) →
+    hashes ≡ map hash (messages (suc (n + n)) m flat) → hashes ≡ parents_of hash L
+hashes_are_parents n m hash L hashes flat same half each are =
+    let len = length-inputs L in
+    let many : m ≡ length (node_inputs L) = omega arith in
+    are ∙ rw (same, many) (hashed_pieces (suc (n + n)) hash (node_inputs L) (each_input n L each)
+    ∙ hashed_inputs hash L)

@@ -1,0 +1,4 @@
+pub mod Whole
+pub mod Inputs
+pub mod Kept
+pub mod Paths

@@ -1,0 +1,24 @@
+use Rattle.std.proofs.Common.{arith, length, map, ap, ◌∙◌, ◌++◌, ◌≡◌}
+use Rattle.std.specs.Vec.{with_items}
+use Rattle.std.proofs.lemmas.List.{with_items_is}
+use Rattle.std.proofs.lemmas.List.Elements.{All-same}
+use Rattle.sha2.specs.Sha256.{sha256}
+use Rattle.tlog_tree.specs.Builders.{place_of}
+use Rattle.tlog_tree.specs.Inner.Wanted.{updated}
+use Rattle.tlog_tree.proofs.Kept.{HasValue, places_stay, values_grow}
+use Rattle.tlog_tree.proofs.builder.TreeBuilder.push_many.Goals as goal
+
+pub returns-clause-built : goal.returns-clause-built
+returns-clause-built c = λ leaves places is.
+    let ws = c.args.self.wanted.items in
+    let next = updated sha256 0 (length leaves) (leaves ++ c.args.hashes.now) in
+    let items : (with_items c.args.self.wanted c.push_kept.new.wanted).items ≡ map next ws =
+    with_items_is c.args.self.wanted c.push_kept.new.wanted
+    (omega (arith, c.push_kept.auto.wanted, ap length c.deref_mut.ensures.value, c.args.self.wanted.ok))
+    ∙ c.in_ok-push_kept.ensures.wanted leaves is.frontier ∙ ap (map next) c.deref_mut.ensures.value in
+    record {
+      frontier = c.in_ok-push_kept.ensures.grown leaves is.frontier;
+      at = ap (map place_of) items ∙ places_stay sha256 (length leaves) (leaves ++ c.args.hashes.now) ws ∙ is.at;
+      values = All-same (HasValue sha256 (leaves ++ c.args.hashes.now)) _ _ items
+          (values_grow sha256 leaves c.args.hashes.now ws is.values);
+    }

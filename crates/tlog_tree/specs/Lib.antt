@@ -1,0 +1,5 @@
+pub mod Trees
+pub mod Examples
+pub mod Frontiers
+pub mod Builders
+pub mod Inner

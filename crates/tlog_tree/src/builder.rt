@@ -1,0 +1,112 @@
+//! The tree of a log that is read once, with the values of wanted nodes.
+ghost use Rattle.std.specs.Prelude.{◌≡◌, ℕ, ◌<◌, ◌≤◌, ◌+◌, ◌/◌, ◌^◌, ◌++◌, ◌↔◌, List, [], IfOk, IfErr, length, vec_len};
+ghost use Rattle.std.specs.Prelude.{slice_index_or};
+ghost use Rattle.sha2.specs.Sha256.{sha256};
+ghost use Rattle.tlog.specs.Verdicts.{size_limit};
+ghost use Rattle.tlog_tree.specs.Trees.{value_at, values_at};
+ghost use Rattle.tlog_tree.specs.declared.error.TreeError.TheVariants.{SizeTooLarge};
+
+use crate::error::TreeError;
+use crate::frontier::{Frontier, root_of_nodes};
+use crate::wanted::WantedNode;
+use std::alloc::{AllocError, Global};
+
+/// The tree of a log that is read once, from its first entry on, with the values of the nodes that were wanted when it
+/// began, and nothing else: what proofs of inclusion and of consistency are made of. A node has a layer, 0 for the leaf
+/// hashes, and a slot in the layer, counted from 0: below it are the 2^layer leaves from slot * 2^layer on.
+#[derive(Debug, Drop)]
+pub struct TreeBuilder {
+    frontier: Frontier,
+    wanted: Vec<WantedNode>,
+}
+
+impl TreeBuilder {
+    ghost use Rattle.tlog_tree.specs.Builders.{IsBuilderOf};
+
+    /// The tree of no entries, where the nodes of these layers and slots are wanted.
+    ///
+    /// # Errors
+    ///
+    /// `AllocError` if memory runs out.
+    pub fn new(alloc: Global, places: &[(usize, usize)]) -> Result<TreeBuilder, AllocError>
+        ensures { IfOk result (IsBuilderOf [] places.now) }
+    {
+        let mut wanted = Vec::with_capacity(alloc, places.len())?;
+        for place in places {
+            wanted.push(WantedNode {
+                layer: place.0,
+                slot: place.1,
+                value: [0; 32],
+            })?;
+        }
+        Ok(TreeBuilder {
+            frontier: Frontier::new(alloc),
+            wanted,
+        })
+    }
+
+    /// Puts leaf hashes behind those of the log. After an error the builder is gone.
+    ///
+    /// # Errors
+    ///
+    /// `SizeTooLarge` if there would be more than 2^62, `OutOfMemory` if memory runs out.
+    pub fn push_many(mut self, alloc: Global, hashes: &[[u8; 32]]) -> Result<TreeBuilder, TreeError>
+        ensures built { IfOk result (λ builder. (leaves : List (List ℕ)) (places : List (ℕ × ℕ)) →
+            IsBuilderOf leaves places self → IsBuilderOf (leaves ++ hashes.now) places builder) }
+        ensures refused { IfErr result (λ e.
+            (e ≡ SizeTooLarge) ↔ (size_limit < self.frontier.size + length hashes.now)) }
+    {
+        self.frontier.push_kept(alloc, hashes, &mut self.wanted)?;
+        Ok(self)
+    }
+
+    /// The tree of the log so far.
+    pub fn frontier(&self) -> &Frontier
+        ensures { result.now ≡ self.now.frontier }
+    {
+        &self.frontier
+    }
+
+    /// The values of the wanted nodes in the tree so far, in the order in which they were wanted: `None` if a node has
+    /// no leaves. A node that the end of the log cuts off has the value that is passed on, the root of the leaves that
+    /// it has.
+    ///
+    /// # Errors
+    ///
+    /// `AllocError` if memory runs out.
+    pub fn values(&self, alloc: Global) -> Result<Vec<Option<[u8; 32]>>, AllocError>
+        ensures { IfOk result (λ values. (leaves : List (List ℕ)) (places : List (ℕ × ℕ)) →
+            IsBuilderOf leaves places self.now → values.items ≡ values_at sha256 leaves places) }
+    {
+        let mut values = Vec::with_capacity(alloc, self.wanted.len())?;
+        for k in 0..self.wanted.len() {
+            values.push(self.value(k))?;
+        }
+        Ok(values)
+    }
+
+    /// The value of wanted node `k`.
+    fn value(&self, k: usize) -> Option<[u8; 32]>
+        requires { k < vec_len self.now.wanted }
+        ensures { (leaves : List (List ℕ)) (places : List (ℕ × ℕ)) → IsBuilderOf leaves places self.now →
+            let place = slice_index_or places k (0, 0) in result ≡ value_at sha256 leaves place.0 place.1 }
+    {
+        let node = &self.wanted[k];
+        let whole = whole_count(self.frontier.size(), node.layer);
+        if node.slot < whole {
+            return Some(node.value);
+        }
+        if node.slot == whole {
+            return self.frontier.root_behind(whole);
+        }
+        None
+    }
+}
+
+/// How many nodes of a layer have all their leaves, in a log of `size` entries.
+fn whole_count(size: usize, layer: usize) -> usize
+    requires { size ≤ size_limit }
+    ensures { result ≡ size / 2 ^ layer }
+{
+    if layer < 64 { size >> layer } else { 0 }
+}
