@@ -246,13 +246,12 @@ fn pack_child<P: FoldLane, const N: usize, const D: usize>(
     )
 }
 
-/// Tells that a group has `N` children. It does nothing at run time.
+/// States that a group has `N` children.
 fn lemma_group<const N: usize, const D: usize>(group: &[[u32; D]; N])
     ensures { length group.now ≡ N }
 {}
 
-/// Tells that each of the `P::WIDTH` groups from `first` on has `N` children. It does nothing at run
-/// time.
+/// States that each of the `P::WIDTH` groups from `first` on has `N` children.
 fn lemma_groups<P: FoldLane, const N: usize, const D: usize>(groups: &[[[u32; D]; N]], first: usize)
     requires { first + P.WIDTH ≤ length groups.now }
     ensures { (k : ℕ) → k < P.WIDTH → length (slice_index_or groups.now (first + k) []) ≡ N }

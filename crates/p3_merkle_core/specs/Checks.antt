@@ -84,7 +84,7 @@ content_digest f (Digests digests) = f.compression digests
 abbrev pub input_digest : {T W : Type 0} → Functions T W → Input T W → List W
 input_digest f x = content_digest f x.content
 
--- the content has n digests, if it is made of digests
+-- the content has n digests, if it consists of digests
 abbrev pub IsFull : {T W : Type 0} → ℕ → Content T W → Type 0
 IsFull n (Words words) = Unit {0}
 IsFull n (Digests digests) = length digests ≡ n

@@ -1,4 +1,4 @@
--- Why the heights of a growth or a proof of consistency are refused: the first reason that holds.
+-- Why the heights of a growth or a proof of consistency are refused: the first reason that applies.
 use Rattle.std.specs.Prelude.{◌≡◌, ℕ, ◌==◌, Bool, not, nat_le, nat_lt, List, [], ◌∷◌, length, filter, position}
 use Rattle.std.specs.Prelude.{slice_index, Option, None, Result, IsOk}
 use Rattle.std.specs.List.{list_all, range_with_len}
@@ -15,7 +15,7 @@ use Rattle.p3_merkle_core.specs.declared.error.ConsistencyError.TheVariants.{Emp
 use Rattle.p3_merkle_core.specs.declared.error.ConsistencyError.TheVariants.{OldCapMismatch, OutOfMemory, Shrunk}
 use Rattle.p3_merkle_core.specs.declared.error.ConsistencyError.TheVariants.{TooLarge, WrongDigestCount}
 
--- Ok only where nothing is refused; an error is the refusal, or tells that memory ran out
+-- Ok only where nothing is refused; an error is the refusal, or says that memory ran out
 abbrev pub ConsistencyAnswers : {V : Type 0} → Result V ConsistencyError → Option ConsistencyError → Type 0
 ConsistencyAnswers result refusal = AnswersUnless (λ e. e ≡ OutOfMemory) result refusal
 

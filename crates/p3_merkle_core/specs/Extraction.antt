@@ -51,7 +51,7 @@ difference_of row_eq digest_eq c o u =
     let shared = shared_inputs c o.index u.index in last_difference (input_eq row_eq digest_eq) (shared o) (shared u)
 
 -- a collision of two openings: the last inputs that their checks share and that differ; they stand at one place, have
--- as many digests as the arity if they are made of digests, and have one digest
+-- as many digests as the arity if they consist of digests, and have one digest
 pub record IsCollision {T W : Type 0} (c : Params T W) (o u : Opening T W)
     (found : Input T W × Input T W) : Type 0 where
   pub last : IsLastShared c o u found.0 found.1

@@ -23,8 +23,8 @@ use Rattle.p3_merkle_core.specs.declared.consistency.Growth.{Growth}
 use Rattle.p3_merkle_core.specs.declared.error.ConsistencyError.{ConsistencyError}
 use Rattle.p3_merkle_core.specs.declared.error.ConsistencyError.TheVariants.{NewOpening, OldOpening, WidthsDiffer}
 
--- openings under both caps of a list that grows: what the check of a proof of consistency computes from, the new cap, and
--- for each tree its shape, the layer of its cap and an opening
+-- openings under both caps of a list that grows: what the check of a proof of consistency computes from, the new cap,
+-- and for each tree its shape, the layer of its cap and an opening
 pub record GrownOpenings (T W : Type 0) : Type 0 where
   pub evidence : Evidence T W
   pub new_cap : List (List W)
@@ -101,8 +101,8 @@ compared x Openings =
 abbrev pub AgreeThroughout : {T W : Type 0} → GrownOpenings T W → Type 0
 AgreeThroughout x = (between : Between) → (compared x between).0 ≡ (compared x between).1
 
--- an inconsistency: the last inputs that differ of two checks; they stand at one place, have as many digests as the arity
--- if they are made of digests, and have one digest
+-- an inconsistency: the last inputs that differ of two checks; they stand at one place, have as many digests as the
+-- arity if they consist of digests, and have one digest
 pub record IsInconsistency {T W : Type 0} (x : GrownOpenings T W)
     (found : Between × (Input T W × Input T W)) : Type 0 where
   pub last : IsLastDifference (compared x found.0).0 (compared x found.0).1 found.1.0 found.1.1
@@ -124,7 +124,7 @@ pub record AreAccepted {T W : Type 0} (x : GrownOpenings T W) : Type 0 where
   pub new_accepted : IsAccepted (new_params x) x.new_cap x.new_opening
   pub consistent : IsConsistent x.evidence x.new_cap
 
--- the first place at which two lists differ: at the latest behind the end of the shorter one
+-- the first place at which two lists differ: at the latest after the end of the shorter one
 abbrev pub first_unlike : List ℕ → List ℕ → Option ℕ
 first_unlike [] [] = None
 first_unlike [] (y ∷ ys) = Some 0

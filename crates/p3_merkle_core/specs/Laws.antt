@@ -335,7 +335,7 @@ module _ (T W : Type 0) where
       IsAccepted c cap u → o.index ≡ u.index →
       AgreeWhereShared c o u ↔ RowsAgreeWhereAuthenticated c o u
 
-  -- each input of an accepted opening that is made of digests has as many of them as the arity
+  -- each input of an accepted opening that consists of digests has as many of them as the arity
   abbrev pub InputsAreFull : Type 0
   InputsAreFull =
       (c : Params T W) (cap : List (List W)) (o : Opening T W) → IsArity c.shape.arity → IsAccepted c cap o →

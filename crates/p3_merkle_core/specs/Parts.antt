@@ -50,7 +50,7 @@ cap_fault n c heights caps k =
     unless (nat_le (nodes_of_height n h (cap_layer_of_height n h c)) (length (slice_index_or caps k [])))
     (CapTooShort k)
 
--- why no cap is made of these caps, if none is: the heights or the number of caps, else the first cap that is too short
+-- why these caps give no cap, if they don't: the heights or the number of caps, else the first cap that is too short
 abbrev pub parts_refusal : {X : Type 0} → ℕ → ℕ → List ℕ → List (List X) → Option PartsError
 parts_refusal n c heights caps =
     first_some (heights_refusal n heights (length caps) ∷

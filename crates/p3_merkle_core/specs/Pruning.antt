@@ -34,7 +34,7 @@ boundary_by value s queries t = map (λ (l, j). value l j) (boundary s queries t
 abbrev pub pruned_len : Shape → List ℕ → ℕ → ℕ
 pruned_len s indices t = length (boundary s indices t)
 
--- a tree can be asked for these queries under layer t: its arity is a power of two from 2 to 2 ^ 62, the queries are
+-- a tree can answer these queries under layer t: its arity is a power of two from 2 to 2 ^ 62, the queries are
 -- below its tallest height, and it has the layer
 pub record CanQuery (s : Shape) (queries : List ℕ) (t : ℕ) : Type 0 where
   pub well_shaped : IsArity s.arity

@@ -1,4 +1,4 @@
--- Why an opening is refused: the first reason that holds.
+-- Why an opening is refused: the first reason that applies.
 use Rattle.std.specs.Prelude.{◌≡◌, ℕ, suc, false, slice_get, ◌==◌, ◌&&◌, nat_lt, Bool, if◌then◌else◌, List, []}
 use Rattle.std.specs.Prelude.{◌∷◌, map, length, filter, zip, unwrap_or, option_map, slice_index, slice_index_or, Option}
 use Rattle.std.specs.Prelude.{Some, None, Result, Ok, Err, Decides}
@@ -46,7 +46,7 @@ ok_unless (Some e) v = Err e
 
 -- ---- what a call returns
 
--- Ok only where nothing is refused; an error is the refusal, or tells that memory ran out
+-- Ok only where nothing is refused; an error is the refusal, or says that memory ran out
 abbrev pub AnswersUnlessMemory : {V : Type 0} → Result V MerkleTreeError → Option MerkleTreeError → Type 0
 AnswersUnlessMemory result refusal = AnswersUnless (λ e. e ≡ OutOfMemory) result refusal
 

@@ -48,7 +48,7 @@ module _ {T M : Type 0} (height width : M → ℕ) (row : M → ℕ → List T) 
 abbrev pub opening_made : {T W A : Type 0} → ℕ → BatchOpening T (Vec (List W) A) → Opening T W
 opening_made index opening = opening_of index (row_lists opening.opened_values.items) opening.opening_proof.items
 
--- the same of one that is lent
+-- the same of a borrowed one
 abbrev pub opening_lent : {T W A : Type 0} → ℕ → BatchOpeningRef T (Vec (List W) A) → Opening T W
 opening_lent index opening = opening_of index (row_lists opening.opened_values.now) opening.opening_proof.now.items
 
@@ -62,19 +62,19 @@ abbrev pub multi_made : {T W A B C : Type 0} → List ℕ → Vec (Vec (Vec T A)
     PrunedOpening T W
 multi_made indices opening = pruned_of indices (row_sets opening.0.items) opening.1.sibling_hashes.items
 
--- a pruned opening of some indices, by row sets and a proof that are lent
+-- a pruned opening of some indices, by borrowed row sets and a borrowed proof
 abbrev pub pruned_lent : {T W A B : Type 0} → List ℕ → List (Vec (Vec T A) B) → PrunedProof (List W) → PrunedOpening T W
 pruned_lent indices rows proof = pruned_of indices (row_sets rows) proof.sibling_hashes.items
 
--- the rows and the siblings that an opening shows
+-- the rows and the siblings of an opening
 abbrev pub shown_opening : {T X A : Type 0} → BatchOpening T (Vec X A) → List (List T) × List X
 shown_opening opening = (row_lists opening.opened_values.items, opening.opening_proof.items)
 
--- the row sets and the digests that a pruned opening shows
+-- the row sets and the digests of a pruned opening
 abbrev pub shown_pruned : {T X : Type 0} → PrunedRows T X → List (List (List T)) × List X
 shown_pruned opening = (row_sets opening.opened_values.items, opening.pruned_proof.sibling_hashes.items)
 
--- the leaf and the siblings that a path shows
+-- the leaf and the siblings of a path
 abbrev pub shown_path : {X : Type 0} → AuthPath X → ℕ × List X
 shown_path path = (path.leaf_index, path.siblings.items)
 
@@ -84,17 +84,17 @@ shown_paths paths = map shown_path paths
 
 -- ---- collisions
 
--- the two inputs that a collision shows
+-- the two inputs of a collision
 abbrev pub inputs_in : {T W : Type 0} → InputPair T (List W) → Input T W × Input T W
 inputs_in (Words place first second) = (words_at place first.items, words_at place second.items)
 inputs_in (Digests place first second) = (digests_at place first.items, digests_at place second.items)
 
--- what is found in two openings of one index each: the first query of both, and the inputs that the collision shows
+-- what is found in two openings of one index each: the first query of both, and the inputs of the collision
 abbrev pub found_alone : {T W : Type 0} → Result (Option (InputPair T (List W))) MerkleTreeError →
     Result (Option (ℕ × ℕ × (Input T W × Input T W))) MerkleTreeError
 found_alone result = result_map_both (λ found. option_map (λ pair. (0, 0, inputs_in pair)) found) (λ e. e) result
 
--- what is found in two openings of several indices: a query of each, and the inputs that the collision shows
+-- what is found in two openings of several indices: a query of each, and the inputs of the collision
 abbrev pub found_pair : {T W : Type 0} → Result (Option (ℕ × ℕ × InputPair T (List W))) MerkleTreeError →
     Result (Option (ℕ × ℕ × (Input T W × Input T W))) MerkleTreeError
 found_pair result = result_map_both (λ found. option_map (λ (a, b, pair). (a, b, inputs_in pair)) found) (λ e. e) result

@@ -55,11 +55,11 @@ pub struct LayerParts {
 pub struct MixedChildren {
     /// The first child.
     pub start: usize,
-    /// Behind the last old child.
+    /// After the last old child.
     pub old_end: usize,
-    /// Behind the mixed child, or behind the last old one.
+    /// After the mixed child, or after the last old one.
     pub new_start: usize,
-    /// Behind the last new child that is no padding.
+    /// After the last new child that is no padding.
     pub end: usize,
 }
 
@@ -171,8 +171,8 @@ impl Growth {
     ///
     /// # Errors
     ///
-    /// The first of these that holds: `EmptyBatch` if a height is 0; `TooLarge` with the old height, else with the new
-    /// one, if that is above [`MAX_HEIGHT`]; `Shrunk` if the new height is below the old one.
+    /// The first of these that applies: `EmptyBatch` if a height is 0; `TooLarge` with the old height, else with the
+    /// new one, if that is above [`MAX_HEIGHT`]; `Shrunk` if the new height is below the old one.
     pub fn check_heights(&self) -> Result<(), ConsistencyError>
         ensures { MatchResult result (λ ok. growth_refusal self.now ≡ None) (λ e. growth_refusal self.now ≡ Some e) }
     {

@@ -110,7 +110,7 @@ pub enum MerkleTreeError {
 
 /// Why heights, openings or a proof of consistency are refused, where a list of rows grows.
 ///
-/// A call answers the first of these that holds, in this order; `OutOfMemory` may come at any time where the call
+/// A call answers the first of these that applies, in this order; `OutOfMemory` may come at any time where the call
 /// allocates.
 #[derive(Debug, PartialEq, Eq, Drop, Error)]
 pub enum ConsistencyError {
@@ -212,7 +212,7 @@ impl<T: Drop> From<AllocFailed<T>> for MerkleTreeError {
     }
 }
 
-/// Why no cap is made of the caps of parts. Where several reasons hold, the call returns the first in this order;
+/// Why the caps of parts give no cap. Where several reasons apply, the call returns the first in this order;
 /// `OutOfMemory` may come at any time.
 #[derive(Debug, PartialEq, Eq, Drop, Error)]
 pub enum PartsError {

@@ -43,7 +43,7 @@ pub fn padded_group<W: Copy, const N: usize, const D: usize>(
 }
 
 /// The child of a mixed node of a list that grows at a place, counted from the first one, where its old children come
-/// first, the mixed one behind them if there is one, then its new ones; the default digest behind the last one.
+/// first, the mixed one after them if there is one, then its new ones; the default digest after the last one.
 #[inline(always)]
 fn mixed_child<W: Copy, const D: usize>(
     default_digest: [W; D],

@@ -201,8 +201,8 @@ pub fn answers<T, W>()
 /// Two that agree at each shared place have the same words in each row of an authenticated matrix that both open. Two
 /// of one index agree exactly if they have the same siblings, and the same row of each authenticated matrix.
 ///
-/// Each input of a check that is made of digests has as many of them as the arity, and the last one's digest is the one
-/// that the check reaches.
+/// Each input of a check that consists of digests has as many of them as the arity, and the last one's digest is the
+/// one that the check reaches.
 pub fn extraction<T, W>()
     ensures collision { LastDifferenceCollides T W }
     ensures single { AnswerIsExtraction T W }

@@ -105,9 +105,9 @@ fn height_of_whole(heights: &[usize]) -> Result<usize, PartsError>
 ///
 /// # Errors
 ///
-/// The first of these that holds: `NoParts` if there are no heights; `WrongCapCount` if there is not one cap for each;
-/// `PartHeight` for the first part that has another height than it may have; `TooLarge` if they add up to more than
-/// [`MAX_HEIGHT`].
+/// The first of these that applies: `NoParts` if there are no heights; `WrongCapCount` if there is not one cap for
+/// each; `PartHeight` for the first part that has another height than it may have; `TooLarge` if they add up to more
+/// than [`MAX_HEIGHT`].
 pub fn check_parts(arity: usize, heights: &[usize], num_caps: usize) -> Result<usize, PartsError>
     requires { IsArity arity }
     ensures answer { let refusal = heights_refusal arity heights.now num_caps in

@@ -312,7 +312,7 @@ fn check_shared_rows<T: Eq>(
 ///
 /// # Errors
 ///
-/// The first of these that holds, where `OutOfMemory` may come once the indices are known to be in range:
+/// The first of these that applies, where `OutOfMemory` may come once the indices are known to be in range:
 ///
 /// - the error of [`check_heights`];
 /// - `WrongBatchSize`: the number of row sets is not that of the indices;

@@ -1,4 +1,5 @@
-//! The cap of a list that is committed to in parts, made of the parts' caps: their nodes are raised layer by layer.
+//! The cap of a list that is committed to in parts, computed from the parts' caps: their nodes are raised layer by
+//! layer.
 
 ghost use denote.Param.{ArrayAt};
 ghost use Rattle.std.specs.Mem.{FitsInMemory};
@@ -115,10 +116,10 @@ fn nodes_of_parts<
 ///
 /// # Errors
 ///
-/// The first of these that holds: `NoParts` if there are no heights; `WrongCapCount` if there is not one cap for each;
-/// `PartHeight` for the first part that has another height than it may have; `TooLarge` if the heights add up to more
-/// than 2^62; `CapTooShort` for the first part whose cap has fewer digests than its layer has nodes. `OutOfMemory` may
-/// come at any time.
+/// The first of these that applies: `NoParts` if there are no heights; `WrongCapCount` if there is not one cap for
+/// each; `PartHeight` for the first part that has another height than it may have; `TooLarge` if the heights add up to
+/// more than 2^62; `CapTooShort` for the first part whose cap has fewer digests than its layer has nodes. `OutOfMemory`
+/// may come at any time.
 pub fn digests_of_whole<
     F,
     PW: PackedValue,

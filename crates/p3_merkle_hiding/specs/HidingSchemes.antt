@@ -1,4 +1,4 @@
--- What a salted scheme and what it opens show.
+-- The fields of a salted scheme, and of what it opens.
 use Rattle.std.specs.Prelude.{ℕ, List}
 use Rattle.std.specs.declared.vec.Vec.{Vec}
 use Rattle.std.specs.declared.default.Default as default
@@ -31,7 +31,7 @@ module _ {P PW H C R X G V W : Type 0} {N E : ℕ} {p : packed.Ghosts P V} {pd :
   salted_params_of hash compression d scheme dimensions =
       params_of hash compression d scheme.plain (widened E dimensions)
 
--- an opening of an index that is lent, with its salts
+-- a borrowed opening of an index, with its salts
 abbrev pub salted_lent : {T W A B D : Type 0} → ℕ → BatchOpeningRef T (Vec (Vec T A) B × Vec (List W) D) →
     SaltedOpening T W
 salted_lent index opening =
@@ -53,7 +53,7 @@ salted_made index opening =
       siblings = opening.opening_proof.1.items;
     }
 
--- the opening of several indices by row sets and a proof that are lent
+-- the opening of several indices by borrowed row sets and a borrowed proof
 abbrev pub salted_pruned_lent : {T W A B C D E : Type 0} → List ℕ → List (Vec (Vec T A) B) →
     Vec (Vec (Vec T C) D) E × PrunedProof (List W) → SaltedPruned T W
 salted_pruned_lent indices rows proof =

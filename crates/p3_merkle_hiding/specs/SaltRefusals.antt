@@ -1,4 +1,4 @@
--- Why an opening with salts is refused: the first reason that holds.
+-- Why an opening with salts is refused: the first reason that applies.
 use Rattle.std.specs.Prelude.{ℕ, ◌+◌, ◌^◌, nat_le, List, length, zip, Option, Bool, position, option_map, slice_index}
 use Rattle.std.specs.Option.{option_or}
 use Rattle.p3_support.specs.declared.matrix.Dimensions.{Dimensions}

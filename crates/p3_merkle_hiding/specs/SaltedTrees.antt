@@ -1,4 +1,4 @@
--- What pairs of a matrix and its salts show, and what is committed to.
+-- Pairs of a matrix and its salts, and what is committed to.
 use Rattle.std.specs.Prelude.{◌≡◌, ℕ, List, map, All}
 use Rattle.p3_support.specs.declared.matrix.Matrix.{Ghosts}
 use Rattle.p3_support.specs.declared.pair.HorizontalPair.{HorizontalPair}

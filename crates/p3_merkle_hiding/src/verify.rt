@@ -36,7 +36,7 @@ impl<
     ///
     /// # Errors
     ///
-    /// The first of these that holds, where `OutOfMemory` may come at any time:
+    /// The first of these that applies, where `OutOfMemory` may come at any time:
     ///
     /// - `WrongBatchSize`: the number of rows is not that of the dimensions;
     /// - `WrongWidth`, for the first row whose length is not the width of its matrix;
@@ -74,7 +74,7 @@ impl<
     ///
     /// # Errors
     ///
-    /// The first of these that holds, where `OutOfMemory` may come at any time:
+    /// The first of these that applies, where `OutOfMemory` may come at any time:
     ///
     /// - `WrongBatchSize`: the number of salt sets is not that of the row sets;
     /// - in query order, for each row set with its salts: `WrongBatchSize` if the number of rows is not that of the

@@ -14,15 +14,15 @@ use Rattle.p3_merkle_mmcs.specs.declared.mmcs.Scheme.{Scheme}
 
 module _ {P PW H C X G V W : Type 0} {N : ℕ} {p : packed.Ghosts P V} {pd : default.Ghosts V} {pe : equality.Ghosts V}
     {q : packed.Ghosts PW W} {qd : default.Ghosts W} {qe : equality.Ghosts W} where
-  -- the hasher that a scheme was made of
+  -- the hasher of a scheme
   abbrev pub hash_of : Scheme P PW H C X G N V W p pd pe q qd qe → H
   hash_of scheme = scheme.hash
 
-  -- the compression that a scheme was made of
+  -- the compression of a scheme
   abbrev pub compression_of : Scheme P PW H C X G N V W p pd pe q qd qe → C
   compression_of scheme = scheme.compress
 
-  -- how many layers below the root the scheme's cap is asked for
+  -- how many layers below the root the scheme's cap lies, as far as its rule allows
   abbrev pub cap_height_of : Scheme P PW H C X G N V W p pd pe q qd qe → ℕ
   cap_height_of scheme = scheme.cap_height
 

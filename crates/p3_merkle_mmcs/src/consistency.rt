@@ -45,8 +45,8 @@ impl<P: PackedValue, PW: PackedValue, H, C, X, G, const N: usize> Scheme<P, PW, 
     ///
     /// # Errors
     ///
-    /// The first of these that holds: `EmptyBatch` if a height is 0; `TooLarge` with the old height, else with the new
-    /// one, if that is above 2^62; `Shrunk` if the new height is below the old one.
+    /// The first of these that applies: `EmptyBatch` if a height is 0; `TooLarge` with the old height, else with the
+    /// new one, if that is above 2^62; `Shrunk` if the new height is below the old one.
     pub fn consistency_len(
         &self,
         old_height: usize,
@@ -80,7 +80,7 @@ impl<
     ///
     /// # Errors
     ///
-    /// The first of these that holds, where `OutOfMemory` may come at any time: `HeightsDiffer` for the first matrix
+    /// The first of these that applies, where `OutOfMemory` may come at any time: `HeightsDiffer` for the first matrix
     /// that has not the height of the first one; those of [`consistency_len`](Self::consistency_len), where the new
     /// height is that of the tree.
     pub fn prove_consistency<M: Matrix<P::Value>>(
@@ -121,7 +121,7 @@ impl<
     ///
     /// # Errors
     ///
-    /// The first of these that holds, where `OutOfMemory` may come at any time:
+    /// The first of these that applies, where `OutOfMemory` may come at any time:
     ///
     /// - those of [`consistency_len`](Self::consistency_len);
     /// - `WrongDigestCount`: the number of digests is not `consistency_len`;

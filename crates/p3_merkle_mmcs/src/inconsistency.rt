@@ -40,8 +40,7 @@ impl<
     const N: usize,
     const D: usize,
 > MerkleTreeMmcs<P, PW, H, C, N, D> {
-    /// Tells that openings and a growth belong together, where the cap layers and the heights are those of both trees.
-    /// It does nothing at run time.
+    /// States that openings and a growth belong together, where the cap layers and the heights are those of both trees.
     fn lemma_setting(
         checker: &Checker<'_, P, PW, H, C, [[PW::Value; D]; N]>,
         rule: CapRule,
@@ -136,7 +135,7 @@ impl<
     ///
     /// # Errors
     ///
-    /// The first of these that holds, where `OutOfMemory` may come at any time:
+    /// The first of these that applies, where `OutOfMemory` may come at any time:
     ///
     /// - `HeightsDiffer`, for the first old matrix that has not the height of the first one; else for the first new
     ///   one;

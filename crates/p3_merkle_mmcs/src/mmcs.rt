@@ -272,7 +272,7 @@ impl<
     ///
     /// # Errors
     ///
-    /// The first of these that holds:
+    /// The first of these that applies:
     ///
     /// - `WrongBatchSize`: the number of rows is not that of the dimensions;
     /// - `EmptyBatch`, `TooLarge` or `IncompatibleHeights`: [`commit`](Self::commit) refuses such heights;
@@ -300,7 +300,7 @@ impl<
     }
 }
 
-/// Tells that an arity passes the test of arities. It does nothing at run time.
+/// States that an arity passes the test of arities.
 fn lemma_arity<const N: usize>()
     requires { IsArity N }
     ensures { IsTrue (is_arity N) }

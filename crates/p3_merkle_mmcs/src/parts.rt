@@ -36,14 +36,14 @@ impl<
     /// word. One part makes its own cap.
     ///
     /// Of each cap the digests of the nodes of its layer are read, as many as the height divided by `N` once for each
-    /// level below the cap and rounded up. What stands behind them may be anything, so a cap may lack its padding. The
-    /// digests behind the nodes of the cap that is returned are default digests.
+    /// level below the cap and rounded up. What follows them may be anything, so a cap may lack its padding. The
+    /// digests after the nodes of the cap that is returned are default digests.
     ///
     /// # Errors
     ///
-    /// The first of these that holds: `NoParts` if there are no heights; `WrongCapCount` if there are not as many caps;
-    /// `PartHeight` for the first part that has another height than it may have; `TooLarge` if the heights add up to
-    /// more than 2^62; `CapTooShort` for the first part whose cap has fewer digests than its layer has nodes.
+    /// The first of these that applies: `NoParts` if there are no heights; `WrongCapCount` if there are not as many
+    /// caps; `PartHeight` for the first part that has another height than it may have; `TooLarge` if the heights add up
+    /// to more than 2^62; `CapTooShort` for the first part whose cap has fewer digests than its layer has nodes.
     /// `OutOfMemory` may come at any time.
     pub fn cap_of_parts(
         &self,

@@ -195,7 +195,7 @@ impl<
     ///
     /// # Errors
     ///
-    /// The first of these that holds, where `OutOfMemory` may come at any time:
+    /// The first of these that applies, where `OutOfMemory` may come at any time:
     ///
     /// - `EmptyBatch`, `TooLarge` or `IncompatibleHeights`: [`commit`](Self::commit) refuses such heights;
     /// - `WrongBatchSize`: the number of row sets is not that of the indices;
@@ -270,7 +270,7 @@ impl<
     ///
     /// # Errors
     ///
-    /// The first of these that holds, where `OutOfMemory` may come at any time:
+    /// The first of these that applies, where `OutOfMemory` may come at any time:
     ///
     /// - `EmptyBatch`, `TooLarge` or `IncompatibleHeights`: [`commit`](Self::commit) refuses such heights;
     /// - `WrongBatchSize`: the number of row sets is not that of the indices;

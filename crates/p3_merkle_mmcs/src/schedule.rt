@@ -63,7 +63,7 @@ impl<P: PackedValue, PW: PackedValue, H, C, X: Copy, G, const N: usize> Scheme<
     ///
     /// # Errors
     ///
-    /// The first of these that holds: `EmptyBatch`, `TooLarge` or `IncompatibleHeights` if [`commit`](Self::commit)
+    /// The first of these that applies: `EmptyBatch`, `TooLarge` or `IncompatibleHeights` if [`commit`](Self::commit)
     /// refuses such heights; `IndexOutOfBounds` if the index is not below the tallest height; `WrongHeight` if
     /// `num_siblings` is not what the levels below the cap need. `OutOfMemory` may come at any time.
     pub fn replay_arity_and_positions(

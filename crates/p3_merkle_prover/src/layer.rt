@@ -85,7 +85,7 @@ impl<T, X, G> Buffers<T, X, G> {
     }
 }
 
-/// Tells that the children of `count` nodes from `first` on are in the layer below. It does nothing at run time.
+/// States that the children of `count` nodes from `first` on are in the layer below.
 fn lemma_front<X>(arity: usize, level: &Level, below: &[X], first: usize, count: usize)
     requires children { HasChildren arity level.now (length below.now) }
     requires nodes { first + count ≤ level.now.raw_len }

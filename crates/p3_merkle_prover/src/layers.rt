@@ -90,8 +90,7 @@ fn default_digests<PW: PackedValue, const D: usize>(
     Ok(digests)
 }
 
-/// Tells that a layer of its whole length has the children of the nodes of the level above it. It does nothing at run
-/// time.
+/// States that a layer of its whole length has the children of the nodes of the level above it.
 fn lemma_children<X>(steps: &Steps<'_>, level: &Level, below: &[X])
     requires level { IsLevel (shape_of steps.now.arity steps.now.dimensions.now) level.now }
     requires slots { length below.now ≡ layer_len (shape_of steps.now.arity steps.now.dimensions.now) level.now.below }
@@ -110,7 +109,7 @@ impl<
 > TreeBuilder<'a, P, PW, H, C, M, N, D> {
     ghost use Rattle.p3_merkle_prover.specs.Inner.Slots.{batch_for, functions_for, layer_above};
 
-    /// The leaves: the digests of the rows of the tallest matrices, and default digests behind them. `picked` and
+    /// The leaves: the digests of the rows of the tallest matrices, and default digests after them. `picked` and
     /// `buffers` are memory that all layers use.
     fn leaf_layer(
         &self,

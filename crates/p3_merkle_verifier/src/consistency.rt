@@ -95,7 +95,7 @@ impl<
     const D: usize,
 > Checker<'a, P, PW, H, C, [[PW::Value; D]; N]> {
     /// The value of a mixed node: its old children, the mixed one if there is one, and its new ones, compressed with
-    /// default digests behind them. There must be at most `N`.
+    /// default digests after them. There must be at most `N`.
     fn mixed_value(
         &self,
         old: &[[PW::Value; D]],
@@ -111,7 +111,7 @@ impl<
         self.compress.compress(group)
     }
 
-    /// Tells that below the old cap the next mixed node has at most `N` children. It does nothing at run time.
+    /// States that below the old cap the next mixed node has at most `N` children.
     pub(crate) fn lemma_few_below(
         &self,
         proof: ConsistencyRef<'_, [PW::Value; D]>,
@@ -171,8 +171,8 @@ impl<
         }
     }
 
-    /// Tells that above the old cap the next mixed node has at most `N` children, the last ones of the known digests
-    /// among them. It does nothing at run time.
+    /// States that above the old cap the next mixed node has at most `N` children, the last ones of the known digests
+    /// among them.
     pub(crate) fn lemma_few_above(
         &self,
         proof: ConsistencyRef<'_, [PW::Value; D]>,
@@ -313,7 +313,7 @@ impl<
     ///
     /// # Errors
     ///
-    /// The first of these that holds, where `OutOfMemory` may come at any time: those of [`Growth::check_heights`];
+    /// The first of these that applies, where `OutOfMemory` may come at any time: those of [`Growth::check_heights`];
     /// `WrongDigestCount` if the number of digests is not [`Growth::num_digests`]; `OldCapMismatch` if a root of the
     /// old cap that is read is missing or is another digest than the one computed; `NewCapMismatch`, the same of the
     /// new cap.

@@ -72,7 +72,7 @@ fn cut<'a, T, X>(opening: OpeningRef<'a, T, X>, num_siblings: usize) -> OpeningR
     }
 }
 
-/// Tells that two openings have their siblings below a layer. It does nothing at run time.
+/// States that two openings have their siblings below a layer.
 fn lemma_cut<T, W: Copy, const N: usize, const D: usize>(
     layer: usize,
     old: TreeOpening<'_, T, [W; D]>,
@@ -89,7 +89,7 @@ fn lemma_cut<T, W: Copy, const N: usize, const D: usize>(
         ≤ length new.entry.opening.siblings.now }
 {}
 
-/// Tells that two openings that are cut to their siblings below a layer reach it. It does nothing at run time.
+/// States that two openings that are cut to their siblings below a layer reach it.
 fn lemma_reach<T, W: Copy, const N: usize, const D: usize>(
     layer: usize,
     old: TreeOpening<'_, T, [W; D]>,
@@ -357,7 +357,7 @@ impl<
         self.last_difference(alloc, old.steps, layer, first, second)
     }
 
-    /// Tells what openings that can be compared have for each comparison. It does nothing at run time.
+    /// Tells what openings that can be compared have for each comparison.
     fn lemma_comparable(
         &self,
         proof: ConsistencyRef<'_, [PW::Value; D]>,
@@ -437,7 +437,7 @@ impl<
         }
     }
 
-    /// Tells that accepted openings can be compared. It does nothing at run time.
+    /// States that accepted openings can be compared.
     fn lemma_accepted(
         &self,
         proof: ConsistencyRef<'_, [PW::Value; D]>,
@@ -468,7 +468,7 @@ impl<
     ///
     /// # Errors
     ///
-    /// The first of these that holds, where `OutOfMemory` may come at any time: `OldOpening` with the error of
+    /// The first of these that applies, where `OutOfMemory` may come at any time: `OldOpening` with the error of
     /// [`check_opening`](Self::check_opening) for the opening under the old cap; `NewOpening` with that for the other;
     /// those of [`check_consistency`](Self::check_consistency).
     pub fn inconsistency(

@@ -71,8 +71,7 @@ pub struct ComputedLevel<X, G> {
     pub above: Progress<X>,
 }
 
-/// Tells that an opening with its siblings up to the cap has those of the step of a level below it. It does nothing at
-/// run time.
+/// States that an opening with its siblings up to the cap has those of the step of a level below it.
 fn lemma_step<X>(
     steps: &Steps<'_>,
     cap_layer: usize,
@@ -253,7 +252,7 @@ impl<
     ///
     /// # Errors
     ///
-    /// The first of these that holds: `WrongBatchSize` if the number of rows is not that of the dimensions;
+    /// The first of these that applies: `WrongBatchSize` if the number of rows is not that of the dimensions;
     /// `EmptyBatch`, `TooLarge` or `IncompatibleHeights` if no tree can be built over such heights; `WrongHeight` if
     /// the number of siblings is not what the levels below the cap need; `WrongWidth` for the first row whose length is
     /// not the width of its matrix; `IndexOutOfBounds` if the index is not below the tallest height; `CapMismatch` if

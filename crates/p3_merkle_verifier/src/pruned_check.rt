@@ -339,7 +339,7 @@ impl<
         Ok(())
     }
 
-    /// The cap's layer of a pruned opening, reached from the covered leaves. No other layer is kept.
+    /// The cap's layer of a pruned opening, reached from the covered leaves. No other layer is stored.
     fn top_layer(
         &self,
         alloc: Global,

@@ -1,7 +1,7 @@
 -- What a call answers that may refuse its input, or run out of memory.
 use Rattle.std.specs.Prelude.{◌≡◌, ◌⊎◌, Option, Some, None, Result, MatchResult}
 
--- Ok only where nothing is refused; an error is the refusal, or one that tells that memory ran out, which is always
+-- Ok only where nothing is refused; an error is the refusal, or one that says that memory ran out, which is always
 -- allowed
 abbrev pub AnswersUnless : {V E : Type 0} → (E → Type 0) → Result V E → Option E → Type 0
 AnswersUnless is_out_of_memory result refusal =

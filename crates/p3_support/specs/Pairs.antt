@@ -1,4 +1,4 @@
--- What two matrices side by side show.
+-- The rows of two matrices side by side.
 use Rattle.std.specs.Prelude.{ℕ, List, ◌++◌}
 use Rattle.p3_support.specs.declared.matrix.Matrix.{Ghosts}
 use Rattle.p3_support.specs.declared.pair.HorizontalPair.{HorizontalPair}

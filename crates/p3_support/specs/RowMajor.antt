@@ -1,4 +1,4 @@
--- What a matrix shows that is stored row after row.
+-- The fields of a matrix that is stored row after row.
 use Rattle.std.specs.Prelude.{◌≡◌, ℕ, List}
 use Rattle.std.specs.List.{AllZip}
 use Rattle.p3_support.specs.declared.matrix.RowMajorMatrix.{RowMajorMatrix}

@@ -1,4 +1,4 @@
--- Values that are made from the words of a generator's stream.
+-- Values computed from the words of a generator's stream.
 use Rattle.std.specs.Prelude.{ℕ, zero, suc, List, [], ◌∷◌}
 use Rattle.rand_core.specs.Stream.{Stream, next_u64}
 

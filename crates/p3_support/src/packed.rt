@@ -127,12 +127,12 @@ impl PackedValue for u8 {
     ghost default_is_unique = { λ a h. h };
 }
 
-/// Tells that a row has `D` elements. It does nothing at run time.
+/// States that a row has `D` elements.
 pub fn lemma_row<T, const D: usize>(row: &[T; D])
     ensures { length row.now ≡ D }
 {}
 
-/// Tells that each row of a slice has `D` elements. It does nothing else.
+/// States that each row of a slice has `D` elements. It does nothing else.
 pub fn lemma_rows<T, const D: usize>(rows: &[[T; D]])
     ensures { (k : ℕ) → k < length rows.now → length (slice_index_or rows.now k []) ≡ D }
 {

@@ -7,7 +7,7 @@ use crate::matrix::RowMajorMatrix;
 use rand_core::Rng;
 use std::alloc::{AllocError, Global};
 
-/// A value that is made from a random word.
+/// A value that a random word gives.
 pub trait SaltWord: Copy {
     // The value that a word makes.
     ghost of_salt_word: { ℕ → Self };
@@ -96,8 +96,8 @@ fn draw_each<T: SaltWord, R: Rng>(values: &mut Vec<T>, rng: &mut R, count: usize
 impl<T: SaltWord> RowMajorMatrix<T> {
     ghost use Rattle.p3_support.specs.RowMajor.{row_count, row_width, values_of};
 
-    /// A matrix of random values. Each value is made from one call of `next_u64`: `rows * cols` of them, row after row.
-    /// With no columns it has no rows, as in [`new`](Self::new).
+    /// A matrix of random values. Each value is computed from one call of `next_u64`: `rows * cols` of them, row after
+    /// row. With no columns it has no rows, as in [`new`](Self::new).
     ///
     /// # Errors
     ///

@@ -1,4 +1,4 @@
--- What packed values of eight lanes show.
+-- The lanes of packed values of eight lanes.
 use Rattle.std.specs.Prelude.{ℕ, List}
 use Rattle.p3_hashes.specs.declared.lanes.U32x8.{U32x8}
 

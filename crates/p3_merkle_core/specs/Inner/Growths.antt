@@ -28,7 +28,7 @@ mixed_children n parts = record {
   end = min parts.end (n * (parts_above n parts).new_start);
 }
 
--- the old nodes come first, at most one mixed node behind them, and there are no more nodes than a height may be
+-- the old nodes come first, at most one mixed node after them, and there are no more nodes than a height may be
 pub record AreFew (parts : LayerParts) : Type 0 where
   pub old_first : parts.old_end ≤ parts.new_start
   pub one_mixed : parts.new_start ≤ suc parts.old_end

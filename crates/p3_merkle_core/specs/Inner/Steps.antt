@@ -1,4 +1,4 @@
--- The steps of a tree, as they are kept level by level.
+-- The steps of a tree, as they are stored level by level.
 use Rattle.std.specs.Prelude.{◌≡◌, ◌≤◌, ℕ, suc, List, length, map, take}
 use Rattle.std.specs.List.{range_with_len}
 use Rattle.p3_support.specs.Batches.{greatest}

@@ -20,7 +20,7 @@ abbrev pub functions_by : {P PW H C G T W : Type 0} → (H → List T → List W
 functions_by hash compression default_digest checker =
     functions_of (hash checker.hash.now) (compression checker.compress.now) default_digest
 
--- an opening that is lent with its index
+-- a borrowed opening with its index
 abbrev pub opening_in : {T W : Type 0} → OpeningRef T (List W) → Opening T W
 opening_in opening = opening_of opening.index (row_lists opening.rows.now) opening.siblings.now
 

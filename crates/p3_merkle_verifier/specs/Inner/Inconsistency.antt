@@ -63,7 +63,7 @@ tree_in n of = shape_of n of.steps.now.dimensions.now
 abbrev pub params_in : {T W : Type 0} → Functions T W → ℕ → TreeOpening T (List W) → Params T W
 params_in f n of = params f (tree_in n of) of.cap_layer
 
--- two openings and a proof of consistency that are lent, with the roots of the new cap
+-- two borrowed openings and a borrowed proof of consistency, with the roots of the new cap
 abbrev pub grown_in : {T W : Type 0} → Functions T W → ℕ → ConsistencyRef (List W) → List (List W) →
     TreeOpening T (List W) → TreeOpening T (List W) → GrownOpenings T W
 grown_in f n proof new_roots old new =
@@ -78,8 +78,8 @@ grown_in f n proof new_roots old new =
       new_opening = opening_in new.opening;
     }
 
--- why openings and a proof are refused, whose heights and widths fit: the old opening's refusal, else the new one's, else
--- that of the proof
+-- why openings and a proof are refused, whose heights and widths fit: the old opening's refusal, else the new one's,
+-- else that of the proof
 abbrev pub checked_refusal : {T W : Type 0} → (W → W → Bool) → GrownOpenings T W → Option ConsistencyError
 checked_refusal digest_eq x =
     first_some (

@@ -13,7 +13,7 @@ use Rattle.p3_support.specs.Shown.{row_sets}
 use Rattle.p3_merkle_verifier.specs.declared.openings.PrunedOpeningRef.{PrunedOpeningRef}
 use Rattle.p3_merkle_verifier.specs.declared.openings.RestorableOpening.{RestorableOpening}
 
--- the pruned opening that is lent
+-- the borrowed pruned opening
 abbrev pub pruned_in : {T W : Type 0} → PrunedOpeningRef T (List W) → PrunedOpening T W
 pruned_in opening = pruned_of opening.indices.now (row_sets opening.sets.now) opening.sent.now
 
