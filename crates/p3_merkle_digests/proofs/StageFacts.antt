@@ -1,22 +1,22 @@
 -- Messages that are laid one after another, and slots that are filled part by part.
 use Rattle.std.proofs.Common.{◌≡◌, ℕ, zero, suc, ◌+◌, ◌-◌, ◌*◌, ◌/◌, ◌<◌, ◌≤◌, List, [], ◌∷◌, ◌++◌, length, map, take}
 use Rattle.std.proofs.Common.{drop, get_or, replicate, All, refl, sym, ap, ◌∙◌, arith, inl, inr}
-use Rattle.std.proofs.Common.{length-append, length-drop, length-take, append-nil, append_assoc}
+use Rattle.std.proofs.Common.{length-append, length-drop, append-nil, append_assoc}
 use Rattle.std.specs.List.{flat_map, range_with_len}
 use Rattle.std.specs.Prelude.{sum_by}
 use Rattle.std.specs.Simd.{first_chunks}
-use Rattle.std.proofs.lemmas.Bool.{cases_lt, cases_eq}
+use Rattle.std.proofs.lemmas.Bool.{cases_lt}
 use Rattle.std.proofs.lemmas.List.{get_or-append_right, get_or-drop, get_or-take, drop-drop, length-take-le, length-map}
-use Rattle.std.proofs.lemmas.List.{get_or-map, get_or_append_left, same_lists, take_at}
+use Rattle.std.proofs.lemmas.List.{get_or-map, get_or_append_left, take_at}
 use Rattle.std.proofs.lemmas.List.FromFn.{fill_by_all, get_or-map-range_with_len, length-map-range_with_len}
 use Rattle.std.proofs.lemmas.List.Sums.{sum_by-cons}
 use Rattle.std.proofs.Math.Seq.{drop-append-add}
 use Rattle.std.proofs.lemmas.Simd.{map-map}
-use Rattle.std.proofs.Math.Nat.{mul-le-mul_left, mul-le-mul_right, mul_comm, mul-suc}
+use Rattle.std.proofs.Math.Nat.{mul-le-mul_left, mul-suc}
 use Rattle.p3_support.specs.Lists.{message, messages}
 use Rattle.p3_support.specs.Inner.RowLengths.{next_start}
 use Rattle.p3_merkle_digests.specs.Inner.Slots.{rows_over, IsFilled, IsStaged}
-use Rattle.p3_merkle_digests.proofs.LaneFacts.{group_end, part_written, part_before}
+use Rattle.p3_merkle_digests.proofs.LaneFacts.{part_written, part_before}
 use borrow.Rule.Slice.PartMut.{put_mid, same_len_mid}
 
 -- n rows of w elements, one after another
@@ -68,7 +68,7 @@ module _ {A : Type 0} (row : ℕ → List A) (w : ℕ) where
       }
 
 -- so many elements has a row of each of the matrices together
-length-all : {A M : Type 0} (height width : M → ℕ) (row : M → ℕ → List A) (h : ℕ) →
+pub length-all : {A M : Type 0} (height width : M → ℕ) (row : M → ℕ → List A) (h : ℕ) →
     ((m : M) (r : ℕ) → r < height m → length (row m r) ≡ width m) → (r : ℕ) → r < h → (ms : List M) →
     All (λ m. height m ≡ h) ms → length (rows_over row ms r) ≡ sum_by width ms
 length-all height width row h each r below [] all = refl
@@ -77,16 +77,6 @@ length-all height width row h each r below (m ∷ ms) all =
     let same : height m ≡ h = all 0 m (omega arith) in
     length-append (row m r) (rows_over row ms r)
     ∙ omega (arith, each m r (rw same below), rest, sum_by-cons width m ms)
-
--- and of each of the first i
-pub length-first : {A M : Type 0} (height width : M → ℕ) (row : M → ℕ → List A) (h : ℕ) →
-    ((m : M) (r : ℕ) → r < height m → length (row m r) ≡ width m) → (r : ℕ) → r < h → (ms : List M) →
-    All (λ m. height m ≡ h) ms → (i : ℕ) → length (rows_over row (take i ms) r) ≡ sum_by width (take i ms)
-length-first height width row h each r below ms all i =
-    length-all height width row h each r below (take i ms)
-    (λ k d inside.
-    let low : k < i = omega (arith, length-take i ms, inside) in
-    rw (get_or-take i ms k d low) (all k d (omega (arith, length-take i ms, inside))))
 
 -- with one more part behind the first a elements, these are longer
 pub part_put : {X : Type 0} (xs ys : List X) (a k n : ℕ) → length ys ≡ n → a ≤ length xs →
@@ -291,87 +281,3 @@ whole_groups C n step m below groups d ys same some fits are many is =
       filled = λ j h. all.filled j h
           ∙ group_whole C n (length below / n) step j below groups d same are (omega (arith, enough, h));
     }
-
--- ---- rows that are put in their places
-
--- rows that stand in their places are staged
-pub staged_in_place : {A : Type 0} (f : ℕ → List A) (xs : List A) (w n : ℕ) → length xs ≡ n * w →
-    ((j : ℕ) → j < n → length (f j) ≡ w) →
-    ((d : A) (j c : ℕ) → j < n → c < w → get_or xs (j * w + c) d ≡ get_or (f j) c d) → IsStaged f n xs
-staged_in_place f xs w n long wide put =
-    record {
-      width = w;
-      long = long ∙ mul_comm n w;
-      are = fill_by_all f (messages w n xs) n [] (length-map-range_with_len (message w xs) 0 n) (λ j below.
-          let fits : (j + 1) * w ≤ n * w = mul-le-mul_right w (omega arith) in
-          let k : ℕ = (j + 1) * w - j * w in
-          let same : k ≡ w = omega (arith, next_start j w) in
-          let size : length (take k (drop (j * w) xs)) ≡ k = length-take-le k (drop (j * w) xs)
-          (omega (arith, length-drop (j * w) xs, long, fits, next_start j w)) in
-          get_or-map-range_with_len (message w xs) 0 n j j [] below (omega arith)
-          ∙ same_lists (take k (drop (j * w) xs)) (f j) (omega (arith, size, same, wide j below))
-          (λ c d inside. get_or-take k (drop (j * w) xs) c d (omega (arith, inside, size))
-          ∙ get_or-drop (j * w) xs c d ∙ put d j c below (omega (arith, inside, size, same))));
-    }
-
--- w words from the offset of row j on end within the rows
-pub row_inside : (j n len offset w m : ℕ) → j < n → m ≡ n * len → offset + w ≤ len → j * len + offset + w ≤ m
-row_inside j n len offset w m below full fits =
-    let end : j * len + len ≤ m = group_end j len n m below (omega arith) in
-    omega (arith, end, fits)
-
--- they are put there
-module _ {X : Type 0} (xs ys : List X) (len offset w j k : ℕ) (long : length ys ≡ w) (part : k ≡ w)
-    (fits : offset + w ≤ len) (inside : j * len + offset + w ≤ length xs) where
-  row_here : (i c : ℕ) (d : X) → i ≡ j → c < w →
-      get_or (put_mid (j * len + offset) k xs ys) (i * len + (offset + c)) d ≡ get_or ys c d
-  row_here i c d same below =
-      let at : i * len + (offset + c) ≡ j * len + offset + c = rw same (omega arith) in
-      ap (λ n. get_or (put_mid (j * len + offset) k xs ys) n d) at
-      ∙ part_written xs ys (j * len + offset) k w c d long (omega (arith, inside)) below
-
-  -- the rows before stay
-  row_before : (i c : ℕ) (d : X) → i < j → c < len →
-      get_or (put_mid (j * len + offset) k xs ys) (i * len + c) d ≡ get_or xs (i * len + c) d
-  row_before i c d low below =
-      let end : i * len + len ≤ j * len = group_end i len j (j * len) low (omega arith) in
-      part_before xs ys (j * len + offset) k (i * len + c) d (omega (arith, inside)) (omega (arith, end))
-
-  -- so do the words of each row before the offset
-  row_kept : (i c : ℕ) (d : X) → c < offset →
-      get_or (put_mid (j * len + offset) k xs ys) (i * len + c) d ≡ get_or xs (i * len + c) d
-  row_kept i c d below =
-      let begins : j * len + offset ≤ length xs = omega (arith, inside) in
-      elim (cases_lt i j) [
-        | inl low ↦ row_before i c d low (omega arith)
-        | inr high ↦ elim (cases_eq i j) [
-          | inl same ↦ let at : i * len ≡ j * len = ap (λ n. n * len) same in
-              part_before xs ys (j * len + offset) k (i * len + c) d begins (omega (arith, at))
-          | inr other ↦
-              let above : j < i = omega (arith, high, other) in
-              let end : j * len + len ≤ i * len = group_end j len i (i * len) above (omega arith) in
-              part_after xs ys (j * len + offset) k (i * len + c) d (long ∙ sym part) begins (omega (arith, end))
-        ]
-      ]
-
-  -- so one more row is put
-  pub row_put : (row : ℕ → List X) (old : List X) (n : ℕ) → ys ≡ row j → length xs ≡ length old
-      → ((d : X) (i c : ℕ) → i < j → c < w → get_or xs (i * len + (offset + c)) d ≡ get_or (row i) c d)
-      → ((d : X) (i c : ℕ) → i < n → c < offset → get_or xs (i * len + c) d ≡ get_or old (i * len + c) d)
-      → (length (put_mid (j * len + offset) k xs ys) ≡ length old)
-      × ((d : X) (i c : ℕ) → i < j + 1 → c < w →
-      get_or (put_mid (j * len + offset) k xs ys) (i * len + (offset + c)) d ≡ get_or (row i) c d)
-      × ((d : X) (i c : ℕ) → i < n → c < offset →
-      get_or (put_mid (j * len + offset) k xs ys) (i * len + c) d ≡ get_or old (i * len + c) d)
-  row_put row old n is same_len put kept =
-      let start : ℕ = j * len + offset in
-      let room : length (take k (drop start xs)) ≡ k = length-take-le k (drop start xs)
-      (omega (arith, length-drop start xs, inside, part)) in (
-        same_len_mid start k xs ys (long ∙ sym part ∙ sym room) ∙ same_len,
-        λ d i c low below. elim (cases_eq i j) [
-          | inl same ↦ row_here i c d same below ∙ ap (λ l. get_or l c d) (is ∙ ap row (sym same))
-          | inr other ↦ let before : i < j = omega (arith, low, other) in
-              row_before i (offset + c) d before (omega (arith, below, fits)) ∙ put d i c before below
-        ],
-        λ d i c low below. row_kept i c d below ∙ kept d i c low below,
-      )

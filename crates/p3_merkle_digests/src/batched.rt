@@ -15,6 +15,9 @@ use p3_support::packed::PackedValue;
 use std::alloc::AllocError;
 use std::marker::PhantomData;
 
+/// Rows of up to so many words are copied word by word: a call that copies so few takes longer.
+pub const FEW_WORDS: usize = 4;
+
 /// How many messages of `bytes` bytes one call takes: the greatest multiple of `lanes` with at most 16384 bytes in all,
 /// but at least `lanes`. A number of 0 counts as 1.
 fn messages_per_call(bytes: usize, lanes: usize) -> usize
@@ -63,7 +66,7 @@ fn put_row<T: Copy, M: Matrix<T>>(place: &mut [T], matrix: &M, row: usize)
     let mut column = 0;
     while column < place.len() {
         let piece = matrix.piece(row, column);
-        if piece.is_empty() {
+        if place.len() <= FEW_WORDS || piece.is_empty() {
             place[column] = matrix.get(row, column);
             column += 1;
         } else {
@@ -71,35 +74,6 @@ fn put_row<T: Copy, M: Matrix<T>>(place: &mut [T], matrix: &M, row: usize)
             place[column..column + count].copy_from_slice(&piece[..count]);
             column += count;
         }
-    }
-}
-
-/// Copies `count` rows of the matrices from `first` on into the staged ones, one row after another. The matrices all
-/// have this height, `first + count` is at most that, and a row has `len` words.
-fn put_rows<T: Copy, M: Matrix<T>>(
-    staged: &mut [T],
-    len: usize,
-    matrices: &[M],
-    height: usize,
-    first: usize,
-    count: usize,
-)
-    requires heights { All (λ m. M.height_of m ≡ height) matrices.now }
-    requires inside { first + count ≤ height }
-    requires len { len ≡ sum_by M.width_of matrices.now }
-    requires staged { length staged.old ≡ count * len }
-    ensures { let rows = λ (j : ℕ). rows_over M.row_of matrices.now (first + j) in
-        IsStaged rows count staged.new }
-{
-    // Matrix by matrix: row by row each matrix is asked for anew, which takes longer.
-    let mut offset = 0;
-    for matrix in matrices {
-        let width = matrix.width();
-        for j in 0..count {
-            let start = j * len + offset;
-            put_row(&mut staged[start..start + width], matrix, first + j);
-        }
-        offset += width;
     }
 }
 
@@ -129,7 +103,15 @@ fn words_of_rows<'b, T: Copy + Default, M: Matrix<T>>(
         }
     }
     staged.resize(words, T::default())?;
-    put_rows(staged, len, matrices, height, first, count);
+    let place = staged.as_mut_slice();
+    let mut start = 0;
+    for j in 0..count {
+        for matrix in matrices {
+            let end = start + matrix.width();
+            put_row(&mut place[start..end], matrix, first + j);
+            start = end;
+        }
+    }
     Ok(staged.as_slice())
 }
 
