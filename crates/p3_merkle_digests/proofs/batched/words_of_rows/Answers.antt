@@ -102,7 +102,8 @@ loop-matrix-preserved g c =
           ∙ ap (λ l. take start xs ++ l) c.put_row.ensures
           ∙ ap (λ l. l ++ row m r) c.loop-matrix.invariant.put
           ∙ append_assoc before (rows_over row (take i ms) r) (row m r)
-          ∙ ap (λ l. before ++ l) (sym (rows_more row r ms i m c.loop-matrix-test.true c.matrix-item-in-loop-matrix.is));
+          ∙ ap (λ l. before ++ l)
+          (sym (rows_more row r ms i m c.loop-matrix-test.true c.matrix-item-in-loop-matrix.is));
     }
 
 pub loop-j-preserved : goal.loop-j-preserved
