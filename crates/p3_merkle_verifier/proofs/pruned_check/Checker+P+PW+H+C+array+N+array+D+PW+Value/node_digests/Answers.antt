@@ -1,5 +1,5 @@
 -- The leaves have the digests of their rows, and other nodes those of their groups, with their rows.
-use Rattle.std.proofs.Common.{◌≡◌, ◌∙◌, ◌<◌, [], ap, arith, drop, length, map, replicate, sym, take, zip, ◌++◌}
+use Rattle.std.proofs.Common.{◌≡◌, ◌∙◌, ◌<◌, All, rules, [], ap, arith, drop, length, map, replicate, sym, take, zip, ◌++◌}
 use Rattle.std.proofs.lemmas.List.{take_at}
 use Rattle.std.proofs.lemmas.Result.{err_from_is_err_and, IfOk-weaker}
 use Rattle.p3_support.specs.Shown.{row_sets}
@@ -25,6 +25,26 @@ queries_at-requires g c =
       layer_start s,
       exponent_low s c.args.layer,
     )
+
+pub row_digests-requires : goal.row_digests-requires
+row_digests-requires g c =
+    let restorable = c.args.restorable.now in
+    let known = leaves_known (tree_of restorable) restorable.opening.indices.now restorable.cap_layer restorable.queried
+    restorable.leaves restorable.distinct in
+    let among : All (λ k. k < length restorable.opening.indices.now) c.deref.result.now =
+    rw c.deref.ensures.value known.among in
+    search (rules, among)
+
+pub returns-then-layer-eq0-clause-count : goal.returns-then-layer-eq0-clause-count
+returns-then-layer-eq0-clause-count g c =
+    let restorable = c.args.restorable.now in
+    let s = tree_of restorable in
+    let indices = restorable.opening.indices.now in
+    let leaves = rw c.if-layer-eq0.true at c.requires.covered.coverage in
+    let known = leaves_known s indices restorable.cap_layer restorable.queried restorable.leaves restorable.distinct in
+    IfOk-weaker c.row_digests.result _ _ (λ digests is. is ∙ ap length c.deref.ensures.value
+    ∙ nodes_long s indices 0 c.args.covered.now restorable.leaves.first_queries.items leaves known)
+    c.row_digests.ensures.count
 
 pub returns-in_err-digests : goal.returns-in_err-digests
 returns-in_err-digests g c =
@@ -83,7 +103,7 @@ returns-then-not-covered g c =
     let digests = c.in_ok-digests.digests.items in
     let restored = restored_at f s t p agreed c.args.layer some c.requires.in_tree g.row.N c.requires.arity covered
     [] digests layer (λ present. absurd (true≢false (sym present ∙ c.if-not-covered.true)))
-    (rw c.if-not-covered.true (rw c.deref.ensures.value at c.in_ok-digests.ensures.digests)) in
+    (rw c.if-not-covered.true (rw c.deref-2.ensures.value at c.in_ok-digests.ensures.digests)) in
     record {
       count = digests_long f s t p c.args.layer covered digests layer.coverage restored;
       restored = restored;
@@ -108,15 +128,15 @@ returns g c =
     let slots = c.inject_row_digests.new.slots in
     let filled = c.in_ok-inject_row_digests.ensures in
     let nodes = c.deref_mut.result.now in
-    let rows = c.deref-2.result.now in
-    let nodes_are = c.deref_mut.ensures.value ∙ (rw c.deref.ensures.value at made.ensures.digests) in
-    let rows_are = c.deref-2.ensures.value ∙ c.in_ok-rows.ensures.digests in
+    let rows = c.deref-4.result.now in
+    let nodes_are = c.deref_mut.ensures.value ∙ (rw c.deref-2.ensures.value at made.ensures.digests) in
+    let rows_are = c.deref-4.ensures.value ∙ (rw c.deref-3.ensures.value at c.in_ok-rows.ensures.digests) in
     let same : length rows ≡ length nodes = omega (
       arith,
-      ap length c.deref-2.ensures.value,
-      c.in_ok-rows.ensures.count,
+      ap length c.deref-4.ensures.value,
+      rw c.deref-3.ensures.value at c.in_ok-rows.ensures.count,
       ap length c.deref_mut.ensures.value,
-      rw c.deref.ensures.value at made.ensures.count,
+      rw c.deref-2.ensures.value at made.ensures.count,
       layer.in_groups some,
       nodes_long s opening.indices.now c.args.layer covered c.in_ok-queries.queries.items layer.coverage known,
     ) in
