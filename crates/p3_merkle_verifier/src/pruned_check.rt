@@ -149,8 +149,7 @@ fn opened_matrices<'a, T, X>(
     queries: &'a [usize],
 ) -> Result<Vec<OpenedMatrix<'a, T>>, AllocError>
     requires { All (λ k. k < length restorable.now.opening.indices.now) queries.now }
-    ensures heights {
-        IfOk result (λ matrices. All (λ m. length m.queries.now ≡ length queries.now) matrices.items) }
+    ensures heights { IfOk result (λ matrices. All (λ m. length m.queries.now ≡ length queries.now) matrices.items) }
     ensures rows { let sets = row_sets restorable.now.opening.sets.now in
         let heights = heights_of restorable.now.steps.now.dimensions.now in
         IfOk result (λ matrices. (j : ℕ) → j < length queries.now → rows_over row_in matrices.items j
