@@ -3,10 +3,11 @@
 //! one node have the same rows of the matrices that belong to the node's layer.
 
 ghost use Rattle.std.specs.Prelude.{◌≡◌, ℕ, ◌+◌, ◌-◌, ◌*◌, ◌/◌, ◌%◌, ◌^◌, ◌<◌, ◌≤◌, ◌⊎◌, ◌++◌, Some, None, List};
-ghost use Rattle.std.specs.Prelude.{[], All, IfOk, MatchResult, length, map, remove, slice_index, slice_index_or};
+ghost use Rattle.std.specs.Prelude.{[], All, IfOk, MatchResult, length, map, remove, slice_index, slice_index_or, true};
 ghost use Rattle.std.specs.Cmp.Lexicographic.{pointwise};
 ghost use Rattle.std.specs.List.Sorted.{IsStrictlyIncreasing};
 ghost use Rattle.p3_support.specs.Batches.{heights_of, greatest};
+ghost use Rattle.p3_support.specs.Lists.{is_among};
 ghost use Rattle.p3_support.specs.Shown.{row_lists, row_sets};
 ghost use Rattle.p3_merkle_core.specs.Geometry.{height_limit, shape_of, IsArity};
 ghost use Rattle.p3_merkle_core.specs.Inner.Agreement.{distinct, early_refusal, layers_refusal, matrices_with};
@@ -68,11 +69,6 @@ pub type MerkleAuthPath<W, const D: usize> = AuthPath<[W; D]>;
 pub struct CoveredLayer<X> {
     /// The covered nodes, ascending.
     pub nodes: Vec<usize>,
-    /// For each node, the position of a query under it.
-    pub queries: Vec<usize>,
-    /// For each covered node of the layer below, the position of its parent in `nodes`. At the leaves: for each query,
-    /// the position of its leaf.
-    pub slots: Vec<usize>,
     /// The layer's exponent.
     pub exponent: usize,
     /// How many of the proof's digests belong below the layer.
@@ -483,9 +479,9 @@ pub fn children_of<X: Copy>(
     Ok(children)
 }
 
-/// The siblings on the path of the leaf at this position, out of the layers from the leaves on, with room for
-/// `capacity` of them at first: on each layer below the last one all digests of the path's group except its own,
-/// ascending.
+/// The siblings on the path of a covered leaf, out of the layers from the leaves on, with room for `capacity` of them
+/// at first: on each layer below the last one all digests of the path's group except its own, ascending. It takes one
+/// binary search a layer.
 ///
 /// # Errors
 ///
@@ -493,23 +489,24 @@ pub fn children_of<X: Copy>(
 pub fn path_out_of<X: Copy>(
     alloc: Global,
     layers: &[CoveredLayer<X>],
-    leaf: usize,
+    index: usize,
     capacity: usize,
 ) -> Result<Vec<X>, AllocError>
     requires some { 0 < length layers.now }
     requires linked { AreLinked layers.now }
-    requires leaf { (x : CoveredLayer X) → leaf < length (slice_index_or layers.now 0 x).nodes.items }
-    ensures { (x : CoveredLayer X) → let index = slice_index (slice_index_or layers.now 0 x).nodes.items leaf in
-        IfOk result (λ path. path.items ≡ path_out_of (levels_in layers.now) index) }
+    requires covered { (x : CoveredLayer X) → is_among (slice_index_or layers.now 0 x).nodes.items index ≡ true }
+    ensures { IfOk result (λ path. path.items ≡ path_out_of (levels_in layers.now) index) }
 {
     let mut path = Vec::with_capacity(alloc, capacity)?;
-    let mut slot = leaf;
+    let mut node = index;
     for level in 1..layers.len() {
         let above = &layers[level];
-        let own = position_of(layers[level - 1].nodes[slot], above.step);
-        slot = above.slots[slot];
+        let parent = parent_of(node, above.step);
+        let slot = above.nodes.partition_point(|other| *other < parent);
         let first = above.step * slot;
+        let own = position_of(node, above.step);
         extend_with_others(&mut path, &above.children[first..first + above.step], own)?;
+        node = parent;
     }
     Ok(path)
 }

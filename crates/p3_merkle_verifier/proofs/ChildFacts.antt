@@ -1,41 +1,104 @@
--- The queries and the children of the covered nodes one layer higher.
-use Rattle.std.proofs.Common.{◌≡◌, ◌∙◌, ℕ, suc, ◌/◌, ◌<◌, ◌≤◌, eqb, List, [], ◌∷◌, map, refl, ap, sym, arith, length}
+-- The queries under the covered nodes of a layer, and the nodes' children.
+use Rattle.std.proofs.Common.{◌≡◌, ◌∙◌, ℕ, suc, ◌-◌, ◌/◌, ◌^◌, ◌<◌, ◌≤◌, true, eqb, All, List, [], ◌∷◌, map, refl, ap, sym, arith, length}
 use Rattle.std.proofs.Common.{length-drop, drop, get_or}
 use Rattle.std.specs.List.{dedup}
 use Rattle.p3_merkle_core.specs.Inner.Children.{IsFamily}
 use Rattle.p3_support.specs.Batches.{greatest}
-use Rattle.p3_merkle_core.specs.Geometry.{Shape, heights, height_limit, step}
-use Rattle.p3_merkle_core.specs.Pruning.{CanQuery, boundary, boundary_at}
+use Rattle.p3_merkle_core.specs.Geometry.{Shape, ancestor, exponent, heights, height_limit, layer_exponent, layer_len, step}
+use Rattle.p3_merkle_core.specs.Pruning.{CanQuery, boundary, boundary_at, is_covered}
+use Rattle.p3_merkle_core.specs.Inner.Agreement.{distinct, AreDistinctOf}
+use Rattle.p3_merkle_core.specs.declared.pruning.DistinctQueries.{DistinctQueries}
+use Rattle.std.specs.Cmp.{both_ways}
+use Rattle.std.proofs.lemmas.Nat.{pow_pos}
 use Rattle.p3_merkle_core.specs.Inner.Covered.{covered_at}
-use Rattle.p3_merkle_core.proofs.Covered.CoveredFacts.{covered_above}
+use Rattle.p3_merkle_core.proofs.Covered.CoveredFacts.{covered_leaf, covered_listed, listed_below, listed_covered}
+use Rattle.p3_merkle_core.proofs.Lists.RisingFacts.{is_listed, listed_at, listed_map, map_lists, rising_filter}
+use Rattle.p3_merkle_core.proofs.Pruned.AgreeFacts.{firsts_inside}
+use Rattle.p3_merkle_core.proofs.Pruned.LeadFacts.{nodes_by_bits}
+use Rattle.p3_merkle_core.proofs.Pruned.SlotFacts.{distinct_from, distinct_is, distinct_queried, parents_once}
+use Rattle.p3_merkle_core.proofs.Pruned.SlotFacts.{rising_either}
+use Rattle.p3_merkle_core.proofs.Shapes.LadderFacts.{shifted_is_anc}
+use Rattle.p3_merkle_core.proofs.Shapes.LevelFacts.{exponent_low}
 use Rattle.p3_merkle_core.proofs.Lists.ListFacts.{length-joined_le}
-use Rattle.p3_merkle_core.proofs.Shapes.StepFacts.{anc_next}
+use Rattle.p3_merkle_core.proofs.Shapes.StepFacts.{anc_start}
 use Rattle.p3_merkle_core.proofs.Covered.ValueFacts.{family_by_counts}
-use Rattle.p3_merkle_verifier.specs.Inner.RestoredLevels.{node_of_query}
+use Rattle.p3_merkle_verifier.specs.Inner.RestoredLevels.{node_of_query, AreQueriesAt}
+use Rattle.p3_merkle_verifier.proofs.StartFacts.{queried_by_firsts}
 
 -- equal functions, mapped
 pub same_map : {X : Type 0} (f g : ℕ → X) → ((k : ℕ) → f k ≡ g k) → (xs : List ℕ) → map f xs ≡ map g xs
 same_map f g h [] = refl
 same_map f g h (x ∷ xs) = rw (h x, same_map f g h xs) refl
 
--- the parents of the covered nodes of a layer are those of the layer above
-pub parents_covered : (s : Shape) (indices : List ℕ) (t : ℕ) → CanQuery s indices t → (l : ℕ) → l < t →
-    (n : ℕ) (here above : List ℕ) → n ≡ step s l → here ≡ covered_at s indices l →
-    above ≡ dedup eqb (map (λ j. j / n) here) → above ≡ covered_at s indices (suc l)
-parents_covered s indices t w l h n here above is_step is_here e =
-    (rw (is_step, is_here) at e) ∙ covered_above s indices t w l h
+-- the same where they are equal on the list
+pub map_on : {X : Type 0} (P : ℕ → Type 0) (g h : ℕ → X) → ((k : ℕ) → P k → g k ≡ h k) → (xs : List ℕ) → All P xs →
+    map g xs ≡ map h xs
+map_on P g h e [] all = refl
+map_on P g h e (x ∷ xs) all = rw (e x (all 0 0 (omega arith)), map_on P g h e xs (λ k d l. all (suc k) d (omega arith)))
+    refl
 
--- the queries of parents are under them
-pub queries_rise : (s : Shape) (indices : List ℕ) (t : ℕ) → CanQuery s indices t → (l : ℕ) → l < t →
-    (n : ℕ) (here queries : List ℕ) → n ≡ step s l → here ≡ covered_at s indices l →
-    map (λ k. node_of_query s indices l k / n) queries ≡ dedup eqb (map (λ j. j / n) here) →
-    covered_at s indices (suc l) ≡ map (node_of_query s indices (suc l)) queries
-queries_rise s indices t w l h n here queries is_step is_here e =
-    let up : map (λ k. node_of_query s indices l k / step s l) queries
-    ≡ dedup eqb (map (λ j. j / step s l) (covered_at s indices l)) = rw (is_step, is_here) at e in
-    sym (covered_above s indices t w l h) ∙ sym up
-    ∙ same_map (λ k. node_of_query s indices l k / step s l) (node_of_query s indices (suc l))
-    (λ k. sym (anc_next s l (get_or indices k 0))) queries
+-- ---- the nodes of a layer, by the bits of the leaves
+
+covered_listed_above : (s : Shape) (indices : List ℕ) (l j : ℕ) →
+    is_covered s indices l j ≡ is_listed (map (ancestor s l) indices) j
+covered_listed_above s [] l j = refl
+covered_listed_above s (i ∷ indices) l j = rw (covered_listed_above s indices l j) refl
+
+-- the covered nodes of a layer are those above the distinct indices, each once
+covered_by_bits : (s : Shape) (indices : List ℕ) (t : ℕ) → CanQuery s indices t → (l bits : ℕ) → l ≤ t →
+    bits ≡ exponent (greatest (heights s)) - layer_exponent s l →
+    covered_at s indices l ≡ dedup eqb (map (λ j. j / 2 ^ bits) (distinct indices))
+covered_by_bits s indices t w l bits h is =
+    let leaves = distinct indices in
+    let nodes = map (ancestor s l) leaves in
+    let are : covered_at s indices 0 ≡ leaves = distinct_from s indices w.below in
+    let leaf = λ (i : ℕ) (c : is_listed indices i ≡ true). rw are at (covered_listed s indices t w 0 i (omega arith)
+    (covered_leaf s indices i ∙ c)) in
+    let index = λ (i : ℕ) (c : is_listed leaves i ≡ true). sym (covered_leaf s indices i)
+    ∙ listed_covered s indices 0 i (rw (← are) at c) in
+    let above : covered_at s indices l ≡ distinct nodes =
+    distinct_is nodes (covered_at s indices l) (rising_filter (is_covered s indices l) 0 (layer_len s l)) (λ j.
+    both_ways (is_listed (covered_at s indices l) j) (is_listed nodes j)
+    (λ c.
+    let found = listed_map (ancestor s l) indices j (sym (covered_listed_above s indices l j)
+    ∙ listed_covered s indices l j c) in
+    rw found.2 at (map_lists (ancestor s l) leaves found.0 (leaf found.0 found.1)))
+    (λ c.
+    let found = listed_map (ancestor s l) leaves j c in
+    covered_listed s indices t w l j h (covered_listed_above s indices l j
+    ∙ rw found.2 at (map_lists (ancestor s l) indices found.0 (index found.0 found.1))))) in
+    let below = λ (k d : ℕ) (c : k < length leaves). listed_below (greatest (heights s)) indices (get_or leaves k d)
+    w.below (index (get_or leaves k d) (listed_at leaves k d c)) in
+    above ∙ ap distinct (sym (nodes_by_bits s w.well_shaped l bits is leaves below))
+    ∙ sym (parents_once leaves (2 ^ bits) (pow_pos bits) (rising_either indices))
+
+-- the first queries under runs of leaves of one node are under the layer's nodes
+pub queries_known : (s : Shape) (indices : List ℕ) (t : ℕ) → CanQuery s indices t → (l bits : ℕ) → l ≤ t →
+    bits ≡ exponent (greatest (heights s)) - layer_exponent s l → (queries : List ℕ) →
+    All (λ k. k < length indices) queries →
+    map (λ k. node_of_query s indices 0 k / 2 ^ bits) queries
+    ≡ dedup eqb (map (λ j. j / 2 ^ bits) (distinct indices)) → AreQueriesAt s indices l queries
+queries_known s indices t w l bits h is queries among e = record {
+  queries_are = covered_by_bits s indices t w l bits h is ∙ sym e
+      ∙ map_on (λ k. k < length indices) (λ k. node_of_query s indices 0 k / 2 ^ bits) (node_of_query s indices l)
+      (λ k c.
+      rw (anc_start s (get_or indices k 0), is)
+      (shifted_is_anc s w.well_shaped l (get_or indices k 0) (w.below k 0 c) (exponent_low s l))) queries among;
+  among = among;
+}
+
+-- the first queries of the distinct indices are under the leaves
+pub leaf_queries : (s : Shape) (indices : List ℕ) (queried : DistinctQueries) → AreDistinctOf queried indices →
+    queried.indices.items ≡ map (node_of_query s indices 0) queried.first_queries.items
+leaf_queries s indices queried are = are.indices ∙ queried_by_firsts s indices (distinct indices) (distinct_queried indices)
+    ∙ ap (map (node_of_query s indices 0)) (sym are.first_queries)
+
+pub leaves_known : (s : Shape) (indices : List ℕ) (t : ℕ) → CanQuery s indices t → (queried : DistinctQueries) →
+    AreDistinctOf queried indices → AreQueriesAt s indices 0 queried.first_queries.items
+leaves_known s indices t w queried are = record {
+  queries_are = distinct_from s indices w.below ∙ sym are.indices ∙ leaf_queries s indices queried are;
+  among = firsts_inside queried.first_queries.items indices are.first_queries;
+}
 
 -- ---- the children
 

@@ -16,9 +16,9 @@ use Rattle.p3_merkle_core.proofs.Covered.Equivalence.{restored_leaf, restored_ne
 use Rattle.p3_merkle_core.proofs.Checks.PathFacts.{group_values}
 use Rattle.p3_merkle_core.proofs.Shapes.StepFacts.{step_above_1}
 use Rattle.p3_merkle_core.proofs.Covered.ValueFacts.{IsWalkedLevel, children_are}
-use Rattle.p3_merkle_verifier.proofs.ChildFacts.{same_map}
+use Rattle.p3_merkle_verifier.proofs.ChildFacts.{map_on, same_map}
 use Rattle.p3_merkle_verifier.specs.Inner.NodeDigests.{group_digest, layer_digests, pair_digest, query_digest}
-use Rattle.p3_merkle_verifier.specs.Inner.RestoredLevels.{node_of_query, AreRestored, IsCoveredAt, IsLayer}
+use Rattle.p3_merkle_verifier.specs.Inner.RestoredLevels.{node_of_query, AreQueriesAt, AreRestored, IsCoveredAt, IsLayer}
 use Rattle.p3_merkle_verifier.specs.Inner.RestoredLevels.{IsLayerAbove}
 use Rattle.p3_merkle_core.specs.declared.pruning.CoveredLayer.{CoveredLayer}
 use Rattle.p3_merkle_core.specs.Checks.{params}
@@ -38,12 +38,6 @@ group_is v a n = let e : a + 0 ≡ a = omega arith in rw e at (shifted v a 0 n)
 map_map : {X Y : Type 0} (g : X → Y) (h : ℕ → X) (xs : List ℕ) → map g (map h xs) ≡ map (λ k. g (h k)) xs
 map_map g h [] = refl
 map_map g h (x ∷ xs) = ap (λ ys. g (h x) ∷ ys) (map_map g h xs)
-
-map_on : {X : Type 0} (P : ℕ → Type 0) (g h : ℕ → X) → ((k : ℕ) → P k → g k ≡ h k) → (xs : List ℕ) → All P xs → map g xs
-    ≡ map h xs
-map_on P g h e [] all = refl
-map_on P g h e (x ∷ xs) all = rw (e x (all 0 0 (omega arith)), map_on P g h e xs (λ k d l. all (suc k) d (omega arith)))
-    refl
 
 zip_maps : {X Y Z : Type 0} (f : X × Y → Z) (g : ℕ → X) (h : ℕ → Y) (xs : List ℕ) → map f (zip (map g xs) (map h xs))
     ≡ map (λ k. f (g k, h k)) xs
@@ -97,13 +91,12 @@ module _ {T W : Type 0} (f : Functions T W) (s : Shape) (t : ℕ) (p : PrunedOpe
   -- the layer above, from the children's values
   layer_next : IsAgreed s t p → suc l ≤ t → (n : ℕ) (has : Bool) (x : ℕ) (queries : List ℕ)
       (children : List (List W)) → n ≡ step s l → has ≡ has_rows s (suc l) → x ≡ layer_exponent s (suc l) →
-      covered_at s p.indices (suc l) ≡ map (node_of_query s p.indices (suc l)) queries →
-      All (λ k. k < length p.indices) queries → length children / n ≡ length (covered_at s p.indices (suc l)) →
+      (has ≡ true → AreQueriesAt s p.indices (suc l) queries) → length children / n ≡ length (covered_at s p.indices (suc l)) →
       children ≡ flat_map (λ j. map (value_of (params f s t) p l) (range_with_len (step s l * j) (step s l)))
       (covered_at s p.indices (suc l)) →
       layer_digests f s.arity n has (heights s) x p.rows queries children
       ≡ map (restored_node (params f s t) p (suc l)) (covered_at s p.indices (suc l))
-  layer_next agreed le n has x queries children is_step is_has is_x are among count values =
+  layer_next agreed le n has x queries children is_step is_has is_x known count values =
       let parents = covered_at s p.indices (suc l) in
       let group = λ (j : ℕ). map (value_of (params f s t) p l) (range_with_len (step s l * j) (step s l)) in
       let node = node_of_query s p.indices (suc l) in
@@ -118,12 +111,14 @@ module _ {T W : Type 0} (f : Functions T W) (s : Shape) (t : ℕ) (p : PrunedOpe
       (range_with_len 0 (length children / n)) ≡ map below_digest parents = rw (count, is_step, values) nodes in
       elim (cases_Bool (has_rows s (suc l))) [
         | inl present ↦
+            let are = (known (is_has ∙ present)).queries_are in
             rw (all, is_x, is_has, present)
             (ap (λ ys. map pair (zip (map below_digest ys) (map digest queries))) are
             ∙ ap (λ ys. map pair (zip ys (map digest queries))) (map_map below_digest node queries)
             ∙ zip_maps pair (λ k. below_digest (node k)) digest queries
             ∙ map_on (λ k. k < length p.indices) (λ k. pair (below_digest (node k), digest k))
-            (λ k. restored_node (params f s t) p (suc l) (node k)) (with_query agreed le present) queries among
+            (λ k. restored_node (params f s t) p (suc l) (node k)) (with_query agreed le present) queries
+            (known (is_has ∙ present)).among
             ∙ sym (map_map (restored_node (params f s t) p (suc l)) node queries)
             ∙ ap (map (restored_node (params f s t) p (suc l))) (sym are))
         | inr none ↦ rw (all, is_x, is_has, none)
@@ -138,54 +133,52 @@ agreed_with s t indices rows digests others a =
     record { in_pairs = a.in_pairs; repeats = a.repeats; groups = a.groups }
 
 -- as many nodes as queries
-pub nodes_long : {X : Type 0} (s : Shape) (indices : List ℕ) (l : ℕ) (covered : CoveredLayer X) → IsCoveredAt s indices l covered →
-    length covered.queries.items ≡ length covered.nodes.items
-nodes_long s indices l covered at = sym (ap length at.queries_are
-    ∙ length-map covered.queries.items (node_of_query s indices l))
+pub nodes_long : {X : Type 0} (s : Shape) (indices : List ℕ) (l : ℕ) (covered : CoveredLayer X) (queries : List ℕ) →
+    IsCoveredAt s indices l covered → AreQueriesAt s indices l queries →
+    length queries ≡ length covered.nodes.items
+nodes_long s indices l covered queries at known = sym (ap length (at.nodes_are ∙ known.queries_are)
+    ∙ length-map queries (node_of_query s indices l))
 
 -- ---- digests that are restored
 
 module _ {T W : Type 0} (f : Functions T W) (s : Shape) (t : ℕ) (p : PrunedOpening T W) where
   -- the digests of the leaves
-  pub leaves_restored : IsAgreed s t p → (covered : CoveredLayer (List W)) (digests : List (List W)) →
-      IsCoveredAt s p.indices 0 covered →
-      digests ≡ map (query_digest f.hash covered.exponent (heights s) p.rows) covered.queries.items →
-      AreRestored f s t p 0 digests
-  leaves_restored agreed covered digests at e =
+  pub leaves_restored : IsAgreed s t p → (covered : CoveredLayer (List W)) (queries : List ℕ)
+      (digests : List (List W)) → IsCoveredAt s p.indices 0 covered → AreQueriesAt s p.indices 0 queries →
+      digests ≡ map (query_digest f.hash covered.exponent (heights s) p.rows) queries → AreRestored f s t p 0 digests
+  leaves_restored agreed covered queries digests at known e =
       let node = node_of_query s p.indices 0 in
-      let queries = covered.queries.items in
-      let are : covered_at s p.indices 0 ≡ map node queries = sym at.nodes_are ∙ at.queries_are in
       e ∙ ap (λ x. map (query_digest f.hash x (heights s) p.rows) queries) at.at_exponent
       ∙ map_on (λ k. k < length p.indices) (query_digest f.hash (layer_exponent s 0) (heights s) p.rows)
       (λ k. restored_node (params f s t) p 0 (node k))
       (λ k h. ap f.hash (rows_agree s t p agreed k 0 h (omega arith)) ∙ sym (restored_leaf f s t p (node k))) queries
-      at.among
+      known.among
       ∙ sym (map_map (restored_node (params f s t) p 0) node queries)
-      ∙ ap (map (restored_node (params f s t) p 0)) (sym are)
+      ∙ ap (map (restored_node (params f s t) p 0)) (sym known.queries_are)
 
   -- the digests of the nodes above layer l, by those of their children and of their rows
   pub above_restored : IsAgreed s t p → (l : ℕ) → suc l ≤ t → (n : ℕ) → s.arity ≡ n →
-      (covered : CoveredLayer (List W)) (digests : List (List W)) → IsLayer f s t p (suc l) covered →
-      digests ≡ layer_digests f n covered.step covered.has_rows (heights s) covered.exponent p.rows
-      covered.queries.items covered.children.items → AreRestored f s t p (suc l) digests
-  above_restored agreed l h n is_n covered digests layer e =
+      (covered : CoveredLayer (List W)) (queries : List ℕ) (digests : List (List W)) → IsLayer f s t p (suc l) covered →
+      (covered.has_rows ≡ true → AreQueriesAt s p.indices (suc l) queries) →
+      digests ≡ layer_digests f n covered.step covered.has_rows (heights s) covered.exponent p.rows queries
+      covered.children.items → AreRestored f s t p (suc l) digests
+  above_restored agreed l h n is_n covered queries digests layer known e =
       let at = layer.coverage in
       let family = layer.family in
-      let are = sym at.nodes_are ∙ at.queries_are in
-      let long = sym (layer.in_groups (omega arith)) ∙ nodes_long s p.indices (suc l) covered at
-      ∙ ap length at.nodes_are in
+      let long = sym (layer.in_groups (omega arith)) ∙ ap length at.nodes_are in
       e ∙ ap (λ a. layer_digests f a covered.step covered.has_rows (heights s) covered.exponent p.rows
-      covered.queries.items covered.children.items) (sym is_n)
-      ∙ layer_next f s t p l agreed h covered.step covered.has_rows covered.exponent covered.queries.items covered.children.items
-      family.step_is family.rows_are at.at_exponent are at.among long family.values_are
+      queries covered.children.items) (sym is_n)
+      ∙ layer_next f s t p l agreed h covered.step covered.has_rows covered.exponent queries covered.children.items
+      family.step_is family.rows_are at.at_exponent known long family.values_are
 
   pub restored_at : IsAgreed s t p → (l : ℕ) → 0 < l → l ≤ t → (n : ℕ) → s.arity ≡ n →
-      (covered : CoveredLayer (List W)) (digests : List (List W)) → IsLayer f s t p l covered →
-      digests ≡ layer_digests f n covered.step covered.has_rows (heights s) covered.exponent p.rows
-      covered.queries.items covered.children.items → AreRestored f s t p l digests
-  restored_at agreed zero some h n is_n covered digests layer e = absurd (omega arith)
-  restored_at agreed (suc l) some h n is_n covered digests layer e =
-      above_restored agreed l h n is_n covered digests layer e
+      (covered : CoveredLayer (List W)) (queries : List ℕ) (digests : List (List W)) → IsLayer f s t p l covered →
+      (covered.has_rows ≡ true → AreQueriesAt s p.indices l queries) →
+      digests ≡ layer_digests f n covered.step covered.has_rows (heights s) covered.exponent p.rows queries
+      covered.children.items → AreRestored f s t p l digests
+  restored_at agreed zero some h n is_n covered queries digests layer known e = absurd (omega arith)
+  restored_at agreed (suc l) some h n is_n covered queries digests layer known e =
+      above_restored agreed l h n is_n covered queries digests layer known e
 
   -- as many digests as nodes
   pub digests_long : (l : ℕ) (covered : CoveredLayer (List W)) (digests : List (List W)) → IsCoveredAt s p.indices l covered →
@@ -229,8 +222,7 @@ module _ {T W : Type 0} (f : Functions T W) (s : Shape) (t : ℕ) (p : PrunedOpe
         wide = λ h. positive;
         narrow = rw up.step_is (cond_both (is_bridge s (layer_exponent s l)) 2 s.arity (λ x. x ≤ s.arity) (λ t. two)
             (λ t. omega arith));
-        in_groups = λ h. nodes_long s p.indices (suc l) above up.coverage
-            ∙ sym (rw up.values.each (mul-div_cancel_left (length above.nodes.items) positive));
+        in_groups = λ h. sym (rw up.values.each (mul-div_cancel_left (length above.nodes.items) positive));
         family = record {
           step_is = up.step_is;
           rows_are = up.rows_are;

@@ -1,19 +1,18 @@
 -- The layers of a pruned opening, and the paths out of them.
-use Rattle.std.proofs.Common.{◌≡◌, ◌∙◌, ℕ, suc, ◌+◌, ◌<◌, List, [], ◌∷◌, ◌++◌, add-one, ap, arith, drop, get_or, inl}
+use Rattle.std.proofs.Common.{◌≡◌, ◌∙◌, ℕ, suc, ◌+◌, ◌/◌, ◌<◌, List, [], ◌∷◌, ◌++◌, add-one, ap, arith, drop, get_or, inl}
 use Rattle.std.proofs.Common.{inr, length, length-append, map, refl, subst, sym}
 use Rattle.std.proofs.lemmas.Bool.{cases_lt}
 use Rattle.std.proofs.lemmas.List.{drop-append-le, get_or_append_left, get_or_default, map-append}
 use Rattle.std.proofs.lemmas.List.FromFn.{map-range_with_len_more}
 use Rattle.std.proofs.Math.Seq.{get_or-append_seam}
-use Rattle.p3_merkle_core.specs.Geometry.{Shape}
+use Rattle.p3_merkle_core.specs.Geometry.{Shape, step}
 use Rattle.p3_merkle_core.specs.Nodes.{Functions}
-use Rattle.p3_merkle_core.specs.Inner.Children.{AreParentSlots}
-use Rattle.p3_merkle_core.specs.Pruning.{PrunedOpening, value_of}
+use Rattle.p3_merkle_core.specs.Pruning.{CanQuery, PrunedOpening, value_of}
 use Rattle.p3_merkle_core.specs.declared.pruning.CoveredLayer.{CoveredLayer}
+use Rattle.p3_merkle_core.proofs.Covered.CoveredFacts.{covered_listed, listed_covered}
 use Rattle.p3_merkle_core.proofs.Covered.KeptFacts.{covered_up_list, level_of}
+use Rattle.p3_merkle_core.proofs.Covered.Under.{covered_up}
 use Rattle.p3_merkle_verifier.specs.Inner.RestoredLevels.{tree_of, AreLayers, AreLeaves, IsCoveredAt, IsLayer}
-use Rattle.p3_merkle_verifier.specs.declared.openings.PrunedOpeningRef.{PrunedOpeningRef}
-use Rattle.p3_merkle_verifier.specs.declared.openings.RestorableOpening.{RestorableOpening}
 use Rattle.p3_merkle_verifier.proofs.LayerFacts.{leaves_are}
 use Rattle.p3_merkle_core.specs.Checks.{params}
 
@@ -34,10 +33,9 @@ shown_layer layer = (layer.nodes.items, layer.step, layer.children.items)
 -- one layer more
 pub layers_more : {T W : Type 0} (f : Functions T W) (s : Shape) (t : ℕ) (p : PrunedOpening T W) (l : ℕ)
     (old new : List (CoveredLayer (List W))) (below above : CoveredLayer (List W)) → AreLayers f s t p l old →
-    below ≡ get_or old l below → IsLayer f s t p (suc l) above →
-    AreParentSlots above.step below.nodes.items above.nodes.items above.slots.items → new ≡ old ++ above ∷ [] →
-    AreLayers f s t p (l + 1) new
-layers_more {T} {W} f s t p l old new below above w is_below layer slots is =
+    below ≡ get_or old l below → CanQuery s p.indices t → l < t → IsLayer f s t p (suc l) above →
+    new ≡ old ++ above ∷ [] → AreLayers f s t p (l + 1) new
+layers_more {T} {W} f s t p l old new below above w is_below asked inside layer is =
     let X = List W in
     let count = w.climb.count in
     let grown : length (old ++ above ∷ []) ≡ l + 1 + 1 = length-append old (above ∷ []) ∙ ap (λ (n : ℕ). n + 1) count in
@@ -64,7 +62,10 @@ layers_more {T} {W} f s t p l old new below above w is_below layer slots is =
                 some = layer.wide (omega arith);
                 full = layer.family.full;
                 ascending = rw layer.coverage.nodes_are (covered_up_list s p.indices (suc l));
-                slots = slots;
+                parents = λ j c.
+                    let here = listed_covered s p.indices l j (rw (w.top x).coverage.nodes_are at (rw (← there) at c)) in
+                    rw (layer.coverage.nodes_are, layer.family.step_is)
+                    (covered_listed s p.indices t asked (suc l) (j / step s l) inside (covered_up s p.indices l j here));
               })
         ];
       };
@@ -73,12 +74,3 @@ layers_more {T} {W} f s t p l old new below above w is_below layer slots is =
           ∙ map-append shown_layer (drop 1 old) (above ∷ [])
           ∙ rw (w.levels_are, shown) (sym (map-range_with_len_more here 0 l l z));
     })
-
--- the leaves of an opening that restores are those of what is lent
-pub leaves_alike : {T W : Type 0} (s : Shape) (opening : PrunedOpeningRef T (List W))
-    (restorable : RestorableOpening T (List W)) (leaves : CoveredLayer (List W)) → tree_of restorable ≡ s →
-    restorable.opening ≡ opening →
-    IsCoveredAt (tree_of restorable) restorable.opening.indices.now 0 leaves → IsCoveredAt s opening.indices.now 0 leaves
-leaves_alike s opening restorable leaves tree is at =
-    subst (λ (x : Shape). IsCoveredAt x opening.indices.now 0 leaves) tree
-    (subst (λ (o : PrunedOpeningRef _ _). IsCoveredAt (tree_of restorable) o.indices.now 0 leaves) is at)

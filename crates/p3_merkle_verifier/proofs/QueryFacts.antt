@@ -12,16 +12,18 @@ use Rattle.p3_merkle_core.specs.Openings.{Opening, opening_of}
 use Rattle.p3_merkle_core.specs.Checks.{Input, params}
 use Rattle.p3_merkle_core.specs.Pruning.{PrunedOpening, opening_at, restored_path, restored_paths}
 use Rattle.p3_merkle_core.specs.Refusals.{IsEquality, pruned_refusal_under, ok_unless}
-use Rattle.p3_merkle_core.specs.Inner.Agreement.{distinct}
+use Rattle.p3_merkle_core.specs.Inner.Agreement.{AreDistinctOf}
+use Rattle.p3_merkle_core.proofs.Pruned.AgreeFacts.{firsts_inside}
+use Rattle.p3_merkle_verifier.proofs.ChildFacts.{leaf_queries}
 use Rattle.p3_merkle_core.proofs.Checks.Verdicts.{pruned_accepted}
-use Rattle.p3_merkle_core.proofs.Pruned.SlotFacts.{distinct_from, queried_at, rising_either, some_place}
+use Rattle.p3_merkle_core.proofs.Pruned.SlotFacts.{queried_at, rising_either, some_place}
 use Rattle.p3_merkle_core.proofs.Shapes.StepFacts.{anc_start}
 use Rattle.p3_merkle_verifier.specs.Inner.Collisions.{Shows}
 use Rattle.p3_merkle_core.specs.declared.collision.InputPair.{InputPair}
 use Rattle.p3_merkle_verifier.specs.Inner.Checks.{AgreeBelow}
 use Rattle.p3_merkle_verifier.specs.Inner.QueryPairs.{query_difference, query_in, AreConsistent, AreQueriesOf}
 use Rattle.p3_merkle_verifier.specs.Inner.QueryPairs.{CanCompare, HasLeaves, ShowsPair}
-use Rattle.p3_merkle_verifier.specs.Inner.RestoredLevels.{node_of_query, IsCoveredAt}
+use Rattle.p3_merkle_verifier.specs.Inner.RestoredLevels.{node_of_query}
 use Rattle.p3_merkle_verifier.specs.declared.pruned_extraction.RestoredQueries.{RestoredQueries}
 use Rattle.p3_merkle_verifier.proofs.AgreeFacts.{agree_restored}
 use Rattle.p3_merkle_verifier.proofs.PlaceFacts.{pairs_alike}
@@ -109,28 +111,29 @@ module _ {T W : Type 0} (eq : T → T → Bool) (same : W → W → Bool) (f : F
   pub leaves_known : (cap : List (List W)) (p : PrunedOpening T W) (queries : RestoredQueries T (List W)) →
       IsEquality eq → IsEquality same → CanCheck s t → pruned_refusal_under eq same (params f s t) cap p ≡ None →
       row_sets queries.sets.now ≡ p.rows → shown_paths queries.paths.items ≡ restored_paths (params f s t) p →
-      IsCoveredAt s p.indices 0 queries.leaves → HasLeaves queries
+      AreDistinctOf queries.leaves p.indices → HasLeaves queries
   leaves_known cap p queries dec dec_w w none rows shown at =
       let accepted = (pruned_accepted eq same f s t cap p dec dec_w w.arity).0
       (ap (λ refusal. ok_unless refusal (tt {0})) none) in
       let are = restored p queries rows shown in
-      let firsts = queries.leaves.queries.items in
-      let nodes : queries.leaves.nodes.items ≡ distinct p.indices =
-      at.nodes_are ∙ distinct_from s p.indices accepted.restorable.below in
-      let long : length firsts ≡ length queries.leaves.nodes.items =
-      sym (ap length at.queries_are ∙ length-map firsts (node_of_query s p.indices 0)) in
+      let firsts = queries.leaves.first_queries.items in
+      let nodes = at.indices in
+      let under = leaf_queries s p.indices queries.leaves at in
+      let among = firsts_inside firsts p.indices at.first_queries in
+      let long : length firsts ≡ length queries.leaves.indices.items =
+      sym (ap length under ∙ length-map firsts (node_of_query s p.indices 0)) in
       let index : (k : ℕ) → k < length p.indices → (query_in queries k).index ≡ slice_index p.indices k =
       λ k inside. ap (λ (o : Opening T W). o.index) (are.each k inside) in
       record {
         ascending = rw nodes (rising_either p.indices);
         in_pairs = long;
-        inside = λ slot below. omega (arith, at.among slot 0 (omega (arith, long)), are.as_many);
+        inside = λ slot below. omega (arith, among slot 0 (omega (arith, long)), are.as_many);
         query_of = λ slot below.
             let there : slot < length firsts = omega (arith, long) in
             let k = slice_index firsts slot in
-            index k (at.among slot 0 there) ∙ sym (anc_start s (slice_index p.indices k))
+            index k (among slot 0 there) ∙ sym (anc_start s (slice_index p.indices k))
             ∙ sym (get_or-map (node_of_query s p.indices 0) firsts slot 0 0 there)
-            ∙ ap (λ (ns : List ℕ). slice_index ns slot) (sym at.queries_are);
+            ∙ ap (λ (ns : List ℕ). slice_index ns slot) (sym under);
         leaf_of = λ k below.
             let inside : k < length p.indices = omega (arith, are.as_many) in
             let place = some_place p.indices (slice_index p.indices k) (queried_at p.indices k inside) in

@@ -5,12 +5,13 @@ ghost use Rattle.std.specs.Iterator.{YieldsFirstBy, item_count};
 ghost use Rattle.p3_support.specs.Batches.{greatest, heights_of, widths_of};
 ghost use Rattle.p3_support.specs.Shown.{row_lists, row_sets};
 ghost use Rattle.p3_merkle_core.specs.Geometry.{height_limit, shape_of};
-ghost use Rattle.p3_merkle_core.specs.Inner.Agreement.{opened_of};
+ghost use Rattle.p3_merkle_core.specs.Inner.Agreement.{opened_of, AreDistinctOf};
 ghost use Rattle.p3_merkle_core.specs.Pruning.{boundary, CanQuery, IsAgreed};
 ghost use Rattle.p3_merkle_verifier.specs.Inner.OpenedRows.{opened_row, HaveRows};
 ghost use Rattle.p3_merkle_verifier.specs.Inner.Paths.{rows_of_exponent};
 
 use p3_merkle_core::geometry::exponent_of;
+use p3_merkle_core::pruning::DistinctQueries;
 use p3_merkle_core::steps::Steps;
 use p3_support::matrix::{Dimensions, Matrix};
 use p3_support::opening::BatchOpeningRef;
@@ -152,6 +153,9 @@ pub struct RestorableOpening<'a, T, X> {
     pub cap_layer: usize,
     /// The opening.
     pub opening: PrunedOpeningRef<'a, T, X>,
+    /// Its leaves, with a query of each.
+    pub leaves: DistinctQueries,
+    ghost distinct: { AreDistinctOf leaves opening.indices.now },
     ghost queried: { CanQuery (shape_of steps.now.arity steps.now.dimensions.now) opening.indices.now cap_layer },
     ghost low: { greatest (heights_of steps.now.dimensions.now) ≤ height_limit },
     ghost pairs: { length opening.sets.now ≡ length opening.indices.now },

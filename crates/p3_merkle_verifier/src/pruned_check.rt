@@ -1,15 +1,14 @@
 //! Pruned openings: their check, and the path of each query, restored. Both walk up the covered nodes layer by layer,
 //! and digest the rows that queries opened there and the nodes' children.
 
-ghost use Rattle.std.specs.Prelude.{◌≡◌, ◌/◌, ◌<◌, ◌≤◌, ◌==◌, ℕ, [], All, IfOk, length, map, replicate, slice_index};
+ghost use Rattle.std.specs.Prelude.{◌≡◌, ◌/◌, ◌<◌, ◌≤◌, ℕ, [], All, IfOk, length, map, replicate, slice_index};
 ghost use Rattle.std.specs.Prelude.{slice_index_or, zip};
-ghost use Rattle.std.specs.List.{dedup, list_all, range_with_len};
+ghost use Rattle.std.specs.List.{list_all, range_with_len};
 ghost use Rattle.p3_support.specs.Batches.{heights_of};
 ghost use Rattle.p3_support.specs.Shown.{row_sets};
 ghost use Rattle.p3_merkle_core.specs.Checks.{params, words_of_exponent};
-ghost use Rattle.p3_merkle_core.specs.Geometry.{shape_of};
-ghost use Rattle.p3_merkle_core.specs.Inner.Agreement.{opened_with};
-ghost use Rattle.p3_merkle_core.specs.Inner.Children.{AreParentSlots};
+ghost use Rattle.p3_merkle_core.specs.Geometry.{layer_exponent, shape_of};
+ghost use Rattle.p3_merkle_core.specs.Inner.Agreement.{opened_with, AreDistinctOf};
 ghost use Rattle.p3_merkle_core.specs.Nodes.{functions_of, Functions};
 ghost use Rattle.p3_merkle_core.specs.Pruning.{restored_paths};
 ghost use Rattle.p3_merkle_core.specs.Refusals.{cap_refusal, is_entry as is_entry_of, pruned_refusal};
@@ -21,7 +20,7 @@ ghost use Rattle.p3_merkle_verifier.specs.Inner.NodeDigests.{child_group, group_
 ghost use Rattle.p3_merkle_verifier.specs.Inner.OpenedMatrices.{row_in};
 ghost use Rattle.p3_merkle_verifier.specs.Inner.Paths.{CanCheck};
 ghost use Rattle.p3_merkle_verifier.specs.Inner.RestoredLevels.{opened_by, pruned_in, tree_of, AreLayers, AreLeaves};
-ghost use Rattle.p3_merkle_verifier.specs.Inner.RestoredLevels.{AreRestored, IsClimb, IsCoveredAt, IsLayer};
+ghost use Rattle.p3_merkle_verifier.specs.Inner.RestoredLevels.{AreQueriesAt, AreRestored, IsClimb, IsCoveredAt, IsLayer};
 ghost use Rattle.p3_merkle_verifier.specs.Inner.RestoredLevels.{IsLayerAbove};
 
 use crate::openings::{OpenedMatrix, PrunedOpeningRef, RestorableOpening};
@@ -29,7 +28,7 @@ use crate::path::Checker;
 use p3_merkle_core::error::MerkleTreeError;
 use p3_merkle_core::geometry::exponent_of;
 use p3_merkle_core::pruning::{
-    AuthPath, CoveredLayer, check_pruned, children_of, parent_of, path_out_of,
+    AuthPath, CoveredLayer, DistinctQueries, check_pruned, children_of, climb, path_out_of,
 };
 use p3_merkle_core::steps::{StepUp, Steps};
 use p3_merkle_digests::batched::{LayerRows, compress_children, inject_row_digests};
@@ -38,38 +37,6 @@ use p3_support::hasher::CryptographicHasher;
 use p3_support::packed::PackedValue;
 use std::alloc::{AllocError, Global};
 use std::marker::PhantomData;
-
-/// The parents of some nodes, each once, a query under each, and for each node the position of its parent. The nodes
-/// ascend, and `queries` has a query under each; a parent has that of its first child.
-fn parents_of(
-    alloc: Global,
-    nodes: &[usize],
-    queries: &[usize],
-    step: usize,
-) -> Result<(Vec<usize>, Vec<usize>, Vec<usize>), AllocError>
-    requires step { 0 < step }
-    requires pairs { length queries.now ≡ length nodes.now }
-    ensures parents { IfOk result (λ above. above.0.items ≡ dedup ◌==◌ (map (λ j. j / step) nodes.now)) }
-    ensures queries { (node : ℕ → ℕ) → nodes.now ≡ map node queries.now →
-        IfOk result (λ above. map (λ k. node k / step) above.1.items ≡ dedup ◌==◌ (map (λ j. j / step) nodes.now)) }
-    ensures among { (n : ℕ) → All (λ k. k < n) queries.now → IfOk result (λ above. All (λ k. k < n) above.1.items) }
-    ensures slots { IfOk result (λ above. AreParentSlots step nodes.now above.0.items above.2.items) }
-{
-    let mut parents = Vec::with_capacity(alloc, nodes.len())?;
-    let mut above = Vec::with_capacity(alloc, nodes.len())?;
-    let mut slots = Vec::with_capacity(alloc, nodes.len())?;
-    let mut previous = 0;
-    for slot in 0..nodes.len() {
-        let parent = parent_of(nodes[slot], step);
-        if slot == 0 || previous != parent {
-            parents.push_reserved(parent);
-            above.push_reserved(queries[slot]);
-        }
-        slots.push_reserved(parents.len() - 1);
-        previous = parent;
-    }
-    Ok((parents, above, slots))
-}
 
 /// A pruned opening that restores, under a cap that is a layer of the tree, and its covered leaves.
 fn restorable_of<'a, P: PackedValue, X>(
@@ -94,15 +61,15 @@ fn restorable_of<'a, P: PackedValue, X>(
         sent,
     } = opening;
     let queried = check_pruned(alloc, steps, cap_layer, indices, sets, sent.len())?;
+    let nodes = Vec::from_slice(alloc, &queried.indices)?;
     let restorable = RestorableOpening {
         steps,
         cap_layer,
         opening,
+        leaves: queried,
     };
     let leaves = CoveredLayer {
-        nodes: queried.indices,
-        queries: queried.first_queries,
-        slots: queried.slots,
+        nodes,
         exponent: steps.exponent,
         used: 0,
         step: 0,
@@ -133,14 +100,13 @@ fn layer_above<T, X: Copy>(
         has_rows,
         exponent,
     } = steps.up(steps.arity, level, below.exponent);
-    let (nodes, queries, slots) = parents_of(alloc, &below.nodes, &below.queries, step)?;
+    let mut nodes = Vec::from_slice(alloc, &below.nodes)?;
+    climb(&mut nodes, step);
     let left = &restorable.opening.sent[below.used..];
     let children = children_of(alloc, &below.nodes, digests, &nodes, step, left)?;
     let used = below.used + (children.len() - below.nodes.len());
     Ok(CoveredLayer {
         nodes,
-        queries,
-        slots,
         exponent,
         used,
         step,
@@ -149,29 +115,53 @@ fn layer_above<T, X: Copy>(
     })
 }
 
-/// The rows that the queries of some covered nodes opened, of the matrices that have the layer's exponent, in input
-/// order.
+/// The first query under each covered node of the layer with this exponent, by ascending nodes: a node has so many bits
+/// fewer than the leaves under it.
+fn queries_at<T, X>(
+    alloc: Global,
+    restorable: &RestorableOpening<'_, T, X>,
+    exponent: usize,
+) -> Result<Vec<usize>, AllocError>
+    requires { exponent ≤ restorable.now.steps.now.exponent }
+    ensures { (l : ℕ) → l ≤ restorable.now.cap_layer → exponent ≡ layer_exponent (tree_of restorable.now) l →
+        IfOk result (λ queries. AreQueriesAt (tree_of restorable.now) restorable.now.opening.indices.now l
+        queries.items) }
+{
+    let bits = restorable.steps.exponent - exponent;
+    let leaves = &restorable.leaves.indices;
+    let mut queries = Vec::with_capacity(alloc, leaves.len())?;
+    let mut previous = 0;
+    for slot in 0..leaves.len() {
+        let node = leaves[slot] >> bits;
+        if slot == 0 || previous != node {
+            queries.push_reserved(restorable.leaves.first_queries[slot]);
+        }
+        previous = node;
+    }
+    Ok(queries)
+}
+
+/// The rows that some queries opened of the matrices of this exponent, in input order.
 fn opened_matrices<'a, T, X>(
     alloc: Global,
     restorable: &'a RestorableOpening<'_, T, X>,
-    covered: &'a CoveredLayer<X>,
+    exponent: usize,
+    queries: &'a [usize],
 ) -> Result<Vec<OpenedMatrix<'a, T>>, AllocError>
-    requires { All (λ k. k < length restorable.now.opening.indices.now) covered.now.queries.items }
-    ensures heights { let queries = covered.now.queries.items in
-        IfOk result (λ matrices. All (λ m. length m.queries.now ≡ length queries) matrices.items) }
+    requires { All (λ k. k < length restorable.now.opening.indices.now) queries.now }
+    ensures heights { IfOk result (λ matrices. All (λ m. length m.queries.now ≡ length queries.now) matrices.items) }
     ensures rows { let sets = row_sets restorable.now.opening.sets.now in
         let heights = heights_of restorable.now.steps.now.dimensions.now in
-        let queries = covered.now.queries.items in
-        IfOk result (λ matrices. (j : ℕ) → j < length queries → rows_over row_in matrices.items j
-        ≡ words_of_exponent covered.now.exponent (zip heights (slice_index_or sets (slice_index queries j) []))) }
+        IfOk result (λ matrices. (j : ℕ) → j < length queries.now → rows_over row_in matrices.items j
+        ≡ words_of_exponent exponent (zip heights (slice_index_or sets (slice_index queries.now j) []))) }
 {
     let dimensions = restorable.steps.dimensions;
     let mut matrices = Vec::new(alloc);
     for place in 0..dimensions.len() {
-        if exponent_of(dimensions[place].height) == covered.exponent {
+        if exponent_of(dimensions[place].height) == exponent {
             matrices.push(OpenedMatrix {
                 sets: restorable.opening.sets,
-                queries: &covered.queries,
+                queries,
                 place,
                 width: dimensions[place].width,
             })?;
@@ -199,7 +189,7 @@ fn paths_of<T, W: Copy, const D: usize>(
     let indices = restorable.opening.indices;
     let mut paths = Vec::with_capacity(alloc, indices.len())?;
     for query in 0..indices.len() {
-        let siblings = path_out_of(alloc, layers, layers[0].slots[query], capacity)?;
+        let siblings = path_out_of(alloc, layers, indices[query], capacity)?;
         paths.push_reserved(AuthPath {
             leaf_index: indices[query],
             siblings,
@@ -237,21 +227,22 @@ impl<
     const N: usize,
     const D: usize,
 > Checker<'a, P, PW, H, C, [[PW::Value; D]; N]> {
-    /// For each of some covered nodes the digest of its query's rows, of the matrices that have the layer's exponent.
+    /// For each of some queries the digest of its rows, of the matrices of this exponent.
     fn row_digests(
         &self,
         alloc: Global,
         restorable: &RestorableOpening<'_, P::Value, [PW::Value; D]>,
-        covered: &CoveredLayer<[PW::Value; D]>,
+        exponent: usize,
+        queries: &[usize],
     ) -> Result<Vec<[PW::Value; D]>, AllocError>
-        requires { All (λ k. k < length restorable.now.opening.indices.now) covered.now.queries.items }
-        ensures count { IfOk result (λ digests. length digests.items ≡ length covered.now.queries.items) }
-        ensures digests { let digest = query_digest (H.hash self.now.hash.now) covered.now.exponent
+        requires { All (λ k. k < length restorable.now.opening.indices.now) queries.now }
+        ensures count { IfOk result (λ digests. length digests.items ≡ length queries.now) }
+        ensures digests { let digest = query_digest (H.hash self.now.hash.now) exponent
             (heights_of restorable.now.steps.now.dimensions.now) (row_sets restorable.now.opening.sets.now) in
-            IfOk result (λ digests. digests.items ≡ map digest covered.now.queries.items) }
+            IfOk result (λ digests. digests.items ≡ map digest queries.now) }
     {
-        let matrices = opened_matrices(alloc, restorable, covered)?;
-        let height = covered.queries.len();
+        let matrices = opened_matrices(alloc, restorable, exponent, queries)?;
+        let height = queries.len();
         let rows = LayerRows::<P, PW, H, OpenedMatrix<'_, P::Value>, [PW::Value; D]> {
             hash: self.hash,
             matrices: &matrices,
@@ -304,13 +295,15 @@ impl<
             (opened_by restorable.now) layer digests.items) }
     {
         if layer == 0 {
-            return self.row_digests(alloc, restorable, covered);
+            let queries = &restorable.leaves.first_queries;
+            return self.row_digests(alloc, restorable, covered.exponent, queries);
         }
         let mut digests = self.group_digests(alloc, &covered.children, covered.step)?;
         if !covered.has_rows {
             return Ok(digests);
         }
-        let rows = self.row_digests(alloc, restorable, covered)?;
+        let queries = queries_at(alloc, restorable, covered.exponent)?;
+        let rows = self.row_digests(alloc, restorable, covered.exponent, &queries)?;
         let mut pairs = Vec::with_capacity(alloc, rows.len())?;
         inject_row_digests::<PW, C, N, D>(self.compress, &mut pairs, &rows, &mut digests)?;
         Ok(digests)
@@ -419,7 +412,7 @@ impl<
         self.check_roots(alloc, &restorable, &top, roots)
     }
 
-    /// The covered leaves of a pruned opening that is checked as [`check_pruned_opening`](Self::check_pruned_opening)
+    /// The leaves of a pruned opening that is checked as [`check_pruned_opening`](Self::check_pruned_opening)
     /// does, and the path of each query, as [`restored_paths`](Self::restored_paths) restores it.
     pub(crate) fn checked_paths(
         &self,
@@ -428,7 +421,7 @@ impl<
         steps: &Steps<'_>,
         cap_layer: usize,
         opening: PrunedOpeningRef<'_, P::Value, [PW::Value; D]>,
-    ) -> Result<(CoveredLayer<[PW::Value; D]>, Vec<AuthPath<[PW::Value; D]>>), MerkleTreeError>
+    ) -> Result<(DistinctQueries, Vec<AuthPath<[PW::Value; D]>>), MerkleTreeError>
         requires arity { steps.now.arity ≡ N }
         requires check { CanCheck (shape_of steps.now.arity steps.now.dimensions.now) cap_layer }
         ensures answer { let f = functions_by H.hash C.compression (replicate D PW.default_value) self.now in
@@ -438,16 +431,15 @@ impl<
         ensures paths { let f = functions_by H.hash C.compression (replicate D PW.default_value) self.now in
             let c = params f (shape_of steps.now.arity steps.now.dimensions.now) cap_layer in
             IfOk result (λ made. shown_paths made.1.items ≡ restored_paths c (pruned_in opening.entry)) }
-        ensures leaves { let s = shape_of steps.now.arity steps.now.dimensions.now in
-            IfOk result (λ made. IsCoveredAt s opening.entry.indices.now 0 made.0) }
+        ensures leaves { IfOk result (λ made. AreDistinctOf made.0 opening.entry.indices.now) }
     {
         let (restorable, leaves) = restorable_of::<P, [PW::Value; D]>(
             alloc, steps, cap_layer, opening,
         )?;
-        let mut layers = self.restored_layers(alloc, &restorable, leaves)?;
+        let layers = self.restored_layers(alloc, &restorable, leaves)?;
         self.check_roots(alloc, &restorable, &layers[restorable.cap_layer], roots)?;
         let paths = paths_of(alloc, &restorable, &layers)?;
-        Ok((layers.swap_remove(0), paths))
+        Ok((restorable.leaves, paths))
     }
 
     /// Restores the path of each query up to the cap's layer, in query order, from a pruned opening: each sibling is a

@@ -19,7 +19,7 @@ use crate::openings::{OpeningRef, PrunedOpeningRef};
 use crate::path::Checker;
 use p3_merkle_core::collision::Collision;
 use p3_merkle_core::error::MerkleTreeError;
-use p3_merkle_core::pruning::{AuthPath, CoveredLayer};
+use p3_merkle_core::pruning::{AuthPath, DistinctQueries};
 use p3_merkle_core::steps::Steps;
 use p3_support::compress::PseudoCompressionFunction;
 use p3_support::hasher::CryptographicHasher;
@@ -34,7 +34,7 @@ struct RestoredQueries<'a, T, X> {
     /// The path of each, with its index.
     pub paths: Vec<AuthPath<X>>,
     /// The leaves of all queries, and a query of each.
-    pub leaves: CoveredLayer<X>,
+    pub leaves: DistinctQueries,
 }
 
 impl<'a, T, W, const D: usize> RestoredQueries<'a, T, [W; D]> {
@@ -62,13 +62,13 @@ impl<'a, T, W, const D: usize> RestoredQueries<'a, T, [W; D]> {
         ensures between { (k : ℕ) → k < length self.now.paths.items →
             (StandsBetween self.now index k result.0) ⊎ (StandsBetween self.now index k result.1) }
     {
-        let leaves = &self.leaves;
-        match leaves.nodes.binary_search(&index) {
-            Ok(slot) => (leaves.queries[slot], leaves.queries[slot]),
+        let queries = &self.leaves.first_queries;
+        match self.leaves.indices.binary_search(&index) {
+            Ok(slot) => (queries[slot], queries[slot]),
             Err(slot) => {
                 let below = slot.saturating_sub(1);
-                let above = slot.min(leaves.queries.len() - 1);
-                (leaves.queries[below], leaves.queries[above])
+                let above = slot.min(queries.len() - 1);
+                (queries[below], queries[above])
             }
         }
     }

@@ -1,12 +1,13 @@
 -- The paths that are read out of a walk's kept levels.
-use Rattle.std.proofs.Common.{◌≡◌, ℕ, zero, suc, ◌+◌, ◌-◌, ◌*◌, ◌/◌, ◌%◌, ◌<◌, ◌≤◌, true, eqb, nat_lt, List, []}
+use Rattle.std.proofs.Common.{◌≡◌, ℕ, zero, suc, ◌+◌, ◌-◌, ◌*◌, ◌/◌, ◌%◌, ◌<◌, ◌≤◌, true, false, eqb, nat_lt, List, []}
 use Rattle.std.proofs.Common.{◌∷◌}
 use Rattle.std.proofs.Common.{◌++◌, map, refl, ap, sym, ◌∙◌, arith, add-one, inl, inr, length, filter, get_or, take}
 use Rattle.std.proofs.Common.{drop, remove, subst, length-drop, eq-eqb, append_assoc, append-nil, drop-cons, fold}
 use Rattle.std.specs.List.{enumerate_from, flat_map, range_with_len, take-map, drop-map}
-use Rattle.std.specs.List.Sorted.{IsStrictlyIncreasing}
+use Rattle.std.specs.List.Sorted.{IsPartitionedBy, IsPartitionPoint, IsStrictlyIncreasing}
 use Rattle.std.proofs.lemmas.Bool.{cases_lt, eqb-true, or_cases, or_left, or_right, true≢false}
-use Rattle.std.proofs.lemmas.Bool.{lt-ltb, le-ltb}
+use Rattle.std.proofs.lemmas.Bool.{lt-ltb, le-ltb, ltb-true}
+use Rattle.std.proofs.lemmas.List.Kept.{AllPairs-from_increasing}
 use Rattle.std.proofs.lemmas.List.{map-append, drop_all, take-append-le, take_all}
 use Rattle.std.proofs.lemmas.List.{take_more, get_or-map, get_or_default, length-map}
 use Rattle.std.proofs.lemmas.List.{map_more, get_or-drop}
@@ -66,6 +67,32 @@ found_at xs x h =
     let q = Any-from_list_any (λ y. eqb y x) xs h in
     (q.0, q.2, get_or_default xs q.0 0 q.1 q.2 ∙ q.3 ∙ eqb-true q.1 x q.4)
 
+-- what such a search asks
+pub below_first : (xs : List ℕ) (x : ℕ) → IsStrictlyIncreasing xs → IsPartitionedBy (λ y. nat_lt y x) xs
+below_first xs x up i j d low inside below = elim (cases_lt i j) [
+  | inl less ↦
+      let rises = AllPairs-from_increasing xs up i j d less inside in
+      lt-ltb (get_or xs i d) x (omega (arith, rises, ltb-true (get_or xs j d) x below))
+  | inr same ↦ let e : i ≡ j = omega arith in rw e below
+]
+
+-- a search for the end of what is below a listed number stops at its place
+pub searched_place : (xs : List ℕ) (x i : ℕ) → IsStrictlyIncreasing xs → is_among xs x ≡ true →
+    IsPartitionPoint (λ y. nat_lt y x ≡ true) (λ y. nat_lt y x ≡ false) xs i → (i ≡ place_among xs x) × (i < length xs)
+searched_place xs x i up h point =
+    let at = found_at xs x h in
+    let here : i ≡ at.0 = elim (cases_lt i at.0) [
+      | inl less ↦
+          let below = AllPairs-from_increasing xs up i at.0 0 less at.1 in
+          absurd (true≢false (sym (lt-ltb (get_or xs i 0) x (omega (arith, below, at.2)))
+          ∙ point.1 i 0 (omega arith) (omega (arith, at.1))))
+      | inr rest ↦ elim (cases_lt at.0 i) [
+        | inl less ↦ absurd (omega (arith, ltb-true (get_or xs at.0 0) x (point.0 at.0 0 (omega arith) less), at.2))
+        | inr same ↦ omega arith
+      ]
+    ] in
+    (here ∙ sym (placed xs at.0 x up at.1 at.2), omega (arith, at.1))
+
 -- ---- one group
 
 -- one digest more of a group without the place p: the one at `place`, or up to p the one before it
@@ -92,19 +119,12 @@ other_more group p place back old before after x inside begun more low high read
 pub group_fits : (n k count total : ℕ) → k < count → total ≡ n * count → n * k + n ≤ total
 group_fits n k count total h full = omega (arith, mul-le-mul_left n h, mul-suc n k)
 
--- the siblings of a covered node, out of the group at its parent's slot
-linked_siblings : {X : Type 0} (below above : CoveredLayer X) (k : ℕ) → IsLinked below above →
-    k < length below.nodes.items → let j = get_or below.nodes.items k 0 in
+-- the siblings of a covered node, out of the group at its parent's place
+linked_siblings : {X : Type 0} (below above : CoveredLayer X) (j slot : ℕ) → IsLinked below above →
+    is_among below.nodes.items j ≡ true → slot ≡ place_among above.nodes.items (j / above.step) →
     siblings_out_of (above.nodes.items, above.step, above.children.items) j
-    ≡ remove (take above.step (drop (above.step * get_or above.slots.items k 0) above.children.items)) (j % above.step)
-linked_siblings below above k link h =
-    let nodes = above.nodes.items in
-    let slot = get_or above.slots.items k 0 in
-    let parent = get_or below.nodes.items k 0 / above.step in
-    let at = link.slots.parent k h in
-    let there : is_among nodes parent ≡ true = rw at.1 at (listed_at nodes slot 0 at.0) in
-    let is = placed nodes slot parent link.ascending at.0 at.1 in
-    rw (there, is) refl
+    ≡ remove (take above.step (drop (above.step * slot) above.children.items)) (j % above.step)
+linked_siblings below above j slot link h is = rw (link.parents j h, is) refl
 
 -- the group of the parent at place k
 group_of : (n : ℕ) (parents : List ℕ) (k : ℕ) → k < length parents → take n (drop (n * k) (children_under n parents))
@@ -217,38 +237,47 @@ pub path_end : {X : Type 0} (levels : List (List ℕ × ℕ × List X)) (i k : �
     length levels ≤ k → IsOnPath levels i k path node → path ≡ path_out_of levels i
 path_end levels i k path node h w = sym (append-nil path) ∙ rw (drop_all k levels h) at w.so_far
 
--- a path that stands at a slot of one layer, and its turn to the next
-pub path_turn : {X : Type 0} (layers : List (CoveredLayer X)) (level slot next node index : ℕ) (below above : CoveredLayer X)
+-- what links a layer to the one below it, which has a node
+pub link_at : {X : Type 0} (layers : List (CoveredLayer X)) (level : ℕ) (above : CoveredLayer X) → 0 < level →
+    level < length layers → AreLinked layers → above ≡ get_or layers level above →
+    IsLinked (get_or layers (level - 1) above) above
+link_at {X} layers level above some h linked is =
+    let up : level - 1 + 1 ≡ level = omega arith in
+    subst (λ (z : CoveredLayer X). IsLinked (get_or layers (level - 1) above) z)
+    (ap (λ (k : ℕ). get_or layers k above) up ∙ sym is) (linked (level - 1) (omega arith) above)
+
+-- a search among the parents ends at the group of a covered node
+pub group_found : {X : Type 0} (layers : List (CoveredLayer X)) (level node slot : ℕ) (above : CoveredLayer X) →
+    0 < level → level < length layers → AreLinked layers → above ≡ get_or layers level above →
+    is_among (get_or layers (level - 1) above).nodes.items node ≡ true →
+    let parents = above.nodes.items in let parent = node / above.step in
+    IsPartitionPoint (λ y. nat_lt y parent ≡ true) (λ y. nat_lt y parent ≡ false) parents slot →
+    (slot ≡ place_among parents parent) × (above.step * slot + above.step ≤ length above.children.items)
+group_found layers level node slot above some h linked is inside point =
+    let link = link_at layers level above some h linked is in
+    let at = searched_place above.nodes.items (node / above.step) slot link.ascending (link.parents node inside) point in
+    (at.0, group_fits above.step slot (length above.nodes.items) (length above.children.items) at.1 link.full)
+
+-- a path that stands at a node of one layer, and its turn to the next
+pub path_turn : {X : Type 0} (layers : List (CoveredLayer X)) (level slot node index : ℕ) (above : CoveredLayer X)
     (old new : List X) → 0 < level → level < length layers → AreLinked layers →
-    below ≡ get_or layers (level - 1) below → above ≡ get_or layers level above →
-    IsOnPath (levels_in layers) index (level - 1) old (get_or below.nodes.items slot 0) →
-    slot < length below.nodes.items → next ≡ get_or above.slots.items slot next →
-    node ≡ get_or below.nodes.items slot node →
-    new ≡ old ++ remove (take above.step (drop (above.step * next) above.children.items)) (node % above.step) →
-    IsOnPath (levels_in layers) index level new (get_or above.nodes.items next 0) × (next < length above.nodes.items)
-path_turn {X} layers level slot next node index below above old new some h linked is_below is_above w inside reads
-    is_node more =
+    above ≡ get_or layers level above →
+    IsOnPath (levels_in layers) index (level - 1) old node →
+    is_among (get_or layers (level - 1) above).nodes.items node ≡ true →
+    slot ≡ place_among above.nodes.items (node / above.step) →
+    new ≡ old ++ remove (take above.step (drop (above.step * slot) above.children.items)) (node % above.step) →
+    IsOnPath (levels_in layers) index level new (node / above.step)
+path_turn {X} layers level slot node index above old new some h linked is_above w inside is_slot more =
     let l = level - 1 in
     let up : l + 1 ≡ level = omega arith in
     let from : 1 + l ≡ level = omega arith in
     let view : CoveredLayer X → List ℕ × ℕ × List X = λ layer. (layer.nodes.items, layer.step, layer.children.items) in
-    let link : IsLinked below above =
-    subst (λ (z : CoveredLayer X). IsLinked z above) (get_or_default layers l above below (omega arith) ∙ sym is_below)
-    (subst (λ (z : CoveredLayer X). IsLinked (get_or layers l above) z)
-    (ap (λ (k : ℕ). get_or layers k above) up ∙ sym is_above) (linked l (omega arith) above)) in
-    let parent = link.slots.parent slot inside in
-    let is_next = reads ∙ get_or_default above.slots.items slot next 0 (omega (arith, link.slots.one_each)) in
-    let stands = is_node ∙ get_or_default below.nodes.items slot node 0 inside in
+    let link = link_at layers level above some h linked is_above in
     let there : above ≡ get_or (drop 1 layers) l above =
     is_above ∙ ap (λ (k : ℕ). get_or layers k above) (sym from) ∙ sym (get_or-drop 1 layers l above) in
-    let walked = path_more view (drop 1 layers) index l (get_or below.nodes.items slot 0) above old new
-    (omega (arith, length-drop 1 layers)) there w
-    (more ∙ rw (is_next, stands) (ap (λ ys. old ++ ys) (sym (linked_siblings below above slot link inside)))) in
-    rw is_next (
-      subst (λ (k : ℕ). IsOnPath (levels_in layers) index k new
-          (get_or above.nodes.items (get_or above.slots.items slot 0) 0)) up (rw (← parent.1) at walked),
-      parent.0,
-    )
+    subst (λ (k : ℕ). IsOnPath (levels_in layers) index k new (node / above.step)) up
+    (path_more view (drop 1 layers) index l node above old new (omega (arith, length-drop 1 layers)) there w
+    (more ∙ ap (λ ys. old ++ ys) (sym (linked_siblings (get_or layers l above) above node slot link inside is_slot))))
 
 -- one path more
 pub paths_more : {X : Type 0} (path : ℕ → List X) (queries : List ℕ) (k : ℕ) (old new : List (AuthPath X))

@@ -1,5 +1,5 @@
 -- The children of covered nodes, and the values that they take.
-use Rattle.std.specs.Prelude.{◌≡◌, ℕ, ◌+◌, ◌-◌, ◌*◌, ◌/◌, ◌%◌, ◌^◌, ◌<◌, ◌≤◌, Bool, not, nat_lt, if◌then◌else◌, List}
+use Rattle.std.specs.Prelude.{◌≡◌, ℕ, ◌+◌, ◌-◌, ◌*◌, ◌/◌, ◌%◌, ◌^◌, ◌<◌, ◌≤◌, Bool, true, not, nat_lt, if◌then◌else◌, List}
 use Rattle.std.specs.Prelude.{[], All, drop, filter, flat_map, fold, length, map, remove, slice_index, slice_index_or}
 use Rattle.std.specs.Prelude.{take, zip}
 use Rattle.std.specs.List.{enumerate_from, range_with_len}
@@ -71,26 +71,14 @@ paths_out_of levels indices = map (λ i. (i, path_out_of levels i)) indices
 abbrev pub levels_in : {X : Type 0} → List (CoveredLayer X) → List (List ℕ × ℕ × List X)
 levels_in layers = map (λ layer. (layer.nodes.items, layer.step, layer.children.items)) (drop 1 layers)
 
--- the parent of each node, where parents have n children, stands at the node's slot
-pub record AreParentSlots (n : ℕ) (nodes parents slots : List ℕ) : Type 0 where
-  pub one_each : length slots ≡ length nodes
-  pub parent : (k : ℕ) → k < length nodes → let slot = slice_index slots k in
-      (slot < length parents) × (slice_index parents slot ≡ slice_index nodes k / n)
-
 -- a layer above another: its nodes ascend, each has as many children, and it has the parent of each node below
 pub record IsLinked {X : Type 0} (below above : CoveredLayer X) : Type 0 where
   pub some : 0 < above.step
   pub full : length above.children.items ≡ above.step * length above.nodes.items
   pub ascending : IsStrictlyIncreasing above.nodes.items
-  pub slots : AreParentSlots above.step below.nodes.items above.nodes.items above.slots.items
+  pub parents : (j : ℕ) → is_among below.nodes.items j ≡ true → is_among above.nodes.items (j / above.step) ≡ true
 
 -- each layer is above the one before it
 abbrev pub AreLinked : {X : Type 0} → List (CoveredLayer X) → Type 0
 AreLinked {X} layers = (l : ℕ) → l + 1 < length layers → (x : CoveredLayer X) →
     IsLinked (slice_index_or layers l x) (slice_index_or layers (l + 1) x)
-
--- the leaf of each query stands at its slot
-pub record HaveLeaves (leaves slots indices : List ℕ) : Type 0 where
-  pub one_each : length slots ≡ length indices
-  pub leaf : (k : ℕ) → k < length indices → let slot = slice_index slots k in
-      (slot < length leaves) × (slice_index leaves slot ≡ slice_index indices k)

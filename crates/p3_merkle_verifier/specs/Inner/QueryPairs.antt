@@ -45,16 +45,16 @@ pub record StandsBetween {T W : Type 0} (queries : RestoredQueries T (List W)) (
 
 -- the leaves of the queries ascend, and each has a query; each query has its leaf among them
 pub record HasLeaves {T W : Type 0} (queries : RestoredQueries T (List W)) : Type 0 where
-  pub ascending : IsAscending queries.leaves.nodes.items
-  pub in_pairs : length queries.leaves.queries.items ≡ length queries.leaves.nodes.items
-  pub inside : (slot : ℕ) → slot < length queries.leaves.nodes.items →
-      slice_index queries.leaves.queries.items slot < length queries.paths.items
-  pub query_of : (slot : ℕ) → slot < length queries.leaves.nodes.items →
-      (query_in queries (slice_index queries.leaves.queries.items slot)).index
-      ≡ slice_index queries.leaves.nodes.items slot
+  pub ascending : IsAscending queries.leaves.indices.items
+  pub in_pairs : length queries.leaves.first_queries.items ≡ length queries.leaves.indices.items
+  pub inside : (slot : ℕ) → slot < length queries.leaves.indices.items →
+      slice_index queries.leaves.first_queries.items slot < length queries.paths.items
+  pub query_of : (slot : ℕ) → slot < length queries.leaves.indices.items →
+      (query_in queries (slice_index queries.leaves.first_queries.items slot)).index
+      ≡ slice_index queries.leaves.indices.items slot
   pub leaf_of : (k : ℕ) → k < length queries.paths.items → (slot : ℕ) ×
-      (slot < length queries.leaves.nodes.items) ×
-      (slice_index queries.leaves.nodes.items slot ≡ (query_in queries k).index)
+      (slot < length queries.leaves.indices.items) ×
+      (slice_index queries.leaves.indices.items slot ≡ (query_in queries k).index)
 
 -- the queries are those of a pruned opening, each with its restored path
 pub record AreQueriesOf {T W : Type 0} (f : Functions T W) (s : Shape) (cap_layer : ℕ) (p : PrunedOpening T W)

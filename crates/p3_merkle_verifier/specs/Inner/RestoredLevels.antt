@@ -4,7 +4,7 @@ use Rattle.std.specs.Prelude.{flat_map, length, map, slice_index, slice_index_or
 use Rattle.std.specs.List.{range_with_len}
 use Rattle.p3_merkle_core.specs.Checks.{params}
 use Rattle.p3_merkle_core.specs.Geometry.{Shape, ancestor, has_rows, layer_exponent, shape_of, step}
-use Rattle.p3_merkle_core.specs.Inner.Children.{levels_in, AreChildren, AreLinked, AreParentSlots, HaveLeaves}
+use Rattle.p3_merkle_core.specs.Inner.Children.{levels_in, AreChildren, AreLinked}
 use Rattle.p3_merkle_core.specs.Inner.Covered.{covered_at}
 use Rattle.p3_merkle_core.specs.Nodes.{Functions}
 use Rattle.p3_merkle_core.specs.Pruning.{PrunedOpening, boundary, pruned_of, restored_node, value_of}
@@ -29,19 +29,21 @@ opened_by restorable = pruned_in restorable.opening
 abbrev pub node_of_query : Shape → List ℕ → ℕ → ℕ → ℕ
 node_of_query s indices l k = ancestor s l (slice_index indices k)
 
--- the covered nodes of layer l, with a query under each, and how many boundary nodes are below the layer
+-- queries under the covered nodes of layer l, one for each
+pub record AreQueriesAt (s : Shape) (indices : List ℕ) (l : ℕ) (queries : List ℕ) : Type 0 where
+  pub queries_are : covered_at s indices l ≡ map (node_of_query s indices l) queries
+  pub among : All (λ k. k < length indices) queries
+
+-- the covered nodes of layer l, and how many boundary nodes are below the layer
 pub record IsCoveredAt {X : Type 0} (s : Shape) (indices : List ℕ) (l : ℕ) (covered : CoveredLayer X) : Type 0 where
   pub nodes_are : covered.nodes.items ≡ covered_at s indices l
-  pub queries_are : covered.nodes.items ≡ map (node_of_query s indices l) covered.queries.items
-  pub among : All (λ k. k < length indices) covered.queries.items
   pub at_exponent : covered.exponent ≡ layer_exponent s l
   pub sent_below : covered.used ≡ length (boundary s indices l)
 
--- the covered leaves, with the slot of each query
+-- the covered leaves
 pub record AreLeaves {X : Type 0} (s : Shape) (indices : List ℕ) (leaves : CoveredLayer X) : Type 0 where
   pub coverage : IsCoveredAt s indices 0 leaves
   pub childless : leaves.step ≡ 0
-  pub slots : HaveLeaves leaves.nodes.items leaves.slots.items indices
 
 -- the layer above layer l, with its nodes' children, where some digests are left of those that were sent
 pub record IsLayerAbove {X : Type 0} (s : Shape) (indices : List ℕ) (l : ℕ) (below : CoveredLayer X)
@@ -51,7 +53,6 @@ pub record IsLayerAbove {X : Type 0} (s : Shape) (indices : List ℕ) (l : ℕ) 
   pub coverage : IsCoveredAt s indices (suc l) above
   pub values : AreChildren above.step above.nodes.items below.nodes.items digests (drop below.used sent)
       above.children.items
-  pub slots : AreParentSlots above.step below.nodes.items above.nodes.items above.slots.items
 
 -- the values of the children of the covered nodes above layer l, parent by parent
 abbrev pub child_values : {T W : Type 0} → Functions T W → Shape → ℕ → PrunedOpening T W → ℕ → List (List W)
@@ -79,7 +80,7 @@ pub record IsLayer {T W : Type 0} (f : Functions T W) (s : Shape) (cap_layer : �
   pub coverage : IsCoveredAt s p.indices l covered
   pub wide : 0 < l → 0 < covered.step
   pub narrow : covered.step ≤ s.arity
-  pub in_groups : 0 < l → length covered.queries.items ≡ length covered.children.items / covered.step
+  pub in_groups : 0 < l → length covered.nodes.items ≡ length covered.children.items / covered.step
   pub family : IsFamilyAt f s cap_layer p l covered
 
 -- the digests that are restored of the covered nodes of layer l

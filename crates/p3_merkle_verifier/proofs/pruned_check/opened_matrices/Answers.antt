@@ -1,5 +1,5 @@
 -- Each turn looks at one more matrix.
-use Rattle.std.proofs.Common.{◌≡◌, ◌∙◌, ℕ, ◌<◌, [], List, All, ap, arith, get_or, length, subst, sym, zip}
+use Rattle.std.proofs.Common.{◌≡◌, ◌∙◌, ℕ, ◌<◌, [], List, All, ap, arith, get_or, length, refl, subst, sym, zip}
 use Rattle.std.specs.List.{flat_map}
 use Rattle.std.specs.declared.vec.Vec.{Vec}
 use Rattle.std.proofs.lemmas.List.{get_or-map, length-map, take_all}
@@ -13,8 +13,8 @@ use Rattle.p3_merkle_core.specs.Geometry.{exponent}
 use Rattle.p3_merkle_verifier.specs.Inner.OpenedMatrices.{row_in}
 use Rattle.p3_merkle_verifier.proofs.OpenedFacts.{have_rows, opened_more, opened_same, row_set_long}
 use Rattle.p3_merkle_verifier.proofs.pruned_check.opened_matrices.Goals as goal
-use Rattle.p3_merkle_verifier.proofs.pruned_check.opened_matrices.Goals.{then-exponent_of-covered+in_ok-push}
-use Rattle.p3_merkle_verifier.proofs.pruned_check.opened_matrices.Goals.{else-exponent_of-covered}
+use Rattle.p3_merkle_verifier.proofs.pruned_check.opened_matrices.Goals.{then-exponent_of-exponent+in_ok-push}
+use Rattle.p3_merkle_verifier.proofs.pruned_check.opened_matrices.Goals.{else-exponent_of-exponent}
 
 pub loop-place-preserved : goal.loop-place-preserved
 loop-place-preserved g c =
@@ -22,11 +22,11 @@ loop-place-preserved g c =
     let dimensions = restorable.steps.now.dimensions.now in
     let heights = heights_of dimensions in
     let sets = row_sets restorable.opening.sets.now in
-    let queries = c.args.covered.now.queries.items in
-    let x = c.args.covered.now.exponent in
+    let queries = c.args.queries.now in
+    let x = c.args.exponent in
     let i = c.loop-place.place in
     let old = c.loop-place.matrices.items in
-    let new = c.if-exponent_of-covered.matrices.items in
+    let new = c.if-exponent_of-exponent.matrices.items in
     let inside : i < length dimensions = c.loop-place-test.true in
     let in_heights : i < length heights = omega (arith, length-map dimensions (λ (m : Dimensions). m.height)) in
     let here : exponent (get_or heights i 0) ≡ c.exponent_of.result =
@@ -38,24 +38,24 @@ loop-place-preserved g c =
     let among : get_or queries j 0 < length sets =
     omega (arith, query, restorable.pairs, length-map restorable.opening.sets.now (λ v. row_lists v.items)) in
     omega (arith, row_set_long dimensions sets (get_or queries j 0) restorable.fit among) in
-    elim c.if-exponent_of-covered.branch [
-      | then-exponent_of-covered+in_ok-push w ↦
+    elim c.if-exponent_of-exponent.branch [
+      | then-exponent_of-exponent+in_ok-push w ↦
           let pushed = ap (λ (v : Vec _ _). v.items) w.matrices-is ∙ w.in_ok-push.ensures.items in
           record {
             long = subst (All (λ m. length m.queries.now ≡ length queries)) (sym pushed)
                 (All-push (λ m. length m.queries.now ≡ length queries) old _ c.loop-place.invariant.long
-                (ap length w.deref.ensures.value));
+                refl);
             rows = λ j h. opened_more x heights (rows j) i (λ m. row_in m j) old new _ in_heights (in_rows j h)
-                (here ∙ w.if-exponent_of-covered.true) pushed
-                (ap (λ (ls : List ℕ). get_or (get_or sets (get_or ls j 0) []) i []) w.deref.ensures.value)
+                (here ∙ w.if-exponent_of-exponent.true) pushed
+                refl
                 (c.loop-place.invariant.rows j h);
           }
-      | else-exponent_of-covered w ↦
+      | else-exponent_of-exponent w ↦
           let same = ap (λ (v : Vec _ _). v.items) w.matrices-is in
           record {
             long = subst (All (λ m. length m.queries.now ≡ length queries)) (sym same) c.loop-place.invariant.long;
             rows = λ j h. opened_same x heights (rows j) i (λ m. row_in m j) new in_heights (in_rows j h)
-                (λ e. w.if-exponent_of-covered.false (sym here ∙ e))
+                (λ e. w.if-exponent_of-exponent.false (sym here ∙ e))
                 (ap (λ ms. flat_map (λ m. row_in m j) ms) same ∙ c.loop-place.invariant.rows j h);
           }
     ]
@@ -66,8 +66,8 @@ returns g c =
     let dimensions = restorable.steps.now.dimensions.now in
     let heights = heights_of dimensions in
     let sets = row_sets restorable.opening.sets.now in
-    let queries = c.args.covered.now.queries.items in
-    let x = c.args.covered.now.exponent in
+    let queries = c.args.queries.now in
+    let x = c.args.exponent in
     let i = c.loop-place.place in
     record {
       heights = c.loop-place.invariant.long;
@@ -87,8 +87,8 @@ invariant_of-push g c =
     let none : Dimensions = record { width = 0; height = 0 } in
     let inside : i < length dimensions = c.loop-place-test.true in
     record {
-      among = subst (All (λ k. k < length sets)) (sym c.deref.ensures.value)
-          (λ k d h. let query : get_or c.args.covered.now.queries.items k d < length restorable.opening.indices.now =
+      among =
+          (λ k d h. let query : get_or c.args.queries.now k d < length restorable.opening.indices.now =
           c.requires k d h in
           omega (arith, query, restorable.pairs, length-map restorable.opening.sets.now (λ v. row_lists v.items)));
       fit = have_rows dimensions sets i (get_or dimensions i none).width restorable.fit inside

@@ -12,11 +12,11 @@ abbrev pub invariant-loop-place : goal.invariant-loop-place
 invariant-loop-place g l =
     let sets = row_sets l.restorable.opening.sets.now in
     let hs = heights_of l.restorable.steps.now.dimensions.now in
-    let queries = l.covered.queries.items in
+    let queries = l.queries in
     record {
       long : All (λ m. length m.queries.now ≡ length queries) l.matrices.items;
       rows :
           (j : ℕ) → j < length queries → rows_over row_in l.matrices.items j
-          ≡ words_of_exponent l.covered.exponent
+          ≡ words_of_exponent l.exponent
           (take l.place (zip hs (slice_index_or sets (slice_index queries j) [])));
     }

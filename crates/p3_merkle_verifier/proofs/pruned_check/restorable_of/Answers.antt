@@ -60,6 +60,7 @@ invariant_of-restorable g c =
       all_sent = sym (length-replicate (length opening.sent.now) []) ∙ r.count;
       agreed = agreed_with s t opening.indices.now rows (replicate (length opening.sent.now) []) [] r.agreed;
       fit = r.rows_fit;
+      distinct = c.in_ok-queried.ensures.1;
     }
 
 pub returns-clause-leaves : goal.returns-clause-leaves
@@ -72,17 +73,10 @@ returns-clause-leaves g c =
     let queried = c.in_ok-queried.ensures.1 in
     record {
       coverage = record {
-        nodes_are = queried.indices
+        nodes_are = c.in_ok-nodes.ensures.items ∙ c.deref.ensures.value ∙ queried.indices
             ∙ sym (distinct_from s indices (all_below (greatest (heights s)) indices asked.highest));
-        queries_are = queried.indices ∙ queried_by_firsts s indices (distinct indices) (distinct_queried indices)
-            ∙ ap (map (node_of_query s indices 0)) (sym queried.first_queries);
-        among = firsts_inside c.in_ok-queried.queried.first_queries.items indices queried.first_queries;
         at_exponent = c.args.steps.now.walked.leaves;
         sent_below = refl;
       };
       childless = refl;
-      slots = record {
-        one_each = queried.slots.one_each;
-        leaf = λ k h. let slot = queried.slots.each k h in rw queried.indices (slot.place, slot.there);
-      };
     }

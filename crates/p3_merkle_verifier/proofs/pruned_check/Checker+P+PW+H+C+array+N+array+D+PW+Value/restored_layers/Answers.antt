@@ -37,4 +37,5 @@ loop-level-preserved g c =
     let layer = layer_rises f s t p restorable.queried restorable.all_sent l c.loop-level-test.true below
     c.in_ok-above.above c.in_ok-digests.digests.items here.coverage c.in_ok-digests.ensures.restored up in
     layers_more f s t p l c.loop-level.layers.items c.push-in-loop-level.new.self.items below c.in_ok-above.above
-    c.loop-level.invariant c.index-below.ensures layer up.slots c.in_ok-push-2.ensures.items
+    c.loop-level.invariant c.index-below.ensures restorable.queried c.loop-level-test.true layer
+    c.in_ok-push-2.ensures.items

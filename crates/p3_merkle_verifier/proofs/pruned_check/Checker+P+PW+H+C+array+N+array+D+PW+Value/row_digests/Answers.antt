@@ -1,5 +1,5 @@
 -- The rows that are hashed are those of the queries.
-use Rattle.std.proofs.Common.{◌≡◌, ◌∙◌, ℕ, ◌+◌, ◌<◌, List, ap, arith, drop, get_or, length, map, rules}
+use Rattle.std.proofs.Common.{◌≡◌, ◌∙◌, ℕ, ◌+◌, ◌<◌, List, ap, arith, drop, get_or, length, map, refl}
 use Rattle.std.specs.List.{range_with_len}
 use Rattle.std.proofs.lemmas.List.{length-map, take_at}
 use Rattle.std.proofs.lemmas.List.FromFn.{length-map-range_with_len}
@@ -42,20 +42,18 @@ of_queries row digest queries n digests same each are =
 pub returns : goal.returns
 returns g c =
     let restorable = c.args.restorable.now in
-    let covered = c.args.covered.now in
     let hash = g.H.CryptographicHasher.hash c.args.self.now.hash.now in
     let row = λ (j : ℕ). hash (rows_over row_in c.deref.result.now (0 + j)) in
-    let digest = query_digest hash covered.exponent (heights_of restorable.steps.now.dimensions.now)
+    let digest = query_digest hash c.args.exponent (heights_of restorable.steps.now.dimensions.now)
     (row_sets restorable.opening.sets.now) in
     let opened = rw (← c.deref.ensures.value) at c.in_ok-matrices.ensures.rows in
-    let n = c.len-height.result in
-    let same : n ≡ length covered.queries.items = search rules in
+    let n = length c.args.queries.now in
     let made = c.in_ok-digests in
     let slots = c.write_batched.new.slots in
     let long : length c.deref_mut.result.now ≡ n = omega (arith, c.deref_mut.ensures.len, made.ensures.len) in
     let size : length slots ≡ made.digests.len = ap length c.in_ok-write_batched.ensures
     ∙ length-map-range_with_len row 0 (length c.deref_mut.result.now) ∙ c.deref_mut.ensures.len in
-    let is = of_queries row digest covered.queries.items n _ same
+    let is = of_queries row digest c.args.queries.now n _ refl
     (λ j h. let at : 0 + j ≡ j = omega arith in rw at (ap hash (opened j h)))
     (take_at slots (drop (length slots) made.digests.items) made.digests.len size
     ∙ c.in_ok-write_batched.ensures ∙ ap (λ k. map row (range_with_len 0 k)) long) in

@@ -20,8 +20,6 @@ layer_above-requires-clause-coverage g c =
     let at = c.loop-level.invariant.coverage in
     record {
       nodes_are = at.nodes_are;
-      queries_are = at.queries_are;
-      among = at.among;
       at_exponent = at.at_exponent;
       sent_below = at.sent_below;
     }
@@ -40,8 +38,6 @@ loop-level-preserved g c =
     c.in_ok-layer.layer c.in_ok-digests.digests.items
     (record {
       nodes_are = at.nodes_are;
-      queries_are = at.queries_are;
-      among = at.among;
       at_exponent = at.at_exponent;
       sent_below = at.sent_below;
     }) c.in_ok-digests.ensures.restored up)

@@ -37,7 +37,7 @@ returns-in-Err-clause-below g c =
 
 pub returns-in-Err-clause-above : goal.returns-in-Err-clause-above
 returns-in-Err-clause-above g c =
-    let queries = c.args.self.now.leaves.queries in
+    let queries = c.args.self.now.leaves.first_queries in
     let high : c.min-above.result ≡ min c.in-Err.slot (length queries.items - 1) =
     omega (arith, c.min-above.ensures, c.len.ensures, queries.ok.0) in
     read_inside c.args.self.now c.args.index c.requires.leaves c.min-above.result c.index-in-Err-2.result.now
@@ -46,7 +46,7 @@ returns-in-Err-clause-above g c =
 
 pub returns-in-Err-clause-between : goal.returns-in-Err-clause-between
 returns-in-Err-clause-between g c =
-    let queries = c.args.self.now.leaves.queries in
+    let queries = c.args.self.now.leaves.first_queries in
     let search = subst (λ (ns : List ℕ). IsBinarySearchResult (λ y. nat_cmp y c.args.index) ns (Err c.in-Err.slot))
     c.deref.ensures.value c.in-Err.ensures.position in
     let high : c.min-above.result ≡ min c.in-Err.slot (length queries.items - 1) =
