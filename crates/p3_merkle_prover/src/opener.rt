@@ -16,12 +16,10 @@ use p3_merkle_core::error::MerkleTreeError;
 use p3_merkle_core::geometry::bits_reduced_of;
 use p3_merkle_core::pruning::{extend_with_others, parent_of, position_of};
 use p3_merkle_core::steps::Steps;
+use p3_merkle_digests::batched::FEW_WORDS;
 use p3_support::matrix::Matrix;
 use p3_support::opening::MerkleCap;
 use std::alloc::{AllocError, Global};
-
-/// So many words of a row, or fewer, are copied one by one.
-const FEW_WORDS: usize = 4;
 
 /// The steps of a tree, from the leaves to the root, as it keeps them.
 pub fn steps_in<F, X, G, M: Matrix<F>, const N: usize>(tree: &Tree<F, X, G, M, N>) -> Steps<'_>
