@@ -7,7 +7,7 @@ use crate::case::Case;
 use crate::fields::Fault;
 use crate::reader::Reader;
 use p3_merkle_core::geometry::{
-    MAX_HEIGHT, bits_reduced_of, check_widths, exponent_of, height_at_of, padded_len,
+    MAX_HEIGHT, bits_reduced_of, check_widths, exponent_of, height_of_exponent, padded_len,
 };
 use p3_merkle_core::steps::{StepUp, steps_of};
 
@@ -25,7 +25,7 @@ pub fn halving(case: &mut Case<'_>) -> Result<(), Fault> {
     if tallest > MAX_HEIGHT {
         return Err(Fault::Unreadable("the height is too great"));
     }
-    let expected = height_at_of(tallest, exponent_of(height));
+    let expected = height_of_exponent(tallest, exponent_of(height));
     case.answer
         .numbers(&[expected, bits_reduced_of(tallest, height)]);
     Ok(())

@@ -97,8 +97,9 @@ fn words_at(messages: &[u32], width: usize, message: usize, column: usize) -> &[
     &words[column..column + 4]
 }
 
-/// Four columns of four messages, from message `first` and from `column` on.
-fn four_columns(messages: &[u32], width: usize, first: usize, column: usize) -> [u32x4; 4]
+/// The columns `column` to `column + 3` of the messages `first` to `first + 3`: vector `i` is column `column + i`, and
+/// its lane `k` is from message `first + k`.
+fn columns_of_four(messages: &[u32], width: usize, first: usize, column: usize) -> [u32x4; 4]
     requires full { (n : ℕ) × (first + 4 ≤ n) × (length messages.now ≡ n * width) }
     requires fits { first + 4 < 2 ^ 64 }
     requires inside { column + 4 ≤ width }
@@ -116,7 +117,8 @@ fn four_columns(messages: &[u32], width: usize, first: usize, column: usize) -> 
     )
 }
 
-/// Four columns of eight messages, from message `first` and from `column` on.
+/// The columns `column` to `column + 3` of the messages `first` to `first + 7`: vector `i` is column `column + i`, and
+/// its lane `k` is from message `first + k`.
 fn columns_of_eight(messages: &[u32], width: usize, first: usize, column: usize) -> [U32x8; 4]
     requires full { (n : ℕ) × (first + 8 ≤ n) × (length messages.now ≡ n * width) }
     requires fits { first + 8 < 2 ^ 64 }
@@ -124,8 +126,8 @@ fn columns_of_eight(messages: &[u32], width: usize, first: usize, column: usize)
     ensures { (k : ℕ) → k < 8 → lane_of lanes_of 0 k result
         ≡ slice_range (message_of width messages.now (first + k)) column (column + 4) }
 {
-    let front = four_columns(messages, width, first, column);
-    let back = four_columns(messages, width, first + 4, column);
+    let front = columns_of_four(messages, width, first, column);
+    let back = columns_of_four(messages, width, first + 4, column);
     [
         U32x8::join(front[0], back[0]),
         U32x8::join(front[1], back[1]),
@@ -261,7 +263,7 @@ fn lemma_groups<P: FoldLane, const N: usize, const D: usize>(groups: &[[[u32; D]
     }
 }
 
-/// As many groups as `P` has lanes, from group `first` on, packed.
+/// Packs the `P::WIDTH` groups from `first` on: lane `k` has group `first + k`.
 fn pack_groups<P: FoldLane, const N: usize, const D: usize>(
     groups: &[[[u32; D]; N]],
     first: usize,

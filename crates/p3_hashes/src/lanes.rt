@@ -88,7 +88,7 @@ impl U32x8 {
     ghost use Rattle.std.specs.Prelude.{◌++◌};
     ghost use Rattle.p3_hashes.specs.Inner.Eights.{lanes_of};
 
-    /// The lanes of one vector of four, then those of another.
+    /// A vector of eight lanes by its halves: those of `front`, then those of `back`.
     pub(crate) fn join(front: u32x4, back: u32x4) -> U32x8
         requires front { length front ≡ 4 }
         requires back { length back ≡ 4 }

@@ -128,7 +128,7 @@ fn padding_word(width: usize, n: usize) -> u32
     (bits % 4_294_967_296) as u32
 }
 
-/// Word `n` of the eight messages and their padding.
+/// Word `n` of each of the eight messages with their padding, one message a lane.
 #[inline(always)]
 fn padded_words(messages: &[u8], width: usize, n: usize) -> u32x8
     requires full { length messages.now ≡ 8 * width }

@@ -59,9 +59,10 @@ pub fn bits_reduced_of(max_height: usize, height: usize) -> usize
     exponent_of(max_height).saturating_sub(exponent_of(height))
 }
 
-/// The one lawful height with this exponent: the tallest height, at most [`MAX_HEIGHT`], halved and rounded up until
-/// it has that exponent; 1 where the tallest height is 0.
-pub fn height_at_of(max_height: usize, exponent: usize) -> usize
+/// The one lawful height of this exponent: `max_height` halved, and each time rounded up, until it has the exponent. It
+/// is `max_height` itself if the exponent is at least that of `max_height`, and 1 if `max_height` is 0. `max_height`
+/// must be at most [`MAX_HEIGHT`].
+pub fn height_of_exponent(max_height: usize, exponent: usize) -> usize
     requires { max_height ≤ height_limit }
     ensures { result ≡ height_at max_height exponent }
 {

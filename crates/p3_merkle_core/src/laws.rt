@@ -30,28 +30,28 @@ use p3_support::opening::BatchOpening;
 use p3_support::packed::PackedValue;
 
 /// `==` on errors is equality of values. Returns the result of `==`.
-pub fn errors(a: &MerkleTreeError, b: &MerkleTreeError) -> bool
+pub fn error_eq(a: &MerkleTreeError, b: &MerkleTreeError) -> bool
     ensures { IsTrue result ↔ (a.now ≡ b.now) }
 {
     *a == *b
 }
 
 /// Equality of errors of pruned proofs is equality of values.
-pub fn pruned_proof_errors(a: &PrunedProofError, b: &PrunedProofError) -> bool
+pub fn pruned_proof_error_eq(a: &PrunedProofError, b: &PrunedProofError) -> bool
     ensures { IsTrue result ↔ (a.now ≡ b.now) }
 {
     *a == *b
 }
 
 /// Equality of errors of parts is equality of values.
-pub fn parts_errors(a: &PartsError, b: &PartsError) -> bool
+pub fn parts_error_eq(a: &PartsError, b: &PartsError) -> bool
     ensures { IsTrue result ↔ (a.now ≡ b.now) }
 {
     *a == *b
 }
 
 /// Equality of openings of one index is equality of rows and siblings.
-pub fn batch_openings<P: PackedValue, PW: PackedValue, const D: usize>(
+pub fn batch_opening_eq<P: PackedValue, PW: PackedValue, const D: usize>(
     a: &BatchOpening<P::Value, Vec<[PW::Value; D]>>,
     b: &BatchOpening<P::Value, Vec<[PW::Value; D]>>,
 ) -> bool
@@ -61,7 +61,7 @@ pub fn batch_openings<P: PackedValue, PW: PackedValue, const D: usize>(
 }
 
 /// Equality of pruned proofs is equality of digests.
-pub fn pruned_merkle_paths<PW: PackedValue, const D: usize>(
+pub fn pruned_merkle_paths_eq<PW: PackedValue, const D: usize>(
     a: &PrunedMerklePaths<PW::Value, D>,
     b: &PrunedMerklePaths<PW::Value, D>,
 ) -> bool
@@ -71,7 +71,7 @@ pub fn pruned_merkle_paths<PW: PackedValue, const D: usize>(
 }
 
 /// Equality of pruned openings is equality of row sets and digests.
-pub fn pruned_batch_openings<P: PackedValue, PW: PackedValue, const D: usize>(
+pub fn pruned_batch_opening_eq<P: PackedValue, PW: PackedValue, const D: usize>(
     a: &PrunedBatchOpening<P::Value, PW::Value, D>,
     b: &PrunedBatchOpening<P::Value, PW::Value, D>,
 ) -> bool
@@ -81,7 +81,7 @@ pub fn pruned_batch_openings<P: PackedValue, PW: PackedValue, const D: usize>(
 }
 
 /// Equality of paths is equality of leaves and siblings.
-pub fn merkle_auth_paths<PW: PackedValue, const D: usize>(
+pub fn merkle_auth_path_eq<PW: PackedValue, const D: usize>(
     a: &MerkleAuthPath<PW::Value, D>,
     b: &MerkleAuthPath<PW::Value, D>,
 ) -> bool
@@ -90,28 +90,29 @@ pub fn merkle_auth_paths<PW: PackedValue, const D: usize>(
     *a == *b
 }
 
-/// Equality of places is equality of values.
-pub fn places(a: &Place, b: &Place) -> bool
+/// `==` holds of places exactly if both are the same value.
+pub fn place_eq(a: &Place, b: &Place) -> bool
     ensures { IsTrue result ↔ (a.now ≡ b.now) }
 {
     *a == *b
 }
 
-/// Equality of input pairs is equality of kinds, places and inputs, where that of their members is equality of values.
-fn input_pairs<T: Eq, X: Eq>(a: &InputPair<T, X>, b: &InputPair<T, X>) -> bool
+/// If `==` on `T` and on `X` is equality of values, `==` holds of input pairs exactly if both are of one variant, with
+/// the same place and the same inputs.
+fn input_pair_eq<T: Eq, X: Eq>(a: &InputPair<T, X>, b: &InputPair<T, X>) -> bool
     ensures { IsEquality T.eq → IsEquality X.eq → IsTrue result ↔ IsSamePair a.now b.now }
 {
     *a == *b
 }
 
 /// Equality of collisions is equality of kinds, places and inputs.
-pub fn collisions<P: PackedValue, PW: PackedValue, const D: usize>(
+pub fn collision_eq<P: PackedValue, PW: PackedValue, const D: usize>(
     a: &Collision<P::Value, PW::Value, D>,
     b: &Collision<P::Value, PW::Value, D>,
 ) -> bool
     ensures { IsTrue result ↔ IsSamePair a.now b.now }
 {
-    input_pairs(a, b)
+    input_pair_eq(a, b)
 }
 
 /// A number passes the test of arities exactly if it is an arity: a power of two from 2 to 2^62.
@@ -194,15 +195,16 @@ pub fn answers<T, W>()
     ensures mismatch { OkOrCapMismatch T W }
 {}
 
-/// Two accepted openings of one cap that differ at a shared place have two different inputs with one digest at the last
-/// such place. The result that the definitions give for two openings, single or pruned, has all properties of an
-/// extraction.
+/// What two accepted openings of one cap fix, by clause:
 ///
-/// Two that agree at each shared place have the same words in each row of an authenticated matrix that both open. Two
-/// of one index agree exactly if they have the same siblings, and the same row of each authenticated matrix.
-///
-/// Each input of a check that consists of digests has as many of them as the arity, and the last one's digest is the
-/// one that the check reaches.
+/// - `collision`: if they differ at a shared place, the last such place has two different inputs with one digest;
+/// - `single`, `pruned`: the result that the definitions give for two openings has all properties of an extraction;
+/// - `rows`: if they agree at each shared place, every row of an authenticated matrix that both open has the same
+/// words;
+/// - `one_index`: two of one index agree exactly if they have the same siblings, and the same row of each authenticated
+///   matrix;
+/// - `full`: each group that a check compresses has as many digests as the arity;
+/// - `last`: the digest of a check's last input is the one that is compared with the cap.
 pub fn extraction<T, W>()
     ensures collision { LastDifferenceCollides T W }
     ensures single { AnswerIsExtraction T W }

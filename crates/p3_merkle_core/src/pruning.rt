@@ -238,7 +238,7 @@ fn check_layer<T: Eq>(
     Ok(())
 }
 
-/// Fills a list with the positions of the matrices of this exponent, in input order, in place of what it has.
+/// Replaces the contents of `matrices` by the positions, in input order, of the matrices of this exponent.
 fn list_matrices(
     matrices: &mut Vec<usize>,
     dimensions: &[Dimensions],

@@ -20,7 +20,7 @@ ghost use Rattle.p3_merkle_core.specs.Pruning.{pruned_len};
 use crate::cap::CapRule;
 use crate::error::MerkleTreeError;
 use crate::geometry::{
-    MAX_HEIGHT, bits_reduced_of, exponent_of, extremes_of, first_too_large_of, height_at_of,
+    MAX_HEIGHT, bits_reduced_of, exponent_of, extremes_of, first_too_large_of, height_of_exponent,
     padded_len,
 };
 use crate::levels::Level;
@@ -230,7 +230,7 @@ pub fn check_heights(dimensions: &[Dimensions]) -> Result<(), MerkleTreeError>
     for matrix in dimensions {
         let height = matrix.height;
         if height != lawful_height {
-            let expected_height = height_at_of(max_height, exponent_of(height));
+            let expected_height = height_of_exponent(max_height, exponent_of(height));
             if height != expected_height {
                 return Err(MerkleTreeError::IncompatibleHeights {
                     height,
@@ -407,7 +407,7 @@ impl<'a> Steps<'a> {
             exponent: up.exponent,
             raw_len,
             layer_len: padded_len(raw_len, arity),
-            height: height_at_of(self.max_height, up.exponent),
+            height: height_of_exponent(self.max_height, up.exponent),
             has_rows: up.has_rows,
         }
     }

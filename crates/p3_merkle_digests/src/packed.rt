@@ -17,9 +17,9 @@ use p3_support::packed::{PackedValue, lemma_row, unpack_at};
 use p3_support::rows::packed_rows_of;
 use std::alloc::AllocError;
 
-/// How many blocks of `PW::WIDTH` slots are filled lane by lane, of `count` slots. There are none if there is one lane,
-/// or if a packed group of `N` children would have 2^63 bytes or more, the limit for a value. `N` must be above 0.
-pub fn packed_blocks<PW: PackedValue, const N: usize, const D: usize>(count: usize) -> usize
+/// Of `count` slots, how many whole blocks of `PW::WIDTH` can be filled lane by lane. It is 0 if there is only one
+/// lane, or if a packed group of `N` digests would reach 2^63 bytes, more than a value can have. `N` must be above 0.
+pub fn packed_block_count<PW: PackedValue, const N: usize, const D: usize>(count: usize) -> usize
     requires { 0 < N }
     ensures count { result * PW.WIDTH ≤ count }
     ensures whole { 1 < PW.WIDTH → FitsInMemory (ArrayAt (ArrayAt PW.row D.row) N.row) →
@@ -73,7 +73,7 @@ impl<
         ensures filled { let rows = rows_over M.row_of self.now.matrices.now in
             IsFilled (λ j. H.hash self.now.hash.now (rows (first + j))) result (length slots.old) slots.new }
     {
-        let blocks = packed_blocks::<PW, 1, D>(slots.len());
+        let blocks = packed_block_count::<PW, 1, D>(slots.len());
         for block in 0..blocks {
             let start = block * PW::WIDTH;
             let digests = self.packed_digest(first + start);
@@ -112,8 +112,9 @@ impl<
     }
 }
 
-/// Lane `k` is child `n` of node `first + k` over a layer, where each node has `step` children.
-// A call passes the child through memory, in other parts than it is read in.
+/// Child `n` of each of the `PW::WIDTH` nodes from `first` on, packed: lane `k` is that of node `first + k`. `below` is
+/// the layer of the children, `step` of each node.
+// Inlined: a call would store the child in memory in parts of one size, and read it in parts of another, which is slow.
 #[inline(always)]
 #[tactic(auto, using(crate::proofs::LaneFacts::child_below, crate::proofs::LaneFacts::node_below))]
 fn packed_child<PW: PackedValue, const D: usize>(

@@ -174,13 +174,13 @@ impl<
     ghost use Rattle.rand_core.specs.Stream.{fill_bytes};
     ghost use Rattle.p3_merkle_hiding.specs.HidingSchemes.{generator_of, plain_of};
 
-    /// A scheme that accepts the same openings, with a generator of its own. Its seed is drawn from this scheme's
-    /// generator, which goes on after the seed's bytes. That the two draw different salts is not proved. There is no
-    /// `clone`, since a clone would draw the same salts again.
+    /// A scheme that accepts the same openings, with a generator of its own. The new generator is seeded with the next
+    /// bytes of this scheme's generator, which then continues after them. That the two draw different salts is not
+    /// proved. There is no `clone`, since a clone would draw the same salts again.
     ///
     /// # Errors
     ///
-    /// None: it does not allocate.
+    /// None today: it does not allocate. The `Result` leaves room for a scheme that does.
     pub fn fork(&mut self) -> Result<Self, MerkleTreeError>
         ensures made { IsOk result }
         ensures scheme { IfOk result (λ scheme. plain_of scheme ≡ plain_of self.old) }

@@ -26,8 +26,9 @@ pub struct Salted<Rows> {
 ///
 /// # Errors
 ///
-/// The error of [`check_salts`], else that of [`check_widening`]; `OutOfMemory` may come at any time. How many salts
-/// each row has is not checked here.
+/// `WrongBatchSize` or `WrongWidth` as [`check_widths`] answers for the rows; else `WrongBatchSize` if there are not as
+/// many lists of salts as rows; else `TooLarge` for the first matrix that has no room for the salts. `OutOfMemory` may
+/// come at any time. How many salts each row has is not checked here.
 pub fn salted_rows<T: Copy>(
     alloc: Global,
     dimensions: &[Dimensions],
@@ -41,7 +42,7 @@ pub fn salted_rows<T: Copy>(
     ensures rows { IfOk result
         (λ s. row_lists s.rows.items ≡ salted_rows (row_lists rows.now) (row_lists salts.now)) }
 {
-    check_salts(dimensions, rows, salts)?;
+    check_rows_and_salts(dimensions, rows, salts)?;
     Ok(Salted {
         dimensions: widened_dimensions(alloc, dimensions, salt_elems)?,
         rows: joined_rows(alloc, rows, salts)?,
@@ -53,9 +54,9 @@ pub fn salted_rows<T: Copy>(
 ///
 /// # Errors
 ///
-/// `WrongBatchSize` if the number of salt sets is not that of the row sets; else the error of [`check_salts`] for the
-/// first row set that it refuses; else that of [`check_widening`]. `OutOfMemory` may come at any time. How many salts
-/// each row has is not checked here.
+/// `WrongBatchSize` if the number of salt sets is not that of the row sets; else the first error that
+/// [`salted_rows`] gives for a row set, in order, before it looks at the room for the salts; else `TooLarge` for the
+/// first matrix that has none. `OutOfMemory` may come at any time. How many salts each row has is not checked here.
 pub fn salted_sets<T: Copy>(
     alloc: Global,
     dimensions: &[Dimensions],
@@ -75,7 +76,7 @@ pub fn salted_sets<T: Copy>(
         });
     }
     for (rows, salt) in sets.iter().zip(salts) {
-        check_salts(dimensions, rows, salt)?;
+        check_rows_and_salts(dimensions, rows, salt)?;
     }
     Ok(Salted {
         dimensions: widened_dimensions(alloc, dimensions, salt_elems)?,
@@ -83,9 +84,10 @@ pub fn salted_sets<T: Copy>(
     })
 }
 
-/// Checks that there is one row for each matrix, of the matrix's width without salts, and one list of salts for each
-/// row.
-fn check_salts<T>(
+/// Checks that there is one row for each matrix, of the matrix's width without salts, and then that there is one list
+/// of salts for each row. `WrongBatchSize` or `WrongWidth` as [`check_widths`] answers for the rows; else
+/// `WrongBatchSize` if there are not as many lists of salts as rows.
+fn check_rows_and_salts<T>(
     dimensions: &[Dimensions],
     rows: &[Vec<T>],
     salts: &[Vec<T>],

@@ -13,7 +13,9 @@ ghost use Rattle.p3_merkle_digests.specs.Inner.Slots.{IsFilled};
 
 use p3_merkle_core::levels::Level;
 use p3_merkle_digests::batched::{LayerRows, compress_children, inject_row_digests};
-use p3_merkle_digests::packed::{compress_children_packed, compress_pairs_packed, packed_blocks};
+use p3_merkle_digests::packed::{
+    compress_children_packed, compress_pairs_packed, packed_block_count,
+};
 use p3_support::compress::PseudoCompressionFunction;
 use p3_support::hasher::CryptographicHasher;
 use p3_support::matrix::Matrix;
@@ -137,7 +139,7 @@ impl<
         if self.level.has_rows {
             count = count.min(self.rows.height);
         }
-        let blocks = packed_blocks::<PW, N, D>(count);
+        let blocks = packed_block_count::<PW, N, D>(count);
         for block in 0..blocks {
             let first = block * PW::WIDTH;
             let digests = self.packed_digest(first);
@@ -177,7 +179,8 @@ impl<
         inject_row_digests::<PW, C, N, D>(self.compress, groups, digests, slots)
     }
 
-    /// Writes all slots of the layer, which must have default digests: the slots past the nodes keep them.
+    /// Writes the layer's nodes into `slots`. All slots must have default digests before; those past the nodes keep
+    /// them.
     pub(crate) fn write(
         &self,
         buffers: &mut Buffers<P::Value, [PW::Value; D], [[PW::Value; D]; N]>,

@@ -64,7 +64,7 @@ pub(crate) type TreeBuilder<
     const D: usize,
 > = TreeOver<'a, P, PW, H, C, M, [[PW::Value; D]; N], N>;
 
-/// Fills a list with the matrices of a height, in input order, in place of what it has.
+/// Replaces the contents of `picked` by the matrices of a height, in input order.
 fn pick_matrices<'a, T, M: Matrix<T>>(
     picked: &mut Vec<&'a M>,
     matrices: &'a [M],

@@ -168,8 +168,8 @@ fn differing_above<T: Copy + Eq + Drop, W: Copy + Eq, const N: usize, const D: u
     }
 }
 
-/// The last place of a level at which two checks differ, if they share the node above the level. `rows` are the rows of
-/// both openings at the layer above.
+/// The inputs at the last place of a level at which two checks differ. `None` if they agree there, or don't share the
+/// node above the level. `rows` are the rows of both openings at the layer above.
 fn level_difference<T: Copy + Eq + Drop, W: Copy + Eq, const N: usize, const D: usize>(
     alloc: Global,
     rows: &RowPair<'_, T>,

@@ -128,13 +128,13 @@ pub trait Mmcs<T, M: Matrix<T>> {
         ensures { result ≡ greatest (map M.height_of (matrices_in prover_data.now)) };
 
     /// Verifies an opening of an index against a commitment. `dimensions` are those of the matrices, in input order;
-    /// they must come from the verifier, never from the proof. An accepted opening has one row for each of them, of
-    /// that width.
+    /// they must come from the verifier, never from the proof. An accepted opening has one row for each matrix, as long
+    /// as the matrix is wide.
     ///
     /// # Errors
     ///
-    /// The scheme's refusal of the opening, where it has one; an accepted opening has none. That memory ran out may
-    /// come at any time.
+    /// The scheme's reason for refusing the opening. An accepted opening fails only if memory runs out, which may be
+    /// reported at any time.
     fn verify_batch(
         &self,
         alloc: Global,

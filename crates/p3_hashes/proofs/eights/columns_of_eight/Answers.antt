@@ -9,15 +9,15 @@ returns c = λ k below.
     let words = λ (m : ℕ). slice_range (message c.args.width c.args.messages.now m) c.args.column (c.args.column + 4) in
     let row = λ (j : ℕ). words (c.args.first + j) in
     let later = λ (j : ℕ). words (c.args.first + 4 + j) in
-    let front = c.four_columns-front.result in
-    let back = c.four_columns-back.result in
-    let long = λ (j : ℕ). c.four_columns-front.ensures.long j in
-    let too = λ (j : ℕ). c.four_columns-back.ensures.long j in
+    let front = c.columns_of_four-front.result in
+    let back = c.columns_of_four-back.result in
+    let long = λ (j : ℕ). c.columns_of_four-front.ensures.long j in
+    let too = λ (j : ℕ). c.columns_of_four-back.ensures.long j in
     let joined : (i : ℕ) → get_or front i [] ++ get_or back i [] ≡ get_or (turned (row 0) (row 1) (row 2) (row 3)) i []
     ++ get_or (turned (later 0) (later 1) (later 2) (later 3)) i [] =
-    λ i. ap (λ (l : List (List ℕ)). get_or l i [] ++ get_or back i []) c.four_columns-front.ensures.columns
+    λ i. ap (λ (l : List (List ℕ)). get_or l i [] ++ get_or back i []) c.columns_of_four-front.ensures.columns
     ∙ ap (λ (l : List (List ℕ)). get_or (turned (row 0) (row 1) (row 2) (row 3)) i [] ++ get_or l i [])
-    c.four_columns-back.ensures.columns in
+    c.columns_of_four-back.ensures.columns in
     let same : (j : ℕ) → later j ≡ row (4 + j) = λ j. let place : c.args.first + 4 + j
     ≡ c.args.first + (4 + j) = omega arith in ap words place in
     turned_lanes (row 0) (row 1) (row 2) (row 3) (later 0) (later 1) (later 2) (later 3) _ _ _ _ (long 0 (omega arith))

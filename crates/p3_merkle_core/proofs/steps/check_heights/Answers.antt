@@ -13,8 +13,8 @@ returns-in-Some-clause-lawful c = (
       cc,
 )
 
-pub height_at_of-expected_height-requires : goal.height_at_of-expected_height-requires
-height_at_of-expected_height-requires c =
+pub height_of_exponent-expected_height-requires : goal.height_of_exponent-expected_height-requires
+height_of_exponent-expected_height-requires c =
     omega (
       arith,
       c.extremes_of-max_height.ensures.greatest,
@@ -26,7 +26,7 @@ returns-then-height-expected_height-clause-lawful c = (
   λ e. cc,
   λ w.
       let own = expected_there c.args.dimensions.now c.loop-matrix.matrix-index c.loop-matrix-test.true w in
-      let expected = c.height_at_of-expected_height.ensures in
+      let expected = c.height_of_exponent-expected_height.ensures in
       let exponent = c.exponent_of.ensures in
       let max = c.extremes_of-max_height.ensures.greatest in
       absurd (c.if-height-expected_height.true cc),

@@ -21,21 +21,21 @@ loop-rows-preserved g c =
     let ds = c.args.dimensions.now in
     let turn = Zip-more it new c.next.result (rows, salt) c.in-Some.is c.next.ensures.steps in
     let pass : salt_refusal ds (row_lists rows.now.items) (row_lists salt.now.items) ≡ None =
-    rw (c.deref.ensures.value, c.deref-in-loop-rows.ensures.value) at c.in_ok-check_salts.ensures in
+    rw (c.deref.ensures.value, c.deref-in-loop-rows.ensures.value) at c.in_ok-check_rows_and_salts.ensures in
     set_passes ds rows.now salt.now (iter_rest (zip_first new)) (iter_rest (zip_first it)) (iter_rest (zip_second new))
     (iter_rest (zip_second it)) _ turn.0 turn.1 c.loop-rows.invariant pass
 
-pub returns-in_err-check_salts : goal.returns-in_err-check_salts
-returns-in_err-check_salts g c =
+pub returns-in_err-check_rows_and_salts : goal.returns-in_err-check_rows_and_salts
+returns-in_err-check_rows_and_salts g c =
     let it = c.loop-rows.rows-iterator in
     let new = c.next.new.self in
     let rows = c.in-Some.rows in
     let salt = c.in-Some.salt in
     let ds = c.args.dimensions.now in
-    let e = c.in_err-check_salts.field-0.0 in
+    let e = c.in_err-check_rows_and_salts.field-0.0 in
     let turn = Zip-more it new c.next.result (rows, salt) c.in-Some.is c.next.ensures.steps in
     let refused : salt_refusal ds (row_lists rows.now.items) (row_lists salt.now.items) ≡ Some e =
-    rw (c.deref.ensures.value, c.deref-in-loop-rows.ensures.value) at c.in_err-check_salts.ensures in
+    rw (c.deref.ensures.value, c.deref-in-loop-rows.ensures.value) at c.in_err-check_rows_and_salts.ensures in
     let first = sets_decide ds (row_sets c.args.sets.now) (row_sets c.args.salts.now) (Some e)
     (simp length-map c.if-salts-sets.false) (set_refused ds rows.now salt.now (iter_rest (zip_first new))
     (iter_rest (zip_first it)) (iter_rest (zip_second new)) (iter_rest (zip_second it)) _ turn.0 turn.1

@@ -53,8 +53,8 @@ padded_len-requires-clause-fits c =
     let k = next_small c.up-up.result.step g c.requires c.up-up.ensures.step grouped in
     omega (arith, padded_le (g / c.up-up.result.step) self.arity (omega arith), k)
 
-pub height_at_of-requires : goal.height_at_of-requires
-height_at_of-requires c =
+pub height_of_exponent-requires : goal.height_of_exponent-requires
+height_of_exponent-requires c =
     let self = c.args.self.now in
     omega (arith, low (shape_of self.arity self.dimensions.now) c.requires.lawful, self.walked.tallest)
 
@@ -81,6 +81,6 @@ returns-clause-level c =
             | else-self-below-via-else-self-below w ↦ rw w.if-self-below.false refl
           ])
     ]) in
-    level_is c.up-up.result.step c.up-up.result.exponent g c.padded_len.result c.height_at_of.result
+    level_is c.up-up.result.step c.up-up.result.exponent g c.padded_len.result c.height_of_exponent.result
     c.up-up.result.has_rows c.requires c.up-up.ensures.step c.up-up.ensures.exponent grouped c.padded_len.ensures
-    (c.height_at_of.ensures ∙ ap (λ m. height_at m c.up-up.result.exponent) self.walked.tallest) c.up-up.ensures.rows
+    (c.height_of_exponent.ensures ∙ ap (λ m. height_at m c.up-up.result.exponent) self.walked.tallest) c.up-up.ensures.rows

@@ -10,21 +10,21 @@ loop-block-init g c = record { long = refl; filled = λ j none. absurd (omega (a
 
 pub overflow_mul-start : goal.overflow_mul-start
 overflow_mul-start g c =
-    let end = group_end c.loop-block.block g.PW.PackedValue.WIDTH c.packed_blocks-blocks.result
-    (length c.args.slots.now) c.loop-block-test.true c.packed_blocks-blocks.ensures.count in
+    let end = group_end c.loop-block.block g.PW.PackedValue.WIDTH c.packed_block_count-blocks.result
+    (length c.args.slots.now) c.loop-block-test.true c.packed_block_count-blocks.ensures.count in
     rw c.WIDTH.ensures (omega (arith, end))
 
 pub overflow_add-first : goal.overflow_add-first
 overflow_add-first g c =
-    let end = group_end c.loop-block.block g.PW.PackedValue.WIDTH c.packed_blocks-blocks.result
-    (length c.args.slots.now) c.loop-block-test.true c.packed_blocks-blocks.ensures.count in
+    let end = group_end c.loop-block.block g.PW.PackedValue.WIDTH c.packed_block_count-blocks.result
+    (length c.args.slots.now) c.loop-block-test.true c.packed_block_count-blocks.ensures.count in
     rw c.WIDTH.ensures (omega (arith, end, c.requires.rows))
 
 pub packed_digest-digests-requires : goal.packed_digest-digests-requires
 packed_digest-digests-requires g c =
-    let end = group_end c.loop-block.block g.PW.PackedValue.WIDTH c.packed_blocks-blocks.result
-    (length c.args.slots.now) c.loop-block-test.true c.packed_blocks-blocks.ensures.count in
-    let wide = c.packed_blocks-blocks.ensures.lanes (omega (arith, c.loop-block-test.true)) in
+    let end = group_end c.loop-block.block g.PW.PackedValue.WIDTH c.packed_block_count-blocks.result
+    (length c.args.slots.now) c.loop-block-test.true c.packed_block_count-blocks.ensures.count in
+    let wide = c.packed_block_count-blocks.ensures.lanes (omega (arith, c.loop-block-test.true)) in
     let fits : c.args.first + c.loop-block.block * c.WIDTH.result + g.P.PackedValue.WIDTH ≤ c.args.self.now.height =
     rw (c.WIDTH.ensures, c.requires.lanes) (omega (arith, end, wide, c.requires.rows)) in
     search (rules, fits)
@@ -56,6 +56,6 @@ loop-block-preserved g c =
 
 pub overflow_mul-result : goal.overflow_mul-result
 overflow_mul-result g c =
-    let fits : c.packed_blocks-blocks.result * g.PW.PackedValue.WIDTH ≤ length c.args.slots.now =
-    c.packed_blocks-blocks.ensures.count in
+    let fits : c.packed_block_count-blocks.result * g.PW.PackedValue.WIDTH ≤ length c.args.slots.now =
+    c.packed_block_count-blocks.ensures.count in
     rw c.WIDTH-2.ensures (omega (arith, fits))

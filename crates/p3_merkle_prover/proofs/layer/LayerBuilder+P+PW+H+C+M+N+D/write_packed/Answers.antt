@@ -13,7 +13,7 @@ ends g w n m fits v is below = rw is (group_end g w n m below fits)
 pub loop-block-init : goal.loop-block-init
 loop-block-init g c =
     let w = g.PW.PackedValue.WIDTH in
-    let n = c.packed_blocks-blocks.result in
+    let n = c.packed_block_count-blocks.result in
     let builder = c.args.self.now in
     let nodes : c.if-self.count ≤ builder.level.raw_len =
     elim c.if-self.branch [ then-self w ↦ omega arith | else-self w ↦ omega arith ] in
@@ -23,10 +23,10 @@ loop-block-init g c =
     λ has. elim c.if-self.branch [ then-self w ↦ omega arith | else-self w ↦ absurd (cc) ] in
     record {
       written = record { long = refl; filled = λ j none. absurd (omega (arith, none)) };
-      in_nodes = ends 0 w n builder.level.raw_len (omega (arith, nodes, c.packed_blocks-blocks.ensures.count));
+      in_nodes = ends 0 w n builder.level.raw_len (omega (arith, nodes, c.packed_block_count-blocks.ensures.count));
       in_rows = λ v is below has.
-          ends 0 w n builder.rows.height (omega (arith, rows has, c.packed_blocks-blocks.ensures.count)) v is below;
-      in_slots = ends 0 w n (length c.args.slots.now) (omega (arith, slots, c.packed_blocks-blocks.ensures.count));
+          ends 0 w n builder.rows.height (omega (arith, rows has, c.packed_block_count-blocks.ensures.count)) v is below;
+      in_slots = ends 0 w n (length c.args.slots.now) (omega (arith, slots, c.packed_block_count-blocks.ensures.count));
     }
 
 pub overflow_mul-first : goal.overflow_mul-first
@@ -48,7 +48,7 @@ loop-block-preserved g c =
     ≡ slice_index_or c.loop-block.slots j [] = rw c.WIDTH.ensures at c.unpack_at.ensures.before in
     let built : (k : ℕ) → k < w → seen k ≡ slot (block * w + k) =
     rw c.WIDTH.ensures at c.packed_digest-digests.ensures in
-    let n = c.packed_blocks-blocks.result in
+    let n = c.packed_block_count-blocks.result in
     let nodes : c.if-self.count ≤ builder.level.raw_len =
     elim c.if-self.branch [ then-self w ↦ omega arith | else-self w ↦ omega arith ] in
     let slots : c.if-self.count ≤ length c.args.slots.now =
@@ -63,10 +63,10 @@ loop-block-preserved g c =
             c.loop-block.invariant.written.filled;
       };
       in_nodes = ends (block + 1) w n builder.level.raw_len
-          (omega (arith, nodes, c.packed_blocks-blocks.ensures.count));
+          (omega (arith, nodes, c.packed_block_count-blocks.ensures.count));
       in_rows = λ v is below has.
-          ends (block + 1) w n builder.rows.height (omega (arith, rows has, c.packed_blocks-blocks.ensures.count))
+          ends (block + 1) w n builder.rows.height (omega (arith, rows has, c.packed_block_count-blocks.ensures.count))
           v is below;
       in_slots = ends (block + 1) w n (length c.unpack_at.new.rows)
-          (rw long (omega (arith, slots, c.packed_blocks-blocks.ensures.count)));
+          (rw long (omega (arith, slots, c.packed_block_count-blocks.ensures.count)));
     }

@@ -2,7 +2,7 @@
 use Rattle.std.proofs.Common.{arith, ℕ, ◌≤◌, ◌<◌, ◌*◌}
 use Rattle.std.proofs.Math.Nat.{mul-le-mul_right}
 use Rattle.p3_merkle_digests.proofs.LaneFacts.{array_small}
-use Rattle.p3_merkle_digests.proofs.packed.packed_blocks.Goals as goal
+use Rattle.p3_merkle_digests.proofs.packed.packed_block_count.Goals as goal
 
 -- one of some rows is no larger than all
 one_of : (n row m : ℕ) → 0 < n → n * row < m → row < m

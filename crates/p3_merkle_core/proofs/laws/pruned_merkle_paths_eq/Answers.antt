@@ -1,6 +1,6 @@
 -- The derived test, which is that of the digests.
 use Rattle.std.specs.Cmp.Lexicographic.{pointwise_decides}
-use Rattle.p3_merkle_core.proofs.laws.pruned_merkle_paths.Goals as goal
+use Rattle.p3_merkle_core.proofs.laws.pruned_merkle_paths_eq.Goals as goal
 
 pub returns : goal.returns
 returns g c =

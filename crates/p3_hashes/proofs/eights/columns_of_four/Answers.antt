@@ -2,7 +2,7 @@
 use Rattle.std.proofs.Common.{◌≡◌, ℕ, ◌+◌, ◌∙◌, ap, sym, length, slice_range, add-zero}
 use Rattle.p3_support.specs.Lists.{message}
 use Rattle.p3_hashes.proofs.Turns.{turned_same, four_cases}
-use Rattle.p3_hashes.proofs.eights.four_columns.Goals as goal
+use Rattle.p3_hashes.proofs.eights.columns_of_four.Goals as goal
 
 pub returns-clause-columns : goal.returns-clause-columns
 returns-clause-columns c =

@@ -8,8 +8,8 @@ use Rattle.p3_merkle_core.specs.declared.collision.InputPair.{InputPair}
 use Rattle.p3_merkle_core.specs.declared.collision.InputPair.TheVariants.{Words, Digests}
 use Rattle.p3_merkle_core.specs.contracts.collision.InputPairPartialEq.TheImpl.{ghosts}
 use Rattle.p3_merkle_core.specs.contracts.collision.PlacePartialEq.TheImpl.{ghosts as place_ghosts}
-use Rattle.p3_merkle_core.proofs.laws.input_pairs.Given as given
-use Rattle.p3_merkle_core.proofs.laws.input_pairs.Goals as goal
+use Rattle.p3_merkle_core.proofs.laws.input_pair_eq.Given as given
+use Rattle.p3_merkle_core.proofs.laws.input_pair_eq.Goals as goal
 
 same_place : (p q : Place) → IsTrue (place_ghosts.eq p q) ↔ (p ≡ q)
 same_place p q = search rules
