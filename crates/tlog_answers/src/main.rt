@@ -10,7 +10,7 @@ use std::io;
 use std::io::{BufWriter, Write};
 use tlog::collision::{consistency_proof, inclusion_proof, root};
 
-/// The entries of a log, as far as they have been asked for.
+/// The entries of a log, up to the greatest size that a question had.
 #[derive(Drop)]
 struct Log {
     entries: Vec<Vec<u8>>,
@@ -26,7 +26,7 @@ impl Log {
         Ok(())
     }
 
-    /// The digests that a question asks for.
+    /// The digests that answer a question.
     fn answer(
         &self,
         alloc: Global,
