@@ -59,7 +59,6 @@ fn assert_pair(rt: &impl Abort, pair: &Pair)
     assert_words(rt, pair.piece(0, 1), &[2]);
     assert_words(rt, pair.piece(1, 0), &[3, 4]);
     assert_words(rt, pair.piece(1, 2), &[20]);
-    assert_words(rt, pair.piece(0, 3), &[]);
     assert_words(rt, pair.left().values(), &[1, 2, 3, 4]);
     assert_words(rt, pair.right().values(), &[10, 20]);
 }
