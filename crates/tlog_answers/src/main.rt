@@ -1,6 +1,6 @@
-//! Answers questions about logs, one a line of standard input: `SIZE root`, `SIZE inclusion INDEX` or
-//! `SIZE consistency OLD-SIZE`. The entries are the decimal numbers from 1 to SIZE. An answer has the digests of the root
-//! or of the proof, a line each, and a blank line. A line that is no question ends the program.
+//! Answers questions about logs, one a line of standard input: `SIZE root`, `SIZE inclusion INDEX` or `SIZE consistency
+//! OLD-SIZE`. The entries are the decimal numbers from 1 to SIZE. An answer has the digests of the root or of the
+//! proof, a line each, and a blank line. A line that is no question ends the program.
 #![tactic(auto)]
 
 use anyhow::{Result, bail};

@@ -90,8 +90,8 @@ pub fn proof_collision<H: LogHash<D>, const D: usize>(
     Ok(None)
 }
 
-/// A collision, if two proofs of consistency between the same sizes are accepted to one new root, and their old roots or
-/// their digests differ; else `None`.
+/// A collision, if two proofs of consistency between the same sizes are accepted to one new root, and their old roots
+/// or their digests differ; else `None`.
 ///
 /// # Errors
 ///

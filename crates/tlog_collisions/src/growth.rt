@@ -163,8 +163,8 @@ pub fn compose<H: LogHash<D>, const D: usize>(
     Ok(proof)
 }
 
-/// A collision, if proofs of inclusion of one index are accepted under an old and a new root, and a proof of consistency
-/// from the one to the other, and the leaf hashes differ; else `None`. It needs no entries.
+/// A collision, if proofs of inclusion of one index are accepted under an old and a new root, and a proof of
+/// consistency from the one to the other, and the leaf hashes differ; else `None`. It needs no entries.
 ///
 /// # Errors
 ///

@@ -1,4 +1,5 @@
-//! The tree of eight entries that the tests of certificate transparency have. Of each digest stand the first four bytes.
+//! The tree of eight entries that the tests of certificate transparency have. Of each digest stand the first four
+//! bytes.
 
 use crate::rows::prefix;
 use sha2::Sha256;
