@@ -3,6 +3,7 @@ pub mod Caps
 pub mod OneHeight
 pub mod Gate
 pub mod Nodes
+pub mod Computed
 pub mod Openings
 pub mod Checks
 pub mod Pruning

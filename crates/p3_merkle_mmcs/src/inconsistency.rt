@@ -9,7 +9,7 @@ ghost use Rattle.p3_merkle_core.specs.Inconsistency.{inconsistency_in, IsInconsi
 ghost use Rattle.p3_merkle_core.specs.Views.{opening_lent};
 ghost use Rattle.p3_merkle_mmcs.specs.Grown.{grown_openings};
 ghost use Rattle.p3_merkle_mmcs.specs.Schemes.{cap_rule_of, scheme_functions};
-ghost use Rattle.p3_merkle_verifier.specs.Inner.Checks.{functions_by};
+ghost use Rattle.p3_merkle_verifier.specs.Inner.Checks.{functions_of};
 ghost use Rattle.p3_merkle_verifier.specs.Inner.Inconsistency.{checked_refusal, grown_in};
 ghost use Rattle.p3_merkle_verifier.specs.Inner.Paths.{CanCheck};
 ghost use Rattle.p3_support.specs.Batches.{greatest, heights_of, widths_of};
@@ -21,10 +21,10 @@ use p3_merkle_core::collision::Inconsistency;
 use p3_merkle_core::consistency::{ConsistencyProof, check_same_widths, one_height_of};
 use p3_merkle_core::error::ConsistencyError;
 use p3_merkle_core::steps::steps_of;
+use p3_merkle_verifier::checker::Checker;
 use p3_merkle_verifier::consistency::ConsistencyRef;
 use p3_merkle_verifier::inconsistency::TreeOpening;
 use p3_merkle_verifier::openings::OpeningRef;
-use p3_merkle_verifier::path::Checker;
 use p3_support::compress::PseudoCompressionFunction;
 use p3_support::hasher::CryptographicHasher;
 use p3_support::matrix::Dimensions;
@@ -42,7 +42,7 @@ impl<
 > MerkleTreeMmcs<P, PW, H, C, N, D> {
     /// States that openings and a growth belong together, where the cap layers and the heights are those of both trees.
     fn lemma_setting(
-        checker: &Checker<'_, P, PW, H, C, [[PW::Value; D]; N]>,
+        checker: &Checker<'_, P, PW, H, C, [[PW::Value; D]; N], N, D>,
         rule: CapRule,
         proof: ConsistencyRef<'_, [PW::Value; D]>,
         new_roots: &[[PW::Value; D]],
@@ -69,7 +69,7 @@ impl<
         ensures new_arity { new.entry.steps.now.arity ≡ N }
         ensures old_check { CanCheck (shape_of N old.entry.steps.now.dimensions.now) old.entry.cap_layer }
         ensures new_check { CanCheck (shape_of N new.entry.steps.now.dimensions.now) new.entry.cap_layer }
-        ensures setting { let f = functions_by H.hash C.compression (replicate D PW.default_value) checker.now in
+        ensures setting { let f = functions_of checker.now in
             IsSetting (grown_in f N proof.entry new_roots.now old.entry new.entry) }
         ensures old_heights { All (λ d. d.height ≡ proof.entry.growth.old_height) old.entry.steps.now.dimensions.now }
         ensures new_heights { All (λ d. d.height ≡ proof.entry.growth.new_height) new.entry.steps.now.dimensions.now }

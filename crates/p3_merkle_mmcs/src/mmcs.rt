@@ -11,8 +11,8 @@ use p3_merkle_core::steps::steps_of;
 use p3_merkle_prover::checked::{CheckedMatrices, checked_matrices, tree_over};
 use p3_merkle_prover::opener::{cap_at, rows_of_index, siblings_of_index, steps_in};
 use p3_merkle_prover::tree::MerkleTree;
+use p3_merkle_verifier::checker::Checker;
 use p3_merkle_verifier::openings::OpeningRef;
-use p3_merkle_verifier::path::Checker;
 use p3_support::compress::PseudoCompressionFunction;
 use p3_support::hasher::CryptographicHasher;
 use p3_support::matrix::{Dimensions, Matrix};
@@ -83,18 +83,6 @@ impl<P: PackedValue, PW: PackedValue, H, C, X, G, const N: usize> Scheme<P, PW, 
     {
         self.cap_rule
     }
-
-    /// The checker of openings, with the scheme's hasher and compression.
-    pub(crate) fn checker(&self) -> Checker<'_, P, PW, H, C, G>
-        ensures hash { result.hash.now ≡ hash_of self.now }
-        ensures compress { result.compress.now ≡ compression_of self.now }
-    {
-        Checker {
-            hash: &self.hash,
-            compress: &self.compress,
-            item: PhantomData,
-        }
-    }
 }
 
 impl<
@@ -157,6 +145,18 @@ impl<
             compress,
             cap_height,
             cap_rule: rule,
+            item: PhantomData,
+        }
+    }
+
+    /// The checker of openings, with the scheme's hasher and compression.
+    pub(crate) fn checker(&self) -> Checker<'_, P, PW, H, C, [[PW::Value; D]; N], N, D>
+        ensures hash { result.hash.now ≡ hash_of self.now }
+        ensures compress { result.compress.now ≡ compression_of self.now }
+    {
+        Checker {
+            hash: &self.hash,
+            compress: &self.compress,
             item: PhantomData,
         }
     }

@@ -1,6 +1,6 @@
 -- The digests of a layer's nodes are the restored ones.
 use Rattle.std.proofs.Common.{◌≡◌, ◌∙◌, ℕ, zero, suc, ◌+◌, ◌*◌, ◌/◌, ◌<◌, ◌≤◌, Bool, true, false, List, [], ◌∷◌, ◌++◌}
-use Rattle.std.proofs.Common.{map, refl, ap, sym, arith, inl, inr, length, length-append, take, drop, zip, All}
+use Rattle.std.proofs.Common.{map, refl, ap, sym, arith, inl, inr, length, length-append, take, drop, zip}
 use Rattle.std.proofs.Common.{append_assoc}
 use Rattle.std.specs.List.{flat_map, range_with_len}
 use Rattle.std.proofs.lemmas.Bool.{cases_Bool, cond_both}
@@ -11,15 +11,15 @@ use Rattle.p3_merkle_core.specs.Geometry.{Shape, has_rows, heights, is_bridge, l
 use Rattle.p3_merkle_core.specs.Nodes.{Functions, compress_padded}
 use Rattle.p3_merkle_core.specs.Pruning.{CanQuery, IsAgreed, PrunedOpening, boundary, pruned_of}
 use Rattle.p3_merkle_core.specs.Inner.Covered.{covered_at}
-use Rattle.p3_merkle_core.specs.Pruning.{restored_node, value_of}
+use Rattle.p3_merkle_core.specs.Pruning.{restored_node, value_of, words_under}
 use Rattle.p3_merkle_core.proofs.Covered.Equivalence.{restored_leaf, restored_next, rows_agree}
 use Rattle.p3_merkle_core.proofs.Checks.PathFacts.{group_values}
 use Rattle.p3_merkle_core.proofs.Shapes.StepFacts.{step_above_1}
 use Rattle.p3_merkle_core.proofs.Covered.ValueFacts.{IsWalkedLevel, children_are}
 use Rattle.p3_merkle_verifier.proofs.ChildFacts.{map_on, same_map}
 use Rattle.p3_merkle_verifier.specs.Inner.NodeDigests.{group_digest, layer_digests, pair_digest, query_digest}
-use Rattle.p3_merkle_verifier.specs.Inner.RestoredLevels.{node_of_query, AreQueriesAt, AreRestored, IsCoveredAt, IsLayer}
-use Rattle.p3_merkle_verifier.specs.Inner.RestoredLevels.{IsLayerAbove}
+use Rattle.p3_merkle_verifier.specs.Inner.RestoredLevels.{node_of_query, row_values, AreQueriesAt, AreRestored}
+use Rattle.p3_merkle_verifier.specs.Inner.RestoredLevels.{IsCoveredAt, IsLayer, IsLayerAbove}
 use Rattle.p3_merkle_core.specs.declared.pruning.CoveredLayer.{CoveredLayer}
 use Rattle.p3_merkle_core.specs.Checks.{params}
 
@@ -72,35 +72,26 @@ module _ {T W : Type 0} (f : Functions T W) (s : Shape) (t : ℕ) (p : PrunedOpe
   below_is : (j : ℕ) → below_digest j ≡ compress_padded f s.arity (group_values s (value_of (params f s t) p) l j)
   below_is j = ap (compress_padded f s.arity) (group_is (value_of (params f s t) p l) (step s l * j) (step s l))
 
-  -- a node with rows, by its query
-  with_query : IsAgreed s t p → suc l ≤ t → has_rows s (suc l) ≡ true → (k : ℕ) → k < length p.indices →
-      pair_digest f.compression s.arity f.default_digest (
-        below_digest (node_of_query s p.indices (suc l) k),
-        query_digest f.hash (layer_exponent s (suc l)) (heights s) p.rows k,
-      )
-      ≡ restored_node (params f s t) p (suc l) (node_of_query s p.indices (suc l) k)
-  with_query agreed le has k h =
-      let j = node_of_query s p.indices (suc l) k in
-      let words = rows_agree s t p agreed k (suc l) h le in
-      let next = rw has at (restored_next f s t p l j) in
-      rw (below_is j, words) (sym next)
+  with_rows_under : has_rows s (suc l) ≡ true → (j : ℕ) →
+      pair_digest f.compression s.arity f.default_digest (below_digest j, f.hash (words_under s p (suc l) j))
+      ≡ restored_node (params f s t) p (suc l) j
+  with_rows_under has j = let next = rw has at (restored_next f s t p l j) in rw (below_is j) (sym next)
 
   without_rows : has_rows s (suc l) ≡ false → (j : ℕ) → below_digest j ≡ restored_node (params f s t) p (suc l) j
   without_rows none j = let next = rw none at (restored_next f s t p l j) in below_is j ∙ sym next
 
-  -- the layer above, from the children's values
-  layer_next : IsAgreed s t p → suc l ≤ t → (n : ℕ) (has : Bool) (x : ℕ) (queries : List ℕ)
-      (children : List (List W)) → n ≡ step s l → has ≡ has_rows s (suc l) → x ≡ layer_exponent s (suc l) →
-      (has ≡ true → AreQueriesAt s p.indices (suc l) queries) → length children / n ≡ length (covered_at s p.indices (suc l)) →
+  -- the layer above, from the children's values and the digests of rows
+  layer_next : (n : ℕ) (has : Bool) (rows children : List (List W)) → n ≡ step s l → has ≡ has_rows s (suc l) →
+      (has ≡ true → rows ≡ row_values f s p (suc l)) →
+      length children / n ≡ length (covered_at s p.indices (suc l)) →
       children ≡ flat_map (λ j. map (value_of (params f s t) p l) (range_with_len (step s l * j) (step s l)))
       (covered_at s p.indices (suc l)) →
-      layer_digests f s.arity n has (heights s) x p.rows queries children
+      layer_digests f s.arity n has rows children
       ≡ map (restored_node (params f s t) p (suc l)) (covered_at s p.indices (suc l))
-  layer_next agreed le n has x queries children is_step is_has is_x known count values =
+  layer_next n has rows children is_step is_has known count values =
       let parents = covered_at s p.indices (suc l) in
       let group = λ (j : ℕ). map (value_of (params f s t) p l) (range_with_len (step s l * j) (step s l)) in
-      let node = node_of_query s p.indices (suc l) in
-      let digest = query_digest f.hash (layer_exponent s (suc l)) (heights s) p.rows in
+      let row = λ (j : ℕ). f.hash (words_under s p (suc l) j) in
       let pair = pair_digest f.compression s.arity f.default_digest in
       let nodes : map (group_digest f.compression s.arity f.default_digest (step s l) (flat_map group parents))
       (range_with_len 0 (length parents)) ≡ map below_digest parents =
@@ -110,18 +101,12 @@ module _ {T W : Type 0} (f : Functions T W) (s : Shape) (t : ℕ) (p : PrunedOpe
       let all : map (group_digest f.compression s.arity f.default_digest n children)
       (range_with_len 0 (length children / n)) ≡ map below_digest parents = rw (count, is_step, values) nodes in
       elim (cases_Bool (has_rows s (suc l))) [
-        | inl present ↦
-            let are = (known (is_has ∙ present)).queries_are in
-            rw (all, is_x, is_has, present)
-            (ap (λ ys. map pair (zip (map below_digest ys) (map digest queries))) are
-            ∙ ap (λ ys. map pair (zip ys (map digest queries))) (map_map below_digest node queries)
-            ∙ zip_maps pair (λ k. below_digest (node k)) digest queries
-            ∙ map_on (λ k. k < length p.indices) (λ k. pair (below_digest (node k), digest k))
-            (λ k. restored_node (params f s t) p (suc l) (node k)) (with_query agreed le present) queries
-            (known (is_has ∙ present)).among
-            ∙ sym (map_map (restored_node (params f s t) p (suc l)) node queries)
-            ∙ ap (map (restored_node (params f s t) p (suc l))) (sym are))
-        | inr none ↦ rw (all, is_x, is_has, none)
+        | inl present ↦ rw (all, is_has, present)
+            (ap (λ ys. map pair (zip (map below_digest parents) ys)) (known (is_has ∙ present))
+            ∙ zip_maps pair below_digest row parents
+            ∙ same_map (λ j. pair (below_digest j, row j)) (restored_node (params f s t) p (suc l))
+            (with_rows_under present) parents)
+        | inr none ↦ rw (all, is_has, none)
             (same_map below_digest (restored_node (params f s t) p (suc l)) (without_rows none) parents)
       ]
 
@@ -132,53 +117,38 @@ pub agreed_with : {T W V : Type 0} (s : Shape) (t : ℕ) (indices : List ℕ) (r
 agreed_with s t indices rows digests others a =
     record { in_pairs = a.in_pairs; repeats = a.repeats; groups = a.groups }
 
--- as many nodes as queries
-pub nodes_long : {X : Type 0} (s : Shape) (indices : List ℕ) (l : ℕ) (covered : CoveredLayer X) (queries : List ℕ) →
-    IsCoveredAt s indices l covered → AreQueriesAt s indices l queries →
-    length queries ≡ length covered.nodes.items
-nodes_long s indices l covered queries at known = sym (ap length (at.nodes_are ∙ known.queries_are)
-    ∙ length-map queries (node_of_query s indices l))
-
 -- ---- digests that are restored
 
 module _ {T W : Type 0} (f : Functions T W) (s : Shape) (t : ℕ) (p : PrunedOpening T W) where
+  -- the digests of the rows of a query under each covered node are those of the rows under these
+  pub rows_of_queries : IsAgreed s t p → (l : ℕ) → l ≤ t → (queries : List ℕ) → AreQueriesAt s p.indices l queries →
+      map (query_digest f.hash (layer_exponent s l) (heights s) p.rows) queries ≡ row_values f s p l
+  rows_of_queries agreed l le queries known =
+      let node = node_of_query s p.indices l in
+      let row = λ (j : ℕ). f.hash (words_under s p l j) in
+      map_on (λ k. k < length p.indices) (query_digest f.hash (layer_exponent s l) (heights s) p.rows)
+      (λ k. row (node k)) (λ k h. ap f.hash (rows_agree s t p agreed k l h le)) queries known.among
+      ∙ sym (map_map row node queries) ∙ ap (map row) (sym known.queries_are)
+
   -- the digests of the leaves
-  pub leaves_restored : IsAgreed s t p → (covered : CoveredLayer (List W)) (queries : List ℕ)
-      (digests : List (List W)) → IsCoveredAt s p.indices 0 covered → AreQueriesAt s p.indices 0 queries →
-      digests ≡ map (query_digest f.hash covered.exponent (heights s) p.rows) queries → AreRestored f s t p 0 digests
-  leaves_restored agreed covered queries digests at known e =
-      let node = node_of_query s p.indices 0 in
-      e ∙ ap (λ x. map (query_digest f.hash x (heights s) p.rows) queries) at.at_exponent
-      ∙ map_on (λ k. k < length p.indices) (query_digest f.hash (layer_exponent s 0) (heights s) p.rows)
-      (λ k. restored_node (params f s t) p 0 (node k))
-      (λ k h. ap f.hash (rows_agree s t p agreed k 0 h (omega arith)) ∙ sym (restored_leaf f s t p (node k))) queries
-      known.among
-      ∙ sym (map_map (restored_node (params f s t) p 0) node queries)
-      ∙ ap (map (restored_node (params f s t) p 0)) (sym known.queries_are)
+  pub leaves_restored : (digests : List (List W)) → digests ≡ row_values f s p 0 → AreRestored f s t p 0 digests
+  leaves_restored digests e =
+      e ∙ same_map (λ j. f.hash (words_under s p 0 j)) (restored_node (params f s t) p 0)
+      (λ j. sym (restored_leaf f s t p j)) (covered_at s p.indices 0)
 
-  -- the digests of the nodes above layer l, by those of their children and of their rows
-  pub above_restored : IsAgreed s t p → (l : ℕ) → suc l ≤ t → (n : ℕ) → s.arity ≡ n →
-      (covered : CoveredLayer (List W)) (queries : List ℕ) (digests : List (List W)) → IsLayer f s t p (suc l) covered →
-      (covered.has_rows ≡ true → AreQueriesAt s p.indices (suc l) queries) →
-      digests ≡ layer_digests f n covered.step covered.has_rows (heights s) covered.exponent p.rows queries
-      covered.children.items → AreRestored f s t p (suc l) digests
-  above_restored agreed l h n is_n covered queries digests layer known e =
-      let at = layer.coverage in
+  -- the digests of the nodes of a layer above the leaves, by those of their children and of their rows
+  pub restored_at : (l : ℕ) → 0 < l → (n : ℕ) → s.arity ≡ n → (covered : CoveredLayer (List W))
+      (rows digests : List (List W)) → IsLayer f s t p l covered →
+      (covered.has_rows ≡ true → rows ≡ row_values f s p l) →
+      digests ≡ layer_digests f n covered.step covered.has_rows rows covered.children.items →
+      AreRestored f s t p l digests
+  restored_at zero some n is_n covered rows digests layer known e = absurd (omega arith)
+  restored_at (suc l) some n is_n covered rows digests layer known e =
       let family = layer.family in
-      let long = sym (layer.in_groups (omega arith)) ∙ ap length at.nodes_are in
-      e ∙ ap (λ a. layer_digests f a covered.step covered.has_rows (heights s) covered.exponent p.rows
-      queries covered.children.items) (sym is_n)
-      ∙ layer_next f s t p l agreed h covered.step covered.has_rows covered.exponent queries covered.children.items
-      family.step_is family.rows_are at.at_exponent known long family.values_are
-
-  pub restored_at : IsAgreed s t p → (l : ℕ) → 0 < l → l ≤ t → (n : ℕ) → s.arity ≡ n →
-      (covered : CoveredLayer (List W)) (queries : List ℕ) (digests : List (List W)) → IsLayer f s t p l covered →
-      (covered.has_rows ≡ true → AreQueriesAt s p.indices l queries) →
-      digests ≡ layer_digests f n covered.step covered.has_rows (heights s) covered.exponent p.rows queries
-      covered.children.items → AreRestored f s t p l digests
-  restored_at agreed zero some h n is_n covered queries digests layer known e = absurd (omega arith)
-  restored_at agreed (suc l) some h n is_n covered queries digests layer known e =
-      above_restored agreed l h n is_n covered queries digests layer known e
+      let long = sym (layer.in_groups (omega arith)) ∙ ap length layer.coverage.nodes_are in
+      e ∙ ap (λ a. layer_digests f a covered.step covered.has_rows rows covered.children.items) (sym is_n)
+      ∙ layer_next f s t p l covered.step covered.has_rows rows covered.children.items family.step_is family.rows_are
+      known long family.values_are
 
   -- as many digests as nodes
   pub digests_long : (l : ℕ) (covered : CoveredLayer (List W)) (digests : List (List W)) → IsCoveredAt s p.indices l covered →
@@ -232,9 +202,3 @@ module _ {T W : Type 0} (f : Functions T W) (s : Shape) (t : ℕ) (p : PrunedOpe
               below.nodes.items digests (drop below.used p.digests) above.children.items same up.values;
         };
       }
-
-  -- the children of a layer above the leaves
-  pub family_above : (l : ℕ) (covered : CoveredLayer (List W)) → 0 < l →
-      IsLayer f s t p l covered → length covered.children.items ≡ covered.step * length covered.nodes.items
-  family_above zero covered some layer = absurd (omega arith)
-  family_above (suc l) covered some layer = layer.family.full

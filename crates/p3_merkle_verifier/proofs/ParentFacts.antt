@@ -1,10 +1,8 @@
 -- The queries of parents: of each run of nodes under one parent the first node's query.
 use Rattle.std.proofs.Common.{◌≡◌, ◌∙◌, ℕ, ◌+◌, ◌-◌, ◌/◌, ◌<◌, ◌⊎◌, eqb, List, [], ◌∷◌, ◌++◌, map, ap, sym, arith, inl}
-use Rattle.std.proofs.Common.{inr, length, length-append, get_or, refl, take}
+use Rattle.std.proofs.Common.{inr, length, get_or, take}
 use Rattle.std.specs.List.{dedup}
-use Rattle.std.proofs.lemmas.Bool.{cases_lt}
-use Rattle.std.proofs.lemmas.List.{get_or-map, get_or_append_left, length-map, map-append}
-use Rattle.std.proofs.Math.Seq.{get_or-append_seam}
+use Rattle.std.proofs.lemmas.List.{get_or-map, length-map, map-append}
 use Rattle.p3_merkle_core.proofs.Lists.DedupFacts.{dropped, stays}
 
 -- what one more node leaves of the queries: its own, if its parent is not that of the node before

@@ -1,6 +1,6 @@
 -- The layers of a pruned opening, and the paths out of them.
 use Rattle.std.proofs.Common.{◌≡◌, ◌∙◌, ℕ, suc, ◌+◌, ◌/◌, ◌<◌, List, [], ◌∷◌, ◌++◌, add-one, ap, arith, drop, get_or, inl}
-use Rattle.std.proofs.Common.{inr, length, length-append, map, refl, subst, sym}
+use Rattle.std.proofs.Common.{inr, length, length-append, map, refl, sym}
 use Rattle.std.proofs.lemmas.Bool.{cases_lt}
 use Rattle.std.proofs.lemmas.List.{drop-append-le, get_or_append_left, get_or_default, map-append}
 use Rattle.std.proofs.lemmas.List.FromFn.{map-range_with_len_more}
@@ -12,7 +12,7 @@ use Rattle.p3_merkle_core.specs.declared.pruning.CoveredLayer.{CoveredLayer}
 use Rattle.p3_merkle_core.proofs.Covered.CoveredFacts.{covered_listed, listed_covered}
 use Rattle.p3_merkle_core.proofs.Covered.KeptFacts.{covered_up_list, level_of}
 use Rattle.p3_merkle_core.proofs.Covered.Under.{covered_up}
-use Rattle.p3_merkle_verifier.specs.Inner.RestoredLevels.{tree_of, AreLayers, AreLeaves, IsCoveredAt, IsLayer}
+use Rattle.p3_merkle_verifier.specs.Inner.RestoredLevels.{AreLayers, AreLeaves, IsLayer}
 use Rattle.p3_merkle_verifier.proofs.LayerFacts.{leaves_are}
 use Rattle.p3_merkle_core.specs.Checks.{params}
 

@@ -2,15 +2,15 @@
 
 ghost use Rattle.std.specs.Prelude.{◌≡◌, IsTrue, length, replicate};
 ghost use Rattle.p3_merkle_core.specs.Geometry.{shape_of};
-ghost use Rattle.p3_merkle_core.specs.Nodes.{functions_of};
 ghost use Rattle.p3_merkle_core.specs.Refusals.{IsEquality};
-ghost use Rattle.p3_merkle_verifier.specs.Inner.Checks.{functions_by, opening_in, AgreeBelow, AgreeOnLevel};
+ghost use Rattle.p3_merkle_verifier.specs.Inner.Checks.{functions_of, opening_in, AgreeBelow, AgreeOnLevel};
 ghost use Rattle.p3_merkle_verifier.specs.Inner.Collisions.{first_words, second_words};
 ghost use Rattle.p3_merkle_verifier.specs.Inner.Paths.{CanReach};
 
+use crate::checker::Checker;
 use crate::extraction::RowPair;
 use crate::openings::OpeningRef;
-use crate::path::{Checker, ComputedLevel};
+use crate::path::ComputedLevel;
 use p3_merkle_core::steps::Steps;
 use p3_support::compress::PseudoCompressionFunction;
 use p3_support::hasher::CryptographicHasher;
@@ -40,7 +40,7 @@ impl<
     C: PseudoCompressionFunction<PW, N, D>,
     const N: usize,
     const D: usize,
-> Checker<'a, P, PW, H, C, [[PW::Value; D]; N]> {
+> Checker<'a, P, PW, H, C, [[PW::Value; D]; N], N, D> {
     /// Whether the checks of two openings have the same inputs at every place that both share. Both openings must have
     /// their siblings up to the cap.
     pub(crate) fn agree(
@@ -53,7 +53,7 @@ impl<
         requires arity { steps.now.arity ≡ N }
         requires first { CanReach (shape_of N steps.now.dimensions.now) cap_layer (length first.siblings.now) }
         requires second { CanReach (shape_of N steps.now.dimensions.now) cap_layer (length second.siblings.now) }
-        ensures { let f = functions_by H.hash C.compression (replicate D PW.default_value) self.now in
+        ensures { let f = functions_of self.now in
             IsTrue result → AgreeBelow f (shape_of N steps.now.dimensions.now) (opening_in first.entry)
             (opening_in second.entry) cap_layer }
     {

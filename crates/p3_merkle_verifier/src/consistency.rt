@@ -10,10 +10,10 @@ ghost use Rattle.p3_merkle_core.specs.Geometry.{IsArity};
 ghost use Rattle.p3_merkle_core.specs.Inner.Growths.{mixed_children, parts_at};
 ghost use Rattle.p3_merkle_core.specs.Nodes.{padded};
 ghost use Rattle.p3_merkle_core.specs.Refusals.{is_entry as is_entry_of};
-ghost use Rattle.p3_merkle_verifier.specs.Inner.Checks.{functions_by};
+ghost use Rattle.p3_merkle_verifier.specs.Inner.Checks.{functions_of};
 ghost use Rattle.p3_merkle_verifier.specs.Inner.Consistency.{evidence_in, old_values, IsAtMixed, IsCounted};
 
-use crate::path::Checker;
+use crate::checker::Checker;
 use crate::pruned_check::is_entry;
 use p3_merkle_core::consistency::{Growth, LayerParts, MixedChildren};
 use p3_merkle_core::error::ConsistencyError;
@@ -93,7 +93,7 @@ impl<
     C: PseudoCompressionFunction<PW, N, D>,
     const N: usize,
     const D: usize,
-> Checker<'a, P, PW, H, C, [[PW::Value; D]; N]> {
+> Checker<'a, P, PW, H, C, [[PW::Value; D]; N], N, D> {
     /// The value of a mixed node: its old children, the mixed one if there is one, and its new ones, compressed with
     /// default digests after them. There must be at most `N`.
     fn mixed_value(
@@ -120,11 +120,9 @@ impl<
         children: &MixedChildren,
     )
         requires arity { proof.growth.arity ≡ N }
-        requires counted { let f = functions_by H.hash C.compression (replicate D PW.default_value) self.now in
-            IsCounted (evidence_in f proof) }
+        requires counted { IsCounted (evidence_in (functions_of self.now) proof) }
         requires below { layer < old_layer proof.growth }
-        requires mixed { let f = functions_by H.hash C.compression (replicate D PW.default_value) self.now in
-            IsAtMixed (evidence_in f proof) layer mixed.now }
+        requires mixed { IsAtMixed (evidence_in (functions_of self.now) proof) layer mixed.now }
         requires children { children.now ≡ mixed_children N mixed.now.parts }
         ensures { (children.now.old_end - children.now.start) + length (option_to_list mixed.now.new_value)
             + (children.now.end - children.now.new_start) ≤ N }
@@ -140,13 +138,10 @@ impl<
         mixed: &MixedNode<[PW::Value; D]>,
     ) -> MixedNode<[PW::Value; D]>
         requires arity { proof.growth.arity ≡ N }
-        requires counted { let f = functions_by H.hash C.compression (replicate D PW.default_value) self.now in
-            IsCounted (evidence_in f proof) }
+        requires counted { IsCounted (evidence_in (functions_of self.now) proof) }
         requires below { layer < old_layer proof.growth }
-        requires mixed { let f = functions_by H.hash C.compression (replicate D PW.default_value) self.now in
-            IsAtMixed (evidence_in f proof) layer mixed.now }
-        ensures { let f = functions_by H.hash C.compression (replicate D PW.default_value) self.now in
-            IsAtMixed (evidence_in f proof.entry) (suc layer) result }
+        requires mixed { IsAtMixed (evidence_in (functions_of self.now) proof) layer mixed.now }
+        ensures { IsAtMixed (evidence_in (functions_of self.now) proof.entry) (suc layer) result }
     {
         let (children, above) = mixed.parts.up(N);
         if above.old_end == above.new_start {
@@ -182,12 +177,10 @@ impl<
         children: &MixedChildren,
     )
         requires arity { proof.growth.arity ≡ N }
-        requires counted { let f = functions_by H.hash C.compression (replicate D PW.default_value) self.now in
-            IsCounted (evidence_in f proof) }
+        requires counted { IsCounted (evidence_in (functions_of self.now) proof) }
         requires below { layer < new_layer proof.growth }
-        requires mixed { let f = functions_by H.hash C.compression (replicate D PW.default_value) self.now in
-            IsAtMixed (evidence_in f proof) layer mixed.now }
-        requires known { let f = functions_by H.hash C.compression (replicate D PW.default_value) self.now in
+        requires mixed { IsAtMixed (evidence_in (functions_of self.now) proof) layer mixed.now }
+        requires known { let f = functions_of self.now in
             known.now ≡ old_values proof.growth (new_value (evidence_in f proof)) layer }
         requires children { children.now ≡ mixed_children N mixed.now.parts }
         ensures { (length known.now - children.now.start) + length (option_to_list mixed.now.new_value)
@@ -205,17 +198,15 @@ impl<
         known: &[[PW::Value; D]],
     ) -> Result<(MixedNode<[PW::Value; D]>, Vec<[PW::Value; D]>), AllocError>
         requires arity { proof.growth.arity ≡ N }
-        requires counted { let f = functions_by H.hash C.compression (replicate D PW.default_value) self.now in
-            IsCounted (evidence_in f proof) }
+        requires counted { IsCounted (evidence_in (functions_of self.now) proof) }
         requires above { old_layer proof.growth ≤ layer }
         requires below { layer < new_layer proof.growth }
-        requires mixed { let f = functions_by H.hash C.compression (replicate D PW.default_value) self.now in
-            IsAtMixed (evidence_in f proof) layer mixed.now }
-        requires known { let f = functions_by H.hash C.compression (replicate D PW.default_value) self.now in
+        requires mixed { IsAtMixed (evidence_in (functions_of self.now) proof) layer mixed.now }
+        requires known { let f = functions_of self.now in
             known.now ≡ old_values proof.growth (new_value (evidence_in f proof)) layer }
-        ensures mixed { let f = functions_by H.hash C.compression (replicate D PW.default_value) self.now in
+        ensures mixed { let f = functions_of self.now in
             IfOk result (λ made. IsAtMixed (evidence_in f proof.entry) (suc layer) made.0) }
-        ensures known { let f = functions_by H.hash C.compression (replicate D PW.default_value) self.now in
+        ensures known { let f = functions_of self.now in
             IfOk result (λ made.
             made.1.items ≡ old_values proof.entry.growth (new_value (evidence_in f proof.entry)) (suc layer)) }
     {
@@ -250,11 +241,9 @@ impl<
         layer: usize,
     ) -> MixedNode<[PW::Value; D]>
         requires arity { proof.growth.arity ≡ N }
-        requires counted { let f = functions_by H.hash C.compression (replicate D PW.default_value) self.now in
-            IsCounted (evidence_in f proof) }
+        requires counted { IsCounted (evidence_in (functions_of self.now) proof) }
         requires low { layer ≤ old_layer proof.growth }
-        ensures { let f = functions_by H.hash C.compression (replicate D PW.default_value) self.now in
-            IsAtMixed (evidence_in f proof.entry) layer result }
+        ensures { IsAtMixed (evidence_in (functions_of self.now) proof.entry) layer result }
     {
         let mut mixed = MixedNode::among_leaves(&proof.growth);
         for below in 0..layer {
@@ -269,10 +258,8 @@ impl<
         proof: ConsistencyRef<'_, [PW::Value; D]>,
     ) -> MixedNode<[PW::Value; D]>
         requires arity { proof.growth.arity ≡ N }
-        requires counted { let f = functions_by H.hash C.compression (replicate D PW.default_value) self.now in
-            IsCounted (evidence_in f proof) }
-        ensures { let f = functions_by H.hash C.compression (replicate D PW.default_value) self.now in
-            IsAtMixed (evidence_in f proof.entry) (old_layer proof.entry.growth) result }
+        requires counted { IsCounted (evidence_in (functions_of self.now) proof) }
+        ensures { IsAtMixed (evidence_in (functions_of self.now) proof.entry) (old_layer proof.entry.growth) result }
     {
         self.mixed_at(proof, proof.growth.old_cap_layer())
     }
@@ -286,14 +273,12 @@ impl<
         mixed: MixedNode<[PW::Value; D]>,
     ) -> Result<(MixedNode<[PW::Value; D]>, Vec<[PW::Value; D]>), AllocError>
         requires arity { proof.growth.arity ≡ N }
-        requires counted { let f = functions_by H.hash C.compression (replicate D PW.default_value) self.now in
-            IsCounted (evidence_in f proof) }
-        requires mixed { let f = functions_by H.hash C.compression (replicate D PW.default_value) self.now in
-            IsAtMixed (evidence_in f proof) (old_layer proof.growth) mixed }
+        requires counted { IsCounted (evidence_in (functions_of self.now) proof) }
+        requires mixed { IsAtMixed (evidence_in (functions_of self.now) proof) (old_layer proof.growth) mixed }
         requires long { mixed.parts.old_end ≤ length proof.old_roots.now }
-        ensures mixed { let f = functions_by H.hash C.compression (replicate D PW.default_value) self.now in
+        ensures mixed { let f = functions_of self.now in
             IfOk result (λ made. IsAtMixed (evidence_in f proof.entry) (new_layer proof.entry.growth) made.0) }
-        ensures known { let f = functions_by H.hash C.compression (replicate D PW.default_value) self.now in
+        ensures known { let f = functions_of self.now in
             let g = proof.entry.growth in
             IfOk result (λ made. made.1.items ≡ old_values g (new_value (evidence_in f proof.entry)) (new_layer g)) }
     {
@@ -325,9 +310,8 @@ impl<
     ) -> Result<(), ConsistencyError>
         requires arity { proof.growth.arity ≡ N }
         requires power { IsArity N }
-        ensures { let f = functions_by H.hash C.compression (replicate D PW.default_value) self.now in
-            ConsistencyAnswers result
-            (consistency_refusal PW.Value.eq (evidence_in f proof.entry) new_roots.now) }
+        ensures { ConsistencyAnswers result
+            (consistency_refusal PW.Value.eq (evidence_in (functions_of self.now) proof.entry) new_roots.now) }
     {
         let growth = proof.growth;
         growth.check_heights()?;

@@ -9,16 +9,16 @@ ghost use Rattle.p3_support.specs.Shown.{row_lists};
 ghost use Rattle.p3_merkle_core.specs.Checks.{digests_at, params, words_at, words_of_exponent};
 ghost use Rattle.p3_merkle_core.specs.Extraction.{difference_of, input_eq, last_difference};
 ghost use Rattle.p3_merkle_core.specs.Geometry.{layer_exponent, shape_of};
-ghost use Rattle.p3_merkle_core.specs.Nodes.{functions_of};
 ghost use Rattle.p3_merkle_core.specs.Refusals.{refusal_under, AnswersUnlessMemory};
-ghost use Rattle.p3_merkle_verifier.specs.Inner.Checks.{functions_by, leaf_difference, opening_in, ShowsLevel};
+ghost use Rattle.p3_merkle_verifier.specs.Inner.Checks.{functions_of, leaf_difference, opening_in, ShowsLevel};
 ghost use Rattle.p3_merkle_verifier.specs.Inner.Collisions.{first_rows, first_words, inputs_above, second_rows};
 ghost use Rattle.p3_merkle_verifier.specs.Inner.Collisions.{second_words};
 ghost use Rattle.p3_merkle_verifier.specs.Inner.Collisions.{IsDifference, Shows};
 ghost use Rattle.p3_merkle_verifier.specs.Inner.Paths.{CanCheck, CanReach};
 
+use crate::checker::Checker;
 use crate::openings::{OpenedRows, OpeningRef};
-use crate::path::{Checker, ComputedLevel};
+use crate::path::ComputedLevel;
 use p3_merkle_core::collision::{Collision, InputPair, Place};
 use p3_merkle_core::error::MerkleTreeError;
 use p3_merkle_core::steps::Steps;
@@ -202,7 +202,7 @@ impl<
     C: PseudoCompressionFunction<PW, N, D>,
     const N: usize,
     const D: usize,
-> Checker<'a, P, PW, H, C, [[PW::Value; D]; N]> {
+> Checker<'a, P, PW, H, C, [[PW::Value; D]; N], N, D> {
     /// The last place that the checks of two openings share and at which they differ, with both inputs. Both openings
     /// must have their siblings up to the cap. It allocates at shared places alone: the rows there, and the inputs that
     /// differ.
@@ -217,8 +217,7 @@ impl<
         requires arity { steps.now.arity ≡ N }
         requires first { CanReach (shape_of N steps.now.dimensions.now) cap_layer (length first.siblings.now) }
         requires second { CanReach (shape_of N steps.now.dimensions.now) cap_layer (length second.siblings.now) }
-        ensures { let f = functions_by H.hash C.compression (replicate D PW.default_value) self.now in
-            let c = params f (shape_of N steps.now.dimensions.now) cap_layer in
+        ensures { let c = params (functions_of self.now) (shape_of N steps.now.dimensions.now) cap_layer in
             let difference = difference_of P.Value.eq PW.Value.eq c (opening_in first.entry)
             (opening_in second.entry) in
             IfOk result (λ found. Shows found difference) }
@@ -264,13 +263,11 @@ impl<
     ) -> Result<Option<Collision<P::Value, PW::Value, D>>, MerkleTreeError>
         requires arity { steps.now.arity ≡ N }
         requires check { CanCheck (shape_of N steps.now.dimensions.now) cap_layer }
-        ensures answer { let f = functions_by H.hash C.compression (replicate D PW.default_value) self.now in
-            let c = params f (shape_of N steps.now.dimensions.now) cap_layer in
+        ensures answer { let c = params (functions_of self.now) (shape_of N steps.now.dimensions.now) cap_layer in
             let refusal = refusal_under PW.Value.eq c roots.now in
             AnswersUnlessMemory result
             (option_or (refusal (opening_in first.entry)) (refusal (opening_in second.entry))) }
-        ensures found { let f = functions_by H.hash C.compression (replicate D PW.default_value) self.now in
-            let c = params f (shape_of N steps.now.dimensions.now) cap_layer in
+        ensures found { let c = params (functions_of self.now) (shape_of N steps.now.dimensions.now) cap_layer in
             let difference = difference_of P.Value.eq PW.Value.eq c (opening_in first.entry)
             (opening_in second.entry) in
             IfOk result (λ found. Shows found difference) }

@@ -15,7 +15,7 @@ ghost use Rattle.p3_merkle_core.specs.Inconsistency.{given_layer, inconsistency,
 ghost use Rattle.p3_merkle_core.specs.Inconsistency.{inputs_up_to, IsSetting};
 ghost use Rattle.p3_merkle_core.specs.Inner.Growths.{parts_at};
 ghost use Rattle.p3_merkle_core.specs.Inner.Settings.{IsComparable};
-ghost use Rattle.p3_merkle_verifier.specs.Inner.Checks.{functions_by, opening_in, IsProgress};
+ghost use Rattle.p3_merkle_verifier.specs.Inner.Checks.{functions_of, opening_in, IsProgress};
 ghost use Rattle.p3_merkle_verifier.specs.Inner.Collisions.{Shows};
 ghost use Rattle.p3_merkle_verifier.specs.Inner.Consistency.{evidence_in, old_values, IsAtMixed, IsCounted};
 ghost use Rattle.p3_merkle_verifier.specs.Inner.Inconsistency.{checked_refusal, child_values, group_inputs};
@@ -23,10 +23,11 @@ ghost use Rattle.p3_merkle_verifier.specs.Inner.Inconsistency.{grown_in, listed_
 ghost use Rattle.p3_merkle_verifier.specs.Inner.Inconsistency.{path_groups, CanCompare, HasMixed, IsPath};
 ghost use Rattle.p3_merkle_verifier.specs.Inner.Paths.{CanCheck, CanReach};
 
+use crate::checker::Checker;
 use crate::consistency::{ConsistencyRef, MixedNode};
 use crate::extraction::differing_digests;
 use crate::openings::OpeningRef;
-use crate::path::{Checker, Progress};
+use crate::path::Progress;
 use p3_merkle_core::collision::{Between, Collision, Inconsistency, Place};
 use p3_merkle_core::error::ConsistencyError;
 use p3_merkle_core::group::{mixed_group, padded_group};
@@ -127,7 +128,7 @@ impl<
     C: PseudoCompressionFunction<PW, N, D>,
     const N: usize,
     const D: usize,
-> Checker<'a, P, PW, H, C, [[PW::Value; D]; N]> {
+> Checker<'a, P, PW, H, C, [[PW::Value; D]; N], N, D> {
     /// The groups of the mixed node of the layer above, in the old tree and in the new one, below the old cap. There
     /// must be a mixed node.
     fn groups_below_old_cap(
@@ -137,16 +138,14 @@ impl<
         mixed: &MixedNode<[PW::Value; D]>,
     ) -> ([[PW::Value; D]; N], [[PW::Value; D]; N])
         requires arity { proof.growth.arity ≡ N }
-        requires counted { let f = functions_by H.hash C.compression (replicate D PW.default_value) self.now in
-            IsCounted (evidence_in f proof) }
+        requires counted { IsCounted (evidence_in (functions_of self.now) proof) }
         requires below { layer < old_layer proof.growth }
-        requires mixed { let f = functions_by H.hash C.compression (replicate D PW.default_value) self.now in
-            IsAtMixed (evidence_in f proof) layer mixed.now }
+        requires mixed { IsAtMixed (evidence_in (functions_of self.now) proof) layer mixed.now }
         requires has { HasMixed proof.growth layer }
-        ensures old { let f = functions_by H.hash C.compression (replicate D PW.default_value) self.now in
+        ensures old { let f = functions_of self.now in
             result.0 ≡ child_values proof.entry.growth.arity (old_value (evidence_in f proof.entry)) layer
             (parts_at proof.entry.growth (suc layer)).old_end }
-        ensures new { let f = functions_by H.hash C.compression (replicate D PW.default_value) self.now in
+        ensures new { let f = functions_of self.now in
             result.1 ≡ child_values proof.entry.growth.arity (new_value (evidence_in f proof.entry)) layer
             (parts_at proof.entry.growth (suc layer)).old_end }
     {
@@ -174,16 +173,14 @@ impl<
         node: usize,
     ) -> [[PW::Value; D]; N]
         requires arity { proof.growth.arity ≡ N }
-        requires counted { let f = functions_by H.hash C.compression (replicate D PW.default_value) self.now in
-            IsCounted (evidence_in f proof) }
+        requires counted { IsCounted (evidence_in (functions_of self.now) proof) }
         requires above { old_layer proof.growth ≤ layer }
         requires below { layer < new_layer proof.growth }
-        requires mixed { let f = functions_by H.hash C.compression (replicate D PW.default_value) self.now in
-            IsAtMixed (evidence_in f proof) layer mixed.now }
-        requires known { let f = functions_by H.hash C.compression (replicate D PW.default_value) self.now in
+        requires mixed { IsAtMixed (evidence_in (functions_of self.now) proof) layer mixed.now }
+        requires known { let f = functions_of self.now in
             known.now ≡ old_values proof.growth (new_value (evidence_in f proof)) layer }
         requires node { node < (parts_at proof.growth (suc layer)).new_start }
-        ensures { let f = functions_by H.hash C.compression (replicate D PW.default_value) self.now in
+        ensures { let f = functions_of self.now in
             result ≡ child_values proof.entry.growth.arity (new_value (evidence_in f proof.entry)) layer node }
     {
         let (children, above) = mixed.parts.up(N);
@@ -209,18 +206,15 @@ impl<
         given: usize,
     ) -> Result<(PathGroups<[PW::Value; D]>, MixedNode<[PW::Value; D]>), AllocError>
         requires arity { proof.growth.arity ≡ N }
-        requires counted { let f = functions_by H.hash C.compression (replicate D PW.default_value) self.now in
-            IsCounted (evidence_in f proof) }
+        requires counted { IsCounted (evidence_in (functions_of self.now) proof) }
         requires path { IsPath proof.growth index given }
-        ensures old { let f = functions_by H.hash C.compression (replicate D PW.default_value) self.now in
-            let e = evidence_in f proof.entry in
+        ensures old { let e = evidence_in (functions_of self.now) proof.entry in
             IfOk result (λ made. row_lists made.0.old.items
             ≡ path_groups e e.growth.old_height index given (old_layer e.growth)) }
-        ensures new { let f = functions_by H.hash C.compression (replicate D PW.default_value) self.now in
-            let e = evidence_in f proof.entry in
+        ensures new { let e = evidence_in (functions_of self.now) proof.entry in
             IfOk result (λ made. row_lists made.0.new.items
             ≡ path_groups e e.growth.new_height index given (old_layer e.growth)) }
-        ensures mixed { let f = functions_by H.hash C.compression (replicate D PW.default_value) self.now in
+        ensures mixed { let f = functions_of self.now in
             IfOk result (λ made. IsAtMixed (evidence_in f proof.entry) (old_layer proof.entry.growth) made.1) }
         ensures old_count { IfOk result (λ made.
             length made.0.old.items ≡ old_layer proof.entry.growth - given) }
@@ -251,14 +245,11 @@ impl<
         mixed: MixedNode<[PW::Value; D]>,
     ) -> Result<Vec<Vec<[PW::Value; D]>>, AllocError>
         requires arity { proof.growth.arity ≡ N }
-        requires counted { let f = functions_by H.hash C.compression (replicate D PW.default_value) self.now in
-            IsCounted (evidence_in f proof) }
-        requires mixed { let f = functions_by H.hash C.compression (replicate D PW.default_value) self.now in
-            IsAtMixed (evidence_in f proof) (old_layer proof.growth) mixed }
+        requires counted { IsCounted (evidence_in (functions_of self.now) proof) }
+        requires mixed { IsAtMixed (evidence_in (functions_of self.now) proof) (old_layer proof.growth) mixed }
         requires long { mixed.parts.old_end ≤ length proof.old_roots.now }
         requires leaf { index < proof.growth.old_height }
-        ensures groups { let f = functions_by H.hash C.compression (replicate D PW.default_value) self.now in
-            let e = evidence_in f proof.entry in
+        ensures groups { let e = evidence_in (functions_of self.now) proof.entry in
             (given : ℕ) → given ≤ old_layer e.growth →
             row_lists below.items ≡ path_groups e e.growth.new_height index given (old_layer e.growth) →
             IfOk result (λ groups. row_lists groups.items
@@ -289,7 +280,7 @@ impl<
         requires reach { CanReach (shape_of N of.steps.now.dimensions.now) of.cap_layer
             (length of.opening.siblings.now) }
         requires below { layer ≤ of.cap_layer }
-        ensures { let f = functions_by H.hash C.compression (replicate D PW.default_value) self.now in
+        ensures { let f = functions_of self.now in
             IsProgress f (shape_of N of.entry.steps.now.dimensions.now) (opening_in of.entry.opening) layer result }
     {
         let mut progress = self.leaf(of.steps, of.opening);
@@ -315,9 +306,8 @@ impl<
             (length of.opening.siblings.now) }
         requires from { from ≤ of.cap_layer }
         requires count { length groups.now ≡ of.cap_layer - from }
-        ensures { let f = functions_by H.hash C.compression (replicate D PW.default_value) self.now in
-            let s = shape_of N of.entry.steps.now.dimensions.now in
-            let mine = group_inputs f s (opening_in of.entry.opening) from of.entry.cap_layer in
+        ensures { let s = shape_of N of.entry.steps.now.dimensions.now in
+            let mine = group_inputs (functions_of self.now) s (opening_in of.entry.opening) from of.entry.cap_layer in
             let theirs = listed_inputs (row_lists groups.now) from of.entry.cap_layer in
             IfOk result (λ found. Shows found (last_difference (input_eq P.Value.eq PW.Value.eq) mine theirs)) }
     {
@@ -344,7 +334,7 @@ impl<
         requires old_arity { old.steps.now.arity ≡ N }
         requires new_arity { new.steps.now.arity ≡ N }
         requires below { CanCompare N layer old new }
-        ensures { let f = functions_by H.hash C.compression (replicate D PW.default_value) self.now in
+        ensures { let f = functions_of self.now in
             let mine = inputs_up_to (params_in f N old.entry) layer (opening_in old.entry.opening) in
             let theirs = inputs_up_to (params_in f N new.entry) layer (opening_in new.entry.opening) in
             IfOk result (λ found. Shows found (last_difference (input_eq P.Value.eq PW.Value.eq) mine theirs)) }
@@ -368,11 +358,9 @@ impl<
         requires arity { proof.growth.arity ≡ N }
         requires old_arity { old.steps.now.arity ≡ N }
         requires new_arity { new.steps.now.arity ≡ N }
-        requires comparable { let f = functions_by H.hash C.compression (replicate D PW.default_value) self.now in
-            IsComparable (grown_in f N proof [] old new) }
+        requires comparable { IsComparable (grown_in (functions_of self.now) N proof [] old new) }
         requires from { from ≡ given_layer proof.growth old.opening.index }
-        ensures counted { let f = functions_by H.hash C.compression (replicate D PW.default_value) self.now in
-            IsCounted (evidence_in f proof.entry) }
+        ensures counted { IsCounted (evidence_in (functions_of self.now) proof.entry) }
         ensures path { IsPath proof.entry.growth old.entry.opening.index from }
         ensures old_reach { CanReach (shape_of N old.entry.steps.now.dimensions.now) old.entry.cap_layer
             (length old.entry.opening.siblings.now) }
@@ -401,10 +389,8 @@ impl<
         requires arity { proof.growth.arity ≡ N }
         requires old_arity { old.steps.now.arity ≡ N }
         requires new_arity { new.steps.now.arity ≡ N }
-        requires comparable { let f = functions_by H.hash C.compression (replicate D PW.default_value) self.now in
-            IsComparable (grown_in f N proof [] old new) }
-        ensures { let f = functions_by H.hash C.compression (replicate D PW.default_value) self.now in
-            let x = grown_in f N proof.entry [] old.entry new.entry in
+        requires comparable { IsComparable (grown_in (functions_of self.now) N proof [] old new) }
+        ensures { let x = grown_in (functions_of self.now) N proof.entry [] old.entry new.entry in
             IfOk result (λ found. option_map inconsistency_in found ≡ inconsistency P.Value.eq PW.Value.eq x) }
     {
         let index = old.opening.index;
@@ -445,19 +431,17 @@ impl<
         old: TreeOpening<'_, P::Value, [PW::Value; D]>,
         new: TreeOpening<'_, P::Value, [PW::Value; D]>,
     )
-        requires setting { let f = functions_by H.hash C.compression (replicate D PW.default_value) self.now in
-            IsSetting (grown_in f N proof new_roots.now old new) }
+        requires setting { IsSetting (grown_in (functions_of self.now) N proof new_roots.now old new) }
         requires old_heights { All (λ d. d.height ≡ proof.growth.old_height) old.steps.now.dimensions.now }
         requires new_heights { All (λ d. d.height ≡ proof.growth.new_height) new.steps.now.dimensions.now }
         requires as_many { length old.steps.now.dimensions.now ≡ length new.steps.now.dimensions.now }
-        requires old { let f = functions_by H.hash C.compression (replicate D PW.default_value) self.now in
+        requires old { let f = functions_of self.now in
             answer_under PW.Value.eq (params_in f N old) proof.old_roots.now (opening_in old.opening) ≡ Ok tt }
-        requires new { let f = functions_by H.hash C.compression (replicate D PW.default_value) self.now in
+        requires new { let f = functions_of self.now in
             answer_under PW.Value.eq (params_in f N new) new_roots.now (opening_in new.opening) ≡ Ok tt }
-        requires consistent { let f = functions_by H.hash C.compression (replicate D PW.default_value) self.now in
+        requires consistent { let f = functions_of self.now in
             consistency_refusal PW.Value.eq (evidence_in f proof) new_roots.now ≡ None }
-        ensures { let f = functions_by H.hash C.compression (replicate D PW.default_value) self.now in
-            IsComparable (grown_in f N proof.entry [] old.entry new.entry) }
+        ensures { IsComparable (grown_in (functions_of self.now) N proof.entry [] old.entry new.entry) }
     {}
 
     /// Extracts a collision from two openings of one index, under the old cap and under the roots of a new one, and a
@@ -484,16 +468,13 @@ impl<
         requires new_arity { new.steps.now.arity ≡ N }
         requires old_check { CanCheck (shape_of N old.steps.now.dimensions.now) old.cap_layer }
         requires new_check { CanCheck (shape_of N new.steps.now.dimensions.now) new.cap_layer }
-        requires setting { let f = functions_by H.hash C.compression (replicate D PW.default_value) self.now in
-            IsSetting (grown_in f N proof new_roots.now old new) }
+        requires setting { IsSetting (grown_in (functions_of self.now) N proof new_roots.now old new) }
         requires old_heights { All (λ d. d.height ≡ proof.growth.old_height) old.steps.now.dimensions.now }
         requires new_heights { All (λ d. d.height ≡ proof.growth.new_height) new.steps.now.dimensions.now }
         requires as_many { length old.steps.now.dimensions.now ≡ length new.steps.now.dimensions.now }
-        ensures answer { let f = functions_by H.hash C.compression (replicate D PW.default_value) self.now in
-            let x = grown_in f N proof.entry new_roots.now old.entry new.entry in
+        ensures answer { let x = grown_in (functions_of self.now) N proof.entry new_roots.now old.entry new.entry in
             ConsistencyAnswers result (checked_refusal PW.Value.eq x) }
-        ensures found { let f = functions_by H.hash C.compression (replicate D PW.default_value) self.now in
-            let x = grown_in f N proof.entry new_roots.now old.entry new.entry in
+        ensures found { let x = grown_in (functions_of self.now) N proof.entry new_roots.now old.entry new.entry in
             IfOk result (λ found. option_map inconsistency_in found ≡ inconsistency P.Value.eq PW.Value.eq x) }
     {
         match self.check_opening(proof.old_roots, old.steps, old.cap_layer, old.opening) {

@@ -6,6 +6,7 @@
 #![tactic(auto)]
 
 mod agreement;
+pub mod checker;
 pub mod consistency;
 mod extraction;
 pub mod inconsistency;

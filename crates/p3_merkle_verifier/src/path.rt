@@ -7,12 +7,13 @@ ghost use Rattle.p3_support.specs.Batches.{heights_of};
 ghost use Rattle.p3_support.specs.Shown.{row_lists};
 ghost use Rattle.p3_merkle_core.specs.Geometry.{layer_exponent, shape_of, step as step_of};
 ghost use Rattle.p3_merkle_core.specs.Checks.{params, siblings_below, words_of_exponent};
-ghost use Rattle.p3_merkle_core.specs.Nodes.{functions_of, padded};
+ghost use Rattle.p3_merkle_core.specs.Nodes.{padded};
 ghost use Rattle.p3_merkle_core.specs.Refusals.{answer_under, form_refusal};
-ghost use Rattle.p3_merkle_verifier.specs.Inner.Checks.{functions_by, opening_in, step_siblings, CanStep};
+ghost use Rattle.p3_merkle_verifier.specs.Inner.Checks.{functions_of, opening_in, step_siblings, CanStep};
 ghost use Rattle.p3_merkle_verifier.specs.Inner.Checks.{IsLevelOfCheck, IsProgress};
 ghost use Rattle.p3_merkle_verifier.specs.Inner.Paths.{CanCheck, CanReach};
 
+use crate::checker::Checker;
 use crate::openings::{OpenedRows, OpeningRef};
 use crate::pruned_check::is_entry;
 use p3_merkle_core::error::MerkleTreeError;
@@ -24,7 +25,6 @@ use p3_support::compress::PseudoCompressionFunction;
 use p3_support::hasher::CryptographicHasher;
 use p3_support::matrix::Dimensions;
 use p3_support::packed::PackedValue;
-use std::marker::PhantomData;
 
 /// How far the check of an opening is on the path from the leaf.
 #[derive(Drop)]
@@ -128,17 +128,6 @@ fn check_form<T>(
     Ok(())
 }
 
-/// Checks openings: it borrows the hasher of rows and the compression of nodes. `G` is the type of a group.
-#[derive(Drop)]
-pub struct Checker<'a, P, PW, H, C, G> {
-    /// The hasher of rows.
-    pub hash: &'a H,
-    /// The compression of the children of a node.
-    pub compress: &'a C,
-    /// The packings of words, and the type of a group.
-    pub item: PhantomData<(P, PW, G)>,
-}
-
 impl<
     'a,
     P: PackedValue,
@@ -147,7 +136,7 @@ impl<
     C: PseudoCompressionFunction<PW, N, D>,
     const N: usize,
     const D: usize,
-> Checker<'a, P, PW, H, C, [[PW::Value; D]; N]> {
+> Checker<'a, P, PW, H, C, [[PW::Value; D]; N], N, D> {
     /// Hashes the rows of the matrices of one exponent, one after another.
     fn row_digest(
         &self,
@@ -172,7 +161,7 @@ impl<
         opening: OpeningRef<'_, P::Value, [PW::Value; D]>,
     ) -> Progress<[PW::Value; D]>
         requires { steps.now.arity ≡ N }
-        ensures { let f = functions_by H.hash C.compression (replicate D PW.default_value) self.now in
+        ensures { let f = functions_of self.now in
             IsProgress f (shape_of N steps.now.dimensions.now) (opening_in opening.entry) 0 result }
     {
         let exponent = steps.exponent;
@@ -199,9 +188,9 @@ impl<
         requires arity { steps.now.arity ≡ N }
         requires reach { CanReach (shape_of N steps.now.dimensions.now) cap_layer (length opening.siblings.now) }
         requires level { level < cap_layer }
-        requires progress { let f = functions_by H.hash C.compression (replicate D PW.default_value) self.now in
+        requires progress { let f = functions_of self.now in
             IsProgress f (shape_of N steps.now.dimensions.now) (opening_in opening) level progress.now }
-        ensures { let f = functions_by H.hash C.compression (replicate D PW.default_value) self.now in
+        ensures { let f = functions_of self.now in
             IsLevelOfCheck f (shape_of N steps.now.dimensions.now) (opening_in opening.entry) level result }
     {
         let StepUp {
@@ -266,7 +255,7 @@ impl<
     ) -> Result<(), MerkleTreeError>
         requires arity { steps.now.arity ≡ N }
         requires check { CanCheck (shape_of N steps.now.dimensions.now) cap_layer }
-        ensures answer { let f = functions_by H.hash C.compression (replicate D PW.default_value) self.now in
+        ensures answer { let f = functions_of self.now in
             result ≡ answer_under PW.Value.eq (params f (shape_of N steps.now.dimensions.now) cap_layer) roots.now
             (opening_in opening.entry) }
         ensures reach { IfOk result (λ ok. CanReach (shape_of N steps.now.dimensions.now) cap_layer

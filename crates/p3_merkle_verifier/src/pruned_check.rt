@@ -9,22 +9,22 @@ ghost use Rattle.p3_support.specs.Shown.{row_sets};
 ghost use Rattle.p3_merkle_core.specs.Checks.{params, words_of_exponent};
 ghost use Rattle.p3_merkle_core.specs.Geometry.{layer_exponent, shape_of};
 ghost use Rattle.p3_merkle_core.specs.Inner.Agreement.{opened_with, AreDistinctOf};
-ghost use Rattle.p3_merkle_core.specs.Nodes.{functions_of, Functions};
+ghost use Rattle.p3_merkle_core.specs.Nodes.{Functions};
 ghost use Rattle.p3_merkle_core.specs.Pruning.{restored_paths};
 ghost use Rattle.p3_merkle_core.specs.Refusals.{cap_refusal, is_entry as is_entry_of, pruned_refusal};
 ghost use Rattle.p3_merkle_core.specs.Refusals.{pruned_refusal_under, AnswersUnlessMemory};
 ghost use Rattle.p3_merkle_core.specs.Views.{shown_paths};
 ghost use Rattle.p3_merkle_digests.specs.Inner.Slots.{rows_over};
-ghost use Rattle.p3_merkle_verifier.specs.Inner.Checks.{functions_by};
-ghost use Rattle.p3_merkle_verifier.specs.Inner.NodeDigests.{child_group, group_digest, query_digest};
+ghost use Rattle.p3_merkle_verifier.specs.Inner.Checks.{functions_of};
+ghost use Rattle.p3_merkle_verifier.specs.Inner.NodeDigests.{child_group, group_digest};
 ghost use Rattle.p3_merkle_verifier.specs.Inner.OpenedMatrices.{row_in};
 ghost use Rattle.p3_merkle_verifier.specs.Inner.Paths.{CanCheck};
-ghost use Rattle.p3_merkle_verifier.specs.Inner.RestoredLevels.{opened_by, pruned_in, tree_of, AreLayers, AreLeaves};
-ghost use Rattle.p3_merkle_verifier.specs.Inner.RestoredLevels.{AreQueriesAt, AreRestored, IsClimb, IsCoveredAt, IsLayer};
-ghost use Rattle.p3_merkle_verifier.specs.Inner.RestoredLevels.{IsLayerAbove};
+ghost use Rattle.p3_merkle_verifier.specs.Inner.RestoredLevels.{opened_by, pruned_in, row_values, tree_of, AreLayers};
+ghost use Rattle.p3_merkle_verifier.specs.Inner.RestoredLevels.{AreLeaves, AreQueriesAt, AreRestored};
+ghost use Rattle.p3_merkle_verifier.specs.Inner.RestoredLevels.{IsClimb, IsCoveredAt, IsLayer, IsLayerAbove};
 
+use crate::checker::Checker;
 use crate::openings::{OpenedMatrix, PrunedOpeningRef, RestorableOpening};
-use crate::path::Checker;
 use p3_merkle_core::error::MerkleTreeError;
 use p3_merkle_core::geometry::exponent_of;
 use p3_merkle_core::pruning::{
@@ -122,12 +122,12 @@ fn queries_at<T, X>(
     restorable: &RestorableOpening<'_, T, X>,
     exponent: usize,
 ) -> Result<Vec<usize>, AllocError>
-    requires { exponent ≤ restorable.now.steps.now.exponent }
-    ensures { (l : ℕ) → l ≤ restorable.now.cap_layer → exponent ≡ layer_exponent (tree_of restorable.now) l →
+    ensures among { IfOk result (λ queries. All (λ k. k < length restorable.now.opening.indices.now) queries.items) }
+    ensures queries { (l : ℕ) → l ≤ restorable.now.cap_layer → exponent ≡ layer_exponent (tree_of restorable.now) l →
         IfOk result (λ queries. AreQueriesAt (tree_of restorable.now) restorable.now.opening.indices.now l
         queries.items) }
 {
-    let bits = restorable.steps.exponent - exponent;
+    let bits = restorable.steps.exponent.saturating_sub(exponent);
     let leaves = &restorable.leaves.indices;
     let mut queries = Vec::with_capacity(alloc, leaves.len())?;
     let mut previous = 0;
@@ -226,22 +226,20 @@ impl<
     C: PseudoCompressionFunction<PW, N, D>,
     const N: usize,
     const D: usize,
-> Checker<'a, P, PW, H, C, [[PW::Value; D]; N]> {
-    /// For each of some queries the digest of its rows, of the matrices of this exponent.
+> Checker<'a, P, PW, H, C, [[PW::Value; D]; N], N, D> {
+    /// The digests of the rows that were opened under the covered nodes of the layer with this exponent, in order.
     fn row_digests(
         &self,
         alloc: Global,
         restorable: &RestorableOpening<'_, P::Value, [PW::Value; D]>,
         exponent: usize,
-        queries: &[usize],
     ) -> Result<Vec<[PW::Value; D]>, AllocError>
-        requires { All (λ k. k < length restorable.now.opening.indices.now) queries.now }
-        ensures count { IfOk result (λ digests. length digests.items ≡ length queries.now) }
-        ensures digests { let digest = query_digest (H.hash self.now.hash.now) exponent
-            (heights_of restorable.now.steps.now.dimensions.now) (row_sets restorable.now.opening.sets.now) in
-            IfOk result (λ digests. digests.items ≡ map digest queries.now) }
+        ensures { (l : ℕ) → l ≤ restorable.now.cap_layer → exponent ≡ layer_exponent (tree_of restorable.now) l →
+            IfOk result (λ digests. digests.items
+            ≡ row_values (functions_of self.now) (tree_of restorable.now) (opened_by restorable.now) l) }
     {
-        let matrices = opened_matrices(alloc, restorable, exponent, queries)?;
+        let queries = queries_at(alloc, restorable, exponent)?;
+        let matrices = opened_matrices(alloc, restorable, exponent, &queries)?;
         let height = queries.len();
         let rows = LayerRows::<P, PW, H, OpenedMatrix<'_, P::Value>, [PW::Value; D]> {
             hash: self.hash,
@@ -275,9 +273,9 @@ impl<
         Ok(digests)
     }
 
-    /// The restored digests of the covered nodes of a layer, in order: those of the rows of a query under each at the
-    /// leaves, and above them those of the nodes' children, each compressed with that of such rows where matrices
-    /// belong to the layer.
+    /// The restored digests of the covered nodes of a layer, in order: those of the rows under each at the leaves, and
+    /// above them those of the nodes' children, each compressed with that of such rows where matrices belong to the
+    /// layer.
     pub(crate) fn node_digests(
         &self,
         alloc: Global,
@@ -287,23 +285,21 @@ impl<
     ) -> Result<Vec<[PW::Value; D]>, AllocError>
         requires arity { restorable.now.steps.now.arity ≡ N }
         requires in_tree { layer ≤ restorable.now.cap_layer }
-        requires covered { let f = functions_by H.hash C.compression (replicate D PW.default_value) self.now in
+        requires covered { let f = functions_of self.now in
             IsLayer f (tree_of restorable.now) restorable.now.cap_layer (opened_by restorable.now) layer covered.now }
         ensures count { IfOk result (λ digests. length digests.items ≡ length covered.now.nodes.items) }
-        ensures restored { let f = functions_by H.hash C.compression (replicate D PW.default_value) self.now in
+        ensures restored { let f = functions_of self.now in
             IfOk result (λ digests. AreRestored f (tree_of restorable.now) restorable.now.cap_layer
             (opened_by restorable.now) layer digests.items) }
     {
         if layer == 0 {
-            let queries = &restorable.leaves.first_queries;
-            return self.row_digests(alloc, restorable, covered.exponent, queries);
+            return self.row_digests(alloc, restorable, covered.exponent);
         }
         let mut digests = self.group_digests(alloc, &covered.children, covered.step)?;
         if !covered.has_rows {
             return Ok(digests);
         }
-        let queries = queries_at(alloc, restorable, covered.exponent)?;
-        let rows = self.row_digests(alloc, restorable, covered.exponent, &queries)?;
+        let rows = self.row_digests(alloc, restorable, covered.exponent)?;
         let mut pairs = Vec::with_capacity(alloc, rows.len())?;
         inject_row_digests::<PW, C, N, D>(self.compress, &mut pairs, &rows, &mut digests)?;
         Ok(digests)
@@ -318,11 +314,10 @@ impl<
         roots: &[[PW::Value; D]],
     ) -> Result<(), MerkleTreeError>
         requires arity { restorable.now.steps.now.arity ≡ N }
-        requires covered { let f = functions_by H.hash C.compression (replicate D PW.default_value) self.now in
+        requires covered { let f = functions_of self.now in
             IsLayer f (tree_of restorable.now) restorable.now.cap_layer (opened_by restorable.now)
             restorable.now.cap_layer covered.now }
-        ensures { let f = functions_by H.hash C.compression (replicate D PW.default_value) self.now in
-            let c = params f (tree_of restorable.now) restorable.now.cap_layer in
+        ensures { let c = params (functions_of self.now) (tree_of restorable.now) restorable.now.cap_layer in
             AnswersUnlessMemory result (cap_refusal PW.Value.eq c roots.now (opened_by restorable.now)) }
     {
         let digests = self.node_digests(alloc, restorable, restorable.cap_layer, covered)?;
@@ -341,7 +336,7 @@ impl<
     ) -> Result<CoveredLayer<[PW::Value; D]>, AllocError>
         requires arity { restorable.now.steps.now.arity ≡ N }
         requires leaves { AreLeaves (tree_of restorable.now) restorable.now.opening.indices.now leaves }
-        ensures { let f = functions_by H.hash C.compression (replicate D PW.default_value) self.now in
+        ensures { let f = functions_of self.now in
             let cap_layer = restorable.now.cap_layer in
             IfOk result (λ top. IsLayer f (tree_of restorable.now) cap_layer (opened_by restorable.now) cap_layer top) }
     {
@@ -365,7 +360,7 @@ impl<
     ) -> Result<Vec<CoveredLayer<[PW::Value; D]>>, AllocError>
         requires arity { restorable.now.steps.now.arity ≡ N }
         requires leaves { AreLeaves (tree_of restorable.now) restorable.now.opening.indices.now leaves }
-        ensures { let f = functions_by H.hash C.compression (replicate D PW.default_value) self.now in
+        ensures { let f = functions_of self.now in
             let cap_layer = restorable.now.cap_layer in
             IfOk result (λ layers. AreLayers f (tree_of restorable.now) cap_layer (opened_by restorable.now) cap_layer
             layers.items) }
@@ -400,7 +395,7 @@ impl<
     ) -> Result<(), MerkleTreeError>
         requires arity { steps.now.arity ≡ N }
         requires check { CanCheck (shape_of steps.now.arity steps.now.dimensions.now) cap_layer }
-        ensures { let f = functions_by H.hash C.compression (replicate D PW.default_value) self.now in
+        ensures { let f = functions_of self.now in
             let c = params f (shape_of steps.now.arity steps.now.dimensions.now) cap_layer in
             AnswersUnlessMemory result
             (pruned_refusal_under P.Value.eq PW.Value.eq c roots.now (pruned_in opening.entry)) }
@@ -424,11 +419,11 @@ impl<
     ) -> Result<(DistinctQueries, Vec<AuthPath<[PW::Value; D]>>), MerkleTreeError>
         requires arity { steps.now.arity ≡ N }
         requires check { CanCheck (shape_of steps.now.arity steps.now.dimensions.now) cap_layer }
-        ensures answer { let f = functions_by H.hash C.compression (replicate D PW.default_value) self.now in
+        ensures answer { let f = functions_of self.now in
             let c = params f (shape_of steps.now.arity steps.now.dimensions.now) cap_layer in
             AnswersUnlessMemory result
             (pruned_refusal_under P.Value.eq PW.Value.eq c roots.now (pruned_in opening.entry)) }
-        ensures paths { let f = functions_by H.hash C.compression (replicate D PW.default_value) self.now in
+        ensures paths { let f = functions_of self.now in
             let c = params f (shape_of steps.now.arity steps.now.dimensions.now) cap_layer in
             IfOk result (λ made. shown_paths made.1.items ≡ restored_paths c (pruned_in opening.entry)) }
         ensures leaves { IfOk result (λ made. AreDistinctOf made.0 opening.entry.indices.now) }
@@ -461,7 +456,7 @@ impl<
         requires check { CanCheck (shape_of steps.now.arity steps.now.dimensions.now) cap_layer }
         ensures answer { AnswersUnlessMemory result (pruned_refusal P.Value.eq
             (shape_of steps.now.arity steps.now.dimensions.now) cap_layer (pruned_in opening.entry)) }
-        ensures paths { let f = functions_by H.hash C.compression (replicate D PW.default_value) self.now in
+        ensures paths { let f = functions_of self.now in
             let c = params f (shape_of steps.now.arity steps.now.dimensions.now) cap_layer in
             IfOk result (λ paths. shown_paths paths.items ≡ restored_paths c (pruned_in opening.entry)) }
     {

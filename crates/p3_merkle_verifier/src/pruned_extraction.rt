@@ -5,18 +5,17 @@ ghost use Rattle.std.specs.Option.{option_or};
 ghost use Rattle.p3_merkle_core.specs.Checks.{params};
 ghost use Rattle.p3_merkle_core.specs.Extraction.{difference_of, first_pair};
 ghost use Rattle.p3_merkle_core.specs.Geometry.{shape_of};
-ghost use Rattle.p3_merkle_core.specs.Nodes.{functions_of};
 ghost use Rattle.p3_merkle_core.specs.Pruning.{opening_at};
 ghost use Rattle.p3_merkle_core.specs.Refusals.{pruned_refusal_under, AnswersUnlessMemory};
-ghost use Rattle.p3_merkle_verifier.specs.Inner.Checks.{functions_by, opening_in, AgreeBelow};
+ghost use Rattle.p3_merkle_verifier.specs.Inner.Checks.{functions_of, opening_in, AgreeBelow};
 ghost use Rattle.p3_merkle_verifier.specs.Inner.Paths.{CanCheck, CanReach};
 ghost use Rattle.p3_merkle_verifier.specs.Inner.QueryPairs.{query_difference, first_place, query_in};
 ghost use Rattle.p3_merkle_verifier.specs.Inner.QueryPairs.{AgreesWithAll, AreConsistent, AreQueriesOf, CanCompare};
 ghost use Rattle.p3_merkle_verifier.specs.Inner.QueryPairs.{HasLeaves, ShowsAt, ShowsPair, StandsBetween};
 ghost use Rattle.p3_merkle_verifier.specs.Inner.RestoredLevels.{pruned_in};
 
+use crate::checker::Checker;
 use crate::openings::{OpeningRef, PrunedOpeningRef};
-use crate::path::Checker;
 use p3_merkle_core::collision::Collision;
 use p3_merkle_core::error::MerkleTreeError;
 use p3_merkle_core::pruning::{AuthPath, DistinctQueries};
@@ -82,7 +81,7 @@ impl<
     C: PseudoCompressionFunction<PW, N, D>,
     const N: usize,
     const D: usize,
-> Checker<'a, P, PW, H, C, [[PW::Value; D]; N]> {
+> Checker<'a, P, PW, H, C, [[PW::Value; D]; N], N, D> {
     /// The queries of a pruned opening that is checked, each with its restored path.
     fn checked_queries<'b>(
         &self,
@@ -94,17 +93,16 @@ impl<
     ) -> Result<RestoredQueries<'b, P::Value, [PW::Value; D]>, MerkleTreeError>
         requires arity { steps.now.arity ≡ N }
         requires check { CanCheck (shape_of steps.now.arity steps.now.dimensions.now) cap_layer }
-        ensures answer { let f = functions_by H.hash C.compression (replicate D PW.default_value) self.now in
+        ensures answer { let f = functions_of self.now in
             let c = params f (shape_of steps.now.arity steps.now.dimensions.now) cap_layer in
             AnswersUnlessMemory result
             (pruned_refusal_under P.Value.eq PW.Value.eq c roots.now (pruned_in opening.entry)) }
         ensures comparable { let s = shape_of steps.now.arity steps.now.dimensions.now in
             IfOk result (λ queries. CanCompare s cap_layer queries) }
-        ensures consistent { let f = functions_by H.hash C.compression (replicate D PW.default_value) self.now in
-            let s = shape_of steps.now.arity steps.now.dimensions.now in
-            IfOk result (λ queries. AreConsistent f s cap_layer queries) }
+        ensures consistent { let s = shape_of steps.now.arity steps.now.dimensions.now in
+            IfOk result (λ queries. AreConsistent (functions_of self.now) s cap_layer queries) }
         ensures leaves { IfOk result (λ queries. HasLeaves queries) }
-        ensures restored { let f = functions_by H.hash C.compression (replicate D PW.default_value) self.now in
+        ensures restored { let f = functions_of self.now in
             let s = shape_of steps.now.arity steps.now.dimensions.now in
             IfOk result (λ queries. AreQueriesOf f s cap_layer (pruned_in opening.entry) queries) }
     {
@@ -131,7 +129,7 @@ impl<
             (length first.siblings.now) }
         requires queries { CanCompare (shape_of steps.now.arity steps.now.dimensions.now) cap_layer queries.now }
         requires place { place < length queries.now.paths.items }
-        ensures { let f = functions_by H.hash C.compression (replicate D PW.default_value) self.now in
+        ensures { let f = functions_of self.now in
             let s = shape_of steps.now.arity steps.now.dimensions.now in
             IsTrue result → AgreeBelow f s (opening_in first.entry) (query_in queries.now place) cap_layer }
     {
@@ -153,13 +151,12 @@ impl<
         requires first { CanReach (shape_of steps.now.arity steps.now.dimensions.now) cap_layer
             (length first.siblings.now) }
         requires queries { CanCompare (shape_of steps.now.arity steps.now.dimensions.now) cap_layer queries.now }
-        requires consistent { let f = functions_by H.hash C.compression (replicate D PW.default_value) self.now in
+        requires consistent { let f = functions_of self.now in
             AreConsistent f (shape_of steps.now.arity steps.now.dimensions.now) cap_layer queries.now }
         requires leaves { HasLeaves queries.now }
-        ensures { let f = functions_by H.hash C.compression (replicate D PW.default_value) self.now in
-            let s = shape_of steps.now.arity steps.now.dimensions.now in
+        ensures { let s = shape_of steps.now.arity steps.now.dimensions.now in
             let o = opening_in first.entry in
-            IsTrue result → AgreesWithAll P.Value.eq PW.Value.eq f s cap_layer o queries.now }
+            IsTrue result → AgreesWithAll P.Value.eq PW.Value.eq (functions_of self.now) s cap_layer o queries.now }
     {
         if queries.paths.is_empty() {
             return true;
@@ -185,10 +182,10 @@ impl<
         requires first { CanReach (shape_of steps.now.arity steps.now.dimensions.now) cap_layer
             (length first.siblings.now) }
         requires queries { CanCompare (shape_of steps.now.arity steps.now.dimensions.now) cap_layer queries.now }
-        requires consistent { let f = functions_by H.hash C.compression (replicate D PW.default_value) self.now in
+        requires consistent { let f = functions_of self.now in
             AreConsistent f (shape_of steps.now.arity steps.now.dimensions.now) cap_layer queries.now }
         requires leaves { HasLeaves queries.now }
-        ensures { let f = functions_by H.hash C.compression (replicate D PW.default_value) self.now in
+        ensures { let f = functions_of self.now in
             let s = shape_of steps.now.arity steps.now.dimensions.now in
             let o = opening_in first.entry in
             let differs = first_place
@@ -222,13 +219,12 @@ impl<
         requires arity { steps.now.arity ≡ N }
         requires first { CanCompare (shape_of steps.now.arity steps.now.dimensions.now) cap_layer first.now }
         requires second { CanCompare (shape_of steps.now.arity steps.now.dimensions.now) cap_layer second.now }
-        requires consistent { let f = functions_by H.hash C.compression (replicate D PW.default_value) self.now in
+        requires consistent { let f = functions_of self.now in
             AreConsistent f (shape_of steps.now.arity steps.now.dimensions.now) cap_layer second.now }
         requires leaves { HasLeaves second.now }
-        ensures { let f = functions_by H.hash C.compression (replicate D PW.default_value) self.now in
-            let s = shape_of steps.now.arity steps.now.dimensions.now in
+        ensures { let s = shape_of steps.now.arity steps.now.dimensions.now in
             let differ = first_pair
-            (λ a b. query_difference P.Value.eq PW.Value.eq f s cap_layer (query_in first.now a)
+            (λ a b. query_difference P.Value.eq PW.Value.eq (functions_of self.now) s cap_layer (query_in first.now a)
             (query_in second.now b)) (length first.now.paths.items) (length second.now.paths.items) in
             IfOk result (λ found. ShowsPair found differ) }
     {
@@ -265,12 +261,12 @@ impl<
     ) -> Result<Option<(usize, usize, Collision<P::Value, PW::Value, D>)>, MerkleTreeError>
         requires arity { steps.now.arity ≡ N }
         requires check { CanCheck (shape_of steps.now.arity steps.now.dimensions.now) cap_layer }
-        ensures answer { let f = functions_by H.hash C.compression (replicate D PW.default_value) self.now in
+        ensures answer { let f = functions_of self.now in
             let c = params f (shape_of steps.now.arity steps.now.dimensions.now) cap_layer in
             let refusal = pruned_refusal_under P.Value.eq PW.Value.eq c roots.now in
             AnswersUnlessMemory result
             (option_or (refusal (pruned_in first.entry)) (refusal (pruned_in second.entry))) }
-        ensures found { let f = functions_by H.hash C.compression (replicate D PW.default_value) self.now in
+        ensures found { let f = functions_of self.now in
             let c = params f (shape_of steps.now.arity steps.now.dimensions.now) cap_layer in
             let p = pruned_in first.entry in
             let r = pruned_in second.entry in

@@ -1,24 +1,35 @@
 -- How far the checks of openings have come.
 use Rattle.std.specs.Prelude.{◌≡◌, ◌+◌, ◌-◌, ◌/◌, ◌<◌, ◌≤◌, ◌==◌, ℕ, suc, List, [], ◌∷◌, Bool, Option, None, if◌then◌else◌}
-use Rattle.std.specs.Prelude.{drop, take}
+use Rattle.std.specs.Prelude.{drop, replicate, take}
+use Rattle.std.specs.declared.default.Default as default
+use Rattle.std.specs.declared.cmp.PartialEq as equality
+use Rattle.p3_support.specs.declared.compress.PseudoCompressionFunction as compressor
+use Rattle.p3_support.specs.declared.hasher.CryptographicHasher as hasher
+use Rattle.p3_support.specs.declared.packed.PackedValue as packed
 use Rattle.p3_merkle_core.specs.Extraction.{last_difference}
 use Rattle.p3_merkle_core.specs.Geometry.{Shape, ancestor, layer_exponent}
-use Rattle.p3_merkle_core.specs.Nodes.{Functions, functions_of}
+use Rattle.p3_merkle_core.specs.Nodes.{Functions}
 use Rattle.p3_merkle_core.specs.Openings.{Opening, opening_of}
 use Rattle.p3_merkle_core.specs.Checks.{Input, inputs_at, path_digest, layer_words, siblings_below, leaf_input}
 use Rattle.p3_merkle_core.specs.declared.collision.InputPair.{InputPair}
 use Rattle.p3_support.specs.Shown.{row_lists}
 use Rattle.p3_merkle_verifier.specs.declared.openings.OpeningRef.{OpeningRef}
 use Rattle.p3_merkle_verifier.specs.declared.path.ComputedLevel.{ComputedLevel}
-use Rattle.p3_merkle_verifier.specs.declared.path.Checker.{Checker}
+use Rattle.p3_merkle_verifier.specs.declared.checker.Checker.{Checker}
 use Rattle.p3_merkle_verifier.specs.declared.path.Progress.{Progress}
 use Rattle.p3_merkle_verifier.specs.Inner.Collisions.{level_inputs, Shows}
 
--- what a checker's hasher and compression compute, with this default digest
-abbrev pub functions_by : {P PW H C G T W : Type 0} → (H → List T → List W) → (C → List (List W) → List W) → List W →
-    Checker P PW H C G → Functions T W
-functions_by hash compression default_digest checker =
-    functions_of (hash checker.hash.now) (compression checker.compress.now) default_digest
+-- what a checker's hasher and compression compute, and the digest of default words
+abbrev pub functions_of : {P PW H C G V W : Type 0} {N D : ℕ} {p : packed.Ghosts P V} {pd : default.Ghosts V}
+    {pe : equality.Ghosts V} {q : packed.Ghosts PW W} {qd : default.Ghosts W} {qe : equality.Ghosts W}
+    {h : hasher.Ghosts H P PW D V W} {c : compressor.Ghosts C PW N D W} →
+    Checker P PW H C G N D V W p pd pe q qd qe h c → Functions V W
+functions_of {D = D} {q = q} {h = h} {c = c} checker =
+    record {
+      hash = h.hash checker.hash.now;
+      compression = c.compression checker.compress.now;
+      default_digest = replicate D q.default_value;
+    }
 
 -- a borrowed opening with its index
 abbrev pub opening_in : {T W : Type 0} → OpeningRef T (List W) → Opening T W

@@ -25,12 +25,11 @@ pair_digest compression n default_digest pair = compression (digest_pair n defau
 abbrev pub query_digest : {T W : Type 0} → (List T → List W) → ℕ → List ℕ → List (List (List T)) → ℕ → List W
 query_digest hash exponent heights sets k = hash (words_of_exponent exponent (zip heights (slice_index_or sets k [])))
 
--- the digests of a layer's covered nodes: of the groups of children, each compressed once more with that of the
--- rows of its query where the layer, of this exponent, has any
-abbrev pub layer_digests : {T W : Type 0} → Functions T W → ℕ → ℕ → Bool → List ℕ → ℕ → List (List (List T)) →
-    List ℕ → List (List W) → List (List W)
-layer_digests f n step has heights exponent sets queries children =
+-- the digests of a layer's covered nodes: of the groups of children, each compressed once more with that of its rows
+-- where the layer has any
+abbrev pub layer_digests : {T W : Type 0} → Functions T W → ℕ → ℕ → Bool → List (List W) → List (List W) →
+    List (List W)
+layer_digests f n step has rows children =
     let nodes = map (group_digest f.compression n f.default_digest step children)
     (range_with_len 0 (length children / step)) in
-    if has then map (pair_digest f.compression n f.default_digest)
-    (zip nodes (map (query_digest f.hash exponent heights sets) queries)) else nodes
+    if has then map (pair_digest f.compression n f.default_digest) (zip nodes rows) else nodes

@@ -7,7 +7,7 @@ use Rattle.p3_merkle_core.specs.Geometry.{Shape, ancestor, has_rows, layer_expon
 use Rattle.p3_merkle_core.specs.Inner.Children.{levels_in, AreChildren, AreLinked}
 use Rattle.p3_merkle_core.specs.Inner.Covered.{covered_at}
 use Rattle.p3_merkle_core.specs.Nodes.{Functions}
-use Rattle.p3_merkle_core.specs.Pruning.{PrunedOpening, boundary, pruned_of, restored_node, value_of}
+use Rattle.p3_merkle_core.specs.Pruning.{PrunedOpening, boundary, pruned_of, restored_node, value_of, words_under}
 use Rattle.p3_merkle_core.specs.declared.pruning.CoveredLayer.{CoveredLayer}
 use Rattle.p3_support.specs.Shown.{row_sets}
 use Rattle.p3_merkle_verifier.specs.declared.openings.PrunedOpeningRef.{PrunedOpeningRef}
@@ -33,6 +33,10 @@ node_of_query s indices l k = ancestor s l (slice_index indices k)
 pub record AreQueriesAt (s : Shape) (indices : List ℕ) (l : ℕ) (queries : List ℕ) : Type 0 where
   pub queries_are : covered_at s indices l ≡ map (node_of_query s indices l) queries
   pub among : All (λ k. k < length indices) queries
+
+-- the digests of the rows that were opened under the covered nodes of layer l
+abbrev pub row_values : {T W : Type 0} → Functions T W → Shape → PrunedOpening T W → ℕ → List (List W)
+row_values f s p l = map (λ j. f.hash (words_under s p l j)) (covered_at s p.indices l)
 
 -- the covered nodes of layer l, and how many boundary nodes are below the layer
 pub record IsCoveredAt {X : Type 0} (s : Shape) (indices : List ℕ) (l : ℕ) (covered : CoveredLayer X) : Type 0 where

@@ -1,5 +1,5 @@
 -- The parents are covered, and what is left of the digests that were sent is enough.
-use Rattle.std.proofs.Common.{◌≡◌, ◌∙◌, ◌+◌, ◌-◌, ◌*◌, add-one, ap, arith, drop, length, map, refl, sym}
+use Rattle.std.proofs.Common.{◌≡◌, ◌∙◌, ◌+◌, ◌-◌, ◌*◌, add-one, ap, arith, drop, length, refl}
 use Rattle.std.proofs.lemmas.List.{take_rest}
 use Rattle.std.proofs.lemmas.Result.{err_from_is_err_and}
 use Rattle.p3_merkle_core.proofs.Covered.CoveredFacts.{turn_at}

@@ -1,5 +1,5 @@
 -- Each turn looks at one more matrix.
-use Rattle.std.proofs.Common.{◌≡◌, ◌∙◌, ℕ, ◌<◌, [], List, All, ap, arith, get_or, length, refl, subst, sym, zip}
+use Rattle.std.proofs.Common.{◌≡◌, ◌∙◌, ℕ, ◌<◌, [], All, ap, arith, get_or, length, refl, subst, sym, zip}
 use Rattle.std.specs.List.{flat_map}
 use Rattle.std.specs.declared.vec.Vec.{Vec}
 use Rattle.std.proofs.lemmas.List.{get_or-map, length-map, take_all}

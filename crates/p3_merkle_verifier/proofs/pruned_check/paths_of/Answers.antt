@@ -1,6 +1,6 @@
 -- Each turn reads one more path; the paths out of the layers are the restored ones.
-use Rattle.std.proofs.Common.{◌≡◌, ◌∙◌, ap, arith, get_or, refl}
-use Rattle.std.proofs.lemmas.List.{get_or_default, take_all}
+use Rattle.std.proofs.Common.{◌∙◌, ap, arith, get_or, refl}
+use Rattle.std.proofs.lemmas.List.{take_all}
 use Rattle.p3_merkle_core.specs.Inner.Children.{levels_in, path_out_of, paths_out_of}
 use Rattle.p3_merkle_core.proofs.Covered.CoveredFacts.{covered_leaf, covered_listed}
 use Rattle.p3_merkle_core.proofs.Pruned.SlotFacts.{queried_at}

@@ -37,7 +37,7 @@ loop-slot-preserved g c =
     let leaves = restorable.leaves.indices.items in
     let firsts = restorable.leaves.first_queries.items in
     let i = c.loop-slot.slot in
-    let step = 2 ^ (restorable.steps.now.exponent - c.args.exponent) in
+    let step = 2 ^ c.saturating_sub-bits.result in
     let so_far = c.loop-slot.invariant in
     let are = leaf_queries s indices restorable.leaves restorable.distinct in
     let pairs : length firsts ≡ length leaves = sym (ap length are ∙ length-map firsts node) in
@@ -88,17 +88,20 @@ loop-slot-preserved g c =
       ];
     }
 
-pub returns : goal.returns
-returns g c l h at =
+pub returns-clause-among : goal.returns-clause-among
+returns-clause-among g c = c.loop-slot.invariant.among
+
+pub returns-clause-queries : goal.returns-clause-queries
+returns-clause-queries g c l h at =
     let restorable = c.args.restorable.now in
     let s = tree_of restorable in
     let indices = restorable.opening.indices.now in
-    let bits = restorable.steps.now.exponent - c.args.exponent in
+    let bits = c.saturating_sub-bits.result in
     let leaves = restorable.leaves.indices.items in
     let half = λ (j : ℕ). j / 2 ^ bits in
     let all = take_all c.loop-slot.slot (map half leaves) (omega (arith, length-map leaves half)) in
     queries_known s indices restorable.cap_layer restorable.queried l bits h
-    (rw (at, restorable.steps.now.walked.leaves, layer_start s) refl) c.loop-slot.queries.items
+    (c.saturating_sub-bits.ensures ∙ rw (at, restorable.steps.now.walked.leaves, layer_start s) refl) c.loop-slot.queries.items
     c.loop-slot.invariant.among
     (c.loop-slot.invariant.under ∙ ap (dedup eqb) all
     ∙ ap (λ xs. dedup eqb (map half xs)) restorable.distinct.indices)

@@ -1,4 +1,4 @@
-use Rattle.std.proofs.Common.{◌≡◌, ◌<◌, ◌≤◌, ◌/◌, ◌-◌, ◌^◌, ℕ, All, eqb, get_or, length, map, take}
+use Rattle.std.proofs.Common.{◌≡◌, ◌<◌, ◌≤◌, ◌/◌, ◌-◌, ◌^◌, All, eqb, get_or, length, map, take}
 use Rattle.std.specs.List.{dedup}
 use Rattle.p3_merkle_verifier.specs.Inner.RestoredLevels.{node_of_query, tree_of}
 use Rattle.p3_merkle_verifier.proofs.pruned_check.queries_at.Given as goal

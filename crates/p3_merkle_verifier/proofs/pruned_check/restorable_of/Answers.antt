@@ -1,21 +1,18 @@
 -- What is not refused restores, and its distinct indices are the covered leaves.
-use Rattle.std.proofs.Common.{◌∙◌, [], ap, length, map, refl, replicate, sym}
+use Rattle.std.proofs.Common.{◌∙◌, [], ap, length, refl, replicate, sym}
 use Rattle.std.proofs.lemmas.List.{length-map, length-replicate}
 use Rattle.std.proofs.lemmas.Result.{err_from_is_err_and}
 use Rattle.p3_support.specs.Batches.{greatest}
 use Rattle.p3_support.specs.Shown.{row_lists, row_sets}
 use Rattle.p3_merkle_core.specs.Geometry.{heights, shape_of}
-use Rattle.p3_merkle_core.specs.Inner.Agreement.{distinct, opened_with}
+use Rattle.p3_merkle_core.specs.Inner.Agreement.{opened_with}
 use Rattle.p3_merkle_core.specs.Refusals.{ok_unless}
-use Rattle.p3_merkle_core.proofs.Pruned.AgreeFacts.{firsts_inside}
 use Rattle.p3_merkle_core.proofs.Pruned.Answered.{restorable}
 use Rattle.p3_merkle_core.proofs.Pruned.PrunedFacts.{asked_of}
-use Rattle.p3_merkle_core.proofs.Pruned.SlotFacts.{all_below, distinct_from, distinct_queried}
+use Rattle.p3_merkle_core.proofs.Pruned.SlotFacts.{all_below, distinct_from}
 use Rattle.p3_merkle_core.proofs.Shapes.GateFacts.{none_large_from_lawful, tallest_fits}
-use Rattle.p3_merkle_verifier.specs.Inner.RestoredLevels.{node_of_query}
 use Rattle.p3_merkle_verifier.proofs.LayerFacts.{agreed_with}
 use Rattle.p3_merkle_verifier.proofs.RefusalFacts.{handed_on}
-use Rattle.p3_merkle_verifier.proofs.StartFacts.{queried_by_firsts}
 use Rattle.p3_merkle_verifier.proofs.pruned_check.restorable_of.Goals as goal
 
 pub returns-in_err-queried-clause-steps : goal.returns-in_err-queried-clause-steps

@@ -1,0 +1,48 @@
+-- Each turn is one level of both checks.
+use Rattle.std.proofs.Common.{◌≡◌, add-one, ap, arith, zip}
+use Rattle.p3_support.specs.Batches.{heights_of}
+use Rattle.p3_merkle_core.specs.Checks.{words_of_exponent}
+use Rattle.p3_merkle_core.specs.Extraction.{input_eq}
+use Rattle.p3_merkle_core.specs.Geometry.{shape_of}
+use Rattle.p3_merkle_verifier.specs.Inner.Checks.{functions_of, opening_in}
+use Rattle.p3_merkle_verifier.proofs.SharedFacts.{difference_shared}
+use Rattle.p3_merkle_verifier.proofs.WalkFacts.{found_next}
+use Rattle.p3_merkle_verifier.proofs.extraction.Checker+P+PW+H+C+array+N+array+D+PW+Value+N+D.last_difference.Goals as goal
+
+pub loop-level-init : goal.loop-level-init
+loop-level-init g c = record {
+  first_progress = c.leaf-first_progress.ensures;
+  second_progress = c.leaf-second_progress.ensures;
+  found = rw c.requires.arity at c.in_ok-last.ensures;
+}
+
+pub loop-level-preserved : goal.loop-level-preserved
+loop-level-preserved g c =
+    let f = functions_of c.args.self.now in
+    let s = shape_of g.row.N c.args.steps.now.dimensions.now in
+    let l = c.loop-level.level in
+    let o = opening_in c.args.first in
+    let u = opening_in c.args.second in
+    let heights = heights_of c.args.steps.now.dimensions.now in
+    let mine = c.computed_level-mine.ensures in
+    let theirs = c.computed_level-theirs.ensures in
+    record {
+      first_progress = rw add-one mine.progress;
+      second_progress = rw add-one theirs.progress;
+      found = found_next (input_eq g.P.Value.PartialEq.eq g.PW.Value.PartialEq.eq) f s l o u c.loop-level.last
+          c.or-last.result c.in_ok-found.found c.loop-level.invariant.found
+          (c.in_ok-found.ensures f s l o u mine theirs
+          (ap (λ x. words_of_exponent x (zip heights o.rows)) mine.progress.at_exponent)
+          (ap (λ x. words_of_exponent x (zip heights u.rows)) mine.progress.at_exponent)) c.or-last.ensures;
+    }
+
+pub returns : goal.returns
+returns g c =
+    let f = functions_of c.args.self.now in
+    let test = input_eq g.P.Value.PartialEq.eq g.PW.Value.PartialEq.eq in
+    let here : c.loop-level.level ≡ c.args.cap_layer = omega arith in
+    rw (
+      ← difference_shared test f (shape_of g.row.N c.args.steps.now.dimensions.now) (opening_in c.args.first)
+          (opening_in c.args.second) c.args.cap_layer,
+      ← here,
+    ) c.loop-level.invariant.found

@@ -1,0 +1,112 @@
+-- The leaves have the digests of their rows, and other nodes those of their groups, with their rows.
+use Rattle.std.proofs.Common.{◌≡◌, ◌∙◌, ◌<◌, [], ap, arith, drop, length, map, sym, take, zip, ◌++◌}
+use Rattle.std.proofs.lemmas.Bool.{true≢false}
+use Rattle.std.proofs.lemmas.List.{length-map, take_at}
+use Rattle.std.proofs.lemmas.Result.{err_from_is_err_and, IfOk-weaker}
+use Rattle.p3_merkle_core.specs.Inner.Covered.{covered_at}
+use Rattle.p3_merkle_core.specs.Pruning.{words_under}
+use Rattle.p3_merkle_verifier.specs.Inner.Checks.{functions_of}
+use Rattle.p3_merkle_verifier.specs.Inner.NodeDigests.{pair_digest}
+use Rattle.p3_merkle_verifier.specs.Inner.RestoredLevels.{opened_by, tree_of}
+use Rattle.p3_merkle_verifier.proofs.GroupFacts.{pairs_injected}
+use Rattle.p3_merkle_verifier.proofs.LayerFacts.{digests_long, leaves_restored, restored_at}
+use Rattle.p3_merkle_verifier.proofs.pruned_check.Checker+P+PW+H+C+array+N+array+D+PW+Value+N+D.node_digests.Goals as goal
+
+pub returns-in_err-digests : goal.returns-in_err-digests
+returns-in_err-digests g c =
+    let p = err_from_is_err_and c.from_residual.result c.from_residual.ensures.1 in
+    record { count = rw p.1 tt; restored = rw p.1 tt }
+
+pub returns-in_err-rows : goal.returns-in_err-rows
+returns-in_err-rows g c =
+    let p = err_from_is_err_and c.from_residual-in_err-rows.result c.from_residual-in_err-rows.ensures.1 in
+    record { count = rw p.1 tt; restored = rw p.1 tt }
+
+pub returns-in_err-pairs : goal.returns-in_err-pairs
+returns-in_err-pairs g c =
+    let p = err_from_is_err_and c.from_residual-in_err-pairs.result c.from_residual-in_err-pairs.ensures.1 in
+    record { count = rw p.1 tt; restored = rw p.1 tt }
+
+pub returns-in_err-inject_row_digests : goal.returns-in_err-inject_row_digests
+returns-in_err-inject_row_digests g c =
+    let p = err_from_is_err_and c.from_residual-in_err-inject_row_digests.result
+    c.from_residual-in_err-inject_row_digests.ensures.1 in
+    record { count = rw p.1 tt; restored = rw p.1 tt }
+
+pub returns-then-layer-eq0-clause-restored : goal.returns-then-layer-eq0-clause-restored
+returns-then-layer-eq0-clause-restored g c =
+    let restorable = c.args.restorable.now in
+    let f = functions_of c.args.self.now in
+    let s = tree_of restorable in
+    let p = opened_by restorable in
+    let rows = c.row_digests.ensures c.args.layer c.requires.in_tree c.requires.covered.coverage.at_exponent in
+    rw c.if-layer-eq0.true
+    (IfOk-weaker c.row_digests.result _ _ (λ digests is. leaves_restored f s restorable.cap_layer p digests.items is)
+    (rw c.if-layer-eq0.true at rows))
+
+pub returns-then-layer-eq0-clause-count : goal.returns-then-layer-eq0-clause-count
+returns-then-layer-eq0-clause-count g c =
+    let restorable = c.args.restorable.now in
+    let f = functions_of c.args.self.now in
+    IfOk-weaker c.row_digests.result _ _ (λ digests restored.
+    digests_long f (tree_of restorable) restorable.cap_layer (opened_by restorable) c.args.layer c.args.covered.now
+    digests.items c.requires.covered.coverage restored)
+    (returns-then-layer-eq0-clause-restored g c)
+
+pub returns-then-not-covered : goal.returns-then-not-covered
+returns-then-not-covered g c =
+    let restorable = c.args.restorable.now in
+    let covered = c.args.covered.now in
+    let f = functions_of c.args.self.now in
+    let s = tree_of restorable in
+    let t = restorable.cap_layer in
+    let p = opened_by restorable in
+    let layer = c.requires.covered in
+    let some : 0 < c.args.layer = omega arith in
+    let digests = c.in_ok-digests.digests.items in
+    let restored = restored_at f s t p c.args.layer some g.row.N c.requires.arity covered [] digests layer
+    (λ present. absurd (true≢false (sym present ∙ c.if-not-covered.true)))
+    (rw c.if-not-covered.true (rw c.deref.ensures.value at c.in_ok-digests.ensures.digests)) in
+    record {
+      count = digests_long f s t p c.args.layer covered digests layer.coverage restored;
+      restored = restored;
+    }
+
+pub returns : goal.returns
+returns g c =
+    let restorable = c.args.restorable.now in
+    let covered = c.args.covered.now in
+    let f = functions_of c.args.self.now in
+    let s = tree_of restorable in
+    let t = restorable.cap_layer in
+    let p = opened_by restorable in
+    let layer = c.requires.covered in
+    let some : 0 < c.args.layer = omega arith in
+    let known = c.in_ok-rows.ensures c.args.layer c.requires.in_tree layer.coverage.at_exponent in
+    let made = c.in_ok-digests in
+    let slots = c.inject_row_digests.new.slots in
+    let filled = c.in_ok-inject_row_digests.ensures in
+    let nodes = c.deref_mut.result.now in
+    let rows = c.deref-2.result.now in
+    let nodes_are = c.deref_mut.ensures.value ∙ (rw c.deref.ensures.value at made.ensures.digests) in
+    let same : length rows ≡ length nodes = omega (
+      arith,
+      ap length (c.deref-2.ensures.value ∙ known),
+      length-map (covered_at s p.indices c.args.layer) (λ j. f.hash (words_under s p c.args.layer j)),
+      ap length layer.coverage.nodes_are,
+      ap length c.deref_mut.ensures.value,
+      rw c.deref.ensures.value at made.ensures.count,
+      layer.in_groups some,
+    ) in
+    let size : length slots ≡ made.digests.len = filled.long ∙ c.deref_mut.ensures.len in
+    let digests = take made.digests.len (slots ++ drop (length slots) made.digests.items) in
+    let are = take_at slots (drop (length slots) made.digests.items) made.digests.len size
+    ∙ pairs_injected f.compression g.row.N f.default_digest nodes rows slots same filled
+    ∙ (λ i. map (pair_digest f.compression g.row.N f.default_digest)
+    (zip (nodes_are i) (c.deref-2.ensures.value i))) in
+    let restored = restored_at f s t p c.args.layer some g.row.N c.requires.arity covered c.in_ok-rows.rows.items
+    digests layer (λ present. known) (rw c.if-not-covered.false are) in
+    record {
+      count = digests_long f s t p c.args.layer covered digests layer.coverage restored;
+      restored = restored;
+    }
