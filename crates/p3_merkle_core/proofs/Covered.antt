@@ -1,7 +1,7 @@
 -- The nodes that queries cover, the values of their children, and the boundary beside them.
 pub mod Under
 pub mod CoveredFacts
-pub mod LeafFacts
+pub mod ClimbFacts
 pub mod ChildFacts
 pub mod ValueFacts
 pub mod SentFacts

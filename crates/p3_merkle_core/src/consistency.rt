@@ -12,9 +12,8 @@ ghost use Rattle.p3_merkle_core.specs.declared.error.ConsistencyError.TheVariant
 ghost use Rattle.p3_merkle_core.specs.Inner.Growths.{mixed_children, parts_above, parts_at, AreFew};
 
 use crate::error::ConsistencyError;
-use crate::geometry::MAX_HEIGHT;
+use crate::geometry::{MAX_HEIGHT, parent_of};
 use crate::parts::cap_layer_of_height;
-use crate::pruning::parent_of;
 use p3_support::matrix::Dimensions;
 
 /// The digests that show that a list of rows begins with the rows of an older list. `X` is a digest.

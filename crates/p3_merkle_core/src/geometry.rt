@@ -3,7 +3,7 @@
 //!
 //! Nothing here allocates.
 
-ghost use Rattle.std.specs.Prelude.{◌≡◌, ◌^◌, ◌<◌, ◌≤◌, Some, None, MatchResult, map};
+ghost use Rattle.std.specs.Prelude.{◌≡◌, ◌/◌, ◌%◌, ◌^◌, ◌<◌, ◌≤◌, Some, None, MatchResult, map};
 ghost use Rattle.p3_support.specs.Batches.{heights_of, greatest};
 ghost use Rattle.p3_merkle_core.specs.Gate.{first_too_large};
 ghost use Rattle.p3_merkle_core.specs.Geometry.{bits_reduced, exponent, height_at, height_limit, padded_len};
@@ -127,4 +127,27 @@ pub fn padded_len(len: usize, arity: usize) -> usize
     } else {
         len.next_multiple_of(arity)
     }
+}
+
+/// The parent of a node. `step` is the number of a parent's children, and must be at least 1.
+pub fn parent_of(node: usize, step: usize) -> usize
+    requires { 0 < step }
+    ensures { result ≡ node / step }
+{
+    // A shift takes less time than a division.
+    let bits = step.trailing_zeros();
+    if bits < usize::BITS && 1 << bits == step {
+        node >> bits
+    } else {
+        node / step
+    }
+}
+
+/// The position of a node among its parent's children, from 0. `step` is the number of a parent's children, and must be
+/// at least 1.
+pub fn position_of(node: usize, step: usize) -> usize
+    requires { 0 < step }
+    ensures { result ≡ node % step }
+{
+    node - step * parent_of(node, step)
 }

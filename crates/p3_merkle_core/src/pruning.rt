@@ -19,8 +19,8 @@ ghost use Rattle.p3_merkle_core.specs.Refusals.{queries_refusal, AnswersUnlessMe
 ghost use Rattle.p3_merkle_core.specs.declared.error.MerkleTreeError.TheVariants.{OutOfMemory};
 
 use crate::error::{MerkleTreeError, PrunedProofError};
-use crate::geometry::{check_widths, exponent_of};
-use crate::steps::{Steps, check_heights};
+use crate::geometry::{check_widths, exponent_of, parent_of, position_of};
+use crate::steps::{Covered, Steps, check_heights};
 use p3_support::matrix::Dimensions;
 use std::alloc::{AllocError, Global};
 
@@ -65,14 +65,10 @@ pub struct AuthPath<X> {
 pub type MerkleAuthPath<W, const D: usize> = AuthPath<[W; D]>;
 
 /// A layer on the way up a pruned opening: its covered nodes, and the digests of their children.
-#[derive(Debug, Drop)]
-pub struct CoveredLayer<X> {
-    /// The covered nodes, ascending.
-    pub nodes: Vec<usize>,
-    /// The layer's exponent.
-    pub exponent: usize,
-    /// How many of the proof's digests belong below the layer.
-    pub used: usize,
+#[derive(Drop)]
+pub struct CoveredLayer<'a, X> {
+    /// The covered nodes.
+    pub covered: Covered<'a>,
     /// How many children a node has: 0 at the leaves.
     pub step: usize,
     /// Whether matrices belong to the layer.
@@ -338,8 +334,9 @@ pub fn check_pruned<T: Eq>(
     check_queries(steps, indices, rows.len(), num_digests)?;
     let queried = distinct_queries_of(alloc, indices)?;
     check_repeats(indices, rows, &queried)?;
-    let mut leaves = Vec::from_slice(alloc, &queried.indices)?;
-    check_digest_count(steps.boundary_len(cap_layer, &mut leaves), num_digests)?;
+    let leaves = Vec::from_slice(alloc, &queried.indices)?;
+    let covered = Covered::new(steps, indices, leaves);
+    check_digest_count(covered.boundary_len(cap_layer), num_digests)?;
     for query in &queried.first_queries {
         check_widths(steps.dimensions, &rows[*query])?;
     }
@@ -398,52 +395,6 @@ pub fn distinct_indices(alloc: Global, indices: &[usize]) -> Result<Vec<usize>, 
     Ok(leaves)
 }
 
-/// The parent of a node. `step` is the number of a parent's children, and must be at least 1.
-pub fn parent_of(node: usize, step: usize) -> usize
-    requires { 0 < step }
-    ensures { result ≡ node / step }
-{
-    // A shift takes less time than a division.
-    let bits = step.trailing_zeros();
-    if bits < usize::BITS && 1 << bits == step {
-        node >> bits
-    } else {
-        node / step
-    }
-}
-
-/// The position of a node among its parent's children, from 0. `step` is the number of a parent's children, and must be
-/// at least 1.
-pub fn position_of(node: usize, step: usize) -> usize
-    requires { 0 < step }
-    ensures { result ≡ node % step }
-{
-    node - step * parent_of(node, step)
-}
-
-/// Turns the covered nodes of a layer into those of the layer above, in place: each node's parent once, ascending. The
-/// nodes must ascend. `step` is the number of a parent's children, and must be at least 1.
-pub fn climb(covered: &mut Vec<usize>, step: usize)
-    requires { 0 < step }
-    ensures { IsAscending covered.old.items → covered.new.items ≡ distinct (map (λ j. j / step) covered.old.items) }
-{
-    if covered.is_empty() {
-        return;
-    }
-    let nodes = covered.as_mut_slice();
-    let mut last = parent_of(nodes[0], step);
-    nodes[0] = last;
-    let mut kept = 0;
-    for place in 1..nodes.len() {
-        let node = parent_of(nodes[place], step);
-        // Added without a branch: where a new parent begins can't be predicted.
-        kept += usize::from(node != last);
-        nodes[kept] = node;
-        last = node;
-    }
-    covered.truncate(kept + 1);
-}
-
 /// The digests of the children of some parents, `step` of each, parent by parent: a covered child has its digest, and
 /// each other child has the next digest of `sent`. `covered` has the covered children in that order, and `digests` one
 /// digest for each of them; `sent` must have enough for the others. The number of children, and `step * parent + step`
@@ -488,13 +439,14 @@ pub fn children_of<X: Copy>(
 /// `AllocError` if memory runs out.
 pub fn path_out_of<X: Copy>(
     alloc: Global,
-    layers: &[CoveredLayer<X>],
+    layers: &[CoveredLayer<'_, X>],
     index: usize,
     capacity: usize,
 ) -> Result<Vec<X>, AllocError>
     requires some { 0 < length layers.now }
     requires linked { AreLinked layers.now }
-    requires covered { (x : CoveredLayer X) → is_among (slice_index_or layers.now 0 x).nodes.items index ≡ true }
+    requires covered { (x : CoveredLayer X) →
+        is_among (slice_index_or layers.now 0 x).covered.nodes.items index ≡ true }
     ensures { IfOk result (λ path. path.items ≡ path_out_of (levels_in layers.now) index) }
 {
     let mut path = Vec::with_capacity(alloc, capacity)?;
@@ -502,7 +454,7 @@ pub fn path_out_of<X: Copy>(
     for level in 1..layers.len() {
         let above = &layers[level];
         let parent = parent_of(node, above.step);
-        let slot = above.nodes.partition_point(|other| *other < parent);
+        let slot = above.covered.nodes.partition_point(|other| *other < parent);
         let first = above.step * slot;
         let own = position_of(node, above.step);
         extend_with_others(&mut path, &above.children[first..first + above.step], own)?;

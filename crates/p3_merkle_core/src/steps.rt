@@ -1,16 +1,17 @@
-//! The steps of a tree, from the leaves to the root, walked once and kept: every walk goes by them. Only `clone` and
-//! the two calls that return a list allocate.
+//! The steps of a tree, from the leaves to the root, walked once and kept: every walk goes by them, as that up the
+//! nodes which some queries cover. Only the two `clone`s and the two calls that return a list allocate.
 
-ghost use Rattle.std.specs.Prelude.{◌≡◌, suc, ◌-◌, ◌<◌, ◌≤◌, ◌==◌, ◌↔◌, if◌then◌else◌, length, map, All, take};
+ghost use Rattle.std.specs.Prelude.{◌≡◌, suc, ◌-◌, ◌/◌, ◌<◌, ◌≤◌, ◌==◌, ◌↔◌, if◌then◌else◌, length, map, All, take};
 ghost use Rattle.std.specs.Prelude.{IfOk, IsOk, MatchResult, None, Some};
 ghost use Rattle.std.specs.List.{list_any, range_with_len};
-ghost use Rattle.std.specs.List.Sorted.{IsStrictlyIncreasing};
 ghost use Rattle.p3_support.specs.Batches.{heights_of, greatest};
 ghost use Rattle.p3_merkle_core.specs.Caps.{cap_layer};
 ghost use Rattle.p3_merkle_core.specs.Checks.{siblings_below};
 ghost use Rattle.p3_merkle_core.specs.Gate.{gate_refusal};
 ghost use Rattle.p3_merkle_core.specs.Geometry.{exponent, has_rows, is_bridge, layer_exponent, levels, height_limit};
 ghost use Rattle.p3_merkle_core.specs.Geometry.{positions_below, schedule_below, shape_of, step, IsArity, IsLawful};
+ghost use Rattle.p3_merkle_core.specs.Inner.Agreement.{distinct, IsAscending};
+ghost use Rattle.p3_merkle_core.specs.Inner.Covered.{AreCovered};
 ghost use Rattle.p3_merkle_core.specs.Inner.Exponents.{AreExponents, AreMarked};
 ghost use Rattle.p3_merkle_core.specs.Inner.Levels.{IsBelowTop, IsLevel};
 ghost use Rattle.p3_merkle_core.specs.Inner.Shapes.{shortest};
@@ -20,11 +21,10 @@ ghost use Rattle.p3_merkle_core.specs.Pruning.{pruned_len};
 use crate::cap::CapRule;
 use crate::error::MerkleTreeError;
 use crate::geometry::{
-    MAX_HEIGHT, bits_reduced_of, exponent_of, extremes_of, first_too_large_of, height_of_exponent,
-    padded_len,
+    MAX_HEIGHT, exponent_of, extremes_of, first_too_large_of, height_of_exponent, padded_len,
+    parent_of,
 };
 use crate::levels::Level;
-use crate::pruning::climb;
 use p3_support::matrix::Dimensions;
 use std::alloc::{AllocError, Global};
 
@@ -48,20 +48,6 @@ struct MatrixExponents<'a> {
     /// Bit `e` is set where a matrix has the exponent `e`. The exponent 64 has no bit: it is below no layer's.
     pub bits: usize,
     ghost marked: { AreMarked (heights_of dimensions.now) bits },
-}
-
-/// The bits of the exponents that these matrices have. Each matrix is looked at once.
-fn exponent_bits(dimensions: &[Dimensions]) -> usize
-    ensures { AreMarked (heights_of dimensions.now) result }
-{
-    let mut bits = 0;
-    for matrix in dimensions {
-        let bit = exponent_of(matrix.height);
-        if bit < usize::BITS as usize {
-            bits |= 1 << bit;
-        }
-    }
-    bits
 }
 
 impl<'a> MatrixExponents<'a> {
@@ -175,7 +161,13 @@ pub fn steps_of(dimensions: &[Dimensions], arity: usize) -> Steps<'_>
 {
     let (max_height, min_height) = extremes_of(dimensions);
     let exponent = exponent_of(max_height);
-    let bits = exponent_bits(dimensions);
+    let mut bits = 0;
+    for matrix in dimensions {
+        let bit = exponent_of(matrix.height);
+        if bit < usize::BITS as usize {
+            bits |= 1 << bit;
+        }
+    }
     let matrices = MatrixExponents { dimensions, bits };
     let mut exponents = matrices.at(exponent);
     let none = LevelStep {
@@ -230,13 +222,14 @@ pub fn check_heights(dimensions: &[Dimensions]) -> Result<(), MerkleTreeError>
     for matrix in dimensions {
         let height = matrix.height;
         if height != lawful_height {
-            let expected_height = height_of_exponent(max_height, exponent_of(height));
+            let exponent = exponent_of(height);
+            let expected_height = height_of_exponent(max_height, exponent);
             if height != expected_height {
                 return Err(MerkleTreeError::IncompatibleHeights {
                     height,
                     max_height,
                     expected_height,
-                    bits_reduced: bits_reduced_of(max_height, height),
+                    bits_reduced: exponent_of(max_height).saturating_sub(exponent),
                 });
             }
             lawful_height = height;
@@ -486,31 +479,124 @@ impl<'a> Steps<'a> {
         }
         Ok(positions)
     }
+}
 
-    /// How many digests a pruned proof of some leaves sends under the cap of this layer: on each level, the children
-    /// of covered nodes that are not covered. The leaves must ascend, each once, as
-    /// [`distinct_indices`](crate::pruning::distinct_indices) lists them, below the tallest height. The layer must be
-    /// at most the number of levels, the arity a power of two from 2 to 2^62, and no height above [`MAX_HEIGHT`]. It
-    /// does not allocate, and takes one step for each leaf and level. It uses the list of leaves as a buffer.
-    pub fn boundary_len(&self, layer: usize, leaves: &mut Vec<usize>) -> usize
-        requires arity { IsArity self.now.arity }
-        requires low { greatest (heights_of self.now.dimensions.now) ≤ height_limit }
-        requires layer { layer ≤ self.now.num_levels }
-        requires below { All (λ q. q < greatest (heights_of self.now.dimensions.now)) leaves.old.items }
-        requires ascending { IsStrictlyIncreasing leaves.old.items }
-        ensures { result ≡ pruned_len (shape_of self.now.arity self.now.dimensions.now) leaves.old.items layer }
+/// The covered nodes of one layer of a tree: the queried leaves, or the nodes above them. The boundary is the children
+/// of covered nodes that are not covered themselves.
+#[derive(Drop)]
+pub struct Covered<'a> {
+    /// The steps of the tree.
+    pub steps: &'a Steps<'a>,
+    /// The queried indices.
+    pub indices: &'a [usize],
+    /// The layer, counted from the leaves.
+    pub layer: usize,
+    /// The layer's exponent.
+    pub exponent: usize,
+    /// The covered nodes, ascending.
+    pub nodes: Vec<usize>,
+    /// How many nodes of the boundary are below the layer.
+    pub boundary_below: usize,
+    ghost at_layer: { AreCovered (shape_of steps.now.arity steps.now.dimensions.now) indices.now layer exponent
+        nodes.items boundary_below },
+}
+
+impl<'a> Covered<'a> {
+    /// The covered leaves of some indices, as [`distinct_indices`](crate::pruning::distinct_indices) lists them. The
+    /// indices must be below the tallest height, the arity a power of two from 2 to 2^62, and no height above
+    /// [`MAX_HEIGHT`].
+    pub fn new(steps: &'a Steps<'a>, indices: &'a [usize], nodes: Vec<usize>) -> Covered<'a>
+        requires arity { IsArity steps.now.arity }
+        requires low { greatest (heights_of steps.now.dimensions.now) ≤ height_limit }
+        requires below { All (λ q. q < greatest (heights_of steps.now.dimensions.now)) indices.now }
+        requires nodes { nodes.items ≡ distinct indices.now }
+        ensures steps { result.steps.now ≡ steps.now }
+        ensures indices { result.indices.now ≡ indices.now }
+        ensures layer { result.layer ≡ 0 }
     {
-        let covered = leaves;
-        let mut count = 0;
-        let mut exponent = self.exponent;
-        for level in 0..layer {
-            let up = self.up(self.arity, level, exponent);
-            let below = covered.len();
-            climb(covered, up.step);
-            let children = up.step * covered.len();
-            count += children - below;
-            exponent = up.exponent;
+        Covered {
+            steps,
+            indices,
+            layer: 0,
+            exponent: steps.exponent,
+            nodes,
+            boundary_below: 0,
         }
-        count
     }
+
+    /// The same nodes, in a list of their own.
+    ///
+    /// # Errors
+    ///
+    /// `AllocError` if memory runs out.
+    pub fn clone(&self, alloc: Global) -> Result<Covered<'a>, AllocError>
+        ensures steps { IfOk result (λ made. made.steps.now ≡ self.now.steps.now) }
+        ensures indices { IfOk result (λ made. made.indices.now ≡ self.now.indices.now) }
+        ensures layer { IfOk result (λ made. made.layer ≡ self.now.layer) }
+    {
+        Ok(Covered {
+            steps: self.steps,
+            indices: self.indices,
+            layer: self.layer,
+            exponent: self.exponent,
+            nodes: Vec::from_slice(alloc, &self.nodes)?,
+            boundary_below: self.boundary_below,
+        })
+    }
+
+    /// Climbs to the layer above, in place. The layer must be below the root.
+    pub fn climb(&mut self) -> StepUp
+        requires { self.old.layer < self.old.steps.now.num_levels }
+        ensures steps { self.new.steps.now ≡ self.old.steps.now }
+        ensures indices { self.new.indices.now ≡ self.old.indices.now }
+        ensures layer { self.new.layer ≡ suc self.old.layer }
+        ensures step { let s = shape_of self.old.steps.now.arity self.old.steps.now.dimensions.now in
+            result.step ≡ step s self.old.layer }
+        ensures rows { let s = shape_of self.old.steps.now.arity self.old.steps.now.dimensions.now in
+            result.has_rows ≡ has_rows s self.new.layer }
+    {
+        let up = self.steps.up(self.steps.arity, self.layer, self.exponent);
+        let below = self.nodes.len();
+        replace_by_parents(&mut self.nodes, up.step);
+        self.layer += 1;
+        self.exponent = up.exponent;
+        self.boundary_below += up.step * self.nodes.len() - below;
+        up
+    }
+
+    /// How many nodes of the boundary are below a layer, which must be at most the number of levels, and not below this
+    /// one. It does not allocate, and takes one step for each node and level.
+    pub fn boundary_len(mut self, layer: usize) -> usize
+        requires above { self.layer ≤ layer }
+        requires in_tree { layer ≤ self.steps.now.num_levels }
+        ensures { let s = shape_of self.entry.steps.now.arity self.entry.steps.now.dimensions.now in
+            result ≡ pruned_len s self.entry.indices.now layer }
+    {
+        for _ in self.layer..layer {
+            self.climb();
+        }
+        self.boundary_below
+    }
+}
+
+/// Replaces ascending nodes by their parents, each once, ascending. `step` is the number of a parent's children.
+fn replace_by_parents(covered: &mut Vec<usize>, step: usize)
+    requires { 0 < step }
+    ensures { IsAscending covered.old.items → covered.new.items ≡ distinct (map (λ j. j / step) covered.old.items) }
+{
+    if covered.is_empty() {
+        return;
+    }
+    let nodes = covered.as_mut_slice();
+    let mut last = parent_of(nodes[0], step);
+    nodes[0] = last;
+    let mut kept = 0;
+    for place in 1..nodes.len() {
+        let node = parent_of(nodes[place], step);
+        // Added without a branch: where a new parent begins can't be predicted.
+        kept += usize::from(node != last);
+        nodes[kept] = node;
+        last = node;
+    }
+    covered.truncate(kept + 1);
 }

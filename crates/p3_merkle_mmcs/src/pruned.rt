@@ -21,7 +21,7 @@ use p3_merkle_core::pruning::{
     MerkleAuthPath, PrunedBatchOpening, PrunedMerklePaths, PrunedProof, PrunedRows, check_indices,
     distinct_indices,
 };
-use p3_merkle_core::steps::{check_heights, steps_of};
+use p3_merkle_core::steps::{Covered, check_heights, steps_of};
 use p3_merkle_prover::opener::steps_in;
 use p3_merkle_prover::pruned_opener::{digests_of_boundary, rows_of_indices};
 use p3_merkle_prover::tree::MerkleTree;
@@ -76,8 +76,8 @@ impl<P: PackedValue, PW: PackedValue, H, C, X, G, const N: usize> Scheme<P, PW, 
         check_heights(steps.dimensions)?;
         check_indices(steps.max_height, indices)?;
         let cap_layer = steps.cap_layer(self.cap_rule, self.cap_height);
-        let mut leaves = distinct_indices(alloc, indices)?;
-        Ok(steps.boundary_len(cap_layer, &mut leaves))
+        let leaves = distinct_indices(alloc, indices)?;
+        Ok(Covered::new(&steps, indices, leaves).boundary_len(cap_layer))
     }
 }
 

@@ -22,7 +22,6 @@ use Rattle.p3_merkle_core.proofs.Lists.ListFacts.{joined_more}
 use Rattle.p3_merkle_core.proofs.Lists.RisingFacts.{all_kept, div_mono, increasing_from, is_listed, listed_at}
 use Rattle.p3_merkle_core.proofs.Lists.RisingFacts.{none_kept, place_of, range_joined, rising_filter}
 use Rattle.p3_merkle_core.proofs.Covered.CoveredFacts.{covered_child, covered_listed, group_fits, listed_covered}
-use Rattle.p3_merkle_core.proofs.Covered.LeafFacts.{any_there}
 use Rattle.p3_merkle_core.proofs.Shapes.StepFacts.{step_above_1}
 use Rattle.p3_merkle_core.proofs.Covered.Under.{covered_up}
 use Rattle.p3_support.specs.Shown.{row_lists, row_sets}
@@ -340,8 +339,9 @@ beside_is s indices t w l h j =
     let above = both_ways (is_covered s indices (suc l) (j / n)) (list_any (λ k. eqb (k / n) (j / n)) here)
     (λ c.
     let child = covered_child s indices l (j / n) c in
-    any_there (λ k. eqb (k / n) (j / n)) here child.0 (covered_listed s indices t w l child.0 (omega arith) child.1)
-    (eq-eqb (child.0 / n) (j / n) child.2))
+    let q = found_in (λ k. eqb k child.0) here (covered_listed s indices t w l child.0 (omega arith) child.1) in
+    list_any_at (λ k. eqb (k / n) (j / n)) here q.0 0 q.1
+    (rw (eqb-true (get_or here q.0 0) child.0 q.2) (eq-eqb (child.0 / n) (j / n) child.2)))
     (λ c.
     let q = found_in (λ k. eqb (k / n) (j / n)) here c in
     let up = covered_up s indices l (get_or here q.0 0)

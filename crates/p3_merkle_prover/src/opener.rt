@@ -13,8 +13,8 @@ ghost use Rattle.p3_merkle_core.specs.Refusals.{AnswersUnlessMemory};
 
 use crate::tree::{MerkleTree, Tree};
 use p3_merkle_core::error::MerkleTreeError;
-use p3_merkle_core::geometry::bits_reduced_of;
-use p3_merkle_core::pruning::{extend_with_others, parent_of, position_of};
+use p3_merkle_core::geometry::{bits_reduced_of, parent_of, position_of};
+use p3_merkle_core::pruning::extend_with_others;
 use p3_merkle_core::steps::Steps;
 use p3_merkle_digests::batched::FEW_WORDS;
 use p3_support::matrix::Matrix;

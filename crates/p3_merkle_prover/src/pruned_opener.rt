@@ -16,7 +16,9 @@ ghost use Rattle.p3_merkle_core.specs.Refusals.{AnswersUnlessMemory};
 use crate::opener::{rows_of_index, steps_in};
 use crate::tree::Tree;
 use p3_merkle_core::error::MerkleTreeError;
-use p3_merkle_core::pruning::{climb, distinct_indices, extend_with_others, position_of};
+use p3_merkle_core::geometry::position_of;
+use p3_merkle_core::pruning::{distinct_indices, extend_with_others};
+use p3_merkle_core::steps::Covered;
 use p3_support::matrix::Matrix;
 use std::alloc::Global;
 
@@ -64,14 +66,14 @@ pub fn digests_of_boundary<F, X: Copy, G, M: Matrix<F>, const N: usize>(
         IfOk result (λ digests. digests.items ≡ own) }
     ensures memory { AnswersUnlessMemory result None }
 {
-    let mut covered = distinct_indices(alloc, indices)?;
     let steps = steps_in(tree);
-    let mut leaves = Vec::from_slice(alloc, &covered)?;
-    let mut digests = Vec::with_capacity(alloc, steps.boundary_len(cap_layer, &mut leaves))?;
+    let mut covered = Covered::new(&steps, indices, distinct_indices(alloc, indices)?);
+    let len = covered.clone(alloc)?.boundary_len(cap_layer);
+    let mut digests = Vec::with_capacity(alloc, len)?;
     for level in 0..cap_layer {
         let step = steps.step(level);
-        extend_with_boundary(&mut digests, &tree.layers[level], &covered, step)?;
-        climb(&mut covered, step);
+        extend_with_boundary(&mut digests, &tree.layers[level], &covered.nodes, step)?;
+        covered.climb();
     }
     Ok(digests)
 }

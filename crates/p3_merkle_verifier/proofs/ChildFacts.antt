@@ -2,7 +2,6 @@
 use Rattle.std.proofs.Common.{◌≡◌, ◌∙◌, ℕ, suc, ◌-◌, ◌/◌, ◌^◌, ◌<◌, ◌≤◌, true, eqb, All, List, [], ◌∷◌, map, refl, ap, sym, arith, length}
 use Rattle.std.proofs.Common.{length-drop, drop, get_or}
 use Rattle.std.specs.List.{dedup}
-use Rattle.p3_merkle_core.specs.Inner.Children.{IsFamily}
 use Rattle.p3_support.specs.Batches.{greatest}
 use Rattle.p3_merkle_core.specs.Geometry.{Shape, ancestor, exponent, heights, height_limit, layer_exponent, layer_len, step}
 use Rattle.p3_merkle_core.specs.Pruning.{CanQuery, boundary, boundary_at, is_covered}
@@ -19,9 +18,7 @@ use Rattle.p3_merkle_core.proofs.Pruned.SlotFacts.{distinct_from, distinct_is, d
 use Rattle.p3_merkle_core.proofs.Pruned.SlotFacts.{rising_either}
 use Rattle.p3_merkle_core.proofs.Shapes.LadderFacts.{shifted_is_anc}
 use Rattle.p3_merkle_core.proofs.Shapes.LevelFacts.{exponent_low}
-use Rattle.p3_merkle_core.proofs.Lists.ListFacts.{length-joined_le}
 use Rattle.p3_merkle_core.proofs.Shapes.StepFacts.{anc_start}
-use Rattle.p3_merkle_core.proofs.Covered.ValueFacts.{family_by_counts}
 use Rattle.p3_merkle_verifier.specs.Inner.RestoredLevels.{node_of_query, AreQueriesAt}
 use Rattle.p3_merkle_verifier.proofs.StartFacts.{queried_by_firsts}
 
@@ -99,24 +96,3 @@ leaves_known s indices t w queried are = record {
   queries_are = distinct_from s indices w.below ∙ sym are.indices ∙ leaf_queries s indices queried are;
   among = firsts_inside queried.first_queries.items indices are.first_queries;
 }
-
--- ---- the children
-
--- what is left of the digests that were sent, after those of the layers below
-pub record IsLeft {X : Type 0} (n : ℕ) (parents covered : List ℕ) (digests sent left : List X) (used : ℕ) : Type 0 where
-  pub fits : used ≤ length sent
-  pub rest : left ≡ drop used sent → IsFamily n parents covered digests left
-
-pub left_family : {X : Type 0} (s : Shape) (indices : List ℕ) (t : ℕ) → CanQuery s indices t →
-    greatest (heights s) ≤ height_limit → (l : ℕ) → l < t →
-    (n : ℕ) (parents covered : List ℕ) (digests sent left : List X) (used : ℕ) →
-    n ≡ step s l → parents ≡ covered_at s indices (suc l) → covered ≡ covered_at s indices l → length digests
-    ≡ length covered → length sent ≡ length (boundary s indices t) → used ≡ length (boundary s indices l) →
-    IsLeft n parents covered digests sent left used
-left_family s indices t w low l h n parents covered digests sent left used is_step is_above is_here each all below =
-    let enough = length-joined_le (boundary_at s indices) l t h in
-    record {
-      fits = omega arith;
-      rest = λ e. family_by_counts s indices t w low l h n parents covered digests left is_step is_above is_here each
-          (ap length e ∙ omega (arith, length-drop used sent));
-    }

@@ -10,7 +10,8 @@ use Rattle.std.proofs.Math.Nat.{mul-div_cancel_left}
 use Rattle.p3_merkle_core.specs.Geometry.{Shape, has_rows, heights, is_bridge, layer_exponent, step}
 use Rattle.p3_merkle_core.specs.Nodes.{Functions, compress_padded}
 use Rattle.p3_merkle_core.specs.Pruning.{CanQuery, IsAgreed, PrunedOpening, boundary, pruned_of}
-use Rattle.p3_merkle_core.specs.Inner.Covered.{covered_at}
+use Rattle.p3_merkle_core.specs.Inner.Covered.{covered_at, AreCovered}
+use Rattle.p3_merkle_core.proofs.Covered.ClimbFacts.{covered_here}
 use Rattle.p3_merkle_core.specs.Pruning.{restored_node, value_of, words_under}
 use Rattle.p3_merkle_core.proofs.Covered.Equivalence.{restored_leaf, restored_next, rows_agree}
 use Rattle.p3_merkle_core.proofs.Checks.PathFacts.{group_values}
@@ -117,6 +118,12 @@ pub agreed_with : {T W V : Type 0} (s : Shape) (t : ℕ) (indices : List ℕ) (r
 agreed_with s t indices rows digests others a =
     record { in_pairs = a.in_pairs; repeats = a.repeats; groups = a.groups }
 
+-- what is covered on a layer
+pub covers : {X : Type 0} {s : Shape} {indices : List ℕ} {l : ℕ} {layer : CoveredLayer X} →
+    IsCoveredAt s indices l layer →
+    AreCovered s indices l layer.covered.exponent layer.covered.nodes.items layer.covered.boundary_below
+covers {layer = layer} at = covered_here layer.covered _ _ _ at.shape_is at.indices_are at.layer_is
+
 -- ---- digests that are restored
 
 module _ {T W : Type 0} (f : Functions T W) (s : Shape) (t : ℕ) (p : PrunedOpening T W) where
@@ -137,31 +144,31 @@ module _ {T W : Type 0} (f : Functions T W) (s : Shape) (t : ℕ) (p : PrunedOpe
       (λ j. sym (restored_leaf f s t p j)) (covered_at s p.indices 0)
 
   -- the digests of the nodes of a layer above the leaves, by those of their children and of their rows
-  pub restored_at : (l : ℕ) → 0 < l → (n : ℕ) → s.arity ≡ n → (covered : CoveredLayer (List W))
-      (rows digests : List (List W)) → IsLayer f s t p l covered →
-      (covered.has_rows ≡ true → rows ≡ row_values f s p l) →
-      digests ≡ layer_digests f n covered.step covered.has_rows rows covered.children.items →
+  pub restored_at : (l : ℕ) → 0 < l → (n : ℕ) → s.arity ≡ n → (here : CoveredLayer (List W))
+      (rows digests : List (List W)) → IsLayer f s t p l here →
+      (here.has_rows ≡ true → rows ≡ row_values f s p l) →
+      digests ≡ layer_digests f n here.step here.has_rows rows here.children.items →
       AreRestored f s t p l digests
-  restored_at zero some n is_n covered rows digests layer known e = absurd (omega arith)
-  restored_at (suc l) some n is_n covered rows digests layer known e =
+  restored_at zero some n is_n here rows digests layer known e = absurd (omega arith)
+  restored_at (suc l) some n is_n here rows digests layer known e =
       let family = layer.family in
-      let long = sym (layer.in_groups (omega arith)) ∙ ap length layer.coverage.nodes_are in
-      e ∙ ap (λ a. layer_digests f a covered.step covered.has_rows rows covered.children.items) (sym is_n)
-      ∙ layer_next f s t p l covered.step covered.has_rows rows covered.children.items family.step_is family.rows_are
+      let long = sym (layer.in_groups (omega arith)) ∙ ap length (covers layer.coverage).nodes_are in
+      e ∙ ap (λ a. layer_digests f a here.step here.has_rows rows here.children.items) (sym is_n)
+      ∙ layer_next f s t p l here.step here.has_rows rows here.children.items family.step_is family.rows_are
       known long family.values_are
 
   -- as many digests as nodes
-  pub digests_long : (l : ℕ) (covered : CoveredLayer (List W)) (digests : List (List W)) → IsCoveredAt s p.indices l covered →
-      AreRestored f s t p l digests → length digests ≡ length covered.nodes.items
-  digests_long l covered digests at e = ap length e
-      ∙ length-map (covered_at s p.indices l) (restored_node (params f s t) p l) ∙ ap length (sym at.nodes_are)
+  pub digests_long : (l : ℕ) (here : CoveredLayer (List W)) (digests : List (List W)) → IsCoveredAt s p.indices l here →
+      AreRestored f s t p l digests → length digests ≡ length here.covered.nodes.items
+  digests_long l here digests at e = ap length e
+      ∙ length-map (covered_at s p.indices l) (restored_node (params f s t) p l) ∙ ap length (sym (covers at).nodes_are)
 
   -- ---- one level up
 
   -- the leaves have no children
-  pub leaves_are : (covered : CoveredLayer (List W)) → IsCoveredAt s p.indices 0 covered →
-      covered.step ≡ 0 → IsLayer f s t p 0 covered
-  leaves_are covered at none = record {
+  pub leaves_are : (here : CoveredLayer (List W)) → IsCoveredAt s p.indices 0 here →
+      here.step ≡ 0 → IsLayer f s t p 0 here
+  leaves_are here at none = record {
     coverage = at;
     wide = λ h. absurd (omega arith);
     narrow = omega arith;
@@ -174,15 +181,16 @@ module _ {T W : Type 0} (f : Functions T W) (s : Shape) (t : ℕ) (p : PrunedOpe
       (below above : CoveredLayer (List W)) (digests : List (List W)) → IsCoveredAt s p.indices l below →
       AreRestored f s t p l digests → IsLayerAbove s p.indices l below digests p.digests above →
       IsLayer f s t p (suc l) above
-  layer_rises w count l h below above digests here restored up =
-      let same : IsWalkedLevel f s t p l (λ (d : List _). d) above.step above.nodes.items below.nodes.items digests
-      (drop below.used p.digests) =
+  layer_rises w count l h below above digests at restored up =
+      let sent = drop below.covered.boundary_below p.digests in
+      let same : IsWalkedLevel f s t p l (λ (d : List _). d) above.step above.covered.nodes.items
+      below.covered.nodes.items digests sent =
       record {
         step_is = up.step_is;
-        parents_are = up.coverage.nodes_are;
-        covered_are = here.nodes_are;
+        parents_are = (covers up.coverage).nodes_are;
+        covered_are = (covers at).nodes_are;
         digests_are = map-id digests ∙ restored;
-        sent_is = map-id (drop below.used p.digests) ∙ ap (λ k. drop k p.digests) here.sent_below;
+        sent_is = map-id sent ∙ ap (λ k. drop k p.digests) (covers at).boundary_is;
       } in
       let two = w.well_shaped.above_1 in
       let wide : 2 ≤ step s l = step_above_1 s l two in
@@ -192,13 +200,14 @@ module _ {T W : Type 0} (f : Functions T W) (s : Shape) (t : ℕ) (p : PrunedOpe
         wide = λ h. positive;
         narrow = rw up.step_is (cond_both (is_bridge s (layer_exponent s l)) 2 s.arity (λ x. x ≤ s.arity) (λ t. two)
             (λ t. omega arith));
-        in_groups = λ h. sym (rw up.values.each (mul-div_cancel_left (length above.nodes.items) positive));
+        in_groups = λ h. sym (rw up.values.each (mul-div_cancel_left (length above.covered.nodes.items) positive));
         family = record {
           step_is = up.step_is;
           rows_are = up.rows_are;
           full = up.values.each;
           values_are =
-              sym (map-id above.children.items) ∙ children_are f s t p w count l h (λ (d : List _). d) above.step above.nodes.items
-              below.nodes.items digests (drop below.used p.digests) above.children.items same up.values;
+              sym (map-id above.children.items)
+              ∙ children_are f s t p w count l h (λ (d : List _). d) above.step above.covered.nodes.items
+              below.covered.nodes.items digests sent above.children.items same up.values;
         };
       }

@@ -13,7 +13,7 @@ use Rattle.p3_merkle_core.proofs.Covered.CoveredFacts.{covered_listed, listed_co
 use Rattle.p3_merkle_core.proofs.Covered.KeptFacts.{covered_up_list, level_of}
 use Rattle.p3_merkle_core.proofs.Covered.Under.{covered_up}
 use Rattle.p3_merkle_verifier.specs.Inner.RestoredLevels.{AreLayers, AreLeaves, IsLayer}
-use Rattle.p3_merkle_verifier.proofs.LayerFacts.{leaves_are}
+use Rattle.p3_merkle_verifier.proofs.LayerFacts.{covers, leaves_are}
 use Rattle.p3_merkle_core.specs.Checks.{params}
 
 -- the leaves alone
@@ -28,7 +28,7 @@ layers_start f s t p layers leaves is at = rw is (record {
 
 -- what a layer has
 abbrev shown_layer : {X : Type 0} → CoveredLayer X → List ℕ × ℕ × List X
-shown_layer layer = (layer.nodes.items, layer.step, layer.children.items)
+shown_layer layer = (layer.covered.nodes.items, layer.step, layer.children.items)
 
 -- one layer more
 pub layers_more : {T W : Type 0} (f : Functions T W) (s : Shape) (t : ℕ) (p : PrunedOpening T W) (l : ℕ)
@@ -45,7 +45,7 @@ layers_more {T} {W} f s t p l old new below above w is_below asked inside layer 
     let z : 0 + l ≡ l = omega arith in
     let here = level_of s p.indices (value_of (params f s t) p) in
     let shown : shown_layer above ≡ here l = λ i. (
-      layer.coverage.nodes_are i,
+      (covers layer.coverage).nodes_are i,
       layer.family.step_is i,
       layer.family.values_are i,
     ) in
@@ -61,10 +61,11 @@ layers_more {T} {W} f s t p l old new below above w is_below asked inside layer 
               rw (top, kept l x (omega arith), there, last x) (record {
                 some = layer.wide (omega arith);
                 full = layer.family.full;
-                ascending = rw layer.coverage.nodes_are (covered_up_list s p.indices (suc l));
+                ascending = rw (covers layer.coverage).nodes_are (covered_up_list s p.indices (suc l));
                 parents = λ j c.
-                    let here = listed_covered s p.indices l j (rw (w.top x).coverage.nodes_are at (rw (← there) at c)) in
-                    rw (layer.coverage.nodes_are, layer.family.step_is)
+                    let here = listed_covered s p.indices l j
+                    (rw (covers (w.top x).coverage).nodes_are at (rw (← there) at c)) in
+                    rw ((covers layer.coverage).nodes_are, layer.family.step_is)
                     (covered_listed s p.indices t asked (suc l) (j / step s l) inside (covered_up s p.indices l j here));
               })
         ];

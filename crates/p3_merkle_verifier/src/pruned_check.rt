@@ -28,9 +28,9 @@ use crate::openings::{OpenedMatrix, PrunedOpeningRef, RestorableOpening};
 use p3_merkle_core::error::MerkleTreeError;
 use p3_merkle_core::geometry::exponent_of;
 use p3_merkle_core::pruning::{
-    AuthPath, CoveredLayer, DistinctQueries, check_pruned, children_of, climb, path_out_of,
+    AuthPath, CoveredLayer, DistinctQueries, check_pruned, children_of, path_out_of,
 };
-use p3_merkle_core::steps::{StepUp, Steps};
+use p3_merkle_core::steps::{Covered, StepUp, Steps};
 use p3_merkle_digests::batched::{LayerRows, compress_children, inject_row_digests};
 use p3_support::compress::PseudoCompressionFunction;
 use p3_support::hasher::CryptographicHasher;
@@ -44,7 +44,7 @@ fn restorable_of<'a, P: PackedValue, X>(
     steps: &'a Steps<'a>,
     cap_layer: usize,
     opening: PrunedOpeningRef<'a, P::Value, X>,
-) -> Result<(RestorableOpening<'a, P::Value, X>, CoveredLayer<X>), MerkleTreeError>
+) -> Result<(RestorableOpening<'a, P::Value, X>, CoveredLayer<'a, X>), MerkleTreeError>
     requires { CanCheck (shape_of steps.now.arity steps.now.dimensions.now) cap_layer }
     ensures answer { let s = shape_of steps.now.arity steps.now.dimensions.now in
         let p = opened_with opening.entry.indices.now (row_sets opening.entry.sets.now)
@@ -69,9 +69,7 @@ fn restorable_of<'a, P: PackedValue, X>(
         leaves: queried,
     };
     let leaves = CoveredLayer {
-        nodes,
-        exponent: steps.exponent,
-        used: 0,
+        covered: Covered::new(steps, indices, nodes),
         step: 0,
         has_rows: true,
         children: Vec::new(alloc),
@@ -79,36 +77,34 @@ fn restorable_of<'a, P: PackedValue, X>(
     Ok((restorable, leaves))
 }
 
-/// The layer above `level`, which is below the cap's layer. A covered child has its digest in `digests`; each other
+/// The layer above `below`, which is below the cap's layer. A covered child has its digest in `digests`; each other
 /// child has the next digest of the proof.
-fn layer_above<T, X: Copy>(
+fn layer_above<'a, T, X: Copy>(
     alloc: Global,
     restorable: &RestorableOpening<'_, T, X>,
     level: usize,
-    below: &CoveredLayer<X>,
+    below: &CoveredLayer<'a, X>,
     digests: &[X],
-) -> Result<CoveredLayer<X>, AllocError>
+) -> Result<CoveredLayer<'a, X>, AllocError>
     requires level { level < restorable.now.cap_layer }
     requires coverage { IsCoveredAt (tree_of restorable.now) restorable.now.opening.indices.now level below.now }
-    requires digests { length digests.now ≡ length below.now.nodes.items }
+    requires digests { length digests.now ≡ length below.now.covered.nodes.items }
     ensures { IfOk result (λ above. IsLayerAbove (tree_of restorable.now) restorable.now.opening.indices.now level
         below.now digests.now restorable.now.opening.sent.now above) }
 {
-    let steps = restorable.steps;
-    let StepUp {
+    let mut covered = below.covered.clone(alloc)?;
+    let StepUp { step, has_rows, .. } = covered.climb();
+    let left = &restorable.opening.sent[below.covered.boundary_below..];
+    let children = children_of(
+        alloc,
+        &below.covered.nodes,
+        digests,
+        &covered.nodes,
         step,
-        has_rows,
-        exponent,
-    } = steps.up(steps.arity, level, below.exponent);
-    let mut nodes = Vec::from_slice(alloc, &below.nodes)?;
-    climb(&mut nodes, step);
-    let left = &restorable.opening.sent[below.used..];
-    let children = children_of(alloc, &below.nodes, digests, &nodes, step, left)?;
-    let used = below.used + (children.len() - below.nodes.len());
+        left,
+    )?;
     Ok(CoveredLayer {
-        nodes,
-        exponent,
-        used,
+        covered,
         step,
         has_rows,
         children,
@@ -175,7 +171,7 @@ fn opened_matrices<'a, T, X>(
 fn paths_of<T, W: Copy, const D: usize>(
     alloc: Global,
     restorable: &RestorableOpening<'_, T, [W; D]>,
-    layers: &[CoveredLayer<[W; D]>],
+    layers: &[CoveredLayer<'_, [W; D]>],
 ) -> Result<Vec<AuthPath<[W; D]>>, AllocError>
     requires { IsClimb (tree_of restorable.now) restorable.now.opening.indices.now restorable.now.cap_layer layers.now }
     ensures { (f : Functions T W) → let c = params f (tree_of restorable.now) restorable.now.cap_layer in
@@ -281,25 +277,25 @@ impl<
         alloc: Global,
         restorable: &RestorableOpening<'_, P::Value, [PW::Value; D]>,
         layer: usize,
-        covered: &CoveredLayer<[PW::Value; D]>,
+        here: &CoveredLayer<'_, [PW::Value; D]>,
     ) -> Result<Vec<[PW::Value; D]>, AllocError>
         requires arity { restorable.now.steps.now.arity ≡ N }
         requires in_tree { layer ≤ restorable.now.cap_layer }
         requires covered { let f = functions_of self.now in
-            IsLayer f (tree_of restorable.now) restorable.now.cap_layer (opened_by restorable.now) layer covered.now }
-        ensures count { IfOk result (λ digests. length digests.items ≡ length covered.now.nodes.items) }
+            IsLayer f (tree_of restorable.now) restorable.now.cap_layer (opened_by restorable.now) layer here.now }
+        ensures count { IfOk result (λ digests. length digests.items ≡ length here.now.covered.nodes.items) }
         ensures restored { let f = functions_of self.now in
             IfOk result (λ digests. AreRestored f (tree_of restorable.now) restorable.now.cap_layer
             (opened_by restorable.now) layer digests.items) }
     {
         if layer == 0 {
-            return self.row_digests(alloc, restorable, covered.exponent);
+            return self.row_digests(alloc, restorable, here.covered.exponent);
         }
-        let mut digests = self.group_digests(alloc, &covered.children, covered.step)?;
-        if !covered.has_rows {
+        let mut digests = self.group_digests(alloc, &here.children, here.step)?;
+        if !here.has_rows {
             return Ok(digests);
         }
-        let rows = self.row_digests(alloc, restorable, covered.exponent)?;
+        let rows = self.row_digests(alloc, restorable, here.covered.exponent)?;
         let mut pairs = Vec::with_capacity(alloc, rows.len())?;
         inject_row_digests::<PW, C, N, D>(self.compress, &mut pairs, &rows, &mut digests)?;
         Ok(digests)
@@ -310,30 +306,30 @@ impl<
         &self,
         alloc: Global,
         restorable: &RestorableOpening<'_, P::Value, [PW::Value; D]>,
-        covered: &CoveredLayer<[PW::Value; D]>,
+        here: &CoveredLayer<'_, [PW::Value; D]>,
         roots: &[[PW::Value; D]],
     ) -> Result<(), MerkleTreeError>
         requires arity { restorable.now.steps.now.arity ≡ N }
         requires covered { let f = functions_of self.now in
             IsLayer f (tree_of restorable.now) restorable.now.cap_layer (opened_by restorable.now)
-            restorable.now.cap_layer covered.now }
+            restorable.now.cap_layer here.now }
         ensures { let c = params (functions_of self.now) (tree_of restorable.now) restorable.now.cap_layer in
             AnswersUnlessMemory result (cap_refusal PW.Value.eq c roots.now (opened_by restorable.now)) }
     {
-        let digests = self.node_digests(alloc, restorable, restorable.cap_layer, covered)?;
-        if !are_entries(roots, &covered.nodes, &digests) {
+        let digests = self.node_digests(alloc, restorable, restorable.cap_layer, here)?;
+        if !are_entries(roots, &here.covered.nodes, &digests) {
             return Err(MerkleTreeError::CapMismatch);
         }
         Ok(())
     }
 
     /// The cap's layer of a pruned opening, reached from the covered leaves. No other layer is stored.
-    fn top_layer(
+    fn top_layer<'b>(
         &self,
         alloc: Global,
         restorable: &RestorableOpening<'_, P::Value, [PW::Value; D]>,
-        leaves: CoveredLayer<[PW::Value; D]>,
-    ) -> Result<CoveredLayer<[PW::Value; D]>, AllocError>
+        leaves: CoveredLayer<'b, [PW::Value; D]>,
+    ) -> Result<CoveredLayer<'b, [PW::Value; D]>, AllocError>
         requires arity { restorable.now.steps.now.arity ≡ N }
         requires leaves { AreLeaves (tree_of restorable.now) restorable.now.opening.indices.now leaves }
         ensures { let f = functions_of self.now in
@@ -352,12 +348,12 @@ impl<
 
     /// The layers of a pruned opening, from the covered leaves up to the cap's layer, with the digests of the covered
     /// nodes' children: each is computed from the rows and the digests of the proof, or is one of the latter.
-    fn restored_layers(
+    fn restored_layers<'b>(
         &self,
         alloc: Global,
         restorable: &RestorableOpening<'_, P::Value, [PW::Value; D]>,
-        leaves: CoveredLayer<[PW::Value; D]>,
-    ) -> Result<Vec<CoveredLayer<[PW::Value; D]>>, AllocError>
+        leaves: CoveredLayer<'b, [PW::Value; D]>,
+    ) -> Result<Vec<CoveredLayer<'b, [PW::Value; D]>>, AllocError>
         requires arity { restorable.now.steps.now.arity ≡ N }
         requires leaves { AreLeaves (tree_of restorable.now) restorable.now.opening.indices.now leaves }
         ensures { let f = functions_of self.now in

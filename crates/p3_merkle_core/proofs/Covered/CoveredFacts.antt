@@ -1,7 +1,7 @@
 -- The covered nodes of a layer, ascending: those of the leaves, those of the layer above, and what is left of their
 -- groups.
-use Rattle.std.proofs.Common.{◌≡◌, ℕ, zero, suc, ◌+◌, ◌-◌, ◌*◌, ◌/◌, ◌^◌, ◌<◌, ◌≤◌, Bool, true, not, eqb, cond, nat_le}
-use Rattle.std.proofs.Common.{nat_lt, ◌||◌, List, [], ◌∷◌, map, refl, ap, sym, ◌∙◌, arith, add-one, inl, inr, length}
+use Rattle.std.proofs.Common.{◌≡◌, ℕ, zero, suc, ◌+◌, ◌*◌, ◌/◌, ◌^◌, ◌<◌, ◌≤◌, Bool, true, not, eqb, cond, nat_le}
+use Rattle.std.proofs.Common.{nat_lt, ◌||◌, List, [], ◌∷◌, map, refl, ap, sym, ◌∙◌, arith, inl, inr, length}
 use Rattle.std.proofs.Common.{filter, All, eq-eqb}
 use Rattle.std.specs.Int.{next_multiple_of}
 use Rattle.std.specs.List.{dedup, range_with_len}
@@ -10,7 +10,7 @@ use Rattle.std.proofs.lemmas.Bool.{true≢false, both_ways, not-true, not_from_f
 use Rattle.std.proofs.lemmas.List.{length-map, length-append}
 use Rattle.std.proofs.Math.Nat.{mul-le-mul_left}
 use Rattle.std.proofs.Math.Pow.{pow_mono}
-use Rattle.p3_merkle_core.specs.Geometry.{Shape, is_bridge, step, ancestor, raw_len, layer_len, padded_len}
+use Rattle.p3_merkle_core.specs.Geometry.{Shape, step, ancestor, raw_len, layer_len, padded_len}
 use Rattle.p3_merkle_core.specs.Geometry.{leaves_under, levels, layer_exponent, exponent, heights, height_limit}
 use Rattle.p3_support.specs.Batches.{greatest}
 use Rattle.p3_merkle_core.specs.Pruning.{CanQuery, is_covered, is_boundary, boundary_at, boundary}
@@ -19,7 +19,7 @@ use Rattle.p3_merkle_core.specs.Pruning.{pruned_len}
 use Rattle.p3_merkle_core.proofs.Shapes.LeastFacts.{exponent_le}
 use Rattle.p3_merkle_core.proofs.Shapes.LadderFacts.{levels_le, exact}
 use Rattle.p3_merkle_core.proofs.Shapes.RawFacts.{children_fit, filled, positive_below}
-use Rattle.p3_merkle_core.proofs.Shapes.StepFacts.{anc_next, anc_start, step_above_1, step_at}
+use Rattle.p3_merkle_core.proofs.Shapes.StepFacts.{anc_next, anc_start, step_above_1}
 use Rattle.p3_merkle_core.proofs.Lists.ListFacts.{joined_more}
 use Rattle.p3_merkle_core.proofs.Covered.Under.{covered_up}
 use Rattle.p3_merkle_core.proofs.Covered.Sufficient.{covered_below}
@@ -265,45 +265,3 @@ counted_at s queries t w low l h =
       );
       few = omega (arith, pruned_few s queries t w l (omega arith));
     }
-
--- ---- the walk over the levels
-
--- what one turn of the walk counts, from the exponent x of layer l and n children a node: `below` covered nodes have
--- `above` parents
-pub record IsTurn (s : Shape) (queries : List ℕ) (l n count below above : ℕ) : Type 0 where
-  pub mul_fits : n * above < 2 ^ 64
-  pub sub_fits : below ≤ n * above
-  pub add_fits : count + (n * above - below) < 2 ^ 64
-  pub next : count + (n * above - below) ≡ pruned_len s queries (l + 1)
-
-pub turn_at : (s : Shape) (queries : List ℕ) (t : ℕ) → CanQuery s queries t → greatest (heights s) ≤ height_limit →
-    (l n count below above : ℕ) → l < t →
-    n ≡ step s l → count ≡ pruned_len s queries l → below ≡ length (covered_at s queries l) → above
-    ≡ length (covered_at s queries (suc l)) → IsTurn s queries l n count below above
-turn_at s queries t w low l n count below above h is_step is_count is_below is_above =
-    let k = counted_at s queries t w low l h in
-    let product : n * above ≡ step s l * length (covered_at s queries (suc l)) = rw (is_step, is_above) refl in
-    let total = k.counted in
-    let small = k.small in
-    let few = k.few in
-    record {
-      mul_fits = omega arith;
-      sub_fits = omega arith;
-      add_fits = omega arith;
-      next = rw add-one (omega (arith, pruned_next s queries l));
-    }
-
--- the same from what is known of the step, of the climb and of the two lengths; `up` is covered above
-pub turned : (s : Shape) (queries : List ℕ) (t : ℕ) → CanQuery s queries t → greatest (heights s) ≤ height_limit →
-    (l x n count below above : ℕ) (here up : List ℕ) → l < t →
-    x ≡ layer_exponent s l → n ≡ cond (is_bridge s x) 2 s.arity → count ≡ pruned_len s queries l → here
-    ≡ covered_at s queries l → (n ≡ step s l → here ≡ covered_at s queries l → up ≡ covered_at s queries (suc l)) →
-    below ≡ length here → above ≡ length up → (up ≡ covered_at s queries (l + 1)) ×
-    IsTurn s queries l n count below above
-turned s queries t w low l x n count below above here up h at is_n is_count is_here climbs many fewer =
-    let is_step = step_at s l x n at is_n in
-    let is_up = climbs is_step is_here in (
-      rw add-one is_up,
-      turn_at s queries t w low l n count below above h is_step is_count (many ∙ ap length is_here)
-          (fewer ∙ ap length is_up),
-    )

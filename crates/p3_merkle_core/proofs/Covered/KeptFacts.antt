@@ -32,7 +32,7 @@ use Rattle.p3_merkle_core.specs.Pruning.{restored_paths}
 use Rattle.p3_merkle_core.proofs.Covered.CoveredFacts.{covered_listed}
 use Rattle.p3_merkle_core.proofs.Lists.ListFacts.{joined}
 use Rattle.p3_merkle_core.proofs.Checks.PathFacts.{joined_same, piece}
-use Rattle.p3_merkle_core.proofs.Lists.RisingFacts.{listed_at, IsRising, rising_from, rising_filter, increasing_from}
+use Rattle.p3_merkle_core.proofs.Lists.RisingFacts.{IsRising, rising_from, rising_filter, increasing_from}
 use Rattle.p3_merkle_core.proofs.Shapes.StepFacts.{anc_next}
 use Rattle.p3_merkle_core.proofs.Covered.ValueFacts.{map_children}
 use Rattle.p3_merkle_core.specs.Checks.{params}
@@ -121,8 +121,8 @@ group_fits n k count total h full = omega (arith, mul-le-mul_left n h, mul-suc n
 
 -- the siblings of a covered node, out of the group at its parent's place
 linked_siblings : {X : Type 0} (below above : CoveredLayer X) (j slot : ℕ) → IsLinked below above →
-    is_among below.nodes.items j ≡ true → slot ≡ place_among above.nodes.items (j / above.step) →
-    siblings_out_of (above.nodes.items, above.step, above.children.items) j
+    is_among below.covered.nodes.items j ≡ true → slot ≡ place_among above.covered.nodes.items (j / above.step) →
+    siblings_out_of (above.covered.nodes.items, above.step, above.children.items) j
     ≡ remove (take above.step (drop (above.step * slot) above.children.items)) (j % above.step)
 linked_siblings below above j slot link h is = rw (link.parents j h, is) refl
 
@@ -249,29 +249,32 @@ link_at {X} layers level above some h linked is =
 -- a search among the parents ends at the group of a covered node
 pub group_found : {X : Type 0} (layers : List (CoveredLayer X)) (level node slot : ℕ) (above : CoveredLayer X) →
     0 < level → level < length layers → AreLinked layers → above ≡ get_or layers level above →
-    is_among (get_or layers (level - 1) above).nodes.items node ≡ true →
-    let parents = above.nodes.items in let parent = node / above.step in
-    IsPartitionPoint (λ y. nat_lt y parent ≡ true) (λ y. nat_lt y parent ≡ false) parents slot →
+    is_among (get_or layers (level - 1) above).covered.nodes.items node ≡ true →
+    let parents = above.covered.nodes.items in let parent = node / above.step in
+    (IsStrictlyIncreasing parents →
+    IsPartitionPoint (λ y. nat_lt y parent ≡ true) (λ y. nat_lt y parent ≡ false) parents slot) →
     (slot ≡ place_among parents parent) × (above.step * slot + above.step ≤ length above.children.items)
 group_found layers level node slot above some h linked is inside point =
     let link = link_at layers level above some h linked is in
-    let at = searched_place above.nodes.items (node / above.step) slot link.ascending (link.parents node inside) point in
-    (at.0, group_fits above.step slot (length above.nodes.items) (length above.children.items) at.1 link.full)
+    let at = searched_place above.covered.nodes.items (node / above.step) slot link.ascending (link.parents node inside)
+    (point link.ascending) in
+    (at.0, group_fits above.step slot (length above.covered.nodes.items) (length above.children.items) at.1 link.full)
 
 -- a path that stands at a node of one layer, and its turn to the next
 pub path_turn : {X : Type 0} (layers : List (CoveredLayer X)) (level slot node index : ℕ) (above : CoveredLayer X)
     (old new : List X) → 0 < level → level < length layers → AreLinked layers →
     above ≡ get_or layers level above →
     IsOnPath (levels_in layers) index (level - 1) old node →
-    is_among (get_or layers (level - 1) above).nodes.items node ≡ true →
-    slot ≡ place_among above.nodes.items (node / above.step) →
+    is_among (get_or layers (level - 1) above).covered.nodes.items node ≡ true →
+    slot ≡ place_among above.covered.nodes.items (node / above.step) →
     new ≡ old ++ remove (take above.step (drop (above.step * slot) above.children.items)) (node % above.step) →
     IsOnPath (levels_in layers) index level new (node / above.step)
 path_turn {X} layers level slot node index above old new some h linked is_above w inside is_slot more =
     let l = level - 1 in
     let up : l + 1 ≡ level = omega arith in
     let from : 1 + l ≡ level = omega arith in
-    let view : CoveredLayer X → List ℕ × ℕ × List X = λ layer. (layer.nodes.items, layer.step, layer.children.items) in
+    let view : CoveredLayer X → List ℕ × ℕ × List X =
+    λ layer. (layer.covered.nodes.items, layer.step, layer.children.items) in
     let link = link_at layers level above some h linked is_above in
     let there : above ≡ get_or (drop 1 layers) l above =
     is_above ∙ ap (λ (k : ℕ). get_or layers k above) (sym from) ∙ sym (get_or-drop 1 layers l above) in

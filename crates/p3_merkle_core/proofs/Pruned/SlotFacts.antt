@@ -20,8 +20,8 @@ use Rattle.std.specs.Cmp.Derive.Mapped.{pointwise-map}
 use Rattle.p3_support.specs.Shown.{row_lists, row_sets}
 use Rattle.p3_support.specs.Lists.{is_among}
 use Rattle.p3_support.specs.Batches.{greatest}
-use Rattle.p3_merkle_core.specs.Geometry.{Shape, heights, layer_len, raw_len, step}
-use Rattle.p3_merkle_core.specs.Pruning.{CanQuery, PrunedOpening, is_covered}
+use Rattle.p3_merkle_core.specs.Geometry.{Shape, heights, layer_len, raw_len}
+use Rattle.p3_merkle_core.specs.Pruning.{PrunedOpening, is_covered}
 use Rattle.p3_merkle_core.specs.Inner.Covered.{covered_at}
 use Rattle.p3_merkle_core.specs.Refusals.{slots_below, slot_of, first_of, unless, rows_of}
 use Rattle.p3_merkle_core.specs.declared.error.PrunedProofError.TheVariants.{InconsistentDuplicateOpenings}
@@ -31,9 +31,8 @@ use Rattle.p3_merkle_core.specs.Inner.Agreement.{distinct, first_query, opened_o
 use Rattle.p3_merkle_core.proofs.Checks.Accepted.{padded_ge}
 use Rattle.p3_merkle_core.proofs.Lists.RisingFacts.{is_listed, IsRising, div_mono, filter_is, listed_dedup, listed_in}
 use Rattle.p3_merkle_core.proofs.Lists.RisingFacts.{listed_from, listed_there, listed_at, rising_filter, rising_once}
-use Rattle.p3_merkle_core.proofs.Covered.CoveredFacts.{covered_above, covered_leaf, listed_below, listed_covered}
+use Rattle.p3_merkle_core.proofs.Covered.CoveredFacts.{covered_leaf, listed_below, listed_covered}
 use Rattle.p3_merkle_core.proofs.Covered.CoveredFacts.{raw_start}
-use Rattle.p3_merkle_core.proofs.Shapes.StepFacts.{step_above_1}
 
 -- ---- indices below a bound
 
@@ -104,6 +103,11 @@ distinct_lists indices j =
     let n = suc (greatest indices) in
     both_ways (is_listed (distinct indices) j) (is_among indices j) (λ h. (listed_in (is_among indices) 0 n j h).2)
     (λ c. listed_there (is_among indices) 0 n j c (omega arith) (omega (arith, highest indices j c)))
+
+pub distinct_bounded : (m : ℕ) (indices : List ℕ) → All (λ q. q < m) indices → All (λ q. q < m) (distinct indices)
+distinct_bounded m indices below k d h =
+    listed_below m indices (get_or (distinct indices) k d) below
+    (sym (distinct_lists indices (get_or (distinct indices) k d)) ∙ listed_at (distinct indices) k d h)
 
 -- the same indices in another order
 distinct_moved : (indices moved : List ℕ) → IsPermutation indices moved → distinct moved ≡ distinct indices
@@ -261,16 +265,6 @@ divided xs n some up i j h k =
 pub parents_once : (nodes : List ℕ) (n : ℕ) → 0 < n → IsAscending nodes → dedup eqb (map (λ j. j / n) nodes)
     ≡ distinct (map (λ j. j / n) nodes)
 parents_once nodes n some up = distinct_once (map (λ j. j / n) nodes) (divided nodes n some up)
-
--- those of the covered nodes of a layer are the covered nodes of the layer above
-pub climbed : (s : Shape) (queries : List ℕ) (t : ℕ) → CanQuery s queries t → (l n : ℕ) (here up : List ℕ) → l < t →
-    (IsAscending here → up ≡ distinct (map (λ j. j / n) here)) → n ≡ step s l → here ≡ covered_at s queries l →
-    up ≡ covered_at s queries (suc l)
-climbed s queries t w l n here up h climbs is_n is_here =
-    let order = ascending_from (covered_at s queries l) (rising_filter (is_covered s queries l) 0 (layer_len s l)) in
-    let some : 0 < step s l = omega (arith, step_above_1 s l w.well_shaped.above_1) in
-    climbs (rw is_here order) ∙ rw (is_n, is_here) (sym (parents_once (covered_at s queries l) (step s l) some order))
-    ∙ covered_above s queries t w l h
 
 -- ---- the first query of each
 

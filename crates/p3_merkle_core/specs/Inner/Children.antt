@@ -1,6 +1,6 @@
 -- The children of covered nodes, and the values that they take.
 use Rattle.std.specs.Prelude.{◌≡◌, ℕ, ◌+◌, ◌-◌, ◌*◌, ◌/◌, ◌%◌, ◌^◌, ◌<◌, ◌≤◌, Bool, true, not, nat_lt, if◌then◌else◌, List}
-use Rattle.std.specs.Prelude.{[], All, drop, filter, flat_map, fold, length, map, remove, slice_index, slice_index_or}
+use Rattle.std.specs.Prelude.{[], All, drop, filter, flat_map, fold, length, map, remove, slice_index_or}
 use Rattle.std.specs.Prelude.{take, zip}
 use Rattle.std.specs.List.{enumerate_from, range_with_len}
 use Rattle.std.specs.List.Sorted.{IsStrictlyIncreasing}
@@ -69,14 +69,15 @@ paths_out_of levels indices = map (λ i. (i, path_out_of levels i)) indices
 
 -- the covered nodes of the layers above the leaves, their steps, and the values of their children
 abbrev pub levels_in : {X : Type 0} → List (CoveredLayer X) → List (List ℕ × ℕ × List X)
-levels_in layers = map (λ layer. (layer.nodes.items, layer.step, layer.children.items)) (drop 1 layers)
+levels_in layers = map (λ layer. (layer.covered.nodes.items, layer.step, layer.children.items)) (drop 1 layers)
 
 -- a layer above another: its nodes ascend, each has as many children, and it has the parent of each node below
 pub record IsLinked {X : Type 0} (below above : CoveredLayer X) : Type 0 where
   pub some : 0 < above.step
-  pub full : length above.children.items ≡ above.step * length above.nodes.items
-  pub ascending : IsStrictlyIncreasing above.nodes.items
-  pub parents : (j : ℕ) → is_among below.nodes.items j ≡ true → is_among above.nodes.items (j / above.step) ≡ true
+  pub full : length above.children.items ≡ above.step * length above.covered.nodes.items
+  pub ascending : IsStrictlyIncreasing above.covered.nodes.items
+  pub parents : (j : ℕ) → is_among below.covered.nodes.items j ≡ true →
+      is_among above.covered.nodes.items (j / above.step) ≡ true
 
 -- each layer is above the one before it
 abbrev pub AreLinked : {X : Type 0} → List (CoveredLayer X) → Type 0

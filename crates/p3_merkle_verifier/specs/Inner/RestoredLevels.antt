@@ -3,11 +3,11 @@ use Rattle.std.specs.Prelude.{◌≡◌, ◌*◌, ◌/◌, ◌<◌, ◌≤◌, �
 use Rattle.std.specs.Prelude.{flat_map, length, map, slice_index, slice_index_or}
 use Rattle.std.specs.List.{range_with_len}
 use Rattle.p3_merkle_core.specs.Checks.{params}
-use Rattle.p3_merkle_core.specs.Geometry.{Shape, ancestor, has_rows, layer_exponent, shape_of, step}
+use Rattle.p3_merkle_core.specs.Geometry.{Shape, ancestor, has_rows, shape_of, step}
 use Rattle.p3_merkle_core.specs.Inner.Children.{levels_in, AreChildren, AreLinked}
 use Rattle.p3_merkle_core.specs.Inner.Covered.{covered_at}
 use Rattle.p3_merkle_core.specs.Nodes.{Functions}
-use Rattle.p3_merkle_core.specs.Pruning.{PrunedOpening, boundary, pruned_of, restored_node, value_of, words_under}
+use Rattle.p3_merkle_core.specs.Pruning.{PrunedOpening, pruned_of, restored_node, value_of, words_under}
 use Rattle.p3_merkle_core.specs.declared.pruning.CoveredLayer.{CoveredLayer}
 use Rattle.p3_support.specs.Shown.{row_sets}
 use Rattle.p3_merkle_verifier.specs.declared.openings.PrunedOpeningRef.{PrunedOpeningRef}
@@ -38,11 +38,11 @@ pub record AreQueriesAt (s : Shape) (indices : List ℕ) (l : ℕ) (queries : Li
 abbrev pub row_values : {T W : Type 0} → Functions T W → Shape → PrunedOpening T W → ℕ → List (List W)
 row_values f s p l = map (λ j. f.hash (words_under s p l j)) (covered_at s p.indices l)
 
--- the covered nodes of layer l, and how many boundary nodes are below the layer
-pub record IsCoveredAt {X : Type 0} (s : Shape) (indices : List ℕ) (l : ℕ) (covered : CoveredLayer X) : Type 0 where
-  pub nodes_are : covered.nodes.items ≡ covered_at s indices l
-  pub at_exponent : covered.exponent ≡ layer_exponent s l
-  pub sent_below : covered.used ≡ length (boundary s indices l)
+-- layer l of a tree of this shape, whose covered nodes are those of some indices
+pub record IsCoveredAt {X : Type 0} (s : Shape) (indices : List ℕ) (l : ℕ) (layer : CoveredLayer X) : Type 0 where
+  pub shape_is : shape_of layer.covered.steps.now.arity layer.covered.steps.now.dimensions.now ≡ s
+  pub indices_are : layer.covered.indices.now ≡ indices
+  pub layer_is : layer.covered.layer ≡ l
 
 -- the covered leaves
 pub record AreLeaves {X : Type 0} (s : Shape) (indices : List ℕ) (leaves : CoveredLayer X) : Type 0 where
@@ -55,8 +55,8 @@ pub record IsLayerAbove {X : Type 0} (s : Shape) (indices : List ℕ) (l : ℕ) 
   pub step_is : above.step ≡ step s l
   pub rows_are : above.has_rows ≡ has_rows s (suc l)
   pub coverage : IsCoveredAt s indices (suc l) above
-  pub values : AreChildren above.step above.nodes.items below.nodes.items digests (drop below.used sent)
-      above.children.items
+  pub values : AreChildren above.step above.covered.nodes.items below.covered.nodes.items digests
+      (drop below.covered.boundary_below sent) above.children.items
 
 -- the values of the children of the covered nodes above layer l, parent by parent
 abbrev pub child_values : {T W : Type 0} → Functions T W → Shape → ℕ → PrunedOpening T W → ℕ → List (List W)
@@ -69,7 +69,7 @@ pub record HaveChildren {T W : Type 0} (f : Functions T W) (s : Shape) (cap_laye
     (above : CoveredLayer (List W)) : Type 0 where
   pub step_is : above.step ≡ step s l
   pub rows_are : above.has_rows ≡ has_rows s (suc l)
-  pub full : length above.children.items ≡ above.step * length above.nodes.items
+  pub full : length above.children.items ≡ above.step * length above.covered.nodes.items
   pub values_are : above.children.items ≡ child_values f s cap_layer p l
 
 -- the children of the covered nodes of layer l, of which leaves have none
@@ -80,12 +80,12 @@ IsFamilyAt f s cap_layer p (suc l) covered = HaveChildren f s cap_layer p l cove
 
 -- the covered nodes of layer l, and the values of their children, which leaves do not have
 pub record IsLayer {T W : Type 0} (f : Functions T W) (s : Shape) (cap_layer : ℕ) (p : PrunedOpening T W) (l : ℕ)
-    (covered : CoveredLayer (List W)) : Type 0 where
-  pub coverage : IsCoveredAt s p.indices l covered
-  pub wide : 0 < l → 0 < covered.step
-  pub narrow : covered.step ≤ s.arity
-  pub in_groups : 0 < l → length covered.nodes.items ≡ length covered.children.items / covered.step
-  pub family : IsFamilyAt f s cap_layer p l covered
+    (layer : CoveredLayer (List W)) : Type 0 where
+  pub coverage : IsCoveredAt s p.indices l layer
+  pub wide : 0 < l → 0 < layer.step
+  pub narrow : layer.step ≤ s.arity
+  pub in_groups : 0 < l → length layer.covered.nodes.items ≡ length layer.children.items / layer.step
+  pub family : IsFamilyAt f s cap_layer p l layer
 
 -- the digests that are restored of the covered nodes of layer l
 abbrev pub AreRestored : {T W : Type 0} → Functions T W → Shape → ℕ → PrunedOpening T W → ℕ → List (List W) → Type 0

@@ -5,15 +5,14 @@ use Rattle.std.specs.Prelude.{slice_index_or}
 use Rattle.std.proofs.lemmas.List.{length-map}
 use Rattle.std.proofs.lemmas.Result.{err_from_is_err_and}
 use Rattle.p3_support.specs.Shown.{row_lists, row_sets}
-use Rattle.p3_support.specs.Batches.{heights_of}
+use Rattle.p3_support.specs.Batches.{greatest, heights_of}
 use Rattle.p3_merkle_core.specs.Geometry.{shape_of}
 use Rattle.p3_merkle_core.specs.Refusals.{first_of, width_refusal}
 use Rattle.p3_merkle_core.specs.Inner.Agreement.{distinct, first_query, layers_refusal}
 use Rattle.p3_merkle_core.proofs.Lists.RisingFacts.{increasing_from}
-use Rattle.p3_merkle_core.proofs.Covered.LeafFacts.{slot_leaves}
 use Rattle.p3_merkle_core.proofs.Pruned.AgreeFacts.{firsts_inside}
 use Rattle.p3_merkle_core.proofs.Pruned.LeadFacts.{all_fit, firsts_next, found_or, kept_or}
-use Rattle.p3_merkle_core.proofs.Pruned.SlotFacts.{distinct_rising, set_read}
+use Rattle.p3_merkle_core.proofs.Pruned.SlotFacts.{all_below, distinct_bounded, distinct_rising, set_read}
 use Rattle.p3_merkle_core.proofs.Pruned.PrunedFacts.{asked_from, full_from, late_from, pruned_counted, pruned_early}
 use Rattle.p3_merkle_core.proofs.Pruned.PrunedFacts.{pruned_late}
 use Rattle.p3_merkle_core.proofs.pruning.check_pruned.Goals as goal
@@ -59,33 +58,25 @@ returns-in_err-leaves g c =
     let left = err_from_is_err_and c.from_residual-in_err-leaves.result c.from_residual-in_err-leaves.ensures.1 in
     rw left.1 (inl left.2)
 
-pub boundary_len-requires : goal.boundary_len-requires
-boundary_len-requires g c =
-    let s = shape_of c.args.steps.now.arity c.args.steps.now.dimensions.now in
-    let leaves = slot_leaves s c.args.indices.now c.in_ok-leaves.leaves.items c.args.cap_layer c.requires.arity
-    (asked_from (heights_of c.args.steps.now.dimensions.now) c.args.indices.now (length c.args.rows.now)
-    c.args.num_digests c.in_ok-check_queries.ensures.answer).highest
-    (c.in_ok-leaves.ensures.items ∙ c.deref.ensures.value ∙ c.in_ok-queried.ensures.indices) in
-    record {
-      arity = c.requires.arity;
-      low = c.in_ok-check_queries.ensures.low;
-      layer = c.requires.layer;
-      below = leaves.below;
-      ascending = leaves.ascending;
-    }
+pub new-covered-requires : goal.new-covered-requires
+new-covered-requires g c = record {
+  arity = c.requires.arity;
+  low = c.in_ok-check_queries.ensures.low;
+  below = all_below (greatest (heights_of c.args.steps.now.dimensions.now)) c.args.indices.now
+      (asked_from (heights_of c.args.steps.now.dimensions.now) c.args.indices.now (length c.args.rows.now)
+      c.args.num_digests c.in_ok-check_queries.ensures.answer).highest;
+  nodes = c.in_ok-leaves.ensures.items ∙ c.deref.ensures.value ∙ c.in_ok-queried.ensures.indices;
+}
 
 pub returns-in_err-check_digest_count : goal.returns-in_err-check_digest_count
 returns-in_err-check_digest_count g c =
     let s = shape_of c.args.steps.now.arity c.args.steps.now.dimensions.now in
     let early = rw (← length-map c.args.rows.now (λ rows. row_lists rows.items)) at
     c.in_ok-check_queries.ensures.answer in
-    let leaves = slot_leaves s c.args.indices.now c.in_ok-leaves.leaves.items c.args.cap_layer c.requires.arity
-    (asked_from (heights_of c.args.steps.now.dimensions.now) c.args.indices.now (length c.args.rows.now)
-    c.args.num_digests c.in_ok-check_queries.ensures.answer).highest
-    (c.in_ok-leaves.ensures.items ∙ c.deref.ensures.value ∙ c.in_ok-queried.ensures.indices) in
     let left = err_from_is_err_and c.from_residual-in_err-check_digest_count.result
     c.from_residual-in_err-check_digest_count.ensures.1 in
-    let some = rw (c.boundary_len.ensures ∙ leaves.count) at c.in_err-check_digest_count.ensures in
+    let len = rw (c.new-covered.ensures.steps, c.new-covered.ensures.indices) at c.boundary_len.ensures in
+    let some = rw len at c.in_err-check_digest_count.ensures in
     let found = pruned_counted g.T.PartialEq.eq s c.args.cap_layer c.args.indices.now (row_sets c.args.rows.now)
     c.args.num_digests c.in_err-check_digest_count.field-0.0 early
     (rw (c.in_ok-check_repeats.ensures, some) refl) in
@@ -136,10 +127,6 @@ returns-in_err-check_widths g c =
     let s = shape_of c.args.steps.now.arity c.args.steps.now.dimensions.now in
     let early = rw (← length-map c.args.rows.now (λ rows. row_lists rows.items)) at
     c.in_ok-check_queries.ensures.answer in
-    let leaves = slot_leaves s c.args.indices.now c.in_ok-leaves.leaves.items c.args.cap_layer c.requires.arity
-    (asked_from (heights_of c.args.steps.now.dimensions.now) c.args.indices.now (length c.args.rows.now)
-    c.args.num_digests c.in_ok-check_queries.ensures.answer).highest
-    (c.in_ok-leaves.ensures.items ∙ c.deref.ensures.value ∙ c.in_ok-queried.ensures.indices) in
     let queried = c.in_ok-queried.queried in
     let sets = row_sets c.args.rows.now in
     let asked = asked_from (heights_of c.args.steps.now.dimensions.now) c.args.indices.now (length c.args.rows.now)
@@ -158,7 +145,8 @@ returns-in_err-check_widths g c =
     let some : first_of h queried.first_queries.items ≡ Some e = rw c.deref-query-items.ensures.value at
     (found_or (h (get_or firsts n 0)) (first_of h (drop (n + 1) firsts)) (first_of h firsts) e
     (firsts_next h firsts n (first_of h firsts) c.loop-query-test.true c.loop-query.invariant) here) in
-    let count = rw (c.boundary_len.ensures ∙ leaves.count) at c.in_ok-check_digest_count.ensures in
+    let len = rw (c.new-covered.ensures.steps, c.new-covered.ensures.indices) at c.boundary_len.ensures in
+    let count = rw len at c.in_ok-check_digest_count.ensures in
     let left = err_from_is_err_and c.from_residual-in_err-check_widths.result
     c.from_residual-in_err-check_widths.ensures.1 in
     let found = pruned_late g.T.PartialEq.eq s c.args.cap_layer queried.indices.items queried.first_queries.items
@@ -175,11 +163,11 @@ check_shared_rows-requires g c =
     let asked = asked_from (heights_of c.args.steps.now.dimensions.now) c.args.indices.now (length c.args.rows.now)
     c.args.num_digests c.in_ok-check_queries.ensures.answer in
     let s = shape_of c.args.steps.now.arity c.args.steps.now.dimensions.now in
-    let leaves = slot_leaves s indices d c.args.cap_layer c.requires.arity asked.highest refl in
+    let m = greatest (heights_of c.args.steps.now.dimensions.now) in
     record {
       arity = c.requires.arity;
       low = c.in_ok-check_queries.ensures.low;
-      below = rw c.in_ok-queried.ensures.indices leaves.below;
+      below = rw c.in_ok-queried.ensures.indices (distinct_bounded m indices (all_below m indices asked.highest));
       layer = c.requires.layer;
       pairs = ap length c.in_ok-queried.ensures.indices ∙ sym (length-map d (first_query indices))
           ∙ ap length (sym c.in_ok-queried.ensures.first_queries);
@@ -195,17 +183,14 @@ returns-in_err-check_shared_rows g c =
     let s = shape_of c.args.steps.now.arity c.args.steps.now.dimensions.now in
     let early = rw (← length-map c.args.rows.now (λ rows. row_lists rows.items)) at
     c.in_ok-check_queries.ensures.answer in
-    let leaves = slot_leaves s c.args.indices.now c.in_ok-leaves.leaves.items c.args.cap_layer c.requires.arity
-    (asked_from (heights_of c.args.steps.now.dimensions.now) c.args.indices.now (length c.args.rows.now)
-    c.args.num_digests c.in_ok-check_queries.ensures.answer).highest
-    (c.in_ok-leaves.ensures.items ∙ c.deref.ensures.value ∙ c.in_ok-queried.ensures.indices) in
     let queried = c.in_ok-queried.queried in
     let sets = row_sets c.args.rows.now in
     let widths = first_of (λ query. width_refusal c.args.steps.now.dimensions.now (slice_index_or sets query []))
     queried.first_queries.items in
     let groups = layers_refusal g.T.PartialEq.eq s c.args.cap_layer queried.indices.items queried.first_queries.items
     sets in
-    let count = rw (c.boundary_len.ensures ∙ leaves.count) at c.in_ok-check_digest_count.ensures in
+    let len = rw (c.new-covered.ensures.steps, c.new-covered.ensures.indices) at c.boundary_len.ensures in
+    let count = rw len at c.in_ok-check_digest_count.ensures in
     let left = err_from_is_err_and c.from_residual-in_err-check_shared_rows.result
     c.from_residual-in_err-check_shared_rows.ensures.1 in
     let e = c.in_err-check_shared_rows.field-0.0 in
@@ -226,17 +211,14 @@ returns g c =
     let s = shape_of c.args.steps.now.arity c.args.steps.now.dimensions.now in
     let early = rw (← length-map c.args.rows.now (λ rows. row_lists rows.items)) at
     c.in_ok-check_queries.ensures.answer in
-    let leaves = slot_leaves s c.args.indices.now c.in_ok-leaves.leaves.items c.args.cap_layer c.requires.arity
-    (asked_from (heights_of c.args.steps.now.dimensions.now) c.args.indices.now (length c.args.rows.now)
-    c.args.num_digests c.in_ok-check_queries.ensures.answer).highest
-    (c.in_ok-leaves.ensures.items ∙ c.deref.ensures.value ∙ c.in_ok-queried.ensures.indices) in
     let queried = c.in_ok-queried.queried in
     let sets = row_sets c.args.rows.now in
     let widths = first_of (λ query. width_refusal c.args.steps.now.dimensions.now (slice_index_or sets query []))
     queried.first_queries.items in
     let groups = layers_refusal g.T.PartialEq.eq s c.args.cap_layer queried.indices.items queried.first_queries.items
     sets in
-    let count = rw (c.boundary_len.ensures ∙ leaves.count) at c.in_ok-check_digest_count.ensures in
+    let len = rw (c.new-covered.ensures.steps, c.new-covered.ensures.indices) at c.boundary_len.ensures in
+    let count = rw len at c.in_ok-check_digest_count.ensures in
     let none : widths ≡ None = all_fit c.deref-query-items.result.now _ _
     c.loop-query.query-index (omega arith) c.deref-query-items.ensures.value c.loop-query.invariant in (
       pruned_late g.T.PartialEq.eq s c.args.cap_layer queried.indices.items queried.first_queries.items

@@ -10,5 +10,5 @@ abbrev pub invariant-loop-level : goal.invariant-loop-level
 invariant-loop-level g l = record {
   some : 0 < l.level;
   walked : IsOnPath (levels_in l.layers) l.index (l.level - 1) l.path.items l.node;
-  covered : (x : CoveredLayer _) → is_among (get_or l.layers (l.level - 1) x).nodes.items l.node ≡ true;
+  covered : (x : CoveredLayer _) → is_among (get_or l.layers (l.level - 1) x).covered.nodes.items l.node ≡ true;
 }

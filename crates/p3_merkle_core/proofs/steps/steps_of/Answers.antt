@@ -1,16 +1,47 @@
 -- Each turn keeps one step of the walk.
-use Rattle.std.proofs.Common.{◌≡◌, ◌<◌, ◌≤◌, ◌+◌, ap, arith, length, length-set, refl, sym, ◌∙◌}
+use Rattle.std.proofs.Common.{◌≡◌, ◌<◌, ◌≤◌, ◌+◌, ◌*◌, ◌%◌, ◌^◌, ap, arith, bit_or, cond, length, length-set, max}
+use Rattle.std.proofs.Common.{nat_lt, refl, sym, ◌∙◌}
 use Rattle.std.specs.Int.{div_ceil}
+use Rattle.std.proofs.lemmas.Bool.{le-ltb}
+use Rattle.std.proofs.lemmas.Nat.{pow_below}
+use Rattle.std.proofs.Math.Nat.{mod-eq_of_lt}
 use Rattle.std.proofs.lemmas.List.{get_or-replicate, get_or-set_other}
 use Rattle.p3_support.specs.Batches.{heights_of}
+use Rattle.p3_merkle_core.specs.Inner.Exponents.{digits, next_below}
 use Rattle.p3_merkle_core.proofs.Shapes.ExponentFacts.{some_below}
+use Rattle.p3_merkle_core.proofs.Shapes.MarkFacts.{more_bits, no_bits, one_more}
 use Rattle.p3_merkle_core.proofs.Shapes.QuotientFacts.{ceil_below, ceil_covers, ceil_le_self}
 use Rattle.p3_merkle_core.proofs.Shapes.WholeSteps.{none, whole_steps, IsWalked}
 use Rattle.p3_merkle_core.specs.Geometry.{exponent, shape_of}
 use Rattle.p3_merkle_core.proofs.Shapes.KeptSteps.{kept_more, level_is}
 use Rattle.p3_merkle_core.proofs.Shapes.StepFacts.{at_start, at_more, at_end, layer_start, next_falls, whole_step_falls}
 use Rattle.p3_merkle_core.proofs.Shapes.LeastFacts.{exponent_le}
+use Rattle.p3_merkle_core.proofs.steps.steps_of.Goals.{then-bit, else-bit}
 use Rattle.p3_merkle_core.proofs.steps.steps_of.Goals as goal
+
+pub loop-matrix-init : goal.loop-matrix-init
+loop-matrix-init c = λ x small. omega (arith, no_bits x)
+
+pub loop-matrix-preserved : goal.loop-matrix-preserved
+loop-matrix-preserved c = λ x small.
+    let m = c.loop-matrix.bits in
+    let e = c.exponent_of-bit.result in
+    let reached : digits (c.if-bit.bits % 2 ^ x) ≡ max (cond (nat_lt e x) (e + 1) 0) (digits (m % 2 ^ x)) =
+    elim c.if-bit.branch [
+      | then-bit w ↦
+          let bit : 1 * 2 ^ e % 2 ^ 64 ≡ 2 ^ e =
+          mod-eq_of_lt (omega (arith, pow_below e 64 w.if-bit.true)) ∙ omega arith in
+          ap (λ m. digits (m % 2 ^ x)) (w.bits-is ∙ ap (bit_or m) bit) ∙ more_bits m e x small
+      | else-bit w ↦
+          omega (
+            arith,
+            ap (λ m. digits (m % 2 ^ x)) w.bits-is,
+            ap (λ b. cond b (e + 1) 0) (le-ltb e x (omega (arith, w.if-bit.false, small))),
+          )
+    ] in
+    one_more c.args.dimensions.now c.loop-matrix.matrix-index _ e x (digits (m % 2 ^ x))
+    (digits (c.if-bit.bits % 2 ^ x)) (next_below x (heights_of c.args.dimensions.now))
+    c.loop-matrix-test.true c.exponent_of-bit.ensures reached (c.loop-matrix.invariant x small)
 
 pub at-exponents-requires : goal.at-exponents-requires
 at-exponents-requires c =

@@ -1,12 +1,18 @@
-use Rattle.std.proofs.Common.{◌≡◌, ◌<◌, ◌≤◌, ℕ, get_or, length, map, take}
+use Rattle.std.proofs.Common.{◌≡◌, ◌%◌, ◌^◌, ◌<◌, ◌≤◌, ℕ, drop, get_or, length, map, max, take}
 use Rattle.std.specs.List.{range_with_len}
 use Rattle.p3_merkle_core.specs.Geometry.{shape_of}
 use Rattle.p3_support.specs.Batches.{heights_of}
-use Rattle.p3_merkle_core.specs.Inner.Exponents.{AreExponents}
+use Rattle.p3_merkle_core.specs.Inner.Exponents.{digits, next_below, AreExponents}
 use Rattle.p3_merkle_core.specs.Inner.Steps.{level_step}
 use Rattle.p3_merkle_core.proofs.Shapes.StepFacts.{IsAt}
 use Rattle.p3_merkle_core.proofs.Shapes.WholeSteps.{none}
 use Rattle.p3_merkle_core.proofs.steps.steps_of.Given as goal
+
+-- the bits so far and the rest's exponents tell all exponents
+abbrev pub invariant-loop-matrix : goal.invariant-loop-matrix
+invariant-loop-matrix l = (x : ℕ) → x ≤ 64 →
+    max (digits (l.bits % 2 ^ x)) (next_below x (heights_of (drop l.matrix-index l.dimensions)))
+    ≡ next_below x (heights_of l.dimensions)
 
 -- the walk is at a layer, the steps below it are kept, and no other is yet
 abbrev pub invariant-loop-exponents : goal.invariant-loop-exponents

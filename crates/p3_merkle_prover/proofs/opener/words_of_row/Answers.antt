@@ -1,5 +1,5 @@
 -- Each turn copies one more word.
-use Rattle.std.proofs.Common.{arith, rules, ◌+◌, ◌++◌, ◌∙◌, ◌∷◌, [], ap, sym, take}
+use Rattle.std.proofs.Common.{arith, rules, ◌++◌, ◌∙◌, ◌∷◌, [], ap, sym, take}
 use Rattle.std.proofs.Math.Seq.{take-add}
 use Rattle.std.proofs.lemmas.List.{take_all}
 use Rattle.p3_support.proofs.RowReads.{drop_at}

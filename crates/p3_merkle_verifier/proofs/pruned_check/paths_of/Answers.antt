@@ -6,6 +6,7 @@ use Rattle.p3_merkle_core.proofs.Covered.CoveredFacts.{covered_leaf, covered_lis
 use Rattle.p3_merkle_core.proofs.Pruned.SlotFacts.{queried_at}
 use Rattle.p3_merkle_core.proofs.Covered.KeptFacts.{paths_more, paths_restored}
 use Rattle.p3_merkle_verifier.specs.Inner.RestoredLevels.{opened_by, tree_of}
+use Rattle.p3_merkle_verifier.proofs.LayerFacts.{covers}
 use Rattle.p3_merkle_verifier.proofs.pruned_check.paths_of.Goals as goal
 
 pub path_out_of-requires-clause-covered : goal.path_out_of-requires-clause-covered
@@ -15,7 +16,7 @@ path_out_of-requires-clause-covered g c x =
     let indices = restorable.opening.indices.now in
     let asked = restorable.queried in
     let index = get_or indices c.loop-query.query 0 in
-    rw (c.requires.leaves x).coverage.nodes_are
+    rw (covers (c.requires.leaves x).coverage).nodes_are
     (covered_listed s indices restorable.cap_layer asked 0 index (omega arith)
     (covered_leaf s indices index ∙ queried_at indices c.loop-query.query c.loop-query-test.true))
 

@@ -60,20 +60,17 @@ invariant_of-restorable g c =
       distinct = c.in_ok-queried.ensures.1;
     }
 
-pub returns-clause-leaves : goal.returns-clause-leaves
-returns-clause-leaves g c =
+pub new-requires : goal.new-requires
+new-requires g c =
     let s = shape_of c.args.steps.now.arity c.args.steps.now.dimensions.now in
     let opening = c.args.opening in
-    let indices = opening.indices.now in
-    let p = opened_with indices (row_sets opening.sets.now) (length opening.sent.now) in
-    let asked = asked_of g.P.Value.PartialEq.eq s c.args.cap_layer p c.in_ok-queried.ensures.0 in
-    let queried = c.in_ok-queried.ensures.1 in
+    let p = opened_with opening.indices.now (row_sets opening.sets.now) (length opening.sent.now) in
+    let none = c.in_ok-queried.ensures.0 in
+    let r = restorable g.P.Value.PartialEq.eq s c.args.cap_layer p g.met.P.PackedValue.eq_is_equality
+    (ap (λ refusal. ok_unless refusal (tt {0})) none) in
     record {
-      coverage = record {
-        nodes_are = c.in_ok-nodes.ensures.items ∙ c.deref.ensures.value ∙ queried.indices
-            ∙ sym (distinct_from s indices (all_below (greatest (heights s)) indices asked.highest));
-        at_exponent = c.args.steps.now.walked.leaves;
-        sent_below = refl;
-      };
-      childless = refl;
+      arity = c.requires.arity;
+      low = tallest_fits (heights s) (none_large_from_lawful (heights s) r.lawful);
+      below = r.below;
+      nodes = c.in_ok-nodes.ensures.items ∙ c.deref.ensures.value ∙ c.in_ok-queried.ensures.1.indices;
     }

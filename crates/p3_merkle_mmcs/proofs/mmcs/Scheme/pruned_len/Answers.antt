@@ -4,7 +4,6 @@ use Rattle.std.proofs.lemmas.Result.{err_from_is_err_and}
 use Rattle.p3_support.specs.Batches.{heights_of}
 use Rattle.p3_merkle_core.specs.Geometry.{shape_of, IsArity}
 use Rattle.p3_merkle_core.specs.Pruning.{pruned_len}
-use Rattle.p3_merkle_core.proofs.Covered.LeafFacts.{leaves_asked}
 use Rattle.p3_merkle_core.proofs.Covered.Sufficient.{count_least}
 use Rattle.p3_merkle_core.proofs.Shapes.GateFacts.{none_large_from_lawful, tallest_fits}
 use Rattle.p3_merkle_mmcs.specs.Schemes.{cap_layer_over}
@@ -31,26 +30,13 @@ returns-in_err-leaves-clause-answer g c =
     let p = err_from_is_err_and c.from_residual-in_err-leaves.result c.from_residual-in_err-leaves.ensures.1 in
     rw p.1 (inl p.2)
 
-pub boundary_len-requires-clause-low : goal.boundary_len-requires-clause-low
-boundary_len-requires-clause-low g c =
+pub new-requires-clause-low : goal.new-requires-clause-low
+new-requires-clause-low g c =
     let heights = heights_of c.steps_of-steps.result.dimensions.now in
     tallest_fits heights (none_large_from_lawful heights (c.in_ok-check_heights.ensures.lawful.0 refl))
 
-pub boundary_len-requires-clause-below : goal.boundary_len-requires-clause-below
-boundary_len-requires-clause-below g c =
-    let steps = c.steps_of-steps.result in
-    let arity : IsArity steps.arity = rw c.steps_of-steps.ensures.arity c.args.self.now.arity in
-    (leaves_asked (shape_of steps.arity steps.dimensions.now) c.args.indices.now c.in_ok-leaves.leaves.items
-    c.cap_layer-cap_layer.result arity (rw steps.walked.tallest at c.in_ok-check_indices.ensures.below)
-    c.in_ok-leaves.ensures).below
-
-pub boundary_len-requires-clause-ascending : goal.boundary_len-requires-clause-ascending
-boundary_len-requires-clause-ascending g c =
-    let steps = c.steps_of-steps.result in
-    let arity : IsArity steps.arity = rw c.steps_of-steps.ensures.arity c.args.self.now.arity in
-    (leaves_asked (shape_of steps.arity steps.dimensions.now) c.args.indices.now c.in_ok-leaves.leaves.items
-    c.cap_layer-cap_layer.result arity (rw steps.walked.tallest at c.in_ok-check_indices.ensures.below)
-    c.in_ok-leaves.ensures).ascending
+pub new-requires-clause-below : goal.new-requires-clause-below
+new-requires-clause-below g c = rw c.steps_of-steps.result.walked.tallest at c.in_ok-check_indices.ensures.below
 
 pub returns-clause-least : goal.returns-clause-least
 returns-clause-least g c =
@@ -61,12 +47,14 @@ returns-clause-least g c =
     let s = shape_of g.row.N c.args.dimensions.now in
     let arity : IsArity made.result.arity = rw made.ensures.arity scheme.arity in
     let below = rw made.result.walked.tallest at c.in_ok-check_indices.ensures.below in
-    let asked = leaves_asked (shape_of made.result.arity made.result.dimensions.now) c.args.indices.now
-    c.in_ok-leaves.leaves.items c.cap_layer-cap_layer.result arity below c.in_ok-leaves.ensures in
+    let own = c.new.ensures in
     count_least s c.args.indices.now (cap_layer_over scheme s) c.boundary_len.result
     (record {
       well_shaped = scheme.arity;
       below = rw made.ensures.dimensions at below;
       in_tree = omega arith;
     })
-    (c.boundary_len.ensures ∙ asked.count ∙ (λ i. pruned_len (steps.tree i) c.args.indices.now (steps.at_cap i)))
+    (c.boundary_len.ensures
+    ∙ (λ i. pruned_len (shape_of (own.steps i).arity (own.steps i).dimensions.now) (own.indices i)
+    c.cap_layer-cap_layer.result)
+    ∙ (λ i. pruned_len (steps.tree i) c.args.indices.now (steps.at_cap i)))

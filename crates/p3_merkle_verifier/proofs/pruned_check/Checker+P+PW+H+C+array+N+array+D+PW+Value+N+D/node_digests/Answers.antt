@@ -9,7 +9,7 @@ use Rattle.p3_merkle_verifier.specs.Inner.Checks.{functions_of}
 use Rattle.p3_merkle_verifier.specs.Inner.NodeDigests.{pair_digest}
 use Rattle.p3_merkle_verifier.specs.Inner.RestoredLevels.{opened_by, tree_of}
 use Rattle.p3_merkle_verifier.proofs.GroupFacts.{pairs_injected}
-use Rattle.p3_merkle_verifier.proofs.LayerFacts.{digests_long, leaves_restored, restored_at}
+use Rattle.p3_merkle_verifier.proofs.LayerFacts.{covers, digests_long, leaves_restored, restored_at}
 use Rattle.p3_merkle_verifier.proofs.pruned_check.Checker+P+PW+H+C+array+N+array+D+PW+Value+N+D.node_digests.Goals as goal
 
 pub returns-in_err-digests : goal.returns-in_err-digests
@@ -39,7 +39,7 @@ returns-then-layer-eq0-clause-restored g c =
     let f = functions_of c.args.self.now in
     let s = tree_of restorable in
     let p = opened_by restorable in
-    let rows = c.row_digests.ensures c.args.layer c.requires.in_tree c.requires.covered.coverage.at_exponent in
+    let rows = c.row_digests.ensures c.args.layer c.requires.in_tree (covers c.requires.covered.coverage).at_exponent in
     rw c.if-layer-eq0.true
     (IfOk-weaker c.row_digests.result _ _ (λ digests is. leaves_restored f s restorable.cap_layer p digests.items is)
     (rw c.if-layer-eq0.true at rows))
@@ -49,14 +49,14 @@ returns-then-layer-eq0-clause-count g c =
     let restorable = c.args.restorable.now in
     let f = functions_of c.args.self.now in
     IfOk-weaker c.row_digests.result _ _ (λ digests restored.
-    digests_long f (tree_of restorable) restorable.cap_layer (opened_by restorable) c.args.layer c.args.covered.now
+    digests_long f (tree_of restorable) restorable.cap_layer (opened_by restorable) c.args.layer c.args.here.now
     digests.items c.requires.covered.coverage restored)
     (returns-then-layer-eq0-clause-restored g c)
 
-pub returns-then-not-covered : goal.returns-then-not-covered
-returns-then-not-covered g c =
+pub returns-then-not-here : goal.returns-then-not-here
+returns-then-not-here g c =
     let restorable = c.args.restorable.now in
-    let covered = c.args.covered.now in
+    let covered = c.args.here.now in
     let f = functions_of c.args.self.now in
     let s = tree_of restorable in
     let t = restorable.cap_layer in
@@ -65,8 +65,8 @@ returns-then-not-covered g c =
     let some : 0 < c.args.layer = omega arith in
     let digests = c.in_ok-digests.digests.items in
     let restored = restored_at f s t p c.args.layer some g.row.N c.requires.arity covered [] digests layer
-    (λ present. absurd (true≢false (sym present ∙ c.if-not-covered.true)))
-    (rw c.if-not-covered.true (rw c.deref.ensures.value at c.in_ok-digests.ensures.digests)) in
+    (λ present. absurd (true≢false (sym present ∙ c.if-not-here.true)))
+    (rw c.if-not-here.true (rw c.deref.ensures.value at c.in_ok-digests.ensures.digests)) in
     record {
       count = digests_long f s t p c.args.layer covered digests layer.coverage restored;
       restored = restored;
@@ -75,14 +75,14 @@ returns-then-not-covered g c =
 pub returns : goal.returns
 returns g c =
     let restorable = c.args.restorable.now in
-    let covered = c.args.covered.now in
+    let covered = c.args.here.now in
     let f = functions_of c.args.self.now in
     let s = tree_of restorable in
     let t = restorable.cap_layer in
     let p = opened_by restorable in
     let layer = c.requires.covered in
     let some : 0 < c.args.layer = omega arith in
-    let known = c.in_ok-rows.ensures c.args.layer c.requires.in_tree layer.coverage.at_exponent in
+    let known = c.in_ok-rows.ensures c.args.layer c.requires.in_tree (covers layer.coverage).at_exponent in
     let made = c.in_ok-digests in
     let slots = c.inject_row_digests.new.slots in
     let filled = c.in_ok-inject_row_digests.ensures in
@@ -93,7 +93,7 @@ returns g c =
       arith,
       ap length (c.deref-2.ensures.value ∙ known),
       length-map (covered_at s p.indices c.args.layer) (λ j. f.hash (words_under s p c.args.layer j)),
-      ap length layer.coverage.nodes_are,
+      ap length (covers layer.coverage).nodes_are,
       ap length c.deref_mut.ensures.value,
       rw c.deref.ensures.value at made.ensures.count,
       layer.in_groups some,
@@ -105,7 +105,7 @@ returns g c =
     ∙ (λ i. map (pair_digest f.compression g.row.N f.default_digest)
     (zip (nodes_are i) (c.deref-2.ensures.value i))) in
     let restored = restored_at f s t p c.args.layer some g.row.N c.requires.arity covered c.in_ok-rows.rows.items
-    digests layer (λ present. known) (rw c.if-not-covered.false are) in
+    digests layer (λ present. known) (rw c.if-not-here.false are) in
     record {
       count = digests_long f s t p c.args.layer covered digests layer.coverage restored;
       restored = restored;

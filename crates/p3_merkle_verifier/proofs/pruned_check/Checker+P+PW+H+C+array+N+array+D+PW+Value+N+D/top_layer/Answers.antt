@@ -16,11 +16,7 @@ loop-level-init g c =
 pub layer_above-requires-clause-coverage : goal.layer_above-requires-clause-coverage
 layer_above-requires-clause-coverage g c =
     let at = c.loop-level.invariant.coverage in
-    record {
-      nodes_are = at.nodes_are;
-      at_exponent = at.at_exponent;
-      sent_below = at.sent_below;
-    }
+    record { shape_is = at.shape_is; indices_are = at.indices_are; layer_is = at.layer_is }
 
 pub loop-level-preserved : goal.loop-level-preserved
 loop-level-preserved g c =
@@ -33,11 +29,8 @@ loop-level-preserved g c =
     let up = rw c.deref.ensures.value at c.in_ok-layer.ensures in
     rw add-one (layer_rises f s t p restorable.queried restorable.all_sent c.loop-level.level c.loop-level-test.true _
     c.in_ok-layer.layer c.in_ok-digests.digests.items
-    (record {
-      nodes_are = at.nodes_are;
-      at_exponent = at.at_exponent;
-      sent_below = at.sent_below;
-    }) c.in_ok-digests.ensures.restored up)
+    (record { shape_is = at.shape_is; indices_are = at.indices_are; layer_is = at.layer_is })
+    c.in_ok-digests.ensures.restored up)
 
 pub returns : goal.returns
 returns g c =

@@ -1,6 +1,6 @@
 use Rattle.std.proofs.Common.{◌≡◌, ◌/◌, ◌<◌, ◌++◌, get_or, take, drop, eqb, map}
 use Rattle.std.specs.List.{dedup, dedup_from}
-use Rattle.p3_merkle_core.proofs.pruning.climb.Given as goal
+use Rattle.p3_merkle_core.proofs.steps.replace_by_parents.Given as goal
 
 -- the parents kept before the last one, and what is left of it and of those to come: what is left of all
 abbrev pub invariant-loop-place : goal.invariant-loop-place
