@@ -2,7 +2,7 @@
 use Rattle.std.specs.Prelude.{ℕ, ◌+◌, ◌*◌, ◌%◌, ◌^◌, List, map, slice_index_or}
 use Rattle.std.specs.List.{fold, range_with_len, enumerate_from}
 
--- an element that takes in a word
+-- an element after one more word
 abbrev pub take_in : ℕ → ℕ → ℕ
 take_in s x = (31 * s + x) % 2 ^ 32
 
@@ -10,18 +10,18 @@ take_in s x = (31 * s + x) % 2 ^ 32
 abbrev pub start : ℕ → ℕ
 start e = (1 + e) % 2 ^ 32
 
--- the digest of n elements: each takes in the words in their order
+-- the digest of n elements: each absorbs the words, in order
 unfoldable pub fold_hash : ℕ → List ℕ → List ℕ
 fold_hash n words = map (λ e. fold take_in (start e) words) (range_with_len 0 n)
 
--- an element that takes in its like of the child at a place
+-- an element after one more child: x is the element of the child, place the number of the child
 abbrev pub mix_in : ℕ → ℕ × ℕ → ℕ
 mix_in s (place, x) = (31 * s + x + place) % 2 ^ 32
 
--- element e of each digest, with the digest's place
+-- element e of each child, with the child's number
 abbrev pub placed_elements : ℕ → List (List ℕ) → List (ℕ × ℕ)
 placed_elements e children = enumerate_from 0 (map (λ child. slice_index_or child e 0) children)
 
--- the digest of n elements: each starts at 0 and takes in its like of each child, in the order of the children
+-- the digest of n elements: each starts at 0 and absorbs the same element of each child, in order
 unfoldable pub fold_compress : ℕ → List (List ℕ) → List ℕ
 fold_compress n children = map (λ e. fold mix_in 0 (placed_elements e children)) (range_with_len 0 n)

@@ -1,4 +1,4 @@
--- What holds of SHA-256 over digests that stand one after another.
+-- Groups of digests as messages of SHA-256.
 use Rattle.std.specs.Prelude.{◌≡◌, ◌≢◌, ℕ, List, All, length}
 use Rattle.std.specs.List.{concat}
 

@@ -1,4 +1,4 @@
-//! A hasher or a compression whose `LANES` are 3.
+//! A wrapper that sets `LANES` to 3, for a hasher or a compression.
 ghost use Rattle.std.specs.Prelude.{◌≡◌, ℕ, ◌<◌, map};
 ghost use Rattle.p3_support.specs.Lists.{lane_of};
 

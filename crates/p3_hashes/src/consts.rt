@@ -1,7 +1,6 @@
 //! The constants of SHA-256 (FIPS 180-4, 4.2.2 and 5.3.3).
 
-/// The initial hash value: the first 32 bits of the fractional parts of the square roots of the
-/// first eight primes.
+/// The initial hash value: the first 32 bits of the fractional parts of the square roots of the first eight primes.
 pub(crate) const INITIAL: [u32; 8] = [
     0x6a09_e667,
     0xbb67_ae85,
@@ -13,8 +12,7 @@ pub(crate) const INITIAL: [u32; 8] = [
     0x5be0_cd19,
 ];
 
-/// The round constants: the first 32 bits of the fractional parts of the cube roots of the first 64
-/// primes.
+/// The round constants: the first 32 bits of the fractional parts of the cube roots of the first 64 primes.
 pub(crate) const ROUND_CONSTANTS: [u32; 64] = [
     0x428a_2f98,
     0x7137_4491,

@@ -1,17 +1,17 @@
-//! How long a digest is, for code that is generic in it.
+//! The length of a digest, as a bound of code that is generic in it.
 ghost use Rattle.std.specs.Prelude.{◌≡◌, refl};
 
 use sha2::Sha256;
 
-/// A hash with digests of `D` bytes. `Sha256` has this trait at 32 alone. Calls that are generic in `D` ask for it in
-/// place of writing 32, since the checker refuses an `impl` that leaves one number of its trait open and writes
+/// A hash with digests of `D` bytes. `Sha256` has this trait at 32 alone. Code that is generic in `D` has it as a bound
+/// in place of writing 32, since the checker refuses an `impl` that leaves one number of its trait open and writes
 /// another.
 pub trait DigestSize<const D: usize> {
-    /// The digest, as an array of `D` bytes.
+    /// The digest as an array of `D` bytes, where `D` is 32.
     fn array(digest: [u8; 32]) -> [u8; D]
         ensures { result ≡ digest };
 
-    // How many bytes that is: callers show by it that the bytes of a group can be counted.
+    // `D` is 32: callers prove by it that the number of bytes of a group fits.
     ghost size: { D ≡ 32 };
 }
 

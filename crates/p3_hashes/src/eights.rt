@@ -1,5 +1,4 @@
-//! The fold functions of many messages and of many groups, eight at a time: each of the eight in a
-//! lane of its own.
+//! The fold functions of many messages and of many groups, eight at a time, each in a lane of its own.
 ghost use Rattle.std.specs.Prelude.{◌≡◌, ℕ, ◌+◌, ◌*◌, ◌/◌, ◌^◌, ◌<◌, ◌≤◌, [], length, map, slice_index_or, slice_range};
 ghost use Rattle.std.specs.Prelude.{take};
 ghost use Rattle.p3_support.specs.Lists.{lane_of, message as message_of};
@@ -13,15 +12,14 @@ use crate::lanes::{U32x8, turn_four};
 use p3_support::packed::{pack_columns_fn, unpack_at};
 use std::simd::prelude::*;
 
-/// The longest digest, in words, for which eight messages are hashed together. A longer one leaves
-/// no registers for the transposed words.
+/// The longest digest, in words, for which eight messages are hashed together. A longer one leaves no registers for the
+/// transposed words.
 const MOST_HASHED: usize = 4;
 
-/// The longest digest, in words, for which eight groups are compressed together. A longer one fills
-/// vectors by itself.
+/// The longest digest, in words, for which eight groups are compressed together. A longer one fills vectors by itself.
 const MOST_COMPRESSED: usize = 1;
 
-/// The word of a message at a column. The messages lie one after another, of `width` words each.
+/// Word `column` of message `message`. The messages lie one after another, of `width` words each.
 fn word_at(messages: &[u32], width: usize, message: usize, column: usize) -> u32
     requires full { (n : ℕ) × (message < n) × (length messages.now ≡ n * width) }
     requires inside { column < width }
@@ -30,7 +28,7 @@ fn word_at(messages: &[u32], width: usize, message: usize, column: usize) -> u32
     messages[message * width + column]
 }
 
-/// The words at a column of as many messages as `P` has lanes, from message `first` on.
+/// Packs word `column` of `P::WIDTH` messages: lane `k` is from message `first + k`.
 fn column_of<P: FoldLane>(messages: &[u32], width: usize, first: usize, column: usize) -> P
     requires full { (n : ℕ) × (first + P.WIDTH ≤ n) × (length messages.now ≡ n * width) }
     requires fits { first + P.WIDTH < 2 ^ 64 }
@@ -50,7 +48,8 @@ fn column_of<P: FoldLane>(messages: &[u32], width: usize, first: usize, column: 
     )
 }
 
-/// Takes the columns from `from` on into the state, which has taken in those before them.
+/// Absorbs the columns from `from` on of `P::WIDTH` messages, one a lane, from message `first` on. The state has
+/// absorbed the columns ahead of them.
 fn absorb_columns<P: FoldLane, const D: usize>(
     state: &mut [P; D],
     messages: &[u32],
@@ -73,7 +72,7 @@ fn absorb_columns<P: FoldLane, const D: usize>(
     }
 }
 
-/// The state after several packed words.
+/// Absorbs packed words into the state, one after another.
 fn absorb_words<P: FoldLane, const D: usize>(state: &mut [P; D], words: &[P])
     ensures { (k : ℕ) → k < P.WIDTH →
         lane_of P.lanes P.default_value k state.new
@@ -85,7 +84,7 @@ fn absorb_words<P: FoldLane, const D: usize>(state: &mut [P; D], words: &[P])
     }
 }
 
-/// Four words of a message, from `column` on.
+/// Words `column` to `column + 3` of message `message`.
 fn words_at(messages: &[u32], width: usize, message: usize, column: usize) -> &[u32]
     requires full { (n : ℕ) × (message < n) × (length messages.now ≡ n * width) }
     requires inside { column + 4 ≤ width }
@@ -136,8 +135,8 @@ fn columns_of_eight(messages: &[u32], width: usize, first: usize, column: usize)
     ]
 }
 
-/// Takes the words of eight messages into the state, four columns at a time. The columns after the
-/// last whole four are left out.
+/// Absorbs eight messages into the state, one a lane, from message `first` on, four columns at a time. The columns
+/// after the last whole four are left out.
 fn absorb_fours<const D: usize>(
     state: &mut [U32x8; D],
     messages: &[u32],
@@ -155,7 +154,7 @@ fn absorb_fours<const D: usize>(
     }
 }
 
-/// The digests of eight messages, from message `first` on.
+/// The digests of eight messages of `width` words each: lane `k` is that of message `first + k`.
 fn hash_eight<const D: usize>(messages: &[u32], width: usize, first: usize) -> [U32x8; D]
     requires full { (n : ℕ) × (first + 8 ≤ n) × (length messages.now ≡ n * width) }
     requires fits { first + 8 < 2 ^ 64 }
@@ -168,7 +167,8 @@ fn hash_eight<const D: usize>(messages: &[u32], width: usize, first: usize) -> [
     state
 }
 
-/// Writes the digests of the messages, but for those after the last whole eight.
+/// Writes the digest of message `i` into `out[i]`, eight at a time. The messages after the last whole eight are left
+/// out.
 fn hash_eights<const D: usize>(messages: &[u32], width: usize, out: &mut [[u32; D]])
     requires { length messages.now ≡ length out.old * width }
     ensures long { length out.new ≡ length out.old }
@@ -181,7 +181,7 @@ fn hash_eights<const D: usize>(messages: &[u32], width: usize, out: &mut [[u32; 
     }
 }
 
-/// Writes the digests of the messages from message `from` on, one by one.
+/// Writes the digest of message `i` into `out[i]`, one by one, from message `from` on.
 fn hash_rest<const D: usize>(messages: &[u32], width: usize, from: usize, out: &mut [[u32; D]])
     requires full { length messages.now ≡ length out.old * width }
     requires inside { from ≤ length out.old }
@@ -196,7 +196,8 @@ fn hash_rest<const D: usize>(messages: &[u32], width: usize, from: usize, out: &
     }
 }
 
-/// Writes the digests of the messages, which lie one after another, of `width` words each.
+/// Writes the digest of message `i` into `out[i]`. The messages lie one after another, of `width` words each, as many
+/// as `out` has places.
 pub(crate) fn hash_all<const D: usize>(messages: &[u32], width: usize, out: &mut [[u32; D]])
     requires { length messages.now ≡ length out.old * width }
     ensures long { length out.new ≡ length out.old }
@@ -211,7 +212,7 @@ pub(crate) fn hash_all<const D: usize>(messages: &[u32], width: usize, out: &mut
     hash_rest(messages, width, 8 * (out.len() / 8), out);
 }
 
-/// The child of a group at a place.
+/// Child `place` of group `group`.
 fn child_of<const N: usize, const D: usize>(
     groups: &[[[u32; D]; N]],
     group: usize,
@@ -225,7 +226,7 @@ fn child_of<const N: usize, const D: usize>(
     &groups[group][place]
 }
 
-/// The child at a place of as many groups as `P` has lanes, from group `first` on.
+/// Packs child `place` of `P::WIDTH` groups: lane `k` is from group `first + k`.
 fn pack_child<P: FoldLane, const N: usize, const D: usize>(
     groups: &[[[u32; D]; N]],
     first: usize,
@@ -263,7 +264,7 @@ fn lemma_groups<P: FoldLane, const N: usize, const D: usize>(groups: &[[[u32; D]
     }
 }
 
-/// Packs the `P::WIDTH` groups from `first` on: lane `k` has group `first + k`.
+/// Packs `P::WIDTH` groups: lane `k` is group `first + k`.
 fn pack_groups<P: FoldLane, const N: usize, const D: usize>(
     groups: &[[[u32; D]; N]],
     first: usize,
@@ -284,7 +285,7 @@ fn pack_groups<P: FoldLane, const N: usize, const D: usize>(
     )
 }
 
-/// Writes the digests of the groups, but for those after the last whole eight.
+/// Writes the digest of group `i` into `out[i]`, eight at a time. The groups after the last whole eight are left out.
 fn compress_eights<const N: usize, const D: usize>(groups: &[[[u32; D]; N]], out: &mut [[u32; D]])
     requires { length groups.now ≡ length out.old }
     ensures long { length out.new ≡ length out.old }
@@ -297,7 +298,7 @@ fn compress_eights<const N: usize, const D: usize>(groups: &[[[u32; D]; N]], out
     }
 }
 
-/// Writes the digests of the groups from group `from` on, one by one.
+/// Writes the digest of group `i` into `out[i]`, one by one, from group `from` on.
 fn compress_rest<const N: usize, const D: usize>(
     groups: &[[[u32; D]; N]],
     from: usize,
@@ -316,7 +317,7 @@ fn compress_rest<const N: usize, const D: usize>(
     }
 }
 
-/// Writes the digests of the groups.
+/// Writes the digest of group `i` into `out[i]`, for as many groups as `out` has places.
 pub(crate) fn compress_all<const N: usize, const D: usize>(
     groups: &[[[u32; D]; N]],
     out: &mut [[u32; D]],

@@ -1,5 +1,5 @@
-//! The fold functions: a hash and a compression by sums modulo 2^32, for tests of trees and of
-//! lanes. They are not secure.
+//! The fold functions: a hash and a compression by sums modulo 2^32, for tests of trees and of lanes. They are not
+//! secure.
 ghost use Rattle.std.specs.Prelude.{◌≡◌, ℕ, ◌+◌, ◌%◌, ◌^◌, ◌<◌, List, [], length, map, slice_index_or};
 ghost use Rattle.std.specs.Iterator.{IsFinite};
 ghost use Rattle.std.specs.Iterator.Runs.{WholeRun};
@@ -13,7 +13,7 @@ use p3_support::hasher::CryptographicHasher;
 use p3_support::packed::PackedValue;
 use std::convert::AsSlice;
 
-/// Lanes of 32 bits that the fold functions work on together, a step at a time.
+/// A packed value with lanes of 32 bits, and the arithmetic of the fold functions on all lanes together.
 pub trait FoldLane: PackedValue<Value = u32> {
     /// Lane by lane, `31 * self + word`, modulo 2^32.
     fn step_together(self, word: Self) -> Self
@@ -39,14 +39,14 @@ impl FoldLane for u32 {
     }
 }
 
-/// An index, modulo 2^32.
+/// The lowest 32 bits of an index.
 fn low_bits(index: usize) -> u32
     ensures { result ≡ index % 2 ^ 32 }
 {
     (index % 4_294_967_296) as u32
 }
 
-/// The state before the first word, in each lane.
+/// The state ahead of the first word, in each lane: element `e` is `1 + e`, modulo 2^32.
 pub(crate) fn start<P: FoldLane, const D: usize>() -> [P; D]
     ensures { (k : ℕ) → k < P.WIDTH → lane_of P.lanes P.default_value k result ≡ fold_hash D [] }
 {
@@ -58,7 +58,7 @@ pub(crate) fn start<P: FoldLane, const D: usize>() -> [P; D]
     )
 }
 
-/// The state after one more word, lane by lane.
+/// Absorbs a word into the state, lane by lane: each element becomes `31 * element + word`, modulo 2^32.
 pub(crate) fn absorb<P: FoldLane, const D: usize>(state: &mut [P; D], word: P)
     ensures { (k : ℕ) → k < P.WIDTH →
         lane_of P.lanes P.default_value k state.new
@@ -70,7 +70,7 @@ pub(crate) fn absorb<P: FoldLane, const D: usize>(state: &mut [P; D], word: P)
     }
 }
 
-/// The state after the words of a slice.
+/// Absorbs the words of a slice into the state, one after another.
 fn absorb_slice<const D: usize>(state: &mut [u32; D], words: &[u32])
     ensures { state.new ≡ map (λ s. folded take_in s words.now) state.old }
 {
@@ -79,7 +79,7 @@ fn absorb_slice<const D: usize>(state: &mut [u32; D], words: &[u32])
     }
 }
 
-/// The digests of the messages whose words stand in the lanes of the items.
+/// The digests of `P::WIDTH` messages: lane `k` of the items has the words of message `k`.
 fn hash_lanes<P: FoldLane, I: Iterator<Item = P>, const D: usize>(input: I) -> [P; D]
     requires can { I.can_next input }
     requires ends { IsFinite (I.remaining input) }
@@ -94,7 +94,7 @@ fn hash_lanes<P: FoldLane, I: Iterator<Item = P>, const D: usize>(input: I) -> [
     state
 }
 
-/// The digest of a slice.
+/// The digest of the words of a slice.
 pub(crate) fn hash_words<const D: usize>(words: &[u32]) -> [u32; D]
     ensures { result ≡ fold_hash D words.now }
 {
@@ -147,7 +147,8 @@ impl<P: FoldLane, const L: usize, const D: usize> CryptographicHasher<P, P, D> f
     }
 }
 
-/// The digest after one more child, the one at `place`, lane by lane.
+/// Mixes the child at `place` into the digest, lane by lane: each element becomes `31 * element + child[e] + place`,
+/// modulo 2^32.
 fn mix<P: FoldLane, const D: usize>(digest: &mut [P; D], child: &[P; D], place: usize)
     ensures long { length digest.new ≡ length digest.old }
     ensures each { (k e : ℕ) → k < P.WIDTH → e < D →
@@ -161,7 +162,7 @@ fn mix<P: FoldLane, const D: usize>(digest: &mut [P; D], child: &[P; D], place: 
     }
 }
 
-/// The digests of the groups of children that stand in the lanes.
+/// The digests of `P::WIDTH` groups: lane `k` of the children has the children of group `k`.
 pub(crate) fn compress_lanes<P: FoldLane, const N: usize, const D: usize>(
     children: &[[P; D]; N],
 ) -> [P; D]

@@ -88,7 +88,7 @@ impl U32x8 {
     ghost use Rattle.std.specs.Prelude.{◌++◌};
     ghost use Rattle.p3_hashes.specs.Inner.Eights.{lanes_of};
 
-    /// A vector of eight lanes by its halves: those of `front`, then those of `back`.
+    /// Eight lanes from their halves: those of `front`, then those of `back`.
     pub(crate) fn join(front: u32x4, back: u32x4) -> U32x8
         requires front { length front ≡ 4 }
         requires back { length back ≡ 4 }
@@ -155,7 +155,7 @@ impl FoldLane for U32x8 {
     }
 }
 
-/// Four words of each of four rows, transposed: vector `i` has word `i` of each row.
+/// Transposes four rows of four words: vector `i` of the result has word `i` of each row.
 pub(crate) fn turn_four(first: &[u32], second: &[u32], third: &[u32], fourth: &[u32]) -> [u32x4; 4]
     requires first { length first.now ≡ 4 }
     requires second { length second.now ≡ 4 }

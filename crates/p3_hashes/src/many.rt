@@ -16,7 +16,7 @@ pub fn hash_rows(messages: &[u8], out: &mut [[u8; 32]])
     ensures { (w : ℕ) → length messages.now ≡ w * length out.old →
         out.new ≡ map sha256 (messages_of w (length out.old) messages.now) }
 {
-    // With no message there is no width to find.
+    // With no messages their width is unknown.
     if out.is_empty() {
         return;
     }
@@ -24,7 +24,7 @@ pub fn hash_rows(messages: &[u8], out: &mut [[u8; 32]])
     hash_all(messages, width, out);
 }
 
-/// Each digest of each group has `D` bytes.
+/// States that each digest of each group has `D` bytes.
 fn lemma_digests<const N: usize, const D: usize>(groups: &[[[u8; D]; N]])
     ensures { (k e : ℕ) → k < length groups.now → e < length (slice_index_or groups.now k []) →
         length (slice_index_or (slice_index_or groups.now k []) e []) ≡ D }

@@ -1,5 +1,5 @@
-//! The digests of messages of one length, which lie one after another, eight at a time: their padding (FIPS 180-4,
-//! 5.1.1), which is the same for all, their words in lanes, their hash values, and what is left one by one.
+//! SHA-256 of messages of one length, which lie one after another: eight at a time, one message a lane, and what is
+//! left one by one. Their padding (FIPS 180-4, 5.1.1) is the same for all, since it depends on the length alone.
 ghost use Rattle.std.specs.Prelude.{◌≡◌, List, ℕ, [], ◌+◌, ◌*◌, ◌/◌, ◌^◌, ◌<◌, ◌≤◌, length, slice_index};
 ghost use Rattle.std.specs.Prelude.{slice_index_or};
 ghost use Rattle.sha2.specs.Sha256.{digest_bytes, final_hash, initial_hash_256, padded_message, sha256, word_at};
@@ -22,7 +22,7 @@ fn word(bytes: &[u8], at: usize) -> u32
     u32::from_be_bytes([bytes[at], bytes[at + 1], bytes[at + 2], bytes[at + 3]])
 }
 
-/// The words at byte `at` of the eight messages.
+/// The words at byte `at` of eight messages of `width` bytes each: lane `j` is from message `j`.
 #[inline(always)]
 fn words(messages: &[u8], width: usize, at: usize) -> u32x8
     requires full { length messages.now ≡ 8 * width }
@@ -41,7 +41,7 @@ fn words(messages: &[u8], width: usize, at: usize) -> u32x8
     ])
 }
 
-/// Byte `at` of message `j` and its padding, before the length.
+/// Byte `at` of message `j` followed by its padding, ahead of the eight bytes of the length.
 #[inline(always)]
 fn padded_byte(messages: &[u8], width: usize, j: usize, at: usize) -> u8
     requires full { length messages.now ≡ 8 * width }
@@ -58,7 +58,8 @@ fn padded_byte(messages: &[u8], width: usize, j: usize, at: usize) -> u8
     }
 }
 
-/// The word at byte `at` of message `j` and its padding, before the length.
+/// The word at byte `at` of message `j` followed by its padding, ahead of the eight bytes of the length. The message
+/// may end within the word.
 #[inline(always)]
 fn mixed_word(messages: &[u8], width: usize, j: usize, at: usize) -> u32
     requires full { length messages.now ≡ 8 * width }
@@ -75,8 +76,8 @@ fn mixed_word(messages: &[u8], width: usize, j: usize, at: usize) -> u32
     ])
 }
 
-/// The words at byte `at` of the eight messages and their padding, before the length, where the
-/// messages end within them.
+/// The words at byte `at` of the eight messages, each followed by its padding, ahead of the eight bytes of the length.
+/// The messages end within these words.
 fn mixed_words(messages: &[u8], width: usize, at: usize) -> u32x8
     requires full { length messages.now ≡ 8 * width }
     requires before { at + 12 ≤ 64 * ((width + 72) / 64) }
@@ -96,16 +97,17 @@ fn mixed_words(messages: &[u8], width: usize, at: usize) -> u32x8
     ])
 }
 
-/// How many blocks a message of `width` bytes fills with its padding.
+/// How many blocks of 64 bytes a message of `width` bytes fills with its padding.
 #[inline(always)]
 fn block_count(width: usize) -> usize
     requires { width + 72 < 2 ^ 64 }
     ensures { result ≡ (width + 72) / 64 }
 {
+    // The padding has at least nine bytes, one that marks its start and eight of the length, and fills the last block.
     (width + 72) / 64
 }
 
-/// Word `n` of a message of `width` bytes and its padding, where it is padding alone.
+/// Word `n` of a message of `width` bytes followed by its padding, where that word is padding alone.
 fn padding_word(width: usize, n: usize) -> u32
     requires fits { width + 72 < 2 ^ 64 }
     requires behind { width ≤ 4 * n }
@@ -120,7 +122,7 @@ fn padding_word(width: usize, n: usize) -> u32
     if at + 8 < end {
         return 0;
     }
-    // The padding ends with the message's length in bits.
+    // The padding ends with the message's length in bits, here modulo 2^64: the standard leaves out longer messages.
     let bits = width.wrapping_mul(8);
     if at + 4 < end {
         return (bits / 4_294_967_296) as u32;
@@ -128,7 +130,7 @@ fn padding_word(width: usize, n: usize) -> u32
     (bits % 4_294_967_296) as u32
 }
 
-/// Word `n` of each of the eight messages with their padding, one message a lane.
+/// Word `n` of each of the eight messages followed by its padding: lane `j` is from message `j`.
 #[inline(always)]
 fn padded_words(messages: &[u8], width: usize, n: usize) -> u32x8
     requires full { length messages.now ≡ 8 * width }
@@ -146,7 +148,7 @@ fn padded_words(messages: &[u8], width: usize, n: usize) -> u32x8
     u32x8::splat(padding_word(width, n))
 }
 
-/// Block `t` of the eight messages and their padding.
+/// Block `t` of each of the eight messages followed by its padding, one message a lane.
 fn padded_block(messages: &[u8], width: usize, t: usize) -> [u32x8; 16]
     requires full { length messages.now ≡ 8 * width }
     requires inside { t < (width + 72) / 64 }
@@ -161,7 +163,8 @@ fn padded_block(messages: &[u8], width: usize, t: usize) -> [u32x8; 16]
     block
 }
 
-/// Block `t` of a message of `width` bytes and its padding, where it is padding alone, in each lane.
+/// Block `t` of a message of `width` bytes followed by its padding, where that block is padding alone: the same in each
+/// lane.
 fn padding_block(width: usize, t: usize) -> [u32x8; 16]
     requires fits { width + 72 < 2 ^ 64 }
     requires behind { width ≤ 64 * t }
@@ -176,7 +179,7 @@ fn padding_block(width: usize, t: usize) -> [u32x8; 16]
     block
 }
 
-/// How many blocks have bytes of a message of `width` bytes.
+/// How many blocks of 64 bytes have bytes of a message of `width` bytes, and not of its padding alone.
 #[inline(always)]
 fn filled_count(width: usize) -> usize
     requires { width + 72 < 2 ^ 64 }
@@ -185,8 +188,9 @@ fn filled_count(width: usize) -> usize
     (width + 63) / 64
 }
 
-/// The inputs of the rounds over the last block of messages of `width` bytes, if it is padding alone: it is the same
-/// for all of them, so that its schedule is made once. Zeros where it has bytes of the messages.
+/// The inputs of the rounds over the last block of messages of `width` bytes, if that block is padding alone. It is the
+/// same for all of them, so its schedule is computed once. If it has bytes of the messages, these are zeros that
+/// nothing reads.
 fn padding_inputs(width: usize) -> [u32x8; 64]
     requires { width + 72 < 2 ^ 64 }
     ensures { IsPadding width result }
@@ -198,8 +202,7 @@ fn padding_inputs(width: usize) -> [u32x8; 64]
     round_inputs(&padding_block(width, last))
 }
 
-/// The hash values of the eight messages, where `padding` are the inputs of the rounds over a last block that is
-/// padding alone.
+/// The hash values of eight messages of `width` bytes each, one message a lane. `padding` is from [`padding_inputs`].
 fn hash_states(messages: &[u8], width: usize, padding: &[u32x8; 64]) -> [u32x8; 8]
     requires full { length messages.now ≡ 8 * width }
     requires padding { IsPadding width padding.now }
@@ -225,7 +228,7 @@ fn hash_states(messages: &[u8], width: usize, padding: &[u32x8; 64]) -> [u32x8; 
     state
 }
 
-/// The digest that a hash value makes: its words, high byte first.
+/// The digest of a hash value: its words as bytes, high byte first.
 fn digest_of(words: [u32; 8]) -> [u8; 32]
     ensures { result ≡ digest_bytes words 8 }
 {
@@ -236,7 +239,7 @@ fn digest_of(words: [u32; 8]) -> [u8; 32]
     digest
 }
 
-/// The hash value of message `j`: the words of its lane.
+/// The hash value of message `j`: lane `j` of each vector.
 #[inline(always)]
 fn lane_words(state: &[u32x8; 8], j: usize) -> [u32; 8]
     requires { j < 8 }
@@ -254,7 +257,8 @@ fn lane_words(state: &[u32x8; 8], j: usize) -> [u32; 8]
     ]
 }
 
-/// Writes the digests of eight messages of `width` bytes each, from message `first` on.
+/// Writes the digest of message `i` into `out[i]`, for eight messages of `width` bytes each, from message `first` on.
+/// `padding` is from [`padding_inputs`].
 fn hash_eight<const D: usize>(
     messages: &[u8],
     width: usize,
@@ -280,7 +284,8 @@ where
     }
 }
 
-/// Writes the digests of the messages, but for those after the last whole eight.
+/// Writes the digest of message `i` into `out[i]`, eight at a time. The messages after the last whole eight are left
+/// out.
 fn hash_eights<const D: usize>(messages: &[u8], width: usize, out: &mut [[u8; D]])
 where
     Sha256: DigestSize<D>,
@@ -298,7 +303,7 @@ where
     }
 }
 
-/// Writes the digests of the messages from message `from` on, one by one.
+/// Writes the digest of message `i` into `out[i]`, one by one, from message `from` on.
 fn hash_rest<const D: usize>(messages: &[u8], width: usize, from: usize, out: &mut [[u8; D]])
 where
     Sha256: DigestSize<D>,
@@ -315,7 +320,8 @@ where
     }
 }
 
-/// Writes the digests of messages of `width` bytes each, as many as `out` has places.
+/// Writes the digest of message `i` into `out[i]`. The messages lie one after another, of `width` bytes each, as many
+/// as `out` has places.
 pub(crate) fn hash_all<const D: usize>(messages: &[u8], width: usize, out: &mut [[u8; D]])
 where
     Sha256: DigestSize<D>,

@@ -1,5 +1,5 @@
-//! SHA-256 (FIPS 180-4, by the crate `sha2`) of rows of bytes, and of digests one after another.
-//! Words are bytes, each packed alone, and a digest has 32 of them.
+//! SHA-256 (FIPS 180-4, by the crate `sha2`) of rows of bytes, and of digests one after another. Words are bytes, each
+//! packed alone, and a digest has 32 of them.
 ghost use Rattle.std.specs.Prelude.{◌≡◌, ℕ, ◌<◌, ◌∷◌, [], IfOk, map};
 ghost use Rattle.std.specs.List.{concat};
 ghost use Rattle.std.specs.Iterator.{IsFinite};
@@ -15,10 +15,10 @@ use sha2::{Digest, Sha256};
 use std::alloc::{AllocError, Global};
 use std::convert::AsSlice;
 
-/// How many bytes SHA-256 takes in at a time.
+/// The length of a block of SHA-256, in bytes.
 const BLOCK: usize = 64;
 
-/// The digest of the bytes of an iterator, which are handed on a block at a time.
+/// The digest of the bytes of an iterator, which it collects into blocks for the hasher.
 fn hash_bytes<I: Iterator<Item = u8>>(input: I) -> [u8; 32]
     requires can { I.can_next input }
     requires ends { IsFinite (I.remaining input) }
@@ -39,8 +39,7 @@ fn hash_bytes<I: Iterator<Item = u8>>(input: I) -> [u8; 32]
     hasher.finalize()
 }
 
-/// SHA-256 of a row's bytes, one message at a time. A row in one slice is hashed faster than byte by
-/// byte.
+/// SHA-256 of a row's bytes, one message at a time. A row in one slice is hashed faster than byte by byte.
 #[derive(Clone, Copy, Debug)]
 pub struct Sha256Rows;
 
@@ -82,7 +81,7 @@ impl CryptographicHasher<u8, u8, 32> for Sha256Rows {
     }
 }
 
-/// The digest of a group.
+/// The digest of a group: that of its digests, one after another.
 fn hash_group<const N: usize, const D: usize>(digests: &[[u8; D]; N]) -> [u8; 32]
     ensures { result ≡ sha256_nodes digests.now }
 {
@@ -93,8 +92,8 @@ fn hash_group<const N: usize, const D: usize>(digests: &[[u8; D]; N]) -> [u8; 32
     hasher.finalize()
 }
 
-/// The message of SHA-256 that a group of digests is: their bytes, one digest after another. Two different groups of
-/// equally many digests have different messages, by [`groups_are_messages`](crate::laws::groups_are_messages).
+/// The message that SHA-256 hashes for a group of digests: their bytes, one digest after another. Two different groups
+/// of equally many digests have different messages, by [`groups_are_messages`](crate::laws::groups_are_messages).
 ///
 /// # Errors
 ///

@@ -11,8 +11,8 @@ use p3_support::hasher::CryptographicHasher;
 use sha2::Sha256;
 use std::convert::AsSlice;
 
-/// SHA-256 of a row's bytes, as [`Sha256Rows`] has it. `hash_many` works on eight rows at a time, each
-/// in a lane of vectors of the processor, and on what is left after the last whole eight one by one.
+/// SHA-256 of a row's bytes, with the digests of [`Sha256Rows`]. `hash_many` hashes eight rows at a time, each in a
+/// lane of vectors of the processor, and the rows after the last whole eight one by one.
 #[derive(Clone, Copy, Debug)]
 pub struct Sha256RowsInEights;
 
@@ -45,9 +45,9 @@ impl CryptographicHasher<u8, u8, 32> for Sha256RowsInEights {
     }
 }
 
-/// SHA-256 of `N` digests of 32 bytes, one after another, as [`Sha256Nodes`] has it. `compress_many`
-/// works on eight groups at a time, each in a lane of vectors of the processor, and on what is left
-/// after the last whole eight one by one.
+/// SHA-256 of `N` digests of 32 bytes, one after another, with the digests of [`Sha256Nodes`]. `compress_many` hashes
+/// eight groups at a time, each in a lane of vectors of the processor, and the groups after the last whole eight one by
+/// one.
 #[derive(Clone, Copy, Debug)]
 pub struct Sha256NodesInEights<const N: usize>;
 

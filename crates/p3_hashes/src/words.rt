@@ -6,7 +6,7 @@ ghost use Rattle.sha2.specs.Sha256.{add32, big_sigma0, big_sigma1, ch, maj, smal
 
 use std::simd::prelude::*;
 
-/// The sum of each two lanes, modulo 2^32.
+/// The sum of both words in each lane, modulo 2^32.
 #[inline(always)]
 pub(crate) fn add(x: u32x8, y: u32x8) -> u32x8
     ensures { (j : ℕ) → j < 8 → slice_index result j ≡ add32 (slice_index x j) (slice_index y j) }
@@ -14,8 +14,8 @@ pub(crate) fn add(x: u32x8, y: u32x8) -> u32x8
     x + y
 }
 
-/// Each lane rotated to the right by `k` bits, ROTR of the standard. There is no such operation on
-/// vectors, so that it takes two shifts.
+/// The word in each lane rotated to the right by `k` bits, where `0 < k < 32`: ROTR of the standard. Vectors have no
+/// such operation, so it takes two shifts.
 #[inline(always)]
 fn rotate_right(x: u32x8, k: u32) -> u32x8
     requires low { 0 < k }
@@ -25,7 +25,7 @@ fn rotate_right(x: u32x8, k: u32) -> u32x8
     (x >> u32x8::splat(k)) | (x << u32x8::splat(32 - k))
 }
 
-/// The exclusive or of each three lanes.
+/// The exclusive or of the three words in each lane.
 #[inline(always)]
 fn xor3(x: u32x8, y: u32x8, z: u32x8) -> u32x8
     ensures { (j : ℕ) → j < 8 → slice_index result j
@@ -34,7 +34,7 @@ fn xor3(x: u32x8, y: u32x8, z: u32x8) -> u32x8
     x ^ y ^ z
 }
 
-/// Each lane shifted to the right by `k` bits, SHR of the standard.
+/// The word in each lane shifted to the right by `k` bits, where `k < 32`: SHR of the standard.
 #[inline(always)]
 fn shift_right(x: u32x8, k: u32) -> u32x8
     requires { k < 32 }
@@ -43,7 +43,7 @@ fn shift_right(x: u32x8, k: u32) -> u32x8
     x >> u32x8::splat(k)
 }
 
-/// Ch of each three lanes: the bits of `y` where `x` has ones, and those of `z` elsewhere.
+/// Ch of the three words in each lane: the bits of `y` where `x` has ones, and those of `z` elsewhere.
 #[inline(always)]
 pub(crate) fn ch(x: u32x8, y: u32x8, z: u32x8) -> u32x8
     ensures { (j : ℕ) → j < 8 →
@@ -52,17 +52,17 @@ pub(crate) fn ch(x: u32x8, y: u32x8, z: u32x8) -> u32x8
     (x & y) ^ (!x & z)
 }
 
-/// Maj of each three lanes: each bit that two of them have at least.
+/// Maj of the three words in each lane: each bit is the one that at least two of them have.
 #[inline(always)]
 pub(crate) fn maj(x: u32x8, y: u32x8, z: u32x8) -> u32x8
     ensures { (j : ℕ) → j < 8 →
         slice_index result j ≡ maj (slice_index x j) (slice_index y j) (slice_index z j) }
 {
-    // An operation less than the standard's form of it.
+    // This form takes one operation less than the standard's.
     y ^ ((x ^ y) & (y ^ z))
 }
 
-/// The upper case sigma 0 of each lane.
+/// The upper case sigma 0 of the standard, in each lane.
 #[inline(always)]
 pub(crate) fn big_sigma0(x: u32x8) -> u32x8
     ensures { (j : ℕ) → j < 8 → slice_index result j ≡ big_sigma0 (slice_index x j) }
@@ -70,7 +70,7 @@ pub(crate) fn big_sigma0(x: u32x8) -> u32x8
     xor3(rotate_right(x, 2), rotate_right(x, 13), rotate_right(x, 22))
 }
 
-/// The upper case sigma 1 of each lane.
+/// The upper case sigma 1 of the standard, in each lane.
 #[inline(always)]
 pub(crate) fn big_sigma1(x: u32x8) -> u32x8
     ensures { (j : ℕ) → j < 8 → slice_index result j ≡ big_sigma1 (slice_index x j) }
@@ -78,7 +78,7 @@ pub(crate) fn big_sigma1(x: u32x8) -> u32x8
     xor3(rotate_right(x, 6), rotate_right(x, 11), rotate_right(x, 25))
 }
 
-/// The lower case sigma 0 of each lane.
+/// The lower case sigma 0 of the standard, in each lane.
 #[inline(always)]
 pub(crate) fn small_sigma0(x: u32x8) -> u32x8
     ensures { (j : ℕ) → j < 8 → slice_index result j ≡ small_sigma0 (slice_index x j) }
@@ -86,7 +86,7 @@ pub(crate) fn small_sigma0(x: u32x8) -> u32x8
     xor3(rotate_right(x, 7), rotate_right(x, 18), shift_right(x, 3))
 }
 
-/// The lower case sigma 1 of each lane.
+/// The lower case sigma 1 of the standard, in each lane.
 #[inline(always)]
 pub(crate) fn small_sigma1(x: u32x8) -> u32x8
     ensures { (j : ℕ) → j < 8 → slice_index result j ≡ small_sigma1 (slice_index x j) }

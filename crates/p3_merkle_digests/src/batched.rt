@@ -15,11 +15,11 @@ use p3_support::packed::PackedValue;
 use std::alloc::AllocError;
 use std::marker::PhantomData;
 
-/// Rows of up to so many words are copied word by word: a call that copies so few takes longer.
+/// The longest row, in words, that is copied word by word: for so few, a call of `copy_from_slice` takes longer.
 pub const FEW_WORDS: usize = 4;
 
 /// How many messages of `bytes` bytes one call takes: the greatest multiple of `lanes` with at most 16384 bytes in all,
-/// but at least `lanes`. A number of 0 counts as 1.
+/// but at least `lanes`. Where `bytes` or `lanes` is 0, it counts as 1.
 fn messages_per_call(bytes: usize, lanes: usize) -> usize
     ensures whole { result % max lanes 1 ≡ 0 }
     ensures some { max lanes 1 ≤ result }
@@ -41,12 +41,12 @@ pub struct LayerRows<'a, P: PackedValue, PW, H, M: Matrix<P::Value>, X> {
     pub matrices: &'a [M],
     /// The height of each of these matrices.
     pub height: usize,
-    /// How words are packed, and the digest of a row.
+    /// The types of packed words and of digests.
     pub item: PhantomData<(P, PW, X)>,
     ghost of_height: { All (λ m. M.height_of m ≡ height) matrices.now },
 }
 
-/// How many elements a row of the matrices has; `AllocError` if they are 2^64 or more.
+/// The number of elements in one row of all the matrices together; `AllocError` if they are 2^64 or more.
 fn row_len<T: Copy, M: Matrix<T>>(matrices: &[M]) -> Result<usize, AllocError>
     ensures { IfOk result (λ len. len ≡ sum_by M.width_of matrices.now) }
 {
@@ -57,7 +57,8 @@ fn row_len<T: Copy, M: Matrix<T>>(matrices: &[M]) -> Result<usize, AllocError>
     Ok(len)
 }
 
-/// Copies a row of a matrix into its place, which has as many words.
+/// Copies row `row` of a matrix into `place`, which has as many words as the row: piece by piece, or word by word where
+/// there is no piece or the row has at most [`FEW_WORDS`].
 fn put_row<T: Copy, M: Matrix<T>>(place: &mut [T], matrix: &M, row: usize)
     requires row { row < M.height_of matrix.now }
     requires place { length place.old ≡ M.width_of matrix.now }
@@ -77,9 +78,9 @@ fn put_row<T: Copy, M: Matrix<T>>(place: &mut [T], matrix: &M, row: usize)
     }
 }
 
-/// The words of `count` rows of the matrices from `first` on, one row after another: a piece of the matrix if there is
-/// only one and it has these rows in one, else a copy in `staged`. The matrices all have this height, a row has `len`
-/// words, and `first + count` is at most the height.
+/// The words of `count` rows from `first` on, one row after another, where a row is the row of each matrix, in order.
+/// They are borrowed from the matrix if there is only one and it stores them in one piece, else copied into `staged`.
+/// All matrices have this height, a row has `len` words in all, and `first + count` is at most the height.
 fn words_of_rows<'b, T: Copy + Default, M: Matrix<T>>(
     staged: &'b mut Vec<T>,
     matrices: &'b [M],
@@ -123,12 +124,12 @@ impl<
     M: Matrix<P::Value>,
     const D: usize,
 > LayerRows<'a, P, PW, H, M, [PW::Value; D]> {
-    /// Writes the digests of the rows from `first` on into the slots, as many rows per call as [`messages_per_call`]
-    /// says. There must be at most as many slots as rows from `first` on. `staged` is a buffer for rows.
+    /// Writes the digest of row `first + j` into each slot `j`, as many rows per call as [`messages_per_call`] says.
+    /// There must be at most as many slots as rows from `first` on. `staged` is a buffer for rows.
     ///
     /// # Errors
     ///
-    /// `AllocError` if memory runs out.
+    /// `AllocError` if memory runs out, or if the rows of one call have 2^64 words or more.
     pub fn write_batched(
         &self,
         staged: &mut Vec<P::Value>,
@@ -165,9 +166,9 @@ impl<
     }
 }
 
-/// Fills `groups`, in place of what it has, with the children of the nodes `first..end` over a layer, each group
-/// followed by default digests. Each node has `step` children, at least one and at most `N`; those of the last one must
-/// be in the layer, and `first` must be at most `end`.
+/// Replaces what `groups` has by the groups of the nodes `first..end`: the children of each, then default digests.
+/// `below` is the layer of the children, `step` of each node, at least one and at most `N`; those of the last node must
+/// be in it, and `first` must be at most `end`.
 fn stage_children<W: Copy, const N: usize, const D: usize>(
     groups: &mut Vec<[[W; D]; N]>,
     default_digest: [W; D],
@@ -195,9 +196,9 @@ fn stage_children<W: Copy, const N: usize, const D: usize>(
     Ok(())
 }
 
-/// Writes into each slot `j` the compression of the children of node `j` over a layer, followed by default digests, as
-/// many per call as [`messages_per_call`] says. Each node has `step` children, at least one and at most `N`; those of
-/// all slots must be in the layer. `groups` is a buffer for them.
+/// Writes into each slot `j` the digest of node `j`: the compression of its children, followed by default digests. One
+/// call takes as many groups as [`messages_per_call`] says. `below` is the layer of the children, `step` of each node,
+/// at least one and at most `N`; those of all slots must be in it. `groups` is a buffer.
 ///
 /// # Errors
 ///
@@ -221,7 +222,7 @@ pub fn compress_children<
         ++ replicate (N - step) (replicate D PW.default_value)) in
         IfOk result (λ done. IsFilled folded (length slots.old) (length slots.old) slots.new) }
 {
-    // Whole groups lie as the compression takes them, so that none is copied.
+    // Groups of `N` children lie in the layer as the compression takes them, so none is copied.
     if step == N {
         let (groups, _) = below.as_chunks::<N>();
         compress.compress_many(&groups[..slots.len()], slots);
@@ -239,7 +240,7 @@ pub fn compress_children<
     Ok(())
 }
 
-/// Fills `pairs`, in place of what it has, with the group of each node: its digest in `folded`, the digest of its rows
+/// Replaces what `pairs` has by the group of each node: the digest of its children in `folded`, the digest of its rows
 /// in `rows`, then default digests. Both lists must have one length, and `N` must be at least 2.
 fn stage_pairs<W: Copy, const N: usize, const D: usize>(
     pairs: &mut Vec<[[W; D]; N]>,
@@ -262,9 +263,9 @@ fn stage_pairs<W: Copy, const N: usize, const D: usize>(
     Ok(())
 }
 
-/// Compresses the digest in each slot `j` with `rows[j]`, the digest of its rows, followed by default digests, and
-/// writes the result into the slot, as many per call as [`messages_per_call`] says. There must be at most as many rows
-/// as slots, and `N` must be at least 2. `pairs` is a buffer for the groups.
+/// Compresses the digest in each slot `j`, that of a node's children, with `rows[j]`, the digest of its rows, followed
+/// by default digests, and writes the result into the slot. One call takes as many groups as [`messages_per_call`]
+/// says. There must be at most as many rows as slots, and `N` must be at least 2. `pairs` is a buffer for the groups.
 ///
 /// # Errors
 ///

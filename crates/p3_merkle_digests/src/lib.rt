@@ -1,5 +1,5 @@
-//! The digests of many rows or nodes of a layer, lane by lane or many messages a call; and the cap that the caps of
-//! parts make.
+//! The digests of many rows or nodes of a layer, lane by lane or many messages a call; and the cap of a list, computed
+//! from the caps of its parts.
 #![tactic(auto)]
 
 pub mod batched;

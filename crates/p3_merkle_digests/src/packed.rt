@@ -17,8 +17,9 @@ use p3_support::packed::{PackedValue, lemma_row, unpack_at};
 use p3_support::rows::packed_rows_of;
 use std::alloc::AllocError;
 
-/// Of `count` slots, how many whole blocks of `PW::WIDTH` can be filled lane by lane. It is 0 if there is only one
-/// lane, or if a packed group of `N` digests would reach 2^63 bytes, more than a value can have. `N` must be above 0.
+/// How many whole blocks of `PW::WIDTH` slots can be filled lane by lane, if there are `count` slots. It is 0 if there
+/// is only one lane, or if a packed group of `N` digests would reach 2^63 bytes, more than a value can have. `N` must
+/// be above 0.
 pub fn packed_block_count<PW: PackedValue, const N: usize, const D: usize>(count: usize) -> usize
     requires { 0 < N }
     ensures count { result * PW.WIDTH ≤ count }
@@ -45,15 +46,15 @@ impl<
     M: Matrix<P::Value>,
     const D: usize,
 > LayerRows<'a, P, PW, H, M, [PW::Value; D]> {
-    /// The digests of the rows from `row` on: lane `k` is that of row `row + k`, for each lane that both packings have.
-    /// `row + P::WIDTH` must be at most the height.
+    /// The digests of `P::WIDTH` rows from `row` on: lane `k` is that of row `row + k`, for each lane that both
+    /// packings have. `row + P::WIDTH` must be at most the height.
     pub fn packed_digest(&self, row: usize) -> [PW; D]
         requires { row + P.WIDTH ≤ self.now.height }
         ensures { (k : ℕ) → k < P.WIDTH → k < PW.WIDTH →
             lane_of PW.lanes PW.default_value k result
             ≡ H.hash self.now.hash.now (rows_over M.row_of self.now.matrices.now (row + k)) }
     {
-        // One matrix: no test after each column for the end of its rows.
+        // The iterator over one matrix doesn't look for a next matrix at each column.
         if let [matrix] = self.matrices {
             return self
                 .hash
@@ -63,8 +64,8 @@ impl<
             .hash_packed(packed_rows_of::<_, P, _>(self.matrices, row))
     }
 
-    /// Writes the digests of the rows from `first` on into the first slots, lane by lane, as many as fill all lanes.
-    /// Returns how many these are. There are at most as many slots as rows from `first` on. Both packings have equally
+    /// Writes the digest of row `first + j` into slot `j`, lane by lane, for as many slots as fill all lanes, and
+    /// returns how many these are. There are at most as many slots as rows from `first` on. Both packings have equally
     /// many lanes.
     fn write_packed(&self, first: usize, slots: &mut [[PW::Value; D]]) -> usize
         requires lanes { P.WIDTH ≡ PW.WIDTH }
@@ -82,14 +83,14 @@ impl<
         blocks * PW::WIDTH
     }
 
-    /// Writes into each slot `j` the digest of row `first + j`, in batches where the hasher takes several messages at a
-    /// time, else lane by lane while there are enough rows. Past the height the slots keep default digests, which all
-    /// must have. Both packings must have equally many lanes. `staged` is a buffer for rows: a caller that keeps it
-    /// from layer to layer seldom allocates.
+    /// Writes the digest of row `first + j` into each slot `j`: in batches if the hasher takes several messages at a
+    /// time, else lane by lane as far as the rows fill all lanes, and the rest in batches. All slots must have default
+    /// digests, and those past the height keep them. Both packings must have equally many lanes. `staged` is a buffer
+    /// for rows: a caller that reuses it for all layers seldom allocates.
     ///
     /// # Errors
     ///
-    /// `AllocError` if memory runs out.
+    /// `AllocError` if memory runs out, or if the rows of one call have 2^64 words or more.
     pub fn write(
         &self,
         staged: &mut Vec<P::Value>,
@@ -112,8 +113,8 @@ impl<
     }
 }
 
-/// Child `n` of each of the `PW::WIDTH` nodes from `first` on, packed: lane `k` is that of node `first + k`. `below` is
-/// the layer of the children, `step` of each node.
+/// Packs child `n` of `PW::WIDTH` nodes: lane `k` is that of node `first + k`. `below` is the layer of the children,
+/// `step` of each node.
 // Inlined: a call would store the child in memory in parts of one size, and read it in parts of another, which is slow.
 #[inline(always)]
 #[tactic(auto, using(crate::proofs::LaneFacts::child_below, crate::proofs::LaneFacts::node_below))]
@@ -154,9 +155,9 @@ fn packed_child<PW: PackedValue, const D: usize>(
     )
 }
 
-/// Compresses the children of `PW::WIDTH` nodes over a layer, from node `first` on, each group followed by default
-/// digests: lane `k` is the digest of the children of node `first + k`. Each node has `step` children, at most `N`;
-/// those of the last one must be in the layer. A packed group of `N` digests must have fewer than 2^63 bytes.
+/// The digests of `PW::WIDTH` nodes: lane `k` is the compression of the children of node `first + k`, followed by
+/// default digests. `below` is the layer of the children, `step` of each node, at most `N`; those of the last node must
+/// be in it. A packed group of `N` digests must have fewer than 2^63 bytes.
 pub fn compress_children_packed<
     PW: PackedValue,
     C: PseudoCompressionFunction<PW, N, D>,

@@ -1,5 +1,5 @@
-//! The cap of a list that is committed to in parts, computed from the parts' caps: their nodes are raised layer by
-//! layer.
+//! The cap of a list that is committed to in parts, computed from the caps of the parts: their nodes are raised layer
+//! by layer.
 
 ghost use denote.Param.{ArrayAt};
 ghost use Rattle.std.specs.Mem.{FitsInMemory};
@@ -24,7 +24,7 @@ use p3_support::opening::MerkleCap;
 use p3_support::packed::PackedValue;
 use std::alloc::{AllocError, Global};
 
-/// The parents of some nodes in a row: each `N` of them compressed, and those that are left with default digests.
+/// The parents of the nodes: the compression of each `N` of them in a row, and of those left over with default digests.
 fn parents<PW: PackedValue, C: PseudoCompressionFunction<PW, N, D>, const N: usize, const D: usize>(
     alloc: Global,
     compress: &C,
@@ -47,8 +47,8 @@ fn parents<PW: PackedValue, C: PseudoCompressionFunction<PW, N, D>, const N: usi
     Ok(parents)
 }
 
-/// Puts in place of the nodes from `start` on, which are in one layer, the nodes so many levels above them. `start`
-/// must be at most the number of nodes.
+/// Replaces the nodes from `start` on, which are in one layer, by their ancestors `levels` levels above. `start` must
+/// be at most the number of nodes.
 fn raise<PW: PackedValue, C: PseudoCompressionFunction<PW, N, D>, const N: usize, const D: usize>(
     alloc: Global,
     compress: &C,
@@ -71,7 +71,7 @@ fn raise<PW: PackedValue, C: PseudoCompressionFunction<PW, N, D>, const N: usize
     Ok(())
 }
 
-/// The nodes that the caps of parts give in the layer of the first part's cap, one part after another.
+/// The nodes of all parts in the layer of the first part's cap, one part after another, computed from the caps.
 fn nodes_of_parts<
     F,
     PW: PackedValue,
@@ -110,9 +110,10 @@ fn nodes_of_parts<
     Ok(nodes)
 }
 
-/// The digests of the cap that the caps of parts of these heights make, where both are caps of this height: the nodes
-/// of the parts' layer, raised to the layer of the whole's cap, and default digests up to that layer's length. The
-/// arity must be a power of two from 2 to 2^62.
+/// The digests of the cap of the whole list, computed from the caps of its parts. `heights` are those of the parts, in
+/// order; the parts' caps and the whole's are of height `cap_height`. They are the nodes of the parts, raised to the
+/// layer of the whole's cap, then default digests up to that layer's length. The arity must be a power of two from 2 to
+/// 2^62.
 ///
 /// # Errors
 ///

@@ -1,4 +1,4 @@
--- What a call answers that may refuse its input, or run out of memory.
+-- The answers of a call that may refuse its input, or run out of memory.
 use Rattle.std.specs.Prelude.{◌≡◌, ◌⊎◌, Option, Some, None, Result, MatchResult}
 
 -- Ok only where nothing is refused; an error is the refusal, or one that says that memory ran out, which is always

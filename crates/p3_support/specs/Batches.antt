@@ -2,7 +2,7 @@
 use Rattle.std.specs.Prelude.{◌≡◌, ℕ, ◌<◌, max, List, [], ◌∷◌, length, map}
 use Rattle.p3_support.specs.declared.matrix.Dimensions.{Dimensions}
 
--- the greatest of some numbers, and 0 of none
+-- the greatest number, or 0 if there are none
 abbrev pub greatest : List ℕ → ℕ
 greatest [] = 0
 greatest (n ∷ ns) = max n (greatest ns)

@@ -1,5 +1,5 @@
--- What the values show that a commitment scheme hands out: `.items` is the list in a Vec, `.now` what a reference
--- refers to.
+-- The digests and words in the values that a commitment scheme returns: `.items` is the list in a Vec, `.now` what a
+-- reference refers to.
 use Rattle.std.specs.Prelude.{List, map}
 use Rattle.std.specs.declared.vec.Vec.{Vec}
 use Rattle.p3_support.specs.declared.opening.DigestRef.{DigestRef}
@@ -13,10 +13,10 @@ digest_of_ref reference = reference.value.now
 abbrev pub roots_of : {F X : Type 0} → MerkleCap F X → List X
 roots_of cap = cap.roots.items
 
--- the lists of words that rows are
+-- each row as a list of words
 abbrev pub row_lists : {T A : Type 0} → List (Vec T A) → List (List T)
 row_lists rows = map (λ row. row.items) rows
 
--- the row sets, one a query, that nested lists of words are
+-- each row set, one for a query, as a list of rows
 abbrev pub row_sets : {T A B : Type 0} → List (Vec (Vec T A) B) → List (List (List T))
 row_sets sets = map (λ rows. row_lists rows.items) sets

@@ -1,4 +1,4 @@
-//! Compressions.
+//! The trait of compressions: functions from a group of digests to one digest.
 ghost use Rattle.std.specs.Prelude.{◌≡◌, ℕ, ◌<◌, List, length, map};
 ghost use Rattle.p3_support.specs.Lists.{lane_of};
 
@@ -22,8 +22,8 @@ pub trait PseudoCompressionFunction<PW: PackedValue, const N: usize, const D: us
         requires { length groups.now ≡ length out.old }
         ensures { out.new ≡ map (compression self.now) groups.now };
 
-    /// The digests of `PW::WIDTH` groups that are packed value by value: lane `k` of the result is the digest of the
-    /// lanes `k` of the group.
+    /// The digests of `PW::WIDTH` groups, packed value by value: lane `k` of the result is the digest of the group in
+    /// the lanes `k` of `input`.
     fn compress_packed(&self, input: [[PW; D]; N]) -> [PW; D]
         ensures { (k : ℕ) → k < PW.WIDTH →
             lane_of PW.lanes PW.default_value k result

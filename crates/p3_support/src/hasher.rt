@@ -1,4 +1,4 @@
-//! Hashers.
+//! The trait of hashers: functions from a list of words to a digest.
 ghost use Rattle.std.specs.Prelude.{◌≡◌, ℕ, ◌*◌, ◌<◌, List, length, map};
 ghost use Rattle.std.specs.Iterator.{IsFinite};
 ghost use Rattle.std.specs.Iterator.Runs.{WholeRun};
@@ -28,7 +28,7 @@ pub trait CryptographicHasher<P: PackedValue, PW: PackedValue, const D: usize> {
         requires ends { IsFinite (I.remaining input) }
         ensures { WholeRun I.next_gives input (λ p. result ≡ hash self.now p.items) };
 
-    /// The digest of a slice.
+    /// The digest of the words of a slice.
     fn hash_slice(&self, input: &[P::Value]) -> [PW::Value; D]
         ensures { result ≡ hash self.now input.now };
 
@@ -49,8 +49,8 @@ pub trait CryptographicHasher<P: PackedValue, PW: PackedValue, const D: usize> {
         ensures { (w : ℕ) → length messages.now ≡ w * length out.old →
             out.new ≡ map (hash self.now) (messages_of w (length out.old) messages.now) };
 
-    /// The digests of `P::WIDTH` messages that are packed word by word: lane `k` of the result is the digest of the
-    /// lanes `k` of the items, for each lane that both packings have. `input` must be finite.
+    /// The digests of `P::WIDTH` messages, packed word by word: lane `k` of the result is the digest of the lanes `k`
+    /// of the items, for each lane that both packings have. `input` must be finite.
     fn hash_packed<I: Iterator<Item = P>>(&self, input: I) -> [PW; D]
         requires can { I.can_next input }
         requires ends { IsFinite (I.remaining input) }

@@ -49,9 +49,9 @@ pub trait Matrix<T> {
         requires column_in { column < width_of self.now }
         ensures { slice_get (row_of self.now row) column ≡ Some result };
 
-    /// The elements from a column of a row on, to its end and row after row, as far as they lie in one piece. It may
-    /// hold none of them, as it does for a matrix that stores no elements, and then [`get`](Self::get) reads them. The
-    /// row must be below the height, and the column at most the width.
+    /// A slice of elements that the matrix stores one after another, from `column` of `row` on. It may end anywhere,
+    /// run on into the next rows, or be empty, as it is for a matrix that stores no elements. The caller reads by
+    /// [`get`](Self::get) what it lacks. The row must be below the height, and the column at most the width.
     fn piece(&self, row: usize, column: usize) -> &[T]
         requires row_in { row < height_of self.now }
         requires column_in { column ≤ width_of self.now }
@@ -88,6 +88,10 @@ pub trait Matrix<T> {
     }
 
     /// Appends the elements of a row to `words`, by ascending columns. The row must be below the height.
+    ///
+    /// # Errors
+    ///
+    /// `AllocError` if memory runs out. `words` may then have a part of the row.
     final fn append_row(&self, row: usize, words: &mut Vec<T>) -> Result<(), AllocError>
     where
         T: Copy,
@@ -110,8 +114,8 @@ pub trait Matrix<T> {
         Ok(())
     }
 
-    /// As many rows from `row` on as `P` has lanes, packed column by column: lane `k` of an item is the element of row
-    /// `row + k`. `row + P::WIDTH` must be at most the height.
+    /// `P::WIDTH` rows from `row` on, packed column by column: lane `k` of an item is the element of row `row + k`.
+    /// `row + P::WIDTH` must be at most the height.
     final fn vertically_packed_row<P: PackedValue<Value = T>>(
         &self,
         row: usize,
@@ -134,7 +138,8 @@ pub trait Matrix<T> {
         length (row_of m r) ≡ width_of m };
 }
 
-// A reference to a matrix is a matrix, too: a call that reads a slice of matrices also reads references to some.
+// A reference to a matrix is a matrix, too, so that a call that takes a slice of matrices also takes a slice of
+// references.
 impl<T, M: Matrix<T>> Matrix<T> for &M {
     ghost height_of = { λ m. M.height_of m.now };
 
@@ -161,7 +166,7 @@ impl<T, M: Matrix<T>> Matrix<T> for &M {
     ghost length_row_of = { λ m r h. M.length_row_of m.now r h };
 }
 
-/// An iterator over the elements of one row of a matrix. Contracts speak of those that are left.
+/// An iterator over the elements of one row of a matrix. Contracts speak of the list of elements that are left.
 #[derive(Drop)]
 pub struct Row<'a, T, M: Matrix<T>> {
     matrix: &'a M,
@@ -198,8 +203,8 @@ impl<'a, T, M: Matrix<T>> Iterator for Row<'a, T, M> {
     }
 }
 
-/// An iterator over the columns of `P::WIDTH` rows, each column packed: lane `k` is from row `k` of them. Contracts
-/// speak of the lanes of the columns that are left.
+/// An iterator over the columns of `P::WIDTH` rows, each column packed: lane `k` is from row `k` of these. Contracts
+/// speak of the list of columns that are left, each as its lanes.
 #[derive(Drop)]
 pub struct PackedRow<'a, T, P: PackedValue<Value = T>, M: Matrix<T>> {
     matrix: &'a M,
@@ -238,8 +243,8 @@ impl<'a, T, P: PackedValue<Value = T>, M: Matrix<T>> Iterator for PackedRow<'a, 
     }
 }
 
-/// One column of `P::WIDTH` rows from `row` on: lane `k` is the element of row `row + k`. `row + P::WIDTH` must be at
-/// most the height, and the column below the width.
+/// Packs one column of `P::WIDTH` rows from `row` on: lane `k` is the element of row `row + k`. `row + P::WIDTH` must
+/// be at most the height, and the column below the width.
 pub(crate) fn packed_column<P: PackedValue, M: Matrix<P::Value>>(
     matrix: &M,
     row: usize,
@@ -250,7 +255,7 @@ pub(crate) fn packed_column<P: PackedValue, M: Matrix<P::Value>>(
     ensures { P.lanes result
         ≡ column_of_rows (M.row_of matrix.now) P.default_value row P.WIDTH column }
 {
-    // The height is a usize, and so is the index of each row.
+    // For the proof alone: the height fits `usize`, and so does the index of each row.
     let _height = matrix.height();
     P::from_fn(
         |k| -> P::Value
@@ -262,13 +267,13 @@ pub(crate) fn packed_column<P: PackedValue, M: Matrix<P::Value>>(
     )
 }
 
-/// Why values make no matrix: the width does not divide their number.
+/// The error of values that cannot be split into rows: the width does not divide their number.
 #[derive(Clone, Copy, Debug, PartialEq, Eq, Error)]
 #[error("{len} values cannot be split into rows of width {width}")]
 pub struct ShapeError {
     /// How many values there are.
     pub len: usize,
-    /// How many of them a row should have.
+    /// How many values a row should have.
     pub width: usize,
 }
 
@@ -377,7 +382,7 @@ impl<T: Copy> Matrix<T> for RowMajorMatrix<T> {
     ghost length_row_of = { λ m r h. length-message m.values.items m.width m.height r m.full h };
 }
 
-/// The dimensions of matrices, in input order.
+/// The width and the height of each matrix, in input order.
 ///
 /// # Errors
 ///

@@ -21,13 +21,13 @@ use std::alloc::Global;
 /// index may both be accepted. Each scheme says what follows from two such openings, by a call of its own such as
 /// `extract_collision`.
 pub trait Mmcs<T, M: Matrix<T>> {
-    /// What the prover keeps, to open from.
+    /// What the prover stores, to open rows from.
     type ProverData: Drop;
     /// What the verifier gets, beside the dimensions.
     type Commitment: Drop;
-    /// What proves the rows of one index.
+    /// The proof of the rows of one index.
     type Proof: Drop;
-    /// What proves the rows of several indices.
+    /// The proof of the rows of several indices.
     type MultiProof: Drop;
     /// Why a call refuses its input, or fails.
     type Error: Drop;
@@ -56,10 +56,10 @@ pub trait Mmcs<T, M: Matrix<T>> {
     // Under a commitment to matrices of these dimensions, these rows are shown to be those of an index.
     ghost is_shown: { Self → Self.Commitment → List Dimensions → ℕ → List (List T) → Type 0 };
 
-    // A proof shows it.
+    // The scheme accepts a proof that these rows are those of an index.
     ghost accepts: { Self → Self.Commitment → List Dimensions → ℕ → List (List T) → Self.Proof → Type 0 };
 
-    // One proof shows it of several indices, with a row set for each.
+    // The scheme accepts one proof of several indices, with a row set for each.
     ghost accepts_all: { Self → Self.Commitment → List Dimensions → List ℕ → List (List (List T)) → Self.MultiProof →
         Type 0 };
 
@@ -74,8 +74,9 @@ pub trait Mmcs<T, M: Matrix<T>> {
     ///
     /// # Errors
     ///
-    /// The scheme's refusal of these matrices, where it has one; then the scheme is as it was, its generator too. That
-    /// memory ran out may come at any time; then the generator may have drawn.
+    /// The scheme's reason for refusing the matrices, which leaves the scheme and its generator unchanged. Matrices
+    /// that the scheme can commit to fail only if memory runs out. That may be reported at any time, and the generator
+    /// may have drawn by then.
     fn commit(
         &mut self,
         alloc: Global,
@@ -152,7 +153,8 @@ pub trait Mmcs<T, M: Matrix<T>> {
             IfErr result is_out_of_memory };
 
     /// Opens several indices by one proof. The indices must be below the tallest height, in any order; repeats are
-    /// allowed. The rows are those of [`open_batch`](Self::open_batch) for each index, in query order.
+    /// allowed. The result has a row set for each index, in query order, and the proof. A row set has the rows of
+    /// [`open_batch`](Self::open_batch) for its index.
     ///
     /// # Errors
     ///
@@ -178,8 +180,8 @@ pub trait Mmcs<T, M: Matrix<T>> {
     ///
     /// # Errors
     ///
-    /// The scheme's refusal of the opening, where it has one; an accepted opening has none. That memory ran out may
-    /// come at any time.
+    /// The scheme's reason for refusing the opening. An accepted opening fails only if memory runs out, which may be
+    /// reported at any time.
     fn verify_multi_batch(
         &self,
         alloc: Global,
@@ -204,7 +206,7 @@ pub trait Mmcs<T, M: Matrix<T>> {
         All (λ m. (index : ℕ) → index < tallest → row_at tallest (M.height_of m) index < M.height_of m)
         (matrices_in d) };
 
-    // Rows that a proof shows are shown, of one index and of several.
+    // What an accepted proof claims is shown, of one index and of several.
     ghost shown_by_one: { (s : Self) (c : Self.Commitment) (ds : List Dimensions) (index : ℕ) (rows : List (List T))
         (proof : Self.Proof) →
         accepts s c ds index rows proof → is_shown s c ds index rows };

@@ -32,7 +32,7 @@ impl<'a, F, X> From<&'a X> for DigestRef<'a, F, X> {
 impl<'a, F, X> DigestRef<'a, F, X> {
     ghost use Rattle.p3_support.specs.Shown.{digest_of_ref};
 
-    /// The digest.
+    /// The digest that it refers to.
     pub fn value(&self) -> &'a X
         ensures { result.now ≡ digest_of_ref self.now }
     {
@@ -52,7 +52,7 @@ pub struct MerkleCap<F, X> {
 impl<F, X> MerkleCap<F, X> {
     ghost use Rattle.p3_support.specs.Shown.{roots_of};
 
-    /// The cap of these digests.
+    /// The cap with these digests, in order.
     pub fn new(roots: Vec<X>) -> MerkleCap<F, X>
         ensures { roots_of result ≡ roots.items }
     {
@@ -69,7 +69,7 @@ impl<F, X> MerkleCap<F, X> {
         self.roots.len()
     }
 
-    /// The digests.
+    /// The digests, in order.
     pub fn roots(&self) -> &[X]
         ensures { result.now ≡ roots_of self.now }
     {

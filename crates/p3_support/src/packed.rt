@@ -132,7 +132,7 @@ pub fn lemma_row<T, const D: usize>(row: &[T; D])
     ensures { length row.now ≡ D }
 {}
 
-/// States that each row of a slice has `D` elements. It does nothing else.
+/// States that each row of a slice has `D` elements.
 pub fn lemma_rows<T, const D: usize>(rows: &[[T; D]])
     ensures { (k : ℕ) → k < length rows.now → length (slice_index_or rows.now k []) ≡ D }
 {
@@ -141,7 +141,7 @@ pub fn lemma_rows<T, const D: usize>(rows: &[[T; D]])
     }
 }
 
-/// Writes the lanes of a packed value to element `e` of the rows, lane `k` to row `k`.
+/// Unpacks one packed value: lane `k` becomes element `e` of row `k`.
 fn put_lanes<PW: PackedValue, const D: usize>(value: PW, e: usize, rows: &mut [[PW::Value; D]])
     requires inside { e < D }
     requires rows { length rows.old ≡ PW.WIDTH }
@@ -154,21 +154,21 @@ fn put_lanes<PW: PackedValue, const D: usize>(value: PW, e: usize, rows: &mut [[
     }
 }
 
-/// Takes packed values apart: `rows[k][e]` becomes lane `k` of `packed[e]`. `rows` must have `PW::WIDTH` rows.
+/// Unpacks an array of packed values: `rows[k][e]` becomes lane `k` of `packed[e]`. `rows` must have `PW::WIDTH` rows.
 pub fn unpack_into<PW: PackedValue, const D: usize>(packed: &[PW; D], rows: &mut [[PW::Value; D]])
     requires { length rows.old ≡ PW.WIDTH }
     ensures { rows.new
         ≡ map (λ k. lane_of PW.lanes PW.default_value k packed.now) (range_with_len 0 PW.WIDTH) }
 {
     lemma_rows(rows);
-    // The lanes are the inner loop: their number is a constant, so no lane's place is looked up.
+    // The inner loop goes over the lanes: their number is a constant, so no lane is read at a computed position.
     for (e, value) in packed.iter().enumerate() {
         put_lanes(*value, e, rows);
     }
 }
 
-/// Takes packed values apart into the rows from `first` on, a row for each lane: `rows[first + k][e]` becomes lane `k`
-/// of `packed[e]`. `first + PW::WIDTH` must be at most the number of rows.
+/// Unpacks an array of packed values into the rows from `first` on, a row for each lane: `rows[first + k][e]` becomes
+/// lane `k` of `packed[e]`. `first + PW::WIDTH` must be at most the number of rows.
 pub fn unpack_at<PW: PackedValue, const D: usize>(
     packed: &[PW; D],
     rows: &mut [[PW::Value; D]],
@@ -184,7 +184,7 @@ pub fn unpack_at<PW: PackedValue, const D: usize>(
     unpack_into(packed, &mut rows[first..first + PW::WIDTH]);
 }
 
-/// Writes a column into lane `k` of the packed values, and leaves the other lanes.
+/// Writes a column into lane `k`: element `e` of `packed` gets `column[e]`. The other lanes stay as they are.
 fn put_lane<PW: PackedValue, const D: usize>(packed: &mut [PW; D], k: usize, column: &[PW::Value])
     requires lane { k < PW.WIDTH }
     requires long { length column.now ≡ D }

@@ -7,8 +7,8 @@ use crate::matrix::{Matrix, packed_column};
 use crate::packed::PackedValue;
 use std::marker::{Model, PhantomData};
 
-/// An iterator over one row of each matrix of one height, in input order, element by element. Contracts speak of those
-/// that are left.
+/// An iterator over one row of each matrix of one height, in input order, element by element. Contracts speak of the
+/// list of elements that are left.
 #[derive(Drop)]
 pub struct Rows<'a, T, M: Matrix<T>> {
     matrices: &'a [M],
@@ -29,8 +29,8 @@ impl<'a, T, M: Matrix<T>> Model for Rows<'a, T, M> {
     ghost invariant = { λ s. s.row < s.height };
 }
 
-/// The row `row` of each of the `matrices` that have `height` rows, one after another. `row` must be below `height`. It
-/// does not allocate.
+/// The elements of row `row` of each of the `matrices` that have `height` rows, in input order. `row` must be below
+/// `height`. The call does not allocate.
 pub fn rows_of<'a, T, M: Matrix<T>>(matrices: &'a [M], height: usize, row: usize) -> Rows<'a, T, M>
     requires { row < height }
     ensures { result ≡ rows_of_height M.height_of M.row_of height row matrices.now }
@@ -66,7 +66,7 @@ impl<'a, T, M: Matrix<T>> Iterator for Rows<'a, T, M> {
 }
 
 /// An iterator over the columns of `P::WIDTH` rows of each of several matrices, one matrix after another, each column
-/// packed: lane `k` is from row `k` of them. Contracts speak of the lanes of the columns that are left.
+/// packed: lane `k` is from row `k` of these. Contracts speak of the list of columns that are left, each as its lanes.
 #[derive(Drop)]
 pub struct PackedRows<'a, T, P: PackedValue<Value = T>, M: Matrix<T>> {
     matrices: &'a [M],
@@ -87,9 +87,9 @@ impl<'a, T, P: PackedValue<Value = T>, M: Matrix<T>> Model for PackedRows<'a, T,
     ghost invariant = { λ s. All (λ m. s.row + P.WIDTH ≤ M.height_of m) s.matrices.now };
 }
 
-/// As many rows from `row` on as `P` has lanes, of each of the `matrices`, packed column by column, one matrix after
-/// another: lane `k` of an item is an element of row `row + k`. `row + P::WIDTH` must be at most the height of each. It
-/// does not allocate.
+/// `P::WIDTH` rows from `row` on of each of the `matrices`, packed column by column, one matrix after another: lane `k`
+/// of an item is an element of row `row + k`. `row + P::WIDTH` must be at most the height of each. The call does not
+/// allocate.
 pub fn packed_rows_of<'a, T, P: PackedValue<Value = T>, M: Matrix<T>>(
     matrices: &'a [M],
     row: usize,
@@ -112,7 +112,7 @@ impl<'a, T, P: PackedValue<Value = T>, M: Matrix<T>> Iterator for PackedRows<'a,
 
     ghost remaining = { item_count (λ rest. rest) };
 
-    // A call for each column would pass the column and the place through memory.
+    // Inlined: a call for each column would pass the column and the position through memory.
     #[inline(always)]
     fn next(&mut self) -> Option<P> {
         while let Some((first, others)) = self.matrices.split_first() {

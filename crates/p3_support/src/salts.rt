@@ -1,4 +1,4 @@
-//! Random matrices, from which salts are taken.
+//! Random matrices, whose rows serve as salts.
 ghost use Rattle.std.specs.Prelude.{◌≡◌, ℕ, ◌*◌, ◌%◌, ◌^◌, ◌≤◌, ◌+◌, ◌++◌, vec_len, vec_capacity, map, IfOk, IsErr};
 ghost use Rattle.std.specs.Prelude.{OnErr, OnOk};
 ghost use Rattle.p3_support.specs.Salts.{after_words, salts};
@@ -7,12 +7,12 @@ use crate::matrix::RowMajorMatrix;
 use rand_core::Rng;
 use std::alloc::{AllocError, Global};
 
-/// A value that a random word gives.
+/// A type of random values, each computed from one word of a generator.
 pub trait SaltWord: Copy {
     // The value that a word makes.
     ghost of_salt_word: { ℕ → Self };
 
-    /// The value of the word `w`. It depends on the word alone.
+    /// The value of the random word `w`. It depends on the word alone.
     fn from_salt_word(w: u64) -> Self
         ensures { result ≡ of_salt_word w };
 }
@@ -36,8 +36,8 @@ impl SaltWord for u8 {
 }
 
 /// The next eight words of a generator.
-// Drawn side by side, they keep the generator's state in registers. Where each is stored before the next one is drawn,
-// the state goes through memory.
+// Drawn into an array first, they leave the generator's state in registers. If each were stored before the next is
+// drawn, the state would go through memory.
 fn next_eight<R: Rng>(rng: &mut R) -> [u64; 8]
     ensures words { result ≡ salts (λ w. w) 8 (R.stream rng.old) }
     ensures rest { R.stream rng.new ≡ after_words 8 (R.stream rng.old) }
@@ -54,7 +54,7 @@ fn next_eight<R: Rng>(rng: &mut R) -> [u64; 8]
     ]
 }
 
-/// Adds the values of eight words to the end of a vector that has room for them.
+/// Appends the values of eight words to a vector that has room for them.
 fn push_eight<T: SaltWord>(values: &mut Vec<T>, words: [u64; 8])
     requires { vec_len values.old + 8 ≤ vec_capacity values.old }
     ensures items { values.new.items ≡ values.old.items ++ map T.of_salt_word words }
@@ -66,7 +66,7 @@ fn push_eight<T: SaltWord>(values: &mut Vec<T>, words: [u64; 8])
     }
 }
 
-/// Draws `8 * eights` values and adds them to the end of a vector that has room for them.
+/// Draws `8 * eights` values, eight at a time, and appends them to a vector that has room for them.
 fn draw_eights<T: SaltWord, R: Rng>(values: &mut Vec<T>, rng: &mut R, eights: usize)
     requires { vec_len values.old + 8 * eights ≤ vec_capacity values.old }
     ensures items { values.new.items ≡ values.old.items ++ salts T.of_salt_word (8 * eights) (R.stream rng.old) }
@@ -80,7 +80,7 @@ fn draw_eights<T: SaltWord, R: Rng>(values: &mut Vec<T>, rng: &mut R, eights: us
     }
 }
 
-/// Draws `count` values and adds them to the end of a vector that has room for them.
+/// Draws `count` values, one by one, and appends them to a vector that has room for them.
 fn draw_each<T: SaltWord, R: Rng>(values: &mut Vec<T>, rng: &mut R, count: usize)
     requires { vec_len values.old + count ≤ vec_capacity values.old }
     ensures items { values.new.items ≡ values.old.items ++ salts T.of_salt_word count (R.stream rng.old) }
@@ -96,8 +96,8 @@ fn draw_each<T: SaltWord, R: Rng>(values: &mut Vec<T>, rng: &mut R, count: usize
 impl<T: SaltWord> RowMajorMatrix<T> {
     ghost use Rattle.p3_support.specs.RowMajor.{row_count, row_width, values_of};
 
-    /// A matrix of random values. Each value is computed from one call of `next_u64`: `rows * cols` of them, row after
-    /// row. With no columns it has no rows, as in [`new`](Self::new).
+    /// A matrix of random values, drawn row after row: one call of `next_u64` for each, `rows * cols` calls in all.
+    /// With no columns it has no rows, as in [`new`](Self::new).
     ///
     /// # Errors
     ///

@@ -1,4 +1,4 @@
--- Rows and columns exchanged.
+-- Rows transposed to columns.
 use Rattle.std.specs.Prelude.{ℕ, List, [], ◌∷◌, map, slice_index}
 use Rattle.std.specs.List.{range_with_len}
 
