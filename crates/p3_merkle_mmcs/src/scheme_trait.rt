@@ -260,7 +260,7 @@ fn lemma_index<F, X, G, M: Matrix<F>, const N: usize>(tree: &Tree<F, X, G, M, N>
     ensures { index < greatest (heights (shape (tree_batch tree.now))) }
 {}
 
-/// The same of several indices.
+/// States of several indices what [`lemma_index`] states of one.
 fn lemma_indices<F, X, G, M: Matrix<F>, const N: usize>(
     tree: &Tree<F, X, G, M, N>,
     indices: &[usize],
