@@ -141,8 +141,8 @@ impl<
         })
     }
 
-    /// Opens several leaves as [`open_batch_pruned`](Self::open_batch_pruned) does, and returns the rows of each index
-    /// and the proof.
+    /// Opens several leaves as [`open_batch_pruned`](Self::open_batch_pruned) does, in the form of the trait `Mmcs`:
+    /// the row set of each index, in query order, and the proof.
     ///
     /// # Errors
     ///
@@ -234,7 +234,7 @@ impl<
             .check_pruned_opening(alloc, commit.roots(), &steps, cap_layer, opening)
     }
 
-    /// The same as [`verify_batch_pruned`](Self::verify_batch_pruned).
+    /// The same as [`verify_batch_pruned`](Self::verify_batch_pruned), by the name that the trait `Mmcs` has for it.
     ///
     /// # Errors
     ///

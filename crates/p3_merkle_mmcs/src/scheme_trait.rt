@@ -1,4 +1,4 @@
-//! The scheme as one of the schemes that commit to matrices.
+//! The trait `Mmcs` for the scheme, so that callers can be generic in the scheme.
 
 ghost use Rattle.std.specs.Prelude.{◌≡◌, ◌<◌, ◌↔◌, All, IfErr, IfOk, IsOk, List, length, map};
 ghost use Rattle.p3_merkle_prover.specs.Parts.{layers_of, matrices_of, tree_batch};
@@ -34,8 +34,9 @@ use p3_support::opening::{BatchOpening, BatchOpeningRef, MerkleCap};
 use p3_support::packed::PackedValue;
 use std::alloc::Global;
 
-/// The scheme as an `Mmcs`. The prover keeps the tree, and the commitment is its cap. Each call is the scheme's own
-/// call of its name, with the same errors.
+/// The scheme as an `Mmcs`. The prover's data is the tree, and the commitment is its cap. Each call is the scheme's own
+/// call of its name, with the same errors: `self.open_batch` means the method of the type, which comes before the
+/// trait's.
 impl<
     P: PackedValue,
     PW: PackedValue,

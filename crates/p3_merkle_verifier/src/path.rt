@@ -108,6 +108,7 @@ fn check_form<T>(
         num_siblings) }
 {
     let dimensions = steps.dimensions;
+    // The number of rows is checked ahead of the heights, and their widths after the siblings.
     if rows.len() != dimensions.len() {
         return Err(MerkleTreeError::WrongBatchSize {
             expected: dimensions.len(),
