@@ -1,4 +1,4 @@
--- Caps: the layer that a scheme hands out, by its rule.
+-- Caps: which layer of a tree is the cap, by the scheme's rule.
 use Rattle.std.specs.Prelude.{ℕ, min}
 use Rattle.p3_merkle_core.specs.Geometry.{Shape, has_rows, layer_below_root, least, levels}
 use Rattle.p3_merkle_core.specs.declared.cap.CapRule.{CapRule}

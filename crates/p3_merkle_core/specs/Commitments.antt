@@ -1,4 +1,4 @@
--- What is committed to, and what is shown under a commitment.
+-- What is committed to, and what is proved under a commitment.
 use Rattle.std.specs.Prelude.{◌≡◌, ℕ, List}
 use Rattle.p3_merkle_core.specs.Checks.{IsAccepted, Params}
 use Rattle.p3_merkle_core.specs.Nodes.{Batch, layer, layers}

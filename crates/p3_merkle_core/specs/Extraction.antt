@@ -61,7 +61,7 @@ pub record IsCollision {T W : Type 0} (c : Params T W) (o u : Opening T W)
   pub second_full : HasDigests c.shape.arity found.1
   pub one_digest : input_digest c.functions found.0 ≡ input_digest c.functions found.1
 
--- ---- rows that are answered in two ways
+-- ---- rows in which two openings conflict
 
 -- two openings have the same siblings, and the same row of each authenticated matrix
 pub record RowsAgreeWhereAuthenticated {T W : Type 0} (c : Params T W) (o u : Opening T W) : Type 0 where
@@ -69,7 +69,7 @@ pub record RowsAgreeWhereAuthenticated {T W : Type 0} (c : Params T W) (o u : Op
   pub rows : (k : ℕ) → k < length (heights c.shape) → IsTrue (is_authenticated c.shape c.layer k) →
       opened_row o k ≡ opened_row u k
 
--- two openings conflict in matrix k: they answer one row of it in two ways
+-- two openings conflict in matrix k: they have different words for one row of it
 pub record RowsConflictAt {T W : Type 0} (s : Shape) (o u : Opening T W) (k : ℕ) : Type 0 where
   pub exists : k < length (heights s)
   pub one_row : halved_index (greatest (heights s)) (slice_index (heights s) k) o.index ≡
@@ -111,9 +111,9 @@ pub record IsFirstCollision {T W : Type 0} (c : Params T W) (first second : Pres
   pub collision : IsCollision c (first.query found.0) (second.query found.1) found.2
   pub agree_before : EachPairBefore first second found.0 found.1 (AgreeWhereShared c)
 
--- ---- the answer
+-- ---- the result
 
--- the first pair of places at which d answers, by the first place, then by the second
+-- the first pair of positions for which d gives a value, in the order of the first, then of the second
 abbrev pub first_pair : {X : Type 0} → (ℕ → ℕ → Option X) → ℕ → ℕ → Option (ℕ × ℕ × X)
 first_pair d n m =
     first_of (λ a. first_of (λ b. option_map (λ x. (a, b, x)) (d a b)) (range_with_len 0 m)) (range_with_len 0 n)
@@ -124,18 +124,18 @@ abbrev pub first_difference : {T W : Type 0} → (T → T → Bool) → (W → W
 first_difference row_eq digest_eq c first second =
     first_pair (λ a b. difference_of row_eq digest_eq c (first.query a) (second.query b)) first.queries second.queries
 
--- what is answered to two openings under one cap: the refusal of the first, else of the second, else the first
--- difference
+-- the result of an extraction from two openings under one cap: the refusal of the first, else of the second, else the
+-- first difference
 abbrev pub extraction : {T W : Type 0} → (T → T → Bool) → (W → W → Bool) → Params T W → Presented T W →
     Presented T W → Result (Option (ℕ × ℕ × (Input T W × Input T W))) MerkleTreeError
 extraction row_eq digest_eq c first second =
     ok_unless (option_or first.refusal second.refusal) (first_difference row_eq digest_eq c first second)
 
--- what a call answers to two openings under a cap of a rule
+-- what a call returns that extracts a collision from two openings under a cap of a rule
 pub record IsExtraction {T W : Type 0} (row_eq : T → T → Bool) (digest_eq : W → W → Bool) (rule : CapRule)
     (c : Params T W) (first second : Presented T W)
     (result : Result (Option (ℕ × ℕ × (Input T W × Input T W))) MerkleTreeError) : Type 0 where
-  -- two accepted openings are answered Ok, unless memory runs out
+  -- for two accepted openings the result is Ok, unless memory runs out
   pub answered : first.is_accepted → second.is_accepted → AnswersUnlessMemory result None
   -- Ok means that both openings are accepted
   pub both_accepted : IfOk result (λ found. first.is_accepted × second.is_accepted)

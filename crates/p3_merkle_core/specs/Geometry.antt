@@ -18,7 +18,7 @@ least p (suc bound) = elim (p 0) [ true ↦ 0 | false ↦ suc (least (λ k. p (s
 unfoldable pub exponent : ℕ → ℕ
 exponent h = least (λ k. nat_le h (2 ^ k)) h
 
--- the greatest height that is taken
+-- the greatest height that is allowed
 abbrev pub height_limit : ℕ
 height_limit = 2 ^ 62
 
@@ -99,7 +99,7 @@ schedule_below s t = map (step s) (range_with_len 0 t)
 abbrev pub arity_schedule : Shape → List ℕ
 arity_schedule s = schedule_below s (levels s)
 
--- the layer so many levels below the root, and no lower than the leaves
+-- the layer k levels below the root, or the leaves if there are fewer levels
 abbrev pub layer_below_root : Shape → ℕ → ℕ
 layer_below_root s k = levels s - k
 

@@ -216,7 +216,7 @@ module _ (T W : Type 0) where
       restored_path (params f (shape b) t) (honest_query f b t indices) (slice_index indices k) ≡ siblings_by
       (node f b) (shape b) t (slice_index indices k)
 
-  -- so it answers the honest siblings of each query, in order
+  -- so the restored paths of all queries, in order, have the honest siblings
   abbrev pub HonestPathsInOrder : Type 0
   HonestPathsInOrder =
       (f : Functions T W) (b : Batch T) (t : ℕ) (indices : List ℕ) → IsHonestQuery b t indices →
@@ -315,8 +315,8 @@ module _ (T W : Type 0) where
       (x y : Input T W) → IsLastShared c o u x y →
       IsAtOnePlace x y × (x ≢ y) × (input_digest c.functions x ≡ input_digest c.functions y)
 
-  -- where two accepted openings agree wherever they share a place, they answer each row of an authenticated matrix
-  -- alike
+  -- where two accepted openings agree wherever they share a place, they have the same words for each row of an
+  -- authenticated matrix
   abbrev pub RowsAreBound : Type 0
   RowsAreBound =
       (c : Params T W) (cap : List (List W)) (o u : Opening T W) → IsArity c.shape.arity → IsAccepted c cap o →

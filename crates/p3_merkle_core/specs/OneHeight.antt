@@ -17,6 +17,6 @@ levels_of_height n h = least (λ k. nat_le h (n ^ k)) h
 abbrev pub nodes_of_height : ℕ → ℕ → ℕ → ℕ
 nodes_of_height n h l = div_ceil h (n ^ l)
 
--- the cap's layer, by both rules: so many levels below the root, and no lower than the leaves
+-- the cap's layer, by both rules: cap_height levels below the root, or the leaves if there are fewer levels
 abbrev pub cap_layer_of_height : ℕ → ℕ → ℕ → ℕ
 cap_layer_of_height n h cap_height = levels_of_height n h - cap_height

@@ -35,7 +35,7 @@ first_row heights k = sum (take k heights)
 abbrev pub height_fault : ℕ → List ℕ → ℕ → Option PartsError
 height_fault n heights k = unless (part_fits n heights k) (PartHeight k)
 
--- why so many caps for parts of these heights are refused, if they are: the first of these reasons
+-- why parts of these heights are refused, where they have `caps` caps: the first of these reasons
 abbrev pub heights_refusal : ℕ → List ℕ → ℕ → Option PartsError
 heights_refusal n heights caps =
     let count = length heights in

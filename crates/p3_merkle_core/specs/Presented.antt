@@ -1,4 +1,4 @@
--- An opening as a verifier takes it, and what a verifier answers.
+-- An opening as a verifier reads it, and what a verifier returns.
 use Rattle.std.specs.Prelude.{ℕ, Bool, IsOk, List, [], None, Option, Result, length}
 use Rattle.p3_merkle_core.specs.Geometry.{Shape}
 use Rattle.p3_merkle_core.specs.Openings.{Opening, opening_of}
@@ -42,8 +42,8 @@ presented_to_restore row_eq s t p =
       query = λ k. opening_of 0 [] [];
     }
 
--- what a verifier answers to an opening: the definition's refusal; Ok only where the opening is accepted, and an
--- accepted one is answered Ok unless memory runs out
+-- what a verifier returns for an opening: an error is the definition's refusal; Ok means that the opening is accepted,
+-- and for an accepted one the result is Ok unless memory runs out
 pub record IsVerdict {T W V : Type 0} (presented : Presented T W) (result : Result V MerkleTreeError) : Type 0 where
   pub answer : AnswersUnlessMemory result presented.refusal
   pub ok_is_accepted : IsOk result → presented.is_accepted

@@ -1,4 +1,4 @@
--- Pruned openings of many indices: what is covered, what is sent, what suffices, what is restored.
+-- Pruned openings of many indices: covered nodes, the digests of a proof, what suffices, what is restored.
 use Rattle.std.specs.Prelude.{◌≡◌, ℕ, zero, suc, ◌+◌, ◌*◌, ◌/◌, ◌<◌, ◌==◌, ◌&&◌, ◌⊎◌, Bool, false, not, if◌then◌else◌}
 use Rattle.std.specs.Prelude.{IsTrue, List, [], map, length, filter, flat_map, zip, find, unwrap_or, option_map}
 use Rattle.std.specs.Prelude.{slice_index, slice_index_or, slice_get, Some, ◌≤◌, All, ◌-◌, nat_le}
@@ -48,7 +48,7 @@ abbrev pub is_in : List (ℕ × ℕ) → ℕ → ℕ → Bool
 is_in given l j = list_any (λ (m, k). (m == l) && (k == j)) given
 
 -- node j of layer l is known from the nodes in given: it is one of them, or a queried leaf, or all its children are
--- known; padding is known only if it is given, so its digests are sent like any other
+-- known; padding is known only if it is given, so a proof has its digests like any others
 abbrev pub IsKnown : Shape → List ℕ → List (ℕ × ℕ) → ℕ → ℕ → Type 0
 IsKnown s queries given zero j = IsTrue (is_in given 0 j) ⊎ IsTrue (is_covered s queries 0 j)
 IsKnown s queries given (suc l) j =
@@ -59,7 +59,7 @@ IsKnown s queries given (suc l) j =
 abbrev pub Suffices : Shape → List ℕ → ℕ → List (ℕ × ℕ) → Type 0
 Suffices s queries t given = (j : ℕ) → IsTrue (is_covered s queries t j) → IsKnown s queries given t j
 
--- none of the nodes in given, of the layers up to t, is covered: covered nodes are computed, and never sent
+-- none of the nodes in given, of the layers up to t, is covered: covered nodes are computed, and in no proof
 abbrev pub IsUncovered : Shape → List ℕ → ℕ → List (ℕ × ℕ) → Type 0
 IsUncovered s queries t given = (l j : ℕ) → l ≤ t → IsTrue (is_in given l j) → is_covered s queries l j ≡ false
 
@@ -76,7 +76,7 @@ is_under s l j (m, k) = nat_le m l && (up s m k (l - m) == j)
 abbrev pub IsGivenUnder : Shape → List (ℕ × ℕ) → ℕ → ℕ → ℕ × ℕ → Type 0
 IsGivenUnder s given l j x = IsTrue (is_in given x.0 x.1) × IsTrue (is_under s l j x)
 
--- so many nodes are least: they are the boundary's, which are uncovered and suffice, and each list of uncovered nodes
+-- count is least: it is the number of boundary nodes, which are uncovered and suffice; each list of uncovered nodes
 -- that suffices has just the boundary's nodes, or is longer
 pub record IsLeast (s : Shape) (queries : List ℕ) (t : ℕ) (count : ℕ) : Type 0 where
   pub counted : count ≡ pruned_len s queries t
@@ -87,7 +87,7 @@ pub record IsLeast (s : Shape) (queries : List ℕ) (t : ℕ) (count : ℕ) : Ty
 
 -- ---- what is restored
 
--- an opening of several indices by one pruned proof: a row set for each index, and the digests that are sent
+-- an opening of several indices by one pruned proof: a row set for each index, and the digests of the proof
 pub record PrunedOpening (T W : Type 0) : Type 0 where
   pub indices : List ℕ
   pub rows : List (List (List T))
@@ -105,7 +105,7 @@ value_at passes pairs v = unwrap_or (option_map (λ (key, value). value) (find (
 abbrev pub first_rows : {T W : Type 0} → (ℕ → Bool) → PrunedOpening T W → List (List T)
 first_rows passes p = value_at passes (zip p.indices p.rows) []
 
--- the digest that is sent for node j of layer l
+-- the proof's digest of node j of layer l
 abbrev pub sent_digest : {T W : Type 0} → Params T W → PrunedOpening T W → ℕ → ℕ → List W
 sent_digest c p l j =
     value_at (λ (m, k). (m == l) && (k == j))

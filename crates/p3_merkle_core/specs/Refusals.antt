@@ -26,12 +26,12 @@ use Rattle.p3_support.specs.Lists.{is_among}
 abbrev pub IsEquality : {T : Type 0} → (T → T → Bool) → Type 0
 IsEquality {T} test = (x y : T) → Decides (test x y) (x ≡ y)
 
--- the first of some answers
+-- the first value among some options
 abbrev pub first_some : {E : Type 0} → List (Option E) → Option E
 first_some [] = None
 first_some (x ∷ xs) = option_or x (first_some xs)
 
--- the first that h answers of some items
+-- the first value that h gives for one of some items
 abbrev pub first_of : {X E : Type 0} → (X → Option E) → List X → Option E
 first_of h xs = first_some (map h xs)
 
@@ -127,7 +127,7 @@ slot_refusal row_eq s p l i = first_of (row_refusal row_eq s p l i) (matrices_at
 abbrev pub layer_refusal : {T W : Type 0} → (T → T → Bool) → Shape → PrunedOpening T W → ℕ → Option MerkleTreeError
 layer_refusal row_eq s p l = first_of (slot_refusal row_eq s p l) (slots_below (greatest (heights s)) p.indices)
 
--- the same of the layers up to t, from the leaves on
+-- the first such row of the layers up to t, from the leaves on
 abbrev pub group_refusal : {T W : Type 0} → (T → T → Bool) → Shape → ℕ → PrunedOpening T W → Option MerkleTreeError
 group_refusal row_eq s t p = first_of (layer_refusal row_eq s p) (range_with_len 0 (suc t))
 
@@ -141,7 +141,7 @@ is_entry eq cap j digest = unwrap_or (option_map (λ entry. eq entry digest) (sl
 abbrev pub sibling_count_refusal : ℕ → ℕ → Option MerkleTreeError
 sibling_count_refusal expected got = unless (expected == got) (WrongHeight expected got)
 
--- why an opening of an index, rows and so many siblings is refused before any of it is hashed, where the cap is layer
+-- why an opening of an index, rows and a number of siblings is refused before it is hashed, where the cap is layer
 -- t: the first of these reasons
 abbrev pub form_refusal : {T : Type 0} → Shape → ℕ → ℕ → List (List T) → ℕ → Option MerkleTreeError
 form_refusal s t index rows siblings =
@@ -161,12 +161,12 @@ refusal_under digest_eq c cap o =
     (unless (is_entry (pointwise digest_eq) cap (ancestor c.shape c.layer o.index)
     (path_digest c.functions c.shape o c.layer)) CapMismatch)
 
--- the answer to an opening under a cap
+-- the result of checking an opening under a cap
 abbrev pub answer_under : {T W : Type 0} → (W → W → Bool) → Params T W → List (List W) → Opening T W →
     Result (Unit {0}) MerkleTreeError
 answer_under digest_eq c cap o = ok_unless (refusal_under digest_eq c cap o) tt
 
--- why a replay of an index is refused, where a proof has so many siblings: the first of these reasons
+-- why a replay of an index is refused, for a proof of a number of siblings: the first of these reasons
 abbrev pub replay_refusal : Shape → ℕ → ℕ → ℕ → Option MerkleTreeError
 replay_refusal s t index siblings =
     first_some (
@@ -191,7 +191,7 @@ pruned_refusal row_eq s t p =
     ∷ group_refusal row_eq s t p
     ∷ [])
 
--- the answer to a pruned opening, whatever the cap
+-- the result of checking a pruned opening, whatever the cap
 abbrev pub pruned_answer : {T W : Type 0} → (T → T → Bool) → Shape → ℕ → PrunedOpening T W →
     Result (Unit {0}) MerkleTreeError
 pruned_answer row_eq s t p = ok_unless (pruned_refusal row_eq s t p) tt
@@ -209,7 +209,7 @@ abbrev pub pruned_refusal_under : {T W : Type 0} → (T → T → Bool) → (W �
 pruned_refusal_under row_eq digest_eq c cap p =
     option_or (pruned_refusal row_eq c.shape c.layer p) (cap_refusal digest_eq c cap p)
 
--- the answer to a pruned opening under a cap
+-- the result of checking a pruned opening under a cap
 abbrev pub pruned_answer_under : {T W : Type 0} → (T → T → Bool) → (W → W → Bool) → Params T W → List (List W) →
     PrunedOpening T W → Result (Unit {0}) MerkleTreeError
 pruned_answer_under row_eq digest_eq c cap p = ok_unless (pruned_refusal_under row_eq digest_eq c cap p) tt

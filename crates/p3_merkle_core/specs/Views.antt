@@ -38,7 +38,7 @@ module _ {T M : Type 0} (height width : M → ℕ) (row : M → ℕ → List T) 
     pub same_width : width other ≡ width matrix
     pub same_rows : (j : ℕ) → j < height matrix → row other j ≡ row matrix j
 
-  -- each clone of a matrix shows the same
+  -- each clone of a matrix has its height, width and rows
   abbrev pub ClonesShowTheSame : (M → M → Type 0) → M → Type 0
   ClonesShowTheSame is_clone matrix = (clone : M) → is_clone matrix clone → ShowsTheSame matrix clone
 

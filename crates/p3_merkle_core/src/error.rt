@@ -21,16 +21,16 @@ pub enum PrunedProofError {
     /// Two queries of one index have different rows.
     #[error("duplicate queries for path slot {slot} disagree on opened values")]
     InconsistentDuplicateOpenings {
-        /// The place of the index among the distinct queried indices, ascending.
+        /// The position of the index, from 0, among the distinct queried indices, ascending.
         slot: usize,
     },
     /// Two queries under one node have different rows of a matrix that is injected there.
     #[error("unique path slot {slot} disagrees with its group's lead on matrix {matrix}'s opened row")]
     InconsistentGroupOpening {
-        /// The place, from 0, of an index among the distinct queried indices, ascending: the one whose row differs from
+        /// The position, from 0, among the distinct queried indices, ascending, of the index whose row differs from
         /// that of the lowest index under the node.
         slot: usize,
-        /// The place of the matrix in input order.
+        /// The position of the matrix in input order, from 0.
         matrix: usize,
     },
 }
@@ -50,7 +50,7 @@ pub enum MerkleTreeError {
     /// The length of an opened row is not the width of its matrix.
     #[error("wrong width: matrix {matrix} expected {expected} values, got {got}")]
     WrongWidth {
-        /// The place of the matrix in input order.
+        /// The position of the matrix in input order, from 0.
         matrix: usize,
         /// Its width.
         expected: usize,
@@ -98,7 +98,7 @@ pub enum MerkleTreeError {
     /// `usize`.
     #[error("matrix {matrix}: size {size} is too large")]
     TooLarge {
-        /// The place of the matrix in input order.
+        /// The position of the matrix in input order, from 0.
         matrix: usize,
         /// Its height in rows if that is above 2^62; else its width without the salts.
         size: usize,
@@ -212,8 +212,8 @@ impl<T: Drop> From<AllocFailed<T>> for MerkleTreeError {
     }
 }
 
-/// Why the caps of parts give no cap. Where several reasons apply, the call returns the first in this order;
-/// `OutOfMemory` may come at any time.
+/// Why the caps of the parts of a list cannot be joined into the cap of the whole. A call returns the first of these
+/// that applies, in this order; `OutOfMemory` may come at any time.
 #[derive(Debug, PartialEq, Eq, Drop, Error)]
 pub enum PartsError {
     /// There are no heights.
@@ -227,11 +227,11 @@ pub enum PartsError {
         /// How many caps there are.
         got: usize,
     },
-    /// A part has another height than it may have. All parts but the last have one height, a power of the arity; the
-    /// last part has at least one row, and no more than the first.
+    /// The height of a part is not allowed. All parts but the last have one height, a power of the arity; the last part
+    /// has at least one row, and no more than the first.
     #[error("part {part} has a height that does not fit the others")]
     PartHeight {
-        /// The place of the first such part.
+        /// The position of the first such part, from 0.
         part: usize,
     },
     /// The heights add up to more than 2^62 rows.
@@ -240,7 +240,7 @@ pub enum PartsError {
     /// A cap has fewer digests than its layer has nodes.
     #[error("the cap of part {part} is too short for its height")]
     CapTooShort {
-        /// The place of the first such part.
+        /// The position of the first such part, from 0.
         part: usize,
     },
     /// Memory ran out.

@@ -1,7 +1,4 @@
-//! The shape of a tree, computed from the dimensions of its matrices: which heights are taken, how many children
-//! a node has on each level, how long the layers are, and where the ancestors of an index stand.
-//!
-//! Nothing here allocates.
+//! Heights, widths and lengths of layers, computed from the dimensions of matrices. Nothing here allocates.
 
 ghost use Rattle.std.specs.Prelude.{◌≡◌, ◌/◌, ◌%◌, ◌^◌, ◌<◌, ◌≤◌, Some, None, MatchResult, map};
 ghost use Rattle.p3_support.specs.Batches.{heights_of, greatest};
@@ -16,13 +13,13 @@ use p3_support::matrix::Dimensions;
 /// The greatest height of a matrix, in rows: 2^62. It keeps the slots of all layers within `usize`.
 pub const MAX_HEIGHT: usize = 1 << 62;
 
-/// How the path of an index goes: for each level below the cap, from the leaves up, how many children a node has, and
-/// the place of the index's ancestor among them.
+/// The path of an index to the cap: for each level below the cap, from the leaves up, how many children a node has, and
+/// the position of the index's ancestor among them.
 #[derive(Debug, Clone, Drop)]
 pub struct ArityAndPositions {
     /// The step of each level, in children per node.
     pub arity_schedule: Vec<usize>,
-    /// The place of the ancestor on each level, from 0.
+    /// The position of the ancestor on each level, from 0.
     pub query_positions: Vec<usize>,
 }
 
@@ -33,8 +30,7 @@ pub fn exponent_of(height: usize) -> usize
     (usize::BITS - height.saturating_sub(1).leading_zeros()) as usize
 }
 
-/// The greatest and the least height of the matrices, in rows; both are 0 if there are none. Each matrix is looked at
-/// once.
+/// The greatest and the least height of the matrices, in rows; both are 0 if there are none. It reads each matrix once.
 pub(crate) fn extremes_of(dimensions: &[Dimensions]) -> (usize, usize)
     ensures greatest { result.0 ≡ greatest (heights_of dimensions.now) }
     ensures least { result.1 ≡ shortest (heights_of dimensions.now) }
@@ -66,10 +62,12 @@ pub fn height_of_exponent(max_height: usize, exponent: usize) -> usize
     requires { max_height ≤ height_limit }
     ensures { result ≡ height_at max_height exponent }
 {
+    // Halving and rounding up `k` times gives (max_height - 1) / 2^k, rounded down, plus 1.
     (max_height.saturating_sub(1) >> exponent_of(max_height).saturating_sub(exponent)) + 1
 }
 
-/// The place of the first height above the limit. No height is looked at where the tallest one is not above it.
+/// The position of the first matrix whose height is above [`MAX_HEIGHT`], if there is one. `max_height` must be the
+/// tallest height: where it is within the limit, no other height is read.
 pub(crate) fn first_too_large_of(dimensions: &[Dimensions], max_height: usize) -> Option<usize>
     requires { max_height ≡ greatest (heights_of dimensions.now) }
     ensures { result ≡ first_too_large (heights_of dimensions.now) }

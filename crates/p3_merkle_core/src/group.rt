@@ -1,11 +1,11 @@
-//! Groups of digests, as a compression takes them.
+//! Groups of `N` digests, the inputs of a compression.
 
 ghost use Rattle.std.specs.Prelude.{◌≡◌, ◌+◌, ◌<◌, ◌≤◌, ◌∷◌, ◌++◌, [], length, insert, slice_index_or};
 ghost use Rattle.std.specs.Option.{option_to_list};
 ghost use Rattle.p3_merkle_core.specs.Nodes.{padded};
 
-/// A digest at its place among its siblings, then default digests: what a compression of `N` digests takes where a
-/// node has fewer children. There must be fewer siblings than `N`, and `position` must be at most their number.
+/// The group of a node on a path: its siblings with its own `digest` inserted at `position`, then default digests.
+/// There must be fewer siblings than `N`, and `position` must be at most their number.
 pub fn group_with<W: Copy, const N: usize, const D: usize>(
     default_digest: [W; D],
     digest: [W; D],
@@ -26,7 +26,7 @@ pub fn group_with<W: Copy, const N: usize, const D: usize>(
     group
 }
 
-/// The children of a node, then default digests. There must be at least one child, and at most `N`.
+/// The group of a node's children: their digests, then default digests. There must be from 1 to `N` children.
 pub fn padded_group<W: Copy, const N: usize, const D: usize>(
     default_digest: [W; D],
     children: &[[W; D]],
@@ -91,7 +91,8 @@ pub fn mixed_group<W: Copy, const N: usize, const D: usize>(
     )
 }
 
-/// Two digests, then default digests: the digest of a node's children beside that of its rows. `N` must be at least 2.
+/// The group of two digests, then default digests. A node with rows compresses the digest of its children and that of
+/// its rows in this way. `N` must be at least 2.
 pub fn pair_group<W: Copy, const N: usize, const D: usize>(
     default_digest: [W; D],
     left: [W; D],

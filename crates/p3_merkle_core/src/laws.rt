@@ -1,6 +1,6 @@
-//! Laws of the definitions, each as the contract of a function that does nothing, and laws of equality of errors,
-//! openings, proofs, paths and collisions. They speak of every hash, every compression, every batch and every opening;
-//! the calls of the crates above answer what the definitions say.
+//! Laws of the definitions, each as the contract of a function that does nothing; and functions whose contracts say
+//! that `==` on errors, openings, proofs, paths and collisions is equality of values. The laws hold for every hash,
+//! every compression, every batch and every opening. The contracts of the crates above cite the same definitions.
 
 ghost use Rattle.std.specs.Prelude.{◌≡◌, ◌↔◌, IsTrue};
 ghost use Rattle.p3_merkle_core.specs.Refusals.{IsEquality};
@@ -29,28 +29,28 @@ use p3_support::matrix::Matrix;
 use p3_support::opening::BatchOpening;
 use p3_support::packed::PackedValue;
 
-/// `==` on errors is equality of values. Returns the result of `==`.
+/// `==` holds of two errors exactly if they are the same value.
 pub fn error_eq(a: &MerkleTreeError, b: &MerkleTreeError) -> bool
     ensures { IsTrue result ↔ (a.now ≡ b.now) }
 {
     *a == *b
 }
 
-/// Equality of errors of pruned proofs is equality of values.
+/// `==` holds of two errors of pruned proofs exactly if they are the same value.
 pub fn pruned_proof_error_eq(a: &PrunedProofError, b: &PrunedProofError) -> bool
     ensures { IsTrue result ↔ (a.now ≡ b.now) }
 {
     *a == *b
 }
 
-/// Equality of errors of parts is equality of values.
+/// `==` holds of two errors of parts exactly if they are the same value.
 pub fn parts_error_eq(a: &PartsError, b: &PartsError) -> bool
     ensures { IsTrue result ↔ (a.now ≡ b.now) }
 {
     *a == *b
 }
 
-/// Equality of openings of one index is equality of rows and siblings.
+/// `==` holds of two openings of one index exactly if they have the same rows and siblings.
 pub fn batch_opening_eq<P: PackedValue, PW: PackedValue, const D: usize>(
     a: &BatchOpening<P::Value, Vec<[PW::Value; D]>>,
     b: &BatchOpening<P::Value, Vec<[PW::Value; D]>>,
@@ -60,7 +60,7 @@ pub fn batch_opening_eq<P: PackedValue, PW: PackedValue, const D: usize>(
     *a == *b
 }
 
-/// Equality of pruned proofs is equality of digests.
+/// `==` holds of two pruned proofs exactly if they have the same digests.
 pub fn pruned_merkle_paths_eq<PW: PackedValue, const D: usize>(
     a: &PrunedMerklePaths<PW::Value, D>,
     b: &PrunedMerklePaths<PW::Value, D>,
@@ -70,7 +70,7 @@ pub fn pruned_merkle_paths_eq<PW: PackedValue, const D: usize>(
     *a == *b
 }
 
-/// Equality of pruned openings is equality of row sets and digests.
+/// `==` holds of two pruned openings exactly if they have the same row sets and digests.
 pub fn pruned_batch_opening_eq<P: PackedValue, PW: PackedValue, const D: usize>(
     a: &PrunedBatchOpening<P::Value, PW::Value, D>,
     b: &PrunedBatchOpening<P::Value, PW::Value, D>,
@@ -80,7 +80,7 @@ pub fn pruned_batch_opening_eq<P: PackedValue, PW: PackedValue, const D: usize>(
     *a == *b
 }
 
-/// Equality of paths is equality of leaves and siblings.
+/// `==` holds of two paths exactly if they have the same leaf and siblings.
 pub fn merkle_auth_path_eq<PW: PackedValue, const D: usize>(
     a: &MerkleAuthPath<PW::Value, D>,
     b: &MerkleAuthPath<PW::Value, D>,
@@ -90,7 +90,7 @@ pub fn merkle_auth_path_eq<PW: PackedValue, const D: usize>(
     *a == *b
 }
 
-/// `==` holds of places exactly if both are the same value.
+/// `==` holds of two places exactly if they are the same value.
 pub fn place_eq(a: &Place, b: &Place) -> bool
     ensures { IsTrue result ↔ (a.now ≡ b.now) }
 {
@@ -105,7 +105,7 @@ fn input_pair_eq<T: Eq, X: Eq>(a: &InputPair<T, X>, b: &InputPair<T, X>) -> bool
     *a == *b
 }
 
-/// Equality of collisions is equality of kinds, places and inputs.
+/// `==` holds of two collisions exactly if they are of one variant, with the same place and the same inputs.
 pub fn collision_eq<P: PackedValue, PW: PackedValue, const D: usize>(
     a: &Collision<P::Value, PW::Value, D>,
     b: &Collision<P::Value, PW::Value, D>,
@@ -115,12 +115,15 @@ pub fn collision_eq<P: PackedValue, PW: PackedValue, const D: usize>(
     input_pair_eq(a, b)
 }
 
-/// A number passes the test of arities exactly if it is an arity: a power of two from 2 to 2^62.
+/// What holds of the shape of every tree, by clause:
 ///
-/// For each arity and all heights: the steps from the leaves to the root end; the root is one node, unless no matrix
-/// has a row; the steps below a cap are the first of all steps; and each matrix has a layer of its exponent. For
-/// lawful heights the row of an index in a matrix is the index's ancestor in that layer.
-/// [`check_heights`](crate::steps::check_heights) accepts exactly the lawful heights.
+/// - `arities`: the test of arities accepts exactly the powers of two from 2 to 2^62;
+/// - `ends`: the steps from the leaves to the root end, for all heights;
+/// - `root`: the root is one node, unless no matrix has a row;
+/// - `schedule`: the steps below a cap are the first of all steps;
+/// - `layers`: each matrix has a layer of its exponent;
+/// - `rows`: for lawful heights the row of an index in a matrix is the index's ancestor in that layer;
+/// - `gate`: [`check_heights`](crate::steps::check_heights) accepts exactly the lawful heights.
 pub fn shape()
     ensures arities { TestedIsArity }
     ensures ends { WalkEnds }
@@ -153,10 +156,13 @@ pub fn one_height<T, W>()
     ensures nodes { OneHeightNodesAreChildren T W }
 {}
 
-/// Of a list that is cut into parts, all but the last of one height that is a power of the arity: the layer of the
-/// first part's root is the list of the parts' roots, where the last part's root is compressed with default digests
-/// once for each level that it lacks. A layer below is what the parts have in it, one after another. Default digests
-/// follow up to the length of the layer. A cap that is a layer of its batch has the batch's nodes.
+/// A list is cut into parts, all but the last of one height, which is a power of the arity. By clause:
+///
+/// - `caps`: a cap that is a layer of its batch has the batch's nodes;
+/// - `layers`: up to the first part's root, a layer of the list is the parts' layers, one after another, then default
+///   digests;
+/// - `roots`: the layer of the first part's root is the list of the parts' roots, then default digests. The last part's
+///   root is first compressed with default digests, once for each level that it lacks.
 pub fn parts<T, W>()
     ensures caps { LayerHasNodes T W }
     ensures layers { PartsMakeLayers T W }
@@ -169,8 +175,9 @@ pub fn completeness<T, W>()
     ensures pruned { HonestQueryIsAccepted T W }
 {}
 
-/// An honest pruned opening restores the tree's own nodes and siblings. What is read out of the layers of a batch's
-/// tree is the honest opening, of one index or of several: so a restored path is the proof of its index alone.
+/// An honest pruned opening restores the tree's own nodes, and for each index the siblings of its single opening. Under
+/// it the cap has each covered node of its layer. What is read from the layers of a batch's own tree is the honest
+/// opening, of one index or of several.
 pub fn restoration<T, W>()
     ensures nodes { HonestNodesAreRestored T W }
     ensures paths { HonestPathsAreRestored T W }
@@ -198,9 +205,9 @@ pub fn answers<T, W>()
 /// What two accepted openings of one cap fix, by clause:
 ///
 /// - `collision`: if they differ at a shared place, the last such place has two different inputs with one digest;
-/// - `single`, `pruned`: the result that the definitions give for two openings has all properties of an extraction;
+/// - `single`, `pruned`: the result that the definitions give for two openings has all properties of `IsExtraction`;
 /// - `rows`: if they agree at each shared place, every row of an authenticated matrix that both open has the same
-/// words;
+///   words;
 /// - `one_index`: two of one index agree exactly if they have the same siblings, and the same row of each authenticated
 ///   matrix;
 /// - `full`: each group that a check compresses has as many digests as the arity;
@@ -215,8 +222,12 @@ pub fn extraction<T, W>()
     ensures last { LastInputIsReached T W }
 {}
 
-/// The boundary nodes and the queried leaves are enough to compute each covered node of the cap's layer. No other set
-/// of uncovered nodes that suffices is as small as the boundary.
+/// Why a pruned proof has the digests of the boundary, by clause:
+///
+/// - `suffices`: boundary nodes and queried leaves are enough to compute each covered node of the cap's layer;
+/// - `smallest`, `alone`, `least`: no other set of uncovered nodes that suffices is as small as the boundary;
+/// - `apart`: no node is under two boundary nodes;
+/// - `held`: a set of uncovered nodes that suffices has each boundary node, or two different nodes under it.
 pub fn boundary()
     ensures suffices { BoundarySuffices }
     ensures smallest { BoundaryIsSmallest }

@@ -4,7 +4,7 @@
 /// above it, to which the other fields belong.
 #[derive(Debug, Clone, Copy)]
 pub struct Level {
-    /// The number of the layer below, from the leaves on.
+    /// The number of the layer below; the leaves are layer 0.
     pub below: usize,
     /// How many children each node of the layer above has.
     pub step: usize,
@@ -14,8 +14,8 @@ pub struct Level {
     pub raw_len: usize,
     /// How many slots it has, padding included.
     pub layer_len: usize,
-    /// The height, in rows, of the matrices that belong to it, where there are any.
+    /// The height, in rows, of the matrices that belong to it, if there are any.
     pub height: usize,
-    /// Whether there are any.
+    /// Whether matrices belong to it.
     pub has_rows: bool,
 }

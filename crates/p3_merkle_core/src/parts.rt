@@ -1,5 +1,5 @@
-//! Lists that are committed to in parts, and other trees over matrices of one height: their shape, computed from the
-//! height alone, and why parts are refused. Nothing here allocates.
+//! The shape of trees over matrices of one height, computed from the height alone, and the checks of lists that are
+//! committed to in parts. Nothing here allocates.
 
 ghost use Rattle.std.specs.Prelude.{◌≡◌, ◌≤◌, ◌<◌, ◌==◌, ◌^◌, IfOk, MatchResult, None, Some, length, map};
 ghost use Rattle.std.specs.List.{range_with_len, sum};
@@ -33,7 +33,8 @@ pub fn cap_layer_of_height(arity: usize, height: usize, cap_height: usize) -> us
     levels_of_height(arity, height).saturating_sub(cap_height)
 }
 
-/// How many nodes a layer has over matrices of one height, up to the root. The arity must be a power of two from 2 to
+/// How many nodes a layer has over matrices of one height: the height divided by the arity and rounded up, once for
+/// each layer below it. `layer` counts from the leaves, up to the root's. The arity must be a power of two from 2 to
 /// 2^62.
 pub fn nodes_of_height(arity: usize, height: usize, layer: usize) -> usize
     requires { IsArity arity }
@@ -61,7 +62,9 @@ fn is_power(arity: usize, height: usize) -> bool
     height == power
 }
 
-/// Checks the heights of parts. The arity must be a power of two from 2 to 2^62.
+/// Checks the heights of parts, at least one: `PartHeight` for the first that is not allowed. All parts but the last
+/// have one height, a power of the arity; the last has at least one row, and no more than the first. The arity must be
+/// a power of two from 2 to 2^62.
 fn check_heights_of_parts(arity: usize, heights: &[usize]) -> Result<(), PartsError>
     requires arity { IsArity arity }
     requires some { 0 < length heights.now }
@@ -84,7 +87,7 @@ fn check_heights_of_parts(arity: usize, heights: &[usize]) -> Result<(), PartsEr
     Ok(())
 }
 
-/// The sum of the heights of parts.
+/// The height of a list, from those of its parts: their sum, or `TooLarge` if that is above [`MAX_HEIGHT`].
 fn height_of_whole(heights: &[usize]) -> Result<usize, PartsError>
     ensures answer { let fits = sum heights.now ≤ height_limit in
         MatchResult result (λ height. fits) (λ e. (height_limit < sum heights.now) × (e ≡ TooLarge)) }
@@ -100,14 +103,14 @@ fn height_of_whole(heights: &[usize]) -> Result<usize, PartsError>
     Ok(whole)
 }
 
-/// Checks that a list can be committed to in parts of these heights, with so many caps. Returns the height of the
-/// whole. The arity must be a power of two from 2 to 2^62.
+/// Checks the heights of the parts of a list, and that there is one cap for each. Returns the height of the whole list,
+/// in rows. The arity must be a power of two from 2 to 2^62.
 ///
 /// # Errors
 ///
-/// The first of these that applies: `NoParts` if there are no heights; `WrongCapCount` if there is not one cap for
-/// each; `PartHeight` for the first part that has another height than it may have; `TooLarge` if they add up to more
-/// than [`MAX_HEIGHT`].
+/// The first of these that applies: `NoParts` if there are no heights; `WrongCapCount` if `num_caps` is not their
+/// number; `PartHeight` for the first part whose height is not allowed; `TooLarge` if they add up to more than
+/// [`MAX_HEIGHT`].
 pub fn check_parts(arity: usize, heights: &[usize], num_caps: usize) -> Result<usize, PartsError>
     requires { IsArity arity }
     ensures answer { let refusal = heights_refusal arity heights.now num_caps in

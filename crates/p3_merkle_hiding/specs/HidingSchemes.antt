@@ -42,7 +42,7 @@ salted_lent index opening =
       siblings = opening.opening_proof.now.1.items;
     }
 
--- the same of one that is made
+-- an owned opening of an index, with its salts
 abbrev pub salted_made : {T W A B D : Type 0} → ℕ → BatchOpening T (Vec (Vec T A) B × Vec (List W) D) →
     SaltedOpening T W
 salted_made index opening =
@@ -64,7 +64,7 @@ salted_pruned_lent indices rows proof =
       digests = proof.1.sibling_hashes.items;
     }
 
--- the same of row sets and a proof that are made
+-- the opening of several indices by owned row sets and an owned proof
 abbrev pub salted_pruned_made : {T W A B C D E F : Type 0} → List ℕ → Vec (Vec (Vec T A) B) F →
     Vec (Vec (Vec T C) D) E × PrunedProof (List W) → SaltedPruned T W
 salted_pruned_made indices rows proof =

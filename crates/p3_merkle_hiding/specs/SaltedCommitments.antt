@@ -1,4 +1,4 @@
--- What a salted scheme commits to, and what it shows under a commitment.
+-- What a salted scheme commits to, and what is proved under its commitments.
 use Rattle.std.specs.Prelude.{ℕ, List}
 use Rattle.p3_support.specs.Batches.{dimensions_in}
 use Rattle.p3_merkle_core.specs.Commitments.{IsCommitment}

@@ -16,18 +16,18 @@ row_in o k = slice_index_or o.rows k []
 abbrev pub salts_in : {T W : Type 0} → SaltedOpening T W → ℕ → List T
 salts_in o k = slice_index_or o.salts k []
 
--- two openings answer one row of matrix k, or the salts of that row, in two ways
+-- two openings conflict in matrix k: they have different words for one row of it, or different salts
 pub record ConflictAt {T W : Type 0} (s : Shape) (o u : SaltedOpening T W) (k : ℕ) : Type 0 where
   pub exists : k < length (heights s)
   pub one_row : halved_index (greatest (heights s)) (slice_index (heights s) k) o.index ≡
       halved_index (greatest (heights s)) (slice_index (heights s) k) u.index
   pub two_ways : (row_in o k ≢ row_in u k) ⊎ (salts_in o k ≢ salts_in u k)
 
--- they do so for some matrix
+-- two openings conflict in some matrix
 abbrev pub ConflictSomewhere : {T W : Type 0} → Params T W → SaltedOpening T W → SaltedOpening T W → Type 0
 ConflictSomewhere c o u = (k : ℕ) × ConflictAt c.shape o u k
 
--- they do so for some authenticated matrix
+-- two openings conflict in some authenticated matrix
 abbrev pub ConflictWhereAuthenticated : {T W : Type 0} → Params T W → SaltedOpening T W → SaltedOpening T W → Type 0
 ConflictWhereAuthenticated c o u = (k : ℕ) × IsTrue (is_authenticated c.shape c.layer k) × ConflictAt c.shape o u k
 

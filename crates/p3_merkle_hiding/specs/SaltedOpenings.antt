@@ -42,8 +42,8 @@ salted_of index rows salts siblings = record { index = index; rows = rows; salts
 abbrev pub joined : {T W : Type 0} → SaltedOpening T W → Opening T W
 joined o = opening_of o.index (salted_rows o.rows o.salts) o.siblings
 
--- an opening of several indices by one pruned proof: a row set and a salt set for each index, and the digests that
--- are sent
+-- an opening of several indices by one pruned proof: a row set and a salt set for each index, and the digests of the
+-- proof
 pub record SaltedPruned (T W : Type 0) : Type 0 where
   pub indices : List ℕ
   pub rows : List (List (List T))

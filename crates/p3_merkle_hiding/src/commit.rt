@@ -47,7 +47,7 @@ impl<
 where
     P::Value: SaltWord,
 {
-    /// Commits to matrices, each row followed by its salts. Returns the cap of their tree, and the tree, which keeps
+    /// Commits to matrices, each row followed by its salts. Returns the cap of their tree, and the tree, which owns
     /// each matrix beside its salts, in input order. It is the plain scheme's commitment to the salted matrices.
     ///
     /// The salts are drawn from the scheme's generator, `SALT_ELEMS` for each row: matrix by matrix in input order, row
@@ -97,7 +97,8 @@ where
     }
 }
 
-/// The dimensions of matrices with `salt_elems` salts beside each row.
+/// Checks the heights of matrices, and that each width fits `usize` with `salt_elems` more columns. Returns their
+/// dimensions with these columns.
 fn salted_dimensions<T, M: Matrix<T>>(
     alloc: Global,
     matrices: &[M],

@@ -115,16 +115,16 @@ impl<
     }
 
     /// Extracts a collision from two accepted pruned openings of one cap: the first pair of queries that gives a
-    /// collision, in the order of the first list, then of the second. Returns the place of each query in its list, from
-    /// 0, and two different inputs of the hasher or of the compression with one digest; or `None` if all queries agree.
+    /// collision, in the order of the first list, then of the second. Returns the position of each query in its list,
+    /// from 0, and two different inputs of the hasher or of the compression with one digest; or `None` if all queries
+    /// agree.
     ///
     /// The first opening is `indices1`, `rows1` and `proof1`, the second `indices2`, `rows2` and `proof2`, each as
     /// [`verify_multi_batch`](Self::verify_multi_batch) takes it: a row set for each index, and a proof with a salt set
     /// for each. Both are verified so. The call is the plain scheme's
     /// [`extract_collision_multi`](p3_merkle_mmcs::mmcs::Scheme::extract_collision_multi) of the rows followed by their
-    /// salts. It finds a collision wherever a query of the one and a query of the other answer one row of an
-    /// authenticated matrix, or the salts of that row, in two ways. Under the rule `Lowered` every matrix is
-    /// authenticated.
+    /// salts. It finds a collision wherever a query of the one and a query of the other conflict in a row of an
+    /// authenticated matrix, or in the salts of that row. Under the rule `Lowered` every matrix is authenticated.
     ///
     /// # Errors
     ///

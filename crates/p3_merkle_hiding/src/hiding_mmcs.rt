@@ -1,4 +1,4 @@
-//! The salted scheme: its parts, how to make it, and forks with salts of their own.
+//! The salted scheme: its type, its constructors, and forks with a generator of their own.
 
 ghost use Rattle.std.specs.Prelude.{◌≡◌, ◌≤◌, IfOk, IsOk, IsTrue};
 ghost use Rattle.p3_merkle_core.specs.Geometry.{is_arity};

@@ -12,7 +12,7 @@ use p3_merkle_core::geometry::check_widths;
 use p3_support::matrix::Dimensions;
 use std::alloc::{AllocError, Global};
 
-/// Rows followed by their salts, and the dimensions that fit them.
+/// Rows followed by their salts, and the dimensions of matrices of such rows.
 #[derive(Drop)]
 pub struct Salted<Rows> {
     /// The dimensions with the salts.
@@ -26,9 +26,9 @@ pub struct Salted<Rows> {
 ///
 /// # Errors
 ///
-/// `WrongBatchSize` or `WrongWidth` as [`check_widths`] answers for the rows; else `WrongBatchSize` if there are not as
-/// many lists of salts as rows; else `TooLarge` for the first matrix that has no room for the salts. `OutOfMemory` may
-/// come at any time. How many salts each row has is not checked here.
+/// The error of [`check_widths`] for the rows; else `WrongBatchSize` if there are not as many lists of salts as rows;
+/// else `TooLarge` for the first matrix whose width with the salts does not fit `usize`. `OutOfMemory` may come at any
+/// time. How many salts each row has is not checked here.
 pub fn salted_rows<T: Copy>(
     alloc: Global,
     dimensions: &[Dimensions],
@@ -54,9 +54,10 @@ pub fn salted_rows<T: Copy>(
 ///
 /// # Errors
 ///
-/// `WrongBatchSize` if the number of salt sets is not that of the row sets; else the first error that
-/// [`salted_rows`] gives for a row set, in order, before it looks at the room for the salts; else `TooLarge` for the
-/// first matrix that has none. `OutOfMemory` may come at any time. How many salts each row has is not checked here.
+/// `WrongBatchSize` if the number of salt sets is not that of the row sets; else, for the first row set that has one,
+/// the error of [`check_widths`], or `WrongBatchSize` if it has not as many lists of salts as rows; else `TooLarge` for
+/// the first matrix whose width with the salts does not fit `usize`. `OutOfMemory` may come at any time. How many salts
+/// each row has is not checked here.
 pub fn salted_sets<T: Copy>(
     alloc: Global,
     dimensions: &[Dimensions],
@@ -84,9 +85,8 @@ pub fn salted_sets<T: Copy>(
     })
 }
 
-/// Checks that there is one row for each matrix, of the matrix's width without salts, and then that there is one list
-/// of salts for each row. `WrongBatchSize` or `WrongWidth` as [`check_widths`] answers for the rows; else
-/// `WrongBatchSize` if there are not as many lists of salts as rows.
+/// Checks that there is one row for each matrix, of the matrix's width without salts, as [`check_widths`] does; and
+/// then that there is one list of salts for each row, else `WrongBatchSize`.
 fn check_rows_and_salts<T>(
     dimensions: &[Dimensions],
     rows: &[Vec<T>],
@@ -105,7 +105,7 @@ fn check_rows_and_salts<T>(
     Ok(())
 }
 
-/// Checks that each matrix can have `salt_elems` more columns.
+/// Checks that each width fits `usize` with `salt_elems` more columns: `TooLarge` for the first that does not.
 fn check_widening(dimensions: &[Dimensions], salt_elems: usize) -> Result<(), MerkleTreeError>
     ensures answer { let refusal = widening_refusal salt_elems dimensions.now in
         MatchResult result (λ ok. refusal ≡ None) (λ e. refusal ≡ Some e) }
@@ -127,7 +127,8 @@ fn check_widening(dimensions: &[Dimensions], salt_elems: usize) -> Result<(), Me
 ///
 /// # Errors
 ///
-/// That of [`check_widening`]; `OutOfMemory` may come at any time.
+/// `TooLarge` for the first matrix whose new width does not fit `usize`, with its width as the size; `OutOfMemory` may
+/// come at any time.
 pub fn widened_dimensions(
     alloc: Global,
     dimensions: &[Dimensions],

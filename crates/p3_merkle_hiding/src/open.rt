@@ -46,8 +46,8 @@ fn left_matrices<'a, F, X, G, A: Matrix<F>, B: Matrix<F>, const N: usize>(
     Ok(matrices)
 }
 
-/// Splits the rows of one index into the matrices' own words and their salts. `pairs` has a matrix beside its salts for
-/// each row. A row keeps its own words, and gives its salts away.
+/// Splits each row of one index into the matrix's own words and its salts. `pairs` has the matrix of each row beside
+/// its salts. The own words stay in the row's memory, and the salts are copied.
 fn split_rows<F: Copy, A: Matrix<F>, B: Matrix<F>>(
     alloc: Global,
     pairs: &[&HorizontalPair<F, A, B>],
@@ -68,7 +68,7 @@ fn split_rows<F: Copy, A: Matrix<F>, B: Matrix<F>>(
     Ok((unsalted, salts))
 }
 
-/// Splits the rows of several indices, those of each as [`split_rows`] does: the row sets and the salt sets.
+/// Splits the rows of several indices, each as [`split_rows`] does, into row sets and salt sets.
 fn split_row_sets<F: Copy, X, G, A: Matrix<F>, B: Matrix<F>, const N: usize>(
     alloc: Global,
     tree: &Tree<F, X, G, HorizontalPair<F, A, B>, N>,
@@ -142,7 +142,7 @@ impl<
 
     /// Opens several leaves of a tree by one pruned proof. The indices count rows of the tallest matrix and must be
     /// below its height, in any order; repeats are allowed. For each index, in query order, the opening has the row of
-    /// each matrix that belongs to the leaf; its proof has the salts of each row, and the digests that are sent.
+    /// each matrix that belongs to the leaf; its proof has the salts of each row, and one pruned proof.
     ///
     /// It is the plain scheme's opening, with each row split into the matrix's own words and its salts. The opening is
     /// accepted under the cap of the tree if the tree has `SALT_ELEMS` salts a row and was built with this scheme's

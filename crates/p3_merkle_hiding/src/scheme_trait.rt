@@ -1,4 +1,4 @@
-//! The salted scheme as one of the schemes that commit to matrices.
+//! The trait `Mmcs` for the salted scheme, so that callers can be generic in the scheme.
 
 ghost use Rattle.std.specs.Prelude.{◌≡◌, ◌⊎◌, ◌<◌, [], All, IfErr, IfOk, List, OnOk, map};
 ghost use Rattle.p3_merkle_prover.specs.Parts.{layers_of, matrices_of, tree_batch};
@@ -43,7 +43,8 @@ use rand_core::CryptoRng;
 use std::alloc::Global;
 
 /// The salted scheme as an `Mmcs`. The commitment is the cap of a tree over matrices beside their salts. A commitment
-/// changes the scheme in its generator alone. Each call is the scheme's own call of its name, with the same errors.
+/// changes the scheme in its generator alone. Each call is the scheme's own call of its name, with the same errors:
+/// `self.open_batch` means the method of the type, which comes before the trait's.
 impl<
     P: PackedValue,
     PW: PackedValue,

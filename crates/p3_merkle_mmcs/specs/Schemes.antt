@@ -1,4 +1,4 @@
--- What a scheme shows, and the parameters of its checks.
+-- The fields of a scheme, and the parameters of its checks.
 use Rattle.std.specs.Prelude.{◌≡◌, ℕ, List, replicate}
 use Rattle.std.specs.declared.default.Default as default
 use Rattle.std.specs.declared.cmp.PartialEq as equality

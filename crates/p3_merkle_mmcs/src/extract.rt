@@ -28,10 +28,10 @@ use p3_support::packed::PackedValue;
 use std::alloc::Global;
 
 impl<P: PackedValue, PW: PackedValue, H, C, X, G, const N: usize> Scheme<P, PW, H, C, X, G, N> {
-    /// Whether a cap over matrices of these dimensions authenticates the rows of the matrix at place `matrix`, which
-    /// must be a place in `dimensions`: its rows are hashed into the cap's layer, or into a layer below it. For any
-    /// other matrix a verifier checks only the width of the row. Under the rule `Lowered` every matrix is
-    /// authenticated. The call does not allocate.
+    /// Whether a cap over matrices of these dimensions authenticates the rows of one of them: its rows are hashed into
+    /// the cap's layer, or into a layer below it. `matrix` is its position in `dimensions`, from 0, and must be below
+    /// their number. For any other matrix a verifier checks only the width of the row. Under the rule `Lowered` every
+    /// matrix is authenticated. The call does not allocate.
     ///
     /// # Errors
     ///
@@ -113,9 +113,9 @@ impl<
     /// [`verify_batch_pruned`](Self::verify_batch_pruned) takes it: a row set for each index, and one proof. Both are
     /// verified so, and the path of each query is restored. Then each query of the first opening is compared with each
     /// of the second as [`extract_collision`](Self::extract_collision) compares two openings. Returns the first pair
-    /// that gives a collision, in the order of the first list, then of the second: the place of each query in its list,
-    /// from 0, and the collision. Beside both verifications the call takes the time of four checks for each query of
-    /// the first opening and of two for each query of the second, and memory for the restored paths and for what two
+    /// that gives a collision, in the order of the first list, then of the second: the position of each query in its
+    /// list, from 0, and the collision. Beside both verifications the call takes the time of four checks for each query
+    /// of the first opening and of two for each query of the second, and memory for the restored paths and for what two
     /// checks share.
     ///
     /// # Errors

@@ -45,7 +45,7 @@ pub type MerkleTreeMmcs<P: PackedValue, PW: PackedValue, H, C, const N: usize, c
 impl<P: PackedValue, PW: PackedValue, H: Copy, C: Copy, X: Copy, G: Copy, const N: usize> Copy
     for Scheme<P, PW, H, C, X, G, N> {}
 
-/// Clones the hasher and the compression, and keeps the cap height and the rule.
+/// Clones the hasher and the compression, and copies the cap height and the rule.
 impl<P: PackedValue, PW: PackedValue, H: Clone, C: Clone, X: Clone, G: Clone, const N: usize> Clone
     for Scheme<P, PW, H, C, X, G, N> {
     ghost use Rattle.p3_merkle_mmcs.specs.Schemes.{cap_height_of, cap_rule_of, compression_of, hash_of};
@@ -190,7 +190,7 @@ impl<
         self.commit_checked(alloc, checked_matrices(alloc, matrices)?)
     }
 
-    /// Commits to matrices that are checked, as [`commit`](Self::commit) does.
+    /// Commits to matrices whose heights are checked already, as [`commit`](Self::commit) does.
     ///
     /// # Errors
     ///

@@ -29,22 +29,22 @@ impl<
     /// The cap of a list that is committed to in parts, from the caps of the parts: the cap that one
     /// [`commit`](Self::commit) of all rows returns. So several processes can commit to one list.
     ///
-    /// Part `k` has `heights[k]` rows of each matrix, from the row on where part `k - 1` ends, and `caps[k]` is the cap
-    /// that this scheme returns for it. All parts but the last have one height, a power of `N` in rows; the last part
-    /// has at least one row, and no more than the first. There is one cap for each height, and each part has as many
-    /// matrices as the others, of one height. No rows are read: that the caps are those of the parts is the caller's
-    /// word. One part makes its own cap.
+    /// Part `k` has the `heights[k]` rows of each matrix that follow those of part `k - 1`, and `caps[k]` is the cap
+    /// that this scheme's `commit` returns for it. All parts but the last have one height, a power of `N` in rows; the
+    /// last part has at least one row, and no more than the first. There is one cap for each height. All parts have
+    /// equally many matrices, and those of a part have one height. No rows are read: the caller must know that the caps
+    /// are those of the parts. The cap of a single part is returned as it is, padded.
     ///
-    /// Of each cap the digests of the nodes of its layer are read, as many as the height divided by `N` once for each
-    /// level below the cap and rounded up. What follows them may be anything, so a cap may lack its padding. The
-    /// digests after the nodes of the cap that is returned are default digests.
+    /// The call reads the digests of a cap's nodes alone: as many as the height of the part divided by `N` and rounded
+    /// up, once for each level below the cap. A cap may lack the padding after them, or have other digests there. The
+    /// cap that is returned has default digests there.
     ///
     /// # Errors
     ///
     /// The first of these that applies: `NoParts` if there are no heights; `WrongCapCount` if there are not as many
-    /// caps; `PartHeight` for the first part that has another height than it may have; `TooLarge` if the heights add up
-    /// to more than 2^62; `CapTooShort` for the first part whose cap has fewer digests than its layer has nodes.
-    /// `OutOfMemory` may come at any time.
+    /// caps; `PartHeight` for the first part whose height is not allowed; `TooLarge` if the heights add up to more than
+    /// 2^62; `CapTooShort` for the first part whose cap has fewer digests than its layer has nodes. `OutOfMemory` may
+    /// come at any time.
     pub fn cap_of_parts(
         &self,
         alloc: Global,

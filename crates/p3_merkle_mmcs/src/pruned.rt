@@ -33,7 +33,7 @@ use p3_support::opening::MerkleCap;
 use p3_support::packed::PackedValue;
 use std::alloc::Global;
 
-/// A pruned opening as the checker takes it.
+/// The pruned opening of these indices, row sets and digests, all borrowed.
 pub(crate) fn lent_pruned<'a, T, W: Copy, const D: usize>(
     indices: &'a [usize],
     rows: &'a [Vec<Vec<T>>],
@@ -51,9 +51,10 @@ pub(crate) fn lent_pruned<'a, T, W: Copy, const D: usize>(
 }
 
 impl<P: PackedValue, PW: PackedValue, H, C, X, G, const N: usize> Scheme<P, PW, H, C, X, G, N> {
-    /// The number of digests in a pruned proof of these indices, over matrices of these dimensions. The proof has a
-    /// digest for each node below the cap whose parent is above a queried leaf, unless the node is such a leaf or above
-    /// one. No smaller set of digests suffices.
+    /// The number of digests in a pruned proof of these indices, over matrices of these dimensions. The proof has the
+    /// digests that a verifier cannot compute from the rows: on each level below the cap, those of the children of
+    /// covered nodes that are not covered themselves. A node is covered if it is a queried leaf or above one. No
+    /// smaller set of digests suffices.
     ///
     /// The indices may be in any order, with repeats.
     ///
@@ -140,8 +141,8 @@ impl<
         })
     }
 
-    /// Opens several leaves as [`open_batch_pruned`](Self::open_batch_pruned) does, and returns the rows of each index
-    /// and the proof.
+    /// Opens several leaves as [`open_batch_pruned`](Self::open_batch_pruned) does, in the form of the trait `Mmcs`:
+    /// the row set of each index, in query order, and the proof.
     ///
     /// # Errors
     ///
@@ -233,7 +234,7 @@ impl<
             .check_pruned_opening(alloc, commit.roots(), &steps, cap_layer, opening)
     }
 
-    /// The same as [`verify_batch_pruned`](Self::verify_batch_pruned).
+    /// The same as [`verify_batch_pruned`](Self::verify_batch_pruned), by the name that the trait `Mmcs` has for it.
     ///
     /// # Errors
     ///

@@ -1,4 +1,4 @@
-//! Steps and positions of paths, level by level, and the matrices of a tree.
+//! The steps and positions on paths, level by level; and the matrices of a tree.
 
 ghost use Rattle.std.specs.Prelude.{◌≡◌, ◌≤◌, IfErr, IfOk, map, take, vec_len, None};
 ghost use Rattle.p3_support.specs.Batches.{heights_of};

@@ -1,4 +1,4 @@
-//! The scheme as one of the schemes that commit to matrices.
+//! The trait `Mmcs` for the scheme, so that callers can be generic in the scheme.
 
 ghost use Rattle.std.specs.Prelude.{◌≡◌, ◌<◌, ◌↔◌, All, IfErr, IfOk, IsOk, List, length, map};
 ghost use Rattle.p3_merkle_prover.specs.Parts.{layers_of, matrices_of, tree_batch};
@@ -34,8 +34,9 @@ use p3_support::opening::{BatchOpening, BatchOpeningRef, MerkleCap};
 use p3_support::packed::PackedValue;
 use std::alloc::Global;
 
-/// The scheme as an `Mmcs`. The prover keeps the tree, and the commitment is its cap. Each call is the scheme's own
-/// call of its name, with the same errors.
+/// The scheme as an `Mmcs`. The prover's data is the tree, and the commitment is its cap. Each call is the scheme's own
+/// call of its name, with the same errors: `self.open_batch` means the method of the type, which comes before the
+/// trait's.
 impl<
     P: PackedValue,
     PW: PackedValue,
@@ -260,7 +261,7 @@ fn lemma_index<F, X, G, M: Matrix<F>, const N: usize>(tree: &Tree<F, X, G, M, N>
     ensures { index < greatest (heights (shape (tree_batch tree.now))) }
 {}
 
-/// The same of several indices.
+/// States of several indices what [`lemma_index`] states of one.
 fn lemma_indices<F, X, G, M: Matrix<F>, const N: usize>(
     tree: &Tree<F, X, G, M, N>,
     indices: &[usize],

@@ -1,4 +1,4 @@
--- The parts of a tree that contracts speak of.
+-- The parts of a tree that contracts cite.
 use Rattle.std.specs.Prelude.{ℕ, List, map}
 use Rattle.p3_support.specs.declared.matrix.Matrix.{Ghosts}
 use Rattle.p3_merkle_core.specs.Nodes.{Batch}

@@ -27,13 +27,13 @@ pub struct CheckedMatrices<T, M: Matrix<T>> {
     pub matrices: Vec<M>,
     /// The dimensions of each.
     pub dimensions: Vec<Dimensions>,
-    /// The values of the matrices.
+    /// Marks the type of the values.
     pub item: PhantomData<T>,
     ghost own: { dimensions.items ≡ dimensions_in M.height_of M.width_of matrices.items },
     ghost lawful: { IsLawful (heights_of dimensions.items) },
 }
 
-/// Lists the dimensions of matrices and checks their heights.
+/// Checks the heights of matrices, and returns the matrices with their dimensions.
 ///
 /// # Errors
 ///
@@ -55,7 +55,8 @@ pub fn checked_matrices<T, M: Matrix<T> + Drop>(
     })
 }
 
-/// The tree over matrices. Its steps are walked here, and nowhere else in a commitment.
+/// Builds the tree over matrices whose heights are checked: computes its steps, then its layers. `N` must be a power of
+/// two from 2 to 2^62, and both packings must have equally many lanes, at least one.
 ///
 /// # Errors
 ///

@@ -1,7 +1,7 @@
-//! One layer of a tree, above the layer below it.
+//! Builds one layer of a tree from the layer below it.
 //!
-//! A layer is filled from the first slot to the last: lane by lane while there are enough slots, and by calls that take
-//! many messages.
+//! Slots are filled from the first to the last. Packed calls fill the first ones, one node in each lane; calls that
+//! take many messages fill the others.
 
 ghost use Rattle.std.specs.Prelude.{◌≡◌, ℕ, ◌+◌, ◌*◌, ◌<◌, ◌≤◌, All, IfOk, map, length, replicate, true};
 ghost use Rattle.std.specs.List.{range_with_len};
@@ -46,7 +46,7 @@ pub(crate) struct LayerOver<
     pub level: Level,
     /// The digests of the layer below.
     pub below: &'b [X],
-    /// The groups that the compression takes.
+    /// Marks the type of a group.
     pub item: PhantomData<G>,
     ghost lanes: { P.WIDTH ≡ PW.WIDTH },
     ghost children: { HasChildren N level (length below.now) },
@@ -65,7 +65,7 @@ pub(crate) type LayerBuilder<
     const D: usize,
 > = LayerOver<'a, 'b, P, PW, H, C, M, [PW::Value; D], [[PW::Value; D]; N], N>;
 
-/// Memory that the layers of a tree use in turn, from the leaves up. What it holds between two layers does not matter.
+/// Scratch memory that all layers of a tree share. What it holds between two layers does not matter.
 #[derive(Drop)]
 pub(crate) struct Buffers<T, X, G> {
     /// Rows, for calls that hash many.
@@ -87,7 +87,7 @@ impl<T, X, G> Buffers<T, X, G> {
     }
 }
 
-/// States that the children of `count` nodes from `first` on are in the layer below.
+/// States that the layer below has the children of the `count` nodes from `first` on.
 fn lemma_front<X>(arity: usize, level: &Level, below: &[X], first: usize, count: usize)
     requires children { HasChildren arity level.now (length below.now) }
     requires nodes { first + count ≤ level.now.raw_len }
@@ -107,7 +107,7 @@ impl<
 > LayerBuilder<'a, 'b, P, PW, H, C, M, N, D> {
     ghost use Rattle.p3_merkle_prover.specs.Inner.Slots.{slot_of};
 
-    /// The digests of the nodes from `first` on, lane by lane.
+    /// The digests of the `PW::WIDTH` nodes from `first` on, one in each lane.
     fn packed_digest(&self, first: usize) -> [PW; D]
         requires group { FitsInMemory (ArrayAt (ArrayAt PW.row D.row) N.row) }
         requires nodes { first + PW.WIDTH ≤ self.now.level.raw_len }
@@ -128,8 +128,8 @@ impl<
         compress_pairs_packed::<PW, C, N, D>(self.compress, folded, rows)
     }
 
-    /// Writes nodes into the first slots lane by lane, as many as fill all lanes, and returns how many these are. There
-    /// are at most as many slots as nodes.
+    /// Writes nodes into the first slots, one in each lane of a packed call, as long as a call fills all lanes. Returns
+    /// how many nodes it wrote. There are at most as many slots as nodes.
     fn write_packed(&self, slots: &mut [[PW::Value; D]]) -> usize
         requires { length slots.old ≤ self.now.level.raw_len }
         ensures fits { result ≤ length slots.old }

@@ -45,7 +45,7 @@ pub(crate) struct TreeOver<
     pub matrices: &'a [M],
     /// The steps of the tree.
     pub steps: &'a Steps<'a>,
-    /// How words are packed, and the groups that the compression takes.
+    /// Marks the packings of words and the type of a group.
     pub item: PhantomData<(P, PW, G)>,
     ghost lanes: { P.WIDTH ≡ PW.WIDTH },
     ghost build: { CanBuild (batch_of M.height_of M.width_of M.row_of N matrices.now) steps.now.dimensions.now },
@@ -90,7 +90,7 @@ fn default_digests<PW: PackedValue, const D: usize>(
     Ok(digests)
 }
 
-/// States that a layer of its whole length has the children of the nodes of the level above it.
+/// States that a layer, padding included, has the children of each node of the layer above it.
 fn lemma_children<X>(steps: &Steps<'_>, level: &Level, below: &[X])
     requires level { IsLevel (shape_of steps.now.arity steps.now.dimensions.now) level.now }
     requires slots { length below.now ≡ layer_len (shape_of steps.now.arity steps.now.dimensions.now) level.now.below }
@@ -109,8 +109,8 @@ impl<
 > TreeBuilder<'a, P, PW, H, C, M, N, D> {
     ghost use Rattle.p3_merkle_prover.specs.Inner.Slots.{batch_for, functions_for, layer_above};
 
-    /// The leaves: the digests of the rows of the tallest matrices, and default digests after them. `picked` and
-    /// `buffers` are memory that all layers use.
+    /// The leaves: the digests of the rows of the tallest matrices, then default digests. `picked` and `buffers` are
+    /// scratch memory that all layers share.
     fn leaf_layer(
         &self,
         alloc: Global,
@@ -133,7 +133,8 @@ impl<
         Ok(leaves)
     }
 
-    /// The layer above the layer `below`, at this level. `picked` and `buffers` are memory that all layers use.
+    /// The layer above `below`, with the shape that `level` gives. `picked` and `buffers` are scratch memory that all
+    /// layers share.
     fn next_layer(
         &self,
         alloc: Global,

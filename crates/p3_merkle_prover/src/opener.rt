@@ -1,4 +1,4 @@
-//! What a tree opens of one leaf: a row of each matrix, and the siblings on the leaf's path. And its cap.
+//! What is read from a tree: its cap, and for one leaf a row of each matrix and the siblings on the leaf's path.
 
 ghost use Rattle.std.specs.Prelude.{◌≡◌, ◌<◌, ◌≤◌, ◌++◌, length, map, slice_get, IfOk, None, Some};
 ghost use Rattle.std.specs.List.{remove};
@@ -21,21 +21,22 @@ use p3_support::matrix::Matrix;
 use p3_support::opening::MerkleCap;
 use std::alloc::{AllocError, Global};
 
-/// The steps of a tree, borrowed from it: nothing is walked again.
+/// The steps of a tree, from the leaves to the root. They are stored in the tree, and borrow its dimensions.
 pub fn steps_in<F, X, G, M: Matrix<F>, const N: usize>(tree: &Tree<F, X, G, M, N>) -> Steps<'_>
     ensures { shape_of result.arity result.dimensions.now ≡ shape (tree_batch tree.now) }
 {
     tree.steps.steps()
 }
 
-/// The height of the tallest matrix of a tree, in rows: how many leaves it has, padding aside.
+/// The height of the tallest matrix of a tree, in rows. It is the number of leaves, without padding.
 pub fn max_height<F, X, G, M: Matrix<F>, const N: usize>(tree: &Tree<F, X, G, M, N>) -> usize
     ensures { result ≡ greatest (heights (shape (tree_batch tree.now))) }
 {
     tree.steps.max_height
 }
 
-/// The layer of a tree, counted from the leaves, as a cap. It must be at most the number of levels.
+/// The cap that is layer `layer` of a tree, padding included. `layer` counts from the leaves, and must be at most the
+/// number of levels.
 ///
 /// # Errors
 ///
@@ -129,7 +130,7 @@ pub fn siblings_of_index<F, X: Copy, G, M: Matrix<F>, const N: usize>(
     Ok(siblings)
 }
 
-/// The words of a row.
+/// The words of row `row` of a matrix, which must have the row.
 fn words_of_row<F: Copy, M: Matrix<F>>(
     alloc: Global,
     matrix: &M,
@@ -144,7 +145,7 @@ fn words_of_row<F: Copy, M: Matrix<F>>(
         matrix.append_row(row, &mut words)?;
         return Ok(words);
     }
-    // A call that copies so few words takes longer.
+    // For so few words this loop takes less time than a call of `append_row`.
     for column in 0..width {
         words.push_reserved(matrix.get(row, column));
     }

@@ -26,8 +26,8 @@ use std::marker::PhantomData;
 /// A Merkle tree over matrices `M` of values `F`: digests `X` in layers, from the leaves to the root, where each node
 /// is a compression of a group `G` of `N` digests. [`MerkleTree`] is this tree at digests of words.
 ///
-/// The heights of its matrices are lawful, and its layers have the lengths that those heights give. It keeps the steps
-/// between them, so that no opening walks them again.
+/// The heights of its matrices are lawful, and its layers have the lengths that those heights give. It stores the steps
+/// between them, so that no opening computes them again.
 #[derive(Debug, Drop)]
 pub struct Tree<F, X, G, M: Matrix<F>, const N: usize> {
     pub(crate) matrices: Vec<M>,
@@ -56,10 +56,10 @@ impl<F: Copy, W: Copy, M: Matrix<F> + Drop, const N: usize, const D: usize> Merk
     ghost use Rattle.p3_support.specs.Shown.{digest_of_ref, roots_of};
     ghost use Rattle.p3_merkle_prover.specs.Parts.{layers_of, matrices_of, tree_batch};
 
-    /// The tree over matrices, which it keeps in input order. Leaf `i` is the digest of the rows `i` of the tallest
-    /// matrices, one after another. A node compresses its children; where matrices are injected at its layer, the
-    /// result is compressed with the digest of their rows. Default digests stand for missing children, for rows past
-    /// the end of a matrix, and in the slots that pad a layer.
+    /// Builds the tree over matrices, which it owns from then on, in input order. Leaf `i` is the digest of the rows
+    /// `i` of the tallest matrices, one after another. A node compresses its children; where matrices are injected at
+    /// its layer, the result is compressed with the digest of their rows. Default digests stand for missing children,
+    /// for rows past the end of a matrix, and in the slots that pad a layer.
     ///
     /// `N` must be a power of two from 2 to 2^62, and both packings must have equally many lanes, at least one. Each
     /// layer is allocated once.
@@ -169,7 +169,7 @@ impl<F: Copy, W: Copy, M: Matrix<F> + Clone + Drop, const N: usize, const D: usi
     }
 }
 
-/// Copies of some layers.
+/// A copy of each layer, in order.
 fn copies_of<X: Copy>(alloc: Global, layers: &[Vec<X>]) -> Result<Vec<Vec<X>>, AllocError>
     ensures { IfOk result (λ copies. map (λ nodes. nodes.items) copies.items ≡ map (λ nodes. nodes.items) layers.now) }
 {

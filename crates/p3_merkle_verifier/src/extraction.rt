@@ -59,7 +59,7 @@ impl<'a, T: Eq> RowPair<'a, T> {
     }
 }
 
-/// Both lists of digests at a place, if they differ.
+/// The digests that two checks compress at a place, if they differ.
 pub(crate) fn differing_digests<T, W: Copy + Eq, const D: usize>(
     alloc: Global,
     place: Place,
@@ -101,7 +101,7 @@ fn opened_words<T: Copy + Drop>(
     Ok(words)
 }
 
-/// Both lists of words at a place, if they differ.
+/// The words that two checks hash at a place, if they differ.
 fn differing_words<T: Copy + Eq + Drop, W, const D: usize>(
     alloc: Global,
     place: Place,
@@ -124,7 +124,7 @@ fn differing_words<T: Copy + Eq + Drop, W, const D: usize>(
     }))
 }
 
-/// The words that are hashed for the leaf, if the openings are of one leaf and differ there.
+/// The words that two checks hash at the leaf, if both openings are of one leaf and the words differ.
 fn leaf_difference<T: Copy + Eq + Drop, W: Copy + Eq, const D: usize>(
     alloc: Global,
     steps: &Steps<'_>,
@@ -147,8 +147,8 @@ fn leaf_difference<T: Copy + Eq + Drop, W: Copy + Eq, const D: usize>(
     differing_words(alloc, Place::Leaf, &rows)
 }
 
-/// The last place of a level above its group at which two checks differ: the pair, else the rows. `rows` are the rows
-/// of both openings at the layer above.
+/// The pairs of a level in two checks if these differ, else the rows if those do. `None` where both agree, or no matrix
+/// is injected above the level. `rows` are the rows of both openings at the layer above.
 fn differing_above<T: Copy + Eq + Drop, W: Copy + Eq, const N: usize, const D: usize>(
     alloc: Global,
     rows: &RowPair<'_, T>,

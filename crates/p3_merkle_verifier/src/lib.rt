@@ -1,8 +1,8 @@
 //! Checking openings of a tree, single and pruned, and extracting a collision from two of them.
 //!
-//! A check looks at the form of an opening first. Then it walks level by level up to the cap: over the leaf's path, or
-//! over the nodes that several indices cover, whose paths it can restore. It compares the digests there with the cap's
-//! entries. It borrows a hash and a compression, and knows no scheme.
+//! A check first verifies the form of an opening. Then it computes digests level by level up to the cap: those on the
+//! leaf's path, or those of all nodes above several leaves. It compares the last ones with the cap's entries. From a
+//! pruned opening it can restore the path of each index. It borrows a hash and a compression, and knows no scheme.
 #![tactic(auto)]
 
 mod agreement;

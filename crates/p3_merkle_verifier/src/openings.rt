@@ -23,7 +23,7 @@ pub struct OpeningRef<'a, T, X> {
     pub index: usize,
     /// One row of each matrix, in input order.
     pub rows: &'a [Vec<T>],
-    /// The siblings on the leaf's path, from the leaf's own up.
+    /// The siblings on the leaf's path, level by level from the leaves up.
     pub siblings: &'a [X],
 }
 
@@ -76,15 +76,15 @@ impl<'a, T> Iterator for OpenedRows<'a, T> {
     }
 }
 
-/// The rows that some queries opened of one matrix, themselves read as a matrix, so that they are hashed as the rows of
-/// a tree's layer are: row `j` is that of query `queries[j]`.
+/// The rows that some queries opened of one matrix, as a matrix of their own: row `j` is that of query `queries[j]`. So
+/// the code that hashes the rows of a tree's layer hashes these, too.
 #[derive(Drop)]
 pub struct OpenedMatrix<'a, T> {
     /// The row set of each query.
     pub sets: &'a [Vec<Vec<T>>],
     /// The queries whose rows these are.
     pub queries: &'a [usize],
-    /// The place of the matrix in a row set.
+    /// The position of the matrix in a row set.
     pub place: usize,
     /// How many elements a row has.
     pub width: usize,
@@ -140,11 +140,12 @@ pub struct PrunedOpeningRef<'a, T, X> {
     pub indices: &'a [usize],
     /// The row set of each query: one row of each matrix, in input order.
     pub sets: &'a [Vec<Vec<T>>],
-    /// The digests that were sent.
+    /// The digests of the proof, in wire order.
     pub sent: &'a [X],
 }
 
-/// A pruned opening that restores, and the tree that it is of: its form is right, and its rows agree.
+/// A pruned opening from which the path of each query can be restored, with the steps of its tree. Its form is right,
+/// and its rows agree.
 #[derive(Drop)]
 pub struct RestorableOpening<'a, T, X> {
     /// The steps of the tree.
@@ -153,7 +154,7 @@ pub struct RestorableOpening<'a, T, X> {
     pub cap_layer: usize,
     /// The opening.
     pub opening: PrunedOpeningRef<'a, T, X>,
-    /// Its leaves, with a query of each.
+    /// Its distinct indices, with the first query of each.
     pub leaves: DistinctQueries,
     ghost distinct: { AreDistinctOf leaves opening.indices.now },
     ghost queried: { CanQuery (shape_of steps.now.arity steps.now.dimensions.now) opening.indices.now cap_layer },

@@ -25,7 +25,7 @@ use p3_support::hasher::CryptographicHasher;
 use p3_support::matrix::Dimensions;
 use p3_support::packed::PackedValue;
 
-/// How far the check of an opening is on the path from the leaf.
+/// The node that the check of an opening has reached on the path from the leaf, with its digest.
 #[derive(Drop)]
 pub struct Progress<X> {
     /// The exponent of the node's layer.
@@ -39,7 +39,8 @@ pub struct Progress<X> {
 }
 
 impl<W: Copy, const D: usize> Progress<[W; D]> {
-    /// The group of the next step: the siblings with this node's digest at its position, then default digests.
+    /// The group that the next step compresses: the siblings with this node's digest at its position, then default
+    /// digests. `siblings` are all of the path.
     fn group<const N: usize>(
         &self,
         default_digest: [W; D],
@@ -57,7 +58,7 @@ impl<W: Copy, const D: usize> Progress<[W; D]> {
     }
 }
 
-/// One level of the check of an opening: what it compresses, and how far the check is above it.
+/// One level of the check of an opening: what it compresses, and the node that it reaches.
 #[derive(Drop)]
 pub struct ComputedLevel<X, G> {
     /// The level, counted from the leaves.
@@ -66,11 +67,11 @@ pub struct ComputedLevel<X, G> {
     pub group: G,
     /// The digests of the group and of the rows, if matrices are injected at the layer above.
     pub pair: Option<G>,
-    /// How far the check is above the level.
+    /// The node above the level.
     pub above: Progress<X>,
 }
 
-/// States that an opening with its siblings up to the cap has those of the step of a level below it.
+/// States that an opening with all siblings up to the cap has those of each level below the cap.
 fn lemma_step<X>(
     steps: &Steps<'_>,
     cap_layer: usize,
@@ -86,8 +87,9 @@ fn lemma_step<X>(
     ensures { CanStep steps.now.arity step used (length siblings.now) }
 {}
 
-/// Checks that an opening of the leaf `index` has the form that a tree of these steps gives it: one row for each
-/// matrix, of its width, and the siblings of the levels below the cap.
+/// Checks the form of an opening of the leaf `index`, before anything is hashed: one row for each matrix, of its width;
+/// heights that a tree can have; as many siblings as the levels below the cap need; and an index below the tallest
+/// height.
 ///
 /// The arity must be a power of two from 2 to 2^62, and `cap_layer` at most the number of levels.
 fn check_form<T>(
@@ -105,6 +107,7 @@ fn check_form<T>(
         num_siblings) }
 {
     let dimensions = steps.dimensions;
+    // The number of rows is checked ahead of the heights, and their widths after the siblings.
     if rows.len() != dimensions.len() {
         return Err(MerkleTreeError::WrongBatchSize {
             expected: dimensions.len(),
@@ -153,7 +156,7 @@ impl<
         })
     }
 
-    /// Starts the check of an opening, at the leaf.
+    /// The start of the check of an opening: the leaf, with the digest of its rows.
     pub(crate) fn leaf(
         &self,
         steps: &Steps<'_>,
@@ -172,9 +175,9 @@ impl<
         }
     }
 
-    /// Checks one level, from the layer that the check has reached to the one above. The opening must have its siblings
-    /// up to the cap.
-    // A call passes the whole level through memory, and a verification needs only `above`.
+    /// Computes one level of the check of an opening, from the node that it has reached to the node's parent. The
+    /// opening must have all siblings up to the cap.
+    // A call that is not inlined writes the whole level to memory, and a verification needs only `above`.
     #[inline(always)]
     pub(crate) fn computed_level(
         &self,

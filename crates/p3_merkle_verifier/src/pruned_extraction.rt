@@ -25,19 +25,19 @@ use p3_support::hasher::CryptographicHasher;
 use p3_support::packed::PackedValue;
 use std::alloc::{AllocError, Global};
 
-/// The queries of a pruned opening, each to be read as an opening of its own.
+/// The queries of a pruned opening, each of which can be read as an opening of its own.
 #[derive(Drop)]
 struct RestoredQueries<'a, T, X> {
     /// The rows of each query.
     pub sets: &'a [Vec<Vec<T>>],
-    /// The path of each, with its index.
+    /// The restored path of each query, with its index.
     pub paths: Vec<AuthPath<X>>,
-    /// The leaves of all queries, and a query of each.
+    /// The distinct indices of the queries, with the first query of each.
     pub leaves: DistinctQueries,
 }
 
 impl<'a, T, W, const D: usize> RestoredQueries<'a, T, [W; D]> {
-    /// The opening of query `k`.
+    /// Query `k` as an opening of its own, with its restored path.
     fn opening(&self, k: usize) -> OpeningRef<'_, T, [W; D]>
         requires row_set { k < length self.now.sets.now }
         requires path { k < length self.now.paths.items }
@@ -51,8 +51,8 @@ impl<'a, T, W, const D: usize> RestoredQueries<'a, T, [W; D]> {
         }
     }
 
-    /// Two queries, by their places, whose indices are nearest to this one: between `index` and the index of each query
-    /// lies that of one of them. They are one query if `index` is queried, or if no query is on one of its sides.
+    /// The positions of the queries with the nearest indices below and above `index`. They are one query if `index` is
+    /// queried itself, or if all queries are on one side of it. There must be a query.
     fn neighbours(&self, index: usize) -> (usize, usize)
         requires leaves { HasLeaves self.now }
         requires some { 0 < length self.now.paths.items }
@@ -115,7 +115,7 @@ impl<
         })
     }
 
-    /// Whether the check of an opening agrees with that of a query, given by its place, at every place that both share.
+    /// Whether the check of an opening agrees with that of the query at position `place`, wherever both share a place.
     fn agrees_with(
         &self,
         steps: &Steps<'_>,
@@ -137,9 +137,9 @@ impl<
         self.agree(steps, cap_layer, first, second)
     }
 
-    /// Whether the check of an opening agrees with that of each query at every place that both share. The checks of the
-    /// queries agree among themselves, so that it is compared with those of the nearest indices on both sides alone:
-    /// they share each node that any query shares with it.
+    /// Whether the check of an opening agrees with that of each query, wherever both share a place. Only the queries of
+    /// the nearest indices below and above are compared: the opening's path shares with one of them each node that it
+    /// shares with any query, and the checks of the queries agree among themselves.
     fn agrees_with_all(
         &self,
         steps: &Steps<'_>,
@@ -168,8 +168,8 @@ impl<
         above == below || self.agrees_with(steps, cap_layer, first, queries, above)
     }
 
-    /// The first of some queries whose check differs from that of an opening at a place that both share, by its place
-    /// among them, with the last such place.
+    /// The first query whose check differs from that of an opening: its position among the queries, and both inputs at
+    /// the last place that both checks share and at which they differ.
     fn differing_query(
         &self,
         alloc: Global,
@@ -206,8 +206,8 @@ impl<
         Ok(None)
     }
 
-    /// The first pair of queries, by the first list, then by the second, whose checks differ at a place that both
-    /// share: the place of each in its list, with the last such place.
+    /// The first pair of queries whose checks differ, in the order of the first list, then of the second: the position
+    /// of each query in its list, and both inputs at the last place that both checks share and at which they differ.
     fn differing_pair(
         &self,
         alloc: Global,
@@ -239,12 +239,12 @@ impl<
     }
 
     /// Extracts a collision from two pruned openings under the roots of a cap: the first pair of queries, in the order
-    /// of the first list, then of the second, whose checks differ at a place that both share. Returns the place of each
-    /// query in its list, from 0, and both inputs at the last such place; or `None` if there is no such pair.
+    /// of the first list, then of the second, whose checks differ at a place that both share. Returns the position of
+    /// each query in its list, from 0, and both inputs at the last such place; or `None` if there is no such pair.
     ///
     /// `N` must be a power of two from 2 to 2^62 and the arity of `steps`, and the cap's layer at most the number of
-    /// levels. It takes the time of four checks for each query of the first opening, and for one of them that of two
-    /// checks for each query of the second.
+    /// levels. Beside both verifications it takes the time of at most four checks for each query of the first opening,
+    /// and of two for each query of the second.
     ///
     /// # Errors
     ///

@@ -35,7 +35,7 @@ functions_of {D = D} {q = q} {h = h} {c = c} checker =
 abbrev pub opening_in : {T W : Type 0} → OpeningRef T (List W) → Opening T W
 opening_in opening = opening_of opening.index (row_lists opening.rows.now) opening.siblings.now
 
--- so many siblings are left that a step can take its own
+-- enough siblings are left for a step
 pub record CanStep (arity step used count : ℕ) : Type 0 where
   pub wide : 2 ≤ step
   pub narrow : step ≤ arity
@@ -60,7 +60,7 @@ pub record IsProgress {T W : Type 0} (f : Functions T W) (s : Shape) (o : Openin
   pub taken : progress.used ≡ siblings_below s l
   pub reached : progress.digest ≡ path_digest f s o l
 
--- level l of the check of an opening: it has the level's inputs, and above it the check stands at the next layer
+-- level l of the check of an opening: it has the level's inputs, and reaches the next layer
 pub record IsLevelOfCheck {T W : Type 0} (f : Functions T W) (s : Shape) (o : Opening T W) (l : ℕ)
     (level : ComputedLevel (List W) (List (List W))) : Type 0 where
   pub at_level : level.level ≡ l

@@ -5,11 +5,11 @@ use Rattle.std.specs.List.{range_with_len}
 use Rattle.p3_merkle_core.specs.Checks.{words_of_exponent}
 use Rattle.p3_merkle_core.specs.Nodes.{Functions, padded}
 
--- the group k of some children, where a group has so many of them, with default digests up to n
+-- group k of some children, step of them in each, with default digests up to n
 abbrev pub child_group : {W : Type 0} → ℕ → List W → ℕ → List (List W) → ℕ → List (List W)
 child_group n default_digest step children k = padded n default_digest (take step (drop (step * k) children))
 
--- its digest
+-- the digest of this group
 abbrev pub group_digest : {W : Type 0} → (List (List W) → List W) → ℕ → List W → ℕ → List (List W) → ℕ → List W
 group_digest compression n default_digest step children k = compression (child_group n default_digest step children k)
 
@@ -17,7 +17,7 @@ group_digest compression n default_digest step children k = compression (child_g
 abbrev pub digest_pair : {W : Type 0} → ℕ → List W → List W × List W → List (List W)
 digest_pair n default_digest pair = padded n default_digest (pair.0 ∷ pair.1 ∷ [])
 
--- their digest
+-- the digest of this pair
 abbrev pub pair_digest : {W : Type 0} → (List (List W) → List W) → ℕ → List W → List W × List W → List W
 pair_digest compression n default_digest pair = compression (digest_pair n default_digest pair)
 

@@ -74,7 +74,7 @@ AgreesWithAll row_eq digest_eq f s cap_layer o queries =
     (k : ℕ) → k < length queries.paths.items →
     query_difference row_eq digest_eq f s cap_layer o (query_in queries k) ≡ None
 
--- the first place below n at which d answers
+-- the first number below n for which d gives a value
 abbrev pub first_place : {X : Type 0} → (ℕ → Option X) → ℕ → Option (ℕ × X)
 first_place d n = first_of (λ b. option_map (λ x. (b, x)) (d b)) (range_with_len 0 n)
 

@@ -49,7 +49,7 @@ pub record AreLeaves {X : Type 0} (s : Shape) (indices : List ℕ) (leaves : Cov
   pub coverage : IsCoveredAt s indices 0 leaves
   pub childless : leaves.step ≡ 0
 
--- the layer above layer l, with its nodes' children, where some digests are left of those that were sent
+-- the layer above layer l, with its nodes' children, some of which are digests of the proof
 pub record IsLayerAbove {X : Type 0} (s : Shape) (indices : List ℕ) (l : ℕ) (below : CoveredLayer X)
     (digests sent : List X) (above : CoveredLayer X) : Type 0 where
   pub step_is : above.step ≡ step s l
