@@ -21,13 +21,13 @@ pub fn leaf_hashes(alloc: Global, entries: &[&[u8]]) -> Result<Vec<[u8; 32]>, Al
     ensures { IfOk result (λ hashes. hashes.items ≡ map (λ entry. leaf_hash sha256 entry.now) entries.now) }
 {
     // The length and the index of each entry.
-    let mut places = Vec::with_capacity(alloc, entries.len())?;
+    let mut by_length = Vec::with_capacity(alloc, entries.len())?;
     for index in 0..entries.len() {
-        places.push((entries[index].len(), index))?;
+        by_length.push((entries[index].len(), index))?;
     }
-    places.sort_unstable();
+    by_length.sort_unstable();
     let mut hashes = vec![in alloc; [0; 32]; entries.len()]?;
-    let mut rest = places.as_slice();
+    let mut rest = by_length.as_slice();
     while !rest.is_empty() {
         let (batch, longer) = rest.split_at(batch_len(rest));
         hash_batch(alloc, entries, batch, &mut hashes)?;
@@ -36,25 +36,26 @@ pub fn leaf_hashes(alloc: Global, entries: &[&[u8]]) -> Result<Vec<[u8; 32]>, Al
     Ok(hashes)
 }
 
-/// How many of the first places are hashed together: those with the first one's length, up to a limit.
-fn batch_len(places: &[(usize, usize)]) -> usize
-    requires { 0 < length places.now }
+/// How many of the first entries, by their length and index, are hashed together: those of the first one's length, up
+/// to a limit.
+fn batch_len(by_length: &[(usize, usize)]) -> usize
+    requires { 0 < length by_length.now }
     ensures some { 0 < result }
-    ensures within { result ≤ length places.now }
+    ensures within { result ≤ length by_length.now }
     ensures alike { (k : ℕ) (d : ℕ × ℕ) → k < result →
-        (slice_index_or places.now k d).0 ≡ (slice_index_or places.now 0 (0, 0)).0 }
+        (slice_index_or by_length.now k d).0 ≡ (slice_index_or by_length.now 0 (0, 0)).0 }
 {
-    let length = places[0].0;
+    let length = by_length[0].0;
     let most = (BATCH_BYTES / length.max(1)).max(8);
-    for (k, place) in places.iter().enumerate() {
-        if k == most || place.0 != length {
+    for (k, entry) in by_length.iter().enumerate() {
+        if k == most || entry.0 != length {
             return k;
         }
     }
-    places.len()
+    by_length.len()
 }
 
-/// Writes the leaf hashes of the entries of one length at these places.
+/// Writes the leaf hashes of entries of one length, which have these lengths and indices.
 fn hash_batch(
     alloc: Global,
     entries: &[&[u8]],
@@ -64,20 +65,20 @@ fn hash_batch(
     requires alike { (length : ℕ) × All (IsOfLength (map (λ entry. entry.now) entries.now) length) batch.now }
     requires room { length hashes.old ≡ length entries.now }
     ensures hashed { OnOk result
-        (All (λ place. IsHashed (map (λ entry. entry.now) entries.now) hashes.new place.1) batch.now) }
+        (All (λ entry. IsHashed (map (λ e. e.now) entries.now) hashes.new entry.1) batch.now) }
     ensures kept { OnOk result ((index : ℕ) → IsHashed (map (λ entry. entry.now) entries.now) hashes.old index →
         IsHashed (map (λ entry. entry.now) entries.now) hashes.new index) }
 {
     // The inputs of the hashes, each a byte 0 and the entry, one after another.
     let mut inputs = Vec::new(alloc);
-    for place in batch {
+    for (_, index) in batch {
         inputs.push(0)?;
-        inputs.extend_from_slice(entries[place.1])?;
+        inputs.extend_from_slice(entries[*index])?;
     }
     let mut values = vec![in alloc; [0; 32]; batch.len()]?;
     Sha256RowsInEights.hash_many(&inputs, &mut values);
-    for (k, place) in batch.iter().enumerate() {
-        hashes[place.1] = values[k];
+    for (k, (_, index)) in batch.iter().enumerate() {
+        hashes[*index] = values[k];
     }
     Ok(())
 }

@@ -13,9 +13,9 @@ hash_many-requires c =
     let (len, alike) = c.requires.alike in
     let many : length c.deref_mut.result.now ≡ length batch =
     ap length c.deref_mut.ensures.value ∙ omega (arith, c.in_ok-values.ensures.len, c.in_ok-values.values.ok) in
-    let all = c.deref.ensures.value ∙ c.loop-place.invariant
+    let all = c.deref.ensures.value ∙ c.loop-index.invariant
     ∙ ap (λ (places : List (ℕ × ℕ)). flat_map (λ x. x) (map (leaf_input E) places))
-    (take_all c.loop-place.place-index batch (omega (arith, c.loop-place-test.false))) in
+    (take_all c.loop-index.index-index batch (omega (arith, c.loop-index-test.false))) in
     (suc len, length-batch E len (length c.deref_mut.result.now) batch c.deref.result.now alike all many)
 
 pub loop-k-preserved : goal.loop-k-preserved
@@ -26,9 +26,9 @@ loop-k-preserved c =
     let n = length c.deref_mut.result.now in
     let many : n ≡ length batch =
     ap length c.deref_mut.ensures.value ∙ omega (arith, c.in_ok-values.ensures.len, c.in_ok-values.values.ok) in
-    let all = c.deref.ensures.value ∙ c.loop-place.invariant
+    let all = c.deref.ensures.value ∙ c.loop-index.invariant
     ∙ ap (λ (places : List (ℕ × ℕ)). flat_map (λ x. x) (map (leaf_input E) places))
-    (take_all c.loop-place.place-index batch (omega (arith, c.loop-place-test.false))) in
+    (take_all c.loop-index.index-index batch (omega (arith, c.loop-index-test.false))) in
     let out = c.hash_many.new.out in
     let kept : length out ≡ c.in_ok-values.values.len =
     omega (arith, c.hash_many.auto.out, ap length c.deref_mut.ensures.value, c.in_ok-values.values.ok) in

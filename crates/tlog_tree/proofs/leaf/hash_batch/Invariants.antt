@@ -4,10 +4,10 @@ use Rattle.tlog_tree.specs.Inner.Leaves.{IsHashed}
 use Rattle.tlog_tree.proofs.Leaves.{leaf_input}
 use Rattle.tlog_tree.proofs.leaf.hash_batch.Given as goal
 
-abbrev pub invariant-loop-place : goal.invariant-loop-place
-invariant-loop-place l =
+abbrev pub invariant-loop-index : goal.invariant-loop-index
+invariant-loop-index l =
     l.inputs.items
-    ≡ flat_map (λ x. x) (map (leaf_input (map (λ entry. entry.now) l.entries)) (take l.place-index l.batch))
+    ≡ flat_map (λ x. x) (map (leaf_input (map (λ entry. entry.now) l.entries)) (take l.index-index l.batch))
 
 abbrev pub invariant-loop-k : goal.invariant-loop-k
 invariant-loop-k l = record {

@@ -19,7 +19,7 @@ loop-index-preserved c =
     let i = c.loop-index.index in
     let none : Bor (List ℕ) = record { ref_ptr = (0, 0); now = [] } in
     c.in_ok-push.ensures.items
-    ∙ one_more_place E i c.loop-index.places.items (get_or c.args.entries.now i none).now
+    ∙ one_more_place E i c.loop-index.by_length.items (get_or c.args.entries.now i none).now
     (sym (get_or-map bytes_of c.args.entries.now i none [] c.loop-index-test.true)) c.loop-index.invariant
 
 pub loop-rest-init : goal.loop-rest-init
@@ -27,7 +27,7 @@ loop-rest-init c =
     let E = map bytes_of c.args.entries.now in
     let sorted = c.sort_unstable.new.self.items in
     let end : c.loop-index.index ≡ length E = omega (arith, c.loop-index-test.false, length-map c.args.entries.now bytes_of) in
-    let moved = moved_places E c.loop-index.places.items sorted c.loop-index.index end c.loop-index.invariant
+    let moved = moved_places E c.loop-index.by_length.items sorted c.loop-index.index end c.loop-index.invariant
     c.sort_unstable.ensures.permutation in
     record {
       room = omega (arith, c.in_ok-hashes.ensures.len, c.in_ok-hashes.hashes.ok);
@@ -89,7 +89,7 @@ returns c =
     sym (append-nil done) ∙ ap (λ (rest : List (ℕ × ℕ)). done ++ rest) (sym (nil_from_length c.loop-rest.rest.now none))
     ∙ sym front ∙ c.as_slice-rest.ensures.value in
     let end : c.loop-index.index ≡ length E = omega (arith, c.loop-index-test.false, length-map c.args.entries.now bytes_of) in
-    let moved = moved_places E c.loop-index.places.items sorted c.loop-index.index end c.loop-index.invariant
+    let moved = moved_places E c.loop-index.by_length.items sorted c.loop-index.index end c.loop-index.invariant
     c.sort_unstable.ensures.permutation in
     let room = c.loop-rest.invariant.room ∙ sym (length-map c.args.entries.now bytes_of) in
     all_hashed E c.loop-rest.hashes.items sorted moved room
