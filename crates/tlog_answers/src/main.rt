@@ -129,10 +129,12 @@ fn answer_line<W: Write>(alloc: Global, log: &mut Log, line: &str, out: &mut W) 
     let kind = words.next().unwrap_or_default();
     let number: usize = words.next().unwrap_or("0").parse()?;
     log.grow(alloc, size)?;
+    let mut text = String::new(alloc);
     for digest in &log.answer(alloc, size, kind, number)? {
-        writeln!(out, "{}", hex::encode(alloc, digest)?)?;
+        text.push_str(&hex::encode(alloc, digest)?)?;
+        text.push('\n')?;
     }
-    writeln!(out)?;
+    writeln!(out, "{text}")?;
     Ok(())
 }
 
