@@ -1,7 +1,7 @@
 """Runs a program with each of its requests for memory refused in turn, alone and with all later ones:
-python3 program.py mmcs|fohlazu|tlog_answers PROGRAM LIBRARY. It prints a line for each command and one for all. The status is 1
-where a run did anything else than answer as with ample memory, or say that memory ran out, alone and as the program
-does."""
+python3 program.py mmcs|fohlazu|tlog_answers PROGRAM LIBRARY. It prints a line for each command and one for all. The
+status is 1 where a run did anything else than answer as with ample memory, or say that memory ran out, alone and as the
+program does."""
 
 import os
 import subprocess
@@ -21,7 +21,9 @@ FILES = {"lines": b"one\ntwo\n\n" + 100 * b"x" + b"\nlast", "blocks": bytes(rang
 # Their first three entries, each as a part of a file.
 PARTS = {"lines": [b"one\n", b"two\n", b"\n"], "blocks": [bytes(range(i, i + 8)) for i in (0, 8, 16)]}
 # Questions about logs, which are answered by recursion, by a tree that grows and by composed proofs.
-QUESTIONS = [["0", "root"], ["11", "root"], ["11", "inclusion", "2"], ["11", "consistency", "3"], ["9", "consistency", "8"]]
+QUESTIONS = [
+    text.split() for text in ("0 root", "11 root", "11 inclusion 2", "11 consistency 3", "9 consistency 8")
+]
 SEALED = {"lines": ["--label", "a"], "blocks": ["--blocks", "8", "--cap-height", "1"]}
 # What a run says that has no memory, and its status.
 OUT_OF_MEMORY = {

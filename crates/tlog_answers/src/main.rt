@@ -2,8 +2,8 @@
 //! OLD-SIZE`. The entries are the decimal numbers from 1 to SIZE. An answer has the digests of the root or of the
 //! proof, a line each, and a blank line. A line that is no question ends the program.
 //!
-//! Each answer is worked out from the entries by the standard's recursion, and by a tree that grows in pieces; a proof of
-//! consistency also out of two, by way of a size between. The program ends if these differ.
+//! Each answer is computed from the entries by the standard's recursion, and by a tree that grows in pieces; a proof of
+//! consistency also from two, by way of a size between. If these differ, the program ends.
 #![tactic(auto)]
 
 use anyhow::{Result, bail, ensure};

@@ -14,8 +14,8 @@ use Rattle.tlog.proofs.Splits.{split_is}
 use Rattle.tlog_collisions.specs.Inner.Lifts.{Lifts}
 use Rattle.tlog_collisions.specs.Inner.Nodes.{HashFixesChildren}
 use Rattle.tlog_collisions.proofs.Halves.{no_more}
-use Rattle.tlog_collisions.proofs.Sides.{IsWhole, at_layer, climb_left, climb_right, in_right, left_of, more_nodes, next}
-use Rattle.tlog_collisions.proofs.Sides.{right_of, room, same_split, whole_within}
+use Rattle.tlog_collisions.proofs.Sides.{IsWhole, at_layer, climb_left, climb_right, in_right, left_of, more_nodes}
+use Rattle.tlog_collisions.proofs.Sides.{next, right_of, room, same_split, whole_within}
 
 -- ---- where digests do not lead to a root
 
@@ -142,8 +142,8 @@ pub lift_beside_left : (hash : Hash) (size new t node : ℕ) (value : List ℕ) 
     ((first left : List ℕ) → climb_end hash t node (split new) value below ≡ Some (0, first, left) →
     HashFixesChildren hash left beside last old × (out ≡ below ++ right ∷ [])) →
     Lifts hash size new t node value digests u edge start growth out
-lift_beside_left hash size new t node value digests below beside u edge start growth rest last old right out c more small
-    place is grows right_end step o m w one other =
+lift_beside_left hash size new t node value digests below beside u edge start growth rest last old right out c more
+    small place is grows right_end step o m w one other =
     let place_old : node < split size / 2 ^ t = rw c.same place in
     let a = (climb_left hash t node size value below beside o m c.low (omega arith) place_old).0 (rw is at one) in
     let left_end : climb_end hash t node (split new) value below ≡ Some (0, o, a.0) = rw c.same at a.1 in

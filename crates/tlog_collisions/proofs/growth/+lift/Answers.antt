@@ -6,7 +6,8 @@ use Rattle.tlog_collisions.proofs.growth.+lift.Goals as goal
 
 pub returns-then-size-new_size-clause-lifted : goal.returns-then-size-new_size-clause-lifted
 returns-then-size-new_size-clause-lifted g t c =
-    rw c.in_ok-from_slice.ensures.items (lift_same g.H.LogHash.hash c.args.size c.args.new_size c.args.climb.now.layer c.args.climb.now.node
+    rw c.in_ok-from_slice.ensures.items (lift_same g.H.LogHash.hash c.args.size c.args.new_size
+    c.args.climb.now.layer c.args.climb.now.node
     c.args.climb.now.value.now c.args.climb.now.digests.now
     c.args.growth.now.layer c.args.growth.now.node
     c.args.growth.now.value.now c.args.growth.now.digests.now c.if-size-new_size.true c.requires.last)
@@ -22,7 +23,8 @@ returns-in_default-clause-lifted g t c =
 pub returns-then-size-middle-clause-lifted : goal.returns-then-size-middle-clause-lifted
 returns-then-size-middle-clause-lifted g t c =
     let e = c.split-middle.ensures.value in
-    rw c.in_ok-push.ensures.items (lift_left g.H.LogHash.hash c.args.size c.args.new_size c.args.climb.now.layer c.args.climb.now.node
+    rw c.in_ok-push.ensures.items (lift_left g.H.LogHash.hash c.args.size c.args.new_size
+    c.args.climb.now.layer c.args.climb.now.node
     c.args.climb.now.value.now c.args.climb.now.digests.now
     c.args.growth.now.layer c.args.growth.now.node
     c.args.growth.now.value.now c.args.growth.now.digests.now _ _ _ c.requires.whole c.requires.last
@@ -110,7 +112,8 @@ returns-clause-lifted g t c =
     let e = c.split-middle.ensures.value in
     let x = across c.args.size c.args.new_size c.args.climb.now.layer c.args.climb.now.node c.args.growth.now.layer
     c.args.growth.now.node c.requires.whole c.requires.last (omega arith) (omega (arith, e)) in
-    rw c.in_ok-push-2.ensures.items (lift_right g.H.LogHash.hash c.args.size c.args.new_size c.args.climb.now.layer c.args.climb.now.node
+    rw c.in_ok-push-2.ensures.items (lift_right g.H.LogHash.hash c.args.size c.args.new_size
+    c.args.climb.now.layer c.args.climb.now.node
     c.args.climb.now.value.now c.args.climb.now.digests.now _ _
     c.args.growth.now.layer c.args.growth.now.node
     c.args.growth.now.value.now c.args.growth.now.digests.now _ _ _ _ _ _ _ x (omega arith)

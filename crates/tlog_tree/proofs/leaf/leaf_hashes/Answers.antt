@@ -26,7 +26,8 @@ pub loop-rest-init : goal.loop-rest-init
 loop-rest-init c =
     let E = map bytes_of c.args.entries.now in
     let sorted = c.sort_unstable.new.self.items in
-    let end : c.loop-index.index ≡ length E = omega (arith, c.loop-index-test.false, length-map c.args.entries.now bytes_of) in
+    let end : c.loop-index.index ≡ length E =
+    omega (arith, c.loop-index-test.false, length-map c.args.entries.now bytes_of) in
     let moved = moved_places E c.loop-index.by_length.items sorted c.loop-index.index end c.loop-index.invariant
     c.sort_unstable.ensures.permutation in
     record {
@@ -88,7 +89,8 @@ returns c =
     let all : done ≡ sorted =
     sym (append-nil done) ∙ ap (λ (rest : List (ℕ × ℕ)). done ++ rest) (sym (nil_from_length c.loop-rest.rest.now none))
     ∙ sym front ∙ c.as_slice-rest.ensures.value in
-    let end : c.loop-index.index ≡ length E = omega (arith, c.loop-index-test.false, length-map c.args.entries.now bytes_of) in
+    let end : c.loop-index.index ≡ length E =
+    omega (arith, c.loop-index-test.false, length-map c.args.entries.now bytes_of) in
     let moved = moved_places E c.loop-index.by_length.items sorted c.loop-index.index end c.loop-index.invariant
     c.sort_unstable.ensures.permutation in
     let room = c.loop-rest.invariant.room ∙ sym (length-map c.args.entries.now bytes_of) in

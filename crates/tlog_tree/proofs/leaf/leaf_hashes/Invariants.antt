@@ -5,7 +5,8 @@ use Rattle.tlog_tree.proofs.Leaves.{place_of}
 use Rattle.tlog_tree.proofs.leaf.leaf_hashes.Given as goal
 
 abbrev pub invariant-loop-index : goal.invariant-loop-index
-invariant-loop-index l = l.by_length.items ≡ map (place_of (map (λ entry. entry.now) l.entries)) (range_with_len 0 l.index)
+invariant-loop-index l =
+    l.by_length.items ≡ map (place_of (map (λ entry. entry.now) l.entries)) (range_with_len 0 l.index)
 
 abbrev pub invariant-loop-rest : goal.invariant-loop-rest
 invariant-loop-rest l = record {
