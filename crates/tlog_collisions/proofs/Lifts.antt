@@ -14,8 +14,8 @@ use Rattle.tlog.proofs.Splits.{split_is}
 use Rattle.tlog_collisions.specs.Inner.Lifts.{Lifts}
 use Rattle.tlog_collisions.specs.Inner.Nodes.{HashFixesChildren}
 use Rattle.tlog_collisions.proofs.Halves.{no_more}
-use Rattle.tlog_collisions.proofs.Sides.{IsWhole, at_layer, climb_left, climb_right, in_right, left_of, more_nodes, next}
-use Rattle.tlog_collisions.proofs.Sides.{right_of, room, same_split, whole_within}
+use Rattle.tlog_collisions.proofs.Sides.{IsWhole, at_layer, climb_left, climb_right, in_right, left_of, more_nodes}
+use Rattle.tlog_collisions.proofs.Sides.{next, right_of, room, same_split, whole_within}
 
 -- ---- where digests do not lead to a root
 
@@ -134,29 +134,30 @@ across size new t node u edge whole ends more past =
     }
 
 -- the node in the left half: the digest beside it becomes the new root of the right half
-pub lift_beside : (hash : Hash) (size new t node : ℕ) (value : List ℕ) (digests below : List (List ℕ)) (beside : List ℕ)
-    (u edge : ℕ) (start : List ℕ) (growth rest : List (List ℕ)) (last : List ℕ) (x left old right : List ℕ) →
-    Across size new t node u edge → size < new → new ≤ 2 ^ 62 → node < split new / 2 ^ t →
-    digests ≡ below ++ beside ∷ [] →
-    growth ≡ rest ++ last ∷ [] → climb_end hash t node (split new) value below ≡ Some (0, x, left) →
+pub lift_beside_left : (hash : Hash) (size new t node : ℕ) (value : List ℕ) (digests below : List (List ℕ))
+    (beside : List ℕ) (u edge : ℕ) (start : List ℕ) (growth rest : List (List ℕ)) (last old right : List ℕ)
+    (out : List (List ℕ)) → Across size new t node u edge → size < new → new ≤ 2 ^ 62 → node < split new / 2 ^ t →
+    digests ≡ below ++ beside ∷ [] → growth ≡ rest ++ last ∷ [] →
     climb_end hash u (edge - split new / 2 ^ u) (new - split new) start rest ≡ Some (0, old, right) →
-    HashFixesChildren hash left beside last old →
-    Lifts hash size new t node value digests u edge start growth (below ++ right ∷ [])
-lift_beside hash size new t node value digests below beside u edge start growth rest last x left old right c more small
-    place is grows left_end right_end fixed o m w one other =
+    ((first left : List ℕ) → climb_end hash t node (split new) value below ≡ Some (0, first, left) →
+    HashFixesChildren hash left beside last old × (out ≡ below ++ right ∷ [])) →
+    Lifts hash size new t node value digests u edge start growth out
+lift_beside_left hash size new t node value digests below beside u edge start growth rest last old right out c more
+    small place is grows right_end step o m w one other =
     let place_old : node < split size / 2 ^ t = rw c.same place in
     let a = (climb_left hash t node size value below beside o m c.low (omega arith) place_old).0 (rw is at one) in
-    let l = two_ends _ x left o a.0 left_end (rw c.same at a.1) in
+    let left_end : climb_end hash t node (split new) value below ≡ Some (0, o, a.0) = rw c.same at a.1 in
+    let (fixed, lifted) = step o a.0 left_end in
     let b = (climb_right hash u edge new start rest last m w c.high_edge small c.beyond c.edge_within).0
     (rw grows at other) in
     let r = two_ends _ old right b.0 b.1 right_end b.2 in
-    let same = fixed (rw (l.1, r.0) (sym a.2 ∙ b.3)) in
-    (climb_left hash t node new value below right o w c.high small place).1 (
+    let same = fixed (rw r.0 (sym a.2 ∙ b.3)) in
+    rw lifted ((climb_left hash t node new value below right o w c.high small place).1 (
       a.0,
-      rw c.same at a.1,
+      left_end,
       b.4 ∙ ap (λ (d : List ℕ). node_hash hash last d) (sym r.1)
-          ∙ ap (λ (d : List ℕ). node_hash hash d right) (sym same.0 ∙ l.1),
-    )
+          ∙ ap (λ (d : List ℕ). node_hash hash d right) (sym same.0),
+    ))
 
 -- the node in the right half
 pub lift_right : (hash : Hash) (size new t node : ℕ) (value : List ℕ) (digests below : List (List ℕ)) (beside : List ℕ)
@@ -218,18 +219,6 @@ lift_growth_refused hash size new t node value digests u edge start growth rest 
     let b = (climb_right hash u edge new start rest last m w c.high_edge small c.beyond c.edge_within).0
     (rw grows at other) in
     refused_end _ e b.0 b.1 refused b.2
-
-pub lift_left_refused : (hash : Hash) (size new t node : ℕ) (value : List ℕ) (digests below : List (List ℕ))
-    (beside : List ℕ) (u edge : ℕ) (start : List ℕ) (growth out : List (List ℕ)) (e : ProofError) →
-    Across size new t node u edge → size ≤ 2 ^ 62 → node < split new / 2 ^ t → digests ≡ below ++ beside ∷ [] →
-    ((first second : List ℕ) → consistency_end_refusal (climb_end hash t node (split new) value below) first second
-    ≡ Some e) →
-    Lifts hash size new t node value digests u edge start growth out
-lift_left_refused hash size new t node value digests below beside u edge start growth out e c small place is refused
-    o m w one other =
-    let place_old : node < split size / 2 ^ t = rw c.same place in
-    let a = (climb_left hash t node size value below beside o m c.low small place_old).0 (rw is at one) in
-    refused_end _ e o a.0 refused (rw c.same at a.1)
 
 pub lift_right_refused : (hash : Hash) (size new t node : ℕ) (value : List ℕ) (digests below : List (List ℕ))
     (beside : List ℕ) (u edge : ℕ) (start : List ℕ) (growth out : List (List ℕ)) (e : ProofError) →

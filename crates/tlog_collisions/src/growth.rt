@@ -1,10 +1,13 @@
 //! Accepted proofs across the growth of a log.
-ghost use Rattle.std.specs.Prelude.{◌≡◌, ◌+◌, ◌*◌, ◌^◌, ◌<◌, ◌≤◌, ◌↔◌, None, IfErr, IfOk, IfSome, IsNone};
+ghost use Rattle.std.specs.Prelude.{◌≡◌, ℕ, ◌+◌, ◌*◌, ◌^◌, ◌<◌, ◌≤◌, ◌↔◌, List, [], ◌∷◌, ◌++◌};
+ghost use Rattle.std.specs.Prelude.{IfErr, IfOk, IfSome, IsNone, None, Some};
+ghost use Rattle.tlog.specs.Climbs.{climb_end};
 ghost use Rattle.tlog.specs.Collisions.{IsCollision};
 ghost use Rattle.tlog.specs.Verdicts.{IsConsistent, consistency_refusal, size_limit};
 ghost use Rattle.tlog_collisions.specs.Composed.{IsReason};
 ghost use Rattle.tlog_collisions.specs.Fixed.{GrowthKeepsLeaf};
 ghost use Rattle.tlog_collisions.specs.Inner.Lifts.{Lifts};
+ghost use Rattle.tlog_collisions.specs.Inner.Nodes.{HashFixesChildren};
 
 use crate::accepted::{node_collision, proof_collision};
 use crate::error::ComposeError;
@@ -13,6 +16,38 @@ use tlog::LogHash;
 use tlog::collision::{Collision, split};
 use tlog::consistency::{self, Climb};
 use tlog::inclusion::verify;
+
+/// The digests that lead from a node in the left half on to the new root, where those of `climb` lead to the root of
+/// this half. `beside` and `old` are the root of the old right half by two proofs, `last` that of the left half by the
+/// second, and `new` is the root of the new right half.
+fn lift_beside<H: LogHash<D>, const D: usize>(
+    alloc: Global,
+    middle: usize,
+    climb: &Climb<D>,
+    beside: &[u8; D],
+    last: &[u8; D],
+    old: &[u8; D],
+    new: &[u8; D],
+) -> Result<Vec<[u8; D]>, ComposeError>
+    requires some { 0 < middle }
+    requires layer { climb.now.layer < 64 }
+    ensures lifted { IfOk result (λ digests. (first left : List ℕ) → climb_end H.hash climb.now.layer climb.now.node
+        middle climb.now.value.now climb.now.digests.now ≡ Some (0, first, left) →
+        HashFixesChildren H.hash left beside.now last.now old.now
+        × (digests.items ≡ climb.now.digests.now ++ new.now ∷ [])) }
+    ensures refused { IfErr result (IsReason H.hash None None) }
+{
+    let Ok(roots) = climb.roots::<H>(middle) else {
+        return Ok(Vec::new(alloc));
+    };
+    let (_, left) = roots;
+    if let Some(found) = node_collision::<H, D>(alloc, &left, beside, last, old)? {
+        return Err(ComposeError::Collision(found));
+    }
+    let mut digests = Vec::from_slice(alloc, climb.digests)?;
+    digests.push(*new)?;
+    Ok(digests)
+}
 
 /// The digests that lead from a node on to the root of `new_size` entries, where those of `climb` lead to the root of
 /// the first `size`, and `growth` from the last whole node of these to both roots; of others it says nothing.
@@ -68,16 +103,7 @@ fn lift<H: LogHash<D>, const D: usize>(
             digests: below,
             ..*climb
         };
-        let Ok(roots) = climb.roots::<H>(middle) else {
-            return Ok(Vec::new(alloc));
-        };
-        let (_, left) = roots;
-        if let Some(found) = node_collision::<H, D>(alloc, &left, beside, last, &old)? {
-            return Err(ComposeError::Collision(found));
-        }
-        let mut digests = Vec::from_slice(alloc, below)?;
-        digests.push(new)?;
-        return Ok(digests);
+        return lift_beside::<H, D>(alloc, middle, &climb, beside, last, &old, &new);
     }
     let node = climb.node - (middle >> climb.layer);
     let climb = Climb {

@@ -113,12 +113,14 @@ fn consistency(rt: HostRuntime) -> Result<(), Fail> {
     let root = node_hash(&four, &leaves[4]);
     let proof = [leaves[2], leaves[3], left, leaves[4]];
     assert_eq!(rt; prefix(&three), [0xfe, 0x6e, 0x9d, 0x46]);
-    assert_eq!(rt; verify_consistency(3, 5, &proof, &three, &root), Ok(()));
+    // The same proof passes to other sizes, up to 8: a root alone fixes no size.
+    for size in 5..9 {
+        assert_eq!(rt; verify_consistency(3, size, &proof, &three, &root), Ok(()));
+    }
     assert_eq!(rt;
         verify_consistency(4, 5, &[leaves[4]], &four, &root),
         Ok(())
     );
-    assert_eq!(rt; verify_consistency(3, 6, &proof, &three, &root), Ok(()));
     assert_eq!(rt;
         verify_consistency(3, 5, &proof, &four, &root),
         Err(ProofError::OldRootMismatch)

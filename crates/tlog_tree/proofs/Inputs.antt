@@ -1,7 +1,7 @@
 -- The hashes of inputs of one length, which lie one after another, are the parents of a layer.
 use Rattle.std.proofs.Common.{◌≡◌, ℕ, zero, suc, ◌+◌, ◌-◌, ◌*◌, ◌/◌, ◌<◌, List, [], ◌∷◌, ◌++◌, length, map, take}
 use Rattle.std.proofs.Common.{drop, get_or, refl, sym, ap, ◌∙◌, arith}
-use Rattle.std.proofs.Math.Nat.{add-mul, mul-add, one-mul}
+use Rattle.std.proofs.Math.Nat.{add-mul, one-mul}
 use Rattle.std.proofs.Math.Seq.{take-append_seam, drop-append-add}
 use Rattle.std.proofs.Common.{length-append, ◌%◌}
 use Rattle.std.proofs.lemmas.List.{drop_more, get_or-map, length-map}
@@ -30,8 +30,18 @@ piece n (x ∷ xs) each (suc j) below =
     ∙ ap (take n) (drop-append-add x (flat_map (λ y. y) xs) (j * n))
     ∙ piece n xs (λ k h. each (suc k) (omega arith)) j (omega arith)
 
+-- so many pieces are so long
+pub length-pieces : (n : ℕ) (xs : List (List ℕ)) → ((k : ℕ) → k < length xs → length (get_or xs k []) ≡ n) →
+    length (flat_map (λ x. x) xs) ≡ n * length xs
+length-pieces n [] each = omega arith
+length-pieces n (x ∷ xs) each =
+    let first : length x ≡ n = each 0 (omega arith) in
+    let rest = length-pieces n xs (λ k h. each (suc k) (omega arith)) in
+    let more : n * suc (length xs) ≡ n * length xs + n = omega arith in
+    omega (arith, length-append x (flat_map (λ y. y) xs))
+
 -- the hashes of the messages are those of the pieces
-hashed_pieces : (n : ℕ) (hash : Hash) (xs : List (List ℕ)) →
+pub hashed_pieces : (n : ℕ) (hash : Hash) (xs : List (List ℕ)) →
     ((k : ℕ) → k < length xs → length (get_or xs k []) ≡ n) →
     map hash (messages n (length xs) (flat_map (λ x. x) xs)) ≡ map hash xs
 hashed_pieces n hash xs each =
@@ -76,16 +86,9 @@ hashed_inputs hash (left ∷ (right ∷ rest)) =
 
 pub length-flat : (n : ℕ) (L : List (List ℕ)) → ((k : ℕ) → k < length L → length (get_or L k []) ≡ n) →
     length (flat_inputs L) ≡ suc (n + n) * (length L / 2)
-length-flat n [] each = omega arith
-length-flat n (node ∷ []) each = omega arith
-length-flat n (left ∷ (right ∷ rest)) each =
-    let l : length left ≡ n = each 0 (omega arith) in
-    let r : length right ≡ n = each 1 (omega arith) in
-    let rest_len = length-flat n rest (λ i b. each (suc (suc i)) (omega arith)) in
-    let both = length-append left right in
-    let all = length-append (1 ∷ (left ++ right)) (flat_inputs rest) in
-    let half : suc (suc (length rest)) / 2 ≡ suc (length rest / 2) = omega arith in
-    rw half (all ∙ omega (arith, mul-add (suc (n + n)) 1 (length rest / 2)))
+length-flat n L each =
+    length-pieces (suc (n + n)) (node_inputs L) (each_input n L each)
+    ∙ ap (λ (m : ℕ). suc (n + n) * m) (length-inputs L)
 
 -- one more input
 pub inputs_more : (L : List (List ℕ)) (i : ℕ) → 2 * i + 1 < length L →

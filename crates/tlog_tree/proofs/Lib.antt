@@ -1,4 +1,5 @@
 pub mod Whole
 pub mod Inputs
+pub mod Leaves
 pub mod Kept
 pub mod Paths

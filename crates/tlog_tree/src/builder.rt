@@ -1,10 +1,10 @@
 //! The tree of a log that is read once, with the values of wanted nodes.
-ghost use Rattle.std.specs.Prelude.{◌≡◌, ℕ, ◌<◌, ◌≤◌, ◌+◌, ◌/◌, ◌^◌, ◌++◌, ◌↔◌, List, [], IfOk, IfErr, length, vec_len};
-ghost use Rattle.std.specs.Prelude.{slice_index_or};
+ghost use Rattle.std.specs.Prelude.{◌≡◌, ℕ, ◌<◌, ◌≤◌, ◌+◌, ◌/◌, ◌^◌, nat_lt, if◌then◌else◌, List, [], ◌++◌};
+ghost use Rattle.std.specs.Prelude.{IfOk, IfErr, length, slice_index_or, vec_len};
 ghost use Rattle.sha2.specs.Sha256.{sha256};
 ghost use Rattle.tlog.specs.Verdicts.{size_limit};
 ghost use Rattle.tlog_tree.specs.Trees.{value_at, values_at};
-ghost use Rattle.tlog_tree.specs.declared.error.TreeError.TheVariants.{SizeTooLarge};
+ghost use Rattle.tlog_tree.specs.declared.error.TreeError.TheVariants.{OutOfMemory, SizeTooLarge};
 
 use crate::error::TreeError;
 use crate::frontier::{Frontier, root_of_nodes};
@@ -53,8 +53,8 @@ impl TreeBuilder {
     pub fn push_many(mut self, alloc: Global, hashes: &[[u8; 32]]) -> Result<TreeBuilder, TreeError>
         ensures built { IfOk result (λ builder. (leaves : List (List ℕ)) (places : List (ℕ × ℕ)) →
             IsBuilderOf leaves places self → IsBuilderOf (leaves ++ hashes.now) places builder) }
-        ensures refused { IfErr result (λ e.
-            (e ≡ SizeTooLarge) ↔ (size_limit < self.frontier.size + length hashes.now)) }
+        ensures refused { IfErr result (λ e. e
+            ≡ (if nat_lt size_limit (self.frontier.size + length hashes.now) then SizeTooLarge else OutOfMemory)) }
     {
         self.frontier.push_kept(alloc, hashes, &mut self.wanted)?;
         Ok(self)

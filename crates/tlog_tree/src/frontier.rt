@@ -1,7 +1,6 @@
 //! The tree of a log that only grows, by its whole nodes.
-ghost use Rattle.std.specs.Prelude.{◌≡◌, ◌≢◌, ℕ, ◌<◌, ◌≤◌, ◌+◌, ◌++◌, ◌↔◌, List, [], IfOk, IfErr, OnOk, OnErr, length};
-ghost use Rattle.std.specs.Prelude.{map, drop, ◌^◌, ◌/◌, ◌*◌};
-ghost use Rattle.std.specs.Prelude.{count_ones};
+ghost use Rattle.std.specs.Prelude.{◌≡◌, ℕ, ◌<◌, ◌≤◌, ◌+◌, ◌*◌, ◌/◌, ◌^◌, ◌==◌, nat_lt, if◌then◌else◌, List, [], ◌++◌};
+ghost use Rattle.std.specs.Prelude.{IfOk, IfErr, OnOk, OnErr, length, map, drop, count_ones};
 ghost use Rattle.sha2.specs.Sha256.{sha256};
 ghost use Rattle.tlog.specs.Verdicts.{size_limit};
 ghost use Rattle.tlog_tree.specs.Inner.Layers.{joined, root_of_rest};
@@ -54,9 +53,8 @@ impl Frontier {
         ensures begun { IfOk result (λ frontier. (leaves : List (List ℕ)) → length leaves ≡ size →
             nodes.now ≡ whole_nodes sha256 leaves → IsFrontierOf leaves frontier) }
         ensures kept { IfOk result (λ frontier. (frontier.size ≡ size) × (frontier.nodes.items ≡ nodes.now)) }
-        ensures size { IfErr result (λ e. (e ≡ SizeTooLarge) ↔ (size_limit < size)) }
-        ensures count { IfErr result (λ e.
-            (e ≡ NodeCountMismatch) ↔ ((size ≤ size_limit) × (length nodes.now ≢ count_ones size))) }
+        ensures refused { IfErr result (λ e. e ≡ (if nat_lt size_limit size then SizeTooLarge
+            else (if length nodes.now == count_ones size then OutOfMemory else NodeCountMismatch))) }
         ensures honest { IfErr result (λ e. (leaves : List (List ℕ)) → length leaves ≡ size → size ≤ size_limit →
             nodes.now ≡ whole_nodes sha256 leaves → e ≡ OutOfMemory) }
         ensures accepted { OnOk result ((size ≤ size_limit) × (length nodes.now ≡ count_ones size)) }
@@ -97,7 +95,8 @@ impl Frontier {
             IsFrontierOf (leaves ++ hashes.now) self.new) }
         ensures size { OnOk result (self.new.size ≡ self.old.size + length hashes.now) }
         ensures unchanged { OnErr result (self.new ≡ self.old) }
-        ensures refused { IfErr result (λ e. (e ≡ SizeTooLarge) ↔ (size_limit < self.old.size + length hashes.now)) }
+        ensures refused { IfErr result (λ e. e
+            ≡ (if nat_lt size_limit (self.old.size + length hashes.now) then SizeTooLarge else OutOfMemory)) }
     {
         self.push_kept(alloc, hashes, &mut [])
     }
@@ -115,7 +114,8 @@ impl Frontier {
             wanted.new ≡ map (updated sha256 0 (length leaves) (leaves ++ hashes.now)) wanted.old) }
         ensures size { OnOk result (self.new.size ≡ self.old.size + length hashes.now) }
         ensures unchanged { OnErr result (self.new ≡ self.old) }
-        ensures refused { IfErr result (λ e. (e ≡ SizeTooLarge) ↔ (size_limit < self.old.size + length hashes.now)) }
+        ensures refused { IfErr result (λ e. e
+            ≡ (if nat_lt size_limit (self.old.size + length hashes.now) then SizeTooLarge else OutOfMemory)) }
     {
         if hashes.len() > SIZE_LIMIT - self.size {
             return Err(TreeError::SizeTooLarge);

@@ -5,11 +5,13 @@ mod builder;
 mod error;
 mod frontier;
 mod layer;
+mod leaf;
 mod places;
 mod wanted;
 
 pub use builder::TreeBuilder;
 pub use error::TreeError;
 pub use frontier::Frontier;
+pub use leaf::leaf_hashes;
 pub use places::{consistency_places, inclusion_places};
 pub use wanted::WantedNode;

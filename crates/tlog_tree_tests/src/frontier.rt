@@ -6,7 +6,7 @@ use std::process::Abort;
 use std::test::Fail;
 use tlog::collision::root;
 use tlog::{EMPTY_ROOT, leaf_hash, node_hash};
-use tlog_tree::{Frontier, TreeError};
+use tlog_tree::{Frontier, TreeError, leaf_hashes};
 
 /// The first entries: the decimal numbers 1, 2, 3 and so on.
 pub fn entries(alloc: Global, count: usize) -> Result<Vec<Vec<u8>>, AllocError> {
@@ -20,11 +20,8 @@ pub fn entries(alloc: Global, count: usize) -> Result<Vec<Vec<u8>>, AllocError> 
 
 /// Their leaf hashes.
 pub fn leaves(alloc: Global, entries: &[Vec<u8>]) -> Result<Vec<[u8; 32]>, AllocError> {
-    let mut leaves = Vec::new(alloc);
-    for entry in entries {
-        leaves.push(leaf_hash(entry))?;
-    }
-    Ok(leaves)
+    let entries: Vec<&[u8]> = entries.iter().map(|entry| entry.as_slice()).collect(alloc)?;
+    leaf_hashes(alloc, &entries)
 }
 
 #[test]

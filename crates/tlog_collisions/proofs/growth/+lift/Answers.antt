@@ -1,11 +1,13 @@
 use Rattle.std.proofs.Common.{rules, refl, arith}
-use Rattle.tlog_collisions.proofs.Lifts.{across, lift_beside, lift_growth_refused, lift_left, lift_left_refused}
+use Rattle.std.proofs.lemmas.Result.{IfOk-weaker}
+use Rattle.tlog_collisions.proofs.Lifts.{across, lift_beside_left, lift_growth_refused, lift_left}
 use Rattle.tlog_collisions.proofs.Lifts.{lift_no_digests, lift_no_growth, lift_right, lift_right_refused, lift_same}
 use Rattle.tlog_collisions.proofs.growth.+lift.Goals as goal
 
 pub returns-then-size-new_size-clause-lifted : goal.returns-then-size-new_size-clause-lifted
 returns-then-size-new_size-clause-lifted g t c =
-    rw c.in_ok-from_slice.ensures.items (lift_same g.H.LogHash.hash c.args.size c.args.new_size c.args.climb.now.layer c.args.climb.now.node
+    rw c.in_ok-from_slice.ensures.items (lift_same g.H.LogHash.hash c.args.size c.args.new_size
+    c.args.climb.now.layer c.args.climb.now.node
     c.args.climb.now.value.now c.args.climb.now.digests.now
     c.args.growth.now.layer c.args.growth.now.node
     c.args.growth.now.value.now c.args.growth.now.digests.now c.if-size-new_size.true c.requires.last)
@@ -21,7 +23,8 @@ returns-in_default-clause-lifted g t c =
 pub returns-then-size-middle-clause-lifted : goal.returns-then-size-middle-clause-lifted
 returns-then-size-middle-clause-lifted g t c =
     let e = c.split-middle.ensures.value in
-    rw c.in_ok-push.ensures.items (lift_left g.H.LogHash.hash c.args.size c.args.new_size c.args.climb.now.layer c.args.climb.now.node
+    rw c.in_ok-push.ensures.items (lift_left g.H.LogHash.hash c.args.size c.args.new_size
+    c.args.climb.now.layer c.args.climb.now.node
     c.args.climb.now.value.now c.args.climb.now.digests.now
     c.args.growth.now.layer c.args.growth.now.node
     c.args.growth.now.value.now c.args.growth.now.digests.now _ _ _ c.requires.whole c.requires.last
@@ -49,32 +52,21 @@ returns-in_default-roots-clause-lifted g t c =
     c.args.growth.now.value.now c.args.growth.now.digests.now _ _ _ _ x c.requires.limit
     c.in-Some.ensures.cases.0 (rw e at c.in_default-roots.ensures.refused)
 
-pub returns-in_default-roots-2-clause-lifted : goal.returns-in_default-roots-2-clause-lifted
-returns-in_default-roots-2-clause-lifted g t c =
-    let e = c.split-middle.ensures.value in
-    let x = across c.args.size c.args.new_size c.args.climb.now.layer c.args.climb.now.node c.args.growth.now.layer
-    c.args.growth.now.node c.requires.whole c.requires.last (omega arith) (omega (arith, e)) in
-    lift_left_refused g.H.LogHash.hash c.args.size c.args.new_size c.args.climb.now.layer c.args.climb.now.node
-    c.args.climb.now.value.now c.args.climb.now.digests.now _ _
-    c.args.growth.now.layer c.args.growth.now.node
-    c.args.growth.now.value.now c.args.growth.now.digests.now _ _ x (omega arith)
-    (rw e at c.if-climb-middle.true) c.in-Some-split_last.ensures.cases.0 (rw e at c.in_default-roots-2.ensures.refused)
-
 pub returns-then-climb-middle-clause-lifted : goal.returns-then-climb-middle-clause-lifted
 returns-then-climb-middle-clause-lifted g t c =
     let e = c.split-middle.ensures.value in
     let x = across c.args.size c.args.new_size c.args.climb.now.layer c.args.climb.now.node c.args.growth.now.layer
     c.args.growth.now.node c.requires.whole c.requires.last (omega arith) (omega (arith, e)) in
-    rw (c.in_ok-push-2.ensures.items, c.in_ok-digests-2.ensures.items) (lift_beside g.H.LogHash.hash c.args.size c.args.new_size c.args.climb.now.layer c.args.climb.now.node
-    c.args.climb.now.value.now c.args.climb.now.digests.now _ _
+    IfOk-weaker c.lift_beside.result _ _
+    (λ digests step. lift_beside_left g.H.LogHash.hash c.args.size c.args.new_size c.args.climb.now.layer
+    c.args.climb.now.node c.args.climb.now.value.now c.args.climb.now.digests.now _ _
     c.args.growth.now.layer c.args.growth.now.node
-    c.args.growth.now.value.now c.args.growth.now.digests.now _ _ _ _ _ _ x (omega arith)
+    c.args.growth.now.value.now c.args.growth.now.digests.now _ _ _ _ digests.items x (omega arith)
     c.requires.limit (rw e at c.if-climb-middle.true) c.in-Some-split_last.ensures.cases.0 c.in-Some.ensures.cases.0
-    (rw e at c.in-Ok-roots.ensures.roots) (rw e at c.in-Ok.ensures.roots)
-    (c.in_ok-found.ensures.none.0 (rw c.in_default-2.is refl)))
+    (rw e at c.in-Ok.ensures.roots) (rw e at step)) c.lift_beside.ensures.lifted
 
-pub returns-in_default-roots-3-clause-lifted : goal.returns-in_default-roots-3-clause-lifted
-returns-in_default-roots-3-clause-lifted g t c =
+pub returns-in_default-roots-2-clause-lifted : goal.returns-in_default-roots-2-clause-lifted
+returns-in_default-roots-2-clause-lifted g t c =
     let e = c.split-middle.ensures.value in
     let x = across c.args.size c.args.new_size c.args.climb.now.layer c.args.climb.now.node c.args.growth.now.layer
     c.args.growth.now.node c.requires.whole c.requires.last (omega arith) (omega (arith, e)) in
@@ -83,7 +75,7 @@ returns-in_default-roots-3-clause-lifted g t c =
     c.args.growth.now.layer c.args.growth.now.node
     c.args.growth.now.value.now c.args.growth.now.digests.now _ _ x (omega arith)
     (rw e at c.if-climb-middle.false) c.in-Some-split_last.ensures.cases.0
-    (rw e at c.in_default-roots-3.ensures.refused)
+    (rw e at c.in_default-roots-2.ensures.refused)
 
 pub lift-requires-2 : goal.lift-requires-2
 lift-requires-2 g t c κs within =
@@ -120,10 +112,11 @@ returns-clause-lifted g t c =
     let e = c.split-middle.ensures.value in
     let x = across c.args.size c.args.new_size c.args.climb.now.layer c.args.climb.now.node c.args.growth.now.layer
     c.args.growth.now.node c.requires.whole c.requires.last (omega arith) (omega (arith, e)) in
-    rw c.in_ok-push-3.ensures.items (lift_right g.H.LogHash.hash c.args.size c.args.new_size c.args.climb.now.layer c.args.climb.now.node
+    rw c.in_ok-push-2.ensures.items (lift_right g.H.LogHash.hash c.args.size c.args.new_size
+    c.args.climb.now.layer c.args.climb.now.node
     c.args.climb.now.value.now c.args.climb.now.digests.now _ _
     c.args.growth.now.layer c.args.growth.now.node
     c.args.growth.now.value.now c.args.growth.now.digests.now _ _ _ _ _ _ _ x (omega arith)
     c.requires.limit (rw e at c.if-climb-middle.false) c.in-Some-split_last.ensures.cases.0 c.in-Some.ensures.cases.0
-    (rw e at c.in-Ok-roots-2.ensures.roots) (rw e at c.in-Ok.ensures.roots)
-    (c.in_ok-found-2.ensures.none.0 (rw c.in_default-3.is refl)) (rw e at c.in_ok-digests-3.ensures.lifted))
+    (rw e at c.in-Ok-roots.ensures.roots) (rw e at c.in-Ok.ensures.roots)
+    (c.in_ok-found.ensures.none.0 (rw c.in_default-2.is refl)) (rw e at c.in_ok-digests-2.ensures.lifted))
