@@ -1,0 +1,6 @@
+//! Several entries of a log by RFC 9162, proved by one smallest proof, under SHA-256: a log's tree is the tree of arity
+//! 2 over one column of leaf hashes, with a compression that passes an only child on.
+#![tactic(auto)]
+
+mod node;
+mod tree;
