@@ -1,0 +1,104 @@
+-- The tree of a log of some entries: its layers, and what a check of an opening reaches in them.
+use Rattle.std.proofs.Common.{◌≡◌, ℕ, zero, suc, ◌+◌, ◌-◌, ◌*◌, ◌/◌, ◌%◌, ◌^◌, ◌<◌, ◌≤◌, List, [], ◌∷◌}
+use Rattle.std.proofs.Common.{length, take, drop, get_or, insert, refl, ap, ◌∙◌, arith}
+use Rattle.std.specs.Prelude.{All}
+use Rattle.std.proofs.lemmas.List.{at_drop_more}
+use Rattle.std.proofs.lemmas.List.Edits.{length-insert}
+use Rattle.p3_support.specs.Batches.{greatest}
+use Rattle.p3_merkle_core.specs.Geometry.{IsArity, expected_height, height_limit, IsLawful, ancestor, exponent, heights, levels, step}
+use Rattle.p3_merkle_core.specs.Geometry.{position_in_group}
+use Rattle.p3_merkle_core.specs.Nodes.{compress_padded, with_rows}
+use Rattle.p3_merkle_core.specs.OneHeight.{HasHeight}
+use Rattle.p3_merkle_core.specs.Openings.{Opening}
+use Rattle.p3_merkle_core.specs.Checks.{group_at, layer_words, path_digest, siblings_at, siblings_below}
+use Rattle.p3_merkle_core.proofs.Shapes.OneHeight.{full_group, greatest_is, levels_are, levels_cover, no_rows_above, step_is_arity}
+use Rattle.p3_merkle_core.proofs.Growths.HeightFacts.{power_below}
+use Rattle.p3_merkle_core.proofs.Growths.LevelFacts.{ancestor_is, leaf_words, siblings_are}
+use Rattle.p3_merkle_core.proofs.Checks.Completeness.{reached_leaf, reached_next}
+use Rattle.tlog.specs.Rfc9162.{Hash as HashFunction}
+use Rattle.tlog.specs.Verdicts.{size_limit}
+use Rattle.tlog_entries.specs.Nodes.{last_word, parent_digest}
+use Rattle.tlog_entries.specs.Instance.{leaf_row, log_functions, log_shape}
+use Rattle.tlog_entries.specs.declared.node.Node.{Node}
+use Rattle.tlog_entries.specs.declared.node.Node.TheVariants.{Hash}
+
+pub two_is_arity : IsArity 2
+unfolding exponent
+two_is_arity = record { power = refl; above_1 = omega arith; fits = omega arith; }
+
+-- of one element
+pub only : {X : Type 0} (P : X → Type 0) (x : X) → P x → All P (x ∷ [])
+only P x h zero d inside = h
+only P x h (suc k) d inside = absurd (omega arith)
+
+-- the sibling of the node above leaf i in layer l
+abbrev pub sibling_slot : ℕ → ℕ → ℕ
+sibling_slot i l = 2 * (i / 2 ^ suc l) + (1 - i / 2 ^ l % 2)
+
+-- an element
+pub one_taken : {X : Type 0} (xs : List X) (l : ℕ) (d : X) → l < length xs → take 1 (drop l xs) ≡ get_or xs l d ∷ []
+one_taken xs l d there = at_drop_more (take 1) xs l d there
+
+module _ (size : ℕ) where
+  pub one_column : HasHeight (log_shape size) size
+  one_column = record { some_matrix = omega arith; each = only (λ d. d.height ≡ size) (record { width = 1; height = size }) refl; }
+
+  pub step_of_two : (l : ℕ) → step (log_shape size) l ≡ 2
+  step_of_two l = step_is_arity (log_shape size) two_is_arity size one_column l
+
+  pub tallest : greatest (heights (log_shape size)) ≡ size
+  tallest = greatest_is (log_shape size) two_is_arity size one_column
+
+  pub lawful : 0 < size → size ≤ size_limit → IsLawful (heights (log_shape size))
+  lawful some small =
+      let tall : greatest (heights (log_shape size)) ≡ size = tallest in
+      let none : exponent size - exponent size ≡ 0 = omega arith in
+      record {
+        some_above_0 = rw tall some;
+        none_too_large = only (λ h. h ≤ height_limit) size small;
+        on_ladder = only (λ h. h ≡ expected_height (greatest (heights (log_shape size))) h) size
+            (rw (tall, none) (omega arith));
+      }
+
+  -- below the root there is more than one node, and the root is one
+  pub more_below : (l : ℕ) → l < levels (log_shape size) → 2 ^ l < size
+  more_below l below =
+      power_below 2 size l (omega (arith, levels_are (log_shape size) two_is_arity size one_column))
+
+  pub root_covers : size ≤ 2 ^ levels (log_shape size)
+  root_covers = rw (levels_are (log_shape size) two_is_arity size one_column) (levels_cover 2 two_is_arity size)
+
+  pub ancestor_of_two : (l i : ℕ) → ancestor (log_shape size) l i ≡ i / 2 ^ l
+  ancestor_of_two l i = ancestor_is (log_shape size) two_is_arity size one_column l i
+
+  pub one_sibling : (l : ℕ) → siblings_below (log_shape size) l ≡ l
+  one_sibling l = siblings_are (log_shape size) two_is_arity size one_column l ∙ omega arith
+
+  module _ (hash : HashFunction) (o : Opening Node Node) where
+    -- the leaf
+    pub leaf_reached : (leaf : List ℕ) → o.rows ≡ leaf_row leaf → path_digest (log_functions hash) (log_shape size) o 0 ≡ Hash leaf ∷ []
+    leaf_reached leaf is =
+        reached_leaf (log_functions hash) (log_shape size) o
+        ∙ ap last_word (ap (λ rows. layer_words (log_shape size) rows 0) is
+        ∙ leaf_words (log_shape size) two_is_arity size one_column (leaf_row leaf) refl)
+
+    -- each other digest is that of a group
+    pub next_reached : (l : ℕ) → l < levels (log_shape size) → l < length o.siblings →
+        path_digest (log_functions hash) (log_shape size) o (suc l)
+        ≡ parent_digest hash (insert (get_or o.siblings l [] ∷ []) (o.index / 2 ^ l % 2) (path_digest (log_functions hash) (log_shape size) o l))
+    next_reached l below there =
+        let s = log_shape size in
+        let f = log_functions hash in
+        let d = path_digest f s o l in
+        let group = group_at f s o l d in
+        let here : siblings_at s o l ≡ get_or o.siblings l [] ∷ [] =
+        rw (step_of_two l, one_sibling l) (one_taken o.siblings l [] there) in
+        let place : position_in_group s l o.index ≡ o.index / 2 ^ l % 2 =
+        rw (step_of_two l, ancestor_of_two l o.index) refl in
+        let is : group ≡ insert (get_or o.siblings l [] ∷ []) (o.index / 2 ^ l % 2) d = rw (here, place) refl in
+        reached_next f s o l
+        ∙ ap (λ has. with_rows f 2 has (compress_padded f 2 group) (f.hash (layer_words s o.rows (suc l))))
+        (no_rows_above s two_is_arity size one_column (suc l) (omega arith) below)
+        ∙ ap (λ ds. compress_padded f 2 ds) is
+        ∙ full_group f 2 (insert (get_or o.siblings l [] ∷ []) (o.index / 2 ^ l % 2) d)
+        (length-insert (get_or o.siblings l [] ∷ []) (o.index / 2 ^ l % 2) d (omega arith))
