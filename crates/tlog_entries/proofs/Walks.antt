@@ -3,17 +3,20 @@ use Rattle.std.proofs.Common.{◌≡◌, ℕ, suc, ◌+◌, ◌-◌, ◌*◌, �
 use Rattle.std.proofs.Common.{Some, insert, refl, sym, ap, ◌∙◌, arith, inl, inr}
 use Rattle.std.specs.Prelude.{◌==◌}
 use Rattle.std.specs.Int.{w64, trailing_zeros}
-use Rattle.std.proofs.lemmas.Bool.{cases_eq}
+use Rattle.std.proofs.lemmas.Bool.{cases_eq, cases_lt}
 use Rattle.std.proofs.lemmas.Bool.Decides.{nat_tests}
-use Rattle.std.proofs.Math.Nat.{mul-div-mul_left, pow-succ'}
+use Rattle.std.proofs.lemmas.Nat.{pow_pos}
+use Rattle.std.proofs.Math.Nat.{div-div-eq-div-mul, div-le_self, div-mul-le_self, le-div_iff_mul-le, mul-div-mul_left}
+use Rattle.std.proofs.Math.Nat.{pow-succ', pow-suc}
 use Rattle.tlog.specs.Rfc9162.{Hash as HashFunction, inclusion_walk, is_left, node_hash}
 use Rattle.tlog.proofs.Bits.{half_double, zeros_of_double, zeros_of_odd}
 use Rattle.tlog.proofs.Climbs.{parity}
 use Rattle.tlog.proofs.Walks.{inclusion_left, inclusion_right}
 use Rattle.tlog_entries.specs.Nodes.{parent_digest}
-use Rattle.tlog_entries.specs.Instance.{present}
+use Rattle.tlog_entries.specs.Instance.{IsFilled, present}
 use Rattle.tlog_entries.specs.declared.node.Node.{Node}
 use Rattle.tlog_entries.specs.declared.node.Node.TheVariants.{Absent, Hash}
+use Rattle.tlog_entries.proofs.Shapes.{sibling_slot}
 
 -- past a left sibling
 past_left : (hash : HashFunction) (value : List ℕ) (path : List (List ℕ)) (i last : ℕ) (r : List ℕ) → i ≤ 2 ^ 62 →
@@ -62,13 +65,13 @@ past_only hash (value ∷ path) i r end some small h =
         rw (p, d) (mul-div-mul_left i (2 ^ t) (omega arith))
 
 -- what one level gives: the digest of the group, and the walk from below it
-abbrev IsPassed : HashFunction → List (List Node) → List Node → ℕ → ℕ → List ℕ → Type 0
+abbrev pub IsPassed : HashFunction → List (List Node) → List Node → ℕ → ℕ → List ℕ → Type 0
 IsPassed hash path digest j last r =
     (up : List ℕ) × (parent_digest hash (insert (digest ∷ []) (j % 2) (Hash r ∷ [])) ≡ Hash up ∷ []) ×
     ((end : List ℕ) → inclusion_walk hash (present path) (j / 2) (last / 2) up ≡ Some (0, end) →
     inclusion_walk hash (present (digest ∷ path)) j last r ≡ Some (0, end))
 
--- ? lemma
+-- by the nodes of both layers, the last of which is at `last`
 passed : (hash : HashFunction) (path : List (List Node)) (digest : List Node) (j last : ℕ) (r : List ℕ) → 0 < last →
     j ≤ last → last ≤ 2 ^ 62 →
     (2 * (j / 2) + (1 - j % 2) ≤ last → (value : List ℕ) × (digest ≡ Hash value ∷ [])) →
@@ -105,3 +108,27 @@ passed hash path digest j last r some within small node padding = elim (parity j
             )
       ]
 ]
+
+-- half of an ancestor
+pub half_of : (n l : ℕ) → n / 2 ^ suc l ≡ n / 2 ^ l / 2
+half_of n l = ap (λ p. n / p) (pow-suc 2 l) ∙ sym (div-div-eq-div-mul n (2 ^ l) 2)
+
+-- a level of a log of so many entries
+pub level_passed : (hash : HashFunction) (path : List (List Node)) (digest : List Node) (size i l : ℕ) (r : List ℕ) →
+    i < size → size ≤ 2 ^ 62 → 2 ^ l < size → IsFilled size l (sibling_slot i l) digest →
+    IsPassed hash path digest (i / 2 ^ l) ((size - 1) / 2 ^ l) r
+level_passed hash path digest size i l r inside small more filled =
+    let k = 2 ^ l in
+    let pos : 0 < k = pow_pos l in
+    let slot : sibling_slot i l ≡ 2 * (i / k / 2) + (1 - i / k % 2) =
+    ap (λ j. 2 * j + (1 - i / k % 2)) (half_of i l) in
+    let w : IsFilled size l (2 * (i / k / 2) + (1 - i / k % 2)) digest = rw slot at filled in
+    passed hash path digest (i / k) ((size - 1) / k) r
+    ((le-div_iff_mul-le pos).1 (omega arith))
+    ((le-div_iff_mul-le pos).1 (omega (arith, div-mul-le_self i k)))
+    (omega (arith, div-le_self (size - 1) k))
+    (λ le. let up = (le-div_iff_mul-le pos).0 le in w.node (omega arith))
+    (λ past. w.padding (elim (cases_lt ((2 * (i / k / 2) + (1 - i / k % 2)) * k) size) [
+      | inl below ↦ let le = (le-div_iff_mul-le {x = 2 * (i / k / 2) + (1 - i / k % 2)} {y = size - 1} pos).1 (omega arith) in absurd (omega arith)
+      | inr above ↦ above
+    ]))
