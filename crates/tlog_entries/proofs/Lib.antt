@@ -1,3 +1,4 @@
 pub mod Shapes
 pub mod Walks
 pub mod Included
+pub mod Restored
