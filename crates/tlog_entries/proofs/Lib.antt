@@ -2,3 +2,5 @@ pub mod Shapes
 pub mod Walks
 pub mod Included
 pub mod Restored
+pub mod ShapeFacts
+pub mod BoundaryFacts

@@ -2,5 +2,7 @@
 //! 2 over one column of leaf hashes, with a compression that passes an only child on.
 #![tactic(auto)]
 
+mod boundary;
+mod error;
 mod node;
 mod tree;

@@ -1,0 +1,68 @@
+//! The nodes whose digests a proof of several entries has, and the padding beside them.
+ghost use Rattle.std.specs.Prelude.{◌≡◌, ◌+◌, ◌*◌, ◌^◌, ◌<◌, ◌≤◌, ◌++◌, All, IfOk, filter, map, not};
+ghost use Rattle.p3_merkle_core.specs.Geometry.{levels};
+ghost use Rattle.p3_merkle_core.specs.Inner.Agreement.{IsAscending};
+ghost use Rattle.p3_merkle_core.specs.Inner.Children.{children_under};
+ghost use Rattle.p3_merkle_core.specs.Pruning.{boundary};
+ghost use Rattle.p3_support.specs.Lists.{is_among};
+ghost use Rattle.tlog.specs.Verdicts.{size_limit};
+ghost use Rattle.tlog_entries.specs.Instance.{log_shape};
+
+use p3_merkle_core::pruning::{climb, distinct_indices};
+use p3_merkle_core::steps::steps_of;
+use p3_support::matrix::Dimensions;
+use std::alloc::{AllocError, Global};
+
+/// The slots whose digests a proof of some entries has, each by its layer and its place there: layer by layer from the
+/// leaves, ascending, padding included. It allocates a list of the covered nodes for each layer.
+///
+/// # Errors
+///
+/// `AllocError` if memory runs out.
+pub(crate) fn boundary_slots(
+    alloc: Global,
+    size: usize,
+    indices: &[usize],
+) -> Result<Vec<(usize, usize)>, AllocError>
+    requires limit { size ≤ size_limit }
+    requires within { All (λ index. index < size) indices.now }
+    ensures { let s = log_shape size in
+        IfOk result (λ slots. slots.items ≡ boundary s indices.now (levels s)) }
+{
+    let dimensions = [Dimensions {
+        width: 1,
+        height: size,
+    }];
+    let num_levels = steps_of(&dimensions, 2).num_levels;
+    let mut covered = distinct_indices(alloc, indices)?;
+    let mut slots = Vec::new(alloc);
+    for layer in 0..num_levels {
+        let below = Vec::from_slice(alloc, &covered)?;
+        climb(&mut covered, 2);
+        push_uncovered(&mut slots, layer, &covered, &below)?;
+    }
+    Ok(slots)
+}
+
+/// Adds the children of some nodes that are not covered, in order. `layer` is the children's layer, whose covered nodes
+/// ascend.
+fn push_uncovered(
+    slots: &mut Vec<(usize, usize)>,
+    layer: usize,
+    parents: &[usize],
+    covered: &[usize],
+) -> Result<(), AllocError>
+    requires ascending { IsAscending covered.now }
+    requires fits { All (λ parent. 2 * parent + 2 < 2 ^ 64) parents.now }
+    ensures { IfOk result (λ done. slots.new.items ≡ slots.old.items
+        ++ map (λ j. (layer, j)) (filter (λ j. not (is_among covered.now j)) (children_under 2 parents.now))) }
+{
+    for parent in parents {
+        for child in 2 * *parent..2 * *parent + 2 {
+            if covered.binary_search(&child).is_err() {
+                slots.push((layer, child))?;
+            }
+        }
+    }
+    Ok(())
+}
