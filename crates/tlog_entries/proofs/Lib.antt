@@ -4,3 +4,4 @@ pub mod Included
 pub mod Restored
 pub mod ShapeFacts
 pub mod BoundaryFacts
+pub mod PaddingFacts

@@ -1,10 +1,10 @@
 -- The shape of a log.
-use Rattle.std.proofs.Common.{◌≡◌, ℕ, suc, ◌+◌, ◌*◌, ◌/◌, ◌^◌, ◌<◌, ◌≤◌, Bool, true, false, not, List, [], ◌∷◌, ◌++◌, map}
+use Rattle.std.proofs.Common.{◌≡◌, ℕ, zero, suc, ◌+◌, ◌*◌, ◌/◌, ◌^◌, ◌<◌, ◌≤◌, Bool, true, false, not, List, [], ◌∷◌, ◌++◌, map}
 use Rattle.std.proofs.Common.{filter, refl, ap, sym, ◌∙◌, arith, add-one, eqb, length, get_or, All}
 use Rattle.std.specs.List.{flat_map, range_with_len}
 use Rattle.std.proofs.lemmas.Bool.{eqb-true}
-use Rattle.std.proofs.lemmas.List.{get_or_default, map-append}
-use Rattle.std.proofs.lemmas.List.Elements.{filter-append}
+use Rattle.std.proofs.lemmas.List.{get_or_default, get_or-map, length-map}
+use Rattle.std.proofs.lemmas.List.Elements.{All-append, filter-append}
 use Rattle.std.proofs.lemmas.List.Folds.{Any-from_list_any}
 use Rattle.std.proofs.Math.Nat.{div-le_self}
 use Rattle.p3_support.specs.Batches.{greatest}
@@ -21,6 +21,8 @@ use Rattle.p3_merkle_core.proofs.Lists.ListFacts.{joined_more}
 use Rattle.p3_merkle_core.proofs.Lists.RisingFacts.{by_groups, listed_at, rising_filter}
 use Rattle.p3_merkle_core.proofs.Pruned.SlotFacts.{ascending_from}
 use Rattle.p3_merkle_core.proofs.Shapes.ArityFacts.{arity_from}
+use Rattle.p3_merkle_core.proofs.Shapes.LadderFacts.{levels_le}
+use Rattle.p3_merkle_core.proofs.Shapes.LeastFacts.{exponent_le}
 use Rattle.p3_merkle_core.proofs.Shapes.OneHeight.{step_is_arity}
 use Rattle.tlog.specs.Verdicts.{size_limit}
 use Rattle.tlog_entries.specs.Instance.{log_shape}
@@ -91,3 +93,24 @@ boundary_more size indices l here above old new below h is_here is_above is_old 
     ∙ ap (λ n. by_groups n p (covered_at s indices (suc l))) (sym (log_step size l))
     ∙ boundary_by_lists s indices (levels s) (log_query size indices below) l h in
     is_new ∙ rw (is_old, is_here, is_above, groups, add-one) (sym (joined_more (boundary_at s indices) l))
+
+-- ---- the layers of the boundary
+
+layers_below : (s : Shape) (indices : List ℕ) (m t : ℕ) → t ≤ m → All (λ slot. slot.0 < m) (boundary s indices t)
+layers_below s indices m zero h = λ k d below. absurd (omega arith)
+layers_below s indices m (suc t) h =
+    let js = filter (is_boundary s indices t) (range_with_len 0 (layer_len s t)) in
+    let last : All (λ slot. slot.0 < m) (boundary_at s indices t) =
+    λ k d below.
+    let inside : k < length js = omega (arith, length-map {B = ℕ × ℕ} js (λ (j : ℕ). (t, j))) in
+    rw (get_or-map {Y = ℕ × ℕ} (λ (j : ℕ). (t, j)) js k 0 d inside) (omega arith) in
+    rw (joined_more (boundary_at s indices) t)
+    (All-append (λ (slot : ℕ × ℕ). slot.0 < m) (boundary s indices t) (boundary_at s indices t)
+    (layers_below s indices m t (omega arith)) last)
+
+pub layers_small : (size : ℕ) (indices : List ℕ) (slots : List (ℕ × ℕ)) → size ≤ size_limit →
+    slots ≡ boundary (log_shape size) indices (levels (log_shape size)) → All (λ slot. slot.0 < 64) slots
+layers_small size indices slots small is =
+    let few : levels (log_shape size) ≤ 62 =
+    omega (arith, levels_le (log_shape size), exponent_le size 62 small, ap exponent (log_greatest size)) in
+    rw is (layers_below (log_shape size) indices 64 (levels (log_shape size)) (omega arith))

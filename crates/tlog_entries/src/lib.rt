@@ -5,4 +5,5 @@
 mod boundary;
 mod error;
 mod node;
+mod opening;
 mod tree;
