@@ -5,3 +5,4 @@ pub mod Restored
 pub mod ShapeFacts
 pub mod BoundaryFacts
 pub mod PaddingFacts
+pub mod EntriesFacts

@@ -1,11 +1,12 @@
 -- Several entries by one proof: its digests, when it is accepted, and why it is refused.
-use Rattle.std.specs.Prelude.{◌≡◌, ℕ, ◌*◌, ◌^◌, ◌<◌, ◌==◌, nat_lt, nat_le, if◌then◌else◌, Bool, All, List, [], ◌∷◌, ◌++◌}
+use Rattle.std.specs.Prelude.{◌≡◌, ℕ, ◌*◌, ◌^◌, ◌<◌, ◌==◌, nat_lt, nat_le, if◌then◌else◌, Bool, not, ◌||◌, All}
+use Rattle.std.specs.Prelude.{List, [], ◌∷◌, ◌++◌}
 use Rattle.std.specs.Prelude.{length, map, filter, zip, take, drop, slice_index, slice_index_or, Option, option_map}
 use Rattle.std.specs.List.{list_all}
 use Rattle.std.specs.Option.{option_or}
 use Rattle.p3_support.specs.Batches.{greatest}
 use Rattle.p3_merkle_core.specs.Geometry.{levels}
-use Rattle.p3_merkle_core.specs.Pruning.{PrunedOpening, boundary, pruned_of, restored_path, value_at}
+use Rattle.p3_merkle_core.specs.Pruning.{PrunedOpening, boundary, pruned_of, restored_path}
 use Rattle.p3_merkle_core.specs.Refusals.{first_of, first_some, unless}
 use Rattle.tlog.specs.Rfc9162.{Hash as HashFunction}
 use Rattle.tlog.specs.Verdicts.{IsIncluded, inclusion_refusal, is_same, size_limit}
@@ -83,9 +84,10 @@ abbrev pub form_refusal : ℕ → List ℕ → ℕ → ℕ → Option EntriesErr
 form_refusal size indices leaves digests =
     option_or (indices_refusal size indices leaves) (digests_refusal (length (proof_nodes size indices)) digests)
 
--- whether each leaf hash is the first one of its index
+-- whether no index has two leaf hashes
 abbrev pub is_one_leaf_each : List (ℕ × List ℕ) → Bool
-is_one_leaf_each pairs = list_all (λ (index, leaf). is_same leaf (value_at (λ i. i == index) pairs [])) pairs
+is_one_leaf_each pairs =
+    list_all (λ (index, leaf). list_all (λ (other, hash). not (index == other) || is_same leaf hash) pairs) pairs
 
 -- why entries are refused: their form; two leaf hashes of one index; or a path that the standard refuses, which can
 -- only lead to another root

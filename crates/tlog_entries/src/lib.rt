@@ -5,5 +5,6 @@
 mod boundary;
 mod error;
 mod node;
+pub mod laws;
 mod opening;
 mod tree;
