@@ -6,3 +6,4 @@ pub mod ShapeFacts
 pub mod BoundaryFacts
 pub mod PaddingFacts
 pub mod EntriesFacts
+pub mod VerdictFacts

@@ -1,8 +1,8 @@
 -- The digests of slots: those of a proof, and padding.
 use Rattle.std.proofs.Common.{◌≡◌, ℕ, suc, ◌+◌, ◌-◌, ◌*◌, ◌/◌, ◌^◌, ◌<◌, ◌≤◌, true, false, List, [], ◌∷◌, ◌++◌, map, filter}
 use Rattle.std.proofs.Common.{refl, ap, sym, ◌∙◌, arith, inl, inr, length, take, drop, drop-cons, get_or, Some, None}
-use Rattle.std.proofs.Common.{append_assoc, take-append-drop, append-nil, length-append, nat_le, nat_lt}
-use Rattle.std.proofs.lemmas.Bool.{cases_Bool, cases_lt}
+use Rattle.std.proofs.Common.{append_assoc, take-append-drop, length-append, length-drop, nat_le}
+use Rattle.std.proofs.lemmas.Bool.{cases_Bool, cases_lt, lt-ltb, ltb-true, true≢false}
 use Rattle.std.proofs.lemmas.Bool.Decides.{nat_tests}
 use Rattle.std.proofs.lemmas.List.{drop-drop, take_more}
 use Rattle.std.proofs.lemmas.List.Elements.{filter-append}
@@ -10,9 +10,11 @@ use Rattle.std.proofs.lemmas.Nat.{pow_pos}
 use Rattle.std.proofs.Math.Nat.{le-div_iff_mul-le}
 use Rattle.p3_merkle_core.specs.Refusals.{unless}
 use Rattle.tlog_entries.specs.Entries.{digests_refusal, is_node, with_padding}
+use Rattle.tlog_entries.specs.Instance.{AreFilled, IsFilled}
 use Rattle.tlog_entries.specs.declared.error.EntriesError.TheVariants.{TooFewDigests, TooManyDigests}
 use Rattle.tlog_entries.specs.declared.node.Node.{Node}
 use Rattle.tlog_entries.specs.declared.node.Node.TheVariants.{Absent, Hash}
+use Rattle.tlog_entries.proofs.Shapes.{one_taken}
 
 -- ---- nodes
 
@@ -122,3 +124,44 @@ too_few size slots proof i used digests h t all w =
     let less : length proof < length (filter (is_node size) slots) = omega (arith, w.counted, count_next size slots i h) in
     let no : nat_le (length (filter (is_node size) slots)) (length proof) ≡ false = grind (arith, nat_tests) in
     rw no refl
+
+-- ---- filled
+
+-- the digests are filled by the count, where the proof has one for each node
+pub padded_filled : (size : ℕ) (slots : List (ℕ × ℕ)) (proof : List (List ℕ)) →
+    length proof ≡ length (filter (is_node size) slots) → AreFilled size slots (with_padding size slots proof)
+padded_filled size [] proof e = tt
+padded_filled size ((l, j) ∷ slots) proof e =
+    let rest = filter (is_node size) slots in
+    elim (cases_Bool (is_node size (l, j))) [
+      | inl t ↦
+          let more : length proof ≡ suc (length rest) = rw t at e in
+          let left : length (drop 1 proof) ≡ length rest = omega (arith, length-drop 1 proof) in
+          let first : take 1 proof ≡ get_or proof 0 [] ∷ [] = one_taken proof 0 [] (omega arith) in
+          let is : with_padding size ((l, j) ∷ slots) proof
+          ≡ (Hash (get_or proof 0 []) ∷ []) ∷ with_padding size slots (drop 1 proof) = rw (t, first) refl in
+          rw is (
+            record {
+              node = λ below. (get_or proof 0 [], refl);
+              padding = λ above. let below = ltb-true (j * 2 ^ l) size t in absurd (omega arith);
+            },
+            padded_filled size slots (drop 1 proof) left,
+          )
+      | inr n ↦
+          let left : length proof ≡ length rest = rw n at e in
+          let is : with_padding size ((l, j) ∷ slots) proof ≡ (Absent ∷ []) ∷ with_padding size slots proof = rw n refl in
+          rw is (
+            record {
+              node = λ below. absurd (true≢false (sym (lt-ltb (j * 2 ^ l) size below) ∙ n));
+              padding = λ above. refl;
+            },
+            padded_filled size slots proof left,
+          )
+    ]
+
+pub filled_length : (size : ℕ) (slots : List (ℕ × ℕ)) (digests : List (List Node)) → AreFilled size slots digests →
+    length digests ≡ length slots
+filled_length size [] [] w = refl
+filled_length size [] (digest ∷ digests) w = absurd w
+filled_length size (slot ∷ slots) [] w = absurd w
+filled_length size (slot ∷ slots) (digest ∷ digests) w = ap suc (filled_length size slots digests w.1)

@@ -1,4 +1,4 @@
--- The shape of a log.
+-- The boundary of some entries in the tree of a log.
 use Rattle.std.proofs.Common.{◌≡◌, ℕ, zero, suc, ◌+◌, ◌*◌, ◌/◌, ◌^◌, ◌<◌, ◌≤◌, Bool, true, false, not, List, [], ◌∷◌, ◌++◌, map}
 use Rattle.std.proofs.Common.{filter, refl, ap, sym, ◌∙◌, arith, add-one, eqb, length, get_or, All}
 use Rattle.std.specs.List.{flat_map, range_with_len}
@@ -14,37 +14,23 @@ use Rattle.p3_merkle_core.specs.Geometry.{levels, step}
 use Rattle.p3_merkle_core.specs.Inner.Agreement.{IsAscending}
 use Rattle.p3_merkle_core.specs.Inner.Children.{children_under}
 use Rattle.p3_merkle_core.specs.Inner.Covered.{covered_at}
-use Rattle.p3_merkle_core.specs.OneHeight.{HasHeight}
 use Rattle.p3_merkle_core.specs.Pruning.{CanQuery, boundary, boundary_at, is_boundary, is_covered}
 use Rattle.p3_merkle_core.proofs.Covered.CoveredFacts.{boundary_by_lists, listed_covered}
 use Rattle.p3_merkle_core.proofs.Lists.ListFacts.{joined_more}
 use Rattle.p3_merkle_core.proofs.Lists.RisingFacts.{by_groups, listed_at, rising_filter}
 use Rattle.p3_merkle_core.proofs.Pruned.SlotFacts.{ascending_from}
-use Rattle.p3_merkle_core.proofs.Shapes.ArityFacts.{arity_from}
 use Rattle.p3_merkle_core.proofs.Shapes.LadderFacts.{levels_le}
 use Rattle.p3_merkle_core.proofs.Shapes.LeastFacts.{exponent_le}
-use Rattle.p3_merkle_core.proofs.Shapes.OneHeight.{step_is_arity}
 use Rattle.tlog.specs.Verdicts.{size_limit}
 use Rattle.tlog_entries.specs.Instance.{log_shape}
-
-pub two : IsArity 2
-two = arity_from 2 refl
-
-pub log_height : (size : ℕ) → HasHeight (log_shape size) size
-log_height size = record { some_matrix = omega arith; each = λ k d h. let z : k ≡ 0 = omega arith in rw z refl }
-
-pub log_step : (size l : ℕ) → step (log_shape size) l ≡ 2
-log_step size l = step_is_arity (log_shape size) two size (log_height size) l
-
-pub log_greatest : (size : ℕ) → greatest (heights (log_shape size)) ≡ size
-log_greatest size = omega arith
+use Rattle.tlog_entries.proofs.Shapes.{step_of_two, tallest, two_is_arity}
 
 -- indices below the size can be queried
 pub log_query : (size : ℕ) (indices : List ℕ) → All (λ i. i < size) indices →
     CanQuery (log_shape size) indices (levels (log_shape size))
 log_query size indices below = record {
-  well_shaped = two;
-  below = λ k d h. omega (arith, below k d h, log_greatest size);
+  well_shaped = two_is_arity;
+  below = λ k d h. omega (arith, below k d h, tallest size);
   in_tree = omega arith;
 }
 
@@ -90,7 +76,7 @@ boundary_more size indices l here above old new below h is_here is_above is_old 
     let groups : filter p (children_under 2 (covered_at s indices (suc l)))
     ≡ filter (is_boundary s indices l) (range_with_len 0 (layer_len s l)) =
     children_by_groups p 2 (covered_at s indices (suc l))
-    ∙ ap (λ n. by_groups n p (covered_at s indices (suc l))) (sym (log_step size l))
+    ∙ ap (λ n. by_groups n p (covered_at s indices (suc l))) (sym (step_of_two size l))
     ∙ boundary_by_lists s indices (levels s) (log_query size indices below) l h in
     is_new ∙ rw (is_old, is_here, is_above, groups, add-one) (sym (joined_more (boundary_at s indices) l))
 
@@ -112,5 +98,5 @@ pub layers_small : (size : ℕ) (indices : List ℕ) (slots : List (ℕ × ℕ))
     slots ≡ boundary (log_shape size) indices (levels (log_shape size)) → All (λ slot. slot.0 < 64) slots
 layers_small size indices slots small is =
     let few : levels (log_shape size) ≤ 62 =
-    omega (arith, levels_le (log_shape size), exponent_le size 62 small, ap exponent (log_greatest size)) in
+    omega (arith, levels_le (log_shape size), exponent_le size 62 small, ap exponent (tallest size)) in
     rw is (layers_below (log_shape size) indices 64 (levels (log_shape size)) (omega arith))

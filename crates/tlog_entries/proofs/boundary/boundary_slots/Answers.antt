@@ -4,7 +4,8 @@ use Rattle.p3_merkle_core.specs.Geometry.{levels}
 use Rattle.p3_merkle_core.specs.Inner.Covered.{covered_at}
 use Rattle.p3_merkle_core.proofs.Pruned.SlotFacts.{climbed, distinct_from}
 use Rattle.tlog_entries.specs.Instance.{log_shape}
-use Rattle.tlog_entries.proofs.ShapeFacts.{boundary_more, covered_ascend, log_query, log_step, parents_fit}
+use Rattle.tlog_entries.proofs.ShapeFacts.{boundary_more, covered_ascend, log_query, parents_fit}
+use Rattle.tlog_entries.proofs.Shapes.{step_of_two}
 use Rattle.tlog_entries.proofs.boundary.boundary_slots.Goals as goal
 
 pub loop-layer-init : goal.loop-layer-init
@@ -32,7 +33,7 @@ push_uncovered-requires-clause-fits c =
     parents_fit size indices (suc l) c.deref-in-loop-layer.result.now c.requires.limit c.requires.within
     (c.deref-in-loop-layer.ensures.value ∙ climbed (log_shape size) indices (levels (log_shape size))
     (log_query size indices c.requires.within) l 2 c.loop-layer.covered.items c.climb.new.covered.items below
-    c.climb.ensures (sym (log_step size l)) c.loop-layer.invariant.covered)
+    c.climb.ensures (sym (step_of_two size l)) c.loop-layer.invariant.covered)
 
 pub loop-layer-preserved : goal.loop-layer-preserved
 loop-layer-preserved c =
@@ -45,7 +46,7 @@ loop-layer-preserved c =
     let below : l < levels (log_shape size) = omega arith in
     let is_below = c.loop-layer.invariant.covered in
     let is_above = climbed (log_shape size) indices (levels (log_shape size)) (log_query size indices c.requires.within) l 2
-    c.loop-layer.covered.items c.climb.new.covered.items below c.climb.ensures (sym (log_step size l)) is_below in
+    c.loop-layer.covered.items c.climb.new.covered.items below c.climb.ensures (sym (step_of_two size l)) is_below in
     record {
       covered = rw add-one is_above;
       so_far = boundary_more size indices l c.deref-in-loop-layer-2.result.now c.deref-in-loop-layer.result.now
