@@ -18,20 +18,18 @@ use Rattle.tlog_entries.proofs.Shapes.{one_taken}
 
 -- ---- nodes
 
-pub is_a_node : (size l j : ℕ) → 0 < size → j ≤ (size - 1) / 2 ^ l → is_node size (l, j) ≡ true
-is_a_node size l j some h =
+pub node_test : (size l j : ℕ) → 0 < size → nat_le j ((size - 1) / 2 ^ l) ≡ is_node size (l, j)
+node_test size l j some =
     let some_leaves : 0 < 2 ^ l = pow_pos l in
-    let below : j * 2 ^ l ≤ size - 1 = (le-div_iff_mul-le {k = 2 ^ l} some_leaves).0 h in
-    grind (arith, nat_tests)
-
-pub is_padding : (size l j : ℕ) → 0 < size → (size - 1) / 2 ^ l < j → is_node size (l, j) ≡ false
-is_padding size l j some h =
-    let some_leaves : 0 < 2 ^ l = pow_pos l in
+    let whole = le-div_iff_mul-le {k = 2 ^ l} {x = j} {y = size - 1} some_leaves in
     elim (cases_lt (j * 2 ^ l) size) [
-      | inl less ↦
-          let no : j ≤ (size - 1) / 2 ^ l = (le-div_iff_mul-le {k = 2 ^ l} some_leaves).1 (omega arith) in
-          absurd (omega arith)
-      | inr rest ↦ grind (arith, nat_tests)
+      | inl less ↦ let le : j ≤ (size - 1) / 2 ^ l = whole.1 (omega arith) in grind (arith, nat_tests)
+      | inr rest ↦
+          let more : (size - 1) / 2 ^ l < j = elim (cases_lt ((size - 1) / 2 ^ l) j) [
+            | inl above ↦ above
+            | inr below ↦ let le : j * 2 ^ l ≤ size - 1 = whole.0 (omega arith) in absurd (omega arith)
+          ] in
+          grind (arith, nat_tests)
     ]
 
 -- ---- slot by slot

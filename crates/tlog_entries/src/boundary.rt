@@ -6,12 +6,48 @@ ghost use Rattle.p3_merkle_core.specs.Inner.Children.{children_under};
 ghost use Rattle.p3_merkle_core.specs.Pruning.{boundary};
 ghost use Rattle.p3_support.specs.Lists.{is_among};
 ghost use Rattle.tlog.specs.Verdicts.{size_limit};
+ghost use Rattle.tlog_entries.specs.Entries.{is_node as is_node_by, proof_nodes};
 ghost use Rattle.tlog_entries.specs.Instance.{log_shape};
 
 use p3_merkle_core::pruning::{climb, distinct_indices};
 use p3_merkle_core::steps::steps_of;
 use p3_support::matrix::Dimensions;
 use std::alloc::{AllocError, Global};
+
+/// The nodes whose values are the proof of the entries at these indices, counted from 0, in a log of `size` entries, in
+/// the order of the proof: their layers and slots, as a `TreeBuilder` takes them.
+///
+/// # Errors
+///
+/// `AllocError` if memory runs out.
+pub fn entry_places(
+    alloc: Global,
+    indices: &[usize],
+    size: usize,
+) -> Result<Vec<(usize, usize)>, AllocError>
+    requires some { 0 < size }
+    requires limit { size ≤ size_limit }
+    requires within { All (λ index. index < size) indices.now }
+    ensures { IfOk result (λ places. places.items ≡ proof_nodes size indices.now) }
+{
+    let slots = boundary_slots(alloc, size, indices)?;
+    let mut places = Vec::new(alloc);
+    for slot in &slots {
+        if is_node(size, *slot) {
+            places.push(*slot)?;
+        }
+    }
+    Ok(places)
+}
+
+/// Whether a slot, given by its layer and its place there, is a node: whether it has entries below it.
+pub(crate) fn is_node(size: usize, slot: (usize, usize)) -> bool
+    requires some { 0 < size }
+    requires layer { slot.0 < 64 }
+    ensures { result ≡ is_node_by size slot }
+{
+    slot.1 <= (size - 1) >> slot.0
+}
 
 /// The slots whose digests a proof of some entries has, each by its layer and its place there: layer by layer from the
 /// leaves, ascending, padding included. It allocates a list of the covered nodes for each layer.
@@ -26,8 +62,9 @@ pub(crate) fn boundary_slots(
 ) -> Result<Vec<(usize, usize)>, AllocError>
     requires limit { size ≤ size_limit }
     requires within { All (λ index. index < size) indices.now }
-    ensures { let s = log_shape size in
+    ensures boundary { let s = log_shape size in
         IfOk result (λ slots. slots.items ≡ boundary s indices.now (levels s)) }
+    ensures layers { IfOk result (λ slots. All (λ slot. slot.0 < 64) slots.items) }
 {
     let dimensions = [Dimensions {
         width: 1,

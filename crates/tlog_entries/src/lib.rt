@@ -4,7 +4,10 @@
 
 mod boundary;
 mod error;
-mod node;
 pub mod laws;
+mod node;
 mod opening;
 mod tree;
+
+pub use boundary::entry_places;
+pub use error::EntriesError;

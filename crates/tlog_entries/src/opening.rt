@@ -3,12 +3,12 @@ ghost use Rattle.std.specs.Prelude.{◌≡◌, ◌<◌, All, IfOk, MatchResult, 
 ghost use Rattle.p3_merkle_core.specs.Views.{pruned_made};
 ghost use Rattle.p3_support.specs.Answers.{AnswersUnless};
 ghost use Rattle.p3_support.specs.Shown.{row_sets};
-ghost use Rattle.tlog_entries.specs.Entries.{digests_refusal, entries_opening, form_refusal, indices_refusal, is_node};
-ghost use Rattle.tlog_entries.specs.Entries.{with_padding as with_padding_of};
+ghost use Rattle.tlog_entries.specs.Entries.{digests_refusal, entries_opening, form_refusal, indices_refusal};
+ghost use Rattle.tlog_entries.specs.Entries.{is_node as is_node_by, with_padding as with_padding_of};
 ghost use Rattle.tlog_entries.specs.Instance.{leaf_row};
 ghost use Rattle.tlog_entries.specs.declared.error.EntriesError.TheVariants.{OutOfMemory};
 
-use crate::boundary::boundary_slots;
+use crate::boundary::{boundary_slots, is_node};
 use crate::error::EntriesError;
 use crate::node::Node;
 use p3_merkle_core::geometry::MAX_HEIGHT;
@@ -68,15 +68,14 @@ fn with_padding(
     requires some { 0 < size }
     requires layers { All (λ slot. slot.0 < 64) slots.now }
     ensures answer { AnswersUnless (λ e. e ≡ OutOfMemory) result
-        (digests_refusal (length (filter (is_node size) slots.now)) (length proof.now)) }
+        (digests_refusal (length (filter (is_node_by size) slots.now)) (length proof.now)) }
     ensures digests { IfOk result (λ digests. digests.items ≡ with_padding_of size slots.now proof.now) }
 {
     let mut digests = Vec::new(alloc);
     let mut used = 0;
-    for place in slots {
-        let (layer, slot) = *place;
+    for slot in slots {
         let mut word = Node::Absent;
-        if slot <= (size - 1) >> layer {
+        if is_node(size, *slot) {
             if used == proof.len() {
                 return Err(EntriesError::TooFewDigests);
             }

@@ -1,10 +1,10 @@
 -- Each turn is one layer.
 use Rattle.std.proofs.Common.{◌≡◌, ◌<◌, ◌∙◌, add-one, ap, arith, sym, suc}
 use Rattle.p3_merkle_core.specs.Geometry.{levels}
-use Rattle.p3_merkle_core.specs.Inner.Covered.{covered_at}
+use Rattle.p3_merkle_core.specs.Pruning.{boundary}
 use Rattle.p3_merkle_core.proofs.Pruned.SlotFacts.{climbed, distinct_from}
 use Rattle.tlog_entries.specs.Instance.{log_shape}
-use Rattle.tlog_entries.proofs.ShapeFacts.{boundary_more, covered_ascend, log_query, parents_fit}
+use Rattle.tlog_entries.proofs.ShapeFacts.{boundary_more, covered_ascend, layers_small, log_query, parents_fit}
 use Rattle.tlog_entries.proofs.Shapes.{step_of_two}
 use Rattle.tlog_entries.proofs.boundary.boundary_slots.Goals as goal
 
@@ -55,3 +55,13 @@ loop-layer-preserved c =
           (c.deref-in-loop-layer.ensures.value ∙ is_above) c.loop-layer.invariant.so_far
           c.in_ok-push_uncovered.ensures;
     }
+
+pub returns-clause-layers : goal.returns-clause-layers
+returns-clause-layers c =
+    let size = c.args.size in
+    let steps = c.steps_of-num_levels in
+    let whole : steps.result.num_levels ≡ levels (log_shape size) =
+    rw (steps.ensures.arity, steps.ensures.dimensions) at steps.result.walked.whole in
+    let top : c.loop-layer.layer ≡ levels (log_shape size) = omega arith in
+    layers_small size c.args.indices.now c.loop-layer.slots.items c.requires.limit
+    (c.loop-layer.invariant.so_far ∙ ap (boundary (log_shape size) c.args.indices.now) top)
