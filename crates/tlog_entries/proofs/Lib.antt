@@ -2,6 +2,7 @@ pub mod Shapes
 pub mod Walks
 pub mod Included
 pub mod Restored
+pub mod Nodes
 pub mod ShapeFacts
 pub mod BoundaryFacts
 pub mod PaddingFacts

@@ -1,7 +1,7 @@
 -- A log's tree as a tree of arity 2: over one column of leaf hashes, under any hash function.
-use Rattle.std.specs.Prelude.{◌≡◌, ℕ, ◌*◌, ◌^◌, ◌<◌, ◌≤◌, List, [], ◌∷◌, flat_map}
+use Rattle.std.specs.Prelude.{◌≡◌, ℕ, ◌*◌, ◌^◌, ◌<◌, ◌≤◌, List, [], ◌∷◌, length, flat_map, slice_index_or}
 use Rattle.p3_merkle_core.specs.Geometry.{Shape, levels, shape_of}
-use Rattle.p3_merkle_core.specs.Nodes.{Functions, functions_of}
+use Rattle.p3_merkle_core.specs.Nodes.{Batch, Functions, functions_of}
 use Rattle.p3_merkle_core.specs.Checks.{Params, params}
 use Rattle.tlog.specs.Rfc9162.{Hash as HashFunction}
 use Rattle.tlog_entries.specs.Nodes.{last_word, parent_digest}
@@ -47,3 +47,15 @@ abbrev pub AreFilled : ℕ → List (ℕ × ℕ) → List (List Node) → Type 0
 AreFilled size [] [] = Unit {0}
 AreFilled size ((l, j) ∷ slots) (digest ∷ digests) = IsFilled size l j digest × AreFilled size slots digests
 AreFilled size slots digests = ⊥
+
+-- a log's leaf hashes as a matrix of one column
+abbrev pub log_batch : List (List ℕ) → Batch Node
+log_batch leaves = record {
+  arity = 2;
+  matrices =
+      record {
+        height = length leaves;
+        width = 1;
+        row = λ i. Hash (slice_index_or leaves i []) ∷ [];
+      } ∷ [];
+}
