@@ -44,8 +44,7 @@ module _ (hash : HashFunction) (size i : ℕ) (leaf : List ℕ) (path : List (Li
       next_reached size hash (opening_of i (leaf_row leaf) path) l below (omega arith)
       ∙ ap (λ digest. parent_digest hash (insert (get_or path l [] ∷ []) (i / 2 ^ l % 2) digest)) at ∙ step.1 in
       let rest = ends_from d (suc l) step.0 (omega arith) up in
-      let more : drop l path ≡ get_or path l [] ∷ drop (suc l) path = rw add-one at (drop_more path l [] (omega arith)) in
-      (
+      let more : drop l path ≡ get_or path l [] ∷ drop (suc l) path = rw add-one at (drop_more path l [] (omega arith)) in (
         rest.0,
         rest.1,
         rw more (step.2 rest.0 (rw (half_of i l, half_of (size - 1) l) at rest.2)),
@@ -68,19 +67,18 @@ module _ (hash : HashFunction) (size i : ℕ) (leaf : List ℕ) (path : List (Li
       let t = levels s in
       let o = opening_of i (leaf_row leaf) path in
       let top : ancestor s t i ≡ 0 =
-      ancestor_of_two size t i ∙ div-eq_of_lt (omega (arith, root_covers size)) in
-      (
+      ancestor_of_two size t i ∙ div-eq_of_lt (omega (arith, root_covers size)) in (
         λ accepted.
             let is : slice_get (root_cap root) (ancestor s t i) ≡ Some (reached t) =
             accepted_walk (log_functions hash) s t (root_cap root) o accepted in
             let at : Some (Hash root ∷ []) ≡ Some (Hash ends.0 ∷ []) = rw (top, ends.1) at is in
             let same : ends.0 ≡ root = cc in
-            record { within = inside; ends = rw same at ends.2; },
+            record { within = inside; ends = rw same at ends.2 },
         λ included.
             let is : ◌≡◌ {A = Option (ℕ × List ℕ)} (Some (0, ends.0)) (Some (0, root)) = sym ends.2 ∙ included.ends in
             let pair : ◌≡◌ {A = ℕ × List ℕ} (0, ends.0) (0, root) = cc in
             let same : ends.0 ≡ root = ap (λ (p : ℕ × List ℕ). p.1) pair in
             accepted_by_walk (log_functions hash) s t (root_cap root) o (lawful size (omega arith) small) refl
-                (long ∙ sym (one_sibling size t)) (rw (tallest size) inside)
-                (rw (top, ends.1, same) refl),
+            (long ∙ sym (one_sibling size t)) (rw (tallest size) inside)
+            (rw (top, ends.1, same) refl),
       )

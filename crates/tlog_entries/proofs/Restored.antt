@@ -5,7 +5,7 @@ use Rattle.std.proofs.Common.{◌==◌, ◌&&◌, eqb, map, get_or, refl, sym, a
 use Rattle.std.specs.Prelude.{All, ◌↔◌}
 use Rattle.std.specs.List.{find, flat_map, range_with_len}
 use Rattle.std.specs.Option.{option_map, unwrap_or}
-use Rattle.std.proofs.lemmas.Bool.{and_parts, cases_Bool, cases_eq, cases_lt, cond-false, cond-true, eqb-true, true≢false}
+use Rattle.std.proofs.lemmas.Bool.{and_parts, cases_Bool, cases_lt, cond-false, cond-true, eqb-true, true≢false}
 use Rattle.std.proofs.lemmas.List.{get_or-map, length-map}
 use Rattle.std.proofs.lemmas.List.FromFn.{get_or-map-range_with_len}
 use Rattle.std.proofs.Math.Nat.{div-mul-le_self, mul_assoc, pow-succ'}
@@ -27,7 +27,7 @@ use Rattle.tlog_entries.specs.Instance.{AreFilled, IsFilled, leaf_row, log_funct
 use Rattle.tlog_entries.specs.Instance.{root_cap}
 use Rattle.tlog_entries.specs.declared.node.Node.{Node}
 use Rattle.tlog_entries.specs.declared.node.Node.TheVariants.{Absent, Hash}
-use Rattle.tlog_entries.proofs.Shapes.{ancestor_of_two, one_column, one_sibling, sibling_slot, step_of_two, tallest}
+use Rattle.tlog_entries.proofs.Shapes.{ancestor_of_two, one_column, one_level_sibling, one_sibling, sibling_slot, step_of_two, tallest}
 use Rattle.tlog_entries.proofs.Shapes.{two_is_arity}
 use Rattle.tlog_entries.proofs.Included.{accepted_if_included}
 
@@ -102,7 +102,7 @@ module _ (hash : HashFunction) (size : ℕ) (indices : List ℕ) (leaves : List 
             let is : value l (2 * j + k) ≡ restored =
             cond-true (is_covered s indices l (2 * j + k)) restored sent y in
             let inside = covered_inside l (2 * j + k) y in
-            rw is (record { node = λ h. there y; padding = λ h. absurd (omega arith); })
+            rw is (record { node = λ h. there y; padding = λ h. absurd (omega arith) })
         | inr n ↦
             let is : value l (2 * j + k) ≡ sent =
             cond-false (is_covered s indices l (2 * j + k)) restored sent n in
@@ -120,8 +120,7 @@ module _ (hash : HashFunction) (size : ℕ) (indices : List ℕ) (leaves : List 
       let u = rows_under_is s indices (map leaf_row leaves) 0 j (length-map leaves leaf_row ∙ paired) covered in
       let leaf = get_or leaves u.0 [] in
       let row : first_rows (λ i. ancestor s 0 i == j) p ≡ leaf_row leaf =
-      u.3 ∙ get_or-map leaf_row leaves u.0 [] [] (let k = u.1 in omega arith) in
-      (
+      u.3 ∙ get_or-map leaf_row leaves u.0 [] [] (let k = u.1 in omega arith) in (
         leaf,
         restored_leaf (log_functions hash) s top p j
             ∙ ap last_word (ap (λ rows. layer_words s rows 0) row
@@ -138,8 +137,7 @@ module _ (hash : HashFunction) (size : ℕ) (indices : List ℕ) (leaves : List 
       let double : 2 * j + 0 ≡ j * 2 = omega arith in
       rw (double, mul_assoc j 2 (2 ^ l), ← pow-succ' 2 l) (covered_inside (suc l) j covered) in
       let parent = parent_there hash size l (2 * j + 0) (2 * j + 1) left right inside first second in
-      let group : group_values s value l j ≡ left ∷ right ∷ [] = rw (step_of_two size l) refl in
-      (
+      let group : group_values s value l j ≡ left ∷ right ∷ [] = rw (step_of_two size l) refl in (
         parent.0,
         restored_next f s top p l j
             ∙ ap (λ has. with_rows f 2 has (compress_padded f 2 (group_values s value l j))
@@ -150,20 +148,11 @@ module _ (hash : HashFunction) (size : ℕ) (indices : List ℕ) (leaves : List 
             ∙ parent.1,
       )
 
-  -- the sibling of level l on a restored path
-  sibling_is : (i l : ℕ) → level_siblings value (log_shape size) i l ≡ value l (sibling_slot i l) ∷ []
-  sibling_is i l =
-      let pos = i / 2 ^ l % 2 in
-      rw (step_of_two size l, ancestor_of_two size l i, ancestor_of_two size (suc l) i)
-      (elim (cases_eq pos 0) [
-        | inl even ↦ rw even refl
-        | inr odd ↦ let one : pos ≡ 1 = omega arith in rw one refl
-      ])
-
+  -- the siblings on a restored path
   path_is : (i a n : ℕ) → flat_map (level_siblings value (log_shape size) i) (range_with_len a n)
       ≡ map (λ l. value l (sibling_slot i l)) (range_with_len a n)
   path_is i a zero = refl
-  path_is i a (suc n) = rw (sibling_is i a, path_is i (a + 1) n) refl
+  path_is i a (suc n) = rw (one_level_sibling size value i a, path_is i (a + 1) n) refl
 
   -- each query is accepted exactly if the standard accepts its siblings that are there
   pub query_accepted : (k : ℕ) (root : List ℕ) → size ≤ size_limit → k < length indices →

@@ -2,6 +2,8 @@
 use Rattle.std.proofs.Common.{◌≡◌, ℕ, zero, suc, ◌+◌, ◌-◌, ◌*◌, ◌/◌, ◌%◌, ◌^◌, ◌<◌, ◌≤◌, List, [], ◌∷◌}
 use Rattle.std.proofs.Common.{length, take, drop, get_or, insert, refl, ap, ◌∙◌, arith}
 use Rattle.std.specs.Prelude.{All}
+use Rattle.std.proofs.lemmas.Bool.{cases_eq}
+use Rattle.std.proofs.Common.{inl, inr}
 use Rattle.std.proofs.lemmas.List.{at_drop_more}
 use Rattle.std.proofs.lemmas.List.Edits.{length-insert}
 use Rattle.p3_support.specs.Batches.{greatest}
@@ -9,7 +11,7 @@ use Rattle.p3_merkle_core.specs.Geometry.{IsArity, expected_height, height_limit
 use Rattle.p3_merkle_core.specs.Geometry.{position_in_group}
 use Rattle.p3_merkle_core.specs.Nodes.{compress_padded, with_rows}
 use Rattle.p3_merkle_core.specs.OneHeight.{HasHeight}
-use Rattle.p3_merkle_core.specs.Openings.{Opening}
+use Rattle.p3_merkle_core.specs.Openings.{Opening, level_siblings}
 use Rattle.p3_merkle_core.specs.Checks.{group_at, layer_words, path_digest, siblings_at, siblings_below}
 use Rattle.p3_merkle_core.proofs.Shapes.OneHeight.{full_group, greatest_is, levels_are, levels_cover, no_rows_above, step_is_arity}
 use Rattle.p3_merkle_core.proofs.Growths.HeightFacts.{power_below}
@@ -24,7 +26,7 @@ use Rattle.tlog_entries.specs.declared.node.Node.TheVariants.{Hash}
 
 pub two_is_arity : IsArity 2
 unfolding exponent
-two_is_arity = record { power = refl; above_1 = omega arith; fits = omega arith; }
+two_is_arity = record { power = refl; above_1 = omega arith; fits = omega arith }
 
 -- of one element
 pub only : {X : Type 0} (P : X → Type 0) (x : X) → P x → All P (x ∷ [])
@@ -41,7 +43,7 @@ one_taken xs l d there = at_drop_more (take 1) xs l d there
 
 module _ (size : ℕ) where
   pub one_column : HasHeight (log_shape size) size
-  one_column = record { some_matrix = omega arith; each = only (λ d. d.height ≡ size) (record { width = 1; height = size }) refl; }
+  one_column = record { some_matrix = omega arith; each = only (λ d. d.height ≡ size) (record { width = 1; height = size }) refl }
 
   pub step_of_two : (l : ℕ) → step (log_shape size) l ≡ 2
   step_of_two l = step_is_arity (log_shape size) two_is_arity size one_column l
@@ -73,6 +75,16 @@ module _ (size : ℕ) where
 
   pub one_sibling : (l : ℕ) → siblings_below (log_shape size) l ≡ l
   one_sibling l = siblings_are (log_shape size) two_is_arity size one_column l ∙ omega arith
+
+  -- each level of a path has one sibling
+  pub one_level_sibling : {X : Type 0} (value : ℕ → ℕ → X) (i l : ℕ) →
+      level_siblings value (log_shape size) i l ≡ value l (sibling_slot i l) ∷ []
+  one_level_sibling value i l =
+      let place = i / 2 ^ l % 2 in
+      rw (step_of_two l, ancestor_of_two l i, ancestor_of_two (suc l) i) (elim (cases_eq place 0) [
+        | inl even ↦ rw even refl
+        | inr odd ↦ let one : place ≡ 1 = omega arith in rw one refl
+      ])
 
   module _ (hash : HashFunction) (o : Opening Node Node) where
     -- the leaf
