@@ -11,16 +11,18 @@ use Rattle.p3_merkle_core.proofs.Checks.CheckFacts.{accepted_by_walk, accepted_w
 use Rattle.tlog.specs.Rfc9162.{Hash as HashFunction, inclusion_walk}
 use Rattle.tlog.specs.Verdicts.{IsIncluded, size_limit}
 use Rattle.tlog_entries.specs.Nodes.{parent_digest}
-use Rattle.tlog_entries.specs.Instance.{IsFilled, leaf_row, log_functions, log_params, log_shape, present, root_cap}
+use Rattle.tlog_entries.specs.Instance.{IsPathFilled, leaf_row, log_functions, log_params, log_shape, present, root_cap}
 use Rattle.tlog_entries.specs.declared.node.Node.{Node}
 use Rattle.tlog_entries.specs.declared.node.Node.TheVariants.{Hash}
 use Rattle.tlog_entries.proofs.Shapes.{ancestor_of_two, lawful, leaf_reached, more_below, next_reached, one_sibling}
-use Rattle.tlog_entries.proofs.Shapes.{root_covers, sibling_slot, tallest}
+use Rattle.tlog_entries.proofs.Shapes.{root_covers, tallest}
 use Rattle.tlog_entries.proofs.Walks.{half_of, level_passed}
 
 module _ (hash : HashFunction) (size i : ℕ) (leaf : List ℕ) (path : List (List Node)) (inside : i < size)
-    (small : size ≤ size_limit) (long : length path ≡ levels (log_shape size))
-    (filled : (l : ℕ) → l < levels (log_shape size) → IsFilled size l (sibling_slot i l) (get_or path l [])) where
+    (small : size ≤ size_limit) (filled : IsPathFilled size i path) where
+  long : length path ≡ levels (log_shape size)
+  long = filled.count
+
   -- the digest that the check reaches at a layer
   abbrev reached : ℕ → List Node
   reached l = path_digest (log_functions hash) (log_shape size) (opening_of i (leaf_row leaf) path) l
@@ -39,7 +41,7 @@ module _ (hash : HashFunction) (size i : ℕ) (leaf : List ℕ) (path : List (Li
   ends_from (suc d) l r e at =
       let below : l < levels (log_shape size) = omega arith in
       let step = level_passed hash (drop (suc l) path) (get_or path l []) size i l r inside small
-      (more_below size l below) (filled l below) in
+      (more_below size l below) (filled.each l below) in
       let up : reached (suc l) ≡ Hash step.0 ∷ [] =
       next_reached size hash (opening_of i (leaf_row leaf) path) l below (omega arith)
       ∙ ap (λ digest. parent_digest hash (insert (get_or path l [] ∷ []) (i / 2 ^ l % 2) digest)) at ∙ step.1 in

@@ -3,6 +3,7 @@ pub mod Walks
 pub mod Included
 pub mod Restored
 pub mod Nodes
+pub mod Leaves
 pub mod Honest
 pub mod ShapeFacts
 pub mod BoundaryFacts

@@ -23,11 +23,11 @@ use Rattle.p3_merkle_core.proofs.Shapes.OneHeight.{full_group, no_rows_above}
 use Rattle.tlog.specs.Rfc9162.{Hash as HashFunction, node_hash}
 use Rattle.tlog.specs.Verdicts.{IsIncluded, size_limit}
 use Rattle.tlog_entries.specs.Nodes.{last_word, parent_digest}
-use Rattle.tlog_entries.specs.Instance.{AreFilled, IsFilled, leaf_row, log_functions, log_params, log_shape, present}
+use Rattle.tlog_entries.specs.Instance.{sibling_slot, AreFilled, IsFilled, leaf_row, log_functions, log_params, log_shape, present}
 use Rattle.tlog_entries.specs.Instance.{root_cap}
 use Rattle.tlog_entries.specs.declared.node.Node.{Node}
 use Rattle.tlog_entries.specs.declared.node.Node.TheVariants.{Absent, Hash}
-use Rattle.tlog_entries.proofs.Shapes.{ancestor_of_two, one_column, one_level_sibling, one_sibling, sibling_slot, step_of_two, tallest}
+use Rattle.tlog_entries.proofs.Shapes.{ancestor_of_two, one_column, one_level_sibling, one_sibling, step_of_two, tallest}
 use Rattle.tlog_entries.proofs.Shapes.{two_is_arity}
 use Rattle.tlog_entries.proofs.Included.{accepted_if_included}
 
@@ -166,13 +166,14 @@ module _ (hash : HashFunction) (size : ℕ) (indices : List ℕ) (leaves : List 
       let row : get_or (map leaf_row leaves) k [] ≡ leaf_row leaf =
       get_or-map leaf_row leaves k [] [] (omega arith) in
       rw row (accepted_if_included hash size i leaf path (below k 0 inside) small
-      (path_length (log_shape size) two_is_arity value i top ∙ one_sibling size top)
-      (λ l low.
-      let at : get_or path l [] ≡ value l (sibling_slot i l) =
-      ap (λ ds. get_or ds l []) (path_is i 0 top)
-      ∙ get_or-map-range_with_len (λ l. value l (sibling_slot i l)) 0 top l l [] low (omega arith) in
-      let covered : is_covered (log_shape size) indices (suc l) (i / 2 ^ suc l) ≡ true =
-      rw (ancestor_of_two size (suc l) i) at (query_covered (log_shape size) indices k (suc l) inside) in
-      rw at (child_filled l (i / 2 ^ suc l) (1 - i / 2 ^ l % 2) low covered (omega arith)
-      (λ y. there l (sibling_slot i l) (omega arith) y)))
-      root)
+      (record {
+        count = path_length (log_shape size) two_is_arity value i top ∙ one_sibling size top;
+        each = λ l low.
+            let at : get_or path l [] ≡ value l (sibling_slot i l) =
+            ap (λ ds. get_or ds l []) (path_is i 0 top)
+            ∙ get_or-map-range_with_len (λ l. value l (sibling_slot i l)) 0 top l l [] low (omega arith) in
+            let covered : is_covered (log_shape size) indices (suc l) (i / 2 ^ suc l) ≡ true =
+            rw (ancestor_of_two size (suc l) i) at (query_covered (log_shape size) indices k (suc l) inside) in
+            rw at (child_filled l (i / 2 ^ suc l) (1 - i / 2 ^ l % 2) low covered (omega arith)
+            (λ y. there l (sibling_slot i l) (omega arith) y));
+      }) root)

@@ -1,5 +1,5 @@
 -- The tree of a log of some entries: its layers, and what a check of an opening reaches in them.
-use Rattle.std.proofs.Common.{◌≡◌, ℕ, zero, suc, ◌+◌, ◌-◌, ◌*◌, ◌/◌, ◌%◌, ◌^◌, ◌<◌, ◌≤◌, List, [], ◌∷◌}
+use Rattle.std.proofs.Common.{◌≡◌, ℕ, zero, suc, ◌-◌, ◌/◌, ◌%◌, ◌^◌, ◌<◌, ◌≤◌, List, [], ◌∷◌}
 use Rattle.std.proofs.Common.{length, take, drop, get_or, insert, refl, ap, ◌∙◌, arith}
 use Rattle.std.specs.Prelude.{All}
 use Rattle.std.proofs.lemmas.Bool.{cases_eq}
@@ -20,7 +20,7 @@ use Rattle.p3_merkle_core.proofs.Checks.Completeness.{reached_leaf, reached_next
 use Rattle.tlog.specs.Rfc9162.{Hash as HashFunction}
 use Rattle.tlog.specs.Verdicts.{size_limit}
 use Rattle.tlog_entries.specs.Nodes.{last_word, parent_digest}
-use Rattle.tlog_entries.specs.Instance.{leaf_row, log_functions, log_shape}
+use Rattle.tlog_entries.specs.Instance.{leaf_row, log_functions, log_shape, sibling_slot}
 use Rattle.tlog_entries.specs.declared.node.Node.{Node}
 use Rattle.tlog_entries.specs.declared.node.Node.TheVariants.{Hash}
 
@@ -32,10 +32,6 @@ two_is_arity = record { power = refl; above_1 = omega arith; fits = omega arith 
 pub only : {X : Type 0} (P : X → Type 0) (x : X) → P x → All P (x ∷ [])
 only P x h zero d inside = h
 only P x h (suc k) d inside = absurd (omega arith)
-
--- the sibling of the node above leaf i in layer l
-abbrev pub sibling_slot : ℕ → ℕ → ℕ
-sibling_slot i l = 2 * (i / 2 ^ suc l) + (1 - i / 2 ^ l % 2)
 
 -- an element
 pub one_taken : {X : Type 0} (xs : List X) (l : ℕ) (d : X) → l < length xs → take 1 (drop l xs) ≡ get_or xs l d ∷ []

@@ -13,10 +13,9 @@ use Rattle.tlog.proofs.Bits.{half_double, zeros_of_double, zeros_of_odd}
 use Rattle.tlog.proofs.Climbs.{parity}
 use Rattle.tlog.proofs.Walks.{inclusion_left, inclusion_right}
 use Rattle.tlog_entries.specs.Nodes.{parent_digest}
-use Rattle.tlog_entries.specs.Instance.{IsFilled, present}
+use Rattle.tlog_entries.specs.Instance.{sibling_slot, IsFilled, present}
 use Rattle.tlog_entries.specs.declared.node.Node.{Node}
 use Rattle.tlog_entries.specs.declared.node.Node.TheVariants.{Absent, Hash}
-use Rattle.tlog_entries.proofs.Shapes.{sibling_slot}
 
 -- past a left sibling
 past_left : (hash : HashFunction) (value : List ℕ) (path : List (List ℕ)) (i last : ℕ) (r : List ℕ) → i ≤ 2 ^ 62 →

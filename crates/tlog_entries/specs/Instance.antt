@@ -1,5 +1,5 @@
 -- A log's tree as a tree of arity 2: over one column of leaf hashes, under any hash function.
-use Rattle.std.specs.Prelude.{◌≡◌, ℕ, ◌*◌, ◌^◌, ◌<◌, ◌≤◌, List, [], ◌∷◌, length, flat_map, slice_index_or}
+use Rattle.std.specs.Prelude.{◌≡◌, ℕ, suc, ◌+◌, ◌-◌, ◌*◌, ◌/◌, ◌%◌, ◌^◌, ◌<◌, ◌≤◌, List, [], ◌∷◌, length, flat_map, slice_index_or}
 use Rattle.p3_merkle_core.specs.Geometry.{Shape, levels, shape_of}
 use Rattle.p3_merkle_core.specs.Nodes.{Batch, Functions, functions_of}
 use Rattle.p3_merkle_core.specs.Checks.{Params, params}
@@ -47,6 +47,16 @@ abbrev pub AreFilled : ℕ → List (ℕ × ℕ) → List (List Node) → Type 0
 AreFilled size [] [] = Unit {0}
 AreFilled size ((l, j) ∷ slots) (digest ∷ digests) = IsFilled size l j digest × AreFilled size slots digests
 AreFilled size slots digests = ⊥
+
+-- the slot of the sibling of leaf i's ancestor in layer l
+abbrev pub sibling_slot : ℕ → ℕ → ℕ
+sibling_slot i l = 2 * (i / 2 ^ suc l) + (1 - i / 2 ^ l % 2)
+
+-- a digest for each sibling of leaf i up to the root
+pub record IsPathFilled (size i : ℕ) (path : List (List Node)) : Type 0 where
+  pub count : length path ≡ levels (log_shape size)
+  pub each : (l : ℕ) → l < levels (log_shape size) →
+      IsFilled size l (sibling_slot i l) (slice_index_or path l [])
 
 -- a log's leaf hashes as a matrix of one column
 abbrev pub log_batch : List (List ℕ) → Batch Node

@@ -3,6 +3,21 @@ ghost use Rattle.std.specs.Prelude.{◌≡◌, ◌≤◌, ◌↔◌, ℕ, List, 
 ghost use Rattle.tlog.specs.Verdicts.{size_limit};
 ghost use Rattle.tlog.specs.Rfc9162.{Hash};
 ghost use Rattle.tlog_entries.specs.Entries.{AreIncluded, entries_refusal};
+ghost use Rattle.tlog_entries.specs.Laws.{CapIsMth, NodesAreMth, OpeningIsInclusion, QueryIsInclusion};
+ghost use Rattle.tlog_entries.specs.Laws.{RestoredArePaths, SiblingsArePath};
+
+/// A log's tree (RFC 9162, 2.1) is the tree of arity 2 over one column of leaf hashes whose compression passes an only
+/// child on, for every hash function and sizes up to 2^62: its nodes and its cap are MTH, its honest openings are PATH,
+/// and its openings are accepted exactly as the algorithm of 2.1.3.2 accepts. In an opening the digests of padding are
+/// absent; the standard's proofs have none.
+pub fn log_tree()
+    ensures nodes { NodesAreMth }
+    ensures cap { CapIsMth }
+    ensures siblings { SiblingsArePath }
+    ensures opening { OpeningIsInclusion }
+    ensures restored { RestoredArePaths }
+    ensures query { QueryIsInclusion }
+{}
 
 /// What is not refused is what is accepted.
 pub fn unrefused_is_accepted()
