@@ -10,3 +10,4 @@ pub mod BoundaryFacts
 pub mod PaddingFacts
 pub mod EntriesFacts
 pub mod VerdictFacts
+pub mod HonestEntries
