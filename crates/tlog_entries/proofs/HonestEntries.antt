@@ -14,7 +14,7 @@ use Rattle.tlog.specs.Rfc9162.{Hash as HashFunction}
 use Rattle.tlog.specs.Verdicts.{size_limit}
 use Rattle.tlog.proofs.Honest.{included}
 use Rattle.tlog.proofs.Layers.{itself}
-use Rattle.tlog_tree.specs.Trees.{leaves_root, node_at}
+use Rattle.tlog_tree.specs.Trees.{all_there, leaves_root, node_at, values_at as tree_values}
 use Rattle.tlog_entries.specs.Entries.{AreIncluded, entries_opening, is_node, proof_nodes, with_padding}
 use Rattle.tlog_entries.specs.Instance.{leaf_row, log_batch, log_functions, log_params, log_shape, present}
 use Rattle.tlog_entries.specs.declared.node.Node.{Node}
@@ -102,5 +102,15 @@ module _ (hash : HashFunction) (leaves : List (List ℕ)) (some : 0 < length lea
         let path_is = ap (λ p. present (restored_path (log_params hash (length leaves)) p i)) (opening_is_honest indices)
         ∙ restored_is_path hash leaves some indices k small within h in
         rw (leaf, path_is)
-        (record { within = within k 0 h; ends = included hash itself leaves i [] (within k 0 h) small; });
+        (record { within = within k 0 h; ends = included hash itself leaves i [] (within k 0 h) small });
   }
+
+  -- they are all there in the tree
+  pub values_there : (slots : List (ℕ × ℕ)) → let nodes = filter (is_node (length leaves)) slots in
+      tree_values hash leaves nodes ≡ all_there (values_at nodes)
+  values_there [] = refl
+  values_there ((l, j) ∷ slots) =
+      elim (cases_Bool (nat_lt (j * 2 ^ l) (length leaves))) [
+        | inl t ↦ rw (t, values_there slots, t) refl
+        | inr f ↦ rw f (values_there slots)
+      ]

@@ -115,14 +115,14 @@ module _ (hash : HashFunction) (size : ℕ) (indices : List ℕ) (leaves proof :
       groups = λ l. elim l as (λ l. (a b : ℕ) → l ≤ levels s → a < length indices → b < length indices →
           ancestor s l (get_or indices a 0) ≡ ancestor s l (get_or indices b 0) →
           layer_rows s (get_or p.rows a []) l ≡ layer_rows s (get_or p.rows b []) l) [
-        | zero ↦ λ a b le h g same.
-            let alone : get_or indices a 0 ≡ get_or indices b 0 =
-            omega (arith, same, ancestor_of_two size 0 (get_or indices a 0), ancestor_of_two size 0 (get_or indices b 0)) in
-            ap (λ rows. layer_rows s rows 0) (row a h ∙ ap leaf_row (one a b h g alone) ∙ sym (row b g))
-        | suc l ↦ λ a b le h g same.
-            rw (row a h, row b g) (no_rows (get_or leaves a []) (suc l) (omega arith) le
-            ∙ sym (no_rows (get_or leaves b []) (suc l) (omega arith) le))
-      ];
+            | zero ↦ λ a b le h g same.
+                let alone : get_or indices a 0 ≡ get_or indices b 0 =
+                omega (arith, same, ancestor_of_two size 0 (get_or indices a 0), ancestor_of_two size 0 (get_or indices b 0)) in
+                ap (λ rows. layer_rows s rows 0) (row a h ∙ ap leaf_row (one a b h g alone) ∙ sym (row b g))
+            | suc l ↦ λ a b le h g same.
+                rw (row a h, row b g) (no_rows (get_or leaves a []) (suc l) (omega arith) le
+                ∙ sym (no_rows (get_or leaves b []) (suc l) (omega arith) le))
+          ];
     };
   }
 
@@ -176,12 +176,12 @@ module _ (hash : HashFunction) (size : ℕ) (indices : List ℕ) (leaves proof :
         ∷ group_refusal row_eq s (levels s) p ∷ [] in
         elim (found (λ x. unless (test x) (why x)) (zip indices p.rows)) [
           | inl none ↦ absurd (two (λ a b h g same.
-          let first = λ (k : ℕ) (l : k < length indices).
-          (pointwise_decides (pointwise_decides dec) (get_or p.rows k []) (rows_of p (get_or indices k 0))).0
-          (unless_none (test (get_or indices k 0, get_or p.rows k [])) (why (get_or indices k 0, get_or p.rows k []))
-          (paired_none (λ x. unless (test x) (why x)) indices p.rows k [] none paired l)) in
-          let e : leaf_row (get_or leaves a []) ≡ leaf_row (get_or leaves b []) =
-          sym (row a h) ∙ first a h ∙ ap (rows_of p) same ∙ sym (first b g) ∙ row b g in cc))
+              let first = λ (k : ℕ) (l : k < length indices).
+              (pointwise_decides (pointwise_decides dec) (get_or p.rows k []) (rows_of p (get_or indices k 0))).0
+              (unless_none (test (get_or indices k 0, get_or p.rows k [])) (why (get_or indices k 0, get_or p.rows k []))
+              (paired_none (λ x. unless (test x) (why x)) indices p.rows k [] none paired l)) in
+              let e : leaf_row (get_or leaves a []) ≡ leaf_row (get_or leaves b []) =
+              sym (row a h) ∙ first a h ∙ ap (rows_of p) same ∙ sym (first b g) ∙ row b g in cc))
           | inr q ↦
               let is = unless_some (test q.0) (why q.0) q.1 q.2 in
               let duplicate : duplicate_refusal row_eq p ≡ Some (why q.0) = q.3 ∙ ap Some is in (
@@ -215,13 +215,13 @@ module _ (hash : HashFunction) (size : ℕ) (indices : List ℕ) (leaves proof :
                 let no = sym (ap (λ o. option_or o (cap_refusal digest_eq c (root_cap root) p)) twice.1) ∙ is in
                 absurd cc
             | inl t ↦ elim (mapped RootMismatch (first_of (λ (x : ℕ × List ℕ). inclusion_refusal hash x.0 size x.1
-            (entry_path hash size indices leaves proof x.0) root) pairs)) [
-              | inl none ↦
-                  let accepted = each_accepted (accepted_from hash size indices leaves proof root form t none) in
-                  elim (w.accepted_is_ok accepted) [ inl e ↦ absurd cc | inr e ↦ absurd cc ]
-              | inr e ↦ skip (form_refusal size indices (length leaves) (length proof)) _ _ no_form_refusal
-                  (skip (unless one TwoLeafHashes) _ _ (none_unless one TwoLeafHashes t) (ap (λ o. option_or o None) e))
-            ]
+                (entry_path hash size indices leaves proof x.0) root) pairs)) [
+                  | inl none ↦
+                      let accepted = each_accepted (accepted_from hash size indices leaves proof root form t none) in
+                      elim (w.accepted_is_ok accepted) [ inl e ↦ absurd cc | inr e ↦ absurd cc ]
+                  | inr e ↦ skip (form_refusal size indices (length leaves) (length proof)) _ _ no_form_refusal
+                      (skip (unless one TwoLeafHashes) _ _ (none_unless one TwoLeafHashes t) (ap (λ o. option_or o None) e))
+                ]
           ]
         ]
 

@@ -98,5 +98,5 @@ entries_refusal hash size indices leaves proof root =
     form_refusal size indices (length leaves) (length proof)
     ∷ unless (is_one_leaf_each pairs) TwoLeafHashes
     ∷ option_map (λ e. RootMismatch) (first_of (λ (index, leaf).
-      inclusion_refusal hash index size leaf (entry_path hash size indices leaves proof index) root) pairs)
+    inclusion_refusal hash index size leaf (entry_path hash size indices leaves proof index) root) pairs)
     ∷ [])

@@ -1,12 +1,14 @@
 //! The nodes whose digests a proof of several entries has, and the padding beside them.
-ghost use Rattle.std.specs.Prelude.{◌≡◌, ◌+◌, ◌*◌, ◌^◌, ◌<◌, ◌≤◌, ◌++◌, All, IfOk, filter, map, not};
+ghost use Rattle.std.specs.Prelude.{◌≡◌, ℕ, List, [], length, slice_index_or, ◌+◌, ◌*◌, ◌^◌, ◌<◌, ◌≤◌, ◌++◌, All, IfOk, filter, map, not};
 ghost use Rattle.p3_merkle_core.specs.Geometry.{levels};
 ghost use Rattle.p3_merkle_core.specs.Inner.Agreement.{IsAscending};
 ghost use Rattle.p3_merkle_core.specs.Inner.Children.{children_under};
 ghost use Rattle.p3_merkle_core.specs.Pruning.{boundary};
 ghost use Rattle.p3_support.specs.Lists.{is_among};
+ghost use Rattle.tlog.specs.Rfc9162.{Hash};
 ghost use Rattle.tlog.specs.Verdicts.{size_limit};
-ghost use Rattle.tlog_entries.specs.Entries.{is_node as is_node_by, proof_nodes};
+ghost use Rattle.tlog_tree.specs.Trees.{all_there, leaves_root, values_at};
+ghost use Rattle.tlog_entries.specs.Entries.{AreIncluded, is_node as is_node_by, proof_nodes};
 ghost use Rattle.tlog_entries.specs.Instance.{log_shape};
 
 use p3_merkle_core::pruning::{climb, distinct_indices};
@@ -28,7 +30,13 @@ pub fn entry_places(
     requires some { 0 < size }
     requires limit { size ≤ size_limit }
     requires within { All (λ index. index < size) indices.now }
-    ensures { IfOk result (λ places. places.items ≡ proof_nodes size indices.now) }
+    ensures places { IfOk result (λ places. places.items ≡ proof_nodes size indices.now) }
+
+    // The values of these nodes in any log of the size are there, and prove its entries.
+    ensures accepted { IfOk result (λ places. (hash : Hash) (leaves : List (List ℕ)) → length leaves ≡ size →
+        0 < length indices.now → (proof : List (List ℕ)) × (values_at hash leaves places.items ≡ all_there proof)
+        × AreIncluded hash size indices.now (map (λ i. slice_index_or leaves i []) indices.now) proof
+        (leaves_root hash leaves)) }
 {
     let slots = boundary_slots(alloc, size, indices)?;
     let mut places = Vec::new(alloc);
