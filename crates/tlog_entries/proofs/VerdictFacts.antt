@@ -1,6 +1,6 @@
 -- What the port's verdict on the opening of entries says of them.
 use Rattle.std.proofs.Common.{◌≡◌, ℕ, zero, suc, ◌+◌, ◌-◌, ◌/◌, ◌<◌, ◌≤◌, Bool, true, false, List, [], ◌∷◌, map, refl, ap}
-use Rattle.std.proofs.Common.{sym, ◌∙◌, arith, eqb, inl, inr, length, get_or, nat_lt, zip, All, Option, Some, None}
+use Rattle.std.proofs.Common.{sym, subst, ◌∙◌, arith, eqb, inl, inr, length, get_or, nat_lt, zip, All, Option, Some, None}
 use Rattle.std.specs.Prelude.{Result, Ok, Err, IsOk, ◌⊎◌, ◌≢◌, ◌||◌}
 use Rattle.std.specs.Bool.{Decides}
 use Rattle.std.specs.Option.{option_map, option_or}
@@ -72,6 +72,15 @@ mapped y (Some x) = inr refl
 or_nothing : (b : Bool) → (b || false) ≡ false → b ≡ false
 or_nothing true e = e
 or_nothing false e = refl
+
+-- the port's verdict is on what was handed to it
+pub verdict_is : {V : Type 0} (result : Result V MerkleTreeError) (row_eq digest_eq : Node → Node → Bool)
+    {c d : Params Node Node} {roots cap : List (List Node)} {lent shown : PrunedOpening Node Node} → c ≡ d →
+    roots ≡ cap → lent ≡ shown → IsVerdict (presented_pruned row_eq digest_eq c roots lent) result →
+    IsVerdict (presented_pruned row_eq digest_eq d cap shown) result
+verdict_is result row_eq digest_eq c_is roots_are lent_is verdict =
+    subst (λ (x : Presented Node Node). IsVerdict x result)
+    (λ i. presented_pruned row_eq digest_eq (c_is i) (roots_are i) (lent_is i)) verdict
 
 -- ---- the opening
 

@@ -1,5 +1,6 @@
 -- A log's tree as a tree of arity 2: over one column of leaf hashes, under any hash function.
 use Rattle.std.specs.Prelude.{◌≡◌, ℕ, suc, ◌+◌, ◌-◌, ◌*◌, ◌/◌, ◌%◌, ◌^◌, ◌<◌, ◌≤◌, List, [], ◌∷◌, length, flat_map, slice_index_or}
+use Rattle.p3_support.specs.declared.matrix.Dimensions.{Dimensions}
 use Rattle.p3_merkle_core.specs.Geometry.{Shape, levels, shape_of}
 use Rattle.p3_merkle_core.specs.Nodes.{Batch, Functions, functions_of}
 use Rattle.p3_merkle_core.specs.Checks.{Params, params}
@@ -12,9 +13,13 @@ use Rattle.tlog_entries.specs.declared.node.Node.TheVariants.{Absent, Hash}
 abbrev pub log_functions : HashFunction → Functions Node Node
 log_functions hash = functions_of last_word (parent_digest hash) (Absent ∷ [])
 
--- the tree of so many entries: of arity 2, over one matrix of one column
+-- the dimensions of a log of so many entries: one column of leaf hashes
+abbrev pub log_dimensions : ℕ → List Dimensions
+log_dimensions size = record { width = 1; height = size } ∷ []
+
+-- the tree of so many entries: of arity 2, over this column
 abbrev pub log_shape : ℕ → Shape
-log_shape size = shape_of 2 (record { width = 1; height = size } ∷ [])
+log_shape size = shape_of 2 (log_dimensions size)
 
 -- what openings of a log of so many entries are checked against: the cap is the root
 abbrev pub log_params : HashFunction → ℕ → Params Node Node

@@ -11,9 +11,9 @@ ghost use Rattle.tlog_tree.specs.Trees.{all_there, leaves_root, values_at};
 ghost use Rattle.tlog_entries.specs.Entries.{AreIncluded, is_node as is_node_by, proof_nodes};
 ghost use Rattle.tlog_entries.specs.Instance.{log_shape};
 
+use crate::tree::dimensions_of;
 use p3_merkle_core::pruning::{climb, distinct_indices};
 use p3_merkle_core::steps::steps_of;
-use p3_support::matrix::Dimensions;
 use std::alloc::{AllocError, Global};
 
 /// The nodes whose values are the proof of the entries at these indices, counted from 0, in a log of `size` entries, in
@@ -74,11 +74,7 @@ pub(crate) fn boundary_slots(
         IfOk result (λ slots. slots.items ≡ boundary s indices.now (levels s)) }
     ensures layers { IfOk result (λ slots. All (λ slot. slot.0 < 64) slots.items) }
 {
-    let dimensions = [Dimensions {
-        width: 1,
-        height: size,
-    }];
-    let num_levels = steps_of(&dimensions, 2).num_levels;
+    let num_levels = steps_of(&dimensions_of(size), 2).num_levels;
     let mut covered = distinct_indices(alloc, indices)?;
     let mut slots = Vec::new(alloc);
     for layer in 0..num_levels {

@@ -3,11 +3,15 @@
 #![tactic(auto)]
 
 mod boundary;
+mod collision;
 mod error;
 pub mod laws;
 mod node;
 mod opening;
 mod tree;
+mod verify;
 
 pub use boundary::entry_places;
+pub use collision::entries_collision;
 pub use error::EntriesError;
+pub use verify::verify_entries;

@@ -1,13 +1,17 @@
 //! The hash and the compression of a log's tree (RFC 9162, 2.1.1).
 ghost use Rattle.std.specs.Prelude.{◌≡◌, ℕ, ◌<◌, ◌∷◌, [], map};
 ghost use Rattle.sha2.specs.Sha256.{sha256};
+ghost use Rattle.p3_merkle_mmcs.specs.Schemes.{params_of};
 ghost use Rattle.p3_support.specs.Lists.{lane_of};
+ghost use Rattle.tlog_entries.specs.Instance.{log_dimensions, log_params};
 ghost use Rattle.tlog_entries.specs.Nodes.{last_word, parent_digest, parent};
 ghost use Rattle.tlog_entries.specs.declared.node.Node.TheVariants.{Absent};
 
 use crate::node::Node;
+use p3_merkle_mmcs::mmcs::MerkleTreeMmcs;
 use p3_support::compress::PseudoCompressionFunction;
 use p3_support::hasher::CryptographicHasher;
+use p3_support::matrix::Dimensions;
 use std::convert::AsSlice;
 use tlog::node_hash;
 
@@ -98,4 +102,23 @@ impl PseudoCompressionFunction<Node, 2, 1> for NodeHashes {
     {
         self.compress(input)
     }
+}
+
+/// The scheme of a log's tree, whose cap is the root.
+pub(crate) fn log_scheme() -> MerkleTreeMmcs<Node, Node, LeafHashes, NodeHashes, 2, 1>
+    ensures { (size : ℕ) → params_of ⟦<LeafHashes as CryptographicHasher<Node, Node, 1>>⟧.hash
+        ⟦<NodeHashes as PseudoCompressionFunction<Node, 2, 1>>⟧.compression 1 result (log_dimensions size)
+        ≡ log_params sha256 size }
+{
+    MerkleTreeMmcs::new(LeafHashes, NodeHashes, 0)
+}
+
+/// The dimensions of the column of a log's leaf hashes.
+pub(crate) fn dimensions_of(size: usize) -> [Dimensions; 1]
+    ensures { result ≡ log_dimensions size }
+{
+    [Dimensions {
+        width: 1,
+        height: size,
+    }]
 }
