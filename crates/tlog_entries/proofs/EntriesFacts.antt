@@ -1,13 +1,14 @@
 -- What is not refused is what is accepted.
 use Rattle.std.proofs.Common.{◌≡◌, ℕ, suc, ◌+◌, ◌<◌, ◌≤◌, Bool, true, false, not, ◌||◌, List, [], ◌∷◌, refl, ap, sym, ◌∙◌}
 use Rattle.std.proofs.Common.{arith, eqb, eq-eqb, inl, inr, length, get_or, nat_le, nat_lt, zip, All, Option, Some, None}
-use Rattle.std.specs.Prelude.{Result, Ok, Err, ◌↔◌}
+use Rattle.std.specs.Prelude.{Result, Ok, Err, IsOk, ◌↔◌}
 use Rattle.std.specs.List.{list_all}
 use Rattle.std.specs.Option.{option_map, option_or}
 use Rattle.std.specs.Cmp.Lexicographic.{bytes_decides}
 use Rattle.std.proofs.lemmas.Bool.{and_from, cases_Bool, cases_eq, eqb-true, le-leb, leb-true, lt-ltb, ltb-true, ne_eqb, true≢false}
 use Rattle.std.proofs.lemmas.List.Sums.{AllPass-from_list_all}
 use Rattle.std.proofs.lemmas.Slice.Zip.{get_or-zip, length-zip}
+use Rattle.p3_support.specs.Answers.{AnswersUnless}
 use Rattle.p3_support.specs.Batches.{greatest}
 use Rattle.p3_merkle_core.specs.Refusals.{first_of, first_some, unless}
 use Rattle.p3_merkle_core.proofs.Pruned.NoneFacts.{none_of_both, none_parts, none_unless, paired_none, unless_none}
@@ -20,7 +21,7 @@ use Rattle.tlog_entries.specs.Entries.{indices_refusal, is_one_leaf_each, proof_
 use Rattle.tlog_entries.specs.declared.error.EntriesError.{EntriesError}
 use Rattle.tlog_entries.specs.declared.error.EntriesError.TheVariants.{SizeTooLarge, NoIndices, LeafCountMismatch}
 use Rattle.tlog_entries.specs.declared.error.EntriesError.TheVariants.{IndexPastEnd, TooFewDigests, TooManyDigests}
-use Rattle.tlog_entries.specs.declared.error.EntriesError.TheVariants.{TwoLeafHashes, RootMismatch}
+use Rattle.tlog_entries.specs.declared.error.EntriesError.TheVariants.{TwoLeafHashes, RootMismatch, OutOfMemory}
 
 -- ---- pairs
 
@@ -222,3 +223,31 @@ unrefused hash size indices leaves proof root =
           let w = accepted_to hash size indices leaves proof root small is in
           rw (form_to size indices (length leaves) (length proof) w.0, w.1, w.2) refl,
     )
+
+-- ---- answers
+
+-- an answer that keeps to the refusal accepts what is accepted
+pub record Keeps (hash : HashFunction) (size : ℕ) (indices : List ℕ) (leaves proof : List (List ℕ)) (root : List ℕ)
+    (result : Result (Unit {0}) EntriesError) : Type 0 where
+  pub accepted : IsOk result → (size ≤ size_limit) × AreIncluded hash size indices leaves proof root
+  pub complete : size ≤ size_limit → AreIncluded hash size indices leaves proof root →
+      AnswersUnless (λ e. e ≡ OutOfMemory) result None
+  pub refused : AnswersUnless (λ e. e ≡ OutOfMemory) result (entries_refusal hash size indices leaves proof root)
+
+module _ (hash : HashFunction) (size : ℕ) (indices : List ℕ) (leaves proof : List (List ℕ)) (root : List ℕ) where
+  pub keeps : (result : Result (Unit {0}) EntriesError) →
+      AnswersUnless (λ e. e ≡ OutOfMemory) result (entries_refusal hash size indices leaves proof root) →
+      Keeps hash size indices leaves proof root result
+  keeps (Ok v) none = record {
+    accepted = λ ok. (unrefused hash size indices leaves proof root).0 none;
+    complete = λ small is. refl;
+    refused = none;
+  }
+  keeps (Err e) why = record {
+    accepted = λ ok. absurd (true≢false (sym ok));
+    complete = λ small is. elim why [
+      | inl memory ↦ inl memory
+      | inr some ↦ let none = (unrefused hash size indices leaves proof root).1 (small, is) in absurd cc
+    ];
+    refused = why;
+  }

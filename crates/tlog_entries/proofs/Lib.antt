@@ -11,3 +11,4 @@ pub mod PaddingFacts
 pub mod EntriesFacts
 pub mod VerdictFacts
 pub mod HonestEntries
+pub mod PathFacts

@@ -28,7 +28,7 @@ push_uncovered-requires-clause-fits c =
     let l = c.loop-layer.layer in
     let steps = c.steps_of-num_levels in
     let whole : steps.result.num_levels ≡ levels (log_shape size) =
-    rw (steps.ensures.arity, steps.ensures.dimensions) at steps.result.walked.whole in
+    rw (steps.ensures.arity, steps.ensures.dimensions ∙ c.dimensions_of.ensures) at steps.result.walked.whole in
     let below : l < levels (log_shape size) = omega arith in
     parents_fit size indices (suc l) c.deref-in-loop-layer.result.now c.requires.limit c.requires.within
     (c.deref-in-loop-layer.ensures.value ∙ climbed (log_shape size) indices (levels (log_shape size))
@@ -42,7 +42,7 @@ loop-layer-preserved c =
     let l = c.loop-layer.layer in
     let steps = c.steps_of-num_levels in
     let whole : steps.result.num_levels ≡ levels (log_shape size) =
-    rw (steps.ensures.arity, steps.ensures.dimensions) at steps.result.walked.whole in
+    rw (steps.ensures.arity, steps.ensures.dimensions ∙ c.dimensions_of.ensures) at steps.result.walked.whole in
     let below : l < levels (log_shape size) = omega arith in
     let is_below = c.loop-layer.invariant.covered in
     let is_above = climbed (log_shape size) indices (levels (log_shape size)) (log_query size indices c.requires.within) l 2
@@ -61,7 +61,7 @@ returns-clause-layers c =
     let size = c.args.size in
     let steps = c.steps_of-num_levels in
     let whole : steps.result.num_levels ≡ levels (log_shape size) =
-    rw (steps.ensures.arity, steps.ensures.dimensions) at steps.result.walked.whole in
+    rw (steps.ensures.arity, steps.ensures.dimensions ∙ c.dimensions_of.ensures) at steps.result.walked.whole in
     let top : c.loop-layer.layer ≡ levels (log_shape size) = omega arith in
     layers_small size c.args.indices.now c.loop-layer.slots.items c.requires.limit
     (c.loop-layer.invariant.so_far ∙ ap (boundary (log_shape size) c.args.indices.now) top)
