@@ -22,7 +22,8 @@ use Rattle.p3_merkle_core.proofs.Shapes.OneHeight.{full_group, no_rows_above}
 use Rattle.tlog.specs.Rfc9162.{Hash as HashFunction, node_hash}
 use Rattle.tlog.specs.Verdicts.{IsIncluded, size_limit}
 use Rattle.tlog_entries.specs.Nodes.{last_word, parent_digest}
-use Rattle.tlog_entries.specs.Instance.{sibling_slot, AreFilled, IsFilled, leaf_row, log_functions, log_params, log_shape, present}
+use Rattle.tlog_entries.specs.Instance.{sibling_slot, AreFilled, IsFilled, leaf_row, log_functions, log_params}
+use Rattle.tlog_entries.specs.Instance.{log_shape, present}
 use Rattle.tlog_entries.specs.Instance.{root_cap}
 use Rattle.tlog_entries.specs.declared.node.Node.{Node}
 use Rattle.tlog_entries.specs.declared.node.Node.TheVariants.{Absent, Hash}
@@ -93,7 +94,8 @@ module _ (hash : HashFunction) (size : ℕ) (indices : List ℕ) (leaves : List 
             cond-false (is_covered s indices l (2 * j + k)) restored sent n in
             let step_is = step_of_two size l in
             let listed : is_in (boundary s indices top) l (2 * j + k) ≡ true =
-            rw step_is at (child_listed s indices top (log_query size indices below) l j k low (rw step_is two) covered (rw step_is n)) in
+            rw step_is at (child_listed s indices top (log_query size indices below) l j k low (rw step_is two) covered
+            (rw step_is n)) in
             rw is (found_filled size l (2 * j + k) (boundary s indices top) digests (Absent ∷ []) filled listed)
       ]
 

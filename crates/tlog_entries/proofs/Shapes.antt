@@ -8,13 +8,15 @@ use Rattle.std.proofs.lemmas.List.{at_drop_more}
 use Rattle.std.proofs.lemmas.List.Edits.{length-insert}
 use Rattle.std.proofs.Math.Nat.{div-mul-le_self, mul_assoc, pow-succ'}
 use Rattle.p3_support.specs.Batches.{greatest}
-use Rattle.p3_merkle_core.specs.Geometry.{IsArity, expected_height, height_limit, IsLawful, ancestor, exponent, heights, levels, step}
+use Rattle.p3_merkle_core.specs.Geometry.{IsArity, expected_height, height_limit, IsLawful, ancestor, exponent, heights}
+use Rattle.p3_merkle_core.specs.Geometry.{levels, step}
 use Rattle.p3_merkle_core.specs.Geometry.{position_in_group}
 use Rattle.p3_merkle_core.specs.Nodes.{compress_padded, with_rows}
 use Rattle.p3_merkle_core.specs.OneHeight.{HasHeight}
 use Rattle.p3_merkle_core.specs.Openings.{Opening, level_siblings}
 use Rattle.p3_merkle_core.specs.Checks.{group_at, layer_words, path_digest, siblings_at, siblings_below}
-use Rattle.p3_merkle_core.proofs.Shapes.OneHeight.{full_group, greatest_is, levels_are, levels_cover, no_rows_above, step_is_arity}
+use Rattle.p3_merkle_core.proofs.Shapes.OneHeight.{full_group, greatest_is, levels_are, levels_cover, no_rows_above}
+use Rattle.p3_merkle_core.proofs.Shapes.OneHeight.{step_is_arity}
 use Rattle.p3_merkle_core.proofs.Growths.HeightFacts.{power_below}
 use Rattle.p3_merkle_core.proofs.Growths.LevelFacts.{ancestor_is, leaf_words, siblings_are}
 use Rattle.p3_merkle_core.specs.Pruning.{is_covered}
@@ -47,7 +49,10 @@ double_slot j l =
 
 module _ (size : ℕ) where
   pub one_column : HasHeight (log_shape size) size
-  one_column = record { some_matrix = omega arith; each = only (λ d. d.height ≡ size) (record { width = 1; height = size }) refl }
+  one_column = record {
+    some_matrix = omega arith;
+    each = only (λ d. d.height ≡ size) (record { width = 1; height = size }) refl;
+  }
 
   pub step_of_two : (l : ℕ) → step (log_shape size) l ≡ 2
   step_of_two l = step_is_arity (log_shape size) two_is_arity size one_column l
@@ -101,7 +106,8 @@ module _ (size : ℕ) where
 
   module _ (hash : HashFunction) (o : Opening Node Node) where
     -- the leaf
-    pub leaf_reached : (leaf : List ℕ) → o.rows ≡ leaf_row leaf → path_digest (log_functions hash) (log_shape size) o 0 ≡ Hash leaf ∷ []
+    pub leaf_reached : (leaf : List ℕ) → o.rows ≡ leaf_row leaf →
+        path_digest (log_functions hash) (log_shape size) o 0 ≡ Hash leaf ∷ []
     leaf_reached leaf is =
         reached_leaf (log_functions hash) (log_shape size) o
         ∙ ap last_word (ap (λ rows. layer_words (log_shape size) rows 0) is
@@ -110,7 +116,8 @@ module _ (size : ℕ) where
     -- each other digest is that of a group
     pub next_reached : (l : ℕ) → l < levels (log_shape size) → l < length o.siblings →
         path_digest (log_functions hash) (log_shape size) o (suc l)
-        ≡ parent_digest hash (insert (get_or o.siblings l [] ∷ []) (o.index / 2 ^ l % 2) (path_digest (log_functions hash) (log_shape size) o l))
+        ≡ parent_digest hash (insert (get_or o.siblings l [] ∷ []) (o.index / 2 ^ l % 2)
+        (path_digest (log_functions hash) (log_shape size) o l))
     next_reached l below there =
         let s = log_shape size in
         let f = log_functions hash in

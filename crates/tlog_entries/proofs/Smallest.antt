@@ -1,5 +1,6 @@
 -- The nodes of a proof of entries suffice where padding is known, and no fewer nodes do.
-use Rattle.std.proofs.Common.{◌≡◌, ℕ, zero, suc, ◌+◌, ◌*◌, ◌/◌, ◌^◌, ◌<◌, ◌≤◌, Bool, true, false, not, eqb, nat_lt, ◌&&◌}
+use Rattle.std.proofs.Common.{◌≡◌, ℕ, zero, suc, ◌+◌, ◌*◌, ◌/◌, ◌^◌, ◌<◌, ◌≤◌, Bool, true, false, not, eqb, nat_lt}
+use Rattle.std.proofs.Common.{◌&&◌}
 use Rattle.std.proofs.Common.{List, [], ◌∷◌, ◌++◌, length, filter, refl, sym, ◌∙◌, arith, inl, inr, All, eq-eqb}
 use Rattle.std.specs.Prelude.{◌||◌}
 use Rattle.std.proofs.lemmas.Bool.{and_from, and_parts, both_ways, cases_Bool, false_from_ne_true, eqb-true}
@@ -178,7 +179,8 @@ module _ (size : ℕ) (indices : List ℕ) (below : All (λ i. i < size) indices
         both_ways (is_covered s indices (suc l) j) out (rw up at (covered_up s indices l first c))) in
         let inside : first * 2 ^ l < size = rw (two, double_slot j l) real in
         let below_it = known_holds l first (k.1 0 (omega arith)) uncovered inside in
-        omega (arith, below_it, tally_le (is_under s l first) (is_under s (suc l) j) (under_parent s l j first up) given)
+        let more = tally_le (is_under s l first) (is_under s (suc l) j) (under_parent s l j first up) given in
+        omega arith
 
     uncovered_all : IsUncovered s indices (levels s) (given ++ padding)
     uncovered_all l j low h =

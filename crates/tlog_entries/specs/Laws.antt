@@ -1,5 +1,5 @@
--- What makes the tree of a log of RFC 9162 the tree of arity 2 over its leaf hashes, for every hash function. D is a list
--- of entries.
+-- What makes the tree of a log of RFC 9162 the tree of arity 2 over its leaf hashes, for every hash function. D is a
+-- list of entries.
 use Rattle.std.specs.Prelude.{◌≡◌, ◌↔◌, ℕ, ◌*◌, ◌^◌, ◌<◌, ◌≤◌, All, List, [], ◌∷◌, length, map, take, drop, slice_index}
 use Rattle.std.specs.Prelude.{slice_index_or, IsTrue, ◌++◌}
 use Rattle.p3_merkle_core.specs.Geometry.{levels}
@@ -7,7 +7,8 @@ use Rattle.p3_merkle_core.specs.Nodes.{Batch, node}
 use Rattle.p3_merkle_core.specs.Openings.{honest, opening_of}
 use Rattle.p3_merkle_core.specs.Checks.{IsAccepted}
 use Rattle.p3_merkle_core.specs.Commitments.{cap_over}
-use Rattle.p3_merkle_core.specs.Pruning.{IsUncovered, Suffices, is_in, boundary, honest_query, opening_at, pruned_of, restored_path}
+use Rattle.p3_merkle_core.specs.Pruning.{IsUncovered, Suffices, is_in, boundary, honest_query, opening_at, pruned_of}
+use Rattle.p3_merkle_core.specs.Pruning.{restored_path}
 use Rattle.tlog.specs.Rfc9162.{Hash as HashFunction, leaf_hash, path_of, root_of}
 use Rattle.tlog.specs.Verdicts.{IsIncluded, size_limit}
 use Rattle.tlog_entries.specs.Entries.{proof_nodes}

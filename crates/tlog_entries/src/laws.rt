@@ -19,8 +19,8 @@ pub fn log_tree()
     ensures query { QueryIsInclusion }
 {}
 
-/// The nodes of a proof of entries suffice, where padding is known, and no fewer nodes do: none of them is an entry of
-/// the proof, or above one.
+/// The nodes of a proof of entries suffice, where padding is known, and no smaller set does that has none of the
+/// entries and no node above one.
 pub fn smallest_proof()
     ensures { ProofIsSmallest }
 {}
