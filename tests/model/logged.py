@@ -64,6 +64,24 @@ def sown(rng):
     return "consistency", old, size, proof, *logs.roots_of_subproof(old, size, known, proof)
 
 
+def of_entries(rng, most):
+    """A question about several entries of a log of at most so many: the size, the log's size, the indices, the entries
+    whose leaf hashes are handed on, and the nodes, as (layer, slot), whose digests are."""
+    log_size = rng.randint(1, most)
+    indices = [rng.randrange(log_size) for _ in range(rng.randint(1, 5))]
+    nodes = [(layer, slot) for layer, slot, _, _ in sorted(logs.entry_nodes(indices, 0, log_size))]
+    pool = [(layer, slot) for layer in range(log_size.bit_length()) for slot in range((log_size - 1 >> layer) + 1)]
+    leaves = [*indices]
+    if rng.randrange(4) == 0:
+        leaves[rng.randrange(len(leaves))] = rng.randrange(log_size)
+    if rng.randrange(8) == 0:
+        place = rng.randrange(len(indices))
+        indices[place] = near(rng, indices[place])
+    if rng.randrange(16) == 0:
+        rng.choice([leaves, indices]).pop()
+    return near(rng, log_size), log_size, indices, leaves, damaged(rng, nodes, pool)
+
+
 def questions(rng):
     """Questions without end."""
     while True:

@@ -135,4 +135,47 @@ def consistency(old, new, proof, old_root, new_root):
     return ACCEPTED if after == new_root else ROOT_MISMATCH
 
 
+def entry_nodes(indices, first, last):
+    """The nodes of a proof of several of the entries from `first` on, below `last`, with these as (layer, slot, first,
+    last), in any order: the largest trees below that have none of them, where there are others."""
+    if last - first == 1:
+        return []
+    middle = first + split(last - first)
+    layer, nodes = (middle - first).bit_length() - 1, []
+    for left, right in (first, middle), (middle, last):
+        inside = [index for index in indices if left <= index < right]
+        nodes += entry_nodes(inside, left, right) if inside else [(layer, left >> layer, left, right)]
+    return nodes
+
+
+def root_of_entries(first, last, leaves, values):
+    """The root of the entries from `first` on, below `last`, out of leaf hashes by index and values of nodes."""
+    if (first, last) in values:
+        return values[first, last]
+    if last - first == 1:
+        return leaves[first]
+    middle = first + split(last - first)
+    return node_hash(root_of_entries(first, middle, leaves, values), root_of_entries(middle, last, leaves, values))
+
+
+def entries(size, indices, leaves, proof, root):
+    """The verdict on a proof of several entries, as tlog_entries words it."""
+    if size > MOST:
+        return "the size is above 2^62"
+    if not indices:
+        return "there are no indices"
+    if len(leaves) != len(indices):
+        return "the number of leaf hashes is not that of the indices"
+    if max(indices) >= size:
+        return "an index is not below the size"
+    nodes = sorted(entry_nodes(indices, 0, size))
+    if len(proof) != len(nodes):
+        return f"the proof has too {'few' if len(proof) < len(nodes) else 'many'} digests"
+    by_index = dict(zip(indices, leaves))
+    if any(by_index[index] != leaf for index, leaf in zip(indices, leaves)):
+        return "one index has two leaf hashes"
+    values = {(first, last): digest for (_, _, first, last), digest in zip(nodes, proof)}
+    return "accepted" if root_of_entries(0, size, by_index, values) == root else "the proof is of another root"
+
+
 VERDICTS = {"inclusion": inclusion, "consistency": consistency}

@@ -1,0 +1,15 @@
+pub mod Shapes
+pub mod Walks
+pub mod Included
+pub mod Restored
+pub mod Nodes
+pub mod Leaves
+pub mod Honest
+pub mod ShapeFacts
+pub mod BoundaryFacts
+pub mod PaddingFacts
+pub mod EntriesFacts
+pub mod VerdictFacts
+pub mod HonestEntries
+pub mod PathFacts
+pub mod Smallest

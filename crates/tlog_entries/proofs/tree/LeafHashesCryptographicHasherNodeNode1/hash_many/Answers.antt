@@ -1,0 +1,19 @@
+-- Each place has the digest of its message.
+use Rattle.std.proofs.Common.{rules, arith, ◌≡◌, ◌<◌, ◌/◌, ◌∙◌, sym, ap, length, []}
+use Rattle.std.specs.List.{range_with_len}
+use Rattle.std.proofs.Math.Nat.{mul-div_cancel}
+use Rattle.std.proofs.lemmas.List.FromFn.{fill_by_all}
+use Rattle.std.proofs.lemmas.Simd.{map-map}
+use Rattle.p3_support.specs.Lists.{message}
+use Rattle.tlog_entries.specs.Nodes.{last_word}
+use Rattle.tlog_entries.proofs.tree.LeafHashesCryptographicHasherNodeNode1.hash_many.Goals as goal
+
+pub returns : goal.returns
+returns c = λ w e.
+    let xs = c.args.messages.now in
+    let n = length c.args.out.now in
+    let some : 0 < n = search rules in
+    let width : length xs / n ≡ w = rw e (mul-div_cancel w some) in
+    fill_by_all (λ i. last_word (message w xs i)) c.loop-i.out n [] c.loop-i.invariant.0
+    (λ k h. c.loop-i.invariant.1 k (omega arith) ∙ ap (λ v. last_word (message v xs k)) width)
+    ∙ sym (map-map last_word (message w xs) (range_with_len 0 n))

@@ -1,0 +1,124 @@
+//! The hash and the compression of a log's tree (RFC 9162, 2.1.1).
+ghost use Rattle.std.specs.Prelude.{◌≡◌, ℕ, ◌<◌, ◌∷◌, [], map};
+ghost use Rattle.sha2.specs.Sha256.{sha256};
+ghost use Rattle.p3_merkle_mmcs.specs.Schemes.{params_of};
+ghost use Rattle.p3_support.specs.Lists.{lane_of};
+ghost use Rattle.tlog_entries.specs.Instance.{log_dimensions, log_params};
+ghost use Rattle.tlog_entries.specs.Nodes.{last_word, parent_digest, parent};
+ghost use Rattle.tlog_entries.specs.declared.node.Node.TheVariants.{Absent};
+
+use crate::node::Node;
+use p3_merkle_mmcs::mmcs::MerkleTreeMmcs;
+use p3_support::compress::PseudoCompressionFunction;
+use p3_support::hasher::CryptographicHasher;
+use p3_support::matrix::Dimensions;
+use std::convert::AsSlice;
+use tlog::node_hash;
+
+/// The parent of two nodes: SHA-256 of a byte 1 and both hashes (RFC 9162, 2.1.1), or the only child.
+fn parent_of(left: Node, right: Node) -> Node
+    ensures { result ≡ parent sha256 left right }
+{
+    match (left, right) {
+        (Node::Hash(left), Node::Hash(right)) => Node::Hash(node_hash(&left, &right)),
+        (left, Node::Absent) => left,
+        (Node::Absent, right) => right,
+    }
+}
+
+/// The hash of a log's rows, each of which has one word, a leaf hash: that word. A longer row gives its last word, an
+/// empty one `Absent`.
+#[derive(Clone, Copy, Debug)]
+pub struct LeafHashes;
+
+impl CryptographicHasher<Node, Node, 1> for LeafHashes {
+    const LANES: usize = 1;
+
+    const PREFER_CONTIGUOUS_INPUT: bool = false;
+
+    ghost hash = { λ h row. last_word row };
+
+    fn hash_iter<I: Iterator<Item = Node>>(&self, input: I) -> [Node; 1] {
+        [input.fold(Node::Absent, |_, word| word)]
+    }
+
+    fn hash_slice(&self, input: &[Node]) -> [Node; 1] {
+        [input.iter().copied().fold(Node::Absent, |_, word| word)]
+    }
+
+    fn hash_iter_slices<S: AsSlice<Node> + Drop, I: Iterator<Item = S>>(
+        &self,
+        input: I,
+    ) -> [Node; 1] {
+        [input.fold(Node::Absent, |so_far, words| {
+            words
+                .as_slice()
+                .iter()
+                .copied()
+                .fold(so_far, |_, word| word)
+        })]
+    }
+
+    fn hash_many(&self, messages: &[Node], out: &mut [[Node; 1]]) {
+        if out.is_empty() {
+            return;
+        }
+        let width = messages.len() / out.len();
+        for (i, digest) in out.iter_mut().enumerate() {
+            *digest = self.hash_slice(&messages[i * width..(i + 1) * width]);
+        }
+    }
+
+    fn hash_packed<I: Iterator<Item = Node>>(&self, input: I) -> [Node; 1] {
+        self.hash_iter(input)
+    }
+}
+
+/// The compression of a log's tree.
+#[derive(Clone, Copy, Debug)]
+pub struct NodeHashes;
+
+impl PseudoCompressionFunction<Node, 2, 1> for NodeHashes {
+    const LANES: usize = 1;
+
+    ghost compression = { λ c group. parent_digest sha256 group };
+
+    fn compress(&self, input: [[Node; 1]; 2]) -> [Node; 1]
+        ensures { result ≡ parent_digest sha256 input }
+    {
+        let [[left], [right]] = input;
+        [parent_of(left, right)]
+    }
+
+    fn compress_many(&self, groups: &[[[Node; 1]; 2]], out: &mut [[Node; 1]]) {
+        for (i, digest) in out.iter_mut().enumerate() {
+            *digest = self.compress(groups[i]);
+        }
+    }
+
+    fn compress_packed(&self, input: [[Node; 1]; 2]) -> [Node; 1]
+        ensures { (k : ℕ) → k < 1 → lane_of (λ node. node ∷ []) Absent k result
+            ≡ parent_digest sha256 (map (lane_of (λ node. node ∷ []) Absent k) input) }
+    {
+        self.compress(input)
+    }
+}
+
+/// The scheme of a log's tree, whose cap is the root.
+pub(crate) fn log_scheme() -> MerkleTreeMmcs<Node, Node, LeafHashes, NodeHashes, 2, 1>
+    ensures { (size : ℕ) → params_of ⟦<LeafHashes as CryptographicHasher<Node, Node, 1>>⟧.hash
+        ⟦<NodeHashes as PseudoCompressionFunction<Node, 2, 1>>⟧.compression 1 result (log_dimensions size)
+        ≡ log_params sha256 size }
+{
+    MerkleTreeMmcs::new(LeafHashes, NodeHashes, 0)
+}
+
+/// The dimensions of the column of a log's leaf hashes.
+pub(crate) fn dimensions_of(size: usize) -> [Dimensions; 1]
+    ensures { result ≡ log_dimensions size }
+{
+    [Dimensions {
+        width: 1,
+        height: size,
+    }]
+}
