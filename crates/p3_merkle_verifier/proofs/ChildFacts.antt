@@ -1,10 +1,10 @@
 -- The queries under the covered nodes of a layer, and the nodes' children.
 use Rattle.std.proofs.Common.{◌≡◌, ◌∙◌, ℕ, suc, ◌-◌, ◌/◌, ◌^◌, ◌<◌, ◌≤◌, true, eqb, All, List, [], ◌∷◌, map, refl, ap, sym, arith, length}
-use Rattle.std.proofs.Common.{length-drop, drop, get_or}
+use Rattle.std.proofs.Common.{get_or}
 use Rattle.std.specs.List.{dedup}
 use Rattle.p3_support.specs.Batches.{greatest}
-use Rattle.p3_merkle_core.specs.Geometry.{Shape, ancestor, exponent, heights, height_limit, layer_exponent, layer_len, step}
-use Rattle.p3_merkle_core.specs.Pruning.{CanQuery, boundary, boundary_at, is_covered}
+use Rattle.p3_merkle_core.specs.Geometry.{Shape, ancestor, exponent, heights, layer_exponent, layer_len}
+use Rattle.p3_merkle_core.specs.Pruning.{CanQuery, is_covered}
 use Rattle.p3_merkle_core.specs.Inner.Agreement.{distinct, AreDistinctOf}
 use Rattle.p3_merkle_core.specs.declared.pruning.DistinctQueries.{DistinctQueries}
 use Rattle.std.specs.Cmp.{both_ways}

@@ -1,5 +1,5 @@
 -- The parents are covered, and what is left of the digests that were sent is enough.
-use Rattle.std.proofs.Common.{◌≡◌, ◌∙◌, ap, arith, length, suc}
+use Rattle.std.proofs.Common.{◌≡◌, ◌∙◌, ap, arith, suc}
 use Rattle.std.proofs.lemmas.List.{length-drop, take_rest}
 use Rattle.p3_merkle_core.specs.Geometry.{has_rows, step}
 use Rattle.p3_merkle_core.specs.Pruning.{boundary_at}
