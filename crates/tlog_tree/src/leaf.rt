@@ -8,7 +8,7 @@ use p3_hashes::sha_eights::Sha256RowsInEights;
 use p3_support::hasher::CryptographicHasher;
 use std::alloc::{AllocError, Global};
 
-/// So many bytes of entries are hashed together at most, unless eight entries have more.
+/// So many bytes of inputs are hashed together at most, unless eight have more.
 const BATCH_BYTES: usize = 1 << 16;
 
 /// The leaf hashes of entries, in their order (RFC 9162, 2.1.1). Entries of one length are hashed eight at a time,
@@ -46,7 +46,7 @@ fn batch_len(by_length: &[(usize, usize)]) -> usize
         (slice_index_or by_length.now k d).0 ≡ (slice_index_or by_length.now 0 (0, 0)).0 }
 {
     let length = by_length[0].0;
-    let most = (BATCH_BYTES / length.max(1)).max(8);
+    let most = (BATCH_BYTES / length.saturating_add(1)).max(8);
     for (k, entry) in by_length.iter().enumerate() {
         if k == most || entry.0 != length {
             return k;
@@ -70,7 +70,7 @@ fn hash_batch(
         IsHashed (map (λ entry. entry.now) entries.now) hashes.new index) }
 {
     // The inputs of the hashes, each a byte 0 and the entry, one after another.
-    let mut inputs = Vec::new(alloc);
+    let mut inputs = Vec::with_capacity(alloc, BATCH_BYTES)?;
     for (_, index) in batch {
         inputs.push(0)?;
         inputs.extend_from_slice(entries[*index])?;
