@@ -13,7 +13,8 @@ ghost use Rattle.p3_merkle_core.specs.Geometry.{height_limit, shape_of, IsArity}
 ghost use Rattle.p3_merkle_core.specs.Inner.Agreement.{distinct, early_refusal, layers_refusal, matrices_with};
 ghost use Rattle.p3_merkle_core.specs.Inner.Agreement.{nodes_refusal, opened_of, opened_with, rows_refusal, slot_rows};
 ghost use Rattle.p3_merkle_core.specs.Inner.Agreement.{AreDistinctOf, AreSlots, AreSorted, IsAscending};
-ghost use Rattle.p3_merkle_core.specs.Inner.Children.{levels_in, path_out_of, AreChildren, AreLinked, IsFamily};
+ghost use Rattle.p3_merkle_core.specs.Inner.Children.{levels_in, path_out_of, place_among, AreChildren, AreLinked};
+ghost use Rattle.p3_merkle_core.specs.Inner.Children.{IsFamily};
 ghost use Rattle.p3_merkle_core.specs.Refusals.{digest_count_refusal, duplicate_refusal, pruned_refusal};
 ghost use Rattle.p3_merkle_core.specs.Refusals.{queries_refusal, AnswersUnlessMemory};
 ghost use Rattle.p3_merkle_core.specs.declared.error.MerkleTreeError.TheVariants.{OutOfMemory};
@@ -430,9 +431,28 @@ pub fn children_of<X: Copy>(
     Ok(children)
 }
 
+/// The place of a node among ascending nodes. The search begins at `start`, if the node isn't before it, and takes a
+/// step for each node that it passes.
+fn place_of(nodes: &[usize], start: usize, node: usize) -> usize
+    requires ascending { IsStrictlyIncreasing nodes.now }
+    requires among { is_among nodes.now node ≡ true }
+    ensures inside { result < length nodes.now }
+    ensures place { result ≡ place_among nodes.now node }
+{
+    let mut place = 0;
+    if start < nodes.len() && nodes[start] <= node {
+        place = start;
+    }
+    while nodes[place] != node {
+        place += 1;
+    }
+    place
+}
+
 /// The siblings on the path of a covered leaf, out of the layers from the leaves on, with room for `capacity` of them
-/// at first: on each layer below the last one all digests of the path's group except its own, ascending. It takes one
-/// binary search a layer.
+/// at first: on each layer below the last one all digests of the path's group except its own, ascending. On each layer
+/// the search for the path's node begins at the number in `places`, and leaves the node's place there: so the searches
+/// of ascending leaves pass each node once. The path doesn't depend on these numbers.
 ///
 /// # Errors
 ///
@@ -440,10 +460,12 @@ pub fn children_of<X: Copy>(
 pub fn path_out_of<X: Copy>(
     alloc: Global,
     layers: &[CoveredLayer<'_, X>],
+    places: &mut [usize],
     index: usize,
     capacity: usize,
 ) -> Result<Vec<X>, AllocError>
     requires some { 0 < length layers.now }
+    requires places { length places.now ≡ length layers.now }
     requires linked { AreLinked layers.now }
     requires covered { (x : CoveredLayer X) →
         is_among (slice_index_or layers.now 0 x).covered.nodes.items index ≡ true }
@@ -454,8 +476,9 @@ pub fn path_out_of<X: Copy>(
     for level in 1..layers.len() {
         let above = &layers[level];
         let parent = parent_of(node, above.step);
-        let slot = above.covered.nodes.partition_point(|other| *other < parent);
-        let first = above.step * slot;
+        let place = place_of(&above.covered.nodes, places[level], parent);
+        places[level] = place;
+        let first = above.step * place;
         let own = position_of(node, above.step);
         extend_with_others(&mut path, &above.children[first..first + above.step], own)?;
         node = parent;

@@ -182,10 +182,17 @@ fn paths_of<T, W: Copy, const D: usize>(
     for layer in layers {
         capacity = capacity.saturating_add(layer.step.saturating_sub(1));
     }
+    let leaves = &restorable.leaves;
+    let mut places = vec![in alloc; 0; layers.len()]?;
+    let mut of_leaves = Vec::with_capacity(alloc, leaves.indices.len())?;
+    // The leaves ascend, so each search goes on where the last one ended.
+    for leaf in &leaves.indices {
+        of_leaves.push_reserved(path_out_of(alloc, layers, &mut places, *leaf, capacity)?);
+    }
     let indices = restorable.opening.indices;
     let mut paths = Vec::with_capacity(alloc, indices.len())?;
     for query in 0..indices.len() {
-        let siblings = path_out_of(alloc, layers, indices[query], capacity)?;
+        let siblings = Vec::from_slice(alloc, &of_leaves[leaves.slots[query]])?;
         paths.push_reserved(AuthPath {
             leaf_index: indices[query],
             siblings,

@@ -1,12 +1,12 @@
 -- The paths that are read out of a walk's kept levels.
-use Rattle.std.proofs.Common.{◌≡◌, ℕ, zero, suc, ◌+◌, ◌-◌, ◌*◌, ◌/◌, ◌%◌, ◌<◌, ◌≤◌, true, false, eqb, nat_lt, List, []}
+use Rattle.std.proofs.Common.{◌≡◌, ℕ, zero, suc, ◌+◌, ◌-◌, ◌*◌, ◌/◌, ◌%◌, ◌<◌, ◌≤◌, true, eqb, nat_lt, List, []}
 use Rattle.std.proofs.Common.{◌∷◌}
 use Rattle.std.proofs.Common.{◌++◌, map, refl, ap, sym, ◌∙◌, arith, add-one, inl, inr, length, filter, get_or, take}
 use Rattle.std.proofs.Common.{drop, remove, subst, length-drop, eq-eqb, append_assoc, append-nil, drop-cons, fold}
 use Rattle.std.specs.List.{enumerate_from, flat_map, range_with_len, take-map, drop-map}
-use Rattle.std.specs.List.Sorted.{IsPartitionedBy, IsPartitionPoint, IsStrictlyIncreasing}
+use Rattle.std.specs.List.Sorted.{IsStrictlyIncreasing}
 use Rattle.std.proofs.lemmas.Bool.{cases_lt, eqb-true, or_cases, or_left, or_right, true≢false}
-use Rattle.std.proofs.lemmas.Bool.{lt-ltb, le-ltb, ltb-true}
+use Rattle.std.proofs.lemmas.Bool.{lt-ltb, le-ltb}
 use Rattle.std.proofs.lemmas.List.Kept.{AllPairs-from_increasing}
 use Rattle.std.proofs.lemmas.List.{map-append, drop_all, take-append-le, take_all}
 use Rattle.std.proofs.lemmas.List.{take_more, get_or-map, get_or_default, length-map}
@@ -21,8 +21,6 @@ use Rattle.std.proofs.Math.Seq.{drop-append-add}
 use Rattle.p3_merkle_core.specs.Inner.Children.{children_at, children_under, node_over, path_out_of, paths_out_of}
 use Rattle.p3_merkle_core.specs.Inner.Children.{levels_in, place_among, siblings_out_of, AreLinked, IsLinked}
 use Rattle.p3_support.specs.Lists.{is_among}
-use Rattle.p3_merkle_core.specs.Views.{shown_path, shown_paths}
-use Rattle.p3_merkle_core.specs.declared.pruning.AuthPath.{AuthPath}
 use Rattle.p3_merkle_core.specs.declared.pruning.CoveredLayer.{CoveredLayer}
 use Rattle.p3_merkle_core.specs.Geometry.{Shape, step, ancestor, layer_len, leaves_under, schedule_below}
 use Rattle.p3_merkle_core.specs.Nodes.{Functions}
@@ -58,7 +56,8 @@ place_rising a (x ∷ xs) (suc k) r h =
     rw t (ap suc (place_rising (suc x) xs k r.1 (omega arith)))
 
 -- a number of an ascending list stands at its place
-placed : (xs : List ℕ) (k p : ℕ) → IsStrictlyIncreasing xs → k < length xs → get_or xs k 0 ≡ p → place_among xs p ≡ k
+pub placed : (xs : List ℕ) (k p : ℕ) → IsStrictlyIncreasing xs → k < length xs → get_or xs k 0 ≡ p →
+    place_among xs p ≡ k
 placed xs k p up h e = rw (← e) (place_rising 0 xs k (rising_from xs up) h)
 
 -- where a listed number stands
@@ -67,31 +66,23 @@ found_at xs x h =
     let q = Any-from_list_any (λ y. eqb y x) xs h in
     (q.0, q.2, get_or_default xs q.0 0 q.1 q.2 ∙ q.3 ∙ eqb-true q.1 x q.4)
 
--- what such a search asks
-pub below_first : (xs : List ℕ) (x : ℕ) → IsStrictlyIncreasing xs → IsPartitionedBy (λ y. nat_lt y x) xs
-below_first xs x up i j d low inside below = elim (cases_lt i j) [
-  | inl less ↦
-      let rises = AllPairs-from_increasing xs up i j d less inside in
-      lt-ltb (get_or xs i d) x (omega (arith, rises, ltb-true (get_or xs j d) x below))
-  | inr same ↦ let e : i ≡ j = omega arith in rw e below
-]
-
--- a search for the end of what is below a listed number stops at its place
-pub searched_place : (xs : List ℕ) (x i : ℕ) → IsStrictlyIncreasing xs → is_among xs x ≡ true →
-    IsPartitionPoint (λ y. nat_lt y x ≡ true) (λ y. nat_lt y x ≡ false) xs i → (i ≡ place_among xs x) × (i < length xs)
-searched_place xs x i up h point =
+-- and a listed one is found there
+pub at_place : (xs : List ℕ) (x : ℕ) → IsStrictlyIncreasing xs → is_among xs x ≡ true →
+    (place_among xs x < length xs) × (get_or xs (place_among xs x) 0 ≡ x)
+at_place xs x up h =
     let at = found_at xs x h in
-    let here : i ≡ at.0 = elim (cases_lt i at.0) [
+    rw (placed xs at.0 x up at.1 at.2) (at.1, at.2)
+
+-- what is at most a listed number stands no later
+pub not_past : (xs : List ℕ) (x k : ℕ) → IsStrictlyIncreasing xs → is_among xs x ≡ true → k < length xs →
+    get_or xs k 0 ≤ x → k ≤ place_among xs x
+not_past xs x k up h inside low =
+    let at = at_place xs x up h in
+    elim (cases_lt (place_among xs x) k) [
       | inl less ↦
-          let below = AllPairs-from_increasing xs up i at.0 0 less at.1 in
-          absurd (true≢false (sym (lt-ltb (get_or xs i 0) x (omega (arith, below, at.2)))
-          ∙ point.1 i 0 (omega arith) (omega (arith, at.1))))
-      | inr rest ↦ elim (cases_lt at.0 i) [
-        | inl less ↦ absurd (omega (arith, ltb-true (get_or xs at.0 0) x (point.0 at.0 0 (omega arith) less), at.2))
-        | inr same ↦ omega arith
-      ]
-    ] in
-    (here ∙ sym (placed xs at.0 x up at.1 at.2), omega (arith, at.1))
+          absurd (omega (arith, AllPairs-from_increasing xs up (place_among xs x) k 0 less inside, at.1))
+      | inr rest ↦ omega arith
+    ]
 
 -- ---- one group
 
@@ -246,20 +237,6 @@ link_at {X} layers level above some h linked is =
     subst (λ (z : CoveredLayer X). IsLinked (get_or layers (level - 1) above) z)
     (ap (λ (k : ℕ). get_or layers k above) up ∙ sym is) (linked (level - 1) (omega arith) above)
 
--- a search among the parents ends at the group of a covered node
-pub group_found : {X : Type 0} (layers : List (CoveredLayer X)) (level node slot : ℕ) (above : CoveredLayer X) →
-    0 < level → level < length layers → AreLinked layers → above ≡ get_or layers level above →
-    is_among (get_or layers (level - 1) above).covered.nodes.items node ≡ true →
-    let parents = above.covered.nodes.items in let parent = node / above.step in
-    (IsStrictlyIncreasing parents →
-    IsPartitionPoint (λ y. nat_lt y parent ≡ true) (λ y. nat_lt y parent ≡ false) parents slot) →
-    (slot ≡ place_among parents parent) × (above.step * slot + above.step ≤ length above.children.items)
-group_found layers level node slot above some h linked is inside point =
-    let link = link_at layers level above some h linked is in
-    let at = searched_place above.covered.nodes.items (node / above.step) slot link.ascending (link.parents node inside)
-    (point link.ascending) in
-    (at.0, group_fits above.step slot (length above.covered.nodes.items) (length above.children.items) at.1 link.full)
-
 -- a path that stands at a node of one layer, and its turn to the next
 pub path_turn : {X : Type 0} (layers : List (CoveredLayer X)) (level slot node index : ℕ) (above : CoveredLayer X)
     (old new : List X) → 0 < level → level < length layers → AreLinked layers →
@@ -282,18 +259,21 @@ path_turn {X} layers level slot node index above old new some h linked is_above 
     (path_more view (drop 1 layers) index l node above old new (omega (arith, length-drop 1 layers)) there w
     (more ∙ ap (λ ys. old ++ ys) (sym (linked_siblings (get_or layers l above) above node slot link inside is_slot))))
 
--- one path more
-pub paths_more : {X : Type 0} (path : ℕ → List X) (queries : List ℕ) (k : ℕ) (old new : List (AuthPath X))
-    (added : AuthPath X) → k < length queries →
-    shown_paths old ≡ map {B = ℕ × List X} (λ i. (i, path i)) (take k queries) → new ≡ old ++ added ∷ [] →
-    added.leaf_index ≡ get_or queries k 0 → added.siblings.items ≡ path (get_or queries k 0) →
-    shown_paths new ≡ map {B = ℕ × List X} (λ i. (i, path i)) (take (k + 1) queries)
-paths_more {X} path queries k old new added h so_far is named shown =
-    let both : ℕ → ℕ × List X = λ i. (i, path i) in
-    let last : shown_path added ≡ both (get_or queries k 0) = rw (named, shown) refl in
-    ap (λ (ps : List (AuthPath X)). shown_paths ps) is ∙ map-append shown_path old (added ∷ [])
-    ∙ ap (λ (ys : List (ℕ × List X)). ys ++ shown_path added ∷ []) so_far
-    ∙ ap (λ (one : ℕ × List X). map both (take k queries) ++ one ∷ []) last ∙ sym (map_more both queries k 0 h)
+-- a view of what is made of numbers, one by one: one more
+pub view_more : {X Y : Type 0} (view : X → Y) (f : ℕ → Y) (made : List ℕ) (k : ℕ) (old new : List X) (added : X) →
+    k < length made → map view old ≡ map f (take k made) → new ≡ old ++ added ∷ [] → view added ≡ f (get_or made k 0) →
+    map view new ≡ map f (take (k + 1) made)
+view_more view f made k old new added h so_far is last =
+    ap (map view) is ∙ map-append view old (added ∷ []) ∙ ap (λ ys. ys ++ view added ∷ []) so_far
+    ∙ ap (λ y. map f (take k made) ++ y ∷ []) last ∙ sym (map_more f made k 0 h)
+
+-- and one of all
+pub view_at : {X Y : Type 0} (view : X → Y) (f : ℕ → Y) (made : List ℕ) (all : List X) (k : ℕ) (x : X) →
+    k < length made → map view all ≡ map f made → x ≡ get_or all k x → view x ≡ f (get_or made k 0)
+view_at view f made all k x h are is =
+    let inside : k < length all = omega (arith, ap length are, length-map all view, length-map made f) in
+    ap view is ∙ sym (get_or-map view all k x (view x) inside) ∙ ap (λ ys. get_or ys k (view x)) are
+    ∙ get_or-map f made k 0 (view x) h
 
 -- ---- what a walk keeps of a tree
 

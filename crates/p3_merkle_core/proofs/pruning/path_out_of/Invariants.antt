@@ -1,4 +1,4 @@
-use Rattle.std.proofs.Common.{◌≡◌, ◌-◌, ◌<◌, true, get_or}
+use Rattle.std.proofs.Common.{◌≡◌, ◌-◌, ◌<◌, true, get_or, length}
 use Rattle.p3_support.specs.Lists.{is_among}
 use Rattle.p3_merkle_core.specs.Inner.Children.{levels_in}
 use Rattle.p3_merkle_core.specs.declared.pruning.CoveredLayer.{CoveredLayer}
@@ -9,6 +9,7 @@ use Rattle.p3_merkle_core.proofs.pruning.path_out_of.Given as goal
 abbrev pub invariant-loop-level : goal.invariant-loop-level
 invariant-loop-level g l = record {
   some : 0 < l.level;
+  places : length l.places ≡ length l.layers;
   walked : IsOnPath (levels_in l.layers) l.index (l.level - 1) l.path.items l.node;
   covered : (x : CoveredLayer _) → is_among (get_or l.layers (l.level - 1) x).covered.nodes.items l.node ≡ true;
 }

@@ -1,7 +1,17 @@
-use Rattle.std.proofs.Common.{◌≡◌, length, take}
-use Rattle.p3_merkle_core.specs.Inner.Children.{levels_in, paths_out_of}
+use Rattle.std.proofs.Common.{◌≡◌, length, map, take}
+use Rattle.p3_merkle_core.specs.Inner.Children.{levels_in, path_out_of, paths_out_of}
 use Rattle.p3_merkle_core.specs.Views.{shown_paths}
 use Rattle.p3_merkle_verifier.proofs.pruned_check.paths_of.Given as goal
+
+-- the paths of the leaves so far, and the capacity for all
+abbrev pub invariant-loop-leaf : goal.invariant-loop-leaf
+invariant-loop-leaf g l = record {
+  places : l.places.len ≡ length l.layers;
+  paths : map (λ path. path.items) l.of_leaves.items
+      ≡ map (path_out_of (levels_in l.layers)) (take l.leaf-index l.leaf-items);
+  count : l.of_leaves.len ≡ l.leaf-index;
+  capacity : l.of_leaves.cap ≡ length l.leaf-items;
+}
 
 -- the paths so far, and the capacity for all
 abbrev pub invariant-loop-query : goal.invariant-loop-query
