@@ -1,4 +1,4 @@
-use Rattle.std.proofs.Common.{◌≡◌, ◌<◌, ◌≤◌, ◌∙◌, All, List, ap, arith, filter, length, map, get_or, sym, subst, []}
+use Rattle.std.proofs.Common.{◌≡◌, ◌<◌, ◌≤◌, ◌∙◌, All, ap, filter, length, map, get_or, sym, subst, []}
 use Rattle.std.proofs.lemmas.List.{take_all}
 use Rattle.p3_merkle_core.specs.Geometry.{levels}
 use Rattle.p3_merkle_core.specs.Pruning.{boundary}
