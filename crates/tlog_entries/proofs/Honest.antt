@@ -50,7 +50,8 @@ module _ (hash : HashFunction) (leaves : List (List ℕ)) (i : ℕ) (inside : i 
               | inl both ↦ rw (node_in_layer hash leaves some l (suc (k + k)) low both)
                   (sym (sibling-left itself k (k + k) L [] refl (omega arith)))
               | inr alone ↦
-                  rw (padding_is_absent hash leaves some l (suc (k + k)) low (outside_slot hash l (suc (k + k)) leaves alone))
+                  let past = outside_slot hash l (suc (k + k)) leaves alone in
+                  rw (padding_is_absent hash leaves some l (suc (k + k)) low past)
                   (sym (sibling-none itself k (k + k) L refl (omega arith)))
             ])
       ]

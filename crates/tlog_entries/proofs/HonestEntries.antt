@@ -99,7 +99,8 @@ module _ (hash : HashFunction) (leaves : List (List ℕ)) (some : 0 < length lea
     each = λ k h.
         let i = get_or indices k 0 in
         let leaf = get_or-map (λ i. get_or leaves i []) indices k 0 [] h in
-        let path_is = ap (λ p. present (restored_path (log_params hash (length leaves)) p i)) (opening_is_honest indices)
+        let path_is =
+        ap (λ p. present (restored_path (log_params hash (length leaves)) p i)) (opening_is_honest indices)
         ∙ restored_is_path hash leaves some indices k small within h in
         rw (leaf, path_is)
         (record { within = within k 0 h; ends = included hash itself leaves i [] (within k 0 h) small });

@@ -1,5 +1,6 @@
 -- An opening of a log's tree is accepted exactly if the standard's algorithm accepts its siblings that are there.
-use Rattle.std.proofs.Common.{◌≡◌, ℕ, zero, suc, ◌+◌, ◌-◌, ◌/◌, ◌%◌, ◌^◌, ◌<◌, ◌≤◌, List, [], ◌∷◌, length, drop, get_or, insert, add-one}
+use Rattle.std.proofs.Common.{◌≡◌, ℕ, zero, suc, ◌+◌, ◌-◌, ◌/◌, ◌%◌, ◌^◌, ◌<◌, ◌≤◌, List, [], ◌∷◌, length, drop, get_or}
+use Rattle.std.proofs.Common.{insert, add-one}
 use Rattle.std.proofs.Common.{Some, refl, sym, ap, ◌∙◌, arith}
 use Rattle.std.specs.Prelude.{Option, ◌↔◌, slice_get}
 use Rattle.std.proofs.lemmas.List.{at_drop_all, drop_more}
@@ -46,7 +47,8 @@ module _ (hash : HashFunction) (size i : ℕ) (leaf : List ℕ) (path : List (Li
       next_reached size hash (opening_of i (leaf_row leaf) path) l below (omega arith)
       ∙ ap (λ digest. parent_digest hash (insert (get_or path l [] ∷ []) (i / 2 ^ l % 2) digest)) at ∙ step.1 in
       let rest = ends_from d (suc l) step.0 (omega arith) up in
-      let more : drop l path ≡ get_or path l [] ∷ drop (suc l) path = rw add-one at (drop_more path l [] (omega arith)) in (
+      let more : drop l path ≡ get_or path l [] ∷ drop (suc l) path =
+      rw add-one at (drop_more path l [] (omega arith)) in (
         rest.0,
         rest.1,
         rw more (step.2 rest.0 (rw (half_of i l, half_of (size - 1) l) at rest.2)),

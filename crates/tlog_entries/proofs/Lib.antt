@@ -12,3 +12,4 @@ pub mod EntriesFacts
 pub mod VerdictFacts
 pub mod HonestEntries
 pub mod PathFacts
+pub mod Smallest

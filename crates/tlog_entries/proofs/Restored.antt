@@ -8,27 +8,28 @@ use Rattle.std.specs.Option.{option_map, unwrap_or}
 use Rattle.std.proofs.lemmas.Bool.{and_parts, cases_Bool, cases_lt, cond-false, cond-true, eqb-true, true≢false}
 use Rattle.std.proofs.lemmas.List.{get_or-map, length-map}
 use Rattle.std.proofs.lemmas.List.FromFn.{get_or-map-range_with_len}
-use Rattle.std.proofs.Math.Nat.{div-mul-le_self, mul_assoc, pow-succ'}
 use Rattle.p3_merkle_core.specs.Geometry.{ancestor, levels}
 use Rattle.p3_merkle_core.specs.Nodes.{compress_padded, with_rows}
 use Rattle.p3_merkle_core.specs.Openings.{level_siblings}
 use Rattle.p3_merkle_core.specs.Checks.{IsAccepted, layer_words}
-use Rattle.p3_merkle_core.specs.Pruning.{CanQuery, PrunedOpening, boundary, is_covered, is_in, opening_at, pruned_of}
+use Rattle.p3_merkle_core.specs.Pruning.{PrunedOpening, boundary, is_covered, is_in, opening_at, pruned_of}
 use Rattle.p3_merkle_core.specs.Pruning.{restored_node, restored_path, sent_digest, value_of, first_rows}
 use Rattle.p3_merkle_core.proofs.Checks.PathFacts.{group_values, path_length}
 use Rattle.p3_merkle_core.proofs.Covered.Equivalence.{query_covered, restored_leaf, restored_next, rows_under_is}
-use Rattle.p3_merkle_core.proofs.Covered.Sufficient.{child_listed, covered_query}
+use Rattle.p3_merkle_core.proofs.Covered.Sufficient.{child_listed}
 use Rattle.p3_merkle_core.proofs.Growths.LevelFacts.{leaf_words}
 use Rattle.p3_merkle_core.proofs.Shapes.OneHeight.{full_group, no_rows_above}
 use Rattle.tlog.specs.Rfc9162.{Hash as HashFunction, node_hash}
 use Rattle.tlog.specs.Verdicts.{IsIncluded, size_limit}
 use Rattle.tlog_entries.specs.Nodes.{last_word, parent_digest}
-use Rattle.tlog_entries.specs.Instance.{sibling_slot, AreFilled, IsFilled, leaf_row, log_functions, log_params, log_shape, present}
+use Rattle.tlog_entries.specs.Instance.{sibling_slot, AreFilled, IsFilled, leaf_row, log_functions, log_params}
+use Rattle.tlog_entries.specs.Instance.{log_shape, present}
 use Rattle.tlog_entries.specs.Instance.{root_cap}
 use Rattle.tlog_entries.specs.declared.node.Node.{Node}
 use Rattle.tlog_entries.specs.declared.node.Node.TheVariants.{Absent, Hash}
-use Rattle.tlog_entries.proofs.Shapes.{ancestor_of_two, one_column, one_level_sibling, one_sibling, step_of_two, tallest}
-use Rattle.tlog_entries.proofs.Shapes.{two_is_arity}
+use Rattle.tlog_entries.proofs.Shapes.{ancestor_of_two, one_column, one_level_sibling, one_sibling, step_of_two}
+use Rattle.tlog_entries.proofs.Shapes.{covered_inside, double_slot, two_is_arity}
+use Rattle.tlog_entries.proofs.ShapeFacts.{log_query}
 use Rattle.tlog_entries.proofs.Included.{accepted_if_included}
 
 -- what is found for a slot that is listed
@@ -72,21 +73,6 @@ module _ (hash : HashFunction) (size : ℕ) (indices : List ℕ) (leaves : List 
   abbrev value : ℕ → ℕ → List Node
   value = value_of (log_params hash size) p
 
-  can_query : CanQuery (log_shape size) indices top
-  can_query = record {
-    well_shaped = two_is_arity;
-    below = rw (tallest size) below;
-    in_tree = omega arith;
-  }
-
-  -- a covered node has entries below it
-  covered_inside : (l j : ℕ) → is_covered (log_shape size) indices l j ≡ true → j * 2 ^ l < size
-  covered_inside l j covered =
-      let q = covered_query (log_shape size) indices l j can_query.below covered in
-      let at : q.0 / 2 ^ l ≡ j = sym (ancestor_of_two size l q.0) ∙ q.2 in
-      let inside : q.0 < size = rw (tallest size) at q.1 in
-      rw (← at) (omega (arith, div-mul-le_self q.0 (2 ^ l)))
-
   -- the children of a covered node, where those that are covered are there
   child_filled : (l j k : ℕ) → l < top → is_covered (log_shape size) indices (suc l) j ≡ true → k < 2 →
       (is_covered (log_shape size) indices l (2 * j + k) ≡ true →
@@ -101,14 +87,15 @@ module _ (hash : HashFunction) (size : ℕ) (indices : List ℕ) (leaves : List 
         | inl y ↦
             let is : value l (2 * j + k) ≡ restored =
             cond-true (is_covered s indices l (2 * j + k)) restored sent y in
-            let inside = covered_inside l (2 * j + k) y in
+            let inside = covered_inside size indices below l (2 * j + k) y in
             rw is (record { node = λ h. there y; padding = λ h. absurd (omega arith) })
         | inr n ↦
             let is : value l (2 * j + k) ≡ sent =
             cond-false (is_covered s indices l (2 * j + k)) restored sent n in
             let step_is = step_of_two size l in
             let listed : is_in (boundary s indices top) l (2 * j + k) ≡ true =
-            rw step_is at (child_listed s indices top can_query l j k low (rw step_is two) covered (rw step_is n)) in
+            rw step_is at (child_listed s indices top (log_query size indices below) l j k low (rw step_is two) covered
+            (rw step_is n)) in
             rw is (found_filled size l (2 * j + k) (boundary s indices top) digests (Absent ∷ []) filled listed)
       ]
 
@@ -134,8 +121,7 @@ module _ (hash : HashFunction) (size : ℕ) (indices : List ℕ) (leaves : List 
       let first = child_filled l j 0 low covered (omega arith) (λ y. there l (2 * j + 0) (omega arith) y) in
       let second = child_filled l j 1 low covered (omega arith) (λ y. there l (2 * j + 1) (omega arith) y) in
       let inside : (2 * j + 0) * 2 ^ l < size =
-      let double : 2 * j + 0 ≡ j * 2 = omega arith in
-      rw (double, mul_assoc j 2 (2 ^ l), ← pow-succ' 2 l) (covered_inside (suc l) j covered) in
+      rw (double_slot j l) (covered_inside size indices below (suc l) j covered) in
       let parent = parent_there hash size l (2 * j + 0) (2 * j + 1) left right inside first second in
       let group : group_values s value l j ≡ left ∷ right ∷ [] = rw (step_of_two size l) refl in (
         parent.0,

@@ -1,21 +1,26 @@
 -- The tree of a log of some entries: its layers, and what a check of an opening reaches in them.
-use Rattle.std.proofs.Common.{◌≡◌, ℕ, zero, suc, ◌-◌, ◌/◌, ◌%◌, ◌^◌, ◌<◌, ◌≤◌, List, [], ◌∷◌}
-use Rattle.std.proofs.Common.{length, take, drop, get_or, insert, refl, ap, ◌∙◌, arith}
+use Rattle.std.proofs.Common.{◌≡◌, ℕ, zero, suc, ◌+◌, ◌-◌, ◌*◌, ◌/◌, ◌%◌, ◌^◌, ◌<◌, ◌≤◌, List, [], ◌∷◌}
+use Rattle.std.proofs.Common.{length, take, drop, get_or, insert, refl, ap, sym, ◌∙◌, arith, true}
 use Rattle.std.specs.Prelude.{All}
 use Rattle.std.proofs.lemmas.Bool.{cases_eq}
 use Rattle.std.proofs.Common.{inl, inr}
 use Rattle.std.proofs.lemmas.List.{at_drop_more}
 use Rattle.std.proofs.lemmas.List.Edits.{length-insert}
+use Rattle.std.proofs.Math.Nat.{div-mul-le_self, mul_assoc, pow-succ'}
 use Rattle.p3_support.specs.Batches.{greatest}
-use Rattle.p3_merkle_core.specs.Geometry.{IsArity, expected_height, height_limit, IsLawful, ancestor, exponent, heights, levels, step}
+use Rattle.p3_merkle_core.specs.Geometry.{IsArity, expected_height, height_limit, IsLawful, ancestor, exponent, heights}
+use Rattle.p3_merkle_core.specs.Geometry.{levels, step}
 use Rattle.p3_merkle_core.specs.Geometry.{position_in_group}
 use Rattle.p3_merkle_core.specs.Nodes.{compress_padded, with_rows}
 use Rattle.p3_merkle_core.specs.OneHeight.{HasHeight}
 use Rattle.p3_merkle_core.specs.Openings.{Opening, level_siblings}
 use Rattle.p3_merkle_core.specs.Checks.{group_at, layer_words, path_digest, siblings_at, siblings_below}
-use Rattle.p3_merkle_core.proofs.Shapes.OneHeight.{full_group, greatest_is, levels_are, levels_cover, no_rows_above, step_is_arity}
+use Rattle.p3_merkle_core.proofs.Shapes.OneHeight.{full_group, greatest_is, levels_are, levels_cover, no_rows_above}
+use Rattle.p3_merkle_core.proofs.Shapes.OneHeight.{step_is_arity}
 use Rattle.p3_merkle_core.proofs.Growths.HeightFacts.{power_below}
 use Rattle.p3_merkle_core.proofs.Growths.LevelFacts.{ancestor_is, leaf_words, siblings_are}
+use Rattle.p3_merkle_core.specs.Pruning.{is_covered}
+use Rattle.p3_merkle_core.proofs.Covered.Sufficient.{covered_query}
 use Rattle.p3_merkle_core.proofs.Checks.Completeness.{reached_leaf, reached_next}
 use Rattle.tlog.specs.Rfc9162.{Hash as HashFunction}
 use Rattle.tlog.specs.Verdicts.{size_limit}
@@ -37,9 +42,17 @@ only P x h (suc k) d inside = absurd (omega arith)
 pub one_taken : {X : Type 0} (xs : List X) (l : ℕ) (d : X) → l < length xs → take 1 (drop l xs) ≡ get_or xs l d ∷ []
 one_taken xs l d there = at_drop_more (take 1) xs l d there
 
+-- the first of the two slots below one
+pub double_slot : (j l : ℕ) → (2 * j + 0) * 2 ^ l ≡ j * 2 ^ suc l
+double_slot j l =
+    let double : 2 * j + 0 ≡ j * 2 = omega arith in rw (double, mul_assoc j 2 (2 ^ l), ← pow-succ' 2 l) refl
+
 module _ (size : ℕ) where
   pub one_column : HasHeight (log_shape size) size
-  one_column = record { some_matrix = omega arith; each = only (λ d. d.height ≡ size) (record { width = 1; height = size }) refl }
+  one_column = record {
+    some_matrix = omega arith;
+    each = only (λ d. d.height ≡ size) (record { width = 1; height = size }) refl;
+  }
 
   pub step_of_two : (l : ℕ) → step (log_shape size) l ≡ 2
   step_of_two l = step_is_arity (log_shape size) two_is_arity size one_column l
@@ -72,6 +85,15 @@ module _ (size : ℕ) where
   pub one_sibling : (l : ℕ) → siblings_below (log_shape size) l ≡ l
   one_sibling l = siblings_are (log_shape size) two_is_arity size one_column l ∙ omega arith
 
+  -- a covered node has entries below it
+  pub covered_inside : (indices : List ℕ) → All (λ i. i < size) indices → (l j : ℕ) →
+      is_covered (log_shape size) indices l j ≡ true → j * 2 ^ l < size
+  covered_inside indices below l j covered =
+      let q = covered_query (log_shape size) indices l j (rw tallest below) covered in
+      let at : q.0 / 2 ^ l ≡ j = sym (ancestor_of_two l q.0) ∙ q.2 in
+      let inside : q.0 < size = rw tallest at q.1 in
+      rw (← at) (omega (arith, div-mul-le_self q.0 (2 ^ l)))
+
   -- each level of a path has one sibling
   pub one_level_sibling : {X : Type 0} (value : ℕ → ℕ → X) (i l : ℕ) →
       level_siblings value (log_shape size) i l ≡ value l (sibling_slot i l) ∷ []
@@ -84,7 +106,8 @@ module _ (size : ℕ) where
 
   module _ (hash : HashFunction) (o : Opening Node Node) where
     -- the leaf
-    pub leaf_reached : (leaf : List ℕ) → o.rows ≡ leaf_row leaf → path_digest (log_functions hash) (log_shape size) o 0 ≡ Hash leaf ∷ []
+    pub leaf_reached : (leaf : List ℕ) → o.rows ≡ leaf_row leaf →
+        path_digest (log_functions hash) (log_shape size) o 0 ≡ Hash leaf ∷ []
     leaf_reached leaf is =
         reached_leaf (log_functions hash) (log_shape size) o
         ∙ ap last_word (ap (λ rows. layer_words (log_shape size) rows 0) is
@@ -93,7 +116,8 @@ module _ (size : ℕ) where
     -- each other digest is that of a group
     pub next_reached : (l : ℕ) → l < levels (log_shape size) → l < length o.siblings →
         path_digest (log_functions hash) (log_shape size) o (suc l)
-        ≡ parent_digest hash (insert (get_or o.siblings l [] ∷ []) (o.index / 2 ^ l % 2) (path_digest (log_functions hash) (log_shape size) o l))
+        ≡ parent_digest hash (insert (get_or o.siblings l [] ∷ []) (o.index / 2 ^ l % 2)
+        (path_digest (log_functions hash) (log_shape size) o l))
     next_reached l below there =
         let s = log_shape size in
         let f = log_functions hash in

@@ -20,7 +20,8 @@ use Rattle.tlog_entries.specs.declared.node.Node.TheVariants.{Absent, Hash}
 -- past a left sibling
 past_left : (hash : HashFunction) (value : List ℕ) (path : List (List ℕ)) (i last : ℕ) (r : List ℕ) → i ≤ 2 ^ 62 →
     0 < last →
-    inclusion_walk hash (value ∷ path) (suc (i + i)) last r ≡ inclusion_walk hash path i (last / 2) (node_hash hash value r)
+    inclusion_walk hash (value ∷ path) (suc (i + i)) last r
+    ≡ inclusion_walk hash path i (last / 2) (node_hash hash value r)
 past_left hash value path i last r small some =
     let z : (last == 0) ≡ false = grind (arith, nat_tests) in
     let l : is_left (suc (i + i)) last ≡ true = grind (arith, nat_tests) in
@@ -128,6 +129,8 @@ level_passed hash path digest size i l r inside small more filled =
     (omega (arith, div-le_self (size - 1) k))
     (λ le. let up = (le-div_iff_mul-le pos).0 le in w.node (omega arith))
     (λ past. w.padding (elim (cases_lt ((2 * (i / k / 2) + (1 - i / k % 2)) * k) size) [
-      | inl below ↦ let le = (le-div_iff_mul-le {x = 2 * (i / k / 2) + (1 - i / k % 2)} {y = size - 1} pos).1 (omega arith) in absurd (omega arith)
+      | inl below ↦
+          let le = (le-div_iff_mul-le {x = 2 * (i / k / 2) + (1 - i / k % 2)} {y = size - 1} pos).1 (omega arith) in
+          absurd (omega arith)
       | inr above ↦ above
     ]))

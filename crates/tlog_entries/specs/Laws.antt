@@ -1,15 +1,17 @@
--- What makes the tree of a log of RFC 9162 the tree of arity 2 over its leaf hashes, for every hash function. D is a list
--- of entries.
+-- What makes the tree of a log of RFC 9162 the tree of arity 2 over its leaf hashes, for every hash function. D is a
+-- list of entries.
 use Rattle.std.specs.Prelude.{◌≡◌, ◌↔◌, ℕ, ◌*◌, ◌^◌, ◌<◌, ◌≤◌, All, List, [], ◌∷◌, length, map, take, drop, slice_index}
-use Rattle.std.specs.Prelude.{slice_index_or}
+use Rattle.std.specs.Prelude.{slice_index_or, IsTrue, ◌++◌}
 use Rattle.p3_merkle_core.specs.Geometry.{levels}
 use Rattle.p3_merkle_core.specs.Nodes.{Batch, node}
 use Rattle.p3_merkle_core.specs.Openings.{honest, opening_of}
 use Rattle.p3_merkle_core.specs.Checks.{IsAccepted}
 use Rattle.p3_merkle_core.specs.Commitments.{cap_over}
-use Rattle.p3_merkle_core.specs.Pruning.{boundary, honest_query, opening_at, pruned_of, restored_path}
+use Rattle.p3_merkle_core.specs.Pruning.{IsUncovered, Suffices, is_in, boundary, honest_query, opening_at, pruned_of}
+use Rattle.p3_merkle_core.specs.Pruning.{restored_path}
 use Rattle.tlog.specs.Rfc9162.{Hash as HashFunction, leaf_hash, path_of, root_of}
 use Rattle.tlog.specs.Verdicts.{IsIncluded, size_limit}
+use Rattle.tlog_entries.specs.Entries.{proof_nodes}
 use Rattle.tlog_entries.specs.Instance.{AreFilled, IsPathFilled, leaf_row, log_batch, log_functions, log_params}
 use Rattle.tlog_entries.specs.Instance.{log_shape, present, root_cap}
 use Rattle.tlog_entries.specs.declared.node.Node.{Node}
@@ -78,3 +80,16 @@ QueryIsInclusion = (hash : HashFunction) (size : ℕ) (indices : List ℕ) (leav
     let i = slice_index indices k in
     IsAccepted c (root_cap root) (opening_at c p k)
     ↔ IsIncluded hash i size (slice_index_or leaves k []) (present (restored_path c p i)) root
+
+-- slots without entries below them
+abbrev pub ArePadding : ℕ → List (ℕ × ℕ) → Type 0
+ArePadding size slots = (l j : ℕ) → IsTrue (is_in slots l j) → size ≤ j * 2 ^ l
+
+-- the nodes of a proof suffice beside padding, and no fewer uncovered nodes do beside any padding
+pub record ProofIsSmallest : Type 0 where
+  pub suffices : (size : ℕ) (indices : List ℕ) → All (λ i. i < size) indices → let s = log_shape size in
+      (padding : List (ℕ × ℕ)) × ArePadding size padding
+      × Suffices s indices (levels s) (proof_nodes size indices ++ padding)
+  pub fewest : (size : ℕ) (indices : List ℕ) (given padding : List (ℕ × ℕ)) → All (λ i. i < size) indices →
+      ArePadding size padding → let s = log_shape size in IsUncovered s indices (levels s) given →
+      Suffices s indices (levels s) (given ++ padding) → length (proof_nodes size indices) ≤ length given

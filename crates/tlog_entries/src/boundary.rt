@@ -1,5 +1,6 @@
 //! The nodes whose digests a proof of several entries has, and the padding beside them.
-ghost use Rattle.std.specs.Prelude.{◌≡◌, ℕ, List, [], length, slice_index_or, ◌+◌, ◌*◌, ◌^◌, ◌<◌, ◌≤◌, ◌++◌, All, IfOk, filter, map, not};
+ghost use Rattle.std.specs.Prelude.{◌≡◌, ℕ, List, [], length, slice_index_or, ◌+◌, ◌*◌, ◌^◌, ◌<◌, ◌≤◌, ◌++◌, All, IfOk};
+ghost use Rattle.std.specs.Prelude.{filter, map, not};
 ghost use Rattle.p3_merkle_core.specs.Geometry.{levels};
 ghost use Rattle.p3_merkle_core.specs.Inner.Agreement.{IsAscending};
 ghost use Rattle.p3_merkle_core.specs.Inner.Children.{children_under};

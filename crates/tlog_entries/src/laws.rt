@@ -4,7 +4,7 @@ ghost use Rattle.tlog.specs.Verdicts.{size_limit};
 ghost use Rattle.tlog.specs.Rfc9162.{Hash};
 ghost use Rattle.tlog_entries.specs.Entries.{AreIncluded, entries_refusal};
 ghost use Rattle.tlog_entries.specs.Laws.{CapIsMth, NodesAreMth, OpeningIsInclusion, QueryIsInclusion};
-ghost use Rattle.tlog_entries.specs.Laws.{RestoredArePaths, SiblingsArePath};
+ghost use Rattle.tlog_entries.specs.Laws.{ProofIsSmallest, RestoredArePaths, SiblingsArePath};
 
 /// A log's tree (RFC 9162, 2.1) is the tree of arity 2 over one column of leaf hashes whose compression passes an only
 /// child on, for every hash function and sizes up to 2^62: its nodes and its cap are MTH, its honest openings are PATH,
@@ -17,6 +17,12 @@ pub fn log_tree()
     ensures opening { OpeningIsInclusion }
     ensures restored { RestoredArePaths }
     ensures query { QueryIsInclusion }
+{}
+
+/// The nodes of a proof of entries suffice, where padding is known, and no smaller set does that has none of the
+/// entries and no node above one.
+pub fn smallest_proof()
+    ensures { ProofIsSmallest }
 {}
 
 /// What is not refused is what is accepted.

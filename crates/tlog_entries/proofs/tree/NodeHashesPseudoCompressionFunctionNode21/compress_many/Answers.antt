@@ -9,6 +9,7 @@ pub returns : goal.returns
 returns c =
     let groups = c.args.groups.now in
     let same : length c.loop-i.out ≡ length groups = c.loop-i.invariant.0 ∙ sym c.requires in
-    ext_get_or [] c.loop-i.out (map (parent_digest sha256) groups) (same ∙ sym (length-map groups (parent_digest sha256))) (λ k h.
+    ext_get_or [] c.loop-i.out (map (parent_digest sha256) groups)
+    (same ∙ sym (length-map groups (parent_digest sha256))) (λ k h.
     let below : k < length groups = rw (← same) h in
     c.loop-i.invariant.1 k (search rules) ∙ sym (get_or-map (parent_digest sha256) groups k [] [] below))
