@@ -23,7 +23,8 @@ siblings_are {X} paths path indices is =
     sym (map-map second shown_path paths) ∙ ap (map second) is ∙ map-map second (λ (i : ℕ). (i, path i)) indices
 
 -- accepted leaf hashes are those of the entries exactly if each is that its path shows
-pub fixed_by_paths : (hash : HashFunction) (D : List (List ℕ)) (size : ℕ) (indices : List ℕ) (leaves proof : List (List ℕ))
+pub fixed_by_paths : (hash : HashFunction) (D : List (List ℕ)) (size : ℕ) (indices : List ℕ)
+    (leaves proof : List (List ℕ))
     (root : List ℕ) (paths : List (List (List Node))) → size ≡ length D → root ≡ root_of hash D → size ≤ size_limit →
     AreIncluded hash size indices leaves proof root →
     paths ≡ map (restored_path (log_params hash size) (entries_opening size indices leaves proof)) indices →

@@ -49,7 +49,8 @@ covered_small s indices m l j below c =
     (ap (λ x. eqb (ancestor s l x) j) (get_or_default indices q.0 0 q.1 q.2 ∙ q.3) ∙ q.4) in
     omega (arith, below q.0 0 q.2, div-le_self i (leaves_under s l))
 
-pub parents_fit : (size : ℕ) (indices : List ℕ) (l : ℕ) (xs : List ℕ) → size ≤ size_limit → All (λ i. i < size) indices →
+pub parents_fit : (size : ℕ) (indices : List ℕ) (l : ℕ) (xs : List ℕ) → size ≤ size_limit →
+    All (λ i. i < size) indices →
     xs ≡ covered_at (log_shape size) indices l → All (λ parent. 2 * parent + 2 < 2 ^ 64) xs
 parents_fit size indices l xs small below is k d h =
     let s = log_shape size in

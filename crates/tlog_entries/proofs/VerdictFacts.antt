@@ -128,7 +128,12 @@ module _ (hash : HashFunction) (size : ℕ) (indices : List ℕ) (leaves proof :
           layer_rows s (get_or p.rows a []) l ≡ layer_rows s (get_or p.rows b []) l) [
             | zero ↦ λ a b le h g same.
                 let alone : get_or indices a 0 ≡ get_or indices b 0 =
-                omega (arith, same, ancestor_of_two size 0 (get_or indices a 0), ancestor_of_two size 0 (get_or indices b 0)) in
+                omega (
+                  arith,
+                  same,
+                  ancestor_of_two size 0 (get_or indices a 0),
+                  ancestor_of_two size 0 (get_or indices b 0),
+                ) in
                 ap (λ rows. layer_rows s rows 0) (row a h ∙ ap leaf_row (one a b h g alone) ∙ sym (row b g))
             | suc l ↦ λ a b le h g same.
                 rw (row a h, row b g) (no_rows (get_or leaves a []) (suc l) (omega arith) le
@@ -172,7 +177,8 @@ module _ (hash : HashFunction) (size : ℕ) (indices : List ℕ) (leaves proof :
     refused_twice : (HaveOneLeaf indices leaves → ⊥) → (slot : ℕ) × (pruned_refusal row_eq s (levels s) p
         ≡ Some (MalformedPrunedProof (InconsistentDuplicateOpenings slot)))
     refused_twice two =
-        let why = λ (x : ℕ × List (List Node)). MalformedPrunedProof (InconsistentDuplicateOpenings (slot_of indices x.0)) in
+        let why = λ (x : ℕ × List (List Node)).
+        MalformedPrunedProof (InconsistentDuplicateOpenings (slot_of indices x.0)) in
         let test = λ (x : ℕ × List (List Node)). pointwise (pointwise row_eq) x.1 (rows_of p x.0) in
         let paired : length p.rows ≡ length indices = length-map leaves leaf_row ∙ form.in_pairs in
         let gate = (gate_lawful (heights s)).1 (lawful size some form.small) in
@@ -189,7 +195,8 @@ module _ (hash : HashFunction) (size : ℕ) (indices : List ℕ) (leaves proof :
           | inl none ↦ absurd (two (λ a b h g same.
               let first = λ (k : ℕ) (l : k < length indices).
               (pointwise_decides (pointwise_decides dec) (get_or p.rows k []) (rows_of p (get_or indices k 0))).0
-              (unless_none (test (get_or indices k 0, get_or p.rows k [])) (why (get_or indices k 0, get_or p.rows k []))
+              (unless_none (test (get_or indices k 0, get_or p.rows k []))
+              (why (get_or indices k 0, get_or p.rows k []))
               (paired_none (λ x. unless (test x) (why x)) indices p.rows k [] none paired l)) in
               let e : leaf_row (get_or leaves a []) ≡ leaf_row (get_or leaves b []) =
               sym (row a h) ∙ first a h ∙ ap (rows_of p) same ∙ sym (first b g) ∙ row b g in cc))
@@ -231,7 +238,8 @@ module _ (hash : HashFunction) (size : ℕ) (indices : List ℕ) (leaves proof :
                       let accepted = each_accepted (accepted_from hash size indices leaves proof root form t none) in
                       elim (w.accepted_is_ok accepted) [ inl e ↦ absurd cc | inr e ↦ absurd cc ]
                   | inr e ↦ skip (form_refusal size indices (length leaves) (length proof)) _ _ no_form_refusal
-                      (skip (unless one TwoLeafHashes) _ _ (none_unless one TwoLeafHashes t) (ap (λ o. option_or o None) e))
+                      (skip (unless one TwoLeafHashes) _ _ (none_unless one TwoLeafHashes t)
+                      (ap (λ o. option_or o None) e))
                 ]
           ]
         ]
@@ -251,7 +259,8 @@ module _ (hash : HashFunction) (size : ℕ) (indices : List ℕ) (leaves proof :
                 let w = restorable (one_leaf_from indices leaves form.in_pairs t) in
                 let none = verdict_ok (pruned_refusal row_eq s (levels s) p)
                 (port_unrefused row_eq s (levels s) p dec w) in
-                let capped = sym (skip (pruned_refusal row_eq s (levels s) p) (cap_refusal digest_eq c (root_cap root) p) _
+                let capped = sym (skip (pruned_refusal row_eq s (levels s) p)
+                (cap_refusal digest_eq c (root_cap root) p) _
                 none refl) ∙ is in
                 absurd (no_mismatch (unless_some _ CapMismatch e capped))
           ]

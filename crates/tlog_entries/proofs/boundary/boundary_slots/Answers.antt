@@ -45,7 +45,8 @@ loop-layer-preserved c =
     rw (steps.ensures.arity, steps.ensures.dimensions ∙ c.dimensions_of.ensures) at steps.result.walked.whole in
     let below : l < levels (log_shape size) = omega arith in
     let is_below = c.loop-layer.invariant.covered in
-    let is_above = climbed (log_shape size) indices (levels (log_shape size)) (log_query size indices c.requires.within) l 2
+    let is_above = climbed (log_shape size) indices (levels (log_shape size))
+    (log_query size indices c.requires.within) l 2
     c.loop-layer.covered.items c.climb.new.covered.items below c.climb.ensures (sym (step_of_two size l)) is_below in
     record {
       covered = rw add-one is_above;

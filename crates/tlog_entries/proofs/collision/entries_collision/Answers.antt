@@ -41,9 +41,11 @@ returns-clause-none c =
     let paths_are = ap siblings_of c.deref-2.ensures.value
     ∙ siblings_are c.in-Ok-restore_and_recompute_paths.paths.items path indices shown in
     let both = fixed_by_paths sha256 D size indices leaves proof c.root-root.result (siblings_of c.deref-2.result.now)
-    (sym (length-map c.args.entries.now (λ (entry : Vec ℕ Global). entry.items))) c.root-root.ensures ok.0 ok.1 paths_are in
+    (sym (length-map c.args.entries.now (λ (entry : Vec ℕ Global). entry.items))) c.root-root.ensures ok.0 ok.1
+    paths_are in
     IfOk-weaker c.path_collision.result
     (λ (found : Option Collision). IsNone found ↔ ((k : ℕ) → k < length indices →
-    RootFixesLeaf sha256 D (get_or indices k 0) (get_or leaves k []) (present (get_or (siblings_of c.deref-2.result.now) k []))))
+    RootFixesLeaf sha256 D (get_or indices k 0) (get_or leaves k [])
+    (present (get_or (siblings_of c.deref-2.result.now) k []))))
     (λ (found : Option Collision). IsNone found ↔ RootFixesLeaves sha256 D indices leaves proof)
     (λ found is. (λ none. both.1 (is.0 none), λ fixed. is.1 (both.0 fixed))) c.path_collision.ensures.none
