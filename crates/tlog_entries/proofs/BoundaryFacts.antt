@@ -1,6 +1,7 @@
 -- The boundary of some entries, child by child.
-use Rattle.std.proofs.Common.{◌≡◌, ℕ, suc, ◌+◌, ◌-◌, ◌*◌, ◌<◌, ◌≤◌, Bool, true, false, not, List, [], ◌∷◌, ◌++◌, map, filter}
-use Rattle.std.proofs.Common.{refl, ap, sym, ◌∙◌, arith, length, take, get_or, append_assoc, append-nil, eqb, inl, inr, cond}
+use Rattle.std.proofs.Common.{◌≡◌, ℕ, ◌+◌, ◌-◌, ◌*◌, ◌<◌, ◌≤◌, Bool, true, false, not, List, [], ◌∷◌, ◌++◌, map, filter}
+use Rattle.std.proofs.Common.{refl, ap, sym, ◌∙◌, arith, length, take, get_or, append_assoc, append-nil, eqb}
+use Rattle.std.proofs.Common.{inl, inr, cond}
 use Rattle.std.specs.Prelude.{Result, Ok, Err}
 use Rattle.std.specs.Result.{is_err}
 use Rattle.std.specs.List.{flat_map, range_with_len}

@@ -1,17 +1,18 @@
 -- What is not refused is what is accepted.
-use Rattle.std.proofs.Common.{◌≡◌, ℕ, suc, ◌+◌, ◌<◌, ◌≤◌, Bool, true, false, not, ◌||◌, List, [], ◌∷◌, refl, ap, sym, ◌∙◌}
-use Rattle.std.proofs.Common.{arith, eqb, eq-eqb, inl, inr, length, get_or, nat_le, nat_lt, zip, All, Option, Some, None}
-use Rattle.std.specs.Prelude.{Result, Ok, Err, IsOk, ◌↔◌}
+use Rattle.std.proofs.Common.{◌≡◌, ℕ, suc, ◌<◌, ◌≤◌, Bool, true, not, ◌||◌, List, [], ◌∷◌, refl, ap, sym, ◌∙◌}
+use Rattle.std.proofs.Common.{arith, eqb, eq-eqb, inl, inr, length, get_or, nat_le, nat_lt, zip, All, Option}
+use Rattle.std.proofs.Common.{Some, None}
+use Rattle.std.specs.Prelude.{Result, Ok, Err, IsOk, ◌↔◌, ◌⊎◌}
 use Rattle.std.specs.List.{list_all}
 use Rattle.std.specs.Option.{option_map, option_or}
 use Rattle.std.specs.Cmp.Lexicographic.{bytes_decides}
-use Rattle.std.proofs.lemmas.Bool.{and_from, cases_Bool, cases_eq, eqb-true, le-leb, leb-true, lt-ltb, ltb-true, ne_eqb, true≢false}
+use Rattle.std.proofs.lemmas.Bool.{and_from, cases_eq, eqb-true, le-leb, leb-true, lt-ltb, ltb-true, ne_eqb, true≢false}
 use Rattle.std.proofs.lemmas.List.Sums.{AllPass-from_list_all}
 use Rattle.std.proofs.lemmas.Slice.Zip.{get_or-zip, length-zip}
 use Rattle.p3_support.specs.Answers.{AnswersUnless}
 use Rattle.p3_support.specs.Batches.{greatest}
 use Rattle.p3_merkle_core.specs.Refusals.{first_of, first_some, unless}
-use Rattle.p3_merkle_core.proofs.Pruned.NoneFacts.{none_of_both, none_parts, none_unless, paired_none, unless_none}
+use Rattle.p3_merkle_core.proofs.Pruned.NoneFacts.{none_of_both, none_parts, paired_none, unless_none}
 use Rattle.p3_merkle_core.proofs.Pruned.SlotFacts.{all_below}
 use Rattle.tlog.specs.Rfc9162.{Hash as HashFunction}
 use Rattle.tlog.specs.Verdicts.{IsIncluded, inclusion_refusal, is_same, size_limit}
@@ -61,7 +62,8 @@ one_leaf_from indices leaves same t a b h g e =
     let pairs = zip indices leaves in
     let i = get_or indices a 0 in
     let leaf = get_or leaves a [] in
-    let outer = each_pair (λ (x : ℕ × List ℕ). list_all (λ (y : ℕ × List ℕ). not (eqb x.0 y.0) || is_same x.1 y.1) pairs)
+    let outer = each_pair (λ (x : ℕ × List ℕ).
+    list_all (λ (y : ℕ × List ℕ). not (eqb x.0 y.0) || is_same x.1 y.1) pairs)
     indices leaves [] a same t h in
     let inner = each_pair (λ (y : ℕ × List ℕ). not (eqb i y.0) || is_same leaf y.1) indices leaves [] b same outer g in
     (bytes_decides leaf (get_or leaves b [])).0 (rw (eq-eqb i (get_or indices b 0) e) at inner)
@@ -182,7 +184,8 @@ accepted_from hash size indices leaves proof root form one paths = record {
       (paired_none (λ (x : ℕ × List ℕ).
       inclusion_refusal hash x.0 size x.1 (entry_path hash size indices leaves proof x.0) root) indices leaves k []
       (mapped_none (λ e. RootMismatch) (first_of (λ (x : ℕ × List ℕ).
-      inclusion_refusal hash x.0 size x.1 (entry_path hash size indices leaves proof x.0) root) (zip indices leaves)) paths)
+      inclusion_refusal hash x.0 size x.1 (entry_path hash size indices leaves proof x.0) root) (zip indices leaves))
+      paths)
       form.in_pairs h);
 }
 
@@ -251,3 +254,14 @@ module _ (hash : HashFunction) (size : ℕ) (indices : List ℕ) (leaves proof :
     ];
     refused = why;
   }
+
+  -- a form that is refused
+  pub form_kept : {e : EntriesError} →
+      (e ≡ OutOfMemory) ⊎ (form_refusal size indices (length leaves) (length proof) ≡ Some e) →
+      Keeps hash size indices leaves proof root (Err e)
+  form_kept {e} why = keeps (Err e) (elim why [
+    | inl memory ↦ inl memory
+    | inr some ↦
+        inr (ap (λ (o : Option EntriesError). option_or o (first_some (unless (is_one_leaf_each (zip indices leaves))
+        TwoLeafHashes ∷ paths_refusal hash size indices leaves proof root ∷ []))) some)
+  ])

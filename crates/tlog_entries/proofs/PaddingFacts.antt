@@ -1,6 +1,7 @@
 -- The digests of slots: those of a proof, and padding.
-use Rattle.std.proofs.Common.{◌≡◌, ℕ, suc, ◌+◌, ◌-◌, ◌*◌, ◌/◌, ◌^◌, ◌<◌, ◌≤◌, true, false, List, [], ◌∷◌, ◌++◌, map, filter}
-use Rattle.std.proofs.Common.{refl, ap, sym, ◌∙◌, arith, inl, inr, length, take, drop, drop-cons, get_or, Some, None}
+use Rattle.std.proofs.Common.{◌≡◌, ℕ, suc, ◌+◌, ◌-◌, ◌*◌, ◌/◌, ◌^◌, ◌<◌, ◌≤◌, true, false, List, [], ◌∷◌, ◌++◌}
+use Rattle.std.proofs.Common.{map, filter}
+use Rattle.std.proofs.Common.{refl, ap, sym, ◌∙◌, arith, inl, inr, length, take, drop, drop-cons, get_or, Some}
 use Rattle.std.proofs.Common.{append_assoc, take-append-drop, length-append, length-drop, nat_le}
 use Rattle.std.proofs.lemmas.Bool.{cases_Bool, cases_lt, lt-ltb, ltb-true, true≢false}
 use Rattle.std.proofs.lemmas.Bool.Decides.{nat_tests}
@@ -8,10 +9,9 @@ use Rattle.std.proofs.lemmas.List.{drop-drop, take_more}
 use Rattle.std.proofs.lemmas.List.Elements.{filter-append}
 use Rattle.std.proofs.lemmas.Nat.{pow_pos}
 use Rattle.std.proofs.Math.Nat.{le-div_iff_mul-le}
-use Rattle.p3_merkle_core.specs.Refusals.{unless}
 use Rattle.tlog_entries.specs.Entries.{digests_refusal, is_node, with_padding}
-use Rattle.tlog_entries.specs.Instance.{AreFilled, IsFilled}
-use Rattle.tlog_entries.specs.declared.error.EntriesError.TheVariants.{TooFewDigests, TooManyDigests}
+use Rattle.tlog_entries.specs.Instance.{AreFilled}
+use Rattle.tlog_entries.specs.declared.error.EntriesError.TheVariants.{TooFewDigests}
 use Rattle.tlog_entries.specs.declared.node.Node.{Node}
 use Rattle.tlog_entries.specs.declared.node.Node.TheVariants.{Absent, Hash}
 use Rattle.tlog_entries.proofs.Shapes.{one_taken}
@@ -46,7 +46,8 @@ padded_next size (s ∷ slots) slot proof =
       | inl t ↦
           let first = map (λ (digest : List ℕ). Hash digest ∷ []) (take 1 proof) in
           let rest = padded_next size slots slot (drop 1 proof)
-          ∙ ap (λ ds. with_padding size slots (drop 1 proof) ++ with_padding size (slot ∷ []) ds) (drop-drop count 1 proof) in
+          ∙ ap (λ ds. with_padding size slots (drop 1 proof) ++ with_padding size (slot ∷ []) ds)
+          (drop-drop count 1 proof) in
           let whole : with_padding size (s ∷ (slots ++ slot ∷ [])) proof
           ≡ first ++ with_padding size (slots ++ slot ∷ []) (drop 1 proof) = rw t refl in
           let one : 1 + count ≡ suc count = omega arith in
@@ -57,8 +58,8 @@ padded_next size (s ∷ slots) slot proof =
     ]
 
 -- the digests of the first slots, of which so many are the proof's
-pub record IsPadded (size : ℕ) (slots : List (ℕ × ℕ)) (proof : List (List ℕ)) (i used : ℕ) (digests : List (List Node)) :
-    Type 0 where
+pub record IsPadded (size : ℕ) (slots : List (ℕ × ℕ)) (proof : List (List ℕ)) (i used : ℕ)
+    (digests : List (List Node)) : Type 0 where
   pub counted : used ≡ length (filter (is_node size) (take i slots))
   pub enough : used ≤ length proof
   pub so_far : digests ≡ with_padding size (take i slots) proof
@@ -119,7 +120,8 @@ too_few size slots proof i used digests h t all w =
     ∙ filter-append (is_node size) (take (i + 1) slots) (drop (i + 1) slots) in
     let more : length front ≤ length (filter (is_node size) slots) =
     omega (arith, length-append front (filter (is_node size) (drop (i + 1) slots)), ap length split) in
-    let less : length proof < length (filter (is_node size) slots) = omega (arith, w.counted, count_next size slots i h) in
+    let less : length proof < length (filter (is_node size) slots) =
+    omega (arith, w.counted, count_next size slots i h) in
     let no : nat_le (length (filter (is_node size) slots)) (length proof) ≡ false = grind (arith, nat_tests) in
     rw no refl
 
@@ -147,7 +149,8 @@ padded_filled size ((l, j) ∷ slots) proof e =
           )
       | inr n ↦
           let left : length proof ≡ length rest = rw n at e in
-          let is : with_padding size ((l, j) ∷ slots) proof ≡ (Absent ∷ []) ∷ with_padding size slots proof = rw n refl in
+          let is : with_padding size ((l, j) ∷ slots) proof ≡ (Absent ∷ []) ∷ with_padding size slots proof =
+          rw n refl in
           rw is (
             record {
               node = λ below. absurd (true≢false (sym (lt-ltb (j * 2 ^ l) size below) ∙ n));

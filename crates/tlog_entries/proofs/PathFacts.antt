@@ -1,7 +1,7 @@
 -- What accepted leaf hashes show, path by path.
-use Rattle.std.proofs.Common.{◌≡◌, ℕ, ◌<◌, ◌≤◌, List, [], map, ap, sym, ◌∙◌, arith, length, get_or}
+use Rattle.std.proofs.Common.{◌≡◌, ℕ, ◌<◌, ◌≤◌, List, [], map, ap, sym, subst, ◌∙◌, arith, length, get_or}
 use Rattle.std.specs.Prelude.{◌↔◌}
-use Rattle.std.proofs.lemmas.List.{get_or-map, length-map}
+use Rattle.std.proofs.lemmas.List.{get_or-map}
 use Rattle.std.proofs.lemmas.Simd.{map-map}
 use Rattle.p3_merkle_core.specs.Pruning.{restored_path}
 use Rattle.p3_merkle_core.specs.Views.{shown_path, shown_paths}
@@ -23,16 +23,22 @@ siblings_are {X} paths path indices is =
     sym (map-map second shown_path paths) ∙ ap (map second) is ∙ map-map second (λ (i : ℕ). (i, path i)) indices
 
 -- accepted leaf hashes are those of the entries exactly if each is that its path shows
-pub fixed_by_paths : (hash : HashFunction) (D : List (List ℕ)) (indices : List ℕ) (leaves proof : List (List ℕ))
-    (paths : List (List (List Node))) → length D ≤ size_limit →
-    AreIncluded hash (length D) indices leaves proof (root_of hash D) →
-    paths ≡ map (restored_path (log_params hash (length D)) (entries_opening (length D) indices leaves proof)) indices →
+pub fixed_by_paths : (hash : HashFunction) (D : List (List ℕ)) (size : ℕ) (indices : List ℕ)
+    (leaves proof : List (List ℕ))
+    (root : List ℕ) (paths : List (List (List Node))) → size ≡ length D → root ≡ root_of hash D → size ≤ size_limit →
+    AreIncluded hash size indices leaves proof root →
+    paths ≡ map (restored_path (log_params hash size) (entries_opening size indices leaves proof)) indices →
     RootFixesLeaves hash D indices leaves proof ↔ ((k : ℕ) → k < length indices →
     RootFixesLeaf hash D (get_or indices k 0) (get_or leaves k []) (present (get_or paths k [])))
-fixed_by_paths hash D indices leaves proof paths small is paths_are =
-    let path = restored_path (log_params hash (length D)) (entries_opening (length D) indices leaves proof) in
+fixed_by_paths hash D size indices leaves proof root paths size_is root_is low accepted paths_are =
+    let path = λ (n : ℕ). restored_path (log_params hash n) (entries_opening n indices leaves proof) in
+    let small : length D ≤ size_limit = omega arith in
+    let is : AreIncluded hash (length D) indices leaves proof (root_of hash D) =
+    subst (λ (n : ℕ). AreIncluded hash n indices leaves proof (root_of hash D)) size_is
+    (subst (λ (r : List ℕ). AreIncluded hash size indices leaves proof r) root_is accepted) in
     let path_at = λ (k : ℕ) (h : k < length indices).
-    ap (λ (xs : List (List (List Node))). get_or xs k []) paths_are ∙ get_or-map path indices k 0 [] h in (
+    ap (λ (xs : List (List (List Node))). get_or xs k []) (paths_are ∙ ap (λ (n : ℕ). map (path n) indices) size_is)
+    ∙ get_or-map (path (length D)) indices k 0 [] h in (
       λ fixed k h same included. fixed small is k h,
       λ each same included k h. each k h small (rw (path_at k h) (is.each k h)),
     )

@@ -1,16 +1,15 @@
 -- The boundary of some entries in the tree of a log.
-use Rattle.std.proofs.Common.{◌≡◌, ℕ, zero, suc, ◌+◌, ◌*◌, ◌/◌, ◌^◌, ◌<◌, ◌≤◌, Bool, true, false, not, List, [], ◌∷◌, ◌++◌, map}
+use Rattle.std.proofs.Common.{◌≡◌, ℕ, zero, suc, ◌+◌, ◌*◌, ◌^◌, ◌<◌, ◌≤◌, Bool, true, not, List, [], ◌∷◌, ◌++◌, map}
 use Rattle.std.proofs.Common.{filter, refl, ap, sym, ◌∙◌, arith, add-one, eqb, length, get_or, All}
-use Rattle.std.specs.List.{flat_map, range_with_len}
+use Rattle.std.specs.List.{range_with_len}
 use Rattle.std.proofs.lemmas.Bool.{eqb-true}
 use Rattle.std.proofs.lemmas.List.{get_or_default, get_or-map, length-map}
 use Rattle.std.proofs.lemmas.List.Elements.{All-append, filter-append}
 use Rattle.std.proofs.lemmas.List.Folds.{Any-from_list_any}
 use Rattle.std.proofs.Math.Nat.{div-le_self}
-use Rattle.p3_support.specs.Batches.{greatest}
 use Rattle.p3_support.specs.Lists.{is_among}
-use Rattle.p3_merkle_core.specs.Geometry.{Shape, IsArity, ancestor, exponent, heights, is_arity, layer_len, leaves_under}
-use Rattle.p3_merkle_core.specs.Geometry.{levels, step}
+use Rattle.p3_merkle_core.specs.Geometry.{Shape, ancestor, exponent, layer_len, leaves_under}
+use Rattle.p3_merkle_core.specs.Geometry.{levels}
 use Rattle.p3_merkle_core.specs.Inner.Agreement.{IsAscending}
 use Rattle.p3_merkle_core.specs.Inner.Children.{children_under}
 use Rattle.p3_merkle_core.specs.Inner.Covered.{covered_at}
@@ -50,7 +49,8 @@ covered_small s indices m l j below c =
     (ap (λ x. eqb (ancestor s l x) j) (get_or_default indices q.0 0 q.1 q.2 ∙ q.3) ∙ q.4) in
     omega (arith, below q.0 0 q.2, div-le_self i (leaves_under s l))
 
-pub parents_fit : (size : ℕ) (indices : List ℕ) (l : ℕ) (xs : List ℕ) → size ≤ size_limit → All (λ i. i < size) indices →
+pub parents_fit : (size : ℕ) (indices : List ℕ) (l : ℕ) (xs : List ℕ) → size ≤ size_limit →
+    All (λ i. i < size) indices →
     xs ≡ covered_at (log_shape size) indices l → All (λ parent. 2 * parent + 2 < 2 ^ 64) xs
 parents_fit size indices l xs small below is k d h =
     let s = log_shape size in

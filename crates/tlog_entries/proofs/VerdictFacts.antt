@@ -1,7 +1,7 @@
 -- What the port's verdict on the opening of entries says of them.
-use Rattle.std.proofs.Common.{◌≡◌, ℕ, zero, suc, ◌+◌, ◌-◌, ◌/◌, ◌<◌, ◌≤◌, Bool, true, false, List, [], ◌∷◌, map, refl, ap}
-use Rattle.std.proofs.Common.{sym, subst, ◌∙◌, arith, eqb, inl, inr, length, get_or, nat_lt, zip, All, Option, Some, None}
-use Rattle.std.specs.Prelude.{Result, Ok, Err, IsOk, ◌⊎◌, ◌≢◌, ◌||◌}
+use Rattle.std.proofs.Common.{◌≡◌, ℕ, zero, suc, ◌<◌, ◌≤◌, Bool, true, false, List, [], ◌∷◌, refl, ap}
+use Rattle.std.proofs.Common.{sym, subst, ◌∙◌, arith, eqb, inl, inr, length, get_or, nat_lt, zip, Option, Some, None}
+use Rattle.std.specs.Prelude.{Result, Ok, Err, ◌⊎◌, ◌≢◌, ◌||◌}
 use Rattle.std.specs.Bool.{Decides}
 use Rattle.std.specs.Option.{option_map, option_or}
 use Rattle.std.specs.Cmp.Lexicographic.{pointwise, pointwise_decides}
@@ -9,12 +9,12 @@ use Rattle.std.proofs.lemmas.Bool.{cases_Bool, cond-false, lt-ltb, ne_eqb, true�
 use Rattle.std.proofs.lemmas.List.{get_or-map, length-map}
 use Rattle.p3_support.specs.Batches.{greatest}
 use Rattle.p3_merkle_core.specs.Checks.{Params, layer_rows}
-use Rattle.p3_merkle_core.specs.Geometry.{Shape, ancestor, exponent, has_rows, heights, layer_exponent, levels}
+use Rattle.p3_merkle_core.specs.Geometry.{Shape, ancestor, exponent, heights, layer_exponent, levels}
 use Rattle.p3_merkle_core.specs.Gate.{gate_refusal}
 use Rattle.p3_merkle_core.specs.Presented.{IsVerdict, Presented, presented_pruned}
 use Rattle.p3_merkle_core.specs.Pruning.{IsPrunedAccepted, IsRestorable, PrunedOpening, boundary}
 use Rattle.p3_merkle_core.specs.Refusals.{cap_refusal, digest_count_refusal, duplicate_refusal, first_of, first_some}
-use Rattle.p3_merkle_core.specs.Refusals.{group_refusal, idle_refusal, pruned_refusal, pruned_refusal_under}
+use Rattle.p3_merkle_core.specs.Refusals.{group_refusal, idle_refusal, pruned_refusal}
 use Rattle.p3_merkle_core.specs.Refusals.{queries_refusal, rows_of, size_refusal, slot_of, slots_below, unless}
 use Rattle.p3_merkle_core.specs.Refusals.{width_refusal}
 use Rattle.p3_merkle_core.specs.declared.error.MerkleTreeError.{MerkleTreeError}
@@ -29,12 +29,14 @@ use Rattle.p3_merkle_core.proofs.Shapes.OneHeight.{no_rows_above}
 use Rattle.tlog.specs.Rfc9162.{Hash as HashFunction}
 use Rattle.tlog.specs.Verdicts.{inclusion_refusal}
 use Rattle.tlog_entries.specs.Entries.{AreIncluded, entries_opening, entries_refusal, entry_path, form_refusal}
-use Rattle.tlog_entries.specs.Entries.{is_one_leaf_each, with_padding}
+use Rattle.tlog_entries.specs.Entries.{is_one_leaf_each}
 use Rattle.tlog_entries.specs.Instance.{AreFilled, leaf_row, log_params, log_shape, root_cap}
+use Rattle.tlog_entries.specs.Inner.Meanings.{IsMeaning}
+use Rattle.tlog_entries.specs.declared.error.EntriesError.{EntriesError}
 use Rattle.tlog_entries.specs.declared.error.EntriesError.TheVariants.{TwoLeafHashes, RootMismatch}
 use Rattle.tlog_entries.specs.declared.node.Node.{Node}
-use Rattle.tlog_entries.proofs.EntriesFacts.{HaveForm, HaveOneLeaf, accepted_from, accepted_to, form_to, one_leaf_from}
-use Rattle.tlog_entries.proofs.EntriesFacts.{one_leaf_to, paths_refusal, unrefused}
+use Rattle.tlog_entries.proofs.EntriesFacts.{HaveForm, HaveOneLeaf, accepted_from, form_to, one_leaf_from}
+use Rattle.tlog_entries.proofs.EntriesFacts.{Keeps, keeps, one_leaf_to, paths_refusal, unrefused}
 use Rattle.tlog_entries.proofs.PaddingFacts.{filled_length, padded_filled}
 use Rattle.tlog_entries.proofs.Restored.{query_accepted}
 use Rattle.tlog_entries.proofs.Shapes.{ancestor_of_two, lawful, one_column, tallest, two_is_arity}
@@ -126,7 +128,12 @@ module _ (hash : HashFunction) (size : ℕ) (indices : List ℕ) (leaves proof :
           layer_rows s (get_or p.rows a []) l ≡ layer_rows s (get_or p.rows b []) l) [
             | zero ↦ λ a b le h g same.
                 let alone : get_or indices a 0 ≡ get_or indices b 0 =
-                omega (arith, same, ancestor_of_two size 0 (get_or indices a 0), ancestor_of_two size 0 (get_or indices b 0)) in
+                omega (
+                  arith,
+                  same,
+                  ancestor_of_two size 0 (get_or indices a 0),
+                  ancestor_of_two size 0 (get_or indices b 0),
+                ) in
                 ap (λ rows. layer_rows s rows 0) (row a h ∙ ap leaf_row (one a b h g alone) ∙ sym (row b g))
             | suc l ↦ λ a b le h g same.
                 rw (row a h, row b g) (no_rows (get_or leaves a []) (suc l) (omega arith) le
@@ -170,7 +177,8 @@ module _ (hash : HashFunction) (size : ℕ) (indices : List ℕ) (leaves proof :
     refused_twice : (HaveOneLeaf indices leaves → ⊥) → (slot : ℕ) × (pruned_refusal row_eq s (levels s) p
         ≡ Some (MalformedPrunedProof (InconsistentDuplicateOpenings slot)))
     refused_twice two =
-        let why = λ (x : ℕ × List (List Node)). MalformedPrunedProof (InconsistentDuplicateOpenings (slot_of indices x.0)) in
+        let why = λ (x : ℕ × List (List Node)).
+        MalformedPrunedProof (InconsistentDuplicateOpenings (slot_of indices x.0)) in
         let test = λ (x : ℕ × List (List Node)). pointwise (pointwise row_eq) x.1 (rows_of p x.0) in
         let paired : length p.rows ≡ length indices = length-map leaves leaf_row ∙ form.in_pairs in
         let gate = (gate_lawful (heights s)).1 (lawful size some form.small) in
@@ -187,7 +195,8 @@ module _ (hash : HashFunction) (size : ℕ) (indices : List ℕ) (leaves proof :
           | inl none ↦ absurd (two (λ a b h g same.
               let first = λ (k : ℕ) (l : k < length indices).
               (pointwise_decides (pointwise_decides dec) (get_or p.rows k []) (rows_of p (get_or indices k 0))).0
-              (unless_none (test (get_or indices k 0, get_or p.rows k [])) (why (get_or indices k 0, get_or p.rows k []))
+              (unless_none (test (get_or indices k 0, get_or p.rows k []))
+              (why (get_or indices k 0, get_or p.rows k []))
               (paired_none (λ x. unless (test x) (why x)) indices p.rows k [] none paired l)) in
               let e : leaf_row (get_or leaves a []) ≡ leaf_row (get_or leaves b []) =
               sym (row a h) ∙ first a h ∙ ap (rows_of p) same ∙ sym (first b g) ∙ row b g in cc))
@@ -229,7 +238,8 @@ module _ (hash : HashFunction) (size : ℕ) (indices : List ℕ) (leaves proof :
                       let accepted = each_accepted (accepted_from hash size indices leaves proof root form t none) in
                       elim (w.accepted_is_ok accepted) [ inl e ↦ absurd cc | inr e ↦ absurd cc ]
                   | inr e ↦ skip (form_refusal size indices (length leaves) (length proof)) _ _ no_form_refusal
-                      (skip (unless one TwoLeafHashes) _ _ (none_unless one TwoLeafHashes t) (ap (λ o. option_or o None) e))
+                      (skip (unless one TwoLeafHashes) _ _ (none_unless one TwoLeafHashes t)
+                      (ap (λ o. option_or o None) e))
                 ]
           ]
         ]
@@ -249,8 +259,26 @@ module _ (hash : HashFunction) (size : ℕ) (indices : List ℕ) (leaves proof :
                 let w = restorable (one_leaf_from indices leaves form.in_pairs t) in
                 let none = verdict_ok (pruned_refusal row_eq s (levels s) p)
                 (port_unrefused row_eq s (levels s) p dec w) in
-                let capped = sym (skip (pruned_refusal row_eq s (levels s) p) (cap_refusal digest_eq c (root_cap root) p) _
+                let capped = sym (skip (pruned_refusal row_eq s (levels s) p)
+                (cap_refusal digest_eq c (root_cap root) p) _
                 none refl) ∙ is in
                 absurd (no_mismatch (unless_some _ CapMismatch e capped))
           ]
         ]
+
+    -- what the port answers is answered of entries
+    pub verdict_kept : {V : Type 0} (v : V) → IsVerdict port (Ok v) →
+        Keeps hash size indices leaves proof root (Ok tt)
+    verdict_kept v w = keeps hash size indices leaves proof root (Ok tt) (ok_unrefused v w)
+
+    pub error_kept : {V : Type 0} (e : MerkleTreeError) (why : EntriesError) → IsMeaning e why →
+        IsVerdict {V = V} port (Err e) → Keeps hash size indices leaves proof root (Err why)
+    error_kept {V} e why means w = keeps hash size indices leaves proof root (Err why) (elim means [
+      | inl memory ↦ inl memory.1
+      | inr rest ↦ elim rest [
+        | inl other ↦
+            let verdict = subst (λ (x : MerkleTreeError). IsVerdict {V = V} port (Err x)) other.0 w in
+            inr (other_root verdict ∙ ap Some (sym other.1))
+        | inr two ↦ inr (other_error e two.0 two.1 w ∙ ap Some (sym two.2))
+      ]
+    ])

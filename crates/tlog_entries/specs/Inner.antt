@@ -1,2 +1,3 @@
 -- Definitions that only proofs, and calls that no public contract mentions, use.
 pub mod Paths
+pub mod Meanings

@@ -13,8 +13,8 @@ ghost use Rattle.tlog_entries.specs.Entries.{AreIncluded, is_node as is_node_by,
 ghost use Rattle.tlog_entries.specs.Instance.{log_shape};
 
 use crate::tree::dimensions_of;
-use p3_merkle_core::pruning::{climb, distinct_indices};
-use p3_merkle_core::steps::steps_of;
+use p3_merkle_core::pruning::distinct_indices;
+use p3_merkle_core::steps::{Covered, steps_of};
 use std::alloc::{AllocError, Global};
 
 /// The nodes whose values are the proof of the entries at these indices, counted from 0, in a log of `size` entries, in
@@ -75,13 +75,14 @@ pub(crate) fn boundary_slots(
         IfOk result (λ slots. slots.items ≡ boundary s indices.now (levels s)) }
     ensures layers { IfOk result (λ slots. All (λ slot. slot.0 < 64) slots.items) }
 {
-    let num_levels = steps_of(&dimensions_of(size), 2).num_levels;
-    let mut covered = distinct_indices(alloc, indices)?;
+    let dimensions = dimensions_of(size);
+    let steps = steps_of(&dimensions, 2);
+    let mut covered = Covered::new(&steps, indices, distinct_indices(alloc, indices)?);
     let mut slots = Vec::new(alloc);
-    for layer in 0..num_levels {
-        let below = Vec::from_slice(alloc, &covered)?;
-        climb(&mut covered, 2);
-        push_uncovered(&mut slots, layer, &covered, &below)?;
+    for layer in 0..steps.num_levels {
+        let below = Vec::from_slice(alloc, &covered.nodes)?;
+        covered.climb();
+        push_uncovered(&mut slots, layer, &covered.nodes, &below)?;
     }
     Ok(slots)
 }

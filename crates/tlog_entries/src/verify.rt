@@ -4,6 +4,7 @@ ghost use Rattle.sha2.specs.Sha256.{sha256};
 ghost use Rattle.p3_support.specs.Answers.{AnswersUnless};
 ghost use Rattle.tlog.specs.Verdicts.{size_limit};
 ghost use Rattle.tlog_entries.specs.Entries.{AreIncluded, entries_refusal};
+ghost use Rattle.tlog_entries.specs.Inner.Meanings.{IsMeaning};
 ghost use Rattle.tlog_entries.specs.declared.error.EntriesError.TheVariants.{OutOfMemory};
 
 use crate::error::EntriesError;
@@ -60,9 +61,18 @@ pub fn verify_entries(
         &opening.pruned_proof,
     ) {
         Ok(()) => Ok(()),
-        Err(MerkleTreeError::OutOfMemory) => Err(EntriesError::OutOfMemory),
-        Err(MerkleTreeError::CapMismatch) => Err(EntriesError::RootMismatch),
-        // All other reasons but this one are excluded above.
-        Err(_) => Err(EntriesError::TwoLeafHashes),
+        Err(e) => Err(meaning_of(e)),
+    }
+}
+
+/// Why entries are refused whose form is right, by why their opening is.
+fn meaning_of(e: MerkleTreeError) -> EntriesError
+    ensures { IsMeaning e result }
+{
+    match e {
+        MerkleTreeError::OutOfMemory => EntriesError::OutOfMemory,
+        MerkleTreeError::CapMismatch => EntriesError::RootMismatch,
+        // One of two openings of one index.
+        _ => EntriesError::TwoLeafHashes,
     }
 }

@@ -20,8 +20,11 @@ pub fn entries(alloc: Global, count: usize) -> Result<Vec<Vec<u8>>, AllocError> 
 
 /// Their leaf hashes.
 pub fn leaves(alloc: Global, entries: &[Vec<u8>]) -> Result<Vec<[u8; 32]>, AllocError> {
-    let entries: Vec<&[u8]> = entries.iter().map(|entry| entry.as_slice()).collect(alloc)?;
-    leaf_hashes(alloc, &entries)
+    let mut leaves = Vec::new(alloc);
+    for entry in entries {
+        leaves.push(leaf_hash(entry))?;
+    }
+    Ok(leaves)
 }
 
 #[test]
@@ -36,7 +39,12 @@ fn rows(rt: HostRuntime) -> Result<(), Fail> {
         (8, [0x50, 0xfc, 0xd7, 0x5a]),
         (11, [0x87, 0x33, 0xb9, 0x96]),
     ];
-    let leaves = leaves(rt.alloc(), &entries(rt.alloc(), 11)?)?;
+    let entries = entries(rt.alloc(), 11)?;
+    let slices: Vec<&[u8]> = entries
+        .iter()
+        .map(|entry| entry.as_slice())
+        .collect(rt.alloc())?;
+    let leaves = leaf_hashes(rt.alloc(), &slices)?;
     for (count, expected) in rows {
         let mut frontier = Frontier::new(rt.alloc());
         for leaf in leaves.iter().take(count) {

@@ -1,5 +1,5 @@
 -- Each turn is one child, or one parent.
-use Rattle.std.proofs.Common.{◌≡◌, ◌*◌, ◌≤◌, ◌+◌, ap, arith, not, length, get_or, sym, ◌∙◌, refl}
+use Rattle.std.proofs.Common.{◌*◌, ap, arith, not, get_or, sym, ◌∙◌, refl}
 use Rattle.p3_support.specs.Lists.{is_among}
 use Rattle.tlog_entries.proofs.BoundaryFacts.{child_kept, child_left, found_among, missed_among, parent_more}
 use Rattle.tlog_entries.proofs.boundary.push_uncovered.Goals as goal

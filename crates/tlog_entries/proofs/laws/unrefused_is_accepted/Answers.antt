@@ -1,4 +1,3 @@
-use Rattle.tlog_entries.proofs.VerdictFacts.{restorable}
 use Rattle.tlog_entries.proofs.EntriesFacts.{unrefused}
 use Rattle.tlog_entries.proofs.laws.unrefused_is_accepted.Goals as goal
 

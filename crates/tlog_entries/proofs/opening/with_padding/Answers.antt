@@ -1,5 +1,5 @@
 -- Each turn is one slot.
-use Rattle.std.proofs.Common.{◌≡◌, ◌<◌, ◌++◌, ◌∷◌, [], ◌∙◌, ap, arith, inr, length, sym}
+use Rattle.std.proofs.Common.{◌<◌, ◌++◌, ◌∷◌, [], ◌∙◌, ap, arith, inr, length, sym}
 use Rattle.tlog_entries.proofs.PaddingFacts.{node_more, padding_more, too_few}
 use Rattle.tlog_entries.proofs.opening.with_padding.Goals as goal
 use Rattle.tlog_entries.proofs.opening.with_padding.Goals.{then-is_node+else-used-proof, else-is_node}
