@@ -1,6 +1,6 @@
-//! Pruned openings: their form, and whether their rows agree; the nodes that they cover, and the paths that their
-//! layers hold. It needs no cap and no hash. Rows agree where queries of one index have one row set, and queries under
-//! one node have the same rows of the matrices that belong to the node's layer.
+//! Pruned openings: their form, whether their rows agree, the nodes that they cover, and the paths that are read from
+//! their layers. Nothing here needs a cap or a hash. Rows agree if queries of one index have one row set, and queries
+//! under one node have the same rows of the matrices of the node's layer.
 
 ghost use Rattle.std.specs.Prelude.{◌≡◌, ℕ, ◌+◌, ◌-◌, ◌*◌, ◌/◌, ◌%◌, ◌^◌, ◌<◌, ◌≤◌, ◌⊎◌, ◌++◌, Some, None, List};
 ghost use Rattle.std.specs.Prelude.{[], All, IfOk, MatchResult, length, map, remove, slice_index, slice_index_or, true};
@@ -114,7 +114,8 @@ pub fn check_indices(max_height: usize, indices: &[usize]) -> Result<(), MerkleT
     }
 }
 
-/// The distinct indices of sorted queries, and the slot of each query's index, in query order.
+/// The distinct indices, ascending, and the slot of each query's index, in query order. `sorted` has each query as its
+/// index and its position, ascending.
 fn distinct_slots(
     alloc: Global,
     sorted: &[(usize, usize)],
@@ -203,8 +204,9 @@ fn check_same_rows<T: Eq>(
     Ok(())
 }
 
-/// Checks that slots under one node have the same rows of the matrices of its layer: each slot is compared with the
-/// first one under its node. The indices ascend, and a node has so many bits fewer than an index under it.
+/// Checks that slots under one node of a layer have the same rows of the layer's matrices, which are given by their
+/// positions. Each slot is compared with the first one under its node. A node's number is an index without its lowest
+/// `bits` bits; the indices ascend.
 fn check_layer<T: Eq>(
     matrices: &[usize],
     indices: &[usize],
@@ -296,9 +298,9 @@ fn check_shared_rows<T: Eq>(
     Ok(())
 }
 
-/// Checks all of a pruned opening that doesn't depend on the cap, which is layer `cap_layer`: whether paths can be
-/// restored from it. Returns its distinct indices, with their queries. `cap_layer` must be at most the number of
-/// levels, and the arity a power of two from 2 to 2^62.
+/// Checks everything about a pruned opening that does not depend on the cap's digests: whether its paths can be
+/// restored up to layer `cap_layer`. Returns its distinct indices, with their queries. `cap_layer` must be at most the
+/// number of levels, and the arity a power of two from 2 to 2^62.
 ///
 /// It sorts the indices once, and allocates at most five numbers for each index at a time, and one for each matrix of a
 /// layer above the leaves. The number of allocations doesn't depend on the indices.
@@ -345,7 +347,8 @@ pub fn check_pruned<T: Eq>(
     Ok(queried)
 }
 
-/// Checks whether some indices can be queried with so many row sets and digests. It does not allocate.
+/// Checks heights, the number of row sets, that there is no digest where there is no index, and that each index is
+/// below the tallest height, in this order. It does not allocate.
 fn check_queries(
     steps: &Steps<'_>,
     indices: &[usize],
@@ -382,7 +385,7 @@ fn check_digest_count(expected: usize, got: usize) -> Result<(), MerkleTreeError
     }
 }
 
-/// Each of some indices once, ascending: the leaves that they cover. It allocates a copy of the indices and sorts it.
+/// The distinct indices, ascending: the covered leaves. It sorts a copy of the list.
 ///
 /// # Errors
 ///
@@ -396,10 +399,10 @@ pub fn distinct_indices(alloc: Global, indices: &[usize]) -> Result<Vec<usize>, 
     Ok(leaves)
 }
 
-/// The digests of the children of some parents, `step` of each, parent by parent: a covered child has its digest, and
-/// each other child has the next digest of `sent`. `covered` has the covered children in that order, and `digests` one
-/// digest for each of them; `sent` must have enough for the others. The number of children, and `step * parent + step`
-/// for each parent, must fit `usize`. It allocates the list of all children.
+/// The digests of all children of some parents, `step` of each, parent by parent. A covered child has its digest from
+/// `digests`, any other child the next digest of `sent`, which are digests of the proof. `covered` has the covered
+/// children in that order; `digests` one digest for each of them; `sent` enough for the others. The number of children,
+/// and `step * parent + step` for each parent, must fit `usize`. It allocates the list of children.
 ///
 /// # Errors
 ///
@@ -449,10 +452,11 @@ fn place_of(nodes: &[usize], start: usize, node: usize) -> usize
     place
 }
 
-/// The siblings on the path of a covered leaf, out of the layers from the leaves on, with room for `capacity` of them
-/// at first: on each layer below the last one all digests of the path's group except its own, ascending. On each layer
-/// the search for the path's node begins at the number in `places`, and leaves the node's place there: so the searches
-/// of ascending leaves pass each node once. The path doesn't depend on these numbers.
+/// The siblings on the path of a covered leaf, read from the layers of a pruned opening, which begin with the leaves:
+/// on each layer above them the digests of the children of the path's node, without the path's own, ascending.
+/// `capacity` is the expected number of siblings. `places` has for each layer where the last path went: the search for
+/// the path's node begins there, and leaves the node's own place. So the searches of ascending leaves pass each node
+/// once. The path does not depend on these numbers.
 ///
 /// # Errors
 ///
@@ -486,7 +490,7 @@ pub fn path_out_of<X: Copy>(
     Ok(path)
 }
 
-/// Adds the digests of a group, or of a part of one, to the end, all except the one at `position`, which is in it.
+/// Appends the digests of a group, or of a part of one, without the one at `position`, which it must have.
 ///
 /// # Errors
 ///
@@ -499,7 +503,7 @@ pub fn extend_with_others<X: Copy>(
     requires { position < length group.now }
     ensures { IfOk result (λ done. digests.new.items ≡ digests.old.items ++ remove group.now position) }
 {
-    // No branch asks for the position: it would be guessed wrong half of the time.
+    // Each read computes its index without a branch: the position is as good as random.
     for place in 1..group.len() {
         digests.push(group[place - usize::from(place <= position)])?;
     }

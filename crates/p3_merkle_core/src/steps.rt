@@ -1,5 +1,5 @@
-//! The steps of a tree, from the leaves to the root, walked once and kept: every walk goes by them, as that up the
-//! nodes which some queries cover. Only the two `clone`s and the two calls that return a list allocate.
+//! The steps of a tree, from the leaves to the root, and the covered nodes of its layers. The steps are computed once
+//! and stored; all other code reads them. Only the two `clone`s and the two calls that return a list allocate.
 
 ghost use Rattle.std.specs.Prelude.{◌≡◌, suc, ◌-◌, ◌/◌, ◌<◌, ◌≤◌, ◌==◌, ◌↔◌, if◌then◌else◌, length, map, All, take};
 ghost use Rattle.std.specs.Prelude.{IfOk, IsOk, MatchResult, None, Some};
@@ -40,7 +40,7 @@ struct Exponents {
     pub lower_end: usize,
 }
 
-/// The exponents that matrices have, as the bits of a number, so that no layer looks at the matrices again.
+/// Which exponents the matrices have, as a bit mask, so that the matrices are read once for all layers.
 #[derive(Clone, Copy)]
 struct MatrixExponents<'a> {
     /// The dimensions of the matrices.
@@ -51,7 +51,7 @@ struct MatrixExponents<'a> {
 }
 
 impl<'a> MatrixExponents<'a> {
-    /// The exponents at a layer of this exponent, which is at most 64.
+    /// The exponent of a layer, at most 64, with the end of the lower exponents that matrices have.
     fn at(&self, layer: usize) -> Exponents
         requires { layer ≤ 64 }
         ensures layer { result.layer ≡ layer }
@@ -152,8 +152,8 @@ pub struct Steps<'a> {
     ghost walked: { IsWalk (shape_of arity dimensions.now) max_height min_height exponent num_levels of_level },
 }
 
-/// The steps of the tree over matrices of these dimensions, where a node has at most `arity` children. They end for all
-/// dimensions. The arity must be at least 2. Each matrix is looked at twice: for its height, and for its exponent.
+/// The steps of the tree over matrices of these dimensions, where a node has at most `arity` children. The heights need
+/// not be lawful. The arity must be at least 2. It reads each matrix twice: for its height, and for its exponent.
 pub fn steps_of(dimensions: &[Dimensions], arity: usize) -> Steps<'_>
     requires { 2 ≤ arity }
     ensures dimensions { result.dimensions.now ≡ dimensions.now }
@@ -238,7 +238,7 @@ pub fn check_heights(dimensions: &[Dimensions]) -> Result<(), MerkleTreeError>
     Ok(())
 }
 
-/// The steps of a tree, which own the dimensions of its matrices. A tree keeps them, so that no opening walks them
+/// The steps of a tree, with its own copy of the dimensions. A tree stores them, so that no opening computes them
 /// again.
 #[derive(Debug, Drop)]
 pub struct KeptSteps {
@@ -256,8 +256,8 @@ pub struct KeptSteps {
 }
 
 impl KeptSteps {
-    /// The steps of the tree over matrices of these dimensions, as [`steps_of`] walks them. The arity must be at least
-    /// 2.
+    /// Computes the steps of the tree over matrices of these dimensions, which it owns: see [`steps_of`]. The arity
+    /// must be at least 2.
     pub fn new(dimensions: Vec<Dimensions>, arity: usize) -> KeptSteps
         requires { 2 ≤ arity }
         ensures dimensions { result.dimensions.items ≡ dimensions.items }
@@ -282,7 +282,7 @@ impl KeptSteps {
         }
     }
 
-    /// The steps, which are not walked again.
+    /// The steps, with the dimensions borrowed.
     pub fn steps(&self) -> Steps<'_>
         ensures dimensions { result.dimensions.now ≡ self.now.dimensions.items }
         ensures arity { result.arity ≡ self.now.arity }
@@ -298,7 +298,7 @@ impl KeptSteps {
         }
     }
 
-    /// The same steps, beside a copy of the dimensions.
+    /// The same steps, with a copy of the dimensions.
     ///
     /// # Errors
     ///
@@ -347,9 +347,10 @@ impl<'a> Steps<'a> {
         }
     }
 
-    /// The step of a level, and what is known of the layer above it. The level must be below the root, `exponent` must
-    /// be that of the layer below the level, and `arity` that of the steps: a caller that knows it at compile time then
-    /// divides by a constant.
+    /// The step of a level, the exponent of the layer above it, and whether matrices belong to that layer. `exponent`
+    /// must be that of the layer below, so that a caller that goes up level by level does not compute it again. `arity`
+    /// must be that of the steps: a caller that has it as a constant then divides by a constant. The level must be
+    /// below the root.
     pub fn up(&self, arity: usize, level: usize, exponent: usize) -> StepUp
         requires arity { arity ≡ self.now.arity }
         requires level { level < self.now.num_levels }
@@ -386,8 +387,8 @@ impl<'a> Steps<'a> {
     {
         let arity = self.arity;
         let up = self.up(arity, below, exponent);
-        // Not all slots are grouped where a bridge step starts from fewer nodes than the arity: the others pad the
-        // layer.
+        // Where a bridge step halves a layer that is shorter than the arity, the 2^exponent slots that its nodes can
+        // fill are grouped, and the slots after them are padding.
         let grouped_len = if self.of_level[below].is_bridge && len < arity {
             1 << exponent
         } else {
@@ -426,6 +427,7 @@ impl<'a> Steps<'a> {
         requires layer { layer ≤ self.now.num_levels }
         ensures { result ≡ siblings_below (shape_of self.now.arity self.now.dimensions.now) layer }
     {
+        // At arity 2 each level has one sibling.
         if self.arity == 2 {
             return layer;
         }
@@ -495,7 +497,8 @@ pub struct Covered<'a> {
     pub exponent: usize,
     /// The covered nodes, ascending.
     pub nodes: Vec<usize>,
-    /// How many nodes of the boundary are below the layer.
+    /// How many digests of a pruned proof belong to the levels below the layer: one for each node of the boundary
+    /// there.
     pub boundary_below: usize,
     ghost at_layer: { AreCovered (shape_of steps.now.arity steps.now.dimensions.now) indices.now layer exponent
         nodes.items boundary_below },
@@ -544,7 +547,8 @@ impl<'a> Covered<'a> {
         })
     }
 
-    /// Climbs to the layer above, in place. The layer must be below the root.
+    /// Climbs to the layer above, in place: replaces the covered nodes by their parents, and returns the step that led
+    /// to them. This layer must be below the root.
     pub fn climb(&mut self) -> StepUp
         requires { self.old.layer < self.old.steps.now.num_levels }
         ensures steps { self.new.steps.now ≡ self.old.steps.now }
@@ -564,8 +568,9 @@ impl<'a> Covered<'a> {
         up
     }
 
-    /// How many nodes of the boundary are below a layer, which must be at most the number of levels, and not below this
-    /// one. It does not allocate, and takes one step for each node and level.
+    /// How many digests a pruned proof of the indices has, where the cap is layer `layer`: on each level below it, one
+    /// for each child of a covered node that is not covered itself. `layer` must be at most the number of levels, and
+    /// not below the layer of these nodes. It does not allocate, and takes one step for each node and level.
     pub fn boundary_len(mut self, layer: usize) -> usize
         requires above { self.layer ≤ layer }
         requires in_tree { layer ≤ self.steps.now.num_levels }
@@ -579,7 +584,8 @@ impl<'a> Covered<'a> {
     }
 }
 
-/// Replaces ascending nodes by their parents, each once, ascending. `step` is the number of a parent's children.
+/// Replaces ascending nodes of a layer by their parents, each once, ascending. `step` is the number of a parent's
+/// children.
 fn replace_by_parents(covered: &mut Vec<usize>, step: usize)
     requires { 0 < step }
     ensures { IsAscending covered.old.items → covered.new.items ≡ distinct (map (λ j. j / step) covered.old.items) }

@@ -161,7 +161,7 @@ impl<
         }
     }
 
-    /// Commits to matrices. Returns the cap of their tree, and the tree, which keeps the matrices in input order. The
+    /// Commits to matrices. Returns the cap of their tree, and the tree, which owns the matrices in input order. The
     /// cap is a whole layer of digests, padding included.
     ///
     /// # Errors

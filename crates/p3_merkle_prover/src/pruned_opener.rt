@@ -1,4 +1,5 @@
-//! What a tree opens of several leaves at once: their rows, and the digests that these rows leave unknown.
+//! What is read from a tree for several leaves at once: their rows, and the digests that a verifier cannot compute from
+//! these rows.
 
 ghost use Rattle.std.specs.Prelude.{◌≡◌, ◌+◌, ◌-◌, ◌%◌, ◌^◌, ◌<◌, ◌≤◌, ◌++◌, length, map, All, IfOk, None};
 ghost use Rattle.std.specs.List.Sorted.{IsStrictlyIncreasing};
@@ -45,10 +46,11 @@ pub fn rows_of_indices<F: Copy, X, G, M: Matrix<F>, const N: usize>(
     Ok(rows)
 }
 
-/// The digests of the boundary of some leaves below the cap's layer, in wire order: level by level from the leaves, and
-/// ascending, those of the children of covered nodes that are not covered. Each index must be below
-/// [`max_height`](crate::opener::max_height), and `cap_layer` at most the number of levels. It allocates and sorts a
-/// copy of the indices, and allocates the digests once, at their number. It takes one step for each index and level.
+/// The digests of a pruned proof of some leaves, in wire order: level by level below the cap's layer, ascending, those
+/// of the children of covered nodes that are not covered themselves. Each index must be below
+/// [`max_height`](crate::opener::max_height), and `cap_layer` at most the number of levels. It sorts a copy of the
+/// indices, copies the distinct ones once more, and allocates the digests once, at their number. It takes one step for
+/// each index and level.
 ///
 /// # Errors
 ///
@@ -78,9 +80,8 @@ pub fn digests_of_boundary<F, X: Copy, G, M: Matrix<F>, const N: usize>(
     Ok(digests)
 }
 
-/// Adds the boundary's digests of one layer to the end, ascending: those of the nodes that are not covered, but have a
-/// covered one in their group of `step`. The covered nodes ascend. Goes once through these, and copies what lies
-/// between them.
+/// Appends the boundary's digests of one layer, ascending: of each group of `step` that has a covered node, those of
+/// the nodes that are not covered. The covered nodes ascend, and are gone through once.
 fn extend_with_boundary<X: Copy>(
     digests: &mut Vec<X>,
     layer: &[X],

@@ -139,7 +139,7 @@ impl<
     const N: usize,
     const D: usize,
 > Checker<'a, P, PW, H, C, [[PW::Value; D]; N], N, D> {
-    /// Hashes the rows of the matrices of one exponent, one after another.
+    /// The digest of the rows of the matrices of one exponent, hashed one after another as one message.
     fn row_digest(
         &self,
         dimensions: &[Dimensions],

@@ -1,5 +1,5 @@
-//! Pruned openings: their check, and the path of each query, restored. Both walk up the covered nodes layer by layer,
-//! and digest the rows that queries opened there and the nodes' children.
+//! Pruned openings: their check, and the restored path of each query. Both compute the digests of the covered nodes,
+//! layer by layer up to the cap's.
 
 ghost use Rattle.std.specs.Prelude.{◌≡◌, ◌/◌, ◌<◌, ◌≤◌, ℕ, [], All, IfOk, length, map, replicate, slice_index};
 ghost use Rattle.std.specs.Prelude.{slice_index_or, zip};
@@ -38,7 +38,8 @@ use p3_support::packed::PackedValue;
 use std::alloc::{AllocError, Global};
 use std::marker::PhantomData;
 
-/// A pruned opening that restores, under a cap that is a layer of the tree, and its covered leaves.
+/// Checks the form of a pruned opening and that its rows agree, and returns it with its covered leaves. The error is
+/// that of `check_pruned`.
 fn restorable_of<'a, P: PackedValue, X>(
     alloc: Global,
     steps: &'a Steps<'a>,
@@ -77,8 +78,8 @@ fn restorable_of<'a, P: PackedValue, X>(
     Ok((restorable, leaves))
 }
 
-/// The layer above `below`, which is below the cap's layer. A covered child has its digest in `digests`; each other
-/// child has the next digest of the proof.
+/// The layer above `below`, which must be layer `level` and below the cap's layer. `digests` has the digest of each
+/// covered node of `below`; the other children have the next digests of the proof.
 fn layer_above<'a, T, X: Copy>(
     alloc: Global,
     restorable: &RestorableOpening<'_, T, X>,
@@ -111,8 +112,8 @@ fn layer_above<'a, T, X: Copy>(
     })
 }
 
-/// The first query under each covered node of the layer with this exponent, by ascending nodes: a node has so many bits
-/// fewer than the leaves under it.
+/// The first query under each covered node of the layer of this exponent, by ascending nodes. A node's number is that
+/// of a leaf under it without its lowest bits.
 fn queries_at<T, X>(
     alloc: Global,
     restorable: &RestorableOpening<'_, T, X>,
@@ -276,9 +277,9 @@ impl<
         Ok(digests)
     }
 
-    /// The restored digests of the covered nodes of a layer, in order: those of the rows under each at the leaves, and
-    /// above them those of the nodes' children, each compressed with that of such rows where matrices belong to the
-    /// layer.
+    /// The digests of the covered nodes of a layer, in order. A leaf's is that of the rows of its first query. Any
+    /// other node's is the compression of its children; where matrices belong to the layer, it is compressed once more
+    /// with the digest of their rows, from the first query under the node.
     pub(crate) fn node_digests(
         &self,
         alloc: Global,
@@ -308,7 +309,7 @@ impl<
         Ok(digests)
     }
 
-    /// Compares the digests of the covered nodes of the cap's layer with the roots.
+    /// Checks that the roots have the digest of each covered node of the cap's layer, else `CapMismatch`.
     fn check_roots(
         &self,
         alloc: Global,
@@ -330,7 +331,8 @@ impl<
         Ok(())
     }
 
-    /// The cap's layer of a pruned opening, reached from the covered leaves. No other layer is stored.
+    /// The cap's layer of a pruned opening, computed up from the covered leaves. The children of one layer are stored
+    /// at a time.
     fn top_layer<'b>(
         &self,
         alloc: Global,
@@ -353,8 +355,8 @@ impl<
         Ok(layer)
     }
 
-    /// The layers of a pruned opening, from the covered leaves up to the cap's layer, with the digests of the covered
-    /// nodes' children: each is computed from the rows and the digests of the proof, or is one of the latter.
+    /// All layers of a pruned opening, from the covered leaves up to the cap's layer, with the digests of the covered
+    /// nodes' children: each is computed from the layer below, or is a digest of the proof.
     fn restored_layers<'b>(
         &self,
         alloc: Global,
@@ -380,7 +382,7 @@ impl<
     }
 
     /// Checks a pruned opening against the roots of a cap: checks its form, computes the digest of each covered node of
-    /// the cap's layer from the rows and the digests that were sent, and compares it with the root at that node.
+    /// the cap's layer from the rows and the proof's digests, and compares it with the root at that node.
     ///
     /// `N` is a power of two from 2 to 2^62 and the arity of `steps`; the cap's layer is at most the number of levels.
     ///

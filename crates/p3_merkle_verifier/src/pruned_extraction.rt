@@ -82,7 +82,7 @@ impl<
     const N: usize,
     const D: usize,
 > Checker<'a, P, PW, H, C, [[PW::Value; D]; N], N, D> {
-    /// The queries of a pruned opening that is checked, each with its restored path.
+    /// Checks a pruned opening against the roots of a cap, and returns its queries, each with its restored path.
     fn checked_queries<'b>(
         &self,
         alloc: Global,
