@@ -20,8 +20,11 @@ new-covered-requires c = let size = c.args.size in
 
 pub loop-layer-init : goal.loop-layer-init
 loop-layer-init c = record {
-  shape_is = rw (c.new-covered.ensures.steps, c.steps_of-steps.ensures.arity,
-      c.steps_of-steps.ensures.dimensions ∙ c.dimensions_of-dimensions.ensures) refl;
+  shape_is = rw (
+    c.new-covered.ensures.steps,
+    c.steps_of-steps.ensures.arity,
+    c.steps_of-steps.ensures.dimensions ∙ c.dimensions_of-dimensions.ensures,
+  ) refl;
   indices = c.new-covered.ensures.indices;
   layer = c.new-covered.ensures.layer;
   so_far = c.new-slots.ensures.items;
