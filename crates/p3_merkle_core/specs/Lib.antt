@@ -18,6 +18,7 @@ pub mod Views
 pub mod Inconsistency
 pub mod ConsistencyLaws
 pub mod Commitments
+pub mod Opened
 pub mod Laws
 pub mod Examples
 pub mod ShapeExamples

@@ -1,10 +1,11 @@
 -- An opening as a verifier reads it, and what a verifier returns.
-use Rattle.std.specs.Prelude.{ℕ, Bool, IsOk, List, [], None, Option, Result, length}
+use Rattle.std.specs.Prelude.{◌≡◌, ◌↔◌, ℕ, Bool, IsOk, List, [], None, Option, Result, length}
 use Rattle.p3_merkle_core.specs.Geometry.{Shape}
 use Rattle.p3_merkle_core.specs.Openings.{Opening, opening_of}
 use Rattle.p3_merkle_core.specs.Checks.{IsAccepted, Params}
 use Rattle.p3_merkle_core.specs.Pruning.{IsPrunedAccepted, IsRestorable, PrunedOpening, opening_at}
-use Rattle.p3_merkle_core.specs.Refusals.{AnswersUnlessMemory, pruned_refusal, pruned_refusal_under, refusal_under}
+use Rattle.p3_merkle_core.specs.Refusals.{AnswersUnlessMemory, ok_unless, pruned_refusal, pruned_refusal_under}
+use Rattle.p3_merkle_core.specs.Refusals.{refusal_under}
 use Rattle.p3_merkle_core.specs.declared.error.MerkleTreeError.{MerkleTreeError}
 
 -- an opening of one index or of several, in a form that both have: when it is accepted, why it is refused, and the
@@ -48,3 +49,10 @@ pub record IsVerdict {T W V : Type 0} (presented : Presented T W) (result : Resu
   pub answer : AnswersUnlessMemory result presented.refusal
   pub ok_is_accepted : IsOk result → presented.is_accepted
   pub accepted_is_ok : presented.is_accepted → AnswersUnlessMemory result None
+
+-- what a verifier returns that takes no memory: an error is the definition's refusal, and Ok means that the opening is
+-- accepted, and the other way round
+pub record IsExactVerdict {T W : Type 0} (presented : Presented T W) (result : Result (Unit {0}) MerkleTreeError) :
+    Type 0 where
+  pub answer : result ≡ ok_unless presented.refusal tt
+  pub accepted : IsOk result ↔ presented.is_accepted

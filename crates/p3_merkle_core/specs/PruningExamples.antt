@@ -5,7 +5,7 @@ use Rattle.p3_merkle_core.specs.Geometry.{exponent, layer_exponent, raw_len, lea
 use Rattle.p3_merkle_core.specs.Nodes.{node}
 use Rattle.p3_merkle_core.specs.Pruning.{boundary, honest_query, restored_node, restored_path}
 use Rattle.p3_merkle_core.specs.Inner.Covered.{covered_at}
-use Rattle.p3_merkle_core.specs.Inner.Children.{beside, children_under, path_out_of}
+use Rattle.p3_merkle_core.specs.Inner.Children.{beside, children_under, siblings_on_path}
 use Rattle.p3_merkle_core.specs.Refusals.{pruned_refusal}
 use Rattle.p3_merkle_core.specs.Checks.{digests_at, params, siblings_below, path_digest}
 use Rattle.p3_merkle_core.specs.Examples.{batch, column, narrow, pruned, example, extracts_pruned}
@@ -115,12 +115,12 @@ values_of_covered_children : beside {X = ℕ} (is_among (1 ∷ 5 ∷ [])) (0 ∷
 values_of_covered_children = refl
 
 path_of_a_kept_leaf :
-    path_out_of {X = ℕ} ((0 ∷ 1 ∷ 2 ∷ [], 2, 0 ∷ 1 ∷ 2 ∷ 3 ∷ 4 ∷ 5 ∷ []) ∷ (0 ∷ 1 ∷ [], 2, 10 ∷ 11 ∷ 12 ∷ 13 ∷ [])
+    siblings_on_path {X = ℕ} ((0 ∷ 1 ∷ 2 ∷ [], 2, 0 ∷ 1 ∷ 2 ∷ 3 ∷ 4 ∷ 5 ∷ []) ∷ (0 ∷ 1 ∷ [], 2, 10 ∷ 11 ∷ 12 ∷ 13 ∷ [])
     ∷ (0 ∷ [], 2, 20 ∷ 21 ∷ []) ∷ []) 5 ≡ 4 ∷ 13 ∷ 20 ∷ []
 path_of_a_kept_leaf = refl
 
 path_of_another_leaf :
-    path_out_of {X = ℕ} ((0 ∷ 1 ∷ 2 ∷ [], 2, 0 ∷ 1 ∷ 2 ∷ 3 ∷ 4 ∷ 5 ∷ []) ∷ (0 ∷ 1 ∷ [], 2, 10 ∷ 11 ∷ 12 ∷ 13 ∷ [])
+    siblings_on_path {X = ℕ} ((0 ∷ 1 ∷ 2 ∷ [], 2, 0 ∷ 1 ∷ 2 ∷ 3 ∷ 4 ∷ 5 ∷ []) ∷ (0 ∷ 1 ∷ [], 2, 10 ∷ 11 ∷ 12 ∷ 13 ∷ [])
     ∷ (0 ∷ [], 2, 20 ∷ 21 ∷ []) ∷ []) 7 ≡ 12 ∷ 20 ∷ []
 path_of_another_leaf = refl
 

@@ -49,8 +49,8 @@ abbrev pub opening_made : {T W A : Type 0} → ℕ → BatchOpening T (Vec (List
 opening_made index opening = opening_of index (row_lists opening.opened_values.items) opening.opening_proof.items
 
 -- the same of a borrowed one
-abbrev pub opening_lent : {T W A : Type 0} → ℕ → BatchOpeningRef T (Vec (List W) A) → Opening T W
-opening_lent index opening = opening_of index (row_lists opening.opened_values.now) opening.opening_proof.now.items
+abbrev pub opening_borrowed : {T W A : Type 0} → ℕ → BatchOpeningRef T (Vec (List W) A) → Opening T W
+opening_borrowed index opening = opening_of index (row_lists opening.opened_values.now) opening.opening_proof.now.items
 
 -- a pruned opening of some indices, by its row sets and digests
 abbrev pub pruned_made : {T W : Type 0} → List ℕ → PrunedRows T (List W) → PrunedOpening T W
@@ -63,8 +63,9 @@ abbrev pub multi_made : {T W A B C : Type 0} → List ℕ → Vec (Vec (Vec T A)
 multi_made indices opening = pruned_of indices (row_sets opening.0.items) opening.1.sibling_hashes.items
 
 -- a pruned opening of some indices, by borrowed row sets and a borrowed proof
-abbrev pub pruned_lent : {T W A B : Type 0} → List ℕ → List (Vec (Vec T A) B) → PrunedProof (List W) → PrunedOpening T W
-pruned_lent indices rows proof = pruned_of indices (row_sets rows) proof.sibling_hashes.items
+abbrev pub pruned_borrowed : {T W A B : Type 0} → List ℕ → List (Vec (Vec T A) B) → PrunedProof (List W) →
+    PrunedOpening T W
+pruned_borrowed indices rows proof = pruned_of indices (row_sets rows) proof.sibling_hashes.items
 
 -- the rows and the siblings of an opening
 abbrev pub shown_opening : {T X A : Type 0} → BatchOpening T (Vec X A) → List (List T) × List X

@@ -6,6 +6,7 @@ pub mod SaltedPresented
 pub mod SaltedExtraction
 pub mod HidingSchemes
 pub mod SaltedCommitments
+pub mod SaltedOpened
 pub mod SaltExamples
 pub mod SaltedExamples
 pub mod Inner

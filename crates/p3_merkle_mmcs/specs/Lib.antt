@@ -1,3 +1,4 @@
 pub mod Schemes
+pub mod Committed
 pub mod Grown
 pub mod Inner

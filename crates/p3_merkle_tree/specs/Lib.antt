@@ -12,6 +12,7 @@ pub use Rattle.p3_merkle_core.specs.Presented
 pub use Rattle.p3_merkle_core.specs.Extraction
 pub use Rattle.p3_merkle_core.specs.Views
 pub use Rattle.p3_merkle_core.specs.Commitments
+pub use Rattle.p3_merkle_core.specs.Opened
 pub use Rattle.p3_merkle_core.specs.Laws
 pub use Rattle.p3_merkle_core.specs.declared.cap.CapRule
 pub use Rattle.p3_merkle_core.specs.declared.collision.InputPair
@@ -19,7 +20,10 @@ pub use Rattle.p3_merkle_core.specs.declared.collision.Place
 pub use Rattle.p3_merkle_core.specs.declared.error.MerkleTreeError
 pub use Rattle.p3_merkle_core.specs.declared.error.PrunedProofError
 pub use Rattle.p3_merkle_prover.specs.Parts
+pub use Rattle.p3_merkle_prover.specs.declared.tree.Tree
 pub use Rattle.p3_merkle_mmcs.specs.Schemes
+pub use Rattle.p3_merkle_mmcs.specs.Committed
+pub use Rattle.p3_merkle_mmcs.specs.declared.mmcs.Scheme
 pub use Rattle.p3_merkle_hiding.specs.Salted
 pub use Rattle.p3_merkle_hiding.specs.SaltedOpenings
 pub use Rattle.p3_merkle_hiding.specs.SaltRefusals
@@ -28,3 +32,5 @@ pub use Rattle.p3_merkle_hiding.specs.SaltedPresented
 pub use Rattle.p3_merkle_hiding.specs.SaltedExtraction
 pub use Rattle.p3_merkle_hiding.specs.HidingSchemes
 pub use Rattle.p3_merkle_hiding.specs.SaltedCommitments
+pub use Rattle.p3_merkle_hiding.specs.SaltedOpened
+pub use Rattle.p3_merkle_hiding.specs.declared.hiding_mmcs.HidingScheme

@@ -58,14 +58,14 @@ node_over steps i = i / fold (λ product n. product * n) 1 steps
 
 -- the siblings on the path of leaf i out of such levels, from the leaves on: in each, those of the node over the steps
 -- below it
-abbrev pub path_out_of : {X : Type 0} → List (List ℕ × ℕ × List X) → ℕ → List X
-path_out_of levels i =
+abbrev pub siblings_on_path : {X : Type 0} → List (List ℕ × ℕ × List X) → ℕ → List X
+siblings_on_path levels i =
     flat_map (λ (k, level). siblings_out_of level (node_over (map (λ (parents, n, values). n) (take k levels)) i))
     (enumerate_from 0 levels)
 
 -- for each of some leaves, in order, its index and these siblings
 abbrev pub paths_out_of : {X : Type 0} → List (List ℕ × ℕ × List X) → List ℕ → List (ℕ × List X)
-paths_out_of levels indices = map (λ i. (i, path_out_of levels i)) indices
+paths_out_of levels indices = map (λ i. (i, siblings_on_path levels i)) indices
 
 -- the covered nodes of the layers above the leaves, their steps, and the values of their children
 abbrev pub levels_in : {X : Type 0} → List (CoveredLayer X) → List (List ℕ × ℕ × List X)

@@ -8,6 +8,8 @@ use Rattle.p3_merkle_core.specs.Views.{heights_in}
 use Rattle.p3_support.specs.Pairs.{left_of}
 use Rattle.p3_support.specs.declared.matrix.Dimensions.{Dimensions}
 use Rattle.p3_support.specs.declared.matrix.Matrix.{Ghosts}
+use Rattle.p3_support.specs.declared.compress.PseudoCompressionFunction as compressor
+use Rattle.p3_support.specs.declared.hasher.CryptographicHasher as hasher
 use Rattle.p3_support.specs.declared.packed.PackedValue as packed
 use Rattle.p3_support.specs.declared.pair.HorizontalPair.{HorizontalPair}
 use Rattle.std.specs.declared.default.Default as default
@@ -25,10 +27,11 @@ use Rattle.p3_merkle_hiding.specs.SaltedOpenings.{salted_rows, salted_sets, wide
 use Rattle.p3_merkle_hiding.specs.Inner.SaltedParts.{pair_matrix}
 use Rattle.p3_merkle_hiding.specs.declared.hiding_mmcs.HidingScheme.{HidingScheme}
 
-module _ {P PW H C R X G V W : Type 0} {N E : ℕ} {p : packed.Ghosts P V} {pd : default.Ghosts V}
-    {pe : equality.Ghosts V} {q : packed.Ghosts PW W} {qd : default.Ghosts W} {qe : equality.Ghosts W} where
+module _ {P PW H C R X G V W : Type 0} {N D E : ℕ} {p : packed.Ghosts P V} {pd : default.Ghosts V}
+    {pe : equality.Ghosts V} {q : packed.Ghosts PW W} {qd : default.Ghosts W} {qe : equality.Ghosts W}
+    {h : hasher.Ghosts H P PW D V W} {c : compressor.Ghosts C PW N D W} where
   -- having one plain scheme is an equivalence
-  pub same_plain_is_equivalence : IsEquivalence {A = HidingScheme P PW H C R X G N E V W p pd pe q qd qe}
+  pub same_plain_is_equivalence : IsEquivalence {A = HidingScheme P PW H C R X G N D E V W p pd pe q qd qe h c}
       (λ s t. IsSameScheme (plain_of s) (plain_of t))
   same_plain_is_equivalence =
       record {

@@ -8,26 +8,29 @@ use Rattle.std.proofs.lemmas.List.{get_or_default}
 use Rattle.p3_merkle_core.specs.Geometry.{IsLawful, Shape, bits_reduced, shape_of, halved_index}
 use Rattle.p3_merkle_core.specs.Commitments.{HaveProof}
 use Rattle.p3_merkle_core.specs.Views.{batch_of, heights_in, matrix_of}
-use Rattle.p3_merkle_core.specs.Nodes.{Functions, functions_of}
+use Rattle.p3_merkle_core.specs.Nodes.{Functions}
 use Rattle.p3_merkle_core.specs.Openings.{honest_rows}
 use Rattle.p3_merkle_core.specs.Pruning.{PrunedOpening, restored_path, IsPrunedAccepted}
 use Rattle.p3_merkle_core.specs.Caps.{cap_layer}
 use Rattle.p3_merkle_prover.proofs.RowFacts.{row_inside}
 use Rattle.p3_support.specs.Batches.{FitDimensions, IsEquivalence, rows_in, greatest}
 use Rattle.p3_support.specs.declared.matrix.Dimensions.{Dimensions}
+use Rattle.p3_support.specs.declared.compress.PseudoCompressionFunction as compressor
+use Rattle.p3_support.specs.declared.hasher.CryptographicHasher as hasher
 use Rattle.p3_support.specs.declared.packed.PackedValue as packed
 use Rattle.std.specs.declared.default.Default as default
 use Rattle.std.specs.declared.cmp.PartialEq as equality
-use Rattle.p3_merkle_mmcs.specs.Schemes.{cap_layer_over, scheme_functions, params_over, IsSameScheme}
+use Rattle.p3_merkle_mmcs.specs.Schemes.{functions_of, params_of, IsSameScheme}
 use Rattle.p3_merkle_mmcs.specs.declared.mmcs.Scheme.{Scheme}
 use Rattle.p3_merkle_core.specs.Checks.{Params, params}
 
 -- ---- the same scheme
 
-module _ {P PW H C X G V W : Type 0} {N : ℕ} {p : packed.Ghosts P V} {pd : default.Ghosts V} {pe : equality.Ghosts V}
-    {q : packed.Ghosts PW W} {qd : default.Ghosts W} {qe : equality.Ghosts W} where
+module _ {P PW H C X G V W : Type 0} {N D : ℕ} {p : packed.Ghosts P V} {pd : default.Ghosts V} {pe : equality.Ghosts V}
+    {q : packed.Ghosts PW W} {qd : default.Ghosts W} {qe : equality.Ghosts W} {h : hasher.Ghosts H P PW D V W}
+    {c : compressor.Ghosts C PW N D W} where
   -- being the same scheme is an equivalence
-  pub same_is_equivalence : IsEquivalence {A = Scheme P PW H C X G N V W p pd pe q qd qe} IsSameScheme
+  pub same_is_equivalence : IsEquivalence {A = Scheme P PW H C X G N D V W p pd pe q qd qe h c} IsSameScheme
   same_is_equivalence =
       record {
         itself = λ s. record { same_hash = refl; same_compression = refl; same_cap_height = refl; same_rule = refl };
@@ -47,16 +50,13 @@ module _ {P PW H C X G V W : Type 0} {N : ℕ} {p : packed.Ghosts P V} {pd : def
       }
 
   -- what holds under the parameters of a scheme holds under those of the same scheme
-  pub at_same : (hash : H → List V → List W) (compression : C → List (List W) → List W) (d : ℕ) (sh : Shape)
-      (s t : Scheme P PW H C X G N V W p pd pe q qd qe) (fact : Params V W → Type 0) →
-      IsSameScheme s t → fact (params_over hash compression d s sh) → fact (params_over hash compression d t sh)
-  at_same hash compression d sh s t fact w holds =
-      let f : scheme_functions hash compression d s ≡ scheme_functions hash compression d t =
-      λ i. functions_of (hash (w.same_hash i)) (compression (w.same_compression i))
-      (scheme_functions hash compression d s).default_digest in
-      let l : cap_layer_over s sh ≡ cap_layer_over t sh = λ i. cap_layer sh (w.same_rule i) (w.same_cap_height i) in
-      subst (λ k. fact (params (scheme_functions hash compression d t) sh k)) l
-      (subst (λ g. fact (params g sh (cap_layer_over s sh))) f holds)
+  pub at_same : (sh : Shape) (s t : Scheme P PW H C X G N D V W p pd pe q qd qe h c) (fact : Params V W → Type 0) →
+      IsSameScheme s t → fact (params_of s sh) → fact (params_of t sh)
+  at_same sh s t fact w holds = subst fact (λ i. params (record {
+    hash = h.hash (w.same_hash i);
+    compression = c.compression (w.same_compression i);
+    default_digest = (functions_of s).default_digest;
+  }) sh (cap_layer sh (w.same_rule i) (w.same_cap_height i))) holds
 
 -- ---- what is shown
 
