@@ -18,8 +18,8 @@ use Rattle.p3_merkle_tree.specs.Openings.{Opening}
 use Rattle.p3_merkle_tree.specs.Presented.{Presented, presented, presented_pruned}
 use Rattle.p3_merkle_tree.specs.Pruning.{IsPrunedAccepted, PrunedOpening, opening_at}
 use Rattle.p3_merkle_tree.specs.Refusals.{AnswersUnlessMemory, pruned_refusal_under, refusal_under}
-use Rattle.p3_merkle_tree.specs.SaltedExtraction.{AgreeWhereAuthenticated, ConflictSomewhere}
-use Rattle.p3_merkle_tree.specs.SaltedExtraction.{ConflictWhereAuthenticated, SomeSaltedPair, salted_opening_at}
+use Rattle.p3_merkle_tree.specs.SaltedExtraction.{ConflictWhereAuthenticated, IsSaltedExtraction}
+use Rattle.p3_merkle_tree.specs.SaltedExtraction.{IsSaltedPrunedExtraction, SomeSaltedPair, salted_opening_at}
 use Rattle.p3_merkle_tree.specs.SaltedOpenings.{IsSaltedAccepted, IsSaltedPrunedAccepted, SaltedOpening, SaltedPruned}
 use Rattle.p3_merkle_tree.specs.SaltedOpenings.{joined_sets}
 use Rattle.p3_merkle_tree.specs.SaltedPresented.{presented_salted, presented_salted_pruned}
@@ -235,13 +235,9 @@ module _ {T W : Type 0} (row_eq : T → T → Bool) (digest_eq : W → W → Boo
     -- the answer to a claimed salted opening beside an accepted one is their comparison
     pub compared_salted : (presented_salted digest_eq e ds c cap u).refusal ≡ None → IsSaltedAccepted e ds c cap u →
         (r : Result (Option (InputPair T (List W))) MerkleTreeError) →
-        IsExtraction row_eq digest_eq rule c (presented_salted digest_eq e ds c cap o)
-        (presented_salted digest_eq e ds c cap u) (found_alone r) →
-        IfOk r (λ found. IsNone found ↔ AgreeWhereAuthenticated c o u) →
-        (ConflictWhereAuthenticated c o u → IfOk r (λ found. IsSome found)) →
-        (rule ≡ Lowered → ConflictSomewhere c o u → IfOk r (λ found. IsSome found)) →
-        IsSaltedComparison digest_eq rule e ds c cap o u r
-    compared_salted unrefused honest (Ok found) is none two_ways somewhere =
+        IsSaltedExtraction row_eq digest_eq rule e ds c cap o u r → IsSaltedComparison digest_eq rule e ds c cap o u r
+    compared_salted unrefused honest (Ok found) of_salts =
+        let is = of_salts.extraction in
         let first = presented_salted digest_eq e ds c cap o in
         let second = presented_salted digest_eq e ds c cap u in
         record {
@@ -249,11 +245,12 @@ module _ {T W : Type 0} (row_eq : T → T → Bool) (digest_eq : W → W → Boo
           accepted = is.both_accepted.0;
           answered = λ accepted. is.answered accepted honest;
           collision = collision_alone row_eq digest_eq rule c first second unrefused found is;
-          none = none;
-          bound = λ accepted another. two_ways (salted_conflict another);
-          lowered = λ lowered accepted conflicting. somewhere lowered conflicting;
+          none = of_salts.one_index one_index;
+          bound = λ accepted another. of_salts.two_ways (salted_conflict another);
+          lowered = λ lowered accepted conflicting. of_salts.lowered_two_ways lowered conflicting;
         }
-    compared_salted unrefused honest (Err x) is none two_ways somewhere =
+    compared_salted unrefused honest (Err x) of_salts =
+        let is = of_salts.extraction in
         let first = presented_salted digest_eq e ds c cap o in
         let second = presented_salted digest_eq e ds c cap u in
         record {
@@ -291,12 +288,10 @@ module _ {T W : Type 0} (row_eq : T → T → Bool) (digest_eq : W → W → Boo
         (presented_salted_pruned row_eq digest_eq e ds c cap q).refusal ≡ None →
         IsSaltedPrunedAccepted e ds c cap q →
         (r : Result (Option (ℕ × ℕ × InputPair T (List W))) MerkleTreeError) →
-        IsExtraction row_eq digest_eq rule c (presented_salted_pruned row_eq digest_eq e ds c cap p)
-        (presented_salted_pruned row_eq digest_eq e ds c cap q) (found_pair r) →
-        (SomeSaltedPair c p q (ConflictWhereAuthenticated c) → IfOk r (λ found. IsSome found)) →
-        (rule ≡ Lowered → SomeSaltedPair c p q (ConflictSomewhere c) → IfOk r (λ found. IsSome found)) →
+        IsSaltedPrunedExtraction row_eq digest_eq rule e ds c cap p q r →
         IsSaltedPrunedComparison row_eq digest_eq rule e ds c cap p q r
-    compared_salted_pruned bound arity unrefused honest (Ok found) is two_ways somewhere =
+    compared_salted_pruned bound arity unrefused honest (Ok found) of_salts =
+        let is = of_salts.extraction in
         let first = presented_salted_pruned row_eq digest_eq e ds c cap p in
         let second = presented_salted_pruned row_eq digest_eq e ds c cap q in
         let both = none_pair row_eq digest_eq rule c first second unrefused found is in
@@ -310,10 +305,11 @@ module _ {T W : Type 0} (row_eq : T → T → Bool) (digest_eq : W → W → Boo
               (is.both_accepted.0.accepted.each_accepted i below)
               (honest.accepted.each_accepted i (same_salted_place i below)) (same_salted_index i)).0
               (both.0 none i i below (same_salted_place i below));
-          bound = λ accepted another. two_ways (salted_conflict_set another);
-          lowered = λ lowered accepted conflicting. somewhere lowered conflicting;
+          bound = λ accepted another. of_salts.two_ways (salted_conflict_set another);
+          lowered = λ lowered accepted conflicting. of_salts.lowered_two_ways lowered conflicting;
         }
-    compared_salted_pruned bound arity unrefused honest (Err x) is two_ways somewhere =
+    compared_salted_pruned bound arity unrefused honest (Err x) of_salts =
+        let is = of_salts.extraction in
         let first = presented_salted_pruned row_eq digest_eq e ds c cap p in
         let second = presented_salted_pruned row_eq digest_eq e ds c cap q in
         record {

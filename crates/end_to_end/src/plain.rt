@@ -1,17 +1,15 @@
 //! The plain scheme: what it opens of its own commitment is accepted.
 
 ghost use Rattle.std.specs.Prelude.{◌≡◌, ◌<◌, [], ◌∷◌, All, IfErr, IfOk, IsOk};
+ghost use Rattle.end_to_end.specs.Honest.{IsHonest, IsHonestPruned};
 ghost use Rattle.end_to_end.specs.Refusals.{open_refusal};
-ghost use Rattle.p3_merkle_tree.specs.Checks.{IsAccepted};
-ghost use Rattle.p3_merkle_tree.specs.Commitments.{IsCommitment};
+ghost use Rattle.p3_merkle_tree.specs.Committed.{Commits};
+ghost use Rattle.p3_merkle_tree.specs.Geometry.{heights};
 ghost use Rattle.p3_merkle_tree.specs.MerkleTreeError.TheVariants.{OutOfMemory};
 ghost use Rattle.p3_merkle_tree.specs.Nodes.{shape};
-ghost use Rattle.p3_merkle_tree.specs.Openings.{honest};
-ghost use Rattle.p3_merkle_tree.specs.Parts.{layers_of, matrices_of};
-ghost use Rattle.p3_merkle_tree.specs.Pruning.{honest_query, IsPrunedAccepted};
+ghost use Rattle.p3_merkle_tree.specs.Parts.{matrices_of, tree_batch};
 ghost use Rattle.p3_merkle_tree.specs.Refusals.{AnswersUnlessMemory};
-ghost use Rattle.p3_merkle_tree.specs.Schemes.{params_over};
-ghost use Rattle.p3_merkle_tree.specs.Views.{batch_of, heights_in, opening_made, pruned_made};
+ghost use Rattle.p3_merkle_tree.specs.Views.{heights_in, opening_made, pruned_made};
 ghost use Rattle.p3_support.specs.Batches.{greatest};
 ghost use Rattle.p3_support.specs.Shown.{roots_of};
 
@@ -51,13 +49,11 @@ pub(crate) fn committed<
     ensures answer { let heights = heights_in M.height_of M.width_of M.row_of matrices.items in
         AnswersUnlessMemory result (open_refusal heights indices.now) }
     ensures matrices { IfOk result (λ (cap, tree, dimensions). matrices_of tree ≡ matrices.items) }
-    ensures committed { let b = batch_of M.height_of M.width_of M.row_of N matrices.items in
-        let c = params_over H.hash C.compression D scheme.now (shape b) in
-        IfOk result (λ (cap, tree, dimensions). IsCommitment c (roots_of cap) b (layers_of tree)) }
-    ensures dimensions { let b = batch_of M.height_of M.width_of M.row_of N matrices.items in
-        IfOk result (λ (cap, tree, dimensions). dimensions.items ≡ (shape b).dimensions) }
-    ensures below { let heights = heights_in M.height_of M.width_of M.row_of matrices.items in
-        IfOk result (λ (cap, tree, dimensions). All (λ index. index < greatest heights) indices.now) }
+    ensures committed { IfOk result (λ (cap, tree, dimensions). Commits scheme.now (roots_of cap) tree) }
+    ensures dimensions { IfOk result (λ (cap, tree, dimensions).
+        dimensions.items ≡ (shape (tree_batch tree)).dimensions) }
+    ensures below { IfOk result (λ (cap, tree, dimensions).
+        All (λ index. index < greatest (heights (shape (tree_batch tree)))) indices.now) }
 {
     laws::dimensions::<P::Value, M, N>();
     let dimensions = dimensions_of(alloc, &matrices)?;
@@ -96,15 +92,8 @@ pub fn commit_open_verify<
     ensures answer { let heights = heights_in M.height_of M.width_of M.row_of matrices.items in
         AnswersUnlessMemory result (open_refusal heights (index ∷ [])) }
     ensures matrices { IfOk result (λ v. matrices_of v.tree ≡ matrices.items) }
-    ensures committed { let b = batch_of M.height_of M.width_of M.row_of N matrices.items in
-        let c = params_over H.hash C.compression D scheme.now (shape b) in
-        IfOk result (λ v. IsCommitment c (roots_of v.cap) b (layers_of v.tree)) }
-    ensures opened { let b = batch_of M.height_of M.width_of M.row_of N matrices.items in
-        let c = params_over H.hash C.compression D scheme.now (shape b) in
-        IfOk result (λ v. opening_made index v.opening ≡ honest c.functions b c.layer index) }
-    ensures accepted { let b = batch_of M.height_of M.width_of M.row_of N matrices.items in
-        let c = params_over H.hash C.compression D scheme.now (shape b) in
-        IfOk result (λ v. IsAccepted c (roots_of v.cap) (opening_made index v.opening)) }
+    ensures committed { IfOk result (λ v. Commits scheme.now (roots_of v.cap) v.tree) }
+    ensures opened { IfOk result (λ v. IsHonest scheme.now v.tree (roots_of v.cap) (opening_made index v.opening)) }
     ensures verdict { IfOk result (λ v. IsOk v.verdict) }
 {
     let (cap, tree, dimensions) = committed(alloc, scheme, matrices, &[index])?;
@@ -149,15 +138,9 @@ pub fn commit_open_verify_pruned<
     ensures answer { let heights = heights_in M.height_of M.width_of M.row_of matrices.items in
         AnswersUnlessMemory result (open_refusal heights indices.now) }
     ensures matrices { IfOk result (λ v. matrices_of v.tree ≡ matrices.items) }
-    ensures committed { let b = batch_of M.height_of M.width_of M.row_of N matrices.items in
-        let c = params_over H.hash C.compression D scheme.now (shape b) in
-        IfOk result (λ v. IsCommitment c (roots_of v.cap) b (layers_of v.tree)) }
-    ensures opened { let b = batch_of M.height_of M.width_of M.row_of N matrices.items in
-        let c = params_over H.hash C.compression D scheme.now (shape b) in
-        IfOk result (λ v. pruned_made indices.now v.opening ≡ honest_query c.functions b c.layer indices.now) }
-    ensures accepted { let b = batch_of M.height_of M.width_of M.row_of N matrices.items in
-        let c = params_over H.hash C.compression D scheme.now (shape b) in
-        IfOk result (λ v. IsPrunedAccepted c (roots_of v.cap) (pruned_made indices.now v.opening)) }
+    ensures committed { IfOk result (λ v. Commits scheme.now (roots_of v.cap) v.tree) }
+    ensures opened { IfOk result (λ v.
+        IsHonestPruned scheme.now v.tree (roots_of v.cap) (pruned_made indices.now v.opening)) }
     ensures verdict { IfOk result (λ v. IfErr v.verdict (λ e. e ≡ OutOfMemory)) }
 {
     let (cap, tree, dimensions) = committed(alloc, scheme, matrices, indices)?;

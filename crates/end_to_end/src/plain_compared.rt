@@ -3,16 +3,15 @@
 
 ghost use Rattle.std.specs.Prelude.{◌≡◌, [], ◌∷◌, IfOk};
 ghost use Rattle.end_to_end.specs.Comparisons.{IsComparison, IsPrunedComparison};
+ghost use Rattle.end_to_end.specs.Honest.{IsHonest, IsHonestPruned};
 ghost use Rattle.end_to_end.specs.Refusals.{open_refusal};
-ghost use Rattle.p3_merkle_tree.specs.Commitments.{IsCommitment};
+ghost use Rattle.p3_merkle_tree.specs.Committed.{Commits};
 ghost use Rattle.p3_merkle_tree.specs.Nodes.{shape};
-ghost use Rattle.p3_merkle_tree.specs.Openings.{honest};
-ghost use Rattle.p3_merkle_tree.specs.Parts.{layers_of, matrices_of};
-ghost use Rattle.p3_merkle_tree.specs.Pruning.{honest_query};
+ghost use Rattle.p3_merkle_tree.specs.Parts.{matrices_of, tree_batch};
 ghost use Rattle.p3_merkle_tree.specs.Refusals.{AnswersUnlessMemory};
-ghost use Rattle.p3_merkle_tree.specs.Schemes.{cap_rule_of, params_over};
-ghost use Rattle.p3_merkle_tree.specs.Views.{batch_of, heights_in, opening_lent, opening_made};
-ghost use Rattle.p3_merkle_tree.specs.Views.{pruned_lent, pruned_made};
+ghost use Rattle.p3_merkle_tree.specs.Schemes.{cap_rule_of, params_of};
+ghost use Rattle.p3_merkle_tree.specs.Views.{heights_in, opening_borrowed, opening_made};
+ghost use Rattle.p3_merkle_tree.specs.Views.{pruned_borrowed, pruned_made};
 ghost use Rattle.p3_support.specs.Shown.{roots_of};
 
 use crate::Compared;
@@ -60,17 +59,11 @@ pub fn commit_compare<
     ensures answer { let heights = heights_in M.height_of M.width_of M.row_of matrices.items in
         AnswersUnlessMemory result (open_refusal heights (index ∷ [])) }
     ensures matrices { IfOk result (λ v. matrices_of v.tree ≡ matrices.items) }
-    ensures committed { let b = batch_of M.height_of M.width_of M.row_of N matrices.items in
-        let c = params_over H.hash C.compression D scheme.now (shape b) in
-        IfOk result (λ v. IsCommitment c (roots_of v.cap) b (layers_of v.tree)) }
-    ensures opened { let b = batch_of M.height_of M.width_of M.row_of N matrices.items in
-        let c = params_over H.hash C.compression D scheme.now (shape b) in
-        IfOk result (λ v. opening_made index v.opening ≡ honest c.functions b c.layer index) }
-    ensures compared { let b = batch_of M.height_of M.width_of M.row_of N matrices.items in
-        let c = params_over H.hash C.compression D scheme.now (shape b) in
-        let o = opening_lent index claimed.entry in
-        let compares = IsComparison PW.Value.eq (cap_rule_of scheme.now) c in
-        IfOk result (λ v. compares (roots_of v.cap) o (opening_made index v.opening) v.found) }
+    ensures committed { IfOk result (λ v. Commits scheme.now (roots_of v.cap) v.tree) }
+    ensures opened { IfOk result (λ v. IsHonest scheme.now v.tree (roots_of v.cap) (opening_made index v.opening)) }
+    ensures compared { let compares = IsComparison PW.Value.eq (cap_rule_of scheme.now) in
+        IfOk result (λ v. compares (params_of scheme.now (shape (tree_batch v.tree))) (roots_of v.cap)
+        (opening_borrowed index claimed.entry) (opening_made index v.opening) v.found) }
 {
     laws::answers::<P::Value, PW::Value>();
     let (cap, tree, dimensions) = committed(alloc, scheme, matrices, &[index])?;
@@ -131,17 +124,12 @@ pub fn commit_compare_pruned<
     ensures answer { let heights = heights_in M.height_of M.width_of M.row_of matrices.items in
         AnswersUnlessMemory result (open_refusal heights indices.now) }
     ensures matrices { IfOk result (λ v. matrices_of v.tree ≡ matrices.items) }
-    ensures committed { let b = batch_of M.height_of M.width_of M.row_of N matrices.items in
-        let c = params_over H.hash C.compression D scheme.now (shape b) in
-        IfOk result (λ v. IsCommitment c (roots_of v.cap) b (layers_of v.tree)) }
-    ensures opened { let b = batch_of M.height_of M.width_of M.row_of N matrices.items in
-        let c = params_over H.hash C.compression D scheme.now (shape b) in
-        IfOk result (λ v. pruned_made indices.now v.opening ≡ honest_query c.functions b c.layer indices.now) }
-    ensures compared { let b = batch_of M.height_of M.width_of M.row_of N matrices.items in
-        let c = params_over H.hash C.compression D scheme.now (shape b) in
-        let p = pruned_lent indices.now rows.now proof.now in
-        let compares = IsPrunedComparison P.Value.eq PW.Value.eq (cap_rule_of scheme.now) c in
-        IfOk result (λ v. compares (roots_of v.cap) p (pruned_made indices.now v.opening) v.found) }
+    ensures committed { IfOk result (λ v. Commits scheme.now (roots_of v.cap) v.tree) }
+    ensures opened { IfOk result (λ v.
+        IsHonestPruned scheme.now v.tree (roots_of v.cap) (pruned_made indices.now v.opening)) }
+    ensures compared { let compares = IsPrunedComparison P.Value.eq PW.Value.eq (cap_rule_of scheme.now) in
+        IfOk result (λ v. compares (params_of scheme.now (shape (tree_batch v.tree))) (roots_of v.cap)
+        (pruned_borrowed indices.now rows.now proof.now) (pruned_made indices.now v.opening) v.found) }
 {
     laws::answers::<P::Value, PW::Value>();
     laws::extraction::<P::Value, PW::Value>();

@@ -1,26 +1,22 @@
 //! The salted scheme: what it opens of its own commitment is accepted.
 
-ghost use Rattle.std.specs.Prelude.{◌≡◌, ◌<◌, ◌⊎◌, [], ◌∷◌, All, IfErr, IfOk, IsSome, OnOk, map};
-ghost use Rattle.std.specs.Prelude.{slice_index};
+ghost use Rattle.std.specs.Prelude.{◌≡◌, ◌<◌, ◌⊎◌, [], ◌∷◌, All, IfErr, IfOk, IsSome, map, slice_index};
+ghost use Rattle.end_to_end.specs.Honest.{IsHonestSalted, IsHonestSaltedPruned};
 ghost use Rattle.end_to_end.specs.Refusals.{salted_open_refusal};
-ghost use Rattle.p3_merkle_tree.specs.Commitments.{IsCommitment};
 ghost use Rattle.p3_merkle_tree.specs.Geometry.{heights};
-ghost use Rattle.p3_merkle_tree.specs.HidingSchemes.{generator_of, plain_of, salted_made, salted_params_of};
-ghost use Rattle.p3_merkle_tree.specs.HidingSchemes.{salted_pruned_made};
+ghost use Rattle.p3_merkle_tree.specs.HidingSchemes.{generator_of, salted_made, salted_pruned_made};
 ghost use Rattle.p3_merkle_tree.specs.MerkleTreeError.TheVariants.{OutOfMemory};
 ghost use Rattle.p3_merkle_tree.specs.Nodes.{shape};
-ghost use Rattle.p3_merkle_tree.specs.Openings.{honest, honest_rows};
-ghost use Rattle.p3_merkle_tree.specs.Parts.{layers_of, matrices_of, tree_batch};
-ghost use Rattle.p3_merkle_tree.specs.Pruning.{honest_query};
+ghost use Rattle.p3_merkle_tree.specs.Parts.{matrices_of, tree_batch};
 ghost use Rattle.p3_merkle_tree.specs.Refusals.{AnswersUnlessMemory};
-ghost use Rattle.p3_merkle_tree.specs.Salted.{after_salts, salted_batch, IsAfterSome};
+ghost use Rattle.p3_merkle_tree.specs.Salted.{salted_batch};
 ghost use Rattle.p3_merkle_tree.specs.SaltRefusals.{salted_commit_refusal};
-ghost use Rattle.p3_merkle_tree.specs.SaltedOpenings.{IsSaltedAccepted, IsSaltedPrunedAccepted};
-ghost use Rattle.p3_merkle_tree.specs.SaltedTrees.{right_batch, HaveSaltColumns};
+ghost use Rattle.p3_merkle_tree.specs.SaltedOpened.{CommitsSalted, Draws};
+ghost use Rattle.p3_merkle_tree.specs.SaltedTrees.{unsalted_dimensions};
 ghost use Rattle.p3_merkle_tree.specs.Views.{batch_of};
 ghost use Rattle.p3_support.specs.Batches.{greatest};
 ghost use Rattle.p3_support.specs.Pairs.{left_of};
-ghost use Rattle.p3_support.specs.Shown.{roots_of, row_lists, row_sets};
+ghost use Rattle.p3_support.specs.Shown.{roots_of};
 
 use crate::Verified;
 use p3_merkle_tree::{
@@ -71,28 +67,20 @@ where
     ensures salted { let b = batch_of M.height_of M.width_of M.row_of N matrices.items in
         let salted = salted_batch P.Value.of_salt_word SALT_ELEMS b (R.stream (generator_of scheme.old)) in
         IfOk result (λ (cap, tree, dimensions). tree_batch tree ≡ salted) }
-    ensures committed { let b = batch_of M.height_of M.width_of M.row_of N matrices.items in
-        let c = salted_params_of H.hash C.compression D scheme.old (shape b).dimensions in
-        IfOk result (λ (cap, tree, dimensions). IsCommitment c (roots_of cap) (tree_batch tree) (layers_of tree)) }
-    ensures columns { IfOk result (λ (cap, tree, dimensions). HaveSaltColumns SALT_ELEMS (matrices_of tree)) }
-    ensures dimensions { let b = batch_of M.height_of M.width_of M.row_of N matrices.items in
-        IfOk result (λ (cap, tree, dimensions). dimensions.items ≡ (shape b).dimensions) }
+    ensures committed { IfOk result (λ (cap, tree, dimensions). CommitsSalted scheme.new (roots_of cap) tree) }
+    ensures dimensions { IfOk result (λ (cap, tree, dimensions).
+        dimensions.items ≡ unsalted_dimensions N (matrices_of tree)) }
     ensures below { IfOk result (λ (cap, tree, dimensions).
         All (λ index. index < greatest (heights (shape (tree_batch tree)))) indices.now) }
 
     // The same of an index that is alone in its list, for calls that need it so.
     ensures first { IfOk result (λ (cap, tree, dimensions).
         slice_index indices.now 0 < greatest (heights (shape (tree_batch tree)))) }
-    ensures rest { let b = batch_of M.height_of M.width_of M.row_of N matrices.items in
-        let drawn = R.stream (generator_of scheme.old) in
-        OnOk result (R.stream (generator_of scheme.new) ≡ after_salts SALT_ELEMS b.matrices drawn) }
-    ensures further { let b = batch_of M.height_of M.width_of M.row_of N matrices.items in
-        let drawn = R.stream (generator_of scheme.old) in
-        IsAfterSome SALT_ELEMS b.matrices drawn (R.stream (generator_of scheme.new)) }
+    ensures drawn { let b = batch_of M.height_of M.width_of M.row_of N matrices.items in
+        Draws R.stream b.matrices scheme.old scheme.new result }
     ensures untouched { let b = batch_of M.height_of M.width_of M.row_of N matrices.items in
         IsSome (salted_commit_refusal SALT_ELEMS (shape b).dimensions) →
         IfErr result (λ e. (e ≡ OutOfMemory) ⊎ (generator_of scheme.new ≡ generator_of scheme.old)) }
-    ensures scheme { plain_of scheme.new ≡ plain_of scheme.old }
 {
     laws::dimensions::<P::Value, M, N>();
     let dimensions = dimensions_of(alloc, &matrices)?;
@@ -140,34 +128,16 @@ where
     ensures salted { let b = batch_of M.height_of M.width_of M.row_of N matrices.items in
         let drawn = R.stream (generator_of scheme.old) in
         IfOk result (λ v. tree_batch v.tree ≡ salted_batch P.Value.of_salt_word SALT_ELEMS b drawn) }
-    ensures committed { let b = batch_of M.height_of M.width_of M.row_of N matrices.items in
-        let c = salted_params_of H.hash C.compression D scheme.old (shape b).dimensions in
-        IfOk result (λ v. IsCommitment c (roots_of v.cap) (tree_batch v.tree) (layers_of v.tree)) }
-    ensures rows { let b = batch_of M.height_of M.width_of M.row_of N matrices.items in
-        IfOk result (λ v. row_lists v.opening.opened_values.items ≡ honest_rows b index) }
-    ensures salts { IfOk result (λ v. let salts = right_batch N (matrices_of v.tree) in
-        row_lists v.opening.opening_proof.0.items ≡ honest_rows salts index) }
-    ensures siblings { let b = batch_of M.height_of M.width_of M.row_of N matrices.items in
-        let c = salted_params_of H.hash C.compression D scheme.old (shape b).dimensions in
-        IfOk result (λ v. let opened = honest c.functions (tree_batch v.tree) c.layer index in
-        v.opening.opening_proof.1.items ≡ opened.siblings) }
-    ensures accepted { let b = batch_of M.height_of M.width_of M.row_of N matrices.items in
-        let c = salted_params_of H.hash C.compression D scheme.old (shape b).dimensions in
-        let accepts = IsSaltedAccepted SALT_ELEMS (shape b).dimensions c in
-        IfOk result (λ v. accepts (roots_of v.cap) (salted_made index v.opening)) }
+    ensures committed { IfOk result (λ v. CommitsSalted scheme.new (roots_of v.cap) v.tree) }
+    ensures opened { IfOk result (λ v.
+        IsHonestSalted scheme.new v.tree (roots_of v.cap) (salted_made index v.opening)) }
     ensures verdict { IfOk result (λ v. IfErr v.verdict (λ e. e ≡ OutOfMemory)) }
-    ensures rest { let b = batch_of M.height_of M.width_of M.row_of N matrices.items in
-        let drawn = R.stream (generator_of scheme.old) in
-        OnOk result (R.stream (generator_of scheme.new) ≡ after_salts SALT_ELEMS b.matrices drawn) }
-    ensures further { let b = batch_of M.height_of M.width_of M.row_of N matrices.items in
-        let drawn = R.stream (generator_of scheme.old) in
-        IsAfterSome SALT_ELEMS b.matrices drawn (R.stream (generator_of scheme.new)) }
+    ensures drawn { let b = batch_of M.height_of M.width_of M.row_of N matrices.items in
+        Draws R.stream b.matrices scheme.old scheme.new result }
     ensures untouched { let b = batch_of M.height_of M.width_of M.row_of N matrices.items in
         IsSome (salted_commit_refusal SALT_ELEMS (shape b).dimensions) →
         IfErr result (λ e. (e ≡ OutOfMemory) ⊎ (generator_of scheme.new ≡ generator_of scheme.old)) }
-    ensures scheme { plain_of scheme.new ≡ plain_of scheme.old }
 {
-    laws::restoration::<P::Value, PW::Value>();
     let (cap, tree, dimensions) = salted_committed(alloc, scheme, matrices, &[index])?;
     let opening = scheme.open_batch(alloc, index, &tree)?;
     let honest = BatchOpeningRef::from(&opening);
@@ -220,34 +190,16 @@ where
     ensures salted { let b = batch_of M.height_of M.width_of M.row_of N matrices.items in
         let drawn = R.stream (generator_of scheme.old) in
         IfOk result (λ v. tree_batch v.tree ≡ salted_batch P.Value.of_salt_word SALT_ELEMS b drawn) }
-    ensures committed { let b = batch_of M.height_of M.width_of M.row_of N matrices.items in
-        let c = salted_params_of H.hash C.compression D scheme.old (shape b).dimensions in
-        IfOk result (λ v. IsCommitment c (roots_of v.cap) (tree_batch v.tree) (layers_of v.tree)) }
-    ensures rows { let b = batch_of M.height_of M.width_of M.row_of N matrices.items in
-        IfOk result (λ v. row_sets v.opening.0.items ≡ map (honest_rows b) indices.now) }
-    ensures salts { IfOk result (λ v. let salts = right_batch N (matrices_of v.tree) in
-        row_sets v.opening.1.0.items ≡ map (honest_rows salts) indices.now) }
-    ensures digests { let b = batch_of M.height_of M.width_of M.row_of N matrices.items in
-        let c = salted_params_of H.hash C.compression D scheme.old (shape b).dimensions in
-        IfOk result (λ v. let opened = honest_query c.functions (tree_batch v.tree) c.layer indices.now in
-        v.opening.1.1.sibling_hashes.items ≡ opened.digests) }
-    ensures accepted { let b = batch_of M.height_of M.width_of M.row_of N matrices.items in
-        let c = salted_params_of H.hash C.compression D scheme.old (shape b).dimensions in
-        let accepts = IsSaltedPrunedAccepted SALT_ELEMS (shape b).dimensions c in
-        IfOk result (λ v. accepts (roots_of v.cap) (salted_pruned_made indices.now v.opening.0 v.opening.1)) }
+    ensures committed { IfOk result (λ v. CommitsSalted scheme.new (roots_of v.cap) v.tree) }
+    ensures opened { IfOk result (λ v.
+        IsHonestSaltedPruned scheme.new v.tree (roots_of v.cap) (salted_pruned_made indices.now v.opening)) }
     ensures verdict { IfOk result (λ v. IfErr v.verdict (λ e. e ≡ OutOfMemory)) }
-    ensures rest { let b = batch_of M.height_of M.width_of M.row_of N matrices.items in
-        let drawn = R.stream (generator_of scheme.old) in
-        OnOk result (R.stream (generator_of scheme.new) ≡ after_salts SALT_ELEMS b.matrices drawn) }
-    ensures further { let b = batch_of M.height_of M.width_of M.row_of N matrices.items in
-        let drawn = R.stream (generator_of scheme.old) in
-        IsAfterSome SALT_ELEMS b.matrices drawn (R.stream (generator_of scheme.new)) }
+    ensures drawn { let b = batch_of M.height_of M.width_of M.row_of N matrices.items in
+        Draws R.stream b.matrices scheme.old scheme.new result }
     ensures untouched { let b = batch_of M.height_of M.width_of M.row_of N matrices.items in
         IsSome (salted_commit_refusal SALT_ELEMS (shape b).dimensions) →
         IfErr result (λ e. (e ≡ OutOfMemory) ⊎ (generator_of scheme.new ≡ generator_of scheme.old)) }
-    ensures scheme { plain_of scheme.new ≡ plain_of scheme.old }
 {
-    laws::restoration::<P::Value, PW::Value>();
     let (cap, tree, dimensions) = salted_committed(alloc, scheme, matrices, indices)?;
     let opening = scheme.open_multi_batch(alloc, indices, &tree)?;
     let (rows, proof) = &opening;

@@ -1,25 +1,24 @@
 //! The salted scheme: an opening that anybody presents has the committed row of each authenticated matrix, or a
 //! collision is returned.
 
-ghost use Rattle.std.specs.Prelude.{◌≡◌, ◌⊎◌, [], ◌∷◌, IfErr, IfOk, IsSome, OnOk, map};
+ghost use Rattle.std.specs.Prelude.{◌≡◌, ◌⊎◌, [], ◌∷◌, IfErr, IfOk, IsSome, map};
 ghost use Rattle.end_to_end.specs.Comparisons.{IsSaltedComparison, IsSaltedPrunedComparison};
+ghost use Rattle.end_to_end.specs.Honest.{IsHonestSalted, IsHonestSaltedPruned};
 ghost use Rattle.end_to_end.specs.Refusals.{salted_open_refusal};
-ghost use Rattle.p3_merkle_tree.specs.Commitments.{IsCommitment};
-ghost use Rattle.p3_merkle_tree.specs.HidingSchemes.{generator_of, plain_of, salted_lent, salted_made};
-ghost use Rattle.p3_merkle_tree.specs.HidingSchemes.{salted_params_of, salted_pruned_lent, salted_pruned_made};
+ghost use Rattle.p3_merkle_tree.specs.HidingSchemes.{generator_of, plain_of, salted_borrowed, salted_made};
+ghost use Rattle.p3_merkle_tree.specs.HidingSchemes.{salted_params_of, salted_pruned_borrowed, salted_pruned_made};
 ghost use Rattle.p3_merkle_tree.specs.MerkleTreeError.TheVariants.{OutOfMemory};
 ghost use Rattle.p3_merkle_tree.specs.Nodes.{shape};
-ghost use Rattle.p3_merkle_tree.specs.Openings.{honest, honest_rows};
-ghost use Rattle.p3_merkle_tree.specs.Parts.{layers_of, matrices_of, tree_batch};
-ghost use Rattle.p3_merkle_tree.specs.Pruning.{honest_query};
+ghost use Rattle.p3_merkle_tree.specs.Parts.{matrices_of, tree_batch};
 ghost use Rattle.p3_merkle_tree.specs.Refusals.{AnswersUnlessMemory};
-ghost use Rattle.p3_merkle_tree.specs.Salted.{after_salts, salted_batch, IsAfterSome};
+ghost use Rattle.p3_merkle_tree.specs.Salted.{salted_batch};
 ghost use Rattle.p3_merkle_tree.specs.SaltRefusals.{salted_commit_refusal};
-ghost use Rattle.p3_merkle_tree.specs.SaltedTrees.{right_batch};
+ghost use Rattle.p3_merkle_tree.specs.SaltedOpened.{CommitsSalted, Draws};
+ghost use Rattle.p3_merkle_tree.specs.SaltedTrees.{unsalted_dimensions};
 ghost use Rattle.p3_merkle_tree.specs.Schemes.{cap_rule_of};
 ghost use Rattle.p3_merkle_tree.specs.Views.{batch_of};
 ghost use Rattle.p3_support.specs.Pairs.{left_of};
-ghost use Rattle.p3_support.specs.Shown.{roots_of, row_lists, row_sets};
+ghost use Rattle.p3_support.specs.Shown.{roots_of};
 
 use crate::Compared;
 use crate::salted::{SaltedRows, salted_committed};
@@ -77,36 +76,20 @@ where
     ensures salted { let b = batch_of M.height_of M.width_of M.row_of N matrices.items in
         let drawn = R.stream (generator_of scheme.old) in
         IfOk result (λ v. tree_batch v.tree ≡ salted_batch P.Value.of_salt_word SALT_ELEMS b drawn) }
-    ensures committed { let b = batch_of M.height_of M.width_of M.row_of N matrices.items in
-        let c = salted_params_of H.hash C.compression D scheme.old (shape b).dimensions in
-        IfOk result (λ v. IsCommitment c (roots_of v.cap) (tree_batch v.tree) (layers_of v.tree)) }
-    ensures rows { let b = batch_of M.height_of M.width_of M.row_of N matrices.items in
-        IfOk result (λ v. row_lists v.opening.opened_values.items ≡ honest_rows b index) }
-    ensures salts { IfOk result (λ v. let salts = right_batch N (matrices_of v.tree) in
-        row_lists v.opening.opening_proof.0.items ≡ honest_rows salts index) }
-    ensures siblings { let b = batch_of M.height_of M.width_of M.row_of N matrices.items in
-        let c = salted_params_of H.hash C.compression D scheme.old (shape b).dimensions in
-        IfOk result (λ v. let opened = honest c.functions (tree_batch v.tree) c.layer index in
-        v.opening.opening_proof.1.items ≡ opened.siblings) }
-    ensures compared { let b = batch_of M.height_of M.width_of M.row_of N matrices.items in
-        let c = salted_params_of H.hash C.compression D scheme.old (shape b).dimensions in
-        let rule = cap_rule_of (plain_of scheme.old) in
-        let compares = IsSaltedComparison PW.Value.eq rule SALT_ELEMS (shape b).dimensions c in
-        let o = salted_lent index claimed.entry in
-        IfOk result (λ v. compares (roots_of v.cap) o (salted_made index v.opening) v.found) }
-    ensures rest { let b = batch_of M.height_of M.width_of M.row_of N matrices.items in
-        let drawn = R.stream (generator_of scheme.old) in
-        OnOk result (R.stream (generator_of scheme.new) ≡ after_salts SALT_ELEMS b.matrices drawn) }
-    ensures further { let b = batch_of M.height_of M.width_of M.row_of N matrices.items in
-        let drawn = R.stream (generator_of scheme.old) in
-        IsAfterSome SALT_ELEMS b.matrices drawn (R.stream (generator_of scheme.new)) }
+    ensures committed { IfOk result (λ v. CommitsSalted scheme.new (roots_of v.cap) v.tree) }
+    ensures opened { IfOk result (λ v.
+        IsHonestSalted scheme.new v.tree (roots_of v.cap) (salted_made index v.opening)) }
+    ensures compared { let compares = IsSaltedComparison PW.Value.eq (cap_rule_of (plain_of scheme.new)) SALT_ELEMS in
+        IfOk result (λ v. let dimensions = unsalted_dimensions N (matrices_of v.tree) in
+        compares dimensions (salted_params_of scheme.new dimensions) (roots_of v.cap)
+        (salted_borrowed index claimed.entry) (salted_made index v.opening) v.found) }
+    ensures drawn { let b = batch_of M.height_of M.width_of M.row_of N matrices.items in
+        Draws R.stream b.matrices scheme.old scheme.new result }
     ensures untouched { let b = batch_of M.height_of M.width_of M.row_of N matrices.items in
         IsSome (salted_commit_refusal SALT_ELEMS (shape b).dimensions) →
         IfErr result (λ e. (e ≡ OutOfMemory) ⊎ (generator_of scheme.new ≡ generator_of scheme.old)) }
-    ensures scheme { plain_of scheme.new ≡ plain_of scheme.old }
 {
     laws::answers::<P::Value, PW::Value>();
-    laws::restoration::<P::Value, PW::Value>();
     let (cap, tree, dimensions) = salted_committed(alloc, scheme, matrices, &[index])?;
     let opening = scheme.open_batch(alloc, index, &tree)?;
     let honest = BatchOpeningRef::from(&opening);
@@ -166,38 +149,22 @@ where
     ensures salted { let b = batch_of M.height_of M.width_of M.row_of N matrices.items in
         let drawn = R.stream (generator_of scheme.old) in
         IfOk result (λ v. tree_batch v.tree ≡ salted_batch P.Value.of_salt_word SALT_ELEMS b drawn) }
-    ensures committed { let b = batch_of M.height_of M.width_of M.row_of N matrices.items in
-        let c = salted_params_of H.hash C.compression D scheme.old (shape b).dimensions in
-        IfOk result (λ v. IsCommitment c (roots_of v.cap) (tree_batch v.tree) (layers_of v.tree)) }
-    ensures rows { let b = batch_of M.height_of M.width_of M.row_of N matrices.items in
-        IfOk result (λ v. row_sets v.opening.0.items ≡ map (honest_rows b) indices.now) }
-    ensures salts { IfOk result (λ v. let salts = right_batch N (matrices_of v.tree) in
-        row_sets v.opening.1.0.items ≡ map (honest_rows salts) indices.now) }
-    ensures digests { let b = batch_of M.height_of M.width_of M.row_of N matrices.items in
-        let c = salted_params_of H.hash C.compression D scheme.old (shape b).dimensions in
-        IfOk result (λ v. let opened = honest_query c.functions (tree_batch v.tree) c.layer indices.now in
-        v.opening.1.1.sibling_hashes.items ≡ opened.digests) }
-    ensures compared { let b = batch_of M.height_of M.width_of M.row_of N matrices.items in
-        let c = salted_params_of H.hash C.compression D scheme.old (shape b).dimensions in
-        let rule = cap_rule_of (plain_of scheme.old) in
-        let compares = IsSaltedPrunedComparison P.Value.eq PW.Value.eq rule SALT_ELEMS (shape b).dimensions c in
-        let p = salted_pruned_lent indices.now rows.now proof.now in
-        IfOk result (λ v. let honest = salted_pruned_made indices.now v.opening.0 v.opening.1 in
-        compares (roots_of v.cap) p honest v.found) }
-    ensures rest { let b = batch_of M.height_of M.width_of M.row_of N matrices.items in
-        let drawn = R.stream (generator_of scheme.old) in
-        OnOk result (R.stream (generator_of scheme.new) ≡ after_salts SALT_ELEMS b.matrices drawn) }
-    ensures further { let b = batch_of M.height_of M.width_of M.row_of N matrices.items in
-        let drawn = R.stream (generator_of scheme.old) in
-        IsAfterSome SALT_ELEMS b.matrices drawn (R.stream (generator_of scheme.new)) }
+    ensures committed { IfOk result (λ v. CommitsSalted scheme.new (roots_of v.cap) v.tree) }
+    ensures opened { IfOk result (λ v.
+        IsHonestSaltedPruned scheme.new v.tree (roots_of v.cap) (salted_pruned_made indices.now v.opening)) }
+    ensures compared { let rule = cap_rule_of (plain_of scheme.new) in
+        let compares = IsSaltedPrunedComparison P.Value.eq PW.Value.eq rule SALT_ELEMS in
+        IfOk result (λ v. let dimensions = unsalted_dimensions N (matrices_of v.tree) in
+        compares dimensions (salted_params_of scheme.new dimensions) (roots_of v.cap)
+        (salted_pruned_borrowed indices.now rows.now proof.now) (salted_pruned_made indices.now v.opening) v.found) }
+    ensures drawn { let b = batch_of M.height_of M.width_of M.row_of N matrices.items in
+        Draws R.stream b.matrices scheme.old scheme.new result }
     ensures untouched { let b = batch_of M.height_of M.width_of M.row_of N matrices.items in
         IsSome (salted_commit_refusal SALT_ELEMS (shape b).dimensions) →
         IfErr result (λ e. (e ≡ OutOfMemory) ⊎ (generator_of scheme.new ≡ generator_of scheme.old)) }
-    ensures scheme { plain_of scheme.new ≡ plain_of scheme.old }
 {
     laws::answers::<P::Value, PW::Value>();
     laws::extraction::<P::Value, PW::Value>();
-    laws::restoration::<P::Value, PW::Value>();
     let (cap, tree, dimensions) = salted_committed(alloc, scheme, matrices, indices)?;
     let opening = scheme.open_multi_batch(alloc, indices, &tree)?;
     let (honest_rows, honest_proof) = &opening;

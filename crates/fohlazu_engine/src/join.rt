@@ -23,7 +23,7 @@ use mmcs_engine::command::Arity;
 use p3_hashes::sha_eights::Sha256NodesInEights;
 use p3_merkle_core::error::PartsError;
 use p3_merkle_core::parts::check_parts;
-use p3_merkle_digests::parts::digests_of_whole;
+use p3_merkle_digests::parts::cap_digests_from_parts;
 use p3_support::opening::MerkleCap;
 use std::alloc::{AllocError, Global};
 
@@ -200,7 +200,7 @@ fn cap_of_whole<const N: usize>(
 {
     lemma_arity::<N>(scheme);
     let count = check_parts(N, counts, caps.len())?;
-    let cap = digests_of_whole::<u8, u8, Sha256NodesInEights<N>, N, 32>(
+    let cap = cap_digests_from_parts::<u8, u8, Sha256NodesInEights<N>, N, 32>(
         alloc,
         &Sha256NodesInEights::<N>,
         scheme.cap_height,

@@ -4,6 +4,7 @@ ghost use Rattle.std.specs.Prelude.{◌≡◌, ℕ, ◌∷◌, [], All, IfOk, Is
 ghost use Rattle.p3_support.specs.Shown.{roots_of};
 ghost use Rattle.p3_merkle_core.specs.Commitments.{IsCommitment};
 ghost use Rattle.p3_merkle_core.specs.Gate.{gate_refusal};
+ghost use Rattle.p3_merkle_core.specs.Geometry.{shape_of};
 ghost use Rattle.p3_merkle_core.specs.Refusals.{AnswersUnlessMemory};
 ghost use Rattle.p3_merkle_core.specs.declared.cap.CapRule.TheVariants.{Lowered};
 ghost use Rattle.p3_merkle_mmcs.specs.Schemes.{cap_height_of, cap_rule_of, params_of};
@@ -17,8 +18,6 @@ use p3_hashes::sha_eights::{Sha256NodesInEights, Sha256RowsInEights};
 use p3_merkle_core::error::MerkleTreeError;
 use p3_merkle_mmcs::mmcs::MerkleTreeMmcs;
 use p3_merkle_prover::tree::MerkleTree;
-use p3_support::compress::PseudoCompressionFunction;
-use p3_support::hasher::CryptographicHasher;
 use p3_support::matrix::{Dimensions, Matrix};
 use p3_support::opening::MerkleCap;
 use std::alloc::{AllocError, Global};
@@ -87,10 +86,7 @@ impl Matrix<u8> for DigestRows {
 pub(crate) fn scheme_of<const N: usize>(scheme: Scheme) -> Sha256Scheme<N>
     requires taken { IsTrue (is_taken_arity N) }
     requires arity { N ≡ arity_number scheme.arity }
-    ensures params { (count : ℕ) →
-        params_of ⟦<Sha256RowsInEights as CryptographicHasher<u8, u8, 32>>⟧.hash
-        ⟦<Sha256NodesInEights<N> as PseudoCompressionFunction<u8, N, 32>>⟧.compression 32 result (dimensions_for count)
-        ≡ params_for scheme count }
+    ensures params { (count : ℕ) → params_of result (shape_of N (dimensions_for count)) ≡ params_for scheme count }
     ensures rule { cap_rule_of result ≡ Lowered }
     ensures cap_height { cap_height_of result ≡ scheme.cap_height }
 {

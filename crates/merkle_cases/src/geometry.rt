@@ -75,7 +75,7 @@ fn step_from(
     if steps.num_levels == 0 {
         return Err(Fault::Unreadable("there is no step"));
     }
-    Ok(steps.up(steps.arity, 0, steps.exponent))
+    Ok(steps.step_up(steps.arity, 0, steps.exponent))
 }
 
 /// `step | ARITY | HEIGHTS | EXPONENT | matrix or none, bridge or whole, STEP, NEXT EXPONENT`: whether a column has

@@ -5,7 +5,6 @@ ghost use Rattle.std.specs.Prelude.{flat_map, length, map, IsTrue};
 ghost use Rattle.std.specs.Io.KnownBytes.{Appends};
 ghost use Rattle.p3_support.specs.Batches.{greatest};
 ghost use Rattle.p3_support.specs.Shown.{roots_of, row_sets};
-ghost use Rattle.p3_merkle_core.specs.Commitments.{IsCommitment};
 ghost use Rattle.p3_merkle_core.specs.Geometry.{heights, shape_of};
 ghost use Rattle.p3_merkle_core.specs.Nodes.{shape, Batch};
 ghost use Rattle.p3_merkle_core.specs.Openings.{honest_rows};
@@ -13,8 +12,8 @@ ghost use Rattle.p3_merkle_core.specs.Pruning.{pruned_len};
 ghost use Rattle.p3_merkle_core.specs.Refusals.{pruned_len_refusal, AnswersUnlessMemory};
 ghost use Rattle.p3_merkle_core.specs.declared.error.MerkleTreeError.TheVariants.{OutOfMemory};
 ghost use Rattle.p3_merkle_prover.specs.Parts.{layers_of, tree_batch};
-ghost use Rattle.p3_merkle_mmcs.specs.Schemes.{cap_height_of, cap_layer_over, cap_rule_of, scheme_functions};
-ghost use Rattle.p3_merkle_mmcs.specs.Schemes.{params_over};
+ghost use Rattle.p3_merkle_mmcs.specs.Committed.{Commits};
+ghost use Rattle.p3_merkle_mmcs.specs.Schemes.{cap_height_of, cap_layer_of, cap_rule_of, functions_of};
 ghost use Rattle.mmcs_engine.specs.declared.fault.Fault.TheVariants.{Usage, Read, Tree, Write};
 ghost use Rattle.mmcs_engine.specs.Inner.Stored.{stored_batch};
 ghost use Rattle.mmcs_engine.specs.Text.{digest_lines, hex_lines, ok_line};
@@ -140,7 +139,7 @@ fn reply_with_scheme<
     input: Vec<u8>,
 ) -> Result<Vec<u8>, Fault>
     requires scheme { IsSchemeOf args.now.command.hash args.now.command.cap W.value W.MAX W.HEX_DIGITS
-        (scheme_functions H.hash C.compression D scheme.now) (cap_height_of scheme.now) (cap_rule_of scheme.now) }
+        (functions_of scheme.now) (cap_height_of scheme.now) (cap_rule_of scheme.now) }
     requires arity { N ≡ arity_number args.now.command.arity }
     ensures text { IfOk result
         (λ text. IsReply args.now.command args.now.indices.items input.items (Ok text.items)) }
@@ -169,7 +168,7 @@ fn act<
     matrices: Vec<RowMajorMatrix<W>>,
 ) -> Result<Vec<u8>, MerkleTreeError>
     requires scheme { IsSchemeOf args.now.command.hash args.now.command.cap W.value W.MAX W.HEX_DIGITS
-        (scheme_functions H.hash C.compression D scheme.now) (cap_height_of scheme.now) (cap_rule_of scheme.now) }
+        (functions_of scheme.now) (cap_height_of scheme.now) (cap_rule_of scheme.now) }
     ensures text { let b = batch_in_numbers W.value (stored_batch N matrices.items) in
         IfOk result (λ text. text.items
         ≡ text_of args.now.command.hash args.now.command.action args.now.indices.items b
@@ -218,7 +217,7 @@ fn open_text<
     requires { All (λ i. i < greatest (heights (shape (tree_batch tree.now)))) indices.now }
     ensures text { let b = tree_batch tree.now in
         IfOk result (λ text. text.items ≡ opened_text W.value W.HEX_DIGITS b (layers_of tree.now) indices.now
-        (cap_layer_over scheme.now (shape b))) }
+        (cap_layer_of scheme.now (shape b))) }
     ensures memory { AnswersUnlessMemory result None }
 {
     let opening = scheme.open_batch_pruned(alloc, indices, tree)?;
@@ -265,11 +264,9 @@ fn check_text<
 ) -> Result<Vec<u8>, MerkleTreeError>
     requires indices { All (λ i. i < greatest (heights (shape (tree_batch tree.now)))) indices.now }
     requires dimensions { shape_of N dimensions.now ≡ shape (tree_batch tree.now) }
-    requires committed { let b = tree_batch tree.now in
-        IsCommitment (params_over H.hash C.compression D scheme.now (shape b)) (roots_of roots.now) b
-        (layers_of tree.now) }
+    requires committed { Commits scheme.now (roots_of roots.now) tree.now }
     ensures text { let s = shape (tree_batch tree.now) in
-        IfOk result (λ text. text.items ≡ ok_line (pruned_len s indices.now (cap_layer_over scheme.now s))) }
+        IfOk result (λ text. text.items ≡ ok_line (pruned_len s indices.now (cap_layer_of scheme.now s))) }
     ensures memory { AnswersUnlessMemory result None }
 {
     let opening = scheme.open_batch_pruned(alloc, indices, tree)?;

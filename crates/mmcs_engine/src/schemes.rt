@@ -1,7 +1,7 @@
 //! The schemes of the hashes: what a command computes with.
 
 ghost use Rattle.std.specs.Prelude.{IsTrue};
-ghost use Rattle.p3_merkle_mmcs.specs.Schemes.{cap_height_of, cap_rule_of, scheme_functions};
+ghost use Rattle.p3_merkle_mmcs.specs.Schemes.{cap_height_of, cap_rule_of, functions_of};
 ghost use Rattle.mmcs_engine.specs.declared.command.HashName.TheVariants.{Fold, Sha256};
 ghost use Rattle.mmcs_engine.specs.Inner.Alike.{is_taken_arity, IsSchemeOf};
 
@@ -10,8 +10,6 @@ use crate::word::Word;
 use p3_hashes::fold::{FoldCompress, FoldHash};
 use p3_hashes::sha_eights::{Sha256NodesInEights, Sha256RowsInEights};
 use p3_merkle_mmcs::mmcs::MerkleTreeMmcs;
-use p3_support::compress::PseudoCompressionFunction;
-use p3_support::hasher::CryptographicHasher;
 
 /// The scheme of `fold`: words of 32 bits, and digests of one word. The arity is 2, 4 or 8.
 pub fn fold_scheme<const N: usize>(
@@ -19,9 +17,7 @@ pub fn fold_scheme<const N: usize>(
 ) -> MerkleTreeMmcs<u32, u32, FoldHash<4>, FoldCompress<N, 4>, N, 1>
     requires { IsTrue (is_taken_arity N) }
     ensures { IsSchemeOf Fold cap ⟦<u32 as Word>⟧.value ⟦<u32 as Word>⟧.MAX ⟦<u32 as Word>⟧.HEX_DIGITS
-        (scheme_functions ⟦<FoldHash<4> as CryptographicHasher<u32, u32, 1>>⟧.hash
-        ⟦<FoldCompress<N, 4> as PseudoCompressionFunction<u32, N, 1>>⟧.compression 1 result)
-        (cap_height_of result) (cap_rule_of result) }
+        (functions_of result) (cap_height_of result) (cap_rule_of result) }
 {
     MerkleTreeMmcs::new_with_rule(FoldHash::<4>, FoldCompress::<N, 4>, cap.height, cap.rule)
 }
@@ -32,9 +28,7 @@ pub fn sha_scheme<const N: usize>(
 ) -> MerkleTreeMmcs<u8, u8, Sha256RowsInEights, Sha256NodesInEights<N>, N, 32>
     requires { IsTrue (is_taken_arity N) }
     ensures { IsSchemeOf Sha256 cap ⟦<u8 as Word>⟧.value ⟦<u8 as Word>⟧.MAX ⟦<u8 as Word>⟧.HEX_DIGITS
-        (scheme_functions ⟦<Sha256RowsInEights as CryptographicHasher<u8, u8, 32>>⟧.hash
-        ⟦<Sha256NodesInEights<N> as PseudoCompressionFunction<u8, N, 32>>⟧.compression 32 result)
-        (cap_height_of result) (cap_rule_of result) }
+        (functions_of result) (cap_height_of result) (cap_rule_of result) }
 {
     MerkleTreeMmcs::new_with_rule(
         Sha256RowsInEights,

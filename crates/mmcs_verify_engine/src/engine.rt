@@ -6,7 +6,7 @@ ghost use Rattle.std.specs.Io.KnownBytes.{Appends};
 ghost use Rattle.p3_support.specs.declared.matrix.Dimensions.{Dimensions};
 ghost use Rattle.p3_merkle_core.specs.Nodes.{functions_of};
 ghost use Rattle.p3_merkle_core.specs.declared.error.MerkleTreeError.TheVariants.{OutOfMemory};
-ghost use Rattle.p3_merkle_mmcs.specs.Schemes.{cap_height_of, cap_rule_of, scheme_functions};
+ghost use Rattle.p3_merkle_mmcs.specs.Schemes.{cap_height_of, cap_rule_of, functions_of as scheme_functions};
 ghost use Rattle.mmcs_engine.specs.Text.{row_line};
 ghost use Rattle.mmcs_engine.specs.Args.{arity_number, texts_of};
 ghost use Rattle.mmcs_engine.specs.Inner.Alike.{is_taken_arity, IsSchemeOf};
@@ -190,8 +190,8 @@ fn reply_by<
 where
     [W; D]: LineDigest,
     requires scheme { IsSchemeOf request.now.setting.hash request.now.setting.cap W.value W.MAX W.HEX_DIGITS
-        (scheme_functions H.hash C.compression D scheme.now) (cap_height_of scheme.now) (cap_rule_of scheme.now) }
-    requires functions { scheme_functions H.hash C.compression D scheme.now
+        (scheme_functions scheme.now) (cap_height_of scheme.now) (cap_rule_of scheme.now) }
+    requires functions { scheme_functions scheme.now
         ≡ functions_of (H.hash hash.now) (C.compression compress.now) (replicate D W.default_value) }
     requires arity { N ≡ arity_number request.now.setting.arity }
     requires line_hash { ⟦<[W; D] as LineDigest>⟧.hash ≡ request.now.setting.hash }
@@ -230,7 +230,7 @@ fn verify_by<
 where
     [W; D]: LineDigest,
     requires scheme { IsSchemeOf request.now.setting.hash request.now.setting.cap W.value W.MAX W.HEX_DIGITS
-        (scheme_functions H.hash C.compression D scheme.now) (cap_height_of scheme.now) (cap_rule_of scheme.now) }
+        (scheme_functions scheme.now) (cap_height_of scheme.now) (cap_rule_of scheme.now) }
     requires arity { N ≡ arity_number request.now.setting.arity }
     requires line_hash { ⟦<[W; D] as LineDigest>⟧.hash ≡ request.now.setting.hash }
     requires words { (digest : List W) → ⟦<[W; D] as LineDigest>⟧.words digest ≡ map W.value digest }
@@ -265,7 +265,7 @@ fn rows_by<
 where
     [W; D]: LineDigest,
     requires scheme { IsSchemeOf request.now.setting.hash request.now.setting.cap W.value W.MAX W.HEX_DIGITS
-        (scheme_functions H.hash C.compression D scheme.now) (cap_height_of scheme.now) (cap_rule_of scheme.now) }
+        (scheme_functions scheme.now) (cap_height_of scheme.now) (cap_rule_of scheme.now) }
     requires arity { N ≡ arity_number request.now.setting.arity }
     requires line_hash { ⟦<[W; D] as LineDigest>⟧.hash ≡ request.now.setting.hash }
     requires words { (digest : List W) → ⟦<[W; D] as LineDigest>⟧.words digest ≡ map W.value digest }
@@ -300,7 +300,7 @@ fn accepted_by<
 where
     [W; D]: LineDigest,
     requires scheme { IsSchemeOf request.now.setting.hash request.now.setting.cap W.value W.MAX W.HEX_DIGITS
-        (scheme_functions H.hash C.compression D scheme.now) (cap_height_of scheme.now) (cap_rule_of scheme.now) }
+        (scheme_functions scheme.now) (cap_height_of scheme.now) (cap_rule_of scheme.now) }
     requires arity { N ≡ arity_number request.now.setting.arity }
     requires line_hash { ⟦<[W; D] as LineDigest>⟧.hash ≡ request.now.setting.hash }
     requires words { (digest : List W) → ⟦<[W; D] as LineDigest>⟧.words digest ≡ map W.value digest }
@@ -368,8 +368,8 @@ fn collide_by<
 where
     [W; D]: LineDigest,
     requires scheme { IsSchemeOf request.now.setting.hash request.now.setting.cap W.value W.MAX W.HEX_DIGITS
-        (scheme_functions H.hash C.compression D scheme.now) (cap_height_of scheme.now) (cap_rule_of scheme.now) }
-    requires functions { scheme_functions H.hash C.compression D scheme.now
+        (scheme_functions scheme.now) (cap_height_of scheme.now) (cap_rule_of scheme.now) }
+    requires functions { scheme_functions scheme.now
         ≡ functions_of (H.hash hash.now) (C.compression compress.now) (replicate D W.default_value) }
     requires arity { N ≡ arity_number request.now.setting.arity }
     requires line_hash { ⟦<[W; D] as LineDigest>⟧.hash ≡ request.now.setting.hash }

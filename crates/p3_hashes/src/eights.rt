@@ -7,8 +7,8 @@ ghost use Rattle.p3_hashes.specs.Inner.Eights.{lanes_of};
 ghost use Rattle.p3_hashes.specs.Inner.Turned.{turned};
 ghost use Rattle.p3_hashes.specs.Fold.{fold_hash, fold_compress, take_in};
 
-use crate::fold::{FoldLane, absorb, compress_group, compress_lanes, hash_words, start};
-use crate::lanes::{U32x8, turn_four};
+use crate::fold::{FoldLane, absorb, compress_group, compress_lanes, hash_words, initial_state};
+use crate::lanes::{U32x8, transpose};
 use p3_support::packed::{pack_columns_fn, unpack_at};
 use std::simd::prelude::*;
 
@@ -108,7 +108,7 @@ fn columns_of_four(messages: &[u32], width: usize, first: usize, column: usize) 
     ensures long { (k : ℕ) → k < 4 →
         length (slice_range (message_of width messages.now (first + k)) column (column + 4)) ≡ 4 }
 {
-    turn_four(
+    transpose(
         words_at(messages, width, first, column),
         words_at(messages, width, first + 1, column),
         words_at(messages, width, first + 2, column),
@@ -161,7 +161,7 @@ fn hash_eight<const D: usize>(messages: &[u32], width: usize, first: usize) -> [
     ensures { (k : ℕ) → k < 8 → lane_of lanes_of 0 k result
         ≡ fold_hash D (message_of width messages.now (first + k)) }
 {
-    let mut state = start();
+    let mut state = initial_state();
     absorb_fours(&mut state, messages, width, first);
     absorb_columns(&mut state, messages, width, first, 4 * (width / 4));
     state

@@ -16,7 +16,7 @@ use std::convert::AsSlice;
 /// A packed value with lanes of 32 bits, and the arithmetic of the fold functions on all lanes together.
 pub trait FoldLane: PackedValue<Value = u32> {
     /// Lane by lane, `31 * self + word`, modulo 2^32.
-    fn step_together(self, word: Self) -> Self
+    fn mul_31_add(self, word: Self) -> Self
         ensures { (k : ℕ) → k < Self.WIDTH →
             slice_index_or (Self.lanes result) k Self.default_value
             ≡ take_in (slice_index_or (Self.lanes self) k Self.default_value)
@@ -30,7 +30,7 @@ pub trait FoldLane: PackedValue<Value = u32> {
 }
 
 impl FoldLane for u32 {
-    fn step_together(self, word: u32) -> u32 {
+    fn mul_31_add(self, word: u32) -> u32 {
         self.wrapping_mul(31).wrapping_add(word)
     }
 
@@ -47,7 +47,7 @@ fn low_bits(index: usize) -> u32
 }
 
 /// The state ahead of the first word, in each lane: element `e` is `1 + e`, modulo 2^32.
-pub(crate) fn start<P: FoldLane, const D: usize>() -> [P; D]
+pub(crate) fn initial_state<P: FoldLane, const D: usize>() -> [P; D]
     ensures { (k : ℕ) → k < P.WIDTH → lane_of P.lanes P.default_value k result ≡ fold_hash D [] }
 {
     std::array::from_fn(
@@ -66,7 +66,7 @@ pub(crate) fn absorb<P: FoldLane, const D: usize>(state: &mut [P; D], word: P)
         (lane_of P.lanes P.default_value k state.old) }
 {
     for element in state.iter_mut() {
-        *element = element.step_together(word);
+        *element = element.mul_31_add(word);
     }
 }
 
@@ -87,7 +87,7 @@ fn hash_lanes<P: FoldLane, I: Iterator<Item = P>, const D: usize>(input: I) -> [
         lane_of P.lanes P.default_value k result
         ≡ fold_hash D (lane_of P.lanes P.default_value k p.items)) }
 {
-    let mut state = start();
+    let mut state = initial_state();
     for word in input {
         absorb(&mut state, word);
     }
@@ -98,7 +98,7 @@ fn hash_lanes<P: FoldLane, I: Iterator<Item = P>, const D: usize>(input: I) -> [
 pub(crate) fn hash_words<const D: usize>(words: &[u32]) -> [u32; D]
     ensures { result ≡ fold_hash D words.now }
 {
-    let mut state = start();
+    let mut state = initial_state();
     absorb_slice(&mut state, words);
     state
 }
@@ -127,7 +127,7 @@ impl<P: FoldLane, const L: usize, const D: usize> CryptographicHasher<P, P, D> f
         &self,
         input: I,
     ) -> [u32; D] {
-        let mut state = start();
+        let mut state = initial_state();
         for words in input {
             absorb_slice(&mut state, words.as_slice());
         }
@@ -158,7 +158,7 @@ fn mix<P: FoldLane, const D: usize>(digest: &mut [P; D], child: &[P; D], place: 
 {
     let number = low_bits(place);
     for (e, element) in digest.iter_mut().enumerate() {
-        *element = element.step_together(child[e]).add_to_each(number);
+        *element = element.mul_31_add(child[e]).add_to_each(number);
     }
 }
 

@@ -62,7 +62,7 @@ impl<T: PackedValue<Value = T> + Default + Eq> PackedValue for Lanes<T> {
 }
 
 impl FoldLane for Lanes<u32> {
-    fn step_together(self, word: Lanes<u32>) -> Lanes<u32> {
+    fn mul_31_add(self, word: Lanes<u32>) -> Lanes<u32> {
         Lanes {
             first: self.first.wrapping_mul(31).wrapping_add(word.first),
             second: self.second.wrapping_mul(31).wrapping_add(word.second),
@@ -142,7 +142,7 @@ impl PackedValue for U32x8 {
 }
 
 impl FoldLane for U32x8 {
-    fn step_together(self, word: U32x8) -> U32x8 {
+    fn mul_31_add(self, word: U32x8) -> U32x8 {
         U32x8 {
             lanes: self.lanes * u32x8::splat(31) + word.lanes,
         }
@@ -156,7 +156,7 @@ impl FoldLane for U32x8 {
 }
 
 /// Transposes four rows of four words: vector `i` of the result has word `i` of each row.
-pub(crate) fn turn_four(first: &[u32], second: &[u32], third: &[u32], fourth: &[u32]) -> [u32x4; 4]
+pub(crate) fn transpose(first: &[u32], second: &[u32], third: &[u32], fourth: &[u32]) -> [u32x4; 4]
     requires first { length first.now ≡ 4 }
     requires second { length second.now ≡ 4 }
     requires third { length third.now ≡ 4 }

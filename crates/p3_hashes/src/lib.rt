@@ -16,6 +16,7 @@ pub mod lanes;
 pub mod laws;
 mod many;
 mod messages;
+pub mod padded;
 pub mod sha;
 pub mod sha_eights;
 mod words;

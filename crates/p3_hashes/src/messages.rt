@@ -1,5 +1,6 @@
 //! SHA-256 of messages of one length, which lie one after another: eight at a time, one message a lane, and what is
-//! left one by one. Their padding (FIPS 180-4, 5.1.1) is the same for all, since it depends on the length alone.
+//! left one by one. A padded message is one followed by its padding (FIPS 180-4, 5.1.1). The padding is the same for
+//! all, since it depends on the length alone.
 ghost use Rattle.std.specs.Prelude.{◌≡◌, List, ℕ, [], ◌+◌, ◌*◌, ◌/◌, ◌^◌, ◌<◌, ◌≤◌, length, slice_index};
 ghost use Rattle.std.specs.Prelude.{slice_index_or};
 ghost use Rattle.sha2.specs.Sha256.{digest_bytes, final_hash, initial_hash_256, padded_message, sha256, word_at};
@@ -7,7 +8,7 @@ ghost use Rattle.p3_support.specs.Lists.{message};
 ghost use Rattle.p3_hashes.specs.Inner.Inputs.{IsPadding};
 ghost use Rattle.p3_hashes.specs.Inner.Lanes.{lane};
 
-use crate::block::{compress_again, compress_eight, round_inputs};
+use crate::block::{compress_eight, compress_prepared, round_inputs};
 use crate::consts::INITIAL;
 use crate::digest_size::DigestSize;
 use sha2::{Digest, Sha256};
@@ -24,7 +25,7 @@ fn word(bytes: &[u8], at: usize) -> u32
 
 /// The words at byte `at` of eight messages of `width` bytes each: lane `j` is from message `j`.
 #[inline(always)]
-fn words(messages: &[u8], width: usize, at: usize) -> u32x8
+pub(crate) fn words(messages: &[u8], width: usize, at: usize) -> u32x8
     requires full { length messages.now ≡ 8 * width }
     requires inside { at + 4 ≤ width }
     ensures { (j : ℕ) → j < 8 → slice_index result j ≡ word_at messages.now (j * width + at) }
@@ -41,7 +42,7 @@ fn words(messages: &[u8], width: usize, at: usize) -> u32x8
     ])
 }
 
-/// Byte `at` of message `j` followed by its padding, ahead of the eight bytes of the length.
+/// Byte `at` of padded message `j`, ahead of the eight bytes of the length.
 #[inline(always)]
 fn padded_byte(messages: &[u8], width: usize, j: usize, at: usize) -> u8
     requires full { length messages.now ≡ 8 * width }
@@ -58,8 +59,8 @@ fn padded_byte(messages: &[u8], width: usize, j: usize, at: usize) -> u8
     }
 }
 
-/// The word at byte `at` of message `j` followed by its padding, ahead of the eight bytes of the length. The message
-/// may end within the word.
+/// The word at byte `at` of padded message `j`, ahead of the eight bytes of the length. The message may end within the
+/// word.
 #[inline(always)]
 fn mixed_word(messages: &[u8], width: usize, j: usize, at: usize) -> u32
     requires full { length messages.now ≡ 8 * width }
@@ -76,8 +77,8 @@ fn mixed_word(messages: &[u8], width: usize, j: usize, at: usize) -> u32
     ])
 }
 
-/// The words at byte `at` of the eight messages, each followed by its padding, ahead of the eight bytes of the length.
-/// The messages end within these words.
+/// The words at byte `at` of the eight padded messages, ahead of the eight bytes of the length. The messages end within
+/// these words.
 fn mixed_words(messages: &[u8], width: usize, at: usize) -> u32x8
     requires full { length messages.now ≡ 8 * width }
     requires before { at + 12 ≤ 64 * ((width + 72) / 64) }
@@ -107,7 +108,7 @@ fn block_count(width: usize) -> usize
     (width + 72) / 64
 }
 
-/// Word `n` of a message of `width` bytes followed by its padding, where that word is padding alone.
+/// Word `n` of a padded message of `width` bytes, where that word is padding alone.
 fn padding_word(width: usize, n: usize) -> u32
     requires fits { width + 72 < 2 ^ 64 }
     requires behind { width ≤ 4 * n }
@@ -130,7 +131,7 @@ fn padding_word(width: usize, n: usize) -> u32
     (bits % 4_294_967_296) as u32
 }
 
-/// Word `n` of each of the eight messages followed by its padding: lane `j` is from message `j`.
+/// Word `n` of each of the eight padded messages: lane `j` is from message `j`.
 #[inline(always)]
 fn padded_words(messages: &[u8], width: usize, n: usize) -> u32x8
     requires full { length messages.now ≡ 8 * width }
@@ -148,7 +149,7 @@ fn padded_words(messages: &[u8], width: usize, n: usize) -> u32x8
     u32x8::splat(padding_word(width, n))
 }
 
-/// Block `t` of each of the eight messages followed by its padding, one message a lane.
+/// Block `t` of each of the eight padded messages, one message a lane.
 fn padded_block(messages: &[u8], width: usize, t: usize) -> [u32x8; 16]
     requires full { length messages.now ≡ 8 * width }
     requires inside { t < (width + 72) / 64 }
@@ -163,8 +164,7 @@ fn padded_block(messages: &[u8], width: usize, t: usize) -> [u32x8; 16]
     block
 }
 
-/// Block `t` of a message of `width` bytes followed by its padding, where that block is padding alone: the same in each
-/// lane.
+/// Block `t` of a padded message of `width` bytes, where that block is padding alone: the same in each lane.
 fn padding_block(width: usize, t: usize) -> [u32x8; 16]
     requires fits { width + 72 < 2 ^ 64 }
     requires behind { width ≤ 64 * t }
@@ -223,13 +223,13 @@ fn hash_states(messages: &[u8], width: usize, padding: &[u32x8; 64]) -> [u32x8; 
         compress_eight(&mut state, &padded_block(messages, width, t));
     }
     if filled_count(width) < block_count(width) {
-        compress_again(&mut state, padding);
+        compress_prepared(&mut state, padding);
     }
     state
 }
 
 /// The digest of a hash value: its words as bytes, high byte first.
-fn digest_of(words: [u32; 8]) -> [u8; 32]
+pub(crate) fn digest_of(words: [u32; 8]) -> [u8; 32]
     ensures { result ≡ digest_bytes words 8 }
 {
     let mut digest = [0u8; 32];
@@ -241,7 +241,7 @@ fn digest_of(words: [u32; 8]) -> [u8; 32]
 
 /// The hash value of message `j`: lane `j` of each vector.
 #[inline(always)]
-fn lane_words(state: &[u32x8; 8], j: usize) -> [u32; 8]
+pub(crate) fn lane_words(state: &[u32x8; 8], j: usize) -> [u32; 8]
     requires { j < 8 }
     ensures { result ≡ lane j state.now }
 {

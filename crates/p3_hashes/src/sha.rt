@@ -18,7 +18,7 @@ use std::convert::AsSlice;
 /// The length of a block of SHA-256, in bytes.
 const BLOCK: usize = 64;
 
-/// The digest of the bytes of an iterator, which it collects into blocks for the hasher.
+/// SHA-256 of the bytes that `input` yields. The hasher gets them block by block.
 fn hash_bytes<I: Iterator<Item = u8>>(input: I) -> [u8; 32]
     requires can { I.can_next input }
     requires ends { IsFinite (I.remaining input) }

@@ -4,7 +4,7 @@ pub mod LeastFacts
 pub mod GateFacts
 pub mod ArityFacts
 pub mod StepFacts
-pub mod KeptSteps
+pub mod OwnedSteps
 pub mod ExponentFacts
 pub mod MarkFacts
 pub mod WholeSteps

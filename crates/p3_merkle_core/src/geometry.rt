@@ -55,9 +55,9 @@ pub fn bits_reduced_of(max_height: usize, height: usize) -> usize
     exponent_of(max_height).saturating_sub(exponent_of(height))
 }
 
-/// The one lawful height of this exponent: `max_height` halved, and each time rounded up, until it has the exponent. It
-/// is `max_height` itself if the exponent is at least that of `max_height`, and 1 if `max_height` is 0. `max_height`
-/// must be at most [`MAX_HEIGHT`].
+/// The lawful height with this exponent, where `max_height` is the tallest: `max_height` halved, and each time rounded
+/// up, until it has the exponent. Where the exponent of `max_height` is not above `exponent`, it is `max_height`
+/// itself, but 1 for 0. `max_height` must be at most [`MAX_HEIGHT`].
 pub fn height_of_exponent(max_height: usize, exponent: usize) -> usize
     requires { max_height ≤ height_limit }
     ensures { result ≡ height_at max_height exponent }

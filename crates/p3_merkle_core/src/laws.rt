@@ -175,9 +175,14 @@ pub fn completeness<T, W>()
     ensures pruned { HonestQueryIsAccepted T W }
 {}
 
-/// An honest pruned opening restores the tree's own nodes, and for each index the siblings of its single opening. Under
-/// it the cap has each covered node of its layer. What is read from the layers of a batch's own tree is the honest
-/// opening, of one index or of several.
+/// What an honest pruned opening restores, and what is read from a tree's own layers, by clause:
+///
+/// - `nodes`: each covered node, up to the cap's layer, is restored as the tree's own node;
+/// - `paths`: the restored path of each query has the siblings of the honest opening of its index;
+/// - `in_order`: the restored paths are in query order;
+/// - `opening`, `pruned_opening`: the opening that is read from the layers of a batch's own tree is the honest one, for
+///   one index and for several;
+/// - `capped`: the tree's own layer, taken as the cap, has the restored digest of each covered node of that layer.
 pub fn restoration<T, W>()
     ensures nodes { HonestNodesAreRestored T W }
     ensures paths { HonestPathsAreRestored T W }
@@ -187,10 +192,17 @@ pub fn restoration<T, W>()
     ensures capped { HonestQueryIsCapped T W }
 {}
 
-/// What `Ok` means: for a single opening, for a pruned one whatever the cap, and for a pruned one under a cap.
+/// What a verifier's answer means, by clause:
 ///
-/// A pruned opening that restores is accepted under a cap exactly if each query is accepted with its restored path, and
-/// is refused only with `CapMismatch`. One that does not restore is refused with the same error under each cap.
+/// - `single`: a single opening is answered `Ok` exactly if it is accepted;
+/// - `pruned`: a pruned opening is answered `Ok`, whatever the cap, exactly if it restores;
+/// - `under_cap`: it is answered `Ok` under a cap exactly if it restores and the cap has each covered node of its
+///   layer;
+/// - `each_path`: it is so exactly if it restores and each query is accepted with its restored path;
+/// - `restored`: of an opening that restores, the two last conditions are one;
+/// - `refused`: an opening that does not restore is refused with the same error under each cap;
+/// - `answered`: one that restores is answered `Ok` under a cap exactly if each query is, with its restored path;
+/// - `mismatch`: one that restores is answered `Ok` or `CapMismatch`.
 pub fn answers<T, W>()
     ensures single { OkIsAccepted T W }
     ensures pruned { OkIsRestorable T W }
@@ -237,10 +249,12 @@ pub fn boundary()
     ensures held { BoundaryNodesAreHeld }
 {}
 
-/// A proof of consistency has at most `N - 1` digests for each layer below the new cap, and one more.
+/// What holds of proofs of consistency, by clause:
 ///
-/// If a new batch begins with the rows of an old one, each old node has one value in both trees, and the proof that is
-/// read from the new tree is accepted under both caps. A proof that is not refused is one that is accepted.
+/// - `short`: a proof has at most `N - 1` digests for each layer below the new cap, and one more;
+/// - `one_value`: if a new batch begins with the rows of an old one, each old node has one value in both trees;
+/// - `honest`: then the proof that is read from the new tree is accepted under both caps;
+/// - `unrefused`: a proof that is not refused is one that is accepted.
 pub fn consistency<T, W>()
     ensures short { ProofsAreShort }
     ensures one_value { OldNodesStay T W }

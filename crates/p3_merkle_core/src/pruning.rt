@@ -13,7 +13,7 @@ ghost use Rattle.p3_merkle_core.specs.Geometry.{height_limit, shape_of, IsArity}
 ghost use Rattle.p3_merkle_core.specs.Inner.Agreement.{distinct, early_refusal, layers_refusal, matrices_with};
 ghost use Rattle.p3_merkle_core.specs.Inner.Agreement.{nodes_refusal, opened_of, opened_with, rows_refusal, slot_rows};
 ghost use Rattle.p3_merkle_core.specs.Inner.Agreement.{AreDistinctOf, AreSlots, AreSorted, IsAscending};
-ghost use Rattle.p3_merkle_core.specs.Inner.Children.{levels_in, path_out_of, place_among, AreChildren, AreLinked};
+ghost use Rattle.p3_merkle_core.specs.Inner.Children.{levels_in, siblings_on_path, place_among, AreChildren, AreLinked};
 ghost use Rattle.p3_merkle_core.specs.Inner.Children.{IsFamily};
 ghost use Rattle.p3_merkle_core.specs.Refusals.{digest_count_refusal, duplicate_refusal, pruned_refusal};
 ghost use Rattle.p3_merkle_core.specs.Refusals.{queries_refusal, AnswersUnlessMemory};
@@ -183,7 +183,9 @@ fn check_repeats<T: Eq>(
     Ok(())
 }
 
-/// Checks that a slot has the same rows of some matrices, given by their positions, as the first slot under its node.
+/// Checks that `rows` and `first_rows` have the same row of each of `matrices`, which are positions in both: else
+/// `InconsistentGroupOpening` for the first that differs. `rows` is the row set of `slot`, and `first_rows` that of the
+/// first slot under the same node. `slot` is only reported.
 fn check_same_rows<T: Eq>(
     matrices: &[usize],
     slot: usize,
@@ -197,7 +199,12 @@ fn check_same_rows<T: Eq>(
 {
     for matrix in matrices {
         let matrix = *matrix;
-        if rows[matrix] != first_rows[matrix] {
+        // Rows of one word are compared in place: a call takes longer.
+        let differ = match (rows[matrix].as_slice(), first_rows[matrix].as_slice()) {
+            ([word], [first]) => *word != *first,
+            (words, first) => words != first,
+        };
+        if differ {
             return Err(PrunedProofError::InconsistentGroupOpening { slot, matrix }.into());
         }
     }
@@ -207,7 +214,7 @@ fn check_same_rows<T: Eq>(
 /// Checks that slots under one node of a layer have the same rows of the layer's matrices, which are given by their
 /// positions. Each slot is compared with the first one under its node. A node's number is an index without its lowest
 /// `bits` bits; the indices ascend.
-fn check_layer<T: Eq>(
+fn check_rows_under_nodes<T: Eq>(
     matrices: &[usize],
     indices: &[usize],
     bits: usize,
@@ -281,12 +288,12 @@ fn check_shared_rows<T: Eq>(
     let mut exponent = steps.exponent;
     // No two slots are under one leaf, so the first layer to look at is the one above the leaves.
     for level in 0..cap_layer {
-        let up = steps.up(steps.arity, level, exponent);
+        let up = steps.step_up(steps.arity, level, exponent);
         exponent = up.exponent;
         if up.has_rows {
             list_matrices(&mut matrices, steps.dimensions, exponent)?;
             let bits = steps.exponent - exponent;
-            check_layer(
+            check_rows_under_nodes(
                 &matrices,
                 &queried.indices,
                 bits,
@@ -400,9 +407,9 @@ pub fn distinct_indices(alloc: Global, indices: &[usize]) -> Result<Vec<usize>, 
 }
 
 /// The digests of all children of some parents, `step` of each, parent by parent. A covered child has its digest from
-/// `digests`, any other child the next digest of `sent`, which are digests of the proof. `covered` has the covered
-/// children in that order; `digests` one digest for each of them; `sent` enough for the others. The number of children,
-/// and `step * parent + step` for each parent, must fit `usize`. It allocates the list of children.
+/// `digests`, any other child the next of `proof_digests`. `covered` has the covered children in that order; `digests`
+/// one digest for each of them; `proof_digests` enough for the others. The number of children, and
+/// `step * parent + step` for each parent, must fit `usize`. It allocates the list of children.
 ///
 /// # Errors
 ///
@@ -413,10 +420,11 @@ pub fn children_of<X: Copy>(
     digests: &[X],
     parents: &[usize],
     step: usize,
-    sent: &[X],
+    proof_digests: &[X],
 ) -> Result<Vec<X>, AllocError>
-    requires { IsFamily step parents.now covered.now digests.now sent.now }
-    ensures { IfOk result (λ children. AreChildren step parents.now covered.now digests.now sent.now children.items) }
+    requires { IsFamily step parents.now covered.now digests.now proof_digests.now }
+    ensures { IfOk result (λ children.
+        AreChildren step parents.now covered.now digests.now proof_digests.now children.items) }
 {
     let mut children = Vec::with_capacity(alloc, step * parents.len())?;
     let mut known = 0;
@@ -427,7 +435,7 @@ pub fn children_of<X: Copy>(
                 children.push_reserved(digests[known]);
                 known += 1;
             } else {
-                children.push_reserved(sent[children.len() - known]);
+                children.push_reserved(proof_digests[children.len() - known]);
             }
         }
     }
@@ -461,7 +469,7 @@ fn place_of(nodes: &[usize], start: usize, node: usize) -> usize
 /// # Errors
 ///
 /// `AllocError` if memory runs out.
-pub fn path_out_of<X: Copy>(
+pub fn siblings_on_path<X: Copy>(
     alloc: Global,
     layers: &[CoveredLayer<'_, X>],
     places: &mut [usize],
@@ -473,7 +481,7 @@ pub fn path_out_of<X: Copy>(
     requires linked { AreLinked layers.now }
     requires covered { (x : CoveredLayer X) →
         is_among (slice_index_or layers.now 0 x).covered.nodes.items index ≡ true }
-    ensures { IfOk result (λ path. path.items ≡ path_out_of (levels_in layers.now) index) }
+    ensures { IfOk result (λ path. path.items ≡ siblings_on_path (levels_in layers.now) index) }
 {
     let mut path = Vec::with_capacity(alloc, capacity)?;
     let mut node = index;
@@ -483,8 +491,8 @@ pub fn path_out_of<X: Copy>(
         let place = place_of(&above.covered.nodes, places[level], parent);
         places[level] = place;
         let first = above.step * place;
-        let own = position_of(node, above.step);
-        extend_with_others(&mut path, &above.children[first..first + above.step], own)?;
+        let own = node - above.step * parent;
+        extend_except(&mut path, &above.children[first..first + above.step], own)?;
         node = parent;
     }
     Ok(path)
@@ -495,7 +503,7 @@ pub fn path_out_of<X: Copy>(
 /// # Errors
 ///
 /// `AllocError` if memory runs out.
-pub fn extend_with_others<X: Copy>(
+pub fn extend_except<X: Copy>(
     digests: &mut Vec<X>,
     group: &[X],
     position: usize,

@@ -241,7 +241,7 @@ pub fn check_heights(dimensions: &[Dimensions]) -> Result<(), MerkleTreeError>
 /// The steps of a tree, with its own copy of the dimensions. A tree stores them, so that no opening computes them
 /// again.
 #[derive(Debug, Drop)]
-pub struct KeptSteps {
+pub struct OwnedSteps {
     /// The dimensions of all matrices.
     pub dimensions: Vec<Dimensions>,
     /// How many children a node has at most.
@@ -255,10 +255,10 @@ pub struct KeptSteps {
     ghost walked: { IsWalk (shape_of arity dimensions.items) max_height min_height exponent num_levels of_level },
 }
 
-impl KeptSteps {
+impl OwnedSteps {
     /// Computes the steps of the tree over matrices of these dimensions, which it owns: see [`steps_of`]. The arity
     /// must be at least 2.
-    pub fn new(dimensions: Vec<Dimensions>, arity: usize) -> KeptSteps
+    pub fn new(dimensions: Vec<Dimensions>, arity: usize) -> OwnedSteps
         requires { 2 ≤ arity }
         ensures dimensions { result.dimensions.items ≡ dimensions.items }
         ensures arity { result.arity ≡ arity }
@@ -271,7 +271,7 @@ impl KeptSteps {
             of_level,
             ..
         } = steps_of(&dimensions, arity);
-        KeptSteps {
+        OwnedSteps {
             dimensions,
             arity,
             max_height,
@@ -303,11 +303,11 @@ impl KeptSteps {
     /// # Errors
     ///
     /// `AllocError` if memory runs out.
-    pub fn clone(&self) -> Result<KeptSteps, AllocError>
+    pub fn clone(&self) -> Result<OwnedSteps, AllocError>
         ensures dimensions { IfOk result (λ kept. kept.dimensions.items ≡ self.now.dimensions.items) }
         ensures arity { IfOk result (λ kept. kept.arity ≡ self.now.arity) }
     {
-        Ok(KeptSteps {
+        Ok(OwnedSteps {
             dimensions: self.dimensions.clone()?,
             arity: self.arity,
             max_height: self.max_height,
@@ -351,7 +351,7 @@ impl<'a> Steps<'a> {
     /// must be that of the layer below, so that a caller that goes up level by level does not compute it again. `arity`
     /// must be that of the steps: a caller that has it as a constant then divides by a constant. The level must be
     /// below the root.
-    pub fn up(&self, arity: usize, level: usize, exponent: usize) -> StepUp
+    pub fn step_up(&self, arity: usize, level: usize, exponent: usize) -> StepUp
         requires arity { arity ≡ self.now.arity }
         requires level { level < self.now.num_levels }
         requires exponent { exponent ≡ layer_exponent (shape_of arity self.now.dimensions.now) level }
@@ -386,7 +386,7 @@ impl<'a> Steps<'a> {
         ensures below { result.below ≡ below }
     {
         let arity = self.arity;
-        let up = self.up(arity, below, exponent);
+        let up = self.step_up(arity, below, exponent);
         // Where a bridge step halves a layer that is shorter than the arity, the 2^exponent slots that its nodes can
         // fill are grouped, and the slots after them are padding.
         let grouped_len = if self.of_level[below].is_bridge && len < arity {
@@ -413,7 +413,7 @@ impl<'a> Steps<'a> {
     {
         let mut exponent = self.exponent;
         for level in 0..layer {
-            exponent = self.up(self.arity, level, exponent).exponent;
+            exponent = self.step_up(self.arity, level, exponent).exponent;
         }
         exponent
     }
@@ -559,7 +559,9 @@ impl<'a> Covered<'a> {
         ensures rows { let s = shape_of self.old.steps.now.arity self.old.steps.now.dimensions.now in
             result.has_rows ≡ has_rows s self.new.layer }
     {
-        let up = self.steps.up(self.steps.arity, self.layer, self.exponent);
+        let up = self
+            .steps
+            .step_up(self.steps.arity, self.layer, self.exponent);
         let below = self.nodes.len();
         replace_by_parents(&mut self.nodes, up.step);
         self.layer += 1;

@@ -16,7 +16,7 @@ use std::alloc::AllocError;
 use std::marker::PhantomData;
 
 /// The longest row, in words, that is copied word by word: for so few, a call of `copy_from_slice` takes longer.
-pub const FEW_WORDS: usize = 4;
+const FEW_WORDS: usize = 4;
 
 /// How many messages of `bytes` bytes one call takes: the greatest multiple of `lanes` with at most 16384 bytes in all,
 /// but at least `lanes`. Where `bytes` or `lanes` is 0, it counts as 1.
@@ -46,20 +46,9 @@ pub struct LayerRows<'a, P: PackedValue, PW, H, M: Matrix<P::Value>, X> {
     ghost of_height: { All (λ m. M.height_of m ≡ height) matrices.now },
 }
 
-/// The number of elements in one row of all the matrices together; `AllocError` if they are 2^64 or more.
-fn row_len<T: Copy, M: Matrix<T>>(matrices: &[M]) -> Result<usize, AllocError>
-    ensures { IfOk result (λ len. len ≡ sum_by M.width_of matrices.now) }
-{
-    let mut len = 0usize;
-    for matrix in matrices {
-        len = len.checked_add(matrix.width()).ok_or(AllocError)?;
-    }
-    Ok(len)
-}
-
 /// Copies row `row` of a matrix into `place`, which has as many words as the row: piece by piece, or word by word where
 /// there is no piece or the row has at most [`FEW_WORDS`].
-fn put_row<T: Copy, M: Matrix<T>>(place: &mut [T], matrix: &M, row: usize)
+fn copy_row<T: Copy, M: Matrix<T>>(place: &mut [T], matrix: &M, row: usize)
     requires row { row < M.height_of matrix.now }
     requires place { length place.old ≡ M.width_of matrix.now }
     ensures { place.new ≡ M.row_of matrix.now row }
@@ -81,7 +70,7 @@ fn put_row<T: Copy, M: Matrix<T>>(place: &mut [T], matrix: &M, row: usize)
 /// The words of `count` rows from `first` on, one row after another, where a row is the row of each matrix, in order.
 /// They are borrowed from the matrix if there is only one and it stores them in one piece, else copied into `staged`.
 /// All matrices have this height, a row has `len` words in all, and `first + count` is at most the height.
-fn words_of_rows<'b, T: Copy + Default, M: Matrix<T>>(
+fn contiguous_rows<'b, T: Copy + Default, M: Matrix<T>>(
     staged: &'b mut Vec<T>,
     matrices: &'b [M],
     height: usize,
@@ -109,7 +98,7 @@ fn words_of_rows<'b, T: Copy + Default, M: Matrix<T>>(
     for j in 0..count {
         for matrix in matrices {
             let end = start + matrix.width();
-            put_row(&mut place[start..end], matrix, first + j);
+            copy_row(&mut place[start..end], matrix, first + j);
             start = end;
         }
     }
@@ -124,8 +113,8 @@ impl<
     M: Matrix<P::Value>,
     const D: usize,
 > LayerRows<'a, P, PW, H, M, [PW::Value; D]> {
-    /// Writes the digest of row `first + j` into each slot `j`, as many rows per call as [`messages_per_call`] says.
-    /// There must be at most as many slots as rows from `first` on. `staged` is a buffer for rows.
+    /// Writes the digest of row `first + j` into each slot `j`, at most as many rows per call as [`messages_per_call`]
+    /// says. There must be at most as many slots as rows from `first` on. `staged` is a buffer for rows.
     ///
     /// # Errors
     ///
@@ -145,13 +134,20 @@ impl<
         if slots.is_empty() {
             return Ok(());
         }
-        let len = row_len(self.matrices)?;
+        let mut len = 0usize;
+        for matrix in self.matrices {
+            len = len.checked_add(matrix.width()).ok_or(AllocError)?;
+        }
         let bytes = len.saturating_mul(std::mem::size_of_val(&P::Value::default()));
-        let rows = messages_per_call(bytes, H::LANES);
+        // Rows that lie apart are hashed one by one where they lie, if the hasher takes one message at a time.
+        let rows = match self.matrices {
+            [matrix] if H::LANES == 1 && matrix.piece(first, 0).len() / 2 < len => 1,
+            _ => messages_per_call(bytes, H::LANES),
+        };
         let mut done = 0;
         while done < slots.len() {
             let count = rows.min(slots.len() - done);
-            let words = words_of_rows(
+            let words = contiguous_rows(
                 staged,
                 self.matrices,
                 self.height,
@@ -159,7 +155,11 @@ impl<
                 first + done,
                 count,
             )?;
-            self.hash.hash_many(words, &mut slots[done..done + count]);
+            if count == 1 {
+                slots[done] = self.hash.hash_slice(words);
+            } else {
+                self.hash.hash_many(words, &mut slots[done..done + count]);
+            }
             done += count;
         }
         Ok(())
@@ -263,9 +263,11 @@ fn stage_pairs<W: Copy, const N: usize, const D: usize>(
     Ok(())
 }
 
-/// Compresses the digest in each slot `j`, that of a node's children, with `rows[j]`, the digest of its rows, followed
-/// by default digests, and writes the result into the slot. One call takes as many groups as [`messages_per_call`]
-/// says. There must be at most as many rows as slots, and `N` must be at least 2. `pairs` is a buffer for the groups.
+/// Injects rows into nodes. `slots[j]` has the digest of the children of node `j`, and `rows[j]` the digest of the
+/// node's rows; `slots[j]` becomes the compression of both, followed by default digests, for each `j` below
+/// `rows.len()`. There must be at most as many rows as slots, and `N` must be at least 2.
+///
+/// One call takes as many groups as [`messages_per_call`] says. `pairs` is a buffer for them.
 ///
 /// # Errors
 ///

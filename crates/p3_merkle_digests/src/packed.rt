@@ -83,10 +83,12 @@ impl<
         blocks * PW::WIDTH
     }
 
-    /// Writes the digest of row `first + j` into each slot `j`: in batches if the hasher takes several messages at a
-    /// time, else lane by lane as far as the rows fill all lanes, and the rest in batches. All slots must have default
-    /// digests, and those past the height keep them. Both packings must have equally many lanes. `staged` is a buffer
-    /// for rows: a caller that reuses it for all layers seldom allocates.
+    /// Writes the digest of row `first + j` into slot `j`, for each of these rows that the layer has. All slots must
+    /// have default digests before; those without a row keep them. Both packings must have equally many lanes.
+    ///
+    /// If the hasher takes several messages at a time, [`write_batched`](Self::write_batched) hashes all rows. Else the
+    /// first rows are hashed lane by lane, as far as they fill all lanes, and `write_batched` hashes the rest. `staged`
+    /// is a buffer for rows: a caller that reuses it for all layers seldom allocates.
     ///
     /// # Errors
     ///

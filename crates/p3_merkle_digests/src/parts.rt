@@ -121,7 +121,7 @@ fn nodes_of_parts<
 /// each; `PartHeight` for the first part that has another height than it may have; `TooLarge` if the heights add up to
 /// more than 2^62; `CapTooShort` for the first part whose cap has fewer digests than its layer has nodes. `OutOfMemory`
 /// may come at any time.
-pub fn digests_of_whole<
+pub fn cap_digests_from_parts<
     F,
     PW: PackedValue,
     C: PseudoCompressionFunction<PW, N, D>,

@@ -56,3 +56,9 @@ module _ {A : Type 0} where
   pub nothing_drawn : (P : Type 0) (r : Result A MerkleTreeError) → IsErr r → OnOk r P
   nothing_drawn P (Ok v) err = absurd cc
   nothing_drawn P (Err e) err = tt
+
+  -- what two facts of what is made say together
+  pub both_made : (P Q R : A → Type 0) (r : Result A MerkleTreeError) → ((made : A) → P made → Q made → R made) →
+      IfOk r P → IfOk r Q → IfOk r R
+  both_made P Q R (Ok v) both first second = both v first second
+  both_made P Q R (Err e) both first second = tt

@@ -2,16 +2,10 @@
 use Rattle.std.proofs.Common.{◌≡◌, ℕ, List, Result, None, inl, inr, map, subst, sym}
 use Rattle.std.specs.Prelude.{Ok, Err, IfErr, IfOk}
 use Rattle.p3_merkle_core.specs.Refusals.{AnswersUnlessMemory}
-use Rattle.p3_merkle_core.specs.Commitments.{IsCommitment}
 use Rattle.p3_support.specs.Batches.{heights_of}
 use Rattle.p3_merkle_core.specs.Views.{matrix_of}
 use Rattle.p3_merkle_core.specs.Gate.{gate_refusal}
-use Rattle.p3_merkle_core.specs.Geometry.{Shape}
-use Rattle.p3_merkle_core.specs.Checks.{Params}
-use Rattle.p3_support.specs.declared.matrix.Matrix.{Ghosts}
-use Rattle.p3_support.specs.declared.pair.HorizontalPair.{HorizontalPair}
-use Rattle.p3_merkle_hiding.specs.SaltedTrees.{HaveSaltColumns}
-use Rattle.p3_merkle_core.specs.Nodes.{Batch, dimensions_of, shape}
+use Rattle.p3_merkle_core.specs.Nodes.{dimensions_of}
 use Rattle.p3_merkle_core.specs.declared.error.MerkleTreeError.{MerkleTreeError}
 use Rattle.p3_merkle_core.specs.declared.error.MerkleTreeError.TheVariants.{OutOfMemory}
 use Rattle.p3_merkle_core.proofs.Shapes.GateFacts.{gate_lawful}
@@ -19,7 +13,7 @@ use Rattle.p3_merkle_core.proofs.Pruned.NoneFacts.{none_of_both, none_parts}
 use Rattle.p3_merkle_core.proofs.Lists.ViewFacts.{dimensions_are}
 use Rattle.p3_merkle_hiding.proofs.SaltFacts.{widening}
 use Rattle.p3_merkle_hiding.specs.SaltRefusals.{salted_commit_refusal, widening_refusal}
-use Rattle.p3_merkle_hiding.specs.SaltedCommitments.{CanCommitSalted, IsSaltedCommitment}
+use Rattle.p3_merkle_hiding.specs.SaltedCommitments.{CanCommitSalted}
 use Rattle.p3_merkle_hiding.specs.SaltedOpenings.{CanWiden}
 
 module _ {T M : Type 0} (height width : M → ℕ) (row : M → ℕ → List T) (e : ℕ) (ms : List M) where
@@ -55,18 +49,3 @@ module _ {T M : Type 0} (height width : M → ℕ) (row : M → ℕ → List T) 
   memory_when_can (Ok made) answer w = tt
   memory_when_can (Err x) (inl memory) w = memory
   memory_when_can (Err x) (inr refused) w = let none = when_none w in absurd cc
-
--- a tree over salted matrices, which have so many salts a row, belongs to its cap
-pub is_salted_commitment : {M T W A B : Type 0} {a : Ghosts A T} {b : Ghosts B T} (r : Result M MerkleTreeError)
-    (cap : M → List (List W)) (own : M → List (List (List W))) (over : M → Batch T) (pairs : M →
-    List (HorizontalPair T A B a b)) (e : ℕ)
-    (c : Shape → Params T W) (salted : Batch T) (s : Shape) → shape salted ≡ s →
-    IfOk r (λ made. HaveSaltColumns e (pairs made)) → IfOk r (λ made. over made ≡ salted) →
-    IfOk r (λ made. IsCommitment (c s) (cap made) salted (own made)) →
-    IfOk r (λ made. IsSaltedCommitment e (c (shape (over made))) (cap made) (over made) (own made) (pairs made))
-is_salted_commitment (Ok made) cap own over pairs e c salted s wide columns is committed = record {
-  committed = subst (λ z. IsCommitment (c (shape z)) (cap made) z (own made)) (sym is)
-      (subst (λ z. IsCommitment (c z) (cap made) salted (own made)) (sym wide) committed);
-  columns = columns;
-}
-is_salted_commitment (Err x) cap own over pairs e c salted s wide columns is committed = tt

@@ -18,8 +18,8 @@ use Rattle.p3_merkle_core.specs.declared.cap.CapRule.TheVariants.{Lowered}
 use Rattle.p3_merkle_core.specs.declared.collision.InputPair.{InputPair}
 use Rattle.p3_merkle_core.specs.declared.error.MerkleTreeError.{MerkleTreeError}
 use Rattle.p3_merkle_hiding.specs.SaltedExtraction.{AgreeWhereAuthenticated, ConflictAt, ConflictSomewhere}
-use Rattle.p3_merkle_hiding.specs.SaltedExtraction.{ConflictWhereAuthenticated, EachSaltedPair, SomeSaltedPair, row_in}
-use Rattle.p3_merkle_hiding.specs.SaltedExtraction.{salted_opening_at, salts_in}
+use Rattle.p3_merkle_hiding.specs.SaltedExtraction.{ConflictWhereAuthenticated, IsSaltedExtraction, row_in}
+use Rattle.p3_merkle_hiding.specs.SaltedExtraction.{IsSaltedPrunedExtraction, salted_opening_at, salts_in}
 use Rattle.p3_merkle_hiding.specs.SaltedOpenings.{HaveSalts, IsSaltedPrunedAccepted, SaltedOpening, SaltedPruned}
 use Rattle.p3_merkle_hiding.specs.SaltedOpenings.{joined, joined_sets, salted_of}
 use Rattle.p3_merkle_hiding.specs.SaltedPresented.{presented_salted, presented_salted_pruned}
@@ -167,25 +167,6 @@ module _ {T W : Type 0} (eq : T → T → Bool) (same : W → W → Bool) (rule 
 
 -- ---- what is found, as the calls return it
 
--- of two openings of one index each
-pub record ToldOfTwo {T W V : Type 0} (rule : CapRule) (c : Params T W) (o u : SaltedOpening T W)
-    (r : Result (Option V) MerkleTreeError) : Type 0 where
-  pub one_index : o.index ≡ u.index → IfOk r (λ found. IsNone found ↔ AgreeWhereAuthenticated c o u)
-  pub two_ways : ConflictWhereAuthenticated c o u → IfOk r (λ found. IsSome found)
-  pub lowered_one_index : rule ≡ Lowered → o.index ≡ u.index → IfOk r (λ found. IsNone found ↔ (o ≡ u))
-  pub lowered_two_ways : rule ≡ Lowered → ConflictSomewhere c o u → IfOk r (λ found. IsSome found)
-
--- of two openings of several indices
-pub record ToldOfAll {T W V : Type 0} (rule : CapRule) (c : Params T W) (p q : SaltedPruned T W)
-    (r : Result (Option V) MerkleTreeError) : Type 0 where
-  pub one_index : EachSaltedPair c p q (λ o u. o.index ≡ u.index) →
-      IfOk r (λ found. IsNone found ↔ EachSaltedPair c p q (AgreeWhereAuthenticated c))
-  pub two_ways : SomeSaltedPair c p q (ConflictWhereAuthenticated c) → IfOk r (λ found. IsSome found)
-  pub lowered_one_index : rule ≡ Lowered → EachSaltedPair c p q (λ o u. o.index ≡ u.index) →
-      IfOk r (λ found. IsNone found ↔ EachSaltedPair c p q (λ o u. o ≡ u))
-  pub lowered_two_ways : rule ≡ Lowered → SomeSaltedPair c p q (ConflictSomewhere c) →
-      IfOk r (λ found. IsSome found)
-
 some_shown : {V U : Type 0} (view : V → U) (r : Result (Option V) MerkleTreeError) →
     IfOk (result_map_both (λ found. option_map view found) (λ e. e) r) (λ found. IsSome found) →
     IfOk r (λ found. IsSome found)
@@ -225,9 +206,10 @@ module _ {T W : Type 0} (eq : T → T → Bool) (same : W → W → Bool) (rule 
         ((a b : ℕ) → a < 1 → b < 1 → Holds o u) ↔ Holds o u
     alone Holds = (λ each. each 0 0 (omega arith) (omega arith), λ holds a b h g. holds)
 
-    pub salted_told : ToldOfTwo rule c o u r
+    pub salted_told : IsSaltedExtraction eq same rule e ds c cap o u r
     salted_told =
         record {
+          extraction = extracted;
           one_index = λ one. both_meant _ _ r (alone (AgreeWhereAuthenticated c))
               (none_shown shown _ r (told.one_index (λ a b h g. one)));
           two_ways = λ conflict. some_shown shown r (told.two_ways (0, 0, omega arith, omega arith, conflict));
@@ -264,9 +246,10 @@ module _ {T W : Type 0} (eq : T → T → Bool) (same : W → W → Bool) (rule 
         (presented_salted_pruned eq same e ds c cap q) (salted_opening_at c p) (salted_opening_at c q) (sets_joined p)
         (sets_joined q) (found_pair r) extracted
 
-    pub salted_pruned_told : ToldOfAll rule c p q r
+    pub salted_pruned_told : IsSaltedPrunedExtraction eq same rule e ds c cap p q r
     salted_pruned_told =
         record {
+          extraction = extracted;
           one_index = λ each. none_shown shown_pair _ r (told_of_all.one_index each);
           two_ways = λ some. some_shown shown_pair r (told_of_all.two_ways some);
           lowered_one_index = λ lowered each. none_shown shown_pair _ r (told_of_all.lowered_one_index lowered each);

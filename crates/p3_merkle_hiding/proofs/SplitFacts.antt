@@ -18,7 +18,7 @@ use Rattle.p3_merkle_core.specs.Openings.{honest_rows, opening_of}
 use Rattle.p3_merkle_core.specs.Checks.{IsAccepted, Params}
 use Rattle.p3_merkle_prover.proofs.RowFacts.{row_inside}
 use Rattle.p3_merkle_hiding.specs.SaltedOpenings.{CanWiden, HaveSalts, IsSaltedAccepted, IsSaltedPrunedAccepted}
-use Rattle.p3_merkle_hiding.specs.SaltedOpenings.{salted_of, salted_pruned_of, salted_rows, salted_sets}
+use Rattle.p3_merkle_hiding.specs.SaltedOpenings.{SaltedOpening, SaltedPruned, salted_rows, salted_sets}
 use Rattle.p3_merkle_hiding.specs.Inner.SaltedParts.{salt_parts, unsalted_parts, pair_matrix}
 use Rattle.p3_merkle_hiding.specs.SaltedOpenings.{widened}
 use Rattle.p3_merkle_hiding.specs.SaltedTrees.{HaveSaltColumns, left_batch, right_batch}
@@ -220,23 +220,24 @@ module _ {T A B : Type 0} {a : Ghosts A T} {b : Ghosts B T} where
     }
 
     -- an accepted opening of pairs is accepted as its rows and salts
-    pub salted_from : {W : Type 0} (params : List Dimensions → Params T W) (cap : Params T W → List (List W)) (e i : ℕ)
-        (siblings : List (List W)) → i < greatest (heights (shape (pair_batch n pairs))) → HaveSaltColumns e pairs →
-        (let c = params (dimensions_of (map pair_matrix pairs)) in
-        IsAccepted c (cap c) (opening_of i (honest_rows (pair_batch n pairs) i) siblings)) →
-        let c = params (widened e (unsalted_dimensions n pairs)) in
-        IsSaltedAccepted e (unsalted_dimensions n pairs) c (cap c)
-        (salted_of i (honest_rows (left_batch n pairs) i) (honest_rows (right_batch n pairs) i) siblings)
-    salted_from {W} params cap e i siblings below w accepted =
-        let c = params (widened e (unsalted_dimensions n pairs)) in
+    pub salted_from : {W : Type 0} (params : List Dimensions → Params T W) (cap : List (List W)) (e : ℕ)
+        (o : SaltedOpening T W) → o.index < greatest (heights (shape (pair_batch n pairs))) → HaveSaltColumns e pairs →
+        o.rows ≡ honest_rows (left_batch n pairs) o.index → o.salts ≡ honest_rows (right_batch n pairs) o.index →
+        IsAccepted (params (dimensions_of (map pair_matrix pairs))) cap
+        (opening_of o.index (honest_rows (pair_batch n pairs) o.index) o.siblings) →
+        IsSaltedAccepted e (unsalted_dimensions n pairs) (params (widened e (unsalted_dimensions n pairs))) cap o
+    salted_from params cap e o below w rows salts accepted =
+        let i = o.index in
+        let ds = unsalted_dimensions n pairs in
         record {
-          salted = are_salted i below;
+          salted = subst (λ (x : List (List T) × List (List T)). HaveSalts ds x.0 x.1)
+              (λ k. (sym rows k, sym salts k)) (are_salted i below);
           can_widen = wide_fits n e pairs w;
           accepted =
-              subst (λ (rs : List (List T)). IsAccepted c (cap c) (opening_of i rs siblings)) (sym (both_are i below))
-              (subst (λ (ds : List Dimensions).
-              IsAccepted (params ds) (cap (params ds)) (opening_of i (honest_rows (pair_batch n pairs) i) siblings))
-              (wide_is n e pairs w) accepted);
+              subst (λ (rs : List (List T)). IsAccepted (params (widened e ds)) cap (opening_of i rs o.siblings))
+              (sym (both_are i below) ∙ (λ k. salted_rows (sym rows k) (sym salts k)))
+              (subst (λ (ds : List Dimensions). IsAccepted (params ds) cap
+              (opening_of i (honest_rows (pair_batch n pairs) i) o.siblings)) (wide_is n e pairs w) accepted);
         }
 
     -- the same of several indices
@@ -268,25 +269,26 @@ module _ {T A B : Type 0} {a : Ghosts A T} {b : Ghosts B T} where
     sets_are_salted (i ∷ is) below =
         (are_salted i (below 0 i (omega arith)), sets_are_salted is (λ k d h. below (suc k) d (omega arith)))
 
-    pub salted_pruned_from : {W : Type 0} (params : List Dimensions → Params T W) (cap : Params T W → List (List W))
-        (e : ℕ) (is : List ℕ) (digests : List (List W)) →
-        All (λ i. i < greatest (heights (shape (pair_batch n pairs)))) is → HaveSaltColumns e pairs →
-        (let c = params (dimensions_of (map pair_matrix pairs)) in
-        IsPrunedAccepted c (cap c) (pruned_of is (map (honest_rows (pair_batch n pairs)) is) digests)) →
-        let c = params (widened e (unsalted_dimensions n pairs)) in
-        IsSaltedPrunedAccepted e (unsalted_dimensions n pairs) c (cap c)
-        (salted_pruned_of is (map (honest_rows (left_batch n pairs)) is)
-        (map (honest_rows (right_batch n pairs)) is) digests)
-    salted_pruned_from {W} params cap e is digests below w accepted =
-        let c = params (widened e (unsalted_dimensions n pairs)) in
+    pub salted_pruned_from : {W : Type 0} (params : List Dimensions → Params T W) (cap : List (List W)) (e : ℕ)
+        (o : SaltedPruned T W) → All (λ i. i < greatest (heights (shape (pair_batch n pairs)))) o.indices →
+        HaveSaltColumns e pairs → o.rows ≡ map (honest_rows (left_batch n pairs)) o.indices → o.salts
+        ≡ map (honest_rows (right_batch n pairs)) o.indices →
+        IsPrunedAccepted (params (dimensions_of (map pair_matrix pairs))) cap
+        (pruned_of o.indices (map (honest_rows (pair_batch n pairs)) o.indices) o.digests) →
+        IsSaltedPrunedAccepted e (unsalted_dimensions n pairs) (params (widened e (unsalted_dimensions n pairs))) cap o
+    salted_pruned_from params cap e o below w rows salts accepted =
+        let is = o.indices in
+        let ds = unsalted_dimensions n pairs in
         record {
-          in_pairs = length-map is (honest_rows (right_batch n pairs))
-              ∙ sym (length-map is (honest_rows (left_batch n pairs)));
-          salted = sets_are_salted is below;
+          in_pairs = ap length salts ∙ length-map is (honest_rows (right_batch n pairs))
+              ∙ sym (ap length rows ∙ length-map is (honest_rows (left_batch n pairs)));
+          salted = subst (λ (x : List (List (List T)) × List (List (List T))). AllZip (HaveSalts ds) x.0 x.1)
+              (λ k. (sym rows k, sym salts k)) (sets_are_salted is below);
           can_widen = wide_fits n e pairs w;
           accepted =
-              subst (λ (rs : List (List (List T))). IsPrunedAccepted c (cap c) (pruned_of is rs digests))
-              (sym (both_sets_are is below))
-              (subst (λ (ds : List Dimensions). IsPrunedAccepted (params ds) (cap (params ds))
-              (pruned_of is (map (honest_rows (pair_batch n pairs)) is) digests)) (wide_is n e pairs w) accepted);
+              subst (λ (rs : List (List (List T))). IsPrunedAccepted (params (widened e ds)) cap
+              (pruned_of is rs o.digests))
+              (sym (both_sets_are is below) ∙ (λ k. salted_sets (sym rows k) (sym salts k)))
+              (subst (λ (ds : List Dimensions). IsPrunedAccepted (params ds) cap
+              (pruned_of is (map (honest_rows (pair_batch n pairs)) is) o.digests)) (wide_is n e pairs w) accepted);
         }

@@ -4,17 +4,17 @@ ghost use Rattle.std.specs.Prelude.{◌≡◌, ◌≤◌, ◌⊎◌, IfErr, IfOk
 ghost use Rattle.p3_support.specs.Batches.{dimensions_in, heights_of};
 ghost use Rattle.p3_merkle_core.specs.Geometry.{IsLawful};
 ghost use Rattle.p3_merkle_core.specs.Refusals.{AnswersUnlessMemory};
-ghost use Rattle.p3_merkle_core.specs.Commitments.{IsCommitment};
 ghost use Rattle.p3_merkle_core.specs.Views.{batch_of, matrix_of};
-ghost use Rattle.p3_merkle_prover.specs.Parts.{layers_of, matrices_of, tree_batch};
-ghost use Rattle.p3_merkle_core.specs.Nodes.{dimensions_of, shape};
+ghost use Rattle.p3_merkle_prover.specs.Parts.{matrices_of, tree_batch};
+ghost use Rattle.p3_merkle_core.specs.Nodes.{shape};
 ghost use Rattle.p3_merkle_core.specs.declared.error.MerkleTreeError.TheVariants.{OutOfMemory};
 ghost use Rattle.p3_support.specs.Pairs.{left_of};
 ghost use Rattle.p3_support.specs.Shown.{roots_of};
-ghost use Rattle.p3_merkle_hiding.specs.HidingSchemes.{generator_of, plain_of, salted_params_of};
+ghost use Rattle.p3_merkle_hiding.specs.HidingSchemes.{generator_of};
 ghost use Rattle.p3_merkle_hiding.specs.Salted.{after_salts, salted_batch, salted_matrices, IsAfterSome};
 ghost use Rattle.p3_merkle_hiding.specs.SaltRefusals.{salted_commit_refusal};
 ghost use Rattle.p3_merkle_hiding.specs.SaltedOpenings.{widened, CanWiden};
+ghost use Rattle.p3_merkle_hiding.specs.SaltedOpened.{CommitsSalted, Draws};
 ghost use Rattle.p3_merkle_hiding.specs.SaltedTrees.{HaveSaltColumns};
 ghost use Rattle.p3_merkle_hiding.specs.Inner.SaltedParts.{pair_matrix};
 
@@ -74,22 +74,13 @@ where
         ensures answer { let b = batch_of M.height_of M.width_of M.row_of N matrices.items in
             AnswersUnlessMemory result (salted_commit_refusal SALT_ELEMS (shape b).dimensions) }
         ensures matrices { IfOk result (λ (cap, tree). map left_of (matrices_of tree) ≡ matrices.items) }
-        ensures columns { IfOk result (λ (cap, tree). HaveSaltColumns SALT_ELEMS (matrices_of tree)) }
         ensures batch { let b = batch_of M.height_of M.width_of M.row_of N matrices.items in
             let drawn = R.stream (generator_of self.old) in
             IfOk result (λ (cap, tree). tree_batch tree ≡ salted_batch P.Value.of_salt_word SALT_ELEMS b drawn) }
-        ensures committed { let b = batch_of M.height_of M.width_of M.row_of N matrices.items in
-            let c = salted_params_of H.hash C.compression D self.old (dimensions_of b.matrices) in
-            let salted = salted_batch P.Value.of_salt_word SALT_ELEMS b (R.stream (generator_of self.old)) in
-            IfOk result (λ (cap, tree). IsCommitment c (roots_of cap) salted (layers_of tree)) }
-        ensures rest { let b = batch_of M.height_of M.width_of M.row_of N matrices.items in
-            let drawn = R.stream (generator_of self.old) in
-            OnOk result (R.stream (generator_of self.new) ≡ after_salts SALT_ELEMS b.matrices drawn) }
-        ensures further { let b = batch_of M.height_of M.width_of M.row_of N matrices.items in
-            let drawn = R.stream (generator_of self.old) in
-            IsAfterSome SALT_ELEMS b.matrices drawn (R.stream (generator_of self.new)) }
+        ensures committed { IfOk result (λ (cap, tree). CommitsSalted self.new (roots_of cap) tree) }
+        ensures drawn { let b = batch_of M.height_of M.width_of M.row_of N matrices.items in
+            Draws R.stream b.matrices self.old self.new result }
         ensures untouched { IfErr result (λ e. (e ≡ OutOfMemory) ⊎ (generator_of self.new ≡ generator_of self.old)) }
-        ensures scheme { plain_of self.new ≡ plain_of self.old }
     {
         let dimensions = salted_dimensions(alloc, &matrices, SALT_ELEMS)?;
         let pairs = salted_pairs(alloc, &mut self.generator, dimensions, SALT_ELEMS, matrices)?;

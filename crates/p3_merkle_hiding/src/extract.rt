@@ -1,15 +1,10 @@
 //! Extraction of collisions from two salted openings of one cap.
 
-ghost use Rattle.std.specs.Prelude.{◌≡◌, ◌↔◌, IfOk, IsNone, IsSome};
-ghost use Rattle.p3_merkle_core.specs.Extraction.{IsExtraction};
-ghost use Rattle.p3_merkle_core.specs.Views.{found_alone, found_pair};
-ghost use Rattle.p3_merkle_core.specs.declared.cap.CapRule.TheVariants.{Lowered};
 ghost use Rattle.p3_merkle_mmcs.specs.Schemes.{cap_rule_of};
 ghost use Rattle.p3_support.specs.Shown.{roots_of};
-ghost use Rattle.p3_merkle_hiding.specs.HidingSchemes.{plain_of, salted_lent, salted_pruned_lent, salted_params_of};
-ghost use Rattle.p3_merkle_hiding.specs.SaltedExtraction.{AgreeWhereAuthenticated, ConflictSomewhere};
-ghost use Rattle.p3_merkle_hiding.specs.SaltedExtraction.{ConflictWhereAuthenticated, EachSaltedPair, SomeSaltedPair};
-ghost use Rattle.p3_merkle_hiding.specs.SaltedPresented.{presented_salted, presented_salted_pruned};
+ghost use Rattle.p3_merkle_hiding.specs.HidingSchemes.{plain_of, salted_borrowed, salted_params_of};
+ghost use Rattle.p3_merkle_hiding.specs.HidingSchemes.{salted_pruned_borrowed};
+ghost use Rattle.p3_merkle_hiding.specs.SaltedExtraction.{IsSaltedExtraction, IsSaltedPrunedExtraction};
 
 use crate::hiding_mmcs::{MerkleTreeHidingMmcs, SaltedMultiProof, SaltedProof};
 use crate::join::{salted_rows, salted_sets};
@@ -55,37 +50,9 @@ impl<
         index2: usize,
         second: BatchOpeningRef<'_, P::Value, SaltedProof<P::Value, PW::Value, D>>,
     ) -> Result<Option<Collision<P::Value, PW::Value, D>>, MerkleTreeError>
-        ensures extraction { let c = salted_params_of H.hash C.compression D self.now dimensions.now in
-            let presented = presented_salted PW.Value.eq SALT_ELEMS dimensions.now c (roots_of commit.now) in
-            let first = presented (salted_lent index1 first.entry) in
-            let second = presented (salted_lent index2 second.entry) in
-            IsExtraction P.Value.eq PW.Value.eq (cap_rule_of (plain_of self.now)) c first second (found_alone result) }
-
-        // At one index nothing is found exactly where the siblings, and the rows and salts of authenticated matrices,
-        // are the same.
-        ensures one_index { let c = salted_params_of H.hash C.compression D self.now dimensions.now in
-            let o = salted_lent index1 first.entry in
-            let u = salted_lent index2 second.entry in
-            index1 ≡ index2 → IfOk result (λ found. IsNone found ↔ AgreeWhereAuthenticated c o u) }
-
-        // At any indices something is found where one row of an authenticated matrix, or its salts, are answered in two
-        // ways.
-        ensures two_ways { let c = salted_params_of H.hash C.compression D self.now dimensions.now in
-            let o = salted_lent index1 first.entry in
-            let u = salted_lent index2 second.entry in
-            ConflictWhereAuthenticated c o u → IfOk result (λ found. IsSome found) }
-
-        // Under the lowered rule, at one index nothing is found exactly where rows, salts and siblings are the same.
-        ensures lowered_one_index { cap_rule_of (plain_of self.now) ≡ Lowered → index1 ≡ index2 →
-            IfOk result (λ found. IsNone found ↔ (salted_lent index1 first.entry ≡ salted_lent index2 second.entry)) }
-
-        // Under the lowered rule, at any indices something is found where one row of any matrix, or its salts, are
-        // answered in two ways.
-        ensures lowered_two_ways { let c = salted_params_of H.hash C.compression D self.now dimensions.now in
-            let o = salted_lent index1 first.entry in
-            let u = salted_lent index2 second.entry in
-            cap_rule_of (plain_of self.now) ≡ Lowered → ConflictSomewhere c o u →
-            IfOk result (λ found. IsSome found) }
+        ensures { let extracts = IsSaltedExtraction P.Value.eq PW.Value.eq (cap_rule_of (plain_of self.now)) SALT_ELEMS
+            dimensions.now (salted_params_of self.now dimensions.now) (roots_of commit.now) in
+            extracts (salted_borrowed index1 first.entry) (salted_borrowed index2 second.entry) result }
     {
         let (rows1, (salts1, siblings1)) = first.unpack();
         let salted1 = salted_rows(alloc, dimensions, SALT_ELEMS, rows1, salts1)?;
@@ -142,42 +109,10 @@ impl<
         rows2: &[Vec<Vec<P::Value>>],
         proof2: &SaltedMultiProof<P::Value, PW::Value, D>,
     ) -> Result<Option<(usize, usize, Collision<P::Value, PW::Value, D>)>, MerkleTreeError>
-        ensures extraction { let c = salted_params_of H.hash C.compression D self.now dimensions.now in
-            let presented = presented_salted_pruned P.Value.eq PW.Value.eq SALT_ELEMS dimensions.now c
-            (roots_of commit.now) in
-            let first = presented (salted_pruned_lent indices1.now rows1.now proof1.now) in
-            let second = presented (salted_pruned_lent indices2.now rows2.now proof2.now) in
-            IsExtraction P.Value.eq PW.Value.eq (cap_rule_of (plain_of self.now)) c first second (found_pair result) }
-
-        // Of queries of one index nothing is found exactly where the siblings, and the rows and salts of authenticated
-        // matrices, are the same.
-        ensures one_index { let c = salted_params_of H.hash C.compression D self.now dimensions.now in
-            let p = salted_pruned_lent indices1.now rows1.now proof1.now in
-            let q = salted_pruned_lent indices2.now rows2.now proof2.now in
-            EachSaltedPair c p q (λ o u. o.index ≡ u.index) →
-            IfOk result (λ found. IsNone found ↔ EachSaltedPair c p q (AgreeWhereAuthenticated c)) }
-
-        // Something is found where two queries answer one row of an authenticated matrix, or its salts, in two ways.
-        ensures two_ways { let c = salted_params_of H.hash C.compression D self.now dimensions.now in
-            let p = salted_pruned_lent indices1.now rows1.now proof1.now in
-            let q = salted_pruned_lent indices2.now rows2.now proof2.now in
-            SomeSaltedPair c p q (ConflictWhereAuthenticated c) → IfOk result (λ found. IsSome found) }
-
-        // Under the lowered rule, of queries of one index nothing is found exactly where rows, salts and siblings are
-        // the same.
-        ensures lowered_one_index { let c = salted_params_of H.hash C.compression D self.now dimensions.now in
-            let p = salted_pruned_lent indices1.now rows1.now proof1.now in
-            let q = salted_pruned_lent indices2.now rows2.now proof2.now in
-            cap_rule_of (plain_of self.now) ≡ Lowered → EachSaltedPair c p q (λ o u. o.index ≡ u.index) →
-            IfOk result (λ found. IsNone found ↔ EachSaltedPair c p q (λ o u. o ≡ u)) }
-
-        // Under the lowered rule, something is found where two queries answer one row of any matrix, or its salts, in
-        // two ways.
-        ensures lowered_two_ways { let c = salted_params_of H.hash C.compression D self.now dimensions.now in
-            let p = salted_pruned_lent indices1.now rows1.now proof1.now in
-            let q = salted_pruned_lent indices2.now rows2.now proof2.now in
-            cap_rule_of (plain_of self.now) ≡ Lowered → SomeSaltedPair c p q (ConflictSomewhere c) →
-            IfOk result (λ found. IsSome found) }
+        ensures { let extracts = IsSaltedPrunedExtraction P.Value.eq PW.Value.eq (cap_rule_of (plain_of self.now))
+            SALT_ELEMS dimensions.now (salted_params_of self.now dimensions.now) (roots_of commit.now) in
+            extracts (salted_pruned_borrowed indices1.now rows1.now proof1.now)
+            (salted_pruned_borrowed indices2.now rows2.now proof2.now) result }
     {
         let (salts1, pruned1) = proof1;
         let salted1 = salted_sets(alloc, dimensions, SALT_ELEMS, rows1, salts1)?;

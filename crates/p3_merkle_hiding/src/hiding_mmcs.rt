@@ -24,15 +24,16 @@ use rand_core::{CryptoRng, SeedableRng};
 pub struct HidingScheme<
     P: PackedValue,
     PW: PackedValue,
-    H,
-    C,
+    H: CryptographicHasher<P, PW, D>,
+    C: PseudoCompressionFunction<PW, N, D>,
     R,
     X,
     G,
     const N: usize,
+    const D: usize,
     const SALT_ELEMS: usize,
 > {
-    pub(crate) plain: Scheme<P, PW, H, C, X, G, N>,
+    pub(crate) plain: Scheme<P, PW, H, C, X, G, N, D>,
     pub(crate) generator: R,
     ghost some_salt: { 1 ≤ SALT_ELEMS },
 }
@@ -42,13 +43,13 @@ pub struct HidingScheme<
 pub type MerkleTreeHidingMmcs<
     P: PackedValue,
     PW: PackedValue,
-    H,
-    C,
+    H: CryptographicHasher<P, PW, D>,
+    C: PseudoCompressionFunction<PW, N, D>,
     R,
     const N: usize,
     const D: usize,
     const SALT_ELEMS: usize,
-> = HidingScheme<P, PW, H, C, R, [PW::Value; D], [[PW::Value; D]; N], N, SALT_ELEMS>;
+> = HidingScheme<P, PW, H, C, R, [PW::Value; D], [[PW::Value; D]; N], N, D, SALT_ELEMS>;
 
 /// A tree over matrices `M` of values `T`, each beside its salts, with digests of `D` words `W`.
 pub type SaltedTree<T, W, M, const N: usize, const D: usize> = MerkleTree<
@@ -68,14 +69,15 @@ pub type SaltedMultiProof<T, W, const D: usize> = (Vec<Vec<Vec<T>>>, PrunedMerkl
 impl<
     P: PackedValue,
     PW: PackedValue,
-    H,
-    C,
+    H: CryptographicHasher<P, PW, D>,
+    C: PseudoCompressionFunction<PW, N, D>,
     R,
     X,
     G,
     const N: usize,
+    const D: usize,
     const SALT_ELEMS: usize,
-> HidingScheme<P, PW, H, C, R, X, G, N, SALT_ELEMS> {
+> HidingScheme<P, PW, H, C, R, X, G, N, D, SALT_ELEMS> {
     ghost use Rattle.p3_merkle_mmcs.specs.Schemes.{cap_height_of, cap_rule_of};
     ghost use Rattle.p3_merkle_hiding.specs.HidingSchemes.{plain_of};
 
@@ -134,8 +136,8 @@ impl<
         Self::new_with_rule(hash, compress, cap_height, rng, CapRule::Lowered)
     }
 
-    /// The salted scheme with a cap of this height by this rule: see [`CapRule`]. The conditions are those of
-    /// [`new`](Self::new). It does not allocate.
+    /// The salted scheme as [`new`](Self::new) builds it, under the same conditions, but with `rule` to choose the
+    /// cap's layer: see [`CapRule`]. A cap of one rule is in general refused under the other. It does not allocate.
     pub fn new_with_rule(
         hash: H,
         compress: C,
@@ -163,14 +165,15 @@ impl<
 impl<
     P: PackedValue,
     PW: PackedValue,
-    H: Copy,
-    C: Copy,
+    H: CryptographicHasher<P, PW, D> + Copy,
+    C: PseudoCompressionFunction<PW, N, D> + Copy,
     R: CryptoRng + SeedableRng,
     X: Copy,
     G: Copy,
     const N: usize,
+    const D: usize,
     const SALT_ELEMS: usize,
-> HidingScheme<P, PW, H, C, R, X, G, N, SALT_ELEMS> {
+> HidingScheme<P, PW, H, C, R, X, G, N, D, SALT_ELEMS> {
     ghost use Rattle.rand_core.specs.Stream.{fill_bytes};
     ghost use Rattle.p3_merkle_hiding.specs.HidingSchemes.{generator_of, plain_of};
 

@@ -49,15 +49,19 @@ pub fn salted_rows<T: Copy>(
     })
 }
 
-/// Checks and joins the row sets and the salt sets of several indices, of matrices of these dimensions, with
-/// `salt_elems` salts per row.
+/// Checks the rows and the salts of several indices, and joins each row with its salts. `sets` has a row set for each
+/// index, and `salts` a salt set. `dimensions` are those of the matrices without salts; in the result each has
+/// `salt_elems` more columns. How many salts a row has is not checked: where it is not `salt_elems`, the joined row has
+/// another width than its matrix.
 ///
 /// # Errors
 ///
-/// `WrongBatchSize` if the number of salt sets is not that of the row sets; else, for the first row set that has one,
-/// the error of [`check_widths`], or `WrongBatchSize` if it has not as many lists of salts as rows; else `TooLarge` for
-/// the first matrix whose width with the salts does not fit `usize`. `OutOfMemory` may come at any time. How many salts
-/// each row has is not checked here.
+/// The first of these that applies, where `OutOfMemory` may come at any time:
+///
+/// - `WrongBatchSize`: the number of salt sets is not that of the row sets;
+/// - for each row set in turn, the error of [`check_widths`]; else `WrongBatchSize` if the number of lists of salts is
+///   not that of the rows;
+/// - `TooLarge`, for the first matrix whose width with the salts does not fit `usize`.
 pub fn salted_sets<T: Copy>(
     alloc: Global,
     dimensions: &[Dimensions],

@@ -1,22 +1,16 @@
 //! Salted openings: those of the plain scheme, with each row split into the matrix's own words and its salts.
 
-ghost use Rattle.std.specs.Prelude.{◌≡◌, ◌<◌, [], All, IfErr, IfOk, None, map};
+ghost use Rattle.std.specs.Prelude.{◌≡◌, ◌<◌, All, IfOk, None, map};
 ghost use Rattle.p3_merkle_core.specs.Geometry.{heights};
-ghost use Rattle.p3_merkle_core.specs.Commitments.{cap_over, IsOwn};
 ghost use Rattle.p3_support.specs.Batches.{greatest};
 ghost use Rattle.p3_merkle_core.specs.Nodes.{shape};
-ghost use Rattle.p3_merkle_core.specs.Openings.{honest_rows, node_in, siblings_by};
-ghost use Rattle.p3_merkle_core.specs.Pruning.{boundary_by};
 ghost use Rattle.p3_merkle_core.specs.Refusals.{AnswersUnlessMemory};
-ghost use Rattle.p3_merkle_core.specs.declared.error.MerkleTreeError.TheVariants.{OutOfMemory};
-ghost use Rattle.p3_merkle_prover.specs.Parts.{layers_of, matrices_of, tree_batch};
-ghost use Rattle.p3_merkle_mmcs.specs.Schemes.{cap_layer_over};
+ghost use Rattle.p3_merkle_prover.specs.Parts.{matrices_of, tree_batch};
 ghost use Rattle.p3_support.specs.Pairs.{left_of};
 ghost use Rattle.p3_support.specs.Shown.{row_lists, row_sets};
-ghost use Rattle.p3_merkle_hiding.specs.HidingSchemes.{plain_of, salted_made, salted_pruned_made, salted_params_of};
-ghost use Rattle.p3_merkle_hiding.specs.SaltedOpenings.{IsSaltedAccepted, IsSaltedPrunedAccepted};
+ghost use Rattle.p3_merkle_hiding.specs.HidingSchemes.{salted_made, salted_pruned_made};
 ghost use Rattle.p3_merkle_hiding.specs.Inner.SaltedParts.{left_widths, salt_parts, unsalted_parts};
-ghost use Rattle.p3_merkle_hiding.specs.SaltedTrees.{left_batch, right_batch, unsalted_dimensions, HaveSaltColumns};
+ghost use Rattle.p3_merkle_hiding.specs.SaltedOpened.{OpensSalted, OpensSaltedPruned};
 
 use crate::hiding_mmcs::{MerkleTreeHidingMmcs, SaltedMultiProof, SaltedProof, SaltedTree};
 use p3_merkle_core::error::MerkleTreeError;
@@ -119,19 +113,7 @@ impl<
         tree: &SaltedTree<P::Value, PW::Value, M, N, D>,
     ) -> Result<BatchOpening<P::Value, SaltedProof<P::Value, PW::Value, D>>, MerkleTreeError>
         requires { index < greatest (heights (shape (tree_batch tree.now))) }
-        ensures rows { let rows = honest_rows (left_batch N (matrices_of tree.now)) index in
-            IfOk result (λ o. row_lists o.opened_values.items ≡ rows) }
-        ensures salts { let salts = honest_rows (right_batch N (matrices_of tree.now)) index in
-            IfOk result (λ o. row_lists o.opening_proof.0.items ≡ salts) }
-        ensures siblings { let s = shape (tree_batch tree.now) in
-            let cap_layer = cap_layer_over (plain_of self.now) s in
-            let siblings = siblings_by (node_in [] (layers_of tree.now)) s cap_layer index in
-            IfOk result (λ o. o.opening_proof.1.items ≡ siblings) }
-        ensures accepted { let ds = unsalted_dimensions N (matrices_of tree.now) in
-            let c = salted_params_of H.hash C.compression D self.now ds in
-            let b = tree_batch tree.now in
-            IsOwn c b (layers_of tree.now) → HaveSaltColumns SALT_ELEMS (matrices_of tree.now) →
-            IfOk result (λ o. IsSaltedAccepted SALT_ELEMS ds c (cap_over c b) (salted_made index o)) }
+        ensures opened { IfOk result (λ o. OpensSalted self.now tree.now (salted_made index o)) }
         ensures memory { AnswersUnlessMemory result None }
     {
         let opening = self.plain.open_batch(alloc, index, tree)?;
@@ -164,20 +146,7 @@ impl<
         MerkleTreeError,
     >
         requires { All (λ index. index < greatest (heights (shape (tree_batch tree.now)))) indices.now }
-        ensures rows { let rows = map (honest_rows (left_batch N (matrices_of tree.now))) indices.now in
-            IfOk result (λ o. row_sets o.0.items ≡ rows) }
-        ensures salts { let salts = map (honest_rows (right_batch N (matrices_of tree.now))) indices.now in
-            IfOk result (λ o. row_sets o.1.0.items ≡ salts) }
-        ensures digests { let s = shape (tree_batch tree.now) in
-            let cap_layer = cap_layer_over (plain_of self.now) s in
-            IfOk result (λ o. o.1.1.sibling_hashes.items ≡ boundary_by
-            (node_in [] (layers_of tree.now)) s indices.now cap_layer) }
-        ensures accepted { let ds = unsalted_dimensions N (matrices_of tree.now) in
-            let c = salted_params_of H.hash C.compression D self.now ds in
-            let b = tree_batch tree.now in
-            IsOwn c b (layers_of tree.now) → HaveSaltColumns SALT_ELEMS (matrices_of tree.now) →
-            IfOk result (λ o. IsSaltedPrunedAccepted SALT_ELEMS ds c (cap_over c b)
-            (salted_pruned_made indices.now o.0 o.1)) }
+        ensures opened { IfOk result (λ o. OpensSaltedPruned self.now tree.now (salted_pruned_made indices.now o)) }
         ensures memory { AnswersUnlessMemory result None }
     {
         let opening = self.plain.open_batch_pruned(alloc, indices, tree)?;

@@ -1,34 +1,30 @@
 //! The trait `Mmcs` for the salted scheme, so that callers can be generic in the scheme.
 
-ghost use Rattle.std.specs.Prelude.{◌≡◌, ◌⊎◌, ◌<◌, [], All, IfErr, IfOk, List, OnOk, map};
+ghost use Rattle.std.specs.Prelude.{◌≡◌, ◌⊎◌, ◌<◌, All, IfErr, IfOk, List, map};
 ghost use Rattle.p3_merkle_prover.specs.Parts.{layers_of, matrices_of, tree_batch};
 ghost use Rattle.p3_merkle_core.specs.Commitments.{IsCommitment};
-ghost use Rattle.p3_merkle_core.specs.Geometry.{heights, shape_of, halved_index};
-ghost use Rattle.p3_merkle_core.specs.Nodes.{dimensions_of, shape};
-ghost use Rattle.p3_merkle_core.specs.Openings.{honest_rows, node_in, siblings_by};
+ghost use Rattle.p3_merkle_core.specs.Geometry.{shape_of, halved_index};
+ghost use Rattle.p3_merkle_core.specs.Nodes.{shape};
 ghost use Rattle.p3_merkle_core.specs.Presented.{IsVerdict};
-ghost use Rattle.p3_merkle_core.specs.Pruning.{boundary_by};
 ghost use Rattle.p3_merkle_core.specs.Refusals.{AnswersUnlessMemory};
 ghost use Rattle.p3_merkle_core.specs.Views.{batch_of};
 ghost use Rattle.p3_merkle_core.specs.declared.error.MerkleTreeError.TheVariants.{OutOfMemory};
 ghost use Rattle.p3_merkle_mmcs.specs.Inner.CommitmentLaws.{at_same, row_in_matrix, tallest_at_index};
-ghost use Rattle.p3_merkle_mmcs.specs.Schemes.{cap_layer_of, cap_layer_over, scheme_functions, params_over};
-ghost use Rattle.p3_merkle_mmcs.specs.Schemes.{IsSameScheme};
+ghost use Rattle.p3_merkle_mmcs.specs.Schemes.{cap_layer_of, functions_of, IsSameScheme};
 ghost use Rattle.p3_support.specs.Batches.{dimensions_in, greatest, rows_in};
 ghost use Rattle.p3_support.specs.Pairs.{left_of};
 ghost use Rattle.p3_support.specs.Shown.{roots_of, row_lists, row_sets};
-ghost use Rattle.p3_merkle_hiding.specs.HidingSchemes.{generator_of, plain_of, salted_lent, salted_made};
-ghost use Rattle.p3_merkle_hiding.specs.HidingSchemes.{salted_pruned_lent, salted_pruned_made, salted_params_of};
+ghost use Rattle.p3_merkle_hiding.specs.HidingSchemes.{generator_of, plain_of, presented_all, presented_one};
+ghost use Rattle.p3_merkle_hiding.specs.HidingSchemes.{salted_made, salted_params_of, salted_pruned_made};
 ghost use Rattle.p3_merkle_hiding.specs.Inner.SaltedCommitmentLaws.{each_salted_shown, left_lawful, salted_rows_fit};
 ghost use Rattle.p3_merkle_hiding.specs.Inner.SaltedCommitmentLaws.{same_plain_is_equivalence};
-ghost use Rattle.p3_merkle_hiding.specs.SaltedCommitments.{CanCommitSalted, IsSaltedCommitment, HaveSaltedProof};
-ghost use Rattle.p3_merkle_hiding.specs.Salted.{after_salts, salted_batch, IsAfterSome};
+ghost use Rattle.p3_merkle_hiding.specs.SaltedCommitments.{CanCommitSalted, HaveSaltedProof};
+ghost use Rattle.p3_merkle_hiding.specs.Salted.{salted_batch};
 ghost use Rattle.p3_merkle_hiding.specs.SaltRefusals.{salted_commit_refusal, salted_pruned_refusal_under};
 ghost use Rattle.p3_merkle_hiding.specs.SaltRefusals.{salted_refusal_under};
+ghost use Rattle.p3_merkle_hiding.specs.SaltedOpened.{CommitsSalted, Draws, OpensSalted, OpensSaltedPruned};
 ghost use Rattle.p3_merkle_hiding.specs.SaltedOpenings.{salted_of, salted_pruned_of, widened, IsSaltedAccepted};
 ghost use Rattle.p3_merkle_hiding.specs.SaltedOpenings.{IsSaltedPrunedAccepted};
-ghost use Rattle.p3_merkle_hiding.specs.SaltedPresented.{presented_salted, presented_salted_pruned};
-ghost use Rattle.p3_merkle_hiding.specs.SaltedTrees.{right_batch, HaveSaltColumns};
 
 use crate::hiding_mmcs::{MerkleTreeHidingMmcs, SaltedMultiProof, SaltedProof, SaltedTree};
 use p3_merkle_core::error::MerkleTreeError;
@@ -80,33 +76,28 @@ where
 
     ghost matrices_in = { λ tree. map left_of (matrices_of tree) };
 
-    ghost commits_to = { λ s cap tree. let b = tree_batch tree in
-        IsSaltedCommitment SALT_ELEMS (params_over H.hash C.compression D (plain_of s) (shape b)) (roots_of cap) b
-        (layers_of tree) (matrices_of tree) };
+    ghost commits_to = { λ s cap tree. CommitsSalted s (roots_of cap) tree };
 
     ghost row_at = { halved_index };
 
     ghost is_shown = { λ s cap dimensions index rows.
-        HaveSaltedProof SALT_ELEMS dimensions (salted_params_of H.hash C.compression D s dimensions)
-        (roots_of cap) index rows };
+        HaveSaltedProof SALT_ELEMS dimensions (salted_params_of s dimensions) (roots_of cap) index rows };
 
     ghost accepts = { λ s cap dimensions index rows proof.
-        IsSaltedAccepted SALT_ELEMS dimensions (salted_params_of H.hash C.compression D s dimensions) (roots_of cap)
+        IsSaltedAccepted SALT_ELEMS dimensions (salted_params_of s dimensions) (roots_of cap)
         (salted_of index rows (row_lists proof.0.items) proof.1.items) };
 
     ghost accepts_all = { λ s cap dimensions indices sets proof.
-        IsSaltedPrunedAccepted SALT_ELEMS dimensions (salted_params_of H.hash C.compression D s dimensions)
-        (roots_of cap)
+        IsSaltedPrunedAccepted SALT_ELEMS dimensions (salted_params_of s dimensions) (roots_of cap)
         (salted_pruned_of indices sets (row_sets proof.0.items) proof.1.sibling_hashes.items) };
 
     ghost refusal = { λ s cap dimensions index rows proof.
-        salted_refusal_under PW.Value.eq SALT_ELEMS dimensions
-        (salted_params_of H.hash C.compression D s dimensions) (roots_of cap)
+        salted_refusal_under PW.Value.eq SALT_ELEMS dimensions (salted_params_of s dimensions) (roots_of cap)
         (salted_of index rows (row_lists proof.0.items) proof.1.items) };
 
     ghost refusal_of_all = { λ s cap dimensions indices sets proof.
         salted_pruned_refusal_under P.Value.eq PW.Value.eq SALT_ELEMS dimensions
-        (salted_params_of H.hash C.compression D s dimensions) (roots_of cap)
+        (salted_params_of s dimensions) (roots_of cap)
         (salted_pruned_of indices sets (row_sets proof.0.items) proof.1.sibling_hashes.items) };
 
     fn commit(
@@ -118,27 +109,15 @@ where
         ensures taken { IfOk result
             (λ made. CanCommitSalted M.height_of M.width_of M.row_of SALT_ELEMS matrices.items) }
         ensures matrices { IfOk result (λ made. map left_of (matrices_of made.1) ≡ matrices.items) }
-        ensures commitment { IfOk result (λ made. let b = tree_batch made.1 in
-            IsSaltedCommitment SALT_ELEMS (params_over H.hash C.compression D (plain_of self.new) (shape b))
-            (roots_of made.0) b (layers_of made.1) (matrices_of made.1)) }
+        ensures commitment { IfOk result (λ made. CommitsSalted self.new (roots_of made.0) made.1) }
         ensures answer { AnswersUnlessMemory result
             (salted_commit_refusal SALT_ELEMS (dimensions_in M.height_of M.width_of matrices.items)) }
-        ensures columns { IfOk result (λ made. HaveSaltColumns SALT_ELEMS (matrices_of made.1)) }
         ensures batch { let b = batch_of M.height_of M.width_of M.row_of N matrices.items in
             let drawn = R.stream (generator_of self.old) in
             IfOk result (λ made. tree_batch made.1 ≡ salted_batch P.Value.of_salt_word SALT_ELEMS b drawn) }
-        ensures committed { let b = batch_of M.height_of M.width_of M.row_of N matrices.items in
-            let c = salted_params_of H.hash C.compression D self.old (dimensions_of b.matrices) in
-            let salted = salted_batch P.Value.of_salt_word SALT_ELEMS b (R.stream (generator_of self.old)) in
-            IfOk result (λ made. IsCommitment c (roots_of made.0) salted (layers_of made.1)) }
-        ensures rest { let b = batch_of M.height_of M.width_of M.row_of N matrices.items in
-            let drawn = R.stream (generator_of self.old) in
-            OnOk result (R.stream (generator_of self.new) ≡ after_salts SALT_ELEMS b.matrices drawn) }
-        ensures further { let b = batch_of M.height_of M.width_of M.row_of N matrices.items in
-            let drawn = R.stream (generator_of self.old) in
-            IsAfterSome SALT_ELEMS b.matrices drawn (R.stream (generator_of self.new)) }
+        ensures drawn { let b = batch_of M.height_of M.width_of M.row_of N matrices.items in
+            Draws R.stream b.matrices self.old self.new result }
         ensures untouched { IfErr result (λ e. (e ≡ OutOfMemory) ⊎ (self.new ≡ self.old)) }
-        ensures scheme { plain_of self.new ≡ plain_of self.old }
         ensures memory { CanCommitSalted M.height_of M.width_of M.row_of SALT_ELEMS matrices.items →
             IfErr result (λ e. e ≡ OutOfMemory) }
     {
@@ -156,20 +135,12 @@ where
         ensures rows { let ms = map left_of (matrices_of prover_data.now) in
             IfOk result (λ o. row_lists o.opened_values.items ≡
             rows_in M.height_of M.row_of halved_index (greatest (map M.height_of ms)) ms index) }
-        ensures salts { let salts = honest_rows (right_batch N (matrices_of prover_data.now)) index in
-            IfOk result (λ o. row_lists o.opening_proof.0.items ≡ salts) }
-        ensures siblings { let s = shape (tree_batch prover_data.now) in
-            let cap_layer = cap_layer_over (plain_of self.now) s in
-            let siblings = siblings_by (node_in [] (layers_of prover_data.now)) s cap_layer index in
-            IfOk result (λ o. o.opening_proof.1.items ≡ siblings) }
-        ensures accepted { let b = tree_batch prover_data.now in
-            let pairs = matrices_of prover_data.now in
-            let dimensions = dimensions_in M.height_of M.width_of (map left_of pairs) in
-            (roots : List (List PW.Value)) →
-            IsSaltedCommitment SALT_ELEMS (params_over H.hash C.compression D (plain_of self.now) (shape b)) roots b
-            (layers_of prover_data.now) pairs →
-            IfOk result (λ o. IsSaltedAccepted SALT_ELEMS dimensions
-            (salted_params_of H.hash C.compression D self.now dimensions) roots (salted_made index o)) }
+        ensures opened { IfOk result (λ o. OpensSalted self.now prover_data.now (salted_made index o)) }
+        ensures accepted { let dimensions = dimensions_in M.height_of M.width_of
+            (map left_of (matrices_of prover_data.now)) in
+            (roots : List (List PW.Value)) → CommitsSalted self.now roots prover_data.now →
+            IfOk result (λ o. IsSaltedAccepted SALT_ELEMS dimensions (salted_params_of self.now dimensions) roots
+            (salted_made index o)) }
         ensures memory { IfErr result (λ e. e ≡ OutOfMemory) }
     {
         self.open_batch(alloc, index, prover_data)
@@ -195,9 +166,7 @@ where
         index: usize,
         opening: BatchOpeningRef<'_, P::Value, Self::Proof>,
     ) -> Result<(), Self::Error>
-        ensures { let c = salted_params_of H.hash C.compression D self.now dimensions.now in
-            let o = salted_lent index opening.entry in
-            IsVerdict (presented_salted PW.Value.eq SALT_ELEMS dimensions.now c (roots_of commitment.now) o) result }
+        ensures { IsVerdict (presented_one self.now dimensions.now commitment.now index opening.entry) result }
     {
         self.verify_batch(alloc, commitment, dimensions, index, opening)
     }
@@ -214,21 +183,13 @@ where
         ensures rows { let ms = map left_of (matrices_of prover_data.now) in
             IfOk result (λ o. row_sets o.0.items ≡
             map (rows_in M.height_of M.row_of halved_index (greatest (map M.height_of ms)) ms) indices.now) }
-        ensures salts { let salts = map (honest_rows (right_batch N (matrices_of prover_data.now))) indices.now in
-            IfOk result (λ o. row_sets o.1.0.items ≡ salts) }
-        ensures digests { let s = shape (tree_batch prover_data.now) in
-            let cap_layer = cap_layer_over (plain_of self.now) s in
-            IfOk result (λ o. o.1.1.sibling_hashes.items ≡ boundary_by
-            (node_in [] (layers_of prover_data.now)) s indices.now cap_layer) }
-        ensures accepted { let b = tree_batch prover_data.now in
-            let pairs = matrices_of prover_data.now in
-            let dimensions = dimensions_in M.height_of M.width_of (map left_of pairs) in
-            (roots : List (List PW.Value)) →
-            IsSaltedCommitment SALT_ELEMS (params_over H.hash C.compression D (plain_of self.now) (shape b)) roots b
-            (layers_of prover_data.now) pairs →
-            IfOk result (λ o. IsSaltedPrunedAccepted SALT_ELEMS dimensions
-            (salted_params_of H.hash C.compression D self.now dimensions) roots
-            (salted_pruned_made indices.now o.0 o.1)) }
+        ensures opened { let made = salted_pruned_made indices.now in
+            IfOk result (λ o. OpensSaltedPruned self.now prover_data.now (made o)) }
+        ensures accepted { let dimensions = dimensions_in M.height_of M.width_of
+            (map left_of (matrices_of prover_data.now)) in
+            (roots : List (List PW.Value)) → CommitsSalted self.now roots prover_data.now →
+            IfOk result (λ o. IsSaltedPrunedAccepted SALT_ELEMS dimensions (salted_params_of self.now dimensions) roots
+            (salted_pruned_made indices.now o)) }
         ensures memory { IfErr result (λ e. e ≡ OutOfMemory) }
     {
         self.open_multi_batch(alloc, indices, prover_data)
@@ -237,18 +198,15 @@ where
     fn verify_multi_batch(
         &self,
         alloc: Global,
-        commitment: &Self::Commitment,
+        commit: &Self::Commitment,
         dimensions: &[Dimensions],
         indices: &[usize],
         rows: &[Vec<Vec<P::Value>>],
         proof: &Self::MultiProof,
     ) -> Result<(), Self::Error>
-        ensures { let c = salted_params_of H.hash C.compression D self.now dimensions.now in
-            let p = salted_pruned_lent indices.now rows.now proof.now in
-            IsVerdict (presented_salted_pruned P.Value.eq PW.Value.eq SALT_ELEMS dimensions.now c
-            (roots_of commitment.now) p) result }
+        ensures { IsVerdict (presented_all self.now dimensions.now commit.now indices.now rows.now proof.now) result }
     {
-        self.verify_multi_batch(alloc, commitment, dimensions, indices, rows, proof)
+        self.verify_multi_batch(alloc, commit, dimensions, indices, rows, proof)
     }
 
     ghost row_of_tallest = { tallest_at_index };
@@ -260,28 +218,28 @@ where
         record { salts = row_lists proof.0.items; siblings = proof.1.items; is_accepted = accepted } };
 
     ghost shown_by_all = { λ s cap dimensions indices sets proof accepted.
-        each_salted_shown SALT_ELEMS dimensions (salted_params_of H.hash C.compression D s dimensions) (roots_of cap)
+        each_salted_shown SALT_ELEMS dimensions (salted_params_of s dimensions) (roots_of cap)
         (salted_pruned_of indices sets (row_sets proof.0.items) proof.1.sibling_hashes.items) accepted };
 
     ghost shown_fits = { λ s cap dimensions index rows.
-        salted_rows_fit (scheme_functions H.hash C.compression D (plain_of s)) N SALT_ELEMS
-        (cap_layer_of (plain_of s) (widened SALT_ELEMS dimensions)) dimensions (roots_of cap) index rows };
+        salted_rows_fit (functions_of (plain_of s)) N SALT_ELEMS
+        (cap_layer_of (plain_of s) (shape_of N (widened SALT_ELEMS dimensions))) dimensions (roots_of cap) index rows };
 
     ghost agreement = { same_plain_is_equivalence };
 
     ghost agreed_commitment = { λ s t cap tree same own. let b = tree_batch tree in record {
-      committed = at_same H.hash C.compression D (shape b) (plain_of s) (plain_of t)
+      committed = at_same (shape b) (plain_of s) (plain_of t)
           (λ c. IsCommitment c (roots_of cap) b (layers_of tree)) same own.committed;
       columns = own.columns;
     } };
 
     ghost agreed_proof = { λ s t cap dimensions index rows proof.
-        at_same H.hash C.compression D (shape_of N (widened SALT_ELEMS dimensions)) (plain_of s) (plain_of t)
+        at_same (shape_of N (widened SALT_ELEMS dimensions)) (plain_of s) (plain_of t)
         (λ c. IsSaltedAccepted SALT_ELEMS dimensions c (roots_of cap)
         (salted_of index rows (row_lists proof.0.items) proof.1.items)) };
 
     ghost agreed_proof_of_all = { λ s t cap dimensions indices sets proof.
-        at_same H.hash C.compression D (shape_of N (widened SALT_ELEMS dimensions)) (plain_of s) (plain_of t)
+        at_same (shape_of N (widened SALT_ELEMS dimensions)) (plain_of s) (plain_of t)
         (λ c. IsSaltedPrunedAccepted SALT_ELEMS dimensions c (roots_of cap)
         (salted_pruned_of indices sets (row_sets proof.0.items) proof.1.sibling_hashes.items)) };
 }

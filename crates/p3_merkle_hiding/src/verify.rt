@@ -1,9 +1,7 @@
 //! Verification of salted openings: rows and salts are checked, joined, and verified as plain rows.
 
 ghost use Rattle.p3_merkle_core.specs.Presented.{IsVerdict};
-ghost use Rattle.p3_support.specs.Shown.{roots_of};
-ghost use Rattle.p3_merkle_hiding.specs.HidingSchemes.{salted_lent, salted_pruned_lent, salted_params_of};
-ghost use Rattle.p3_merkle_hiding.specs.SaltedPresented.{presented_salted, presented_salted_pruned};
+ghost use Rattle.p3_merkle_hiding.specs.HidingSchemes.{presented_all, presented_one};
 
 use crate::hiding_mmcs::{MerkleTreeHidingMmcs, SaltedMultiProof, SaltedProof};
 use crate::join::{salted_rows, salted_sets};
@@ -52,9 +50,7 @@ impl<
         index: usize,
         opening: BatchOpeningRef<'_, P::Value, SaltedProof<P::Value, PW::Value, D>>,
     ) -> Result<(), MerkleTreeError>
-        ensures { let c = salted_params_of H.hash C.compression D self.now dimensions.now in
-            let o = salted_lent index opening.entry in
-            IsVerdict (presented_salted PW.Value.eq SALT_ELEMS dimensions.now c (roots_of commit.now) o) result }
+        ensures { IsVerdict (presented_one self.now dimensions.now commit.now index opening.entry) result }
     {
         let (rows, (salts, siblings)) = opening.unpack();
         let salted = salted_rows(alloc, dimensions, SALT_ELEMS, rows, salts)?;
@@ -92,10 +88,7 @@ impl<
         rows: &[Vec<Vec<P::Value>>],
         proof: &SaltedMultiProof<P::Value, PW::Value, D>,
     ) -> Result<(), MerkleTreeError>
-        ensures { let c = salted_params_of H.hash C.compression D self.now dimensions.now in
-            let p = salted_pruned_lent indices.now rows.now proof.now in
-            IsVerdict (presented_salted_pruned P.Value.eq PW.Value.eq SALT_ELEMS dimensions.now c
-            (roots_of commit.now) p) result }
+        ensures { IsVerdict (presented_all self.now dimensions.now commit.now indices.now rows.now proof.now) result }
     {
         let (salts, pruned) = proof;
         let salted = salted_sets(alloc, dimensions, SALT_ELEMS, rows, salts)?;

@@ -2,14 +2,11 @@
 use Rattle.std.proofs.Common.{◌≡◌, ◌⊎◌, ℕ, List, Option, Some, None, Result, inl, inr, refl, subst, sym}
 use Rattle.std.specs.Prelude.{Ok, Err, IfErr, IfOk, IsOk}
 use Rattle.p3_merkle_core.specs.Gate.{gate_refusal}
-use Rattle.p3_merkle_core.specs.Commitments.{IsCommitment}
-use Rattle.p3_merkle_core.specs.Geometry.{IsLawful, Shape}
-use Rattle.p3_merkle_core.specs.Nodes.{Batch, shape}
+use Rattle.p3_merkle_core.specs.Geometry.{IsLawful}
 use Rattle.p3_merkle_core.specs.declared.error.MerkleTreeError.TheVariants.{OutOfMemory}
 use Rattle.p3_merkle_core.specs.declared.error.MerkleTreeError.{MerkleTreeError}
 use Rattle.p3_merkle_core.proofs.Shapes.GateFacts.{gate_lawful}
 use Rattle.p3_merkle_core.specs.Refusals.{ok_unless, AnswersUnlessMemory}
-use Rattle.p3_merkle_core.specs.Checks.{Params}
 
 -- Ok is answered of lawful heights alone
 pub lawful_when_ok : {A : Type 0} (hs : List ℕ) (r : Result A MerkleTreeError) →
@@ -46,13 +43,3 @@ pub answers_by_definition : (r : Result (Unit {0}) MerkleTreeError) (refusal : O
     r ≡ ok_unless refusal tt → AnswersUnlessMemory r refusal
 answers_by_definition r None is = subst (λ z. AnswersUnlessMemory z None) (sym is) refl
 answers_by_definition r (Some e) is = subst (λ z. AnswersUnlessMemory z (Some e)) (sym is) (inr refl)
-
--- a tree that keeps the matrices, and is built over their batch, belongs to the cap of one of these
-pub is_committed : {A E M T W : Type 0} (r : Result A E) (cap : A → List (List W)) (own : A → List (List (List W)))
-    (kept : A → List M) (over : List M → Batch T) (c : Shape → Params T W) (ms : List M) →
-    IfOk r (λ made. kept made ≡ ms) →
-    IfOk r (λ made. IsCommitment (c (shape (over ms))) (cap made) (over ms) (own made)) →
-    IfOk r (λ made. IsCommitment (c (shape (over (kept made)))) (cap made) (over (kept made)) (own made))
-is_committed (Ok made) cap own kept over c ms keeps is =
-    subst (λ (z : List _). IsCommitment (c (shape (over z))) (cap made) (over z) (own made)) (sym keeps) is
-is_committed (Err e) cap own kept over c ms keeps is = tt

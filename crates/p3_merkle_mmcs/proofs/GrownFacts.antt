@@ -10,7 +10,7 @@ use Rattle.p3_merkle_core.specs.Consistency.{evidence}
 use Rattle.p3_merkle_core.specs.ConsistencyRefusals.{one_height_refusal}
 use Rattle.p3_merkle_core.specs.Geometry.{IsArity, heights, shape_of, widths}
 use Rattle.p3_merkle_core.specs.Inconsistency.{GrownOpenings, IsSetting, first_unlike, inconsistency_refusal}
-use Rattle.p3_merkle_core.specs.Nodes.{Functions, functions_of}
+use Rattle.p3_merkle_core.specs.Nodes.{Functions}
 use Rattle.p3_merkle_core.specs.Openings.{Opening}
 use Rattle.p3_merkle_core.specs.declared.cap.CapRule.{CapRule}
 use Rattle.p3_merkle_core.specs.declared.consistency.Growth.{Growth}
@@ -37,16 +37,13 @@ of_parts f growth n old_ds new_ds old_at new_at old_cap new_cap digests o u =
     }
 
 -- the same parts
-pub parts_alike : {T W H C : Type 0} (hash : H → List T → List W) (compression : C → List (List W) → List W)
-    (d : List W) (n : ℕ) (h k : H) (c e : C) (g l : Growth) (s t y z : List Dimensions) (a b m r : ℕ)
-    (old_cap old_roots new_cap new_roots digests sent : List (List W)) (o p u q : Opening T W) → h ≡ k → c ≡ e →
-    g ≡ l → s ≡ t → y ≡ z → a ≡ b → m ≡ r → old_cap ≡ old_roots → new_cap ≡ new_roots → digests ≡ sent → o ≡ p → u ≡ q →
-    of_parts (functions_of (hash h) (compression c) d) g n s y a m old_cap new_cap digests o u
-    ≡ of_parts (functions_of (hash k) (compression e) d) l n t z b r old_roots new_roots sent p q
-parts_alike hash compression d n h k c e g l s t y z a b m r old_cap old_roots new_cap new_roots digests sent o p u q
-    same_h same_c same_g same_s same_y same_a same_m same_old same_new same_digests same_o same_u =
-    λ i. of_parts (functions_of (hash (same_h i)) (compression (same_c i)) d) (same_g i) n (same_s i) (same_y i)
-    (same_a i) (same_m i) (same_old i) (same_new i) (same_digests i) (same_o i) (same_u i)
+pub parts_alike : {T W : Type 0} (f : Functions T W) (n : ℕ) {g l : Growth} {s t y z : List Dimensions} {a b m r : ℕ}
+    {old_cap old_roots new_cap new_roots digests sent : List (List W)} {o p u q : Opening T W} → g ≡ l → s ≡ t → y ≡ z →
+    a ≡ b → m ≡ r → old_cap ≡ old_roots → new_cap ≡ new_roots → digests ≡ sent → o ≡ p → u ≡ q →
+    of_parts f g n s y a m old_cap new_cap digests o u ≡ of_parts f l n t z b r old_roots new_roots sent p q
+parts_alike f n same_g same_s same_y same_a same_m same_old same_new same_digests same_o same_u =
+    λ i. of_parts f (same_g i) n (same_s i) (same_y i) (same_a i) (same_m i) (same_old i) (same_new i) (same_digests i)
+    (same_o i) (same_u i)
 
 -- openings under both caps, by these dimensions, a rule and a cap height
 abbrev pub grown : {T W : Type 0} → Functions T W → ℕ → CapRule → ℕ → List Dimensions → List Dimensions →

@@ -1,9 +1,8 @@
 pub mod VerdictFacts
-pub mod OwnAccepted
+pub mod OpenedFacts
 pub mod CapFacts
 pub mod AuthenticFacts
 pub mod CheckFacts
-pub mod PrunedFacts
 pub mod CommitmentFacts
 pub mod PartFacts
 mod ConsistencyFacts

@@ -10,7 +10,7 @@ ghost use Rattle.p3_merkle_core.specs.Geometry.{heights};
 ghost use Rattle.p3_merkle_core.specs.Nodes.{shape, Batch};
 ghost use Rattle.p3_merkle_core.specs.Openings.{node_in};
 ghost use Rattle.p3_merkle_prover.specs.Parts.{layers_of, tree_batch};
-ghost use Rattle.p3_merkle_mmcs.specs.Schemes.{growth_of, params_over, scheme_functions};
+ghost use Rattle.p3_merkle_mmcs.specs.Schemes.{functions_of, growth_of, params_of};
 ghost use Rattle.p3_support.specs.Batches.{greatest};
 ghost use Rattle.p3_support.specs.Shown.{roots_of};
 
@@ -27,7 +27,16 @@ use p3_support::opening::MerkleCap;
 use p3_support::packed::PackedValue;
 use std::alloc::Global;
 
-impl<P: PackedValue, PW: PackedValue, H, C, X, G, const N: usize> Scheme<P, PW, H, C, X, G, N> {
+impl<
+    P: PackedValue,
+    PW: PackedValue,
+    H: CryptographicHasher<P, PW, D>,
+    C: PseudoCompressionFunction<PW, N, D>,
+    X,
+    G,
+    const N: usize,
+    const D: usize,
+> Scheme<P, PW, H, C, X, G, N, D> {
     /// A list that grows between these heights, under the scheme's arity and cap height.
     pub(crate) fn growth(&self, old_height: usize, new_height: usize) -> Growth
         ensures { result ≡ growth_of self.now old_height new_height }
@@ -98,12 +107,10 @@ impl<
         ensures accepted { (old : Batch P.Value) →
             let new = tree_batch tree.now in
             let g = growth_of self.now old_height (greatest (heights (shape new))) in
-            let f = scheme_functions H.hash C.compression D self.now in
-            let c = params_over H.hash C.compression D self.now (shape new) in
-            let c_old = params_over H.hash C.compression D self.now (shape old) in
-            IsOwn c new (layers_of tree.now) → BeginsWith g old new →
-            IfOk result (λ proof.
-            IsConsistent (evidence f g (cap_over c_old old) proof.digests.items) (cap_over c new)) }
+            let c = params_of self.now (shape new) in
+            let old_cap = cap_over (params_of self.now (shape old)) old in
+            IsOwn c new (layers_of tree.now) → BeginsWith g old new → IfOk result (λ proof.
+            IsConsistent (evidence (functions_of self.now) g old_cap proof.digests.items) (cap_over c new)) }
     {
         let new_height = one_height_of(dimensions_in(tree))?;
         let growth = self.growth(old_height, new_height);
@@ -136,9 +143,8 @@ impl<
         new_height: usize,
         proof: &ConsistencyProof<[PW::Value; D]>,
     ) -> Result<(), ConsistencyError>
-        ensures { let f = scheme_functions H.hash C.compression D self.now in
-            let g = growth_of self.now old_height new_height in
-            let e = evidence f g (roots_of old_cap.now) proof.now.digests.items in
+        ensures { let g = growth_of self.now old_height new_height in
+            let e = evidence (functions_of self.now) g (roots_of old_cap.now) proof.now.digests.items in
             IsConsistencyVerdict PW.Value.eq e (roots_of new_cap.now) result }
     {
         let proof = ConsistencyRef {

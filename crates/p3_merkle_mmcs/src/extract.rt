@@ -6,20 +6,18 @@ ghost use Rattle.p3_support.specs.Batches.{heights_of};
 ghost use Rattle.p3_merkle_core.specs.Extraction.{IsExtraction};
 ghost use Rattle.p3_merkle_core.specs.Gate.{gate_refusal};
 ghost use Rattle.p3_merkle_core.specs.Geometry.{shape_of};
-ghost use Rattle.p3_merkle_core.specs.Presented.{presented, presented_pruned};
-ghost use Rattle.p3_merkle_core.specs.Views.{found_alone, found_pair, opening_lent, pruned_lent};
+ghost use Rattle.p3_merkle_core.specs.Views.{found_alone, found_pair};
 ghost use Rattle.p3_merkle_core.specs.declared.cap.CapRule.TheVariants.{Lowered};
+ghost use Rattle.p3_merkle_mmcs.specs.Committed.{presented_one, presented_all};
 ghost use Rattle.p3_merkle_mmcs.specs.Schemes.{cap_layer_of, cap_rule_of, params_of};
-ghost use Rattle.p3_support.specs.Shown.{roots_of};
 
 use crate::mmcs::{MerkleTreeMmcs, Scheme};
-use crate::pruned::lent_pruned;
 use p3_merkle_core::collision::Collision;
 use p3_merkle_core::error::MerkleTreeError;
 use p3_merkle_core::geometry::exponent_of;
 use p3_merkle_core::pruning::PrunedMerklePaths;
 use p3_merkle_core::steps::{check_heights, steps_of};
-use p3_merkle_verifier::openings::OpeningRef;
+use p3_merkle_verifier::openings::{OpeningRef, PrunedOpeningRef};
 use p3_support::compress::PseudoCompressionFunction;
 use p3_support::hasher::CryptographicHasher;
 use p3_support::matrix::Dimensions;
@@ -27,7 +25,16 @@ use p3_support::opening::{BatchOpeningRef, MerkleCap};
 use p3_support::packed::PackedValue;
 use std::alloc::Global;
 
-impl<P: PackedValue, PW: PackedValue, H, C, X, G, const N: usize> Scheme<P, PW, H, C, X, G, N> {
+impl<
+    P: PackedValue,
+    PW: PackedValue,
+    H: CryptographicHasher<P, PW, D>,
+    C: PseudoCompressionFunction<PW, N, D>,
+    X,
+    G,
+    const N: usize,
+    const D: usize,
+> Scheme<P, PW, H, C, X, G, N, D> {
     /// Whether a cap over matrices of these dimensions authenticates the rows of one of them: its rows are hashed into
     /// the cap's layer, or into a layer below it. `matrix` is its position in `dimensions`, from 0, and must be below
     /// their number. For any other matrix a verifier checks only the width of the row. Under the rule `Lowered` every
@@ -45,8 +52,8 @@ impl<P: PackedValue, PW: PackedValue, H, C, X, G, const N: usize> Scheme<P, PW, 
         ensures answer { MatchResult result
             (λ answer. gate_refusal (heights_of dimensions.now) ≡ None)
             (λ e. gate_refusal (heights_of dimensions.now) ≡ Some e) }
-        ensures authenticated { let cap_layer = cap_layer_of self.now dimensions.now in
-            IfOk result (λ answer. answer ≡ authenticates (shape_of N dimensions.now) cap_layer matrix) }
+        ensures authenticated { let s = shape_of N dimensions.now in
+            IfOk result (λ answer. answer ≡ authenticates s (cap_layer_of self.now s) matrix) }
         ensures lowered { cap_rule_of self.now ≡ Lowered → IfOk result (λ answer. IsTrue answer) }
     {
         let steps = steps_of(dimensions, N);
@@ -93,10 +100,10 @@ impl<
         index2: usize,
         second: BatchOpeningRef<'_, P::Value, Vec<[PW::Value; D]>>,
     ) -> Result<Option<Collision<P::Value, PW::Value, D>>, MerkleTreeError>
-        ensures { let c = params_of H.hash C.compression D self.now dimensions.now in
-            let first = presented PW.Value.eq c (roots_of commit.now) (opening_lent index1 first.entry) in
-            let second = presented PW.Value.eq c (roots_of commit.now) (opening_lent index2 second.entry) in
-            IsExtraction P.Value.eq PW.Value.eq (cap_rule_of self.now) c first second (found_alone result) }
+        ensures { let c = params_of self.now (shape_of N dimensions.now) in
+            let presented = presented_one self.now dimensions.now commit.now in
+            IsExtraction P.Value.eq PW.Value.eq (cap_rule_of self.now) c (presented index1 first.entry)
+            (presented index2 second.entry) (found_alone result) }
     {
         let steps = steps_of(dimensions, N);
         let cap_layer = steps.cap_layer(self.cap_rule, self.cap_height);
@@ -134,16 +141,15 @@ impl<
         rows2: &[Vec<Vec<P::Value>>],
         proof2: &PrunedMerklePaths<PW::Value, D>,
     ) -> Result<Option<(usize, usize, Collision<P::Value, PW::Value, D>)>, MerkleTreeError>
-        ensures { let c = params_of H.hash C.compression D self.now dimensions.now in
-            let presented = presented_pruned P.Value.eq PW.Value.eq c (roots_of commit.now) in
-            let first = presented (pruned_lent indices1.now rows1.now proof1.now) in
-            let second = presented (pruned_lent indices2.now rows2.now proof2.now) in
-            IsExtraction P.Value.eq PW.Value.eq (cap_rule_of self.now) c first second (found_pair result) }
+        ensures { let c = params_of self.now (shape_of N dimensions.now) in
+            let presented = presented_all self.now dimensions.now commit.now in
+            IsExtraction P.Value.eq PW.Value.eq (cap_rule_of self.now) c (presented indices1.now rows1.now proof1.now)
+            (presented indices2.now rows2.now proof2.now) (found_pair result) }
     {
         let steps = steps_of(dimensions, N);
         let cap_layer = steps.cap_layer(self.cap_rule, self.cap_height);
-        let first = lent_pruned(indices1, rows1, proof1);
-        let second = lent_pruned(indices2, rows2, proof2);
+        let first = PrunedOpeningRef::new(indices1, rows1, proof1);
+        let second = PrunedOpeningRef::new(indices2, rows2, proof2);
         self.checker()
             .pruned_extraction(alloc, commit.roots(), &steps, cap_layer, first, second)
     }

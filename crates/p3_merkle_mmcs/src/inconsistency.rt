@@ -6,10 +6,10 @@ ghost use Rattle.p3_merkle_core.specs.ConsistencyRefusals.{one_height_refusal, C
 ghost use Rattle.p3_merkle_core.specs.Geometry.{shape_of, IsArity};
 ghost use Rattle.p3_merkle_core.specs.Inconsistency.{first_unlike, inconsistency, inconsistency_found};
 ghost use Rattle.p3_merkle_core.specs.Inconsistency.{inconsistency_in, IsInconsistencyAnswer, IsSetting};
-ghost use Rattle.p3_merkle_core.specs.Views.{opening_lent};
+ghost use Rattle.p3_merkle_core.specs.Views.{opening_borrowed};
 ghost use Rattle.p3_merkle_mmcs.specs.Grown.{grown_openings};
-ghost use Rattle.p3_merkle_mmcs.specs.Schemes.{cap_rule_of, scheme_functions};
-ghost use Rattle.p3_merkle_verifier.specs.Inner.Checks.{functions_of};
+ghost use Rattle.p3_merkle_mmcs.specs.Schemes.{cap_rule_of, functions_of};
+ghost use Rattle.p3_merkle_verifier.specs.Inner.Checks.{functions_of as functions_by};
 ghost use Rattle.p3_merkle_verifier.specs.Inner.Inconsistency.{checked_refusal, grown_in};
 ghost use Rattle.p3_merkle_verifier.specs.Inner.Paths.{CanCheck};
 ghost use Rattle.p3_support.specs.Batches.{greatest, heights_of, widths_of};
@@ -69,7 +69,7 @@ impl<
         ensures new_arity { new.entry.steps.now.arity ≡ N }
         ensures old_check { CanCheck (shape_of N old.entry.steps.now.dimensions.now) old.entry.cap_layer }
         ensures new_check { CanCheck (shape_of N new.entry.steps.now.dimensions.now) new.entry.cap_layer }
-        ensures setting { let f = functions_of checker.now in
+        ensures setting { let f = functions_by checker.now in
             IsSetting (grown_in f N proof.entry new_roots.now old.entry new.entry) }
         ensures old_heights { All (λ d. d.height ≡ proof.entry.growth.old_height) old.entry.steps.now.dimensions.now }
         ensures new_heights { All (λ d. d.height ≡ proof.entry.growth.new_height) new.entry.steps.now.dimensions.now }
@@ -100,10 +100,10 @@ impl<
         requires widths { let widths = widths_of new.steps.now.dimensions.now in
             first_unlike (widths_of old.steps.now.dimensions.now) widths ≡ None }
         requires index { old.opening.index ≡ new.opening.index }
-        ensures answer { let f = scheme_functions H.hash C.compression D self.now in
+        ensures answer { let f = functions_of self.now in
             let x = grown_in f N proof.entry new_roots.now old.entry new.entry in
             ConsistencyAnswers result (checked_refusal PW.Value.eq x) }
-        ensures found { let f = scheme_functions H.hash C.compression D self.now in
+        ensures found { let f = functions_of self.now in
             let x = grown_in f N proof.entry new_roots.now old.entry new.entry in
             IfOk result (λ found. option_map inconsistency_in found ≡ inconsistency P.Value.eq PW.Value.eq x) }
     {
@@ -155,9 +155,9 @@ impl<
         old_opening: BatchOpeningRef<'_, P::Value, Vec<[PW::Value; D]>>,
         new_opening: BatchOpeningRef<'_, P::Value, Vec<[PW::Value; D]>>,
     ) -> Result<Option<Inconsistency<P::Value, [PW::Value; D]>>, ConsistencyError>
-        ensures { let shapes = grown_openings H.hash C.compression D self.now old_dimensions.now new_dimensions.now in
+        ensures { let shapes = grown_openings self.now old_dimensions.now new_dimensions.now in
             let x = shapes (roots_of old_cap.now) (roots_of new_cap.now) proof.now.digests.items
-            (opening_lent index old_opening.entry) (opening_lent index new_opening.entry) in
+            (opening_borrowed index old_opening.entry) (opening_borrowed index new_opening.entry) in
             IsInconsistencyAnswer P.Value.eq PW.Value.eq x (inconsistency_found result) }
     {
         let old_height = one_height_of(old_dimensions)?;

@@ -1,8 +1,8 @@
 //! The scheme: it commits to matrices, opens their rows, and verifies openings.
 
-ghost use Rattle.std.specs.Prelude.{◌≡◌, ◌<◌, ◌≤◌, ◌↔◌, IfOk, IsOk, IsTrue, None};
+ghost use Rattle.std.specs.Prelude.{◌≡◌, ◌<◌, ◌≤◌, IfOk, IsTrue, None};
+ghost use Rattle.p3_merkle_core.specs.Computed.{Computes};
 ghost use Rattle.p3_merkle_core.specs.Geometry.{is_arity, IsArity};
-ghost use Rattle.p3_merkle_core.specs.Commitments.{cap_over, IsCommitment, IsOwn};
 ghost use Rattle.p3_support.specs.Batches.{greatest};
 
 use p3_merkle_core::cap::CapRule;
@@ -26,7 +26,16 @@ use std::marker::PhantomData;
 ///
 /// The arity `N` is a power of two from 2 to 2^62. Both packings have equally many lanes, at least one.
 #[derive(Debug)]
-pub struct Scheme<P: PackedValue, PW: PackedValue, H, C, X, G, const N: usize> {
+pub struct Scheme<
+    P: PackedValue,
+    PW: PackedValue,
+    H: CryptographicHasher<P, PW, D>,
+    C: PseudoCompressionFunction<PW, N, D>,
+    X,
+    G,
+    const N: usize,
+    const D: usize,
+> {
     pub(crate) hash: H,
     pub(crate) compress: C,
     pub(crate) cap_height: usize,
@@ -35,19 +44,42 @@ pub struct Scheme<P: PackedValue, PW: PackedValue, H, C, X, G, const N: usize> {
     ghost arity: { IsArity N },
     ghost lanes: { P.WIDTH ≡ PW.WIDTH },
     ghost some_lane: { 1 ≤ P.WIDTH },
+    ghost functions: { Computes (H.hash hash) (C.compression compress) PW.default_value },
 }
 
 /// A scheme that commits to matrices of words `P::Value` by digests of `D` words `PW::Value`, where a node has at
 /// most `N` children (`MerkleTreeMmcs` in the Rust crate).
-pub type MerkleTreeMmcs<P: PackedValue, PW: PackedValue, H, C, const N: usize, const D: usize> =
-    Scheme<P, PW, H, C, [PW::Value; D], [[PW::Value; D]; N], N>;
+pub type MerkleTreeMmcs<
+    P: PackedValue,
+    PW: PackedValue,
+    H: CryptographicHasher<P, PW, D>,
+    C: PseudoCompressionFunction<PW, N, D>,
+    const N: usize,
+    const D: usize,
+> = Scheme<P, PW, H, C, [PW::Value; D], [[PW::Value; D]; N], N, D>;
 
-impl<P: PackedValue, PW: PackedValue, H: Copy, C: Copy, X: Copy, G: Copy, const N: usize> Copy
-    for Scheme<P, PW, H, C, X, G, N> {}
+impl<
+    P: PackedValue,
+    PW: PackedValue,
+    H: CryptographicHasher<P, PW, D> + Copy,
+    C: PseudoCompressionFunction<PW, N, D> + Copy,
+    X: Copy,
+    G: Copy,
+    const N: usize,
+    const D: usize,
+> Copy for Scheme<P, PW, H, C, X, G, N, D> {}
 
 /// Clones the hasher and the compression, and copies the cap height and the rule.
-impl<P: PackedValue, PW: PackedValue, H: Clone, C: Clone, X: Clone, G: Clone, const N: usize> Clone
-    for Scheme<P, PW, H, C, X, G, N> {
+impl<
+    P: PackedValue,
+    PW: PackedValue,
+    H: CryptographicHasher<P, PW, D> + Clone,
+    C: PseudoCompressionFunction<PW, N, D> + Clone,
+    X: Clone,
+    G: Clone,
+    const N: usize,
+    const D: usize,
+> Clone for Scheme<P, PW, H, C, X, G, N, D> {
     ghost use Rattle.p3_merkle_mmcs.specs.Schemes.{cap_height_of, cap_rule_of, compression_of, hash_of};
 
     ghost is_clone = { λ s t. H.is_clone (hash_of s) (hash_of t) ×
@@ -67,7 +99,16 @@ impl<P: PackedValue, PW: PackedValue, H: Clone, C: Clone, X: Clone, G: Clone, co
     }
 }
 
-impl<P: PackedValue, PW: PackedValue, H, C, X, G, const N: usize> Scheme<P, PW, H, C, X, G, N> {
+impl<
+    P: PackedValue,
+    PW: PackedValue,
+    H: CryptographicHasher<P, PW, D>,
+    C: PseudoCompressionFunction<PW, N, D>,
+    X,
+    G,
+    const N: usize,
+    const D: usize,
+> Scheme<P, PW, H, C, X, G, N, D> {
     ghost use Rattle.p3_merkle_mmcs.specs.Schemes.{cap_height_of, cap_rule_of, compression_of, hash_of};
 
     /// The cap height that was given to [`new`](Self::new), in levels below the root.
@@ -93,17 +134,17 @@ impl<
     const N: usize,
     const D: usize,
 > MerkleTreeMmcs<P, PW, H, C, N, D> {
-    ghost use Rattle.p3_merkle_core.specs.Checks.{IsAccepted};
     ghost use Rattle.p3_merkle_core.specs.Gate.{gate_refusal};
     ghost use Rattle.p3_merkle_core.specs.Geometry.{heights};
     ghost use Rattle.p3_merkle_core.specs.Nodes.{shape};
-    ghost use Rattle.p3_merkle_core.specs.Openings.{honest, opening_in_layers};
-    ghost use Rattle.p3_merkle_core.specs.Refusals.{answer_under, AnswersUnlessMemory};
-    ghost use Rattle.p3_merkle_core.specs.Views.{opening_lent, opening_made, batch_of, heights_in};
+    ghost use Rattle.p3_merkle_core.specs.Presented.{IsExactVerdict};
+    ghost use Rattle.p3_merkle_core.specs.Refusals.{AnswersUnlessMemory};
+    ghost use Rattle.p3_merkle_core.specs.Views.{opening_made, heights_in};
     ghost use Rattle.p3_merkle_core.specs.declared.cap.CapRule.TheVariants.{Lowered};
-    ghost use Rattle.p3_merkle_prover.specs.Parts.{layers_of, matrices_of, tree_batch};
-    ghost use Rattle.p3_merkle_mmcs.specs.Schemes.{cap_height_of, cap_layer_over, cap_rule_of, compression_of, hash_of};
-    ghost use Rattle.p3_merkle_mmcs.specs.Schemes.{params_of, params_over};
+    ghost use Rattle.p3_merkle_prover.specs.Parts.{matrices_of, tree_batch};
+    ghost use Rattle.p3_merkle_mmcs.specs.Committed.{presented_one, Commits, Opens};
+    ghost use Rattle.p3_merkle_mmcs.specs.Schemes.{cap_height_of, cap_rule_of, compression_of, functions_of, hash_of};
+    ghost use Rattle.p3_merkle_verifier.specs.Inner.Checks.{functions_of as functions_by};
     ghost use Rattle.p3_support.specs.Shown.{roots_of};
 
     /// The scheme of a hasher and a compression. Its cap is the layer `cap_height` levels below the root (0 is the root
@@ -151,8 +192,7 @@ impl<
 
     /// The checker of openings, with the scheme's hasher and compression.
     pub(crate) fn checker(&self) -> Checker<'_, P, PW, H, C, [[PW::Value; D]; N], N, D>
-        ensures hash { result.hash.now ≡ hash_of self.now }
-        ensures compress { result.compress.now ≡ compression_of self.now }
+        ensures { functions_by result ≡ functions_of self.now }
     {
         Checker {
             hash: &self.hash,
@@ -183,9 +223,7 @@ impl<
         ensures answer { AnswersUnlessMemory result
             (gate_refusal (heights_in M.height_of M.width_of M.row_of matrices.items)) }
         ensures matrices { IfOk result (λ (cap, tree). matrices_of tree ≡ matrices.items) }
-        ensures committed { let b = batch_of M.height_of M.width_of M.row_of N matrices.items in
-            let c = params_over H.hash C.compression D self.now (shape b) in
-            IfOk result (λ (cap, tree). IsCommitment c (roots_of cap) b (layers_of tree)) }
+        ensures committed { IfOk result (λ (cap, tree). Commits self.now (roots_of cap) tree) }
     {
         self.commit_checked(alloc, checked_matrices(alloc, matrices)?)
     }
@@ -208,9 +246,7 @@ impl<
     >
         ensures memory { AnswersUnlessMemory result None }
         ensures matrices { IfOk result (λ (cap, tree). matrices_of tree ≡ leaves.matrices.items) }
-        ensures committed { let b = batch_of M.height_of M.width_of M.row_of N leaves.matrices.items in
-            let c = params_over H.hash C.compression D self.now (shape b) in
-            IfOk result (λ (cap, tree). IsCommitment c (roots_of cap) b (layers_of tree)) }
+        ensures committed { IfOk result (λ (cap, tree). Commits self.now (roots_of cap) tree) }
     {
         lemma_arity::<N>();
         let tree = tree_over::<P, PW, H, C, M, N, D>(alloc, &self.hash, &self.compress, leaves)?;
@@ -237,18 +273,7 @@ impl<
         tree: &MerkleTree<P::Value, PW::Value, M, N, D>,
     ) -> Result<BatchOpening<P::Value, Vec<[PW::Value; D]>>, MerkleTreeError>
         requires { index < greatest (heights (shape (tree_batch tree.now))) }
-        ensures opened { let b = tree_batch tree.now in
-            let cap_layer = cap_layer_over self.now (shape b) in
-            IfOk result (λ o. opening_made index o ≡ opening_in_layers b (layers_of tree.now) cap_layer index) }
-
-        // If the tree is this scheme's own, the opening is the honest one, and it is accepted.
-        ensures honest { let b = tree_batch tree.now in
-            let c = params_over H.hash C.compression D self.now (shape b) in
-            IsOwn c b (layers_of tree.now) →
-            IfOk result (λ o. opening_made index o ≡ honest c.functions b c.layer index) }
-        ensures accepted { let b = tree_batch tree.now in
-            let c = params_over H.hash C.compression D self.now (shape b) in
-            IsOwn c b (layers_of tree.now) → IfOk result (λ o. IsAccepted c (cap_over c b) (opening_made index o)) }
+        ensures opened { IfOk result (λ o. Opens self.now tree.now (opening_made index o)) }
         ensures memory { AnswersUnlessMemory result None }
     {
         let steps = steps_in(tree);
@@ -287,10 +312,7 @@ impl<
         index: usize,
         opening: BatchOpeningRef<'_, P::Value, Vec<[PW::Value; D]>>,
     ) -> Result<(), MerkleTreeError>
-        ensures answer { let c = params_of H.hash C.compression D self.now dimensions.now in
-            result ≡ answer_under PW.Value.eq c (roots_of commit.now) (opening_lent index opening.entry) }
-        ensures accepted { let c = params_of H.hash C.compression D self.now dimensions.now in
-            IsOk result ↔ IsAccepted c (roots_of commit.now) (opening_lent index opening.entry) }
+        ensures { IsExactVerdict (presented_one self.now dimensions.now commit.now index opening.entry) result }
     {
         let steps = steps_of(dimensions, N);
         let cap_layer = steps.cap_layer(self.cap_rule, self.cap_height);

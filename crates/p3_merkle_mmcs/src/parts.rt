@@ -7,11 +7,11 @@ ghost use Rattle.p3_merkle_core.specs.Commitments.{cap_over};
 ghost use Rattle.p3_merkle_core.specs.Nodes.{shape, Batch};
 ghost use Rattle.p3_merkle_core.specs.Parts.{parts_refusal, AreParts, HasNodes};
 ghost use Rattle.p3_merkle_core.specs.declared.error.PartsError.TheVariants.{OutOfMemory};
-ghost use Rattle.p3_merkle_mmcs.specs.Schemes.{cap_height_of, cap_layer_over, params_over};
+ghost use Rattle.p3_merkle_mmcs.specs.Schemes.{cap_height_of, cap_layer_of, functions_of, params_of};
 
 use crate::mmcs::MerkleTreeMmcs;
 use p3_merkle_core::error::PartsError;
-use p3_merkle_digests::parts::digests_of_whole;
+use p3_merkle_digests::parts::cap_digests_from_parts;
 use p3_support::compress::PseudoCompressionFunction;
 use p3_support::hasher::CryptographicHasher;
 use p3_support::opening::MerkleCap;
@@ -56,14 +56,14 @@ impl<
 
         // For each batch that is cut into parts of these heights: where the caps have the parts' nodes, the cap is the
         // batch's own.
-        ensures whole { let c = params_over H.hash C.compression D self.now in
+        ensures whole { let roots = map roots_of caps.now in
             IfOk result (λ cap. (b : Batch P.Value) (part : ℕ → Batch P.Value) → b.arity ≡ N →
             AreParts b heights.now part →
-            ((k : ℕ) → k < length heights.now → HasNodes (c (shape (part k))).functions (part k)
-            (cap_layer_over self.now (shape (part k))) (slice_index_or (map roots_of caps.now) k [])) →
-            roots_of cap ≡ cap_over (c (shape b)) b) }
+            ((k : ℕ) → k < length heights.now → HasNodes (functions_of self.now) (part k)
+            (cap_layer_of self.now (shape (part k))) (slice_index_or roots k [])) →
+            roots_of cap ≡ cap_over (params_of self.now (shape b)) b) }
     {
-        let digests = digests_of_whole::<P::Value, PW, C, N, D>(
+        let digests = cap_digests_from_parts::<P::Value, PW, C, N, D>(
             alloc,
             &self.compress,
             self.cap_height,

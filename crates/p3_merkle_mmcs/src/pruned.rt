@@ -1,19 +1,16 @@
 //! Pruned openings: the rows of several leaves by one proof, with no digest that the rows give already.
 
-ghost use Rattle.std.specs.Prelude.{◌≡◌, ◌<◌, All, IfOk, IsOk, None, length, map};
+ghost use Rattle.std.specs.Prelude.{◌≡◌, ◌<◌, All, IfOk, None};
 ghost use Rattle.p3_merkle_core.specs.Geometry.{heights, shape_of};
-ghost use Rattle.p3_merkle_core.specs.Commitments.{cap_over, IsOwn};
 ghost use Rattle.p3_support.specs.Batches.{greatest};
 ghost use Rattle.p3_merkle_core.specs.Nodes.{shape};
-ghost use Rattle.p3_merkle_core.specs.Openings.{honest};
-ghost use Rattle.p3_merkle_core.specs.Presented.{presented_pruned, presented_to_restore, IsVerdict};
-ghost use Rattle.p3_merkle_core.specs.Pruning.{honest_query, pruned_in_layers, pruned_len, restored_paths, IsLeast};
-ghost use Rattle.p3_merkle_core.specs.Pruning.{IsPrunedAccepted};
+ghost use Rattle.p3_merkle_core.specs.Presented.{presented_to_restore, IsVerdict};
+ghost use Rattle.p3_merkle_core.specs.Pruning.{restored_paths, IsLeast};
 ghost use Rattle.p3_merkle_core.specs.Refusals.{pruned_len_refusal, AnswersUnlessMemory};
-ghost use Rattle.p3_merkle_core.specs.Views.{multi_made, pruned_lent, pruned_made, shown_paths};
-ghost use Rattle.p3_merkle_prover.specs.Parts.{layers_of, tree_batch};
-ghost use Rattle.p3_merkle_mmcs.specs.Schemes.{cap_layer_of, cap_layer_over, params_of, params_over};
-ghost use Rattle.p3_support.specs.Shown.{roots_of};
+ghost use Rattle.p3_merkle_core.specs.Views.{multi_made, pruned_borrowed, pruned_made, shown_paths};
+ghost use Rattle.p3_merkle_prover.specs.Parts.{tree_batch};
+ghost use Rattle.p3_merkle_mmcs.specs.Committed.{presented_all, OpensPruned};
+ghost use Rattle.p3_merkle_mmcs.specs.Schemes.{cap_layer_of, params_of};
 
 use crate::mmcs::{MerkleTreeMmcs, Scheme};
 use p3_merkle_core::error::MerkleTreeError;
@@ -23,7 +20,7 @@ use p3_merkle_core::pruning::{
 };
 use p3_merkle_core::steps::{Covered, check_heights, steps_of};
 use p3_merkle_prover::opener::steps_in;
-use p3_merkle_prover::pruned_opener::{digests_of_boundary, rows_of_indices};
+use p3_merkle_prover::pruned_opener::{boundary_digests, rows_of_indices};
 use p3_merkle_prover::tree::MerkleTree;
 use p3_merkle_verifier::openings::PrunedOpeningRef;
 use p3_support::compress::PseudoCompressionFunction;
@@ -33,24 +30,16 @@ use p3_support::opening::MerkleCap;
 use p3_support::packed::PackedValue;
 use std::alloc::Global;
 
-/// The pruned opening of these indices, row sets and digests, all borrowed.
-pub(crate) fn lent_pruned<'a, T, W: Copy, const D: usize>(
-    indices: &'a [usize],
-    rows: &'a [Vec<Vec<T>>],
-    proof: &'a PrunedMerklePaths<W, D>,
-) -> PrunedOpeningRef<'a, T, [W; D]>
-    ensures indices { result.indices.now ≡ indices.now }
-    ensures rows { result.sets.now ≡ rows.now }
-    ensures digests { result.sent.now ≡ proof.now.sibling_hashes.items }
-{
-    PrunedOpeningRef {
-        indices,
-        sets: rows,
-        sent: proof.sibling_hashes.as_slice(),
-    }
-}
-
-impl<P: PackedValue, PW: PackedValue, H, C, X, G, const N: usize> Scheme<P, PW, H, C, X, G, N> {
+impl<
+    P: PackedValue,
+    PW: PackedValue,
+    H: CryptographicHasher<P, PW, D>,
+    C: PseudoCompressionFunction<PW, N, D>,
+    X,
+    G,
+    const N: usize,
+    const D: usize,
+> Scheme<P, PW, H, C, X, G, N, D> {
     /// The number of digests in a pruned proof of these indices, over matrices of these dimensions. The proof has the
     /// digests that a verifier cannot compute from the rows: on each level below the cap, those of the children of
     /// covered nodes that are not covered themselves. A node is covered if it is a queried leaf or above one. No
@@ -70,8 +59,8 @@ impl<P: PackedValue, PW: PackedValue, H, C, X, G, const N: usize> Scheme<P, PW, 
         indices: &[usize],
     ) -> Result<usize, MerkleTreeError>
         ensures answer { AnswersUnlessMemory result (pruned_len_refusal (shape_of N dimensions.now) indices.now) }
-        ensures least { let cap_layer = cap_layer_of self.now dimensions.now in
-            IfOk result (λ count. IsLeast (shape_of N dimensions.now) indices.now cap_layer count) }
+        ensures least { let s = shape_of N dimensions.now in
+            IfOk result (λ count. IsLeast s indices.now (cap_layer_of self.now s) count) }
     {
         let steps = steps_of(dimensions, N);
         check_heights(steps.dimensions)?;
@@ -108,33 +97,12 @@ impl<
         tree: &MerkleTree<P::Value, PW::Value, M, N, D>,
     ) -> Result<PrunedBatchOpening<P::Value, PW::Value, D>, MerkleTreeError>
         requires { All (λ index. index < greatest (heights (shape (tree_batch tree.now)))) indices.now }
-        ensures opened { let b = tree_batch tree.now in
-            let cap_layer = cap_layer_over self.now (shape b) in
-            let in_layers = pruned_in_layers b (layers_of tree.now) cap_layer indices.now in
-            IfOk result (λ o. pruned_made indices.now o ≡ in_layers) }
-        ensures least { let s = shape (tree_batch tree.now) in
-            let cap_layer = cap_layer_over self.now s in
-            IfOk result (λ o. IsLeast s indices.now cap_layer (length (pruned_made indices.now o).digests)) }
-
-        // Where the tree is this scheme's own, the opening is the honest one; it is accepted, and restores to the
-        // siblings that `open_batch` opens.
-        ensures honest { let b = tree_batch tree.now in
-            let c = params_over H.hash C.compression D self.now (shape b) in
-            IsOwn c b (layers_of tree.now) →
-            IfOk result (λ o. pruned_made indices.now o ≡ honest_query c.functions b c.layer indices.now) }
-        ensures accepted { let b = tree_batch tree.now in
-            let c = params_over H.hash C.compression D self.now (shape b) in
-            IsOwn c b (layers_of tree.now) →
-            IfOk result (λ o. IsPrunedAccepted c (cap_over c b) (pruned_made indices.now o)) }
-        ensures restored { let b = tree_batch tree.now in
-            let c = params_over H.hash C.compression D self.now (shape b) in
-            IsOwn c b (layers_of tree.now) → IfOk result (λ o. restored_paths c (pruned_made indices.now o) ≡
-            map (λ i. (i, (honest c.functions b c.layer i).siblings)) indices.now) }
+        ensures opened { IfOk result (λ o. OpensPruned self.now tree.now (pruned_made indices.now o)) }
         ensures memory { AnswersUnlessMemory result None }
     {
         let cap_layer = steps_in(tree).cap_layer(self.cap_rule, self.cap_height);
         let opened_values = rows_of_indices(alloc, tree, indices)?;
-        let sibling_hashes = digests_of_boundary(alloc, tree, indices, cap_layer)?;
+        let sibling_hashes = boundary_digests(alloc, tree, indices, cap_layer)?;
         Ok(PrunedRows {
             opened_values,
             pruned_proof: PrunedProof { sibling_hashes },
@@ -154,28 +122,7 @@ impl<
         tree: &MerkleTree<P::Value, PW::Value, M, N, D>,
     ) -> Result<(Vec<Vec<Vec<P::Value>>>, PrunedMerklePaths<PW::Value, D>), MerkleTreeError>
         requires { All (λ index. index < greatest (heights (shape (tree_batch tree.now)))) indices.now }
-        ensures opened { let b = tree_batch tree.now in
-            let cap_layer = cap_layer_over self.now (shape b) in
-            let in_layers = pruned_in_layers b (layers_of tree.now) cap_layer indices.now in
-            IfOk result (λ o. multi_made indices.now o ≡ in_layers) }
-        ensures least { let s = shape (tree_batch tree.now) in
-            let cap_layer = cap_layer_over self.now s in
-            IfOk result (λ o. IsLeast s indices.now cap_layer (length (multi_made indices.now o).digests)) }
-
-        // Where the tree is this scheme's own, the opening is the honest one; it is accepted, and restores to the
-        // siblings that `open_batch` opens.
-        ensures honest { let b = tree_batch tree.now in
-            let c = params_over H.hash C.compression D self.now (shape b) in
-            IsOwn c b (layers_of tree.now) →
-            IfOk result (λ o. multi_made indices.now o ≡ honest_query c.functions b c.layer indices.now) }
-        ensures accepted { let b = tree_batch tree.now in
-            let c = params_over H.hash C.compression D self.now (shape b) in
-            IsOwn c b (layers_of tree.now) →
-            IfOk result (λ o. IsPrunedAccepted c (cap_over c b) (multi_made indices.now o)) }
-        ensures restored { let b = tree_batch tree.now in
-            let c = params_over H.hash C.compression D self.now (shape b) in
-            IsOwn c b (layers_of tree.now) → IfOk result (λ o. restored_paths c (multi_made indices.now o) ≡
-            map (λ i. (i, (honest c.functions b c.layer i).siblings)) indices.now) }
+        ensures opened { IfOk result (λ o. OpensPruned self.now tree.now (multi_made indices.now o)) }
         ensures memory { AnswersUnlessMemory result None }
     {
         let PrunedRows {
@@ -220,16 +167,11 @@ impl<
         rows: &[Vec<Vec<P::Value>>],
         proof: &PrunedMerklePaths<PW::Value, D>,
     ) -> Result<(), MerkleTreeError>
-        ensures verdict { let c = params_of H.hash C.compression D self.now dimensions.now in
-            let p = pruned_lent indices.now rows.now proof.now in
-            IsVerdict (presented_pruned P.Value.eq PW.Value.eq c (roots_of commit.now) p) result }
-        ensures count { let cap_layer = cap_layer_of self.now dimensions.now in
-            let count = pruned_len (shape_of N dimensions.now) indices.now cap_layer in
-            IsOk result → length proof.now.sibling_hashes.items ≡ count }
+        ensures { IsVerdict (presented_all self.now dimensions.now commit.now indices.now rows.now proof.now) result }
     {
         let steps = steps_of(dimensions, N);
         let cap_layer = steps.cap_layer(self.cap_rule, self.cap_height);
-        let opening = lent_pruned(indices, rows, proof);
+        let opening = PrunedOpeningRef::new(indices, rows, proof);
         self.checker()
             .check_pruned_opening(alloc, commit.roots(), &steps, cap_layer, opening)
     }
@@ -248,12 +190,7 @@ impl<
         rows: &[Vec<Vec<P::Value>>],
         proof: &PrunedMerklePaths<PW::Value, D>,
     ) -> Result<(), MerkleTreeError>
-        ensures verdict { let c = params_of H.hash C.compression D self.now dimensions.now in
-            let p = pruned_lent indices.now rows.now proof.now in
-            IsVerdict (presented_pruned P.Value.eq PW.Value.eq c (roots_of commit.now) p) result }
-        ensures count { let cap_layer = cap_layer_of self.now dimensions.now in
-            let count = pruned_len (shape_of N dimensions.now) indices.now cap_layer in
-            IsOk result → length proof.now.sibling_hashes.items ≡ count }
+        ensures { IsVerdict (presented_all self.now dimensions.now commit.now indices.now rows.now proof.now) result }
     {
         self.verify_batch_pruned(alloc, commit, dimensions, indices, rows, proof)
     }
@@ -293,16 +230,16 @@ impl<
         rows: &[Vec<Vec<P::Value>>],
         proof: &PrunedMerklePaths<PW::Value, D>,
     ) -> Result<Vec<MerkleAuthPath<PW::Value, D>>, MerkleTreeError>
-        ensures verdict { let cap_layer = cap_layer_of self.now dimensions.now in
-            let p = pruned_lent indices.now rows.now proof.now in
-            IsVerdict (presented_to_restore P.Value.eq (shape_of N dimensions.now) cap_layer p) result }
-        ensures paths { let c = params_of H.hash C.compression D self.now dimensions.now in
-            let p = pruned_lent indices.now rows.now proof.now in
+        ensures verdict { let s = shape_of N dimensions.now in
+            let p = pruned_borrowed indices.now rows.now proof.now in
+            IsVerdict (presented_to_restore P.Value.eq s (cap_layer_of self.now s) p) result }
+        ensures paths { let c = params_of self.now (shape_of N dimensions.now) in
+            let p = pruned_borrowed indices.now rows.now proof.now in
             IfOk result (λ paths. shown_paths paths.items ≡ restored_paths c p) }
     {
         let steps = steps_of(dimensions, N);
         let cap_layer = steps.cap_layer(self.cap_rule, self.cap_height);
-        let opening = lent_pruned(indices, rows, proof);
+        let opening = PrunedOpeningRef::new(indices, rows, proof);
         self.checker()
             .restored_paths(alloc, &steps, cap_layer, opening)
     }

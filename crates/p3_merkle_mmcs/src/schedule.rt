@@ -12,25 +12,28 @@ use p3_merkle_core::geometry::ArityAndPositions;
 use p3_merkle_core::steps::{check_heights, steps_of};
 use p3_merkle_prover::opener::{matrix_refs, max_height};
 use p3_merkle_prover::tree::Tree;
+use p3_support::compress::PseudoCompressionFunction;
+use p3_support::hasher::CryptographicHasher;
 use p3_support::matrix::{Dimensions, Matrix};
 use p3_support::packed::PackedValue;
 use std::alloc::Global;
 
-impl<P: PackedValue, PW: PackedValue, H, C, X: Copy, G, const N: usize> Scheme<
-    P,
-    PW,
-    H,
-    C,
-    X,
+impl<
+    P: PackedValue,
+    PW: PackedValue,
+    H: CryptographicHasher<P, PW, D>,
+    C: PseudoCompressionFunction<PW, N, D>,
+    X: Copy,
     G,
-    N,
-> {
+    const N: usize,
+    const D: usize,
+> Scheme<P, PW, H, C, X, G, N, D> {
     ghost use Rattle.p3_support.specs.Batches.{greatest};
     ghost use Rattle.p3_merkle_core.specs.Geometry.{arity_schedule as schedule_in, exponent, heights};
     ghost use Rattle.p3_merkle_core.specs.Nodes.{shape};
     ghost use Rattle.p3_merkle_core.specs.declared.error.MerkleTreeError.TheVariants.{OutOfMemory};
     ghost use Rattle.p3_merkle_prover.specs.Parts.{matrices_of, tree_batch};
-    ghost use Rattle.p3_merkle_mmcs.specs.Schemes.{cap_layer_over};
+    ghost use Rattle.p3_merkle_mmcs.specs.Schemes.{cap_layer_of};
 
     /// The step of each level below the cap, from the leaves up: how many children a node above it has, in the tree
     /// over matrices of these dimensions.
@@ -46,9 +49,9 @@ impl<P: PackedValue, PW: PackedValue, H, C, X: Copy, G, const N: usize> Scheme<
     ) -> Result<Vec<usize>, MerkleTreeError>
         ensures answer { AnswersUnlessMemory result (gate_refusal (heights_of dimensions.now)) }
         ensures steps { let s = shape_of N dimensions.now in
-            IfOk result (λ v. v.items ≡ schedule_below s (cap_layer_over self.now s)) }
+            IfOk result (λ v. v.items ≡ schedule_below s (cap_layer_of self.now s)) }
         ensures first { let s = shape_of N dimensions.now in
-            IfOk result (λ v. v.items ≡ take (cap_layer_over self.now s) (schedule_in s)) }
+            IfOk result (λ v. v.items ≡ take (cap_layer_of self.now s) (schedule_in s)) }
         ensures few { IfOk result (λ v. vec_len v ≤ exponent (greatest (heights_of dimensions.now))) }
     {
         let steps = steps_of(dimensions, N);
@@ -74,11 +77,11 @@ impl<P: PackedValue, PW: PackedValue, H, C, X: Copy, G, const N: usize> Scheme<
         num_siblings: usize,
     ) -> Result<ArityAndPositions, MerkleTreeError>
         ensures answer { let s = shape_of N dimensions.now in
-            AnswersUnlessMemory result (replay_refusal s (cap_layer_over self.now s) index num_siblings) }
+            AnswersUnlessMemory result (replay_refusal s (cap_layer_of self.now s) index num_siblings) }
         ensures schedule { let s = shape_of N dimensions.now in
-            IfOk result (λ r. r.arity_schedule.items ≡ schedule_below s (cap_layer_over self.now s)) }
+            IfOk result (λ r. r.arity_schedule.items ≡ schedule_below s (cap_layer_of self.now s)) }
         ensures positions { let s = shape_of N dimensions.now in
-            IfOk result (λ r. r.query_positions.items ≡ positions_below s (cap_layer_over self.now s) index) }
+            IfOk result (λ r. r.query_positions.items ≡ positions_below s (cap_layer_of self.now s) index) }
     {
         let steps = steps_of(dimensions, N);
         check_heights(steps.dimensions)?;

@@ -1,26 +1,24 @@
 //! The trait `Mmcs` for the scheme, so that callers can be generic in the scheme.
 
-ghost use Rattle.std.specs.Prelude.{◌≡◌, ◌<◌, ◌↔◌, All, IfErr, IfOk, IsOk, List, length, map};
+ghost use Rattle.std.specs.Prelude.{◌≡◌, ◌<◌, All, IfErr, IfOk, List, map};
 ghost use Rattle.p3_merkle_prover.specs.Parts.{layers_of, matrices_of, tree_batch};
-ghost use Rattle.p3_merkle_core.specs.Commitments.{IsCommitment, IsOwn, HaveProof};
+ghost use Rattle.p3_merkle_core.specs.Commitments.{HaveProof, IsCommitment};
 ghost use Rattle.p3_merkle_core.specs.Gate.{gate_refusal};
 ghost use Rattle.p3_merkle_core.specs.Geometry.{heights, shape_of, IsLawful, halved_index};
 ghost use Rattle.p3_merkle_core.specs.Nodes.{shape};
-ghost use Rattle.p3_merkle_core.specs.Openings.{honest, opening_in_layers, opening_of};
+ghost use Rattle.p3_merkle_core.specs.Openings.{opening_of};
 ghost use Rattle.p3_merkle_core.specs.Checks.{IsAccepted};
-ghost use Rattle.p3_merkle_core.specs.Presented.{presented_pruned, IsVerdict};
-ghost use Rattle.p3_merkle_core.specs.Pruning.{honest_query, pruned_in_layers, pruned_len, pruned_of, restored_paths};
-ghost use Rattle.p3_merkle_core.specs.Pruning.{IsLeast, IsPrunedAccepted};
-ghost use Rattle.p3_merkle_core.specs.Refusals.{answer_under, pruned_refusal_under, refusal_under};
-ghost use Rattle.p3_merkle_core.specs.Refusals.{AnswersUnlessMemory};
+ghost use Rattle.p3_merkle_core.specs.Presented.{IsExactVerdict, IsVerdict};
+ghost use Rattle.p3_merkle_core.specs.Pruning.{pruned_of, IsPrunedAccepted};
+ghost use Rattle.p3_merkle_core.specs.Refusals.{pruned_refusal_under, refusal_under, AnswersUnlessMemory};
 ghost use Rattle.p3_merkle_core.specs.declared.error.MerkleTreeError.TheVariants.{OutOfMemory};
+ghost use Rattle.p3_merkle_mmcs.specs.Committed.{presented_all, presented_one, Commits, Opens, OpensPruned};
 ghost use Rattle.p3_merkle_mmcs.specs.Inner.CommitmentLaws.{at_same, each_shown, row_in_matrix, same_is_equivalence};
 ghost use Rattle.p3_merkle_mmcs.specs.Inner.CommitmentLaws.{shown_rows_fit, tallest_at_index};
-ghost use Rattle.p3_merkle_mmcs.specs.Schemes.{cap_layer_of, cap_layer_over, scheme_functions, params_of, params_over};
-ghost use Rattle.p3_merkle_mmcs.specs.Schemes.{IsSameScheme};
+ghost use Rattle.p3_merkle_mmcs.specs.Schemes.{cap_layer_of, functions_of, params_of, IsSameScheme};
 ghost use Rattle.p3_support.specs.Batches.{dimensions_in, greatest, rows_in};
 ghost use Rattle.p3_support.specs.Shown.{roots_of, row_lists, row_sets};
-ghost use Rattle.p3_merkle_core.specs.Views.{batch_of, heights_in, multi_made, opening_lent, opening_made, pruned_lent};
+ghost use Rattle.p3_merkle_core.specs.Views.{heights_in, multi_made, opening_made};
 
 use crate::mmcs::MerkleTreeMmcs;
 use p3_merkle_core::error::MerkleTreeError;
@@ -66,28 +64,26 @@ impl<
 
     ghost matrices_in = { λ tree. matrices_of tree };
 
-    ghost commits_to = { λ s cap tree. let b = tree_batch tree in
-        IsCommitment (params_over H.hash C.compression D s (shape b)) (roots_of cap) b (layers_of tree) };
+    ghost commits_to = { λ s cap tree. Commits s (roots_of cap) tree };
 
     ghost row_at = { halved_index };
 
     ghost is_shown = { λ s cap dimensions index rows.
-        HaveProof (params_of H.hash C.compression D s dimensions) (roots_of cap) index rows };
+        HaveProof (params_of s (shape_of N dimensions)) (roots_of cap) index rows };
 
     ghost accepts = { λ s cap dimensions index rows siblings.
-        IsAccepted (params_of H.hash C.compression D s dimensions) (roots_of cap)
-        (opening_of index rows siblings.items) };
+        IsAccepted (params_of s (shape_of N dimensions)) (roots_of cap) (opening_of index rows siblings.items) };
 
     ghost accepts_all = { λ s cap dimensions indices sets proof.
-        IsPrunedAccepted (params_of H.hash C.compression D s dimensions) (roots_of cap)
+        IsPrunedAccepted (params_of s (shape_of N dimensions)) (roots_of cap)
         (pruned_of indices sets proof.sibling_hashes.items) };
 
     ghost refusal = { λ s cap dimensions index rows siblings.
-        refusal_under PW.Value.eq (params_of H.hash C.compression D s dimensions) (roots_of cap)
+        refusal_under PW.Value.eq (params_of s (shape_of N dimensions)) (roots_of cap)
         (opening_of index rows siblings.items) };
 
     ghost refusal_of_all = { λ s cap dimensions indices sets proof.
-        pruned_refusal_under P.Value.eq PW.Value.eq (params_of H.hash C.compression D s dimensions) (roots_of cap)
+        pruned_refusal_under P.Value.eq PW.Value.eq (params_of s (shape_of N dimensions)) (roots_of cap)
         (pruned_of indices sets proof.sibling_hashes.items) };
 
     fn commit(
@@ -98,15 +94,10 @@ impl<
         ensures agrees { IsSameScheme self.old self.new }
         ensures taken { IfOk result (λ made. IsLawful (heights_in M.height_of M.width_of M.row_of matrices.items)) }
         ensures matrices { IfOk result (λ made. matrices_of made.1 ≡ matrices.items) }
-        ensures commitment { IfOk result (λ made. let b = tree_batch made.1 in
-            IsCommitment (params_over H.hash C.compression D self.new (shape b)) (roots_of made.0) b
-            (layers_of made.1)) }
+        ensures commitment { IfOk result (λ made. Commits self.new (roots_of made.0) made.1) }
         ensures answer { AnswersUnlessMemory result
             (gate_refusal (heights_in M.height_of M.width_of M.row_of matrices.items)) }
         ensures unchanged { self.new ≡ self.old }
-        ensures committed { let b = batch_of M.height_of M.width_of M.row_of N matrices.items in
-            let c = params_over H.hash C.compression D self.old (shape b) in
-            IfOk result (λ made. IsCommitment c (roots_of made.0) b (layers_of made.1)) }
         ensures memory { IsLawful (heights_in M.height_of M.width_of M.row_of matrices.items) →
             IfErr result (λ e. e ≡ OutOfMemory) }
     {
@@ -123,19 +114,10 @@ impl<
         ensures rows { let ms = matrices_of prover_data.now in
             IfOk result (λ o. row_lists o.opened_values.items ≡
             rows_in M.height_of M.row_of halved_index (greatest (map M.height_of ms)) ms index) }
-        ensures opened { let b = tree_batch prover_data.now in
-            let cap_layer = cap_layer_over self.now (shape b) in
-            IfOk result (λ o. opening_made index o ≡ opening_in_layers b (layers_of prover_data.now) cap_layer index) }
-        ensures honest { let b = tree_batch prover_data.now in
-            let c = params_over H.hash C.compression D self.now (shape b) in
-            IsOwn c b (layers_of prover_data.now) →
-            IfOk result (λ o. opening_made index o ≡ honest c.functions b c.layer index) }
-        ensures accepted { let b = tree_batch prover_data.now in
-            let dimensions = dimensions_in M.height_of M.width_of (matrices_of prover_data.now) in
-            (roots : List (List PW.Value)) →
-            IsCommitment (params_over H.hash C.compression D self.now (shape b)) roots b (layers_of prover_data.now) →
-            IfOk result (λ o. IsAccepted (params_of H.hash C.compression D self.now dimensions) roots
-            (opening_made index o)) }
+        ensures opened { IfOk result (λ o. Opens self.now prover_data.now (opening_made index o)) }
+        ensures accepted { let dimensions = dimensions_in M.height_of M.width_of (matrices_of prover_data.now) in
+            (roots : List (List PW.Value)) → Commits self.now roots prover_data.now →
+            IfOk result (λ o. IsAccepted (params_of self.now (shape_of N dimensions)) roots (opening_made index o)) }
         ensures memory { IfErr result (λ e. e ≡ OutOfMemory) }
     {
         lemma_index(prover_data, index);
@@ -162,10 +144,7 @@ impl<
         index: usize,
         opening: BatchOpeningRef<'_, P::Value, Self::Proof>,
     ) -> Result<(), Self::Error>
-        ensures answer { let c = params_of H.hash C.compression D self.now dimensions.now in
-            result ≡ answer_under PW.Value.eq c (roots_of commitment.now) (opening_lent index opening.entry) }
-        ensures accepted { let c = params_of H.hash C.compression D self.now dimensions.now in
-            IsOk result ↔ IsAccepted c (roots_of commitment.now) (opening_lent index opening.entry) }
+        ensures { IsExactVerdict (presented_one self.now dimensions.now commitment.now index opening.entry) result }
     {
         self.verify_batch(commitment, dimensions, index, opening)
     }
@@ -180,27 +159,11 @@ impl<
         ensures rows { let ms = matrices_of prover_data.now in
             IfOk result (λ o. row_sets o.0.items ≡
             map (rows_in M.height_of M.row_of halved_index (greatest (map M.height_of ms)) ms) indices.now) }
-        ensures opened { let b = tree_batch prover_data.now in
-            let cap_layer = cap_layer_over self.now (shape b) in
-            let in_layers = pruned_in_layers b (layers_of prover_data.now) cap_layer indices.now in
-            IfOk result (λ o. multi_made indices.now o ≡ in_layers) }
-        ensures least { let s = shape (tree_batch prover_data.now) in
-            let cap_layer = cap_layer_over self.now s in
-            IfOk result (λ o. IsLeast s indices.now cap_layer (length (multi_made indices.now o).digests)) }
-        ensures honest { let b = tree_batch prover_data.now in
-            let c = params_over H.hash C.compression D self.now (shape b) in
-            IsOwn c b (layers_of prover_data.now) →
-            IfOk result (λ o. multi_made indices.now o ≡ honest_query c.functions b c.layer indices.now) }
-        ensures accepted { let b = tree_batch prover_data.now in
-            let dimensions = dimensions_in M.height_of M.width_of (matrices_of prover_data.now) in
-            (roots : List (List PW.Value)) →
-            IsCommitment (params_over H.hash C.compression D self.now (shape b)) roots b (layers_of prover_data.now) →
-            IfOk result (λ o. IsPrunedAccepted (params_of H.hash C.compression D self.now dimensions) roots
-            (multi_made indices.now o)) }
-        ensures restored { let b = tree_batch prover_data.now in
-            let c = params_over H.hash C.compression D self.now (shape b) in
-            IsOwn c b (layers_of prover_data.now) → IfOk result (λ o. restored_paths c (multi_made indices.now o) ≡
-            map (λ i. (i, (honest c.functions b c.layer i).siblings)) indices.now) }
+        ensures opened { IfOk result (λ o. OpensPruned self.now prover_data.now (multi_made indices.now o)) }
+        ensures accepted { let dimensions = dimensions_in M.height_of M.width_of (matrices_of prover_data.now) in
+            let c = params_of self.now (shape_of N dimensions) in
+            (roots : List (List PW.Value)) → Commits self.now roots prover_data.now →
+            IfOk result (λ o. IsPrunedAccepted c roots (multi_made indices.now o)) }
         ensures memory { IfErr result (λ e. e ≡ OutOfMemory) }
     {
         lemma_indices(prover_data, indices);
@@ -210,20 +173,15 @@ impl<
     fn verify_multi_batch(
         &self,
         alloc: Global,
-        commitment: &Self::Commitment,
+        commit: &Self::Commitment,
         dimensions: &[Dimensions],
         indices: &[usize],
         rows: &[Vec<Vec<P::Value>>],
         proof: &Self::MultiProof,
     ) -> Result<(), Self::Error>
-        ensures verdict { let c = params_of H.hash C.compression D self.now dimensions.now in
-            let p = pruned_lent indices.now rows.now proof.now in
-            IsVerdict (presented_pruned P.Value.eq PW.Value.eq c (roots_of commitment.now) p) result }
-        ensures count { let cap_layer = cap_layer_of self.now dimensions.now in
-            let count = pruned_len (shape_of N dimensions.now) indices.now cap_layer in
-            IsOk result → length proof.now.sibling_hashes.items ≡ count }
+        ensures { IsVerdict (presented_all self.now dimensions.now commit.now indices.now rows.now proof.now) result }
     {
-        self.verify_multi_batch(alloc, commitment, dimensions, indices, rows, proof)
+        self.verify_multi_batch(alloc, commit, dimensions, indices, rows, proof)
     }
 
     ghost row_of_tallest = { tallest_at_index };
@@ -234,24 +192,24 @@ impl<
         record { siblings = siblings.items; is_accepted = accepted } };
 
     ghost shown_by_all = { λ s cap dimensions indices sets proof accepted.
-        each_shown (params_of H.hash C.compression D s dimensions) (roots_of cap)
+        each_shown (params_of s (shape_of N dimensions)) (roots_of cap)
         (pruned_of indices sets proof.sibling_hashes.items) accepted };
 
     ghost shown_fits = { λ s cap dimensions index rows.
-        shown_rows_fit (scheme_functions H.hash C.compression D s) N (cap_layer_of s dimensions) dimensions
-        (roots_of cap) index rows };
+        shown_rows_fit (functions_of s) N (cap_layer_of s (shape_of N dimensions)) dimensions (roots_of cap) index
+        rows };
 
     ghost agreement = { same_is_equivalence };
 
     ghost agreed_commitment = { λ s t cap tree. let b = tree_batch tree in
-        at_same H.hash C.compression D (shape b) s t (λ c. IsCommitment c (roots_of cap) b (layers_of tree)) };
+        at_same (shape b) s t (λ c. IsCommitment c (roots_of cap) b (layers_of tree)) };
 
     ghost agreed_proof = { λ s t cap dimensions index rows siblings.
-        at_same H.hash C.compression D (shape_of N dimensions) s t
+        at_same (shape_of N dimensions) s t
         (λ c. IsAccepted c (roots_of cap) (opening_of index rows siblings.items)) };
 
     ghost agreed_proof_of_all = { λ s t cap dimensions indices sets proof.
-        at_same H.hash C.compression D (shape_of N dimensions) s t
+        at_same (shape_of N dimensions) s t
         (λ c. IsPrunedAccepted c (roots_of cap) (pruned_of indices sets proof.sibling_hashes.items)) };
 }
 

@@ -6,13 +6,13 @@ ghost use Rattle.p3_merkle_core.specs.Gate.{gate_refusal};
 ghost use Rattle.p3_merkle_core.specs.Geometry.{is_arity, IsLawful};
 ghost use Rattle.p3_merkle_core.specs.Nodes.{functions_of, layers as layers_over};
 ghost use Rattle.p3_merkle_core.specs.Refusals.{AnswersUnlessMemory};
-ghost use Rattle.p3_merkle_core.specs.Views.{batch_of, heights_in};
-ghost use Rattle.p3_merkle_prover.specs.Parts.{layers_of, matrices_of};
+ghost use Rattle.p3_merkle_core.specs.Views.{heights_in};
+ghost use Rattle.p3_merkle_prover.specs.Parts.{layers_of, matrices_of, tree_batch};
 
 use crate::layers::TreeBuilder;
 use crate::tree::{MerkleTree, Tree};
 use p3_merkle_core::error::MerkleTreeError;
-use p3_merkle_core::steps::{KeptSteps, check_heights};
+use p3_merkle_core::steps::{OwnedSteps, check_heights};
 use p3_support::compress::PseudoCompressionFunction;
 use p3_support::hasher::CryptographicHasher;
 use p3_support::matrix::{Dimensions, Matrix, dimensions_of};
@@ -81,15 +81,14 @@ pub fn tree_over<
     ensures matrices { IfOk result (λ tree. matrices_of tree ≡ leaves.matrices.items) }
     ensures layers { let f = functions_of (H.hash hash.now) (C.compression compress.now)
         (replicate D PW.default_value) in
-        let b = batch_of M.height_of M.width_of M.row_of N leaves.matrices.items in
-        IfOk result (λ tree. layers_of tree ≡ layers_over f b) }
+        IfOk result (λ tree. layers_of tree ≡ layers_over f (tree_batch tree)) }
 {
     let CheckedMatrices {
         matrices,
         dimensions,
         ..
     } = leaves;
-    let kept = KeptSteps::new(dimensions, N);
+    let kept = OwnedSteps::new(dimensions, N);
     let steps = kept.steps();
     let builder = TreeBuilder::<P, PW, H, C, M, N, D> {
         hash,

@@ -8,6 +8,7 @@ ghost use Rattle.std.specs.List.{range_with_len};
 ghost use Rattle.std.specs.Mem.{FitsInMemory};
 ghost use denote.Param.{ArrayAt};
 ghost use Rattle.p3_support.specs.Lists.{lane_of};
+ghost use Rattle.p3_merkle_core.specs.Computed.{Computes};
 ghost use Rattle.p3_merkle_prover.specs.Inner.Levels.{HasChildren};
 ghost use Rattle.p3_merkle_digests.specs.Inner.Slots.{IsFilled};
 
@@ -31,12 +32,13 @@ pub(crate) struct LayerOver<
     'b,
     P: PackedValue,
     PW: PackedValue,
-    H,
-    C,
+    H: CryptographicHasher<P, PW, D>,
+    C: PseudoCompressionFunction<PW, N, D>,
     M: Matrix<P::Value>,
     X,
     G,
     const N: usize,
+    const D: usize,
 > {
     /// The rows of the matrices that belong to the layer.
     pub rows: LayerRows<'a, P, PW, H, M, X>,
@@ -50,6 +52,7 @@ pub(crate) struct LayerOver<
     pub item: PhantomData<G>,
     ghost lanes: { P.WIDTH ≡ PW.WIDTH },
     ghost children: { HasChildren N level (length below.now) },
+    ghost functions: { Computes (H.hash rows.hash.now) (C.compression compress.now) PW.default_value },
 }
 
 /// The builder of a layer whose digests have `D` words.
@@ -58,12 +61,12 @@ pub(crate) type LayerBuilder<
     'b,
     P: PackedValue,
     PW: PackedValue,
-    H,
-    C,
+    H: CryptographicHasher<P, PW, D>,
+    C: PseudoCompressionFunction<PW, N, D>,
     M: Matrix<P::Value>,
     const N: usize,
     const D: usize,
-> = LayerOver<'a, 'b, P, PW, H, C, M, [PW::Value; D], [[PW::Value; D]; N], N>;
+> = LayerOver<'a, 'b, P, PW, H, C, M, [PW::Value; D], [[PW::Value; D]; N], N, D>;
 
 /// Scratch memory that all layers of a tree share. What it holds between two layers does not matter.
 #[derive(Drop)]
@@ -113,7 +116,7 @@ impl<
         requires nodes { first + PW.WIDTH ≤ self.now.level.raw_len }
         requires rows { self.now.level.has_rows ≡ true → first + PW.WIDTH ≤ self.now.rows.height }
         ensures { (k : ℕ) → k < PW.WIDTH →
-            lane_of PW.lanes PW.default_value k result ≡ slot_of H.hash C.compression D self.now (first + k) }
+            lane_of PW.lanes PW.default_value k result ≡ slot_of self.now (first + k) }
     {
         let folded = compress_children_packed::<PW, C, N, D>(
             self.compress,
@@ -133,7 +136,7 @@ impl<
     fn write_packed(&self, slots: &mut [[PW::Value; D]]) -> usize
         requires { length slots.old ≤ self.now.level.raw_len }
         ensures fits { result ≤ length slots.old }
-        ensures filled { IsFilled (slot_of H.hash C.compression D self.now) result (length slots.old) slots.new }
+        ensures filled { IsFilled (slot_of self.now) result (length slots.old) slots.new }
     {
         let mut count = slots.len();
         if self.level.has_rows {
@@ -158,8 +161,8 @@ impl<
         slots: &mut [[PW::Value; D]],
     ) -> Result<(), AllocError>
         requires { first + length slots.old ≤ self.now.level.raw_len }
-        ensures { let slot = slot_of H.hash C.compression D self.now in
-            IfOk result (λ done. slots.new ≡ map (λ j. slot (first + j)) (range_with_len 0 (length slots.old))) }
+        ensures { IfOk result (λ done. slots.new
+            ≡ map (λ j. slot_of self.now (first + j)) (range_with_len 0 (length slots.old))) }
     {
         let Buffers {
             staged,
@@ -187,10 +190,10 @@ impl<
         slots: &mut [[PW::Value; D]],
     ) -> Result<(), AllocError>
         requires { All (λ digest. digest ≡ replicate D PW.default_value) slots.old }
-        ensures { IfOk result (λ done. slots.new
-            ≡ map (slot_of H.hash C.compression D self.now) (range_with_len 0 (length slots.old))) }
+        ensures { IfOk result (λ done. slots.new ≡ map (slot_of self.now) (range_with_len 0 (length slots.old))) }
     {
-        // In batches where each function takes several messages at a time, else lane by lane while there are enough.
+        // In batches if each function that this layer calls takes several messages at a time. Else lane by lane, as far
+        // as the nodes fill all lanes, and the rest in batches.
         let end = self.level.raw_len.min(slots.len());
         let done = if C::LANES > 1 && (!self.level.has_rows || H::LANES > 1) {
             0

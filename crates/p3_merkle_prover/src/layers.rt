@@ -3,6 +3,7 @@
 //! The matrices that belong to a layer are picked once, and its rows are read from those alone.
 
 ghost use Rattle.std.specs.Prelude.{◌≡◌, All, IfOk, map, filter, length, replicate, ◌==◌};
+ghost use Rattle.p3_merkle_core.specs.Computed.{Computes};
 ghost use Rattle.p3_merkle_core.specs.Geometry.{layer_len, shape_of};
 ghost use Rattle.p3_merkle_core.specs.Inner.Levels.{IsLevel};
 ghost use Rattle.p3_merkle_core.specs.Views.{batch_of};
@@ -31,11 +32,12 @@ pub(crate) struct TreeOver<
     'a,
     P: PackedValue,
     PW: PackedValue,
-    H,
-    C,
+    H: CryptographicHasher<P, PW, D>,
+    C: PseudoCompressionFunction<PW, N, D>,
     M: Matrix<P::Value>,
     G,
     const N: usize,
+    const D: usize,
 > {
     /// The hasher of rows.
     pub hash: &'a H,
@@ -50,6 +52,7 @@ pub(crate) struct TreeOver<
     ghost lanes: { P.WIDTH ≡ PW.WIDTH },
     ghost build: { CanBuild (batch_of M.height_of M.width_of M.row_of N matrices.now) steps.now.dimensions.now },
     ghost arity: { steps.now.arity ≡ N },
+    ghost functions: { Computes (H.hash hash.now) (C.compression compress.now) PW.default_value },
 }
 
 /// The builder of layers whose digests have `D` words.
@@ -57,12 +60,12 @@ pub(crate) type TreeBuilder<
     'a,
     P: PackedValue,
     PW: PackedValue,
-    H,
-    C,
+    H: CryptographicHasher<P, PW, D>,
+    C: PseudoCompressionFunction<PW, N, D>,
     M: Matrix<P::Value>,
     const N: usize,
     const D: usize,
-> = TreeOver<'a, P, PW, H, C, M, [[PW::Value; D]; N], N>;
+> = TreeOver<'a, P, PW, H, C, M, [[PW::Value; D]; N], N, D>;
 
 /// Replaces the contents of `picked` by the matrices of a height, in input order.
 fn pick_matrices<'a, T, M: Matrix<T>>(
@@ -117,8 +120,7 @@ impl<
         picked: &mut Vec<&'a M>,
         buffers: &mut Buffers<P::Value, [PW::Value; D], [[PW::Value; D]; N]>,
     ) -> Result<Vec<[PW::Value; D]>, AllocError>
-        ensures { let f = functions_for H.hash C.compression D self.now in
-            IfOk result (λ v. v.items ≡ layer f (batch_for self.now) 0) }
+        ensures { IfOk result (λ v. v.items ≡ layer (functions_for self.now) (batch_for self.now) 0) }
     {
         let height = self.steps.max_height;
         pick_matrices(picked, self.matrices, height)?;
@@ -144,7 +146,7 @@ impl<
         below: &[[PW::Value; D]],
     ) -> Result<Vec<[PW::Value; D]>, AllocError>
         requires { HasChildren self.now.steps.now.arity level (length below.now) }
-        ensures { IfOk result (λ v. v.items ≡ layer_above H.hash C.compression D self.now level below.now) }
+        ensures { IfOk result (λ v. v.items ≡ layer_above self.now level below.now) }
     {
         pick_matrices(picked, self.matrices, level.height)?;
         let rows = LayerRows {
@@ -167,8 +169,8 @@ impl<
 
     /// All layers, from the leaves to the root.
     pub(crate) fn layers(&self, alloc: Global) -> Result<Vec<Vec<[PW::Value; D]>>, AllocError>
-        ensures { let f = functions_for H.hash C.compression D self.now in
-            IfOk result (λ layers. map (λ nodes. nodes.items) layers.items ≡ layers_over f (batch_for self.now)) }
+        ensures { let all = layers_over (functions_for self.now) (batch_for self.now) in
+            IfOk result (λ layers. map (λ nodes. nodes.items) layers.items ≡ all) }
     {
         let mut exponent = self.steps.exponent;
         let mut len = self.steps.max_height;

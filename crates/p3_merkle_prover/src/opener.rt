@@ -14,9 +14,8 @@ ghost use Rattle.p3_merkle_core.specs.Refusals.{AnswersUnlessMemory};
 use crate::tree::{MerkleTree, Tree};
 use p3_merkle_core::error::MerkleTreeError;
 use p3_merkle_core::geometry::{bits_reduced_of, parent_of, position_of};
-use p3_merkle_core::pruning::extend_with_others;
+use p3_merkle_core::pruning::extend_except;
 use p3_merkle_core::steps::Steps;
-use p3_merkle_digests::batched::FEW_WORDS;
 use p3_support::matrix::Matrix;
 use p3_support::opening::MerkleCap;
 use std::alloc::{AllocError, Global};
@@ -124,13 +123,15 @@ pub fn siblings_of_index<F, X: Copy, G, M: Matrix<F>, const N: usize>(
         let position = position_of(node, step);
         let first = node - position;
         let group = &tree.layers[level][first..first + step];
-        extend_with_others(&mut siblings, group, position)?;
+        extend_except(&mut siblings, group, position)?;
         node = parent_of(node, step);
     }
     Ok(siblings)
 }
 
 /// The words of row `row` of a matrix, which must have the row.
+// Inlined: for a row of few words the call takes as long as the copy.
+#[inline(always)]
 fn words_of_row<F: Copy, M: Matrix<F>>(
     alloc: Global,
     matrix: &M,
@@ -140,12 +141,17 @@ fn words_of_row<F: Copy, M: Matrix<F>>(
     ensures { IfOk result (λ words. words.items ≡ M.row_of matrix.now row) }
 {
     let width = matrix.width();
-    let mut words = Vec::with_capacity(alloc, width)?;
-    if width > FEW_WORDS {
+    let piece = matrix.piece(row, 0);
+    if piece.len() < width {
+        let mut words = Vec::with_capacity(alloc, width)?;
         matrix.append_row(row, &mut words)?;
         return Ok(words);
     }
-    // For so few words this loop takes less time than a call of `append_row`.
+    // For so few words a loop takes less time than a call that copies a slice.
+    if width > 4 {
+        return Vec::from_slice(alloc, &piece[..width]);
+    }
+    let mut words = Vec::with_capacity(alloc, width)?;
     for column in 0..width {
         words.push_reserved(matrix.get(row, column));
     }

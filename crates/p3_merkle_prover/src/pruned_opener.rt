@@ -18,7 +18,7 @@ use crate::opener::{rows_of_index, steps_in};
 use crate::tree::Tree;
 use p3_merkle_core::error::MerkleTreeError;
 use p3_merkle_core::geometry::position_of;
-use p3_merkle_core::pruning::{distinct_indices, extend_with_others};
+use p3_merkle_core::pruning::{distinct_indices, extend_except};
 use p3_merkle_core::steps::Covered;
 use p3_support::matrix::Matrix;
 use std::alloc::Global;
@@ -55,7 +55,7 @@ pub fn rows_of_indices<F: Copy, X, G, M: Matrix<F>, const N: usize>(
 /// # Errors
 ///
 /// Only `OutOfMemory`.
-pub fn digests_of_boundary<F, X: Copy, G, M: Matrix<F>, const N: usize>(
+pub fn boundary_digests<F, X: Copy, G, M: Matrix<F>, const N: usize>(
     alloc: Global,
     tree: &Tree<F, X, G, M, N>,
     indices: &[usize],
@@ -105,7 +105,7 @@ fn extend_with_boundary<X: Copy>(
             end = end.min(covered[place + 1]);
         }
         let start = first.max(next);
-        extend_with_others(digests, &layer[start..end], node - start)?;
+        extend_except(digests, &layer[start..end], node - start)?;
         next = end;
     }
     Ok(())

@@ -14,7 +14,7 @@ ghost use Rattle.p3_merkle_core.specs.Views.{batch_of, ClonesShowTheSame};
 use crate::checked::{checked_matrices, tree_over};
 use crate::opener::cap_at;
 use p3_merkle_core::error::MerkleTreeError;
-use p3_merkle_core::steps::KeptSteps;
+use p3_merkle_core::steps::OwnedSteps;
 use p3_support::compress::PseudoCompressionFunction;
 use p3_support::hasher::CryptographicHasher;
 use p3_support::matrix::Matrix;
@@ -31,7 +31,7 @@ use std::marker::PhantomData;
 #[derive(Debug, Drop)]
 pub struct Tree<F, X, G, M: Matrix<F>, const N: usize> {
     pub(crate) matrices: Vec<M>,
-    pub(crate) steps: KeptSteps,
+    pub(crate) steps: OwnedSteps,
     pub(crate) layers: Vec<Vec<X>>,
     pub(crate) item: PhantomData<(F, G)>,
     ghost arity: { IsArity N },
@@ -92,8 +92,7 @@ impl<F: Copy, W: Copy, M: Matrix<F> + Drop, const N: usize, const D: usize> Merk
         ensures matrices { IfOk result (λ tree. matrices_of tree ≡ leaves.items) }
         ensures layers { let f = functions_of (H.hash hash.now) (C.compression compress.now)
             (replicate D PW.default_value) in
-            let b = batch_of M.height_of M.width_of M.row_of N leaves.items in
-            IfOk result (λ tree. layers_of tree ≡ layers_over f b) }
+            IfOk result (λ tree. layers_of tree ≡ layers_over f (tree_batch tree)) }
     {
         let leaves = checked_matrices(alloc, leaves)?;
         let tree = tree_over::<P, PW, H, C, M, N, D>(alloc, hash, compress, leaves)?;

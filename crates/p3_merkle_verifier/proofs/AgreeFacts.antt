@@ -1,13 +1,11 @@
 -- Checks that agree where they share places: where their levels do, of two queries of one pruned opening, and through a
 -- query between two.
 use Rattle.std.proofs.Common.{◌≡◌, ◌∙◌, ◌⊎◌, ℕ, suc, ◌+◌, ◌<◌, ◌≤◌, Bool, true, false, cond, eqb, List, [], ◌∷◌, length}
-use Rattle.std.proofs.Common.{zip, None}
+use Rattle.std.proofs.Common.{zip, None, ap, sym, refl, arith, inl, inr}
 use Rattle.std.specs.Cmp.Lexicographic.{pointwise, pointwise_decides}
 use Rattle.std.specs.List.{flat_map}
-use Rattle.std.proofs.Common.{ap, sym, refl, arith, inl, inr}
 use Rattle.std.specs.Prelude.{slice_index}
-use Rattle.std.proofs.lemmas.Bool.{cases_Bool, cases_eq, eqb-true, eq-eqb, ne_eqb, cond-true}
-use Rattle.std.proofs.lemmas.Bool.{true≢false}
+use Rattle.std.proofs.lemmas.Bool.{cases_Bool, cases_eq, eqb-true, eq-eqb, ne_eqb, cond-true, true≢false}
 use Rattle.std.proofs.lemmas.List.{map-id}
 use Rattle.p3_support.specs.Batches.{heights_of}
 use Rattle.p3_support.specs.Shown.{row_lists}
@@ -18,8 +16,8 @@ use Rattle.p3_merkle_core.specs.Checks.{AgreeWhereShared, group_at, inputs_at, l
 use Rattle.p3_merkle_core.specs.Checks.{words_at}
 use Rattle.p3_merkle_core.specs.Pruning.{IsAgreed, PrunedOpening, is_covered, opening_at, restored_node, value_of}
 use Rattle.p3_merkle_core.specs.Refusals.{IsEquality}
-use Rattle.p3_merkle_core.specs.declared.collision.Place.TheVariants.{Leaf, Group}
-use Rattle.p3_merkle_core.proofs.Checks.CheckFacts.{full_group, inputs_with_rows, inputs_alone, same_digests}
+use Rattle.p3_merkle_core.specs.declared.collision.Place.TheVariants.{Leaf}
+use Rattle.p3_merkle_core.proofs.Checks.CheckFacts.{full_group, inputs_with_rows, inputs_alone, same_group}
 use Rattle.p3_merkle_core.proofs.Checks.PathFacts.{group_values, joined_same, path_group}
 use Rattle.p3_merkle_core.proofs.Covered.CoveredFacts.{leaves_above_0}
 use Rattle.p3_merkle_core.proofs.Covered.Equivalence.{path_reaches, query_covered, rows_agree}
@@ -157,14 +155,8 @@ module _ {T W : Type 0} (f : Functions T W) (s : Shape) where
 module _ {T W : Type 0} (f : Functions T W) (s : Shape) (l : ℕ) (o : Opening T W)
     (level : ComputedLevel (List W) (List (List W))) (is : IsLevelOfCheck f s o l level) where
   -- its group is that of the check
-  level_group : level.group ≡ full_group f s o l
-  level_group =
-      elim (cases_Bool (has_rows s (suc l))) [
-        | inl has ↦ let c = is.inputs_are ∙ inputs_with_rows f s o l has in
-            same_digests {T = T} (Group l) (Group l) level.group (full_group f s o l) cc
-        | inr none ↦ let c = is.inputs_are ∙ inputs_alone f s o l none in
-            same_digests {T = T} (Group l) (Group l) level.group (full_group f s o l) cc
-      ]
+  pub level_group : level.group ≡ full_group f s o l
+  level_group = same_group f s o l level.group _ is.inputs_are
 
   -- without a pair no rows belong to the layer above
   level_without : level.pair ≡ None → has_rows s (suc l) ≡ false
@@ -200,12 +192,6 @@ levels_same eq same dec dec_w rows first second group above f s l o u m n a b me
       | inl none ↦ absurd (true≢false (sym has ∙ level_without f s l o first m none))
       | inr test ↦ sym a ∙ rows_same eq dec rows test ∙ b
     ])
-
--- levels under two nodes share nothing
-pub levels_apart : {T W : Type 0} (rows : RowPair T) (first second : ComputedLevel (List W) (List (List W))) →
-    (first.above.node ≡ second.above.node → ⊥) → AgreeOnLevel (first_words rows) (second_words rows) first second
-levels_apart rows first second other f s l o u m n a b met =
-    absurd (other (m.progress.at_node ∙ met ∙ sym n.progress.at_node))
 
 -- ---- all queries of a list
 

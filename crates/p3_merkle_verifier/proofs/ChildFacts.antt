@@ -22,12 +22,7 @@ use Rattle.p3_merkle_core.proofs.Shapes.StepFacts.{anc_start}
 use Rattle.p3_merkle_verifier.specs.Inner.RestoredLevels.{node_of_query, AreQueriesAt}
 use Rattle.p3_merkle_verifier.proofs.StartFacts.{queried_by_firsts}
 
--- equal functions, mapped
-pub same_map : {X : Type 0} (f g : ℕ → X) → ((k : ℕ) → f k ≡ g k) → (xs : List ℕ) → map f xs ≡ map g xs
-same_map f g h [] = refl
-same_map f g h (x ∷ xs) = rw (h x, same_map f g h xs) refl
-
--- the same where they are equal on the list
+-- functions that are equal on a list, mapped
 pub map_on : {X : Type 0} (P : ℕ → Type 0) (g h : ℕ → X) → ((k : ℕ) → P k → g k ≡ h k) → (xs : List ℕ) → All P xs →
     map g xs ≡ map h xs
 map_on P g h e [] all = refl

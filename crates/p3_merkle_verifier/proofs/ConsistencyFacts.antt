@@ -1,7 +1,6 @@
 -- The check of a proof of consistency, layer by layer.
-use Rattle.std.proofs.Common.{◌≡◌, ℕ, suc, ◌+◌, ◌-◌, ◌*◌, ◌/◌, ◌^◌, ◌<◌, ◌≤◌}
-use Rattle.std.proofs.Common.{List, [], ◌++◌, map, take, drop, length, refl, ap, sym, ◌∙◌}
-use Rattle.std.proofs.Common.{arith, inl, inr, append-nil, Some, None, subst}
+use Rattle.std.proofs.Common.{◌≡◌, ℕ, suc, ◌+◌, ◌-◌, ◌*◌, ◌/◌, ◌^◌, ◌<◌, ◌≤◌, List, [], ◌++◌, map, take, drop, length}
+use Rattle.std.proofs.Common.{refl, ap, sym, ◌∙◌, arith, inl, inr, append-nil, Some, None, subst}
 use Rattle.std.specs.List.{range_with_len}
 use Rattle.std.specs.Option.{option_to_list}
 use Rattle.std.proofs.lemmas.Bool.{cases_lt, lt-ltb, le-ltb}
@@ -17,10 +16,11 @@ use Rattle.p3_merkle_core.specs.declared.consistency.LayerParts.{LayerParts}
 use Rattle.p3_merkle_core.specs.declared.consistency.MixedChildren.{MixedChildren}
 use Rattle.p3_merkle_core.proofs.Growths.DigestFacts.{AreSent, are_sent}
 use Rattle.p3_merkle_core.proofs.Growths.PartFacts.{AreInOrder, few_at, in_order, parts_next}
-use Rattle.p3_merkle_core.proofs.Growths.SentFacts.{few_sent, fits_count, num_new, num_old, range_split, sent_more}
+use Rattle.p3_merkle_core.proofs.Growths.SentFacts.{few_sent, fits_count, num_new, num_old, sent_more}
 use Rattle.p3_merkle_core.proofs.Growths.ValueFacts.{IsTree, look, map_range_same, map_shift, mixed_computed, new_given, new_group, new_tree}
 use Rattle.p3_merkle_core.proofs.Growths.ValueFacts.{old_above, old_below, old_group, old_tree}
 use Rattle.p3_merkle_core.proofs.Lists.ListFacts.{joined, length-joined_le}
+use Rattle.p3_merkle_core.proofs.Lists.RisingFacts.{range_joined}
 use Rattle.p3_merkle_verifier.specs.Inner.Consistency.{IsAtMixed, IsCounted, mixed_values, old_values, sent_below}
 use Rattle.p3_merkle_verifier.specs.Inner.Inconsistency.{HasMixed, child_values}
 use Rattle.p3_merkle_verifier.specs.declared.consistency.MixedNode.{MixedNode}
@@ -39,7 +39,7 @@ sent_upto pieces l t le =
 pub range_first : (s k : ℕ) → range_with_len 0 (s + k) ≡ range_with_len 0 s ++ range_with_len s k
 range_first s k =
     let z : 0 + s ≡ s = omega arith in
-    range_split 0 s k ∙ ap (λ x. range_with_len 0 s ++ range_with_len x k) z
+    range_joined 0 s k ∙ ap (λ x. range_with_len 0 s ++ range_with_len x k) z
 
 -- a piece of values, and those from s on
 piece_of : {Y : Type 0} (v : ℕ → Y) (m s n : ℕ) → s + n ≤ m → take n (drop s (map v (range_with_len 0 m)))
@@ -50,7 +50,7 @@ piece_of v m s n room =
     map v (range_with_len (s + n) (m - (s + n)))) =
     ap (λ k. map v (range_with_len 0 k)) sum
     ∙ ap (map v) (range_first s (n + (m - (s + n))) ∙ ap (λ ys. range_with_len 0 s ++ ys)
-    (range_split s n (m - (s + n))))
+    (range_joined s n (m - (s + n))))
     ∙ map-append v (range_with_len 0 s) (range_with_len s n ++ range_with_len (s + n) (m - (s + n)))
     ∙ ap (λ ys. map v (range_with_len 0 s) ++ ys) (map-append v (range_with_len s n) (range_with_len (s + n) (m - (s + n)))) in
     rw split
@@ -68,6 +68,25 @@ rest_of v m s room =
 
 padded_whole : {X : Type 0} (n : ℕ) (d : X) (xs : List X) → length xs ≡ n → padded n d xs ≡ xs
 padded_whole n d xs long = let none : n - length xs ≡ 0 = omega arith in rw none (append-nil xs)
+
+-- the children and the parts above, of the code
+pub record IsTurn {T W : Type 0} (e : Evidence T W) (l k : ℕ) (mixed : MixedNode (List W)) (found : MixedChildren)
+    (up : LayerParts) : Type 0 where
+  pub found_is : found ≡ mixed_children e.growth.arity (parts_at e.growth l)
+  pub up_is : up ≡ parts_above e.growth.arity (parts_at e.growth l)
+  pub old : found.start ≤ found.old_end
+  pub one : found.old_end ≤ found.new_start
+  pub new : found.new_start ≤ found.end
+  pub room : found.end ≤ found.start + k
+  pub first : up.old_end ≤ up.new_start
+  pub left : mixed.used + (found.end - found.new_start) ≤ length e.digests
+  pub left_low : l < old_layer e.growth →
+      mixed.used + (found.old_end - found.start) + (found.end - found.new_start) ≤ length e.digests
+  pub small : mixed.used ≤ 2 ^ 62 + 1
+  pub small_old : found.old_end - found.start ≤ 2 ^ 62
+  pub small_new : found.end - found.new_start ≤ 2 ^ 62
+  pub has_old : l ≤ old_layer e.growth → length (option_to_list mixed.old_value) ≡ found.new_start - found.old_end
+  pub has_new : length (option_to_list mixed.new_value) ≡ found.new_start - found.old_end
 
 module _ {T W : Type 0} (e : Evidence T W) (l : ℕ) (r : IsCounted e) (under : l < new_layer e.growth) where
   abbrev g : Growth
@@ -333,27 +352,9 @@ module _ {T W : Type 0} (e : Evidence T W) (l : ℕ) (r : IsCounted e) (under : 
 
   -- ---- one turn, by what the code finds
 
-  -- the children and the parts above, of the code
-  pub record IsTurn (k : ℕ) (mixed : MixedNode (List W)) (found : MixedChildren) (up : LayerParts) : Type 0 where
-    pub found_is : found ≡ mixed_children e.growth.arity (parts_at e.growth l)
-    pub up_is : up ≡ parts_above e.growth.arity (parts_at e.growth l)
-    pub old : found.start ≤ found.old_end
-    pub one : found.old_end ≤ found.new_start
-    pub new : found.new_start ≤ found.end
-    pub room : found.end ≤ found.start + k
-    pub first : up.old_end ≤ up.new_start
-    pub left : mixed.used + (found.end - found.new_start) ≤ length e.digests
-    pub left_low : l < old_layer e.growth →
-        mixed.used + (found.old_end - found.start) + (found.end - found.new_start) ≤ length e.digests
-    pub small : mixed.used ≤ 2 ^ 62 + 1
-    pub small_old : found.old_end - found.start ≤ 2 ^ 62
-    pub small_new : found.end - found.new_start ≤ 2 ^ 62
-    pub has_old : l ≤ old_layer e.growth → length (option_to_list mixed.old_value) ≡ found.new_start - found.old_end
-    pub has_new : length (option_to_list mixed.new_value) ≡ found.new_start - found.old_end
-
   pub turn : (k : ℕ) → e.growth.arity ≡ k → (mixed : MixedNode (List W)) → IsAtMixed e l mixed →
       (found : MixedChildren) (up : LayerParts) → found ≡ mixed_children k mixed.parts → up ≡ parts_above k mixed.parts →
-      IsTurn k mixed found up
+      IsTurn e l k mixed found up
   turn k same mixed w found up found_is up_is =
       let f : found ≡ children = found_is ∙ ap (mixed_children k) w.parts_are
       ∙ ap (λ x. mixed_children x (parts_at e.growth l)) (sym same) in

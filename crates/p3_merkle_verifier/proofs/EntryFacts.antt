@@ -6,12 +6,10 @@ use Rattle.std.specs.Prelude.{Decides}
 use Rattle.std.specs.Cmp.Lexicographic.{pointwise}
 use Rattle.std.specs.List.{enumerate_from, list_all, range_with_len}
 use Rattle.std.specs.Option.{option_to_list}
-use Rattle.std.proofs.lemmas.Bool.{and_from, le-leb, lt-leb, ne_eqb}
-use Rattle.std.proofs.lemmas.Bool.{not_from_false, not_from_true}
+use Rattle.std.proofs.lemmas.Bool.{and_from, le-leb, lt-leb, not_from_false, not_from_true}
 use Rattle.std.proofs.lemmas.List.Elements.{filter-append}
 use Rattle.std.proofs.lemmas.List.Folds.{list_all-append, list_all_at}
-use Rattle.std.proofs.lemmas.List.FromFn.{fill_by_all, get_or-range_with_len}
-use Rattle.std.proofs.lemmas.List.FromFn.{length-range_with_len}
+use Rattle.std.proofs.lemmas.List.FromFn.{fill_by_all, get_or-range_with_len, length-range_with_len}
 use Rattle.std.proofs.lemmas.List.{get_or-take, length-take-le}
 use Rattle.std.proofs.Math.Nat.{mul-le-mul_left}
 use Rattle.std.proofs.lemmas.Option.{slice_get-get_or, slice_get_past}
@@ -23,16 +21,15 @@ use Rattle.p3_merkle_core.specs.Refusals.{is_entry}
 use Rattle.p3_merkle_core.specs.Inner.Growths.{parts_at}
 use Rattle.p3_merkle_core.specs.declared.consistency.Growth.{Growth}
 use Rattle.p3_merkle_core.specs.declared.consistency.LayerParts.{LayerParts}
-use Rattle.p3_merkle_core.specs.declared.error.ConsistencyError.{ConsistencyError}
-use Rattle.p3_merkle_core.specs.declared.error.ConsistencyError.TheVariants.{NewCapMismatch, OldCapMismatch, WrongDigestCount}
+use Rattle.p3_merkle_core.specs.declared.error.ConsistencyError.TheVariants.{NewCapMismatch, OldCapMismatch}
 use Rattle.p3_merkle_core.proofs.Checks.Verdicts.{entry_is}
 use Rattle.p3_merkle_core.proofs.Shapes.OneHeight.{levels_by_exponents}
-use Rattle.p3_merkle_core.proofs.Growths.PartFacts.{ceil_mono, few_at, no_mixed_leaf, parts_are}
-use Rattle.p3_merkle_core.proofs.Growths.SentFacts.{filter_all, filter_none}
+use Rattle.p3_merkle_core.proofs.Growths.PartFacts.{few_at, no_mixed_leaf, parts_are}
+use Rattle.p3_merkle_core.proofs.Lists.RisingFacts.{all_kept, none_kept}
 use Rattle.p3_merkle_core.proofs.Growths.ValueFacts.{new_tree, old_entry, old_tree}
 use Rattle.p3_merkle_core.proofs.Growths.VerdictFacts.{growth_taken}
 use Rattle.p3_merkle_core.proofs.Shapes.LeastFacts.{exponent_mono}
-use Rattle.p3_merkle_core.proofs.Shapes.QuotientFacts.{ceil_le}
+use Rattle.p3_merkle_core.proofs.Shapes.QuotientFacts.{ceil_le, ceil_mono}
 use Rattle.p3_merkle_core.proofs.Shapes.StepFacts.{whole_step_falls}
 use Rattle.p3_merkle_verifier.specs.Inner.Consistency.{IsAtMixed, IsCounted, mixed_values, old_values}
 use Rattle.p3_merkle_verifier.specs.declared.consistency.MixedNode.{MixedNode}
@@ -48,6 +45,10 @@ layers_rise g a w =
       ceil_mono (exponent g.old_height) (exponent g.new_height) (exponent g.arity) (whole_step_falls g.arity a.above_1)
           (exponent_mono g.old_height g.new_height w.grown),
     )
+
+pub below_new : {T W : Type 0} (e : Evidence T W) (l : ℕ) → IsCounted e → l < old_layer e.growth →
+    l < new_layer e.growth
+below_new e l c low = omega (arith, layers_rise e.growth c.arity c.heights)
 
 -- ---- the nodes that have old leaves
 
@@ -69,8 +70,8 @@ kept_is g some l =
     let sum : h ≡ a + (h - a) = omega (arith, new_start_le g some l) in
     let split : range_with_len 0 h ≡ range_with_len 0 a ++ range_with_len a (h - a) =
     ap (range_with_len 0) sum ∙ range_first a (h - a) in
-    let front = filter_all p 0 a (λ j from below. not_from_false (is_new g l j) (new j ∙ lt-leb a j (omega arith))) in
-    let back = filter_none p a (h - a) (λ j from below. not_from_true (is_new g l j) (new j ∙ le-leb a j from)) in
+    let front = all_kept p 0 a (λ j from below. not_from_false (is_new g l j) (new j ∙ lt-leb a j (omega arith))) in
+    let back = none_kept p a (h - a) (λ j from below. not_from_true (is_new g l j) (new j ∙ le-leb a j from)) in
     ap (filter p) split ∙ filter-append p (range_with_len 0 a) (range_with_len a (h - a))
     ∙ rw (front, back) (append-nil (range_with_len 0 a))
 
@@ -205,18 +206,6 @@ module _ {T W : Type 0} (same : W → W → Bool) (dec : (x y : W) → Decides (
   pub not_refused : (cap : List (List W)) → has_entries same e e.old_cap (old_value e) (old_layer e.growth) ≡ true →
       has_entries same e cap (new_value e) (new_layer e.growth) ≡ true → consistency_refusal same e cap ≡ None
   not_refused cap old new = rw (heights_pass, eq-eqb (consistency_len e.growth) (length e.digests) (sym c.count), old, new) refl
-
-pub refused_heights : {T W : Type 0} (same : W → W → Bool) (e : Evidence T W) (cap : List (List W)) (x : ConsistencyError) →
-    growth_refusal e.growth ≡ Some x → consistency_refusal same e cap ≡ Some x
-refused_heights same e cap x is = rw is refl
-
-pub refused_count : {T W : Type 0} (same : W → W → Bool) (e : Evidence T W) (cap : List (List W)) (want got : ℕ) →
-    IsGrowth e.growth → want ≡ consistency_len e.growth → got ≡ length e.digests → (got ≡ want → ⊥) →
-    consistency_refusal same e cap ≡ Some (WrongDigestCount want got)
-refused_count same e cap want got w want_is got_is other =
-    let none = (growth_taken e.growth).1 w in
-    let differ = ne_eqb (consistency_len e.growth) (length e.digests) (λ is. other (got_is ∙ sym is ∙ sym want_is)) in
-    rw (want_is, got_is) (rw (none, differ) refl)
 
 -- ---- the leaves
 

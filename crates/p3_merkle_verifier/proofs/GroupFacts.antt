@@ -1,14 +1,11 @@
 -- One more digest: of a group, of a pair, of a query's rows.
-use Rattle.std.proofs.Common.{◌≡◌, ◌∙◌, ℕ, suc, ◌-◌, ◌*◌, ◌/◌, ◌<◌, ◌≤◌, List, [], ◌∷◌, ◌++◌}
-use Rattle.std.proofs.Common.{map, ap, sym, arith, length, length-drop, get_or, drop}
-use Rattle.std.proofs.Common.{replicate, take, zip}
+use Rattle.std.proofs.Common.{◌≡◌, ◌∙◌, ℕ, suc, ◌-◌, ◌*◌, ◌/◌, ◌≤◌, List, [], ◌∷◌, ◌++◌, map, ap, sym, arith, length}
+use Rattle.std.proofs.Common.{length-drop, get_or, drop, replicate, take, zip}
 use Rattle.std.specs.List.{range_with_len}
-use Rattle.std.specs.declared.vec.Vec.{Vec}
 use Rattle.std.proofs.Math.Nat.{div-mul-le_self, mul-le-mul_left, mul-suc, mul_comm}
 use Rattle.std.proofs.lemmas.List.{get_or-map, length-map, length-take-le}
 use Rattle.std.proofs.lemmas.List.FromFn.{fill_by_all}
 use Rattle.std.proofs.lemmas.Slice.Zip.{get_or-zip, length-zip}
-use Rattle.p3_support.specs.Shown.{row_lists, row_sets}
 use Rattle.p3_merkle_digests.specs.Inner.Slots.{IsFilled}
 use Rattle.p3_merkle_verifier.specs.Inner.NodeDigests.{group_digest, pair_digest}
 
@@ -42,9 +39,3 @@ pairs_injected compression n d nodes rows slots same filled =
     ∙ sym (fill_by_all joined (map pair (zip nodes rows)) (length nodes) [] (length-map (zip nodes rows) pair ∙ long)
     (λ j h. get_or-map pair (zip nodes rows) j ([], []) [] (omega arith)
     ∙ ap pair (get_or-zip nodes rows j ([], []) h (omega arith))))
-
--- a row set that is read
-pub set_read : {T A B : Type 0} (rows : List (Vec (Vec T A) B)) (n : ℕ) (v : Vec (Vec T A) B) → n < length rows → v
-    ≡ get_or rows n v → get_or (row_sets rows) n [] ≡ row_lists v.items
-set_read rows n v h e = get_or-map (λ (w : Vec (Vec _ _) _). row_lists w.items) rows n v [] h
-    ∙ ap (λ (w : Vec (Vec _ _) _). row_lists w.items) (sym e)

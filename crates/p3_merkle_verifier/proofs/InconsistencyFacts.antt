@@ -6,7 +6,7 @@ use Rattle.std.specs.Cmp.Lexicographic.{pointwise}
 use Rattle.std.specs.List.{flat_map, range_with_len}
 use Rattle.std.specs.Option.{option_map, option_or}
 use Rattle.std.specs.declared.vec.Vec.{Vec}
-use Rattle.std.proofs.lemmas.Bool.{cases_Bool, cases_lt, ltb-false, lt-leb}
+use Rattle.std.proofs.lemmas.Bool.{cases_lt, ltb-false, lt-leb}
 use Rattle.std.proofs.lemmas.Option.{slice_get_past}
 use Rattle.std.proofs.lemmas.List.{length-map}
 use Rattle.std.proofs.Math.Nat.{mul-le-mul_right}
@@ -17,7 +17,7 @@ use Rattle.p3_support.specs.declared.matrix.Dimensions.{Dimensions}
 use Rattle.p3_merkle_core.specs.Checks.{Input, IsAccepted, digests_at, inputs_at, params, siblings_below}
 use Rattle.p3_merkle_core.specs.Consistency.{Evidence, IsConsistent, IsGrowth, is_new, new_layer, old_layer, old_value, value_over}
 use Rattle.p3_merkle_core.specs.Extraction.{difference_of, input_eq, last_difference}
-use Rattle.p3_merkle_core.specs.Geometry.{IsArity, IsLawful, Shape, has_rows, heights, levels}
+use Rattle.p3_merkle_core.specs.Geometry.{IsArity, IsLawful, Shape, heights, levels}
 use Rattle.p3_merkle_core.specs.Inconsistency.{GrownOpenings, IsSetting, compared, computed_input, computed_inputs, given_layer}
 use Rattle.p3_merkle_core.specs.Inconsistency.{inconsistency, inconsistency_in, inputs_up_to, new_params, old_params}
 use Rattle.p3_merkle_core.specs.Inner.Settings.{IsComparable}
@@ -35,14 +35,16 @@ use Rattle.p3_merkle_core.specs.declared.collision.Inconsistency.{Inconsistency}
 use Rattle.p3_merkle_core.specs.declared.collision.InputPair.{InputPair}
 use Rattle.p3_merkle_core.specs.declared.collision.Place.TheVariants.{Group}
 use Rattle.p3_merkle_core.specs.declared.consistency.Growth.{Growth}
-use Rattle.p3_merkle_core.proofs.Checks.CheckFacts.{full_group, inputs_alone, inputs_with_rows, same_digests}
+use Rattle.p3_merkle_core.proofs.Checks.CheckFacts.{full_group}
 use Rattle.p3_merkle_core.proofs.Checks.PathFacts.{map_same}
 use Rattle.p3_merkle_core.proofs.Growths.CutFacts.{AreAlike, cut_difference}
 use Rattle.p3_merkle_core.proofs.Growths.GivenFacts.{above_leaf, given_low, old_at, over_at}
 use Rattle.p3_merkle_core.proofs.Growths.LevelFacts.{alone_from, siblings_are}
 use Rattle.p3_merkle_core.proofs.Growths.PartFacts.{few_at, parts_are}
+use Rattle.p3_merkle_core.proofs.Pruned.NoneFacts.{verdict_ok}
 use Rattle.p3_merkle_core.proofs.Shapes.OneHeight.{greatest_is, levels_are}
 use Rattle.p3_merkle_core.proofs.Shapes.ShapeFacts.{length-widths}
+use Rattle.p3_merkle_verifier.proofs.AgreeFacts.{level_group}
 use Rattle.p3_merkle_verifier.proofs.EntryFacts.{layers_rise}
 use Rattle.p3_merkle_verifier.specs.Inner.Checks.{IsLevelOfCheck, opening_in}
 use Rattle.p3_merkle_verifier.specs.Inner.Collisions.{IsDifference, Shows}
@@ -53,7 +55,7 @@ use Rattle.p3_merkle_verifier.specs.Inner.Inconsistency.{checked_refusal, grown_
 use Rattle.p3_merkle_verifier.specs.Inner.Paths.{CanReach}
 use Rattle.p3_merkle_verifier.specs.declared.inconsistency.TreeOpening.{TreeOpening}
 use Rattle.p3_merkle_verifier.specs.declared.path.ComputedLevel.{ComputedLevel}
-use Rattle.p3_merkle_verifier.proofs.SharedFacts.{last_append, shows_later}
+use Rattle.p3_merkle_verifier.proofs.SharedFacts.{last_append, or_none, shows_later}
 use Rattle.p3_merkle_verifier.proofs.WalkFacts.{shows_unless}
 
 -- ---- the path of a leaf
@@ -132,21 +134,6 @@ row_at (r ∷ rows) (suc k) v items below is e = row_at rows k v items (omega ar
 
 -- ---- differences of a tree
 
--- the group that a level of a check has
-pub group_of_level : {T W : Type 0} (f : Functions T W) (s : Shape) (o : Opening T W) (l : ℕ)
-    (level : ComputedLevel (List W) (List (List W))) → IsLevelOfCheck f s o l level → level.group ≡ full_group f s o l
-group_of_level {T} {W} f s o l level w =
-    elim (cases_Bool (has_rows s (suc l))) [
-      | inl y ↦
-          let all = w.inputs_are ∙ inputs_with_rows f s o l y in
-          let head : digests_at {T = T} (Group l) level.group ≡ digests_at (Group l) (full_group f s o l) = cc in
-          same_digests (Group l) (Group l) level.group (full_group f s o l) head
-      | inr n ↦
-          let all = w.inputs_are ∙ inputs_alone f s o l n in
-          let head : digests_at {T = T} (Group l) level.group ≡ digests_at (Group l) (full_group f s o l) = cc in
-          same_digests (Group l) (Group l) level.group (full_group f s o l) head
-    ]
-
 pub nothing_shown : {T W : Type 0} (test : Input T W → Input T W → Bool) (f : Functions T W) (s : Shape) (o : Opening T W)
     (groups : List (List (List W))) (a : ℕ) →
     Shows None (last_difference test (group_inputs f s o a a) (listed_inputs groups a a))
@@ -173,7 +160,7 @@ shown_next {T} {W} row_eq digest_eq f s o groups a l level group found last next
     let long = length-map-range_with_len mine a k ∙ sym (length-map-range_with_len theirs a k) in
     let here : last_difference test (mine l ∷ []) (theirs l ∷ [])
     ≡ unless (pointwise (pointwise digest_eq) level.group group) (digests_at (Group l) level.group, digests_at (Group l) group) =
-    rw (eq-eqb l l refl, group_of_level f s o l level w, group_is) refl in
+    rw (eq-eqb l l refl, level_group f s l o level w, group_is) refl in
     let shown : Shows found (last_difference test (mine l ∷ []) (theirs l ∷ [])) =
     rw here (shows_unless found (pointwise (pointwise digest_eq) level.group group)
     (digests_at (Group l) level.group, digests_at (Group l) group) found_is) in
@@ -513,14 +500,6 @@ err_is : {E : Type 0} (r : Option E) (e : E) → Err e ≡ ok_unless r (tt {0}) 
 err_is None e a = absurd cc
 err_is (Some x) e a = cc
 
-ok_is : {E : Type 0} (r : Option E) → Ok tt ≡ ok_unless r (tt {0}) → r ≡ None
-ok_is None a = refl
-ok_is (Some x) a = absurd cc
-
-alone : {X : Type 0} (o : Option X) → option_or o None ≡ o
-alone None = refl
-alone (Some x) = refl
-
 module _ {T W : Type 0} (digest_eq : W → W → Bool) (x : GrownOpenings T W) where
   pub old_refused : (e : MerkleTreeError) →
       Err e ≡ answer_under digest_eq (old_params x) x.evidence.old_cap x.old_opening →
@@ -533,7 +512,7 @@ module _ {T W : Type 0} (digest_eq : W → W → Bool) (x : GrownOpenings T W) w
       checked_refusal digest_eq x ≡ Some (NewOpening e)
   new_refused e a b =
       rw (
-        ok_is (refusal_under digest_eq (old_params x) x.evidence.old_cap x.old_opening) a,
+        verdict_ok (refusal_under digest_eq (old_params x) x.evidence.old_cap x.old_opening) (sym a),
         err_is (refusal_under digest_eq (new_params x) x.new_cap x.new_opening) e b,
       ) refl
 
@@ -542,10 +521,10 @@ module _ {T W : Type 0} (digest_eq : W → W → Bool) (x : GrownOpenings T W) w
       consistency_refusal digest_eq x.evidence x.new_cap ≡ checked_refusal digest_eq x
   proof_refused a b =
       rw (
-        ok_is (refusal_under digest_eq (old_params x) x.evidence.old_cap x.old_opening) a,
-        ok_is (refusal_under digest_eq (new_params x) x.new_cap x.new_opening) b,
+        verdict_ok (refusal_under digest_eq (old_params x) x.evidence.old_cap x.old_opening) (sym a),
+        verdict_ok (refusal_under digest_eq (new_params x) x.new_cap x.new_opening) (sym b),
       )
-      (sym (alone (consistency_refusal digest_eq x.evidence x.new_cap)))
+      (sym (or_none (consistency_refusal digest_eq x.evidence x.new_cap)))
 
 -- matrices of which one has a row are of one height, if each has it
 pub one_height_of_each : (s : Shape) (h : ℕ) → All (λ d. d.height ≡ h) s.dimensions → IsLawful (heights s) → HasHeight s h

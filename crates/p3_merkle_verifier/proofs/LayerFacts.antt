@@ -1,7 +1,6 @@
 -- The digests of a layer's nodes are the restored ones.
 use Rattle.std.proofs.Common.{◌≡◌, ◌∙◌, ℕ, zero, suc, ◌+◌, ◌*◌, ◌/◌, ◌<◌, ◌≤◌, Bool, true, false, List, [], ◌∷◌, ◌++◌}
-use Rattle.std.proofs.Common.{map, refl, ap, sym, arith, inl, inr, length, length-append, take, drop, zip}
-use Rattle.std.proofs.Common.{append_assoc}
+use Rattle.std.proofs.Common.{map, refl, ap, sym, arith, inl, inr, length, length-append, take, drop, zip, append_assoc}
 use Rattle.std.specs.List.{flat_map, range_with_len}
 use Rattle.std.proofs.lemmas.Bool.{cases_Bool, cond_both}
 use Rattle.std.proofs.lemmas.List.{drop_at, length-map, map-id, take_at}
@@ -15,9 +14,10 @@ use Rattle.p3_merkle_core.proofs.Covered.ClimbFacts.{covered_here}
 use Rattle.p3_merkle_core.specs.Pruning.{restored_node, value_of, words_under}
 use Rattle.p3_merkle_core.proofs.Covered.Equivalence.{restored_leaf, restored_next, rows_agree}
 use Rattle.p3_merkle_core.proofs.Checks.PathFacts.{group_values}
+use Rattle.p3_merkle_core.proofs.Growths.ValueFacts.{map_shift}
 use Rattle.p3_merkle_core.proofs.Shapes.StepFacts.{step_above_1}
-use Rattle.p3_merkle_core.proofs.Covered.ValueFacts.{IsWalkedLevel, children_are}
-use Rattle.p3_merkle_verifier.proofs.ChildFacts.{map_on, same_map}
+use Rattle.p3_merkle_core.proofs.Covered.ValueFacts.{IsWalkedLevel, children_are, map_agree}
+use Rattle.p3_merkle_verifier.proofs.ChildFacts.{map_on}
 use Rattle.p3_merkle_verifier.specs.Inner.NodeDigests.{group_digest, layer_digests, pair_digest, query_digest}
 use Rattle.p3_merkle_verifier.specs.Inner.RestoredLevels.{node_of_query, row_values, AreQueriesAt, AreRestored}
 use Rattle.p3_merkle_verifier.specs.Inner.RestoredLevels.{IsCoveredAt, IsLayer, IsLayerAbove}
@@ -26,15 +26,9 @@ use Rattle.p3_merkle_core.specs.Checks.{params}
 
 -- ---- lists
 
-shifted : {X : Type 0} (v : ℕ → X) (a b n : ℕ) → map v (range_with_len (a + b) n)
-    ≡ map (λ i. v (a + i)) (range_with_len b n)
-shifted v a b zero = refl
-shifted v a b (suc n) = let e : (a + b) + 1 ≡ a + (b + 1) = omega arith in
-    ap (λ ys. v (a + b) ∷ ys) (rw e (shifted v a (b + 1) n))
-
 -- a group of children, by its first child
 group_is : {X : Type 0} (v : ℕ → X) (a n : ℕ) → map v (range_with_len a n) ≡ map (λ i. v (a + i)) (range_with_len 0 n)
-group_is v a n = let e : a + 0 ≡ a = omega arith in rw e at (shifted v a 0 n)
+group_is v a n = let e : a + 0 ≡ a = omega arith in rw e at (sym (map_shift v a 0 n))
 
 map_map : {X Y : Type 0} (g : X → Y) (h : ℕ → X) (xs : List ℕ) → map g (map h xs) ≡ map (λ k. g (h k)) xs
 map_map g h [] = refl
@@ -105,10 +99,10 @@ module _ {T W : Type 0} (f : Functions T W) (s : Shape) (t : ℕ) (p : PrunedOpe
         | inl present ↦ rw (all, is_has, present)
             (ap (λ ys. map pair (zip (map below_digest parents) ys)) (known (is_has ∙ present))
             ∙ zip_maps pair below_digest row parents
-            ∙ same_map (λ j. pair (below_digest j, row j)) (restored_node (params f s t) p (suc l))
+            ∙ map_agree (λ j. pair (below_digest j, row j)) (restored_node (params f s t) p (suc l))
             (with_rows_under present) parents)
         | inr none ↦ rw (all, is_has, none)
-            (same_map below_digest (restored_node (params f s t) p (suc l)) (without_rows none) parents)
+            (map_agree below_digest (restored_node (params f s t) p (suc l)) (without_rows none) parents)
       ]
 
 -- the rows of an opening agree whatever digests it sends
@@ -140,7 +134,7 @@ module _ {T W : Type 0} (f : Functions T W) (s : Shape) (t : ℕ) (p : PrunedOpe
   -- the digests of the leaves
   pub leaves_restored : (digests : List (List W)) → digests ≡ row_values f s p 0 → AreRestored f s t p 0 digests
   leaves_restored digests e =
-      e ∙ same_map (λ j. f.hash (words_under s p 0 j)) (restored_node (params f s t) p 0)
+      e ∙ map_agree (λ j. f.hash (words_under s p 0 j)) (restored_node (params f s t) p 0)
       (λ j. sym (restored_leaf f s t p j)) (covered_at s p.indices 0)
 
   -- the digests of the nodes of a layer above the leaves, by those of their children and of their rows

@@ -22,11 +22,6 @@ pub handed_on : {V : Type 0} (r : Result V MerkleTreeError) (e : MerkleTreeError
 handed_on (Ok v) e refusal err a = absurd err
 handed_on (Err x) e refusal is a = rw is a
 
--- one that tells of memory answers all
-pub out_of_memory : {V : Type 0} (r : Result V MerkleTreeError) (refusal : Option MerkleTreeError) →
-    IsErrAnd r (λ x. x ≡ OutOfMemory) → AnswersUnlessMemory r refusal
-out_of_memory r refusal is = handed_on r OutOfMemory refusal is (inl refl)
-
 -- the opening with no more than the number of its digests
 abbrev counted : {T W : Type 0} → PrunedOpeningRef T (List W) → PrunedOpening T ℕ
 counted opening = opened_with opening.indices.now (row_sets opening.sets.now) (length opening.sent.now)

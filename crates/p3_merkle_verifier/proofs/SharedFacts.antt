@@ -21,7 +21,7 @@ use Rattle.p3_merkle_core.specs.declared.collision.InputPair.{InputPair}
 
 -- ---- lists
 
-or_none : {X : Type 0} (o : Option X) → option_or o None ≡ o
+pub or_none : {X : Type 0} (o : Option X) → option_or o None ≡ o
 or_none None = refl
 or_none (Some x) = refl
 

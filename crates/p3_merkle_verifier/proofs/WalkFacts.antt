@@ -1,16 +1,13 @@
 -- The checks of two openings, one level higher.
-use Rattle.std.proofs.Common.{◌≡◌, ℕ, suc, ◌+◌, Bool, List, ap, refl, subst, sym, ◌∙◌, inl, inr, zip, add-one, Option}
-use Rattle.std.proofs.Common.{None}
+use Rattle.std.proofs.Common.{◌≡◌, ℕ, suc, ◌+◌, Bool, List, ap, subst, sym, ◌∙◌, inl, inr, add-one, Option}
 use Rattle.std.specs.Cmp.Lexicographic.{pointwise}
 use Rattle.std.specs.Option.{option_or}
-use Rattle.std.specs.declared.vec.Vec.{Vec}
-use Rattle.std.proofs.lemmas.Bool.{cases_Bool, eq-eqb, ne_eqb}
+use Rattle.std.proofs.lemmas.Bool.{cases_Bool, eq-eqb}
 use Rattle.p3_merkle_core.specs.Extraction.{input_eq, last_difference}
-use Rattle.p3_support.specs.Batches.{heights_of}
 use Rattle.p3_merkle_core.specs.Geometry.{Shape, ancestor}
 use Rattle.p3_merkle_core.specs.Nodes.{Functions}
 use Rattle.p3_merkle_core.specs.Openings.{Opening}
-use Rattle.p3_merkle_core.specs.Checks.{Input, inputs_at, layer_words, leaf_input, words_at, words_of_exponent}
+use Rattle.p3_merkle_core.specs.Checks.{Input, inputs_at, layer_words, leaf_input, words_at}
 use Rattle.p3_merkle_core.specs.Refusals.{unless}
 use Rattle.p3_merkle_verifier.specs.Inner.Checks.{IsLevelOfCheck, IsProgress, leaf_difference, level_difference}
 use Rattle.p3_merkle_verifier.specs.Inner.Collisions.{IsDifference, Shows, level_inputs}
@@ -19,8 +16,6 @@ use Rattle.p3_merkle_core.specs.declared.collision.InputPair.{InputPair}
 use Rattle.p3_merkle_verifier.specs.declared.path.ComputedLevel.{ComputedLevel}
 use Rattle.p3_merkle_verifier.specs.declared.path.Progress.{Progress}
 use Rattle.p3_merkle_verifier.proofs.SharedFacts.{difference_below, shows_later}
-use Rattle.p3_support.specs.declared.matrix.Dimensions.{Dimensions}
-use Rattle.p3_support.specs.Shown.{row_lists}
 
 -- the checks of two openings stand at layer l, and this is the last difference below it
 pub record StandTogether {T W : Type 0} (test : Input T W → Input T W → Bool) (f : Functions T W) (s : Shape)
@@ -28,14 +23,6 @@ pub record StandTogether {T W : Type 0} (test : Input T W → Input T W → Bool
   pub first_progress : IsProgress f s o l first
   pub second_progress : IsProgress f s u l second
   pub found : Shows last (difference_below test f s o u l)
-
--- the same words, by the same dimensions, exponent and rows
-pub words_alike : {T A : Type 0} (d e : List Dimensions) (x y : ℕ) (v w : List (Vec T A)) → d ≡ e → x ≡ y → v ≡ w →
-    words_of_exponent x (zip (heights_of d) (row_lists v)) ≡ words_of_exponent y (zip (heights_of e) (row_lists w))
-words_alike d e x y v w same_d same_x same_v =
-    ap (λ (z : List Dimensions). words_of_exponent x (zip (heights_of z) (row_lists v))) same_d
-    ∙ ap (λ (z : ℕ). words_of_exponent z (zip (heights_of e) (row_lists v))) same_x
-    ∙ ap (λ (z : List (Vec _ _)). words_of_exponent y (zip (heights_of e) (row_lists z))) same_v
 
 -- ---- at the leaf
 
@@ -78,16 +65,6 @@ found_here test f s l o u found mine theirs a b m n is_a is_b one shown =
     (subst (λ (ys : List (Input _ _)). Shows found (last_difference test (inputs_at f s o l) ys)) theirs_is
     (subst (λ (xs : List (Input _ _)). Shows found (last_difference test xs (level_inputs mine.level b theirs))) mine_is
     shown))
-
--- where they do not, there is none
-pub found_apart : {T W : Type 0} (test : Input T W → Input T W → Bool) (f : Functions T W) (s : Shape) (l : ℕ)
-    (o u : Opening T W) (mine theirs : ComputedLevel (List W) (List (List W))) →
-    IsLevelOfCheck f s o l mine → IsLevelOfCheck f s u l theirs → (mine.above.node ≡ theirs.above.node → ⊥) →
-    Shows None (level_difference test f s l o u)
-found_apart test f s l o u mine theirs m n other =
-    let apart = ne_eqb (ancestor s (suc l) o.index) (ancestor s (suc l) u.index)
-    (λ e. other (m.progress.at_node ∙ e ∙ sym n.progress.at_node)) in
-    rw apart refl
 
 -- the last difference there, else the one below
 pub found_next : {T W : Type 0} (test : Input T W → Input T W → Bool) (f : Functions T W) (s : Shape) (l : ℕ)

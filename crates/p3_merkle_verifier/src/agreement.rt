@@ -66,11 +66,11 @@ impl<
         if first.index == second.index && !leaves.agree() {
             return false;
         }
-        let mut first_progress = self.leaf(steps, first);
-        let mut second_progress = self.leaf(steps, second);
+        let mut first_progress = self.start(steps, first);
+        let mut second_progress = self.start(steps, second);
         for level in 0..cap_layer {
-            let mine = self.computed_level(steps, cap_layer, level, first, &first_progress);
-            let theirs = self.computed_level(steps, cap_layer, level, second, &second_progress);
+            let mine = self.compute_level(steps, cap_layer, level, first, &first_progress);
+            let theirs = self.compute_level(steps, cap_layer, level, second, &second_progress);
             let rows = RowPair {
                 dimensions: steps.dimensions,
                 exponent: mine.above.exponent,

@@ -65,7 +65,7 @@ pub(crate) fn differing_digests<T, W: Copy + Eq, const D: usize>(
     place: Place,
     first: &[[W; D]],
     second: &[[W; D]],
-) -> Result<Option<Collision<T, W, D>>, AllocError>
+) -> Result<Option<InputPair<T, [W; D]>>, AllocError>
     ensures { let same = pointwise (pointwise W.eq) first.now second.now in
         IfOk result (λ found. IsDifference found same (digests_at place first.now, digests_at place second.now)) }
 {
@@ -106,7 +106,7 @@ fn differing_words<T: Copy + Eq + Drop, W, const D: usize>(
     alloc: Global,
     place: Place,
     rows: &RowPair<'_, T>,
-) -> Result<Option<Collision<T, W, D>>, AllocError>
+) -> Result<Option<InputPair<T, [W; D]>>, AllocError>
     ensures { let mine = first_words rows.now in
         let theirs = second_words rows.now in
         IfOk result (λ found. IsDifference found (pointwise T.eq mine theirs)
@@ -130,7 +130,7 @@ fn leaf_difference<T: Copy + Eq + Drop, W: Copy + Eq, const D: usize>(
     steps: &Steps<'_>,
     first: OpeningRef<'_, T, [W; D]>,
     second: OpeningRef<'_, T, [W; D]>,
-) -> Result<Option<Collision<T, W, D>>, AllocError>
+) -> Result<Option<InputPair<T, [W; D]>>, AllocError>
     ensures { let s = shape_of steps.now.arity steps.now.dimensions.now in
         let difference = leaf_difference (input_eq T.eq W.eq) s (opening_in first.entry) (opening_in second.entry) in
         IfOk result (λ found. Shows found difference) }
@@ -154,7 +154,7 @@ fn differing_above<T: Copy + Eq + Drop, W: Copy + Eq, const N: usize, const D: u
     rows: &RowPair<'_, T>,
     first: &ComputedLevel<[W; D], [[W; D]; N]>,
     second: &ComputedLevel<[W; D], [[W; D]; N]>,
-) -> Result<Option<Collision<T, W, D>>, AllocError>
+) -> Result<Option<InputPair<T, [W; D]>>, AllocError>
     ensures { let mine = inputs_above first.now.level (first_words rows.now) first.now.pair in
         let theirs = inputs_above first.now.level (second_words rows.now) second.now.pair in
         IfOk result (λ found. Shows found (last_difference (input_eq T.eq W.eq) mine theirs)) }
@@ -168,14 +168,15 @@ fn differing_above<T: Copy + Eq + Drop, W: Copy + Eq, const N: usize, const D: u
     }
 }
 
-/// The inputs at the last place of a level at which two checks differ. `None` if they agree there, or don't share the
-/// node above the level. `rows` are the rows of both openings at the layer above.
+/// The inputs of two checks at the last place of a level where these differ: the pair, else the words of the rows, else
+/// the group. `None` if the inputs of the level are the same, or if the checks do not share the node above it. `first`
+/// and `second` are one level of both checks; `rows` are the rows of both openings at the layer above it.
 fn level_difference<T: Copy + Eq + Drop, W: Copy + Eq, const N: usize, const D: usize>(
     alloc: Global,
     rows: &RowPair<'_, T>,
     first: &ComputedLevel<[W; D], [[W; D]; N]>,
     second: &ComputedLevel<[W; D], [[W; D]; N]>,
-) -> Result<Option<Collision<T, W, D>>, AllocError>
+) -> Result<Option<InputPair<T, [W; D]>>, AllocError>
     ensures { let mine = first_words rows.now in
         let theirs = second_words rows.now in
         IfOk result (λ found. ShowsLevel (input_eq T.eq W.eq) mine theirs first.now second.now found) }
@@ -222,12 +223,12 @@ impl<
             (opening_in second.entry) in
             IfOk result (λ found. Shows found difference) }
     {
-        let mut first_progress = self.leaf(steps, first);
-        let mut second_progress = self.leaf(steps, second);
+        let mut first_progress = self.start(steps, first);
+        let mut second_progress = self.start(steps, second);
         let mut last = leaf_difference(alloc, steps, first, second)?;
         for level in 0..cap_layer {
-            let mine = self.computed_level(steps, cap_layer, level, first, &first_progress);
-            let theirs = self.computed_level(steps, cap_layer, level, second, &second_progress);
+            let mine = self.compute_level(steps, cap_layer, level, first, &first_progress);
+            let theirs = self.compute_level(steps, cap_layer, level, second, &second_progress);
             let rows = RowPair {
                 dimensions: steps.dimensions,
                 exponent: mine.above.exponent,

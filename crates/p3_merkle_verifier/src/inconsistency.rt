@@ -283,10 +283,10 @@ impl<
         ensures { let f = functions_of self.now in
             IsProgress f (shape_of N of.entry.steps.now.dimensions.now) (opening_in of.entry.opening) layer result }
     {
-        let mut progress = self.leaf(of.steps, of.opening);
+        let mut progress = self.start(of.steps, of.opening);
         for level in 0..layer {
             progress = self
-                .computed_level(of.steps, of.cap_layer, level, of.opening, &progress)
+                .compute_level(of.steps, of.cap_layer, level, of.opening, &progress)
                 .above;
         }
         progress
@@ -314,7 +314,7 @@ impl<
         let mut progress = self.progress_at(of, from);
         let mut last = None;
         for level in from..of.cap_layer {
-            let opened = self.computed_level(of.steps, of.cap_layer, level, of.opening, &progress);
+            let opened = self.compute_level(of.steps, of.cap_layer, level, of.opening, &progress);
             let place = Place::Group(level);
             let found = differing_digests(alloc, place, &opened.group, &groups[level - from])?;
             last = found.or(last);

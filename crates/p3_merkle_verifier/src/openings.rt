@@ -27,12 +27,16 @@ pub struct OpeningRef<'a, T, X> {
     pub siblings: &'a [X],
 }
 
-impl<'a, T, X> OpeningRef<'a, T, X> {
+impl<'a, T, W, const D: usize> OpeningRef<'a, T, [W; D]> {
+    ghost use Rattle.p3_merkle_core.specs.Views.{opening_borrowed};
+    ghost use Rattle.p3_merkle_verifier.specs.Inner.Checks.{opening_in};
+
     /// The opening of the leaf `index` by these rows and siblings.
-    pub fn new(index: usize, opening: BatchOpeningRef<'a, T, Vec<X>>) -> OpeningRef<'a, T, X>
-        ensures index { result.index ≡ index }
-        ensures rows { result.rows.now ≡ opening.entry.opened_values.now }
-        ensures siblings { result.siblings.now ≡ opening.entry.opening_proof.now.items }
+    pub fn new(
+        index: usize,
+        opening: BatchOpeningRef<'a, T, Vec<[W; D]>>,
+    ) -> OpeningRef<'a, T, [W; D]>
+        ensures { opening_in result ≡ opening_borrowed index opening.entry }
     {
         OpeningRef {
             index,

@@ -157,7 +157,7 @@ impl<
     }
 
     /// The start of the check of an opening: the leaf, with the digest of its rows.
-    pub(crate) fn leaf(
+    pub(crate) fn start(
         &self,
         steps: &Steps<'_>,
         opening: OpeningRef<'_, P::Value, [PW::Value; D]>,
@@ -179,7 +179,7 @@ impl<
     /// opening must have all siblings up to the cap.
     // A call that is not inlined writes the whole level to memory, and a verification needs only `above`.
     #[inline(always)]
-    pub(crate) fn computed_level(
+    pub(crate) fn compute_level(
         &self,
         steps: &Steps<'_>,
         cap_layer: usize,
@@ -199,7 +199,7 @@ impl<
             step,
             has_rows,
             exponent,
-        } = steps.up(N, level, progress.exponent);
+        } = steps.step_up(N, level, progress.exponent);
         lemma_step(
             steps,
             cap_layer,
@@ -243,11 +243,14 @@ impl<
     ///
     /// # Errors
     ///
-    /// The first of these that applies: `WrongBatchSize` if the number of rows is not that of the dimensions;
-    /// `EmptyBatch`, `TooLarge` or `IncompatibleHeights` if no tree can be built over such heights; `WrongHeight` if
-    /// the number of siblings is not what the levels below the cap need; `WrongWidth` for the first row whose length is
-    /// not the width of its matrix; `IndexOutOfBounds` if the index is not below the tallest height; `CapMismatch` if
-    /// there is no root above the leaf, or the path leads to another digest.
+    /// The first of these that applies:
+    ///
+    /// - `WrongBatchSize`: the number of rows is not that of the dimensions;
+    /// - `EmptyBatch`, `TooLarge` or `IncompatibleHeights`: no tree can be built over such heights;
+    /// - `WrongHeight`: the number of siblings is not what the levels below the cap need;
+    /// - `WrongWidth`, for the first row whose length is not the width of its matrix;
+    /// - `IndexOutOfBounds`: the index is not below the tallest height;
+    /// - `CapMismatch`: there is no root above the leaf, or the path leads to another digest.
     pub fn check_opening(
         &self,
         roots: &[[PW::Value; D]],
@@ -265,10 +268,10 @@ impl<
     {
         let (index, num_siblings) = (opening.index, opening.siblings.len());
         check_form(steps, cap_layer, index, opening.rows, num_siblings)?;
-        let mut progress = self.leaf(steps, opening);
+        let mut progress = self.start(steps, opening);
         for level in 0..cap_layer {
             progress = self
-                .computed_level(steps, cap_layer, level, opening, &progress)
+                .compute_level(steps, cap_layer, level, opening, &progress)
                 .above;
         }
         if is_entry(roots, progress.node, &progress.digest) {

@@ -13,7 +13,7 @@ ghost use Rattle.p3_merkle_core.specs.Nodes.{Functions};
 ghost use Rattle.p3_merkle_core.specs.Pruning.{restored_paths};
 ghost use Rattle.p3_merkle_core.specs.Refusals.{cap_refusal, is_entry as is_entry_of, pruned_refusal};
 ghost use Rattle.p3_merkle_core.specs.Refusals.{pruned_refusal_under, AnswersUnlessMemory};
-ghost use Rattle.p3_merkle_core.specs.Views.{shown_paths};
+ghost use Rattle.p3_merkle_core.specs.Views.{pruned_borrowed, shown_paths};
 ghost use Rattle.p3_merkle_digests.specs.Inner.Slots.{rows_over};
 ghost use Rattle.p3_merkle_verifier.specs.Inner.Checks.{functions_of};
 ghost use Rattle.p3_merkle_verifier.specs.Inner.NodeDigests.{child_group, group_digest};
@@ -28,7 +28,8 @@ use crate::openings::{OpenedMatrix, PrunedOpeningRef, RestorableOpening};
 use p3_merkle_core::error::MerkleTreeError;
 use p3_merkle_core::geometry::exponent_of;
 use p3_merkle_core::pruning::{
-    AuthPath, CoveredLayer, DistinctQueries, check_pruned, children_of, path_out_of,
+    AuthPath, CoveredLayer, DistinctQueries, PrunedMerklePaths, check_pruned, children_of,
+    siblings_on_path,
 };
 use p3_merkle_core::steps::{Covered, StepUp, Steps};
 use p3_merkle_digests::batched::{LayerRows, compress_children, inject_row_digests};
@@ -37,10 +38,28 @@ use p3_support::hasher::CryptographicHasher;
 use p3_support::packed::PackedValue;
 use std::alloc::{AllocError, Global};
 use std::marker::PhantomData;
+use std::mem;
+
+impl<'a, T, W: Copy, const D: usize> PrunedOpeningRef<'a, T, [W; D]> {
+    /// The pruned opening of these indices, row sets and digests.
+    pub fn new(
+        indices: &'a [usize],
+        sets: &'a [Vec<Vec<T>>],
+        proof: &'a PrunedMerklePaths<W, D>,
+    ) -> PrunedOpeningRef<'a, T, [W; D]>
+        ensures { pruned_in result ≡ pruned_borrowed indices.now sets.now proof.now }
+    {
+        PrunedOpeningRef {
+            indices,
+            sets,
+            sent: proof.sibling_hashes.as_slice(),
+        }
+    }
+}
 
 /// Checks the form of a pruned opening and that its rows agree, and returns it with its covered leaves. The error is
 /// that of `check_pruned`.
-fn restorable_of<'a, P: PackedValue, X>(
+fn check_restorable<'a, P: PackedValue, X>(
     alloc: Global,
     steps: &'a Steps<'a>,
     cap_layer: usize,
@@ -188,12 +207,19 @@ fn paths_of<T, W: Copy, const D: usize>(
     let mut of_leaves = Vec::with_capacity(alloc, leaves.indices.len())?;
     // The leaves ascend, so each search goes on where the last one ended.
     for leaf in &leaves.indices {
-        of_leaves.push_reserved(path_out_of(alloc, layers, &mut places, *leaf, capacity)?);
+        of_leaves.push_reserved(siblings_on_path(alloc, layers, &mut places, *leaf, capacity)?);
     }
     let indices = restorable.opening.indices;
-    let mut paths = Vec::with_capacity(alloc, indices.len())?;
+    let mut paths: Vec<AuthPath<[W; D]>> = Vec::with_capacity(alloc, indices.len())?;
     for query in 0..indices.len() {
-        let siblings = Vec::from_slice(alloc, &of_leaves[leaves.slots[query]])?;
+        let slot = leaves.slots[query];
+        let first = leaves.first_queries[slot];
+        // The first query of a leaf takes its path, the others copy it.
+        let siblings = if query == first {
+            mem::replace(&mut of_leaves[slot], Vec::new(alloc))
+        } else {
+            Vec::from_slice(alloc, &paths[first].siblings)?
+        };
         paths.push_reserved(AuthPath {
             leaf_index: indices[query],
             siblings,
@@ -405,7 +431,7 @@ impl<
             AnswersUnlessMemory result
             (pruned_refusal_under P.Value.eq PW.Value.eq c roots.now (pruned_in opening.entry)) }
     {
-        let (restorable, leaves) = restorable_of::<P, [PW::Value; D]>(
+        let (restorable, leaves) = check_restorable::<P, [PW::Value; D]>(
             alloc, steps, cap_layer, opening,
         )?;
         let top = self.top_layer(alloc, &restorable, leaves)?;
@@ -433,7 +459,7 @@ impl<
             IfOk result (λ made. shown_paths made.1.items ≡ restored_paths c (pruned_in opening.entry)) }
         ensures leaves { IfOk result (λ made. AreDistinctOf made.0 opening.entry.indices.now) }
     {
-        let (restorable, leaves) = restorable_of::<P, [PW::Value; D]>(
+        let (restorable, leaves) = check_restorable::<P, [PW::Value; D]>(
             alloc, steps, cap_layer, opening,
         )?;
         let layers = self.restored_layers(alloc, &restorable, leaves)?;
@@ -465,7 +491,7 @@ impl<
             let c = params f (shape_of steps.now.arity steps.now.dimensions.now) cap_layer in
             IfOk result (λ paths. shown_paths paths.items ≡ restored_paths c (pruned_in opening.entry)) }
     {
-        let (restorable, leaves) = restorable_of::<P, [PW::Value; D]>(
+        let (restorable, leaves) = check_restorable::<P, [PW::Value; D]>(
             alloc, steps, cap_layer, opening,
         )?;
         let layers = self.restored_layers(alloc, &restorable, leaves)?;

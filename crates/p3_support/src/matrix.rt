@@ -13,6 +13,9 @@ use std::alloc::{AllocError, Global};
 use std::marker::{Model, PhantomData};
 use thiserror::Error;
 
+/// The longest row, in elements, that is copied one by one: for so few, a call that copies a slice takes longer.
+const FEW_WORDS: usize = 4;
+
 /// The size of a matrix.
 #[derive(Clone, Copy, Debug, PartialEq, Eq)]
 pub struct Dimensions {
@@ -92,6 +95,8 @@ pub trait Matrix<T> {
     /// # Errors
     ///
     /// `AllocError` if memory runs out. `words` may then have a part of the row.
+    // Not inlined: callers copy most rows without it.
+    #[inline(never)]
     final fn append_row(&self, row: usize, words: &mut Vec<T>) -> Result<(), AllocError>
     where
         T: Copy,
@@ -102,7 +107,7 @@ pub trait Matrix<T> {
         let mut column = 0;
         while column < width {
             let piece = self.piece(row, column);
-            if piece.is_empty() {
+            if width <= FEW_WORDS || piece.is_empty() {
                 words.push(self.get(row, column))?;
                 column += 1;
             } else {

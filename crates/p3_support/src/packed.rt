@@ -142,7 +142,7 @@ pub fn lemma_rows<T, const D: usize>(rows: &[[T; D]])
 }
 
 /// Unpacks one packed value: lane `k` becomes element `e` of row `k`.
-fn put_lanes<PW: PackedValue, const D: usize>(value: PW, e: usize, rows: &mut [[PW::Value; D]])
+fn unpack_value<PW: PackedValue, const D: usize>(value: PW, e: usize, rows: &mut [[PW::Value; D]])
     requires inside { e < D }
     requires rows { length rows.old ≡ PW.WIDTH }
     ensures long { length rows.new ≡ length rows.old }
@@ -163,7 +163,7 @@ pub fn unpack_into<PW: PackedValue, const D: usize>(packed: &[PW; D], rows: &mut
     lemma_rows(rows);
     // The inner loop goes over the lanes: their number is a constant, so no lane is read at a computed position.
     for (e, value) in packed.iter().enumerate() {
-        put_lanes(*value, e, rows);
+        unpack_value(*value, e, rows);
     }
 }
 
@@ -185,7 +185,7 @@ pub fn unpack_at<PW: PackedValue, const D: usize>(
 }
 
 /// Writes a column into lane `k`: element `e` of `packed` gets `column[e]`. The other lanes stay as they are.
-fn put_lane<PW: PackedValue, const D: usize>(packed: &mut [PW; D], k: usize, column: &[PW::Value])
+fn set_lane<PW: PackedValue, const D: usize>(packed: &mut [PW; D], k: usize, column: &[PW::Value])
     requires lane { k < PW.WIDTH }
     requires long { length column.now ≡ D }
     ensures same { lane_of PW.lanes PW.default_value k packed.new ≡ column.now }
@@ -215,7 +215,7 @@ pub fn pack_columns_fn<
     let mut packed = [PW::broadcast(PW::Value::default()); D];
     for k in 0..PW::WIDTH {
         let column = f(k);
-        put_lane(&mut packed, k, column.as_slice());
+        set_lane(&mut packed, k, column.as_slice());
     }
     packed
 }

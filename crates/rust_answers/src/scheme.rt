@@ -202,10 +202,15 @@ fn restore<
 }
 
 /// `DIMENSIONS`: the steps.
-fn schedule<P: PackedValue, H, C, X: Copy, G, const N: usize>(
-    scheme: &Scheme<P, P, H, C, X, G, N>,
-    numbers: &mut Numbers<'_>,
-) -> Answer {
+fn schedule<
+    P: PackedValue,
+    H: CryptographicHasher<P, P, D>,
+    C: PseudoCompressionFunction<P, N, D>,
+    X: Copy,
+    G,
+    const N: usize,
+    const D: usize,
+>(scheme: &Scheme<P, P, H, C, X, G, N, D>, numbers: &mut Numbers<'_>) -> Answer {
     let dimensions: Vec<Dimensions> = Vec::read(numbers)?;
     numbers.end()?;
     answer_of(
@@ -215,10 +220,15 @@ fn schedule<P: PackedValue, H, C, X: Copy, G, const N: usize>(
 }
 
 /// `DIMENSIONS INDEX SIBLINGS`: the steps, and the positions of the path.
-fn replay<P: PackedValue, H, C, X: Copy, G, const N: usize>(
-    scheme: &Scheme<P, P, H, C, X, G, N>,
-    numbers: &mut Numbers<'_>,
-) -> Answer {
+fn replay<
+    P: PackedValue,
+    H: CryptographicHasher<P, P, D>,
+    C: PseudoCompressionFunction<P, N, D>,
+    X: Copy,
+    G,
+    const N: usize,
+    const D: usize,
+>(scheme: &Scheme<P, P, H, C, X, G, N, D>, numbers: &mut Numbers<'_>) -> Answer {
     let dimensions: Vec<Dimensions> = Vec::read(numbers)?;
     let index = usize::read(numbers)?;
     let num_siblings = usize::read(numbers)?;

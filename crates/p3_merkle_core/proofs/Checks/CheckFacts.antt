@@ -1,6 +1,6 @@
 -- What a check ends in: the digest of its last input, which is the one that the walk reaches.
 use Rattle.std.proofs.Common.{◌≡◌, ℕ, zero, suc, ◌<◌, true, false, List, [], ◌∷◌, ◌++◌, map, refl, ap, sym, ◌∙◌, inl}
-use Rattle.std.proofs.Common.{inr, length, Some, slice_get}
+use Rattle.std.proofs.Common.{inr, drop, length, Some, slice_get}
 use Rattle.std.proofs.lemmas.Bool.{cases_Bool}
 use Rattle.std.proofs.lemmas.List.{append_assoc}
 use Rattle.p3_merkle_core.specs.Geometry.{Shape, IsLawful, ancestor, has_rows, heights, widths}
@@ -53,6 +53,16 @@ pub inputs_alone : {T W : Type 0} (f : Functions T W) (s : Shape) (o : Opening T
     ≡ false →
     inputs_at f s o l ≡ digests_at (Group l) (full_group f s o l) ∷ []
 inputs_alone f s o l e = rw e refl
+
+-- the N digests are its first input
+pub group_first : {T W : Type 0} (f : Functions T W) (s : Shape) (o : Opening T W) (l : ℕ) →
+    inputs_at f s o l ≡ digests_at (Group l) (full_group f s o l) ∷ drop 1 (inputs_at f s o l)
+group_first f s o l = elim (cases_Bool (has_rows s (suc l))) [ inl t ↦ rw t refl | inr n ↦ rw n refl ]
+
+pub same_group : {T W : Type 0} (f : Functions T W) (s : Shape) (o : Opening T W) (l : ℕ) (group : List (List W))
+    (others : List (Input T W)) → digests_at (Group l) group ∷ others ≡ inputs_at f s o l → group ≡ full_group f s o l
+same_group {T} f s o l group others e =
+    let first = group_first f s o l in same_digests {T = T} (Group l) (Group l) group (full_group f s o l) cc
 
 -- ---- the last of them
 

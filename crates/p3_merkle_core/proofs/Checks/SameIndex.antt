@@ -1,17 +1,15 @@
 -- At one index, two accepted openings have the same inputs exactly if they have the same siblings and the same rows up
 -- to the cap layer.
-use Rattle.std.proofs.Common.{◌≡◌, ◌↔◌, ℕ, zero, suc, ◌-◌, ◌<◌, ◌≤◌, List, ◌++◌, refl, ap, sym, ◌∙◌, subst, arith, inl}
-use Rattle.std.proofs.Common.{inr, length, take, drop, insert, replicate, flat_map, eq-eqb}
-use Rattle.std.proofs.lemmas.Bool.{cases_Bool}
+use Rattle.std.proofs.Common.{◌≡◌, ◌↔◌, ℕ, zero, suc, ◌-◌, ◌<◌, ◌≤◌, List, ◌++◌, refl, ap, sym, ◌∙◌, subst, arith}
+use Rattle.std.proofs.Common.{length, take, drop, insert, replicate, flat_map, eq-eqb}
 use Rattle.std.proofs.lemmas.List.{take_all}
 use Rattle.std.proofs.lemmas.List.Edits.{length-insert}
-use Rattle.p3_merkle_core.specs.Geometry.{Shape, IsArity, step, ancestor, position_in_group, has_rows}
+use Rattle.p3_merkle_core.specs.Geometry.{Shape, IsArity, step, ancestor, position_in_group}
 use Rattle.p3_merkle_core.specs.Nodes.{Functions}
 use Rattle.p3_merkle_core.specs.Openings.{Opening}
 use Rattle.p3_merkle_core.specs.Checks.{IsAccepted, inputs, inputs_at, shared_inputs, group_at, path_digest}
 use Rattle.p3_merkle_core.specs.Checks.{layer_words, layer_rows, siblings_at, siblings_below, params}
-use Rattle.p3_merkle_core.specs.declared.collision.Place.TheVariants.{Group}
-use Rattle.p3_merkle_core.proofs.Checks.CheckFacts.{same_digests, inputs_with_rows, inputs_alone, full_group}
+use Rattle.p3_merkle_core.proofs.Checks.CheckFacts.{full_group, group_first, same_group}
 use Rattle.p3_merkle_core.proofs.Checks.Completeness.{reached_leaf, reached_next}
 use Rattle.p3_merkle_core.proofs.Checks.PathFacts.{joined_same}
 use Rattle.p3_merkle_core.proofs.Collisions.Extraction.{same_ends, siblings_full, in_group}
@@ -36,13 +34,7 @@ siblings_alike : {T W : Type 0} (f : Functions T W) (s : Shape) (t : ℕ) (o u :
     length o.siblings ≡ siblings_below s t → length u.siblings ≡ siblings_below s t → o.index ≡ u.index →
     (l : ℕ) → l < t → inputs_at f s o l ≡ inputs_at f s u l → siblings_at s o l ≡ siblings_at s u l
 siblings_alike {T} f s t o u w a b same l h e =
-    let g : full_group f s o l ≡ full_group f s u l =
-    elim (cases_Bool (has_rows s (suc l))) [
-      | inl t ↦ let c = sym (inputs_with_rows f s o l t) ∙ e ∙ inputs_with_rows f s u l t in
-          same_digests {T = T} (Group l) (Group l) (full_group f s o l) (full_group f s u l) cc
-      | inr n ↦ let c = sym (inputs_alone f s o l n) ∙ e ∙ inputs_alone f s u l n in
-          same_digests {T = T} (Group l) (Group l) (full_group f s o l) (full_group f s u l) cc
-    ] in
+    let g = same_group f s u l (full_group f s o l) _ (sym (group_first f s o l) ∙ e) in
     let p = position_in_group s l o.index in
     let full = siblings_full s o t l a h in
     let other = siblings_full s u t l b h in

@@ -14,8 +14,8 @@ use Rattle.p3_merkle_core.proofs.Shapes.LeastFacts.{least_passes}
 use Rattle.p3_merkle_core.proofs.Shapes.StepFacts.{anc_next, step_above_1}
 use Rattle.p3_merkle_core.proofs.Checks.Completeness.{reached_next, reached_leaf}
 pub use Rattle.p3_merkle_core.proofs.Checks.CheckFacts.{full_group, inputs_with_rows, inputs_alone}
-use Rattle.p3_merkle_core.proofs.Checks.CheckFacts.{accepted_walk, same_digests}
-use Rattle.p3_merkle_core.specs.declared.collision.Place.TheVariants.{Group, Pair}
+use Rattle.p3_merkle_core.proofs.Checks.CheckFacts.{accepted_walk, group_first, same_digests, same_group}
+use Rattle.p3_merkle_core.specs.declared.collision.Place.TheVariants.{Pair}
 use Rattle.p3_merkle_core.proofs.Lists.ListFacts.{joined, joined_more}
 
 -- ---- lists
@@ -94,13 +94,7 @@ level_keeps : {T W : Type 0} (f : Functions T W) (s : Shape) (o u : Opening T W)
     position_in_group s l o.index ≤ length (siblings_at s u l) →
     inputs_at f s o l ≡ inputs_at f s u l → path_digest f s o l ≡ path_digest f s u l
 level_keeps {T} f s o u l same h k e =
-    let g : full_group f s o l ≡ full_group f s u l =
-    elim (cases_Bool (has_rows s (suc l))) [
-      | inl t ↦ let c = sym (inputs_with_rows f s o l t) ∙ e ∙ inputs_with_rows f s u l t in
-          same_digests {T = T} (Group l) (Group l) (full_group f s o l) (full_group f s u l) cc
-      | inr n ↦ let c = sym (inputs_alone f s o l n) ∙ e ∙ inputs_alone f s u l n in
-          same_digests {T = T} (Group l) (Group l) (full_group f s o l) (full_group f s u l) cc
-    ] in
+    let g = same_group f s u l (full_group f s o l) _ (sym (group_first f s o l) ∙ e) in
     let blanks = λ (v : Opening _ _). replicate (s.arity - length (group_at f s v l (path_digest f s v l)))
     f.default_digest in
     put_back (siblings_at s o l) (siblings_at s u l) (blanks o) (blanks u) (position_in_group s l o.index)

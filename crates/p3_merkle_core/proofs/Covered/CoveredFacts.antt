@@ -13,9 +13,8 @@ use Rattle.std.proofs.Math.Pow.{pow_mono}
 use Rattle.p3_merkle_core.specs.Geometry.{Shape, step, ancestor, raw_len, layer_len, padded_len}
 use Rattle.p3_merkle_core.specs.Geometry.{leaves_under, levels, layer_exponent, exponent, heights, height_limit}
 use Rattle.p3_support.specs.Batches.{greatest}
-use Rattle.p3_merkle_core.specs.Pruning.{CanQuery, is_covered, is_boundary, boundary_at, boundary}
+use Rattle.p3_merkle_core.specs.Pruning.{CanQuery, is_covered, is_boundary, boundary_at, boundary, pruned_len}
 use Rattle.p3_merkle_core.specs.Inner.Covered.{covered_at}
-use Rattle.p3_merkle_core.specs.Pruning.{pruned_len}
 use Rattle.p3_merkle_core.proofs.Shapes.LeastFacts.{exponent_le}
 use Rattle.p3_merkle_core.proofs.Shapes.LadderFacts.{levels_le, exact}
 use Rattle.p3_merkle_core.proofs.Shapes.RawFacts.{children_fit, filled, positive_below}
@@ -224,6 +223,7 @@ pub record IsCounted (s : Shape) (queries : List ℕ) (l : ℕ) : Type 0 where
   pub counted : length (boundary_at s queries l) + length (covered_at s queries l)
       ≡ step s l * length (covered_at s queries (suc l))
   pub small : step s l * length (covered_at s queries (suc l)) ≤ 2 ^ 63
+  pub low : layer_len s l < 2 ^ 64
   pub few : pruned_len s queries l ≤ 2 ^ 62
 
 covered_few : (s : Shape) (queries : List ℕ) (t : ℕ) → CanQuery s queries t → (l : ℕ) → l ≤ t →
@@ -255,13 +255,10 @@ counted_at s queries t w low l h =
     let one : 2 ^ x * 1 ≤ 2 ^ x * under = mul-le-mul_left (2 ^ x) (leaves_above_0 s w.well_shaped.above_1 l) in
     let above : step s l * length (covered_at s queries (suc l)) ≤ step s l * raw_len s (suc l) =
     mul-le-mul_left (step s l) (covered_few s queries t w (suc l) (omega arith)) in
+    let padded = padded_le (raw_len s l) s.arity (let two = w.well_shaped.above_1 in omega arith) in
     record {
       counted = covered_count s queries t w l h;
-      small = omega (
-        arith,
-        children_fit s w.well_shaped some l in_tree,
-        padded_le (raw_len s l) s.arity (let two = w.well_shaped.above_1 in omega arith),
-        w.well_shaped.fits,
-      );
+      small = omega (arith, children_fit s w.well_shaped some l in_tree, padded, w.well_shaped.fits);
+      low = omega (arith, padded, w.well_shaped.fits);
       few = omega (arith, pruned_few s queries t w l (omega arith));
     }

@@ -1,16 +1,13 @@
 -- The paths that are read out of a walk's kept levels.
-use Rattle.std.proofs.Common.{◌≡◌, ℕ, zero, suc, ◌+◌, ◌-◌, ◌*◌, ◌/◌, ◌%◌, ◌<◌, ◌≤◌, true, eqb, nat_lt, List, []}
-use Rattle.std.proofs.Common.{◌∷◌}
+use Rattle.std.proofs.Common.{◌≡◌, ℕ, zero, suc, ◌+◌, ◌-◌, ◌*◌, ◌/◌, ◌%◌, ◌<◌, ◌≤◌, true, eqb, nat_lt, List, [], ◌∷◌}
 use Rattle.std.proofs.Common.{◌++◌, map, refl, ap, sym, ◌∙◌, arith, add-one, inl, inr, length, filter, get_or, take}
-use Rattle.std.proofs.Common.{drop, remove, subst, length-drop, eq-eqb, append_assoc, append-nil, drop-cons, fold}
+use Rattle.std.proofs.Common.{drop, remove, subst, length-drop, eq-eqb, append_assoc, drop-cons, fold}
 use Rattle.std.specs.List.{enumerate_from, flat_map, range_with_len, take-map, drop-map}
 use Rattle.std.specs.List.Sorted.{IsStrictlyIncreasing}
-use Rattle.std.proofs.lemmas.Bool.{cases_lt, eqb-true, or_cases, or_left, or_right, true≢false}
-use Rattle.std.proofs.lemmas.Bool.{lt-ltb, le-ltb}
+use Rattle.std.proofs.lemmas.Bool.{cases_lt, eqb-true, or_cases, or_left, or_right, true≢false, lt-ltb, le-ltb}
 use Rattle.std.proofs.lemmas.List.Kept.{AllPairs-from_increasing}
-use Rattle.std.proofs.lemmas.List.{map-append, drop_all, take-append-le, take_all}
-use Rattle.std.proofs.lemmas.List.{take_more, get_or-map, get_or_default, length-map}
-use Rattle.std.proofs.lemmas.List.{map_more, get_or-drop}
+use Rattle.std.proofs.lemmas.List.{map-append, take-append-le, take_all, take_more, get_or-map, get_or_default}
+use Rattle.std.proofs.lemmas.List.{length-map, map_more, get_or-drop}
 use Rattle.std.proofs.lemmas.List.Folds.{Any-from_list_any}
 use Rattle.std.proofs.lemmas.List.Edits.{get_or-remove_above, get_or-remove_below, length-remove}
 use Rattle.std.proofs.lemmas.List.FromFn.{length-range_with_len, map-range_with_len_more, take-map-range_with_len}
@@ -18,15 +15,14 @@ use Rattle.std.proofs.lemmas.List.Sums.{fold-append}
 use Rattle.std.proofs.lemmas.Simd.{map-map}
 use Rattle.std.proofs.Math.Nat.{div-div-eq-div-mul, mul-le-mul_left, mul-suc}
 use Rattle.std.proofs.Math.Seq.{drop-append-add}
-use Rattle.p3_merkle_core.specs.Inner.Children.{children_at, children_under, node_over, path_out_of, paths_out_of}
+use Rattle.p3_merkle_core.specs.Inner.Children.{children_at, children_under, node_over, siblings_on_path, paths_out_of}
 use Rattle.p3_merkle_core.specs.Inner.Children.{levels_in, place_among, siblings_out_of, AreLinked, IsLinked}
 use Rattle.p3_support.specs.Lists.{is_among}
 use Rattle.p3_merkle_core.specs.declared.pruning.CoveredLayer.{CoveredLayer}
 use Rattle.p3_merkle_core.specs.Geometry.{Shape, step, ancestor, layer_len, leaves_under, schedule_below}
 use Rattle.p3_merkle_core.specs.Nodes.{Functions}
-use Rattle.p3_merkle_core.specs.Pruning.{CanQuery, PrunedOpening, is_covered, value_of, restored_path}
+use Rattle.p3_merkle_core.specs.Pruning.{CanQuery, PrunedOpening, is_covered, value_of, restored_path, restored_paths}
 use Rattle.p3_merkle_core.specs.Inner.Covered.{covered_at}
-use Rattle.p3_merkle_core.specs.Pruning.{restored_paths}
 use Rattle.p3_merkle_core.proofs.Covered.CoveredFacts.{covered_listed}
 use Rattle.p3_merkle_core.proofs.Lists.ListFacts.{joined}
 use Rattle.p3_merkle_core.proofs.Checks.PathFacts.{joined_same, piece}
@@ -197,12 +193,8 @@ path_from levels i k = flat_map (kept_siblings levels i) (enumerate_from k (drop
 -- a walk of a path has come to level k: its siblings so far, and the node at which it stands
 pub record IsOnPath {X : Type 0} (levels : List (List ℕ × ℕ × List X)) (i k : ℕ) (path : List X) (node : ℕ) :
     Type 0 where
-  pub so_far : path ++ path_from levels i k ≡ path_out_of levels i
+  pub so_far : path ++ path_from levels i k ≡ siblings_on_path levels i
   pub node_is : node ≡ node_over (steps_below levels k) i
-
-pub path_start : {X : Type 0} (levels : List (List ℕ × ℕ × List X)) (i : ℕ) (path : List X) → path ≡ [] →
-    IsOnPath levels i 0 path i
-path_start levels i path is = record { so_far = rw is refl; node_is = omega arith }
 
 pub path_more : {V X : Type 0} (view : V → List ℕ × ℕ × List X) (levels : List V) (i k node : ℕ) (level : V)
     (old new : List X) → k < length levels → level ≡ get_or levels k level → IsOnPath (map view levels) i k old node →
@@ -223,10 +215,6 @@ path_more view levels i k node level old new h is w more =
           ∙ ap (λ ys. old ++ ys) (sym rest) ∙ w.so_far;
       node_is = rw (next, fold-append, w.node_is) (div-div-eq-div-mul i (fold (λ product n. product * n) 1 steps) d.1);
     }
-
-pub path_end : {X : Type 0} (levels : List (List ℕ × ℕ × List X)) (i k : ℕ) (path : List X) (node : ℕ) →
-    length levels ≤ k → IsOnPath levels i k path node → path ≡ path_out_of levels i
-path_end levels i k path node h w = sym (append-nil path) ∙ rw (drop_all k levels h) at w.so_far
 
 -- what links a layer to the one below it, which has a node
 pub link_at : {X : Type 0} (layers : List (CoveredLayer X)) (level : ℕ) (above : CoveredLayer X) → 0 < level →
@@ -324,7 +312,7 @@ enumerated h level a (suc n) = ap (λ ys. h (a, level a) ++ ys) (enumerated h le
 
 -- the path of a queried leaf out of such levels
 path_kept : {X : Type 0} (s : Shape) (queries : List ℕ) (t : ℕ) → CanQuery s queries t → (v : ℕ → ℕ → X) (i : ℕ) →
-    is_among queries i ≡ true → path_out_of (map (level_of s queries v) (range_with_len 0 t)) i ≡ joined (piece s v i) t
+    is_among queries i ≡ true → siblings_on_path (map (level_of s queries v) (range_with_len 0 t)) i ≡ joined (piece s v i) t
 path_kept s queries t w v i q =
     let levels = map (level_of s queries v) (range_with_len 0 t) in
     enumerated (kept_siblings levels i) (level_of s queries v) 0 t
@@ -348,6 +336,6 @@ pub paths_restored : {T W : Type 0} (f : Functions T W) (s : Shape) (t : ℕ) (p
     paths_out_of levels p.indices ≡ restored_paths (params f s t) p
 paths_restored f s t p w levels are =
     rw are (same_paths
-    (λ i. (i, path_out_of (map (level_of s p.indices (value_of (params f s t) p)) (range_with_len 0 t)) i))
+    (λ i. (i, siblings_on_path (map (level_of s p.indices (value_of (params f s t) p)) (range_with_len 0 t)) i))
     (λ i. (i, restored_path (params f s t) p i)) p.indices
     (λ i q. ap (λ path. (i, path)) (path_kept s p.indices t w (value_of (params f s t) p) i q)))

@@ -37,6 +37,19 @@ known_counts s w queries given (suc l) j (inr k) bare =
 
 -- ---- what a sufficing set makes known
 
+-- a child of a covered node that is known
+child_known : (s : Shape) → IsArity s.arity → (queries : List ℕ) (t : ℕ) (given : List (ℕ × ℕ)) →
+    IsUncovered s queries t given → (l j : ℕ) → l < t → is_covered s queries (suc l) (j / step s l) ≡ true →
+    IsKnown s queries given (suc l) (j / step s l) → IsKnown s queries given l j
+child_known s w queries t given un l j h parent is =
+    let n = step s l in
+    let two = step_above_1 s l w.above_1 in
+    elim is [
+      | inl known ↦
+          absurd (both_ways (is_covered s queries (suc l) (j / n)) (un (suc l) (j / n) (omega arith) known) parent)
+      | inr k ↦ let e : n * (j / n) + j % n ≡ j = omega arith in rw e at (k.1 (j % n) (omega arith))
+    ]
+
 -- each covered node, d layers below the cap layer
 covered_known : (s : Shape) → IsArity s.arity → (queries : List ℕ) (t : ℕ) (given : List (ℕ × ℕ)) →
     IsUncovered s queries t given → Suffices s queries t given →
@@ -44,31 +57,17 @@ covered_known : (s : Shape) → IsArity s.arity → (queries : List ℕ) (t : �
 covered_known s w queries t given un enough zero l j e c =
     let same : l ≡ t = omega arith in rw same (enough j (rw same at c))
 covered_known s w queries t given un enough (suc d) l j e c =
-    let n = step s l in
-    let two = step_above_1 s l w.above_1 in
     let parent = covered_up s queries l j c in
-    elim (covered_known s w queries t given un enough d (suc l) (j / n) (omega arith) parent) [
-      | inl known ↦
-          absurd (both_ways (is_covered s queries (suc l) (j / n)) (un (suc l) (j / n) (omega arith) known) parent)
-      | inr k ↦
-          let e : n * (j / n) + j % n ≡ j = omega arith in
-          rw e at (k.1 (j % n) (omega arith))
-    ]
+    child_known s w queries t given un l j (omega arith) parent
+    (covered_known s w queries t given un enough d (suc l) (j / step s l) (omega arith) parent)
 
 pub boundary_known : (s : Shape) → IsArity s.arity → (queries : List ℕ) (t : ℕ) (given : List (ℕ × ℕ)) →
     IsUncovered s queries t given → Suffices s queries t given →
     (l j : ℕ) → l < t → is_boundary s queries l j ≡ true → IsKnown s queries given l j
 boundary_known s w queries t given un enough l j h b =
-    let n = step s l in
-    let two = step_above_1 s l w.above_1 in
-    let parent = (and_parts (is_covered s queries (suc l) (j / n)) (not (is_covered s queries l j)) b).0 in
-    elim (covered_known s w queries t given un enough (t - suc l) (suc l) (j / n) (omega arith) parent) [
-      | inl known ↦
-          absurd (both_ways (is_covered s queries (suc l) (j / n)) (un (suc l) (j / n) (omega arith) known) parent)
-      | inr k ↦
-          let e : n * (j / n) + j % n ≡ j = omega arith in
-          rw e at (k.1 (j % n) (omega arith))
-    ]
+    let parent = (and_parts (is_covered s queries (suc l) (j / step s l)) (not (is_covered s queries l j)) b).0 in
+    child_known s w queries t given un l j h parent
+    (covered_known s w queries t given un enough (t - suc l) (suc l) (j / step s l) (omega arith) parent)
 
 -- ---- each node is under one boundary node at most
 

@@ -1,31 +1,23 @@
 -- The children that a walk takes are the values of the definitions.
-use Rattle.std.proofs.Common.{◌≡◌, ℕ, suc, ◌-◌, ◌*◌, ◌^◌, ◌<◌, ◌≤◌, Bool, not, cond, List, [], ◌∷◌, ◌++◌, map, refl, ap}
+use Rattle.std.proofs.Common.{◌≡◌, ℕ, suc, ◌-◌, ◌*◌, ◌<◌, ◌≤◌, Bool, not, cond, List, [], ◌∷◌, ◌++◌, map, refl, ap}
 use Rattle.std.proofs.Common.{sym, ◌∙◌, arith, inl, inr, length, filter, get_or, take, drop}
-use Rattle.std.specs.List.{flat_map, range_with_len}
+use Rattle.std.specs.List.{flat_map, range_with_len, take-map}
 use Rattle.std.specs.Cmp.{both_ways}
 use Rattle.std.proofs.lemmas.Bool.{cases_Bool}
-use Rattle.std.specs.List.{take-map}
 use Rattle.std.proofs.lemmas.List.{length-map, map-append}
 use Rattle.std.proofs.lemmas.List.Elements.{filter-append, filter_agree}
-use Rattle.std.proofs.Math.Nat.{mul-le-mul_left}
-use Rattle.std.proofs.Math.Pow.{pow_mono}
 use Rattle.p3_merkle_core.specs.Inner.Children.{AreChildren, IsFamily, beside, children_under, unknown_count}
 use Rattle.p3_support.specs.Batches.{greatest}
 use Rattle.p3_support.specs.Lists.{is_among}
-use Rattle.p3_merkle_core.specs.Geometry.{Shape, step, raw_len, layer_len, leaves_under, levels, layer_exponent}
-use Rattle.p3_merkle_core.specs.Geometry.{exponent, heights, height_limit}
+use Rattle.p3_merkle_core.specs.Geometry.{Shape, step, layer_len, heights, height_limit}
 use Rattle.p3_merkle_core.specs.Nodes.{Functions}
 use Rattle.p3_merkle_core.specs.Pruning.{CanQuery, PrunedOpening, is_covered, is_boundary, boundary_at}
 use Rattle.p3_merkle_core.specs.Inner.Covered.{covered_at}
 use Rattle.p3_merkle_core.specs.Pruning.{boundary, sent_digest, restored_node, value_of}
 use Rattle.p3_merkle_core.proofs.Lists.ListFacts.{length-joined_le}
 use Rattle.p3_merkle_core.proofs.Lists.RisingFacts.{by_groups, listed_at}
-use Rattle.p3_merkle_core.proofs.Covered.CoveredFacts.{some_leaf, leaves_above_0, padded_le, listed_covered}
-use Rattle.p3_merkle_core.proofs.Covered.CoveredFacts.{covered_listed, covered_by_groups, boundary_by_lists}
-use Rattle.p3_merkle_core.proofs.Covered.CoveredFacts.{covered_count, group_fits, counted_at}
-use Rattle.p3_merkle_core.proofs.Shapes.LadderFacts.{exact}
-use Rattle.p3_merkle_core.proofs.Shapes.LeastFacts.{exponent_le}
-use Rattle.p3_merkle_core.proofs.Shapes.RawFacts.{filled, positive_below}
+use Rattle.p3_merkle_core.proofs.Covered.CoveredFacts.{listed_covered, covered_listed, covered_by_groups}
+use Rattle.p3_merkle_core.proofs.Covered.CoveredFacts.{boundary_by_lists, covered_count, group_fits, counted_at}
 use Rattle.p3_merkle_core.proofs.Covered.SentFacts.{sent_level}
 use Rattle.p3_merkle_core.proofs.Covered.ChildFacts.{children_length}
 use Rattle.p3_merkle_core.specs.Checks.{params}
@@ -44,7 +36,7 @@ map_children v n [] = refl
 map_children v n (g ∷ parents) = map-append v (range_with_len (n * g) n) (children_under n parents)
     ∙ ap (λ ys. map v (range_with_len (n * g) n) ++ ys) (map_children v n parents)
 
-map_agree : {Y : Type 0} (v w : ℕ → Y) → ((j : ℕ) → v j ≡ w j) → (js : List ℕ) → map v js ≡ map w js
+pub map_agree : {Y : Type 0} (v w : ℕ → Y) → ((j : ℕ) → v j ≡ w j) → (js : List ℕ) → map v js ≡ map w js
 map_agree v w h [] = refl
 map_agree v w h (j ∷ js) = rw (h j, map_agree v w h js) refl
 
@@ -104,21 +96,6 @@ unknown_at : (s : Shape) (queries : List ℕ) (t : ℕ) → CanQuery s queries t
     unknown_count (step s l) (covered_at s queries (suc l)) (covered_at s queries l) ≡ length (boundary_at s queries l)
 unknown_at s queries t w l h = let c = covered_count s queries t w l h in omega arith
 
--- the numbers of a level's children fit
-small_children : (s : Shape) (queries : List ℕ) (t : ℕ) → CanQuery s queries t → greatest (heights s) ≤ height_limit →
-    (l : ℕ) → l < t → layer_len s l < 2 ^ 64
-small_children s queries t w low l h =
-    let in_tree : l < levels s = omega (arith, w.in_tree) in
-    let some = some_leaf s l in_tree in
-    let under = leaves_under s l in
-    let x = layer_exponent s l in
-    let whole = exact s w.well_shaped l (positive_below s l in_tree) in
-    let top : 2 ^ exponent (greatest (heights s)) ≤ 2 ^ 62 =
-    pow_mono {i = exponent (greatest (heights s))} {j = 62} (exponent_le (greatest (heights s)) 62 low) in
-    let fits = (filled s w.well_shaped some l (omega arith)).fits in
-    let one : 2 ^ x * 1 ≤ 2 ^ x * under = mul-le-mul_left (2 ^ x) (leaves_above_0 s w.well_shaped.above_1 l) in
-    omega (arith, padded_le (raw_len s l) s.arity (let two = w.well_shaped.above_1 in omega arith), w.well_shaped.fits)
-
 -- ---- one level
 
 -- what a level of the walk starts from: the steps, the covered nodes above and here, their values, and what is left of
@@ -150,11 +127,7 @@ family_by_counts s queries t w low l h n parents covered digests sent is_step is
       few = omega (arith, all.small);
       low = λ i d below.
           let g = get_or above i d in
-          omega (
-            arith,
-            group_fits s queries t w l h g (listed_at above i d below),
-            small_children s queries t w low l h,
-          );
+          omega (arith, group_fits s queries t w l h g (listed_at above i d below), all.low);
     })
 
 -- the children's values

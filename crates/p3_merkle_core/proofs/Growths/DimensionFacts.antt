@@ -3,7 +3,6 @@ use Rattle.std.proofs.Common.{◌≡◌, ◌∙◌, ℕ, zero, suc, ◌<◌, ◌
 use Rattle.std.proofs.Common.{refl, ap, sym, arith, inl, inr, eq-eqb, Option, Some, None}
 use Rattle.std.specs.Prelude.{All, position}
 use Rattle.std.specs.List.{position_or_len}
-use Rattle.std.specs.Option.{option_map}
 use Rattle.std.proofs.lemmas.Bool.{cases_eq, cases_lt, cond-true, eqb-true, lt-ltb, ne_eqb}
 use Rattle.std.proofs.lemmas.List.Sums.{fails_before_first}
 use Rattle.p3_support.specs.Batches.{greatest, heights_of}
@@ -11,11 +10,8 @@ use Rattle.p3_support.specs.declared.matrix.Dimensions.{Dimensions}
 use Rattle.p3_merkle_core.specs.ConsistencyRefusals.{one_height_refusal}
 use Rattle.p3_merkle_core.specs.Inconsistency.{first_unlike}
 use Rattle.p3_merkle_core.specs.declared.error.ConsistencyError.TheVariants.{HeightsDiffer}
+use Rattle.p3_merkle_core.proofs.Pruned.NoneFacts.{map_none}
 use Rattle.p3_merkle_core.proofs.Shapes.OneHeight.{greatest_same}
-
-pub map_none : {X Y : Type 0} (f : X → Y) (o : Option X) → option_map f o ≡ None → o ≡ None
-map_none f None e = refl
-map_none f (Some x) e = absurd cc
 
 pub some_is_not_none : {X : Type 0} (o : Option X) (x : X) → o ≡ Some x → o ≡ None → ⊥
 some_is_not_none o x a b = let c : Some x ≡ None = sym a ∙ b in absurd cc

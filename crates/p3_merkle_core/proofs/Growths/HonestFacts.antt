@@ -10,9 +10,7 @@ use Rattle.std.proofs.lemmas.List.FromFn.{get_or-map-range_with_len, length-map-
 use Rattle.std.proofs.lemmas.Option.{slice_get-get_or}
 use Rattle.std.proofs.Math.Nat.{mul-le-mul_left, mul-le-mul_right, mul-suc, mul_assoc, mul_comm, pow-suc, pow-zero}
 use Rattle.p3_merkle_core.specs.Consistency.{BeginsWith, Evidence, HasRowsOf, IsConsistent, IsGrowth, honest_evidence}
-use Rattle.p3_merkle_core.specs.Consistency.{is_sent, new_layer, new_value, old_layer, old_value}
-use Rattle.p3_merkle_core.specs.Consistency.{value_over}
-use Rattle.p3_merkle_core.specs.Consistency.{sent}
+use Rattle.p3_merkle_core.specs.Consistency.{is_sent, new_layer, new_value, old_layer, old_value, value_over, sent}
 use Rattle.p3_merkle_core.specs.Geometry.{IsArity, exponent, layer_len, levels, raw_len}
 use Rattle.p3_merkle_core.specs.Nodes.{Batch, Functions, Matrix, joined_rows, layer, node, shape}
 use Rattle.p3_merkle_core.specs.OneHeight.{HasHeight, levels_of_height, nodes_of_height}
@@ -22,14 +20,14 @@ use Rattle.p3_merkle_core.specs.declared.consistency.Growth.{Growth}
 use Rattle.p3_merkle_core.proofs.Checks.Accepted.{padded_ge}
 use Rattle.p3_merkle_core.proofs.Covered.Restoration.{found}
 use Rattle.p3_merkle_core.proofs.Shapes.OneHeight.{levels_by_exponents}
-use Rattle.p3_merkle_core.proofs.Growths.PartFacts.{AreInOrder, AreParts, ceil_mono, end_le, few_at, in_order}
+use Rattle.p3_merkle_core.proofs.Growths.PartFacts.{AreInOrder, AreParts, end_le, few_at, in_order}
 use Rattle.p3_merkle_core.proofs.Growths.PartFacts.{no_mixed_leaf, parts_are, parts_next}
 use Rattle.p3_merkle_core.proofs.Growths.SentFacts.{sent_new, sent_old}
 use Rattle.p3_merkle_core.proofs.Growths.ValueFacts.{IsTree, beyond_value, look, map_range_same, map_shift, mixed_computed}
 use Rattle.p3_merkle_core.proofs.Growths.ValueFacts.{new_given, new_tree, old_above, old_below, old_entry, old_tree}
 use Rattle.p3_merkle_core.proofs.Shapes.LeastFacts.{exponent_mono}
 use Rattle.p3_merkle_core.proofs.Shapes.OneHeight.{arity_power_pos, leaf_is, levels_are, node_is, padding_is, raw_is}
-use Rattle.p3_merkle_core.proofs.Shapes.QuotientFacts.{ceil_covers, ceil_le}
+use Rattle.p3_merkle_core.proofs.Shapes.QuotientFacts.{ceil_covers, ceil_le, ceil_mono}
 use Rattle.p3_merkle_core.proofs.Shapes.StepFacts.{whole_step_falls}
 
 -- ---- rows

@@ -33,13 +33,13 @@ use Rattle.p3_merkle_core.specs.declared.error.MerkleTreeError.{MerkleTreeError}
 use Rattle.p3_merkle_core.proofs.Checks.CheckFacts.{accepted_walk}
 use Rattle.p3_merkle_core.proofs.Collisions.Extracted.{input_eq_decides, none_differs, some_differs}
 use Rattle.p3_merkle_core.proofs.Collisions.ExtractionFacts.{single_presented}
-use Rattle.p3_merkle_core.proofs.Growths.DimensionFacts.{each_is_first, map_none, some_is_not_none, top_is_first}
+use Rattle.p3_merkle_core.proofs.Growths.DimensionFacts.{each_is_first, some_is_not_none, top_is_first}
 use Rattle.p3_merkle_core.proofs.Growths.GivenFacts.{computed_above, given_low, given_same, not_beyond}
 use Rattle.p3_merkle_core.proofs.Growths.LevelFacts.{alone_from, ancestor_is, group_input, leaf_words}
 use Rattle.p3_merkle_core.proofs.Growths.MeetingFacts.{AreColliding, IsSide, collide_above, collide_below}
 use Rattle.p3_merkle_core.proofs.Growths.MeetingFacts.{reaches_below, rows_apart, same_leaf}
 use Rattle.p3_merkle_core.proofs.Growths.VerdictFacts.{unrefused_consistent}
-use Rattle.p3_merkle_core.proofs.Pruned.NoneFacts.{none_of_both, none_parts}
+use Rattle.p3_merkle_core.proofs.Pruned.NoneFacts.{map_none, none_map, none_of_both, none_parts}
 use Rattle.p3_merkle_core.proofs.Shapes.OneHeight.{greatest_is, heights_same, levels_are, levels_mono}
 use Rattle.p3_merkle_core.proofs.Shapes.ShapeFacts.{length-widths}
 
@@ -48,9 +48,6 @@ use Rattle.p3_merkle_core.proofs.Shapes.ShapeFacts.{length-widths}
 pub some_or_none : {X : Type 0} (o : Option X) → (o ≡ None) ⊎ ((x : X) × (o ≡ Some x))
 some_or_none None = inl refl
 some_or_none (Some x) = inr (x, refl)
-
-none_map : {X Y : Type 0} (f : X → Y) (o : Option X) → o ≡ None → option_map f o ≡ None
-none_map f o e = rw e refl
 
 some_same : {X : Type 0} (x y : X) → Some x ≡ Some y → x ≡ y
 some_same x y e = cc

@@ -9,7 +9,7 @@ use Rattle.p3_merkle_core.specs.Consistency.{IsGrowth, is_beyond, is_new, is_old
 use Rattle.p3_merkle_core.specs.Inner.Growths.{AreFew, mixed_children, parts_above, parts_at}
 use Rattle.p3_merkle_core.specs.declared.consistency.Growth.{Growth}
 use Rattle.p3_merkle_core.specs.declared.consistency.LayerParts.{LayerParts}
-use Rattle.p3_merkle_core.proofs.Shapes.QuotientFacts.{ceil_below, ceil_covers, ceil_le_self}
+use Rattle.p3_merkle_core.proofs.Shapes.QuotientFacts.{ceil_below, ceil_covers, ceil_le_self, ceil_mono}
 
 -- two tests of orders that hold together
 pub same_order : (a b c d : ℕ) → (a ≤ b → c ≤ d) → (c ≤ d → a ≤ b) → nat_le a b ≡ nat_le c d
@@ -90,13 +90,6 @@ parts_are g some (suc l) =
     }
 
 -- ---- few
-
-pub ceil_mono : (a b n : ℕ) → 0 < n → a ≤ b → div_ceil a n ≤ div_ceil b n
-ceil_mono a b n some le =
-    elim (cases_lt (div_ceil b n) (div_ceil a n)) [
-      | inl less ↦ absurd (omega (arith, ceil_below a n (div_ceil b n) some less, ceil_covers b n some))
-      | inr more ↦ more
-    ]
 
 pub few_above : (n : ℕ) (parts : LayerParts) → 0 < n → AreFew parts → AreFew (parts_above n parts)
 few_above n parts some w =

@@ -1,6 +1,6 @@
 -- Which nodes of a layer are sent, and how many.
 use Rattle.std.proofs.Common.{◌≡◌, ℕ, zero, suc, ◌+◌, ◌-◌, ◌*◌, ◌/◌, ◌<◌, ◌≤◌, nat_lt, Bool, true, false, not, cond}
-use Rattle.std.proofs.Common.{◌^◌, ◌&&◌, [], ◌∷◌, ◌++◌, filter, length, refl, ap, sym, ◌∙◌, arith, inl, inr}
+use Rattle.std.proofs.Common.{◌^◌, ◌&&◌, ◌++◌, filter, length, refl, ap, sym, ◌∙◌, arith, inl, inr}
 use Rattle.std.proofs.Common.{append-nil, length-append}
 use Rattle.std.specs.List.{range_with_len}
 use Rattle.std.proofs.lemmas.Bool.{cases_lt, le-leb, lt-leb, lt-ltb, le-ltb, and_right}
@@ -18,28 +18,9 @@ use Rattle.p3_merkle_core.specs.declared.consistency.MixedChildren.{MixedChildre
 use Rattle.p3_merkle_core.proofs.Growths.HeightFacts.{above_steps, power_below}
 use Rattle.p3_merkle_core.proofs.Growths.PartFacts.{AreInOrder, AreParts, end_le, few_at, in_order, parts_are, parts_next}
 use Rattle.p3_merkle_core.proofs.Lists.ListFacts.{joined, joined_more}
+use Rattle.p3_merkle_core.proofs.Lists.RisingFacts.{all_kept, none_kept, range_joined}
 
 -- ---- ranges
-
-pub range_split : (a n k : ℕ) → range_with_len a (n + k) ≡ range_with_len a n ++ range_with_len (a + n) k
-range_split a zero k = let z : a + 0 ≡ a = omega arith in let y : 0 + k ≡ k = omega arith in rw (y, z) refl
-range_split a (suc n) k =
-    let e : (a + 1) + n ≡ a + suc n = omega arith in
-    let s : suc n + k ≡ suc (n + k) = omega arith in
-    rw s (ap (λ ys. a ∷ ys) (rw e at (range_split (a + 1) n k)))
-
-pub filter_none : (p : ℕ → Bool) (a n : ℕ) → ((j : ℕ) → a ≤ j → j < a + n → p j ≡ false) →
-    filter p (range_with_len a n) ≡ []
-filter_none p a zero h = refl
-filter_none p a (suc n) h =
-    rw (h a (omega arith) (omega arith)) (filter_none p (a + 1) n (λ j le lt. h j (omega arith) (omega arith)))
-
-pub filter_all : (p : ℕ → Bool) (a n : ℕ) → ((j : ℕ) → a ≤ j → j < a + n → p j ≡ true) →
-    filter p (range_with_len a n) ≡ range_with_len a n
-filter_all p a zero h = refl
-filter_all p a (suc n) h =
-    rw (h a (omega arith) (omega arith))
-    (ap (λ ys. a ∷ ys) (filter_all p (a + 1) n (λ j le lt. h j (omega arith) (omega arith))))
 
 -- what passes from a up to b, and from c up to d, and nowhere else below m
 pub filter_two : (p : ℕ → Bool) (a b c d m : ℕ) → a ≤ b → b ≤ c → c ≤ d → d ≤ m →
@@ -57,21 +38,21 @@ filter_two p a b c d m ab bc cd dm f0 t1 f1 t2 f2 =
     let s2 : m - b ≡ (c - b) + (m - c) = omega arith in
     let s3 : m - c ≡ (d - c) + (m - d) = omega arith in
     let r0 : range_with_len 0 m ≡ range_with_len 0 a ++ range_with_len a (m - a) =
-    ap (range_with_len 0) s0 ∙ range_split 0 a (m - a) ∙ ap (λ x. range_with_len 0 a ++ range_with_len x (m - a)) e0 in
+    ap (range_with_len 0) s0 ∙ range_joined 0 a (m - a) ∙ ap (λ x. range_with_len 0 a ++ range_with_len x (m - a)) e0 in
     let r1 : range_with_len a (m - a) ≡ range_with_len a (b - a) ++ range_with_len b (m - b) =
-    ap (range_with_len a) s1 ∙ range_split a (b - a) (m - b)
+    ap (range_with_len a) s1 ∙ range_joined a (b - a) (m - b)
     ∙ ap (λ x. range_with_len a (b - a) ++ range_with_len x (m - b)) e1 in
     let r2 : range_with_len b (m - b) ≡ range_with_len b (c - b) ++ range_with_len c (m - c) =
-    ap (range_with_len b) s2 ∙ range_split b (c - b) (m - c)
+    ap (range_with_len b) s2 ∙ range_joined b (c - b) (m - c)
     ∙ ap (λ x. range_with_len b (c - b) ++ range_with_len x (m - c)) e2 in
     let r3 : range_with_len c (m - c) ≡ range_with_len c (d - c) ++ range_with_len d (m - d) =
-    ap (range_with_len c) s3 ∙ range_split c (d - c) (m - d)
+    ap (range_with_len c) s3 ∙ range_joined c (d - c) (m - d)
     ∙ ap (λ x. range_with_len c (d - c) ++ range_with_len x (m - d)) e3 in
-    let q0 = filter_none p 0 a (λ j le lt. f0 j (omega arith)) in
-    let q1 = filter_all p a (b - a) (λ j le lt. t1 j le (omega arith)) in
-    let q2 = filter_none p b (c - b) (λ j le lt. f1 j le (omega arith)) in
-    let q3 = filter_all p c (d - c) (λ j le lt. t2 j le (omega arith)) in
-    let q4 = filter_none p d (m - d) (λ j le lt. f2 j le) in
+    let q0 = none_kept p 0 a (λ j le lt. f0 j (omega arith)) in
+    let q1 = all_kept p a (b - a) (λ j le lt. t1 j le (omega arith)) in
+    let q2 = none_kept p b (c - b) (λ j le lt. f1 j le (omega arith)) in
+    let q3 = all_kept p c (d - c) (λ j le lt. t2 j le (omega arith)) in
+    let q4 = none_kept p d (m - d) (λ j le lt. f2 j le) in
     let end : filter p (range_with_len c (m - c)) ≡ range_with_len c (d - c) =
     ap (filter p) r3 ∙ filter-append p (range_with_len c (d - c)) (range_with_len d (m - d))
     ∙ rw (q3, q4) (append-nil (range_with_len c (d - c))) in

@@ -2,8 +2,7 @@
 use Rattle.std.proofs.Common.{◌≡◌, ℕ, zero, suc, ◌+◌, ◌-◌, ◌*◌, ◌<◌, ◌≤◌, nat_le, true, false, cond}
 use Rattle.std.proofs.Common.{List, ◌∷◌, ◌++◌, map, get_or, replicate, refl, ap, sym, ◌∙◌, arith}
 use Rattle.std.specs.List.{range_with_len}
-use Rattle.std.proofs.lemmas.Bool.{and_right, cond-false, cond-true, le-leb, le-ltb}
-use Rattle.std.proofs.lemmas.Bool.{lt-leb, lt-ltb}
+use Rattle.std.proofs.lemmas.Bool.{and_right, cond-false, cond-true, le-leb, le-ltb, lt-leb, lt-ltb}
 use Rattle.std.proofs.lemmas.List.{append_assoc, map-append}
 use Rattle.std.proofs.lemmas.List.FromFn.{length-map-range_with_len}
 use Rattle.std.proofs.Math.Nat.{mul-suc}
@@ -13,7 +12,7 @@ use Rattle.p3_merkle_core.specs.Consistency.{is_old, is_told, new_value, old_lay
 use Rattle.p3_merkle_core.specs.Inner.Growths.{mixed_children, parts_above, parts_at}
 use Rattle.p3_merkle_core.proofs.Covered.SentFacts.{sent_for}
 use Rattle.p3_merkle_core.proofs.Growths.PartFacts.{AreInOrder, AreParts, few_at, in_order, parts_are, parts_next}
-use Rattle.p3_merkle_core.proofs.Growths.SentFacts.{range_split}
+use Rattle.p3_merkle_core.proofs.Lists.RisingFacts.{range_joined}
 
 -- ---- lists
 
@@ -186,7 +185,7 @@ module _ {T W : Type 0} (e : Evidence T W) (some : 1 ≤ e.growth.arity) (w : Is
       let sum : n ≡ m + (n - m) = omega arith in
       let at : s + m ≡ k = omega arith in
       let split : map v (range_with_len s n) ≡ map v (range_with_len s m) ++ map v (range_with_len k (n - m)) =
-      ap (λ x. map v (range_with_len s x)) sum ∙ ap (map v) (range_split s m (n - m))
+      ap (λ x. map v (range_with_len s x)) sum ∙ ap (map v) (range_joined s m (n - m))
       ∙ map-append v (range_with_len s m) (range_with_len (s + m) (n - m))
       ∙ ap (λ x. map v (range_with_len s m) ++ map v (range_with_len x (n - m))) at in
       split ∙ ap (λ ys. map v (range_with_len s m) ++ ys)
@@ -228,7 +227,7 @@ module _ {T W : Type 0} (e : Evidence T W) (some : 1 ≤ e.growth.arity) (w : Is
       (λ j le lt. beyond_value e e.growth.old_height l j ((here l).new j ∙ le-leb parts.new_start j le))
       ∙ ap (padded e.growth.arity e.functions.default_digest)
       (ap (λ x. map v (range_with_len s x)) sum
-      ∙ ap (map v) (range_split s (parts.old_end - s) (parts.new_start - parts.old_end))
+      ∙ ap (map v) (range_joined s (parts.old_end - s) (parts.new_start - parts.old_end))
       ∙ map-append v (range_with_len s (parts.old_end - s))
       (range_with_len (s + (parts.old_end - s)) (parts.new_start - parts.old_end))
       ∙ ap (λ x. map v (range_with_len s (parts.old_end - s)) ++
@@ -260,8 +259,8 @@ module _ {T W : Type 0} (e : Evidence T W) (some : 1 ≤ e.growth.arity) (w : Is
       ∙ le-leb parts.end j (omega arith)))
       ∙ ap (padded e.growth.arity e.functions.default_digest)
       (ap (λ x. map v (range_with_len s x)) sum
-      ∙ ap (map v) (range_split s a (b + c) ∙ ap (λ x. range_with_len s a ++ range_with_len x (b + c)) at
-      ∙ ap (λ ys. range_with_len s a ++ ys) (range_split parts.old_end b c
+      ∙ ap (map v) (range_joined s a (b + c) ∙ ap (λ x. range_with_len s a ++ range_with_len x (b + c)) at
+      ∙ ap (λ ys. range_with_len s a ++ ys) (range_joined parts.old_end b c
       ∙ ap (λ x. range_with_len parts.old_end b ++ range_with_len x c) at2))
       ∙ map-append v (range_with_len s a) (range_with_len parts.old_end b ++ range_with_len parts.new_start c)
       ∙ ap (λ ys. map v (range_with_len s a) ++ ys)

@@ -12,7 +12,7 @@ use Rattle.p3_merkle_core.specs.OneHeight.{HasHeight, nodes_of_height}
 use Rattle.p3_merkle_core.specs.Raised.{parents, raised}
 use Rattle.p3_merkle_core.proofs.Lists.RunFacts.{run, run_same, length-run, padded-run, piece-run}
 use Rattle.p3_merkle_core.proofs.Shapes.OneHeight.{arity_power_pos, node_is, padding_is}
-use Rattle.p3_merkle_core.proofs.Shapes.QuotientFacts.{ceil_below, ceil_ceil, ceil_covers, ceil_is, ceil_le, ceil-one}
+use Rattle.p3_merkle_core.proofs.Shapes.QuotientFacts.{ceil_below, ceil_ceil, ceil_covers, ceil_is, ceil-one, ceil_mono}
 
 -- ---- quotients of ends
 
@@ -42,9 +42,6 @@ ceil_whole q a some =
     ceil_is (q * a) a q some (omega arith) (λ j below.
     let more : a * suc j ≤ a * q = mul-le-mul_left {m = suc j} {n = q} a below in
     omega (arith, mul_comm a q, mul_comm j a, mul-suc a j))
-
-pub ceil_mono : (x y a : ℕ) → 0 < a → x ≤ y → div_ceil x a ≤ div_ceil y a
-ceil_mono x y a some le = ceil_le x a (div_ceil y a) some (omega (arith, ceil_covers y a some))
 
 -- the nodes of the next layer
 pub next_nodes : (n : ℕ) → IsArity n → (h l : ℕ) → nodes_of_height n h (suc l) ≡ div_ceil (nodes_of_height n h l) n

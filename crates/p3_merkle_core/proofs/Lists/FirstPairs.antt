@@ -6,17 +6,10 @@ use Rattle.std.specs.Option.{option_or, option_map}
 use Rattle.std.proofs.lemmas.Bool.{cases_eq}
 use Rattle.p3_merkle_core.specs.Refusals.{first_of}
 use Rattle.p3_merkle_core.specs.Extraction.{first_pair}
-use Rattle.p3_merkle_core.proofs.Pruned.NoneFacts.{range_none}
+use Rattle.p3_merkle_core.proofs.Pruned.NoneFacts.{map_none, none_map, range_none}
 use Rattle.p3_merkle_core.proofs.Pruned.Unrefused.{all_in_range}
 
 -- ---- the first that is found
-
-map_none : {X Y : Type 0} (g : X → Y) (o : Option X) → option_map g o ≡ None → o ≡ None
-map_none g None e = refl
-map_none g (Some x) e = absurd cc
-
-none_map : {X Y : Type 0} (g : X → Y) (o : Option X) → o ≡ None → option_map g o ≡ None
-none_map g o e = rw e refl
 
 map_some : {X Y : Type 0} (g : X → Y) (o : Option X) (y : Y) → option_map g o ≡ Some y → (x : X) × (o ≡ Some x) ×
     (g x ≡ y)

@@ -1,5 +1,5 @@
 -- What writes of a value and others into slots leave.
-use Rattle.std.proofs.Common.{◌≡◌, ℕ, ◌+◌, ◌-◌, ◌<◌, ◌≤◌, List, [], ◌∷◌, ◌++◌, refl, ap, sym, ◌∙◌, arith, length}
+use Rattle.std.proofs.Common.{◌≡◌, ℕ, ◌+◌, ◌<◌, ◌≤◌, List, [], ◌∷◌, ◌++◌, refl, ap, sym, ◌∙◌, arith, length}
 use Rattle.std.proofs.Common.{get_or, take, drop, set, insert, replicate, cond, nat_lt, inl, inr, length-append}
 use Rattle.std.proofs.Common.{length-take, length-drop, length-set, get_or-set_same}
 use Rattle.std.proofs.lemmas.Bool.{cases_lt, lt-ltb, le-ltb}
@@ -92,11 +92,3 @@ group_around_is n default_element v others p h =
     let size : length (insert others p v)
     ≡ length others + 1 = simp (length-append, length-take, length-drop) (omega arith) in
     rw (size, drop-replicate (length others + 1) n default_element) refl
-
--- the first element before all others
-pub first_and_others : {X : Type 0} (xs : List X) (x : X) → 0 < length xs → x ≡ get_or xs 0 x →
-    insert (take (length xs - 1) (drop 1 xs)) 0 x ≡ xs
-first_and_others [] x h is = absurd (omega arith)
-first_and_others (y ∷ xs) x h is =
-    let all : take (length (y ∷ xs) - 1) xs ≡ xs = take_all (length (y ∷ xs) - 1) xs (omega arith) in
-    rw all (ap (λ z. z ∷ xs) is)

@@ -156,10 +156,7 @@ all_kept p a (suc n) all =
     (ap (λ ys. a ∷ ys) (all_kept p (a + 1) n (λ m low high. all m (omega arith) (omega arith))))
 
 pub range_joined : (a m n : ℕ) → range_with_len a (m + n) ≡ range_with_len a m ++ range_with_len (a + m) n
-range_joined a zero n =
-    let z : a + 0 ≡ a = omega arith in
-    let e : 0 + n ≡ n = omega arith in
-    rw (z, e) refl
+range_joined a zero n = let z : a + 0 ≡ a = omega arith in let e : 0 + n ≡ n = omega arith in rw (z, e) refl
 range_joined a (suc m) n =
     let e : suc m + n ≡ suc (m + n) = omega arith in
     let next : (a + 1) + m ≡ a + suc m = omega arith in

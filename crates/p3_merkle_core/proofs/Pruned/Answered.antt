@@ -1,11 +1,10 @@
 -- A pruned opening that is not refused has lawful heights, indices below M, rows of their widths, and its rows agree.
 use Rattle.std.proofs.Common.{◌≡◌, ℕ, suc, ◌<◌, ◌≤◌, Bool, true, eqb, List, [], ◌∷◌, map, refl, ap, sym, ◌∙◌, arith}
-use Rattle.std.proofs.Common.{inl, inr, length, get_or, None, filter, zip, eq-eqb}
+use Rattle.std.proofs.Common.{inl, inr, length, get_or, None, filter, zip}
 use Rattle.std.specs.Prelude.{Ok, Decides}
 use Rattle.std.specs.Cmp.Lexicographic.{pointwise, pointwise_decides}
 use Rattle.std.proofs.lemmas.Bool.{cases_Bool, eqb-true}
 use Rattle.std.proofs.lemmas.List.{length-map, get_or_default}
-use Rattle.std.proofs.lemmas.List.Folds.{list_any_at}
 use Rattle.p3_merkle_core.proofs.Shapes.ShapeFacts.{widths_in_pairs}
 use Rattle.p3_support.specs.Lists.{is_among}
 use Rattle.p3_support.specs.Batches.{greatest}
@@ -22,6 +21,7 @@ use Rattle.p3_merkle_core.specs.declared.error.PrunedProofError.TheVariants.{Inc
 use Rattle.p3_merkle_core.specs.declared.error.MerkleTreeError.TheVariants.{WrongBatchSize, MalformedPrunedProof}
 use Rattle.p3_merkle_core.proofs.Pruned.NoneFacts.{none_parts, unless_none, verdict_ok, kept_none, range_none}
 use Rattle.p3_merkle_core.proofs.Pruned.NoneFacts.{paired_none, below_from, fit_from}
+use Rattle.p3_merkle_core.proofs.Pruned.SlotFacts.{queried_at}
 use Rattle.p3_merkle_core.proofs.Shapes.GateFacts.{gate_lawful}
 
 -- none of the reasons holds
@@ -69,10 +69,6 @@ no_fault row_eq s t p e =
       group = k.0;
     }
 
-pub query_is : (indices : List ℕ) (k : ℕ) → k < length indices → is_among indices (get_or indices k 0) ≡ true
-query_is indices k h = list_any_at (λ i. eqb i (get_or indices k 0)) indices k 0 h
-    (eq-eqb (get_or indices k 0) (get_or indices k 0) refl)
-
 -- each query's row set is that of the first query of its index
 rows_are_first : {T W : Type 0} (row_eq : T → T → Bool) (s : Shape) (t : ℕ) (p : PrunedOpening T W) →
     ((x y : T) → Decides (row_eq x y) (x ≡ y)) → HasNoFault row_eq s t p →
@@ -93,7 +89,7 @@ rows_fit_first row_eq s t p w k h =
     let below = below_from (greatest (heights s)) p.indices w.index k 0 h in
     fit_from s.dimensions (rows_of p i)
     (kept_none (λ i. width_refusal s.dimensions (rows_of p i)) (is_among p.indices) 0 (greatest (heights s)) i
-    w.width (query_is p.indices k h) (omega arith) (omega arith))
+    w.width (queried_at p.indices k h) (omega arith) (omega arith))
 
 -- a row of a matrix of layer l is that of the lowest index under the same node
 row_is_lead : {T W : Type 0} (row_eq : T → T → Bool) (s : Shape) (t : ℕ) (p : PrunedOpening T W) →
@@ -110,7 +106,7 @@ row_is_lead row_eq s t p dec w l k m le h inside here =
     (λ l. first_of (λ i. first_of (row_refusal row_eq s p l i) (matrices_at s l)) (slots_below top p.indices)) 0
     (suc t) l w.group (omega arith) (omega arith) in
     let slot = kept_none (λ i. first_of (row_refusal row_eq s p l i) (matrices_at s l)) (is_among p.indices) 0 top i
-    layer (query_is p.indices k h) (omega arith) (omega arith) in
+    layer (queried_at p.indices k h) (omega arith) (omega arith) in
     let one = kept_none (row_refusal row_eq s p l i) (λ m. eqb (exponent (get_or (heights s) m 0)) (layer_exponent s l))
     0 (length (heights s)) m slot here (omega arith) (omega arith) in
     let x = get_or (rows_of p i) m [] in

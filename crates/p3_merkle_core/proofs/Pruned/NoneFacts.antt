@@ -3,7 +3,7 @@ use Rattle.std.proofs.Common.{◌≡◌, ℕ, zero, suc, ◌+◌, ◌<◌, ◌�
 use Rattle.std.proofs.Common.{sym, ◌∙◌, arith, inl, inr, length, get_or, All, Option, Some, None, filter, zip}
 use Rattle.std.specs.Prelude.{Ok}
 use Rattle.std.specs.List.{range_with_len, enumerate_from}
-use Rattle.std.specs.Option.{option_or}
+use Rattle.std.specs.Option.{option_map, option_or}
 use Rattle.std.proofs.lemmas.Bool.{cases_Bool, cases_eq, cond-true, cond-false, eqb-true, ltb-true, true≢false}
 use Rattle.std.proofs.lemmas.List.{get_or_default, length-map}
 use Rattle.p3_support.specs.declared.matrix.Dimensions.{Dimensions}
@@ -22,6 +22,13 @@ none_parts (Some x) y e = absurd cc
 
 pub none_of_both : {E : Type 0} (x y : Option E) → x ≡ None → y ≡ None → option_or x y ≡ None
 none_of_both x y a b = rw (a, b) refl
+
+pub map_none : {X Y : Type 0} (g : X → Y) (o : Option X) → option_map g o ≡ None → o ≡ None
+map_none g None e = refl
+map_none g (Some x) e = absurd cc
+
+pub none_map : {X Y : Type 0} (g : X → Y) (o : Option X) → o ≡ None → option_map g o ≡ None
+none_map g o e = rw e refl
 
 pub unless_none : {E : Type 0} (b : Bool) (e : E) → unless b e ≡ None → b ≡ true
 unless_none b e h = elim (cases_Bool b) [ inl t ↦ t | inr f ↦ let s = cond-false b None (Some e) f in cc ]

@@ -79,21 +79,6 @@ pub late_from : {E : Type 0} (x y a : Option E) → x ≡ None → y ≡ a → f
 late_from x y None none is = rw (none, is) refl
 late_from x y (Some e) none is = rw (none, is) refl
 
--- what is refused early decides
-pub pruned_early : {T : Type 0} (row_eq : T → T → Bool) (s : Shape) (t : ℕ) (indices : List ℕ)
-    (sets : List (List (List T))) (n : ℕ) (e : MerkleTreeError) →
-    early_refusal (heights s) indices (length sets) n ≡ Some e → pruned_refusal row_eq s t (opened_with indices sets n)
-    ≡ Some e
-pruned_early row_eq s t indices sets n e early =
-    let hs = heights s in
-    let p = opened_of indices sets in
-    let widths = first_of (λ i. width_refusal s.dimensions (rows_of p i)) (slots_below (greatest hs) indices) in
-    let number = digest_count_refusal (length (boundary s indices t)) n in
-    rw (length-replicate {A = List ℕ} n [])
-    (at_some (gate_refusal hs ∷ size_refusal (length indices) (length sets) ∷ idle_refusal (length indices) n
-    ∷ queries_refusal (greatest hs) indices ∷ [])
-    (duplicate_refusal row_eq p ∷ number ∷ widths ∷ group_refusal row_eq s t p ∷ []) e early)
-
 -- where nothing is refused early, the repeats decide, and then the number of digests
 pub pruned_counted : {T : Type 0} (row_eq : T → T → Bool) (s : Shape) (t : ℕ) (indices : List ℕ)
     (sets : List (List (List T))) (n : ℕ) (e : MerkleTreeError) →

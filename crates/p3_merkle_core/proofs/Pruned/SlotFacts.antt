@@ -31,8 +31,7 @@ use Rattle.p3_merkle_core.specs.Inner.Agreement.{distinct, first_query, opened_o
 use Rattle.p3_merkle_core.proofs.Checks.Accepted.{padded_ge}
 use Rattle.p3_merkle_core.proofs.Lists.RisingFacts.{is_listed, IsRising, div_mono, filter_is, listed_dedup, listed_in}
 use Rattle.p3_merkle_core.proofs.Lists.RisingFacts.{listed_from, listed_there, listed_at, rising_filter, rising_once}
-use Rattle.p3_merkle_core.proofs.Covered.CoveredFacts.{covered_leaf, listed_below, listed_covered}
-use Rattle.p3_merkle_core.proofs.Covered.CoveredFacts.{raw_start}
+use Rattle.p3_merkle_core.proofs.Covered.CoveredFacts.{covered_leaf, listed_below, listed_covered, raw_start}
 
 -- ---- indices below a bound
 

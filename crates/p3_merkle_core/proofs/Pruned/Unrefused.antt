@@ -26,7 +26,7 @@ use Rattle.p3_merkle_core.specs.declared.error.MerkleTreeError.TheVariants.{Inde
 use Rattle.p3_merkle_core.proofs.Shapes.LeastFacts.{least_passes, least_bound}
 use Rattle.p3_merkle_core.proofs.Lists.ListFacts.{joined_more}
 use Rattle.p3_merkle_core.proofs.Pruned.NoneFacts.{none_of_both, none_unless}
-use Rattle.p3_merkle_core.proofs.Pruned.Answered.{query_is}
+use Rattle.p3_merkle_core.proofs.Pruned.SlotFacts.{queried_at}
 use Rattle.p3_merkle_core.proofs.Shapes.GateFacts.{gate_lawful}
 
 -- ---- over lists
@@ -173,7 +173,7 @@ unrefused row_eq s t p dec w =
     let index = index_none top p.indices some w.below in
     let repeat : duplicate_refusal row_eq p ≡ None = all_pairs _ p.indices p.rows [] paired (λ k h.
     let i = get_or p.indices k 0 in
-    let f = first i paired (query_is p.indices k h) in
+    let f = first i paired (queried_at p.indices k h) in
     none_unless (pointwise (pointwise row_eq) (get_or p.rows k []) (rows_of p i))
     (MalformedPrunedProof (InconsistentDuplicateOpenings (slot_of p.indices i)))
     ((pointwise_decides (pointwise_decides dec) (get_or p.rows k []) (rows_of p i)).1

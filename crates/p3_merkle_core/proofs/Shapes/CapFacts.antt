@@ -125,10 +125,6 @@ pub lowered_by_numbers : (s : Shape) → IsArity s.arity → (c n h : ℕ) → n
     n - min c (div_ceil (exponent h) (exponent s.arity)) ≡ cap_layer s Lowered c
 lowered_by_numbers s w c n h is_n is_h = rw (is_n, is_h) (lowered_is s w c)
 
--- under the fixed rule
-pub fixed_is : (s : Shape) (c : ℕ) → cap_layer s Fixed c ≡ layer_below_root s c
-fixed_is s c = omega arith
-
 -- the lowered rule leaves no matrix out
 pub none_out : (s : Shape) (c k : ℕ) → IsArity s.arity → k < length (heights s) →
     IsTrue (is_authenticated s (cap_layer s Lowered c) k)

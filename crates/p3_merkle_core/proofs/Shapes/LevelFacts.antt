@@ -1,7 +1,6 @@
 -- What is known of the layer above a layer.
-use Rattle.std.proofs.Common.{◌≡◌, ℕ, zero, suc, ◌+◌, ◌-◌, ◌/◌, ◌^◌, ◌<◌, ◌≤◌, ◌&&◌, Bool, cond, nat_lt, refl, ap, sym}
+use Rattle.std.proofs.Common.{◌≡◌, ℕ, zero, suc, ◌/◌, ◌^◌, ◌≤◌, ◌&&◌, Bool, cond, nat_lt, ap, sym}
 use Rattle.std.proofs.Common.{◌∙◌, arith, inl, inr}
-use Rattle.std.proofs.Math.Nat.{div-le_self}
 use Rattle.std.proofs.Math.Pow.{pow_mono}
 use Rattle.p3_merkle_core.specs.Geometry.{Shape, heights, exponent, has_rows, layer_exponent, is_bridge, levels}
 use Rattle.p3_merkle_core.specs.Geometry.{raw_len, grouped_len_of, padded_len, height_limit, step, IsArity, IsLawful}
@@ -18,14 +17,6 @@ use Rattle.p3_merkle_core.specs.Inner.Levels.{IsBelowTop, IsLevel}
 -- no lawful height is above the limit
 pub low : (s : Shape) → IsLawful (heights s) → greatest (heights s) ≤ height_limit
 low s w = tallest_fits (heights s) (none_large_from_lawful (heights s) w)
-
--- what is halved some number of times fits, and one more
-pub halved_fits : (m a k : ℕ) → m ≤ height_limit → a ≡ m - 1 → a / 2 ^ k + 1 < 2 ^ 64
-halved_fits m a k h is = omega (arith, div-le_self a (2 ^ k))
-
--- the height at an exponent, from its parts
-pub height_at_is : (m x e a k : ℕ) → a ≡ m - 1 → e ≡ exponent m → k ≡ e - x → a / 2 ^ k + 1 ≡ height_at m x
-height_at_is m x e a k is_a is_e is_k = rw (is_a, is_k, is_e) refl
 
 -- no layer's exponent is above the tallest height's
 pub exponent_low : (s : Shape) (l : ℕ) → layer_exponent s l ≤ exponent (greatest (heights s))

@@ -5,8 +5,7 @@ use Rattle.std.proofs.Common.{cond, ◌&&◌, min, append-nil}
 use Rattle.std.specs.Prelude.{All, ◌==◌, replicate}
 use Rattle.std.specs.Int.{div_ceil}
 use Rattle.std.specs.List.{range_with_len}
-use Rattle.std.proofs.lemmas.Bool.{cases_lt, cond-false, cond-true, eq-eqb, le-leb, le-ltb, leb-true, lt-leb}
-use Rattle.std.proofs.lemmas.Bool.{lt-ltb}
+use Rattle.std.proofs.lemmas.Bool.{cases_lt, cond-false, cond-true, eq-eqb, le-leb, le-ltb, leb-true, lt-leb, lt-ltb}
 use Rattle.std.proofs.lemmas.List.FromFn.{length-map-range_with_len}
 use Rattle.std.proofs.lemmas.Nat.{pow-add, pow_pos}
 use Rattle.std.proofs.Math.Nat.{mul_comm, mul-div_cancel_left, mul-le-mul_left, pow-succ', pow-zero, suc-mul}
@@ -25,8 +24,7 @@ use Rattle.p3_merkle_core.proofs.Shapes.CapFacts.{levels_from, no_bridge_from, n
 use Rattle.p3_merkle_core.proofs.Shapes.FallFacts.{falls_above}
 use Rattle.p3_merkle_core.proofs.Shapes.LeastFacts.{below_exponent, exponent_covers, exponent_le, least_is}
 use Rattle.p3_merkle_core.proofs.Shapes.LeastFacts.{least_bound, least_le, least_passes, n_below_pow}
-use Rattle.p3_merkle_core.proofs.Shapes.QuotientFacts.{ceil_below, ceil_ceil, ceil_covers, ceil_is, ceil_le}
-use Rattle.p3_merkle_core.proofs.Shapes.QuotientFacts.{ceil-one}
+use Rattle.p3_merkle_core.proofs.Shapes.QuotientFacts.{ceil_below, ceil_ceil, ceil_covers, ceil_is, ceil_le, ceil-one}
 use Rattle.p3_merkle_core.proofs.Shapes.RawFacts.{above_1, filled, least_multiple, padded_long, padded_short}
 use Rattle.p3_merkle_core.proofs.Shapes.RawFacts.{positive_below, raw_next}
 use Rattle.p3_merkle_core.proofs.Shapes.StepFacts.{layer_start, whole_step_falls}

@@ -10,7 +10,7 @@ use Rattle.p3_merkle_core.specs.Inner.Exponents.{next_below}
 use Rattle.p3_merkle_core.specs.Inner.Steps.{level_step}
 use Rattle.p3_merkle_core.specs.declared.steps.LevelStep.{LevelStep}
 use Rattle.p3_merkle_core.proofs.Shapes.ExponentFacts.{next_not_had, next_stays, none_over}
-use Rattle.p3_merkle_core.proofs.Shapes.KeptSteps.{level_is}
+use Rattle.p3_merkle_core.proofs.Shapes.OwnedSteps.{level_is}
 use Rattle.p3_merkle_core.proofs.Shapes.StepFacts.{IsAt, at_more, whole_step_falls}
 
 -- a whole step to a layer without rows

@@ -1,29 +1,27 @@
 -- The claimed pruned opening is compared with the honest one, under the cap of the matrices.
-use Rattle.std.proofs.Common.{◌≡◌, ◌∙◌, List, refl, subst, sym}
+use Rattle.std.proofs.Common.{◌∙◌, List, refl, subst}
 use Rattle.p3_support.specs.Shown.{roots_of, row_sets}
 use Rattle.p3_support.specs.declared.matrix.Dimensions.{Dimensions}
-use Rattle.p3_merkle_tree.specs.Commitments.{IsOwn, cap_over}
 use Rattle.p3_merkle_tree.specs.Extraction.{IsExtraction}
+use Rattle.p3_merkle_tree.specs.Geometry.{shape_of}
 use Rattle.p3_merkle_tree.specs.Nodes.{shape}
-use Rattle.p3_merkle_tree.specs.Parts.{layers_of}
+use Rattle.p3_merkle_tree.specs.Parts.{tree_batch}
 use Rattle.p3_merkle_tree.specs.Presented.{presented_pruned}
-use Rattle.p3_merkle_tree.specs.Pruning.{IsPrunedAccepted, PrunedOpening, honest_query, pruned_of}
+use Rattle.p3_merkle_tree.specs.Pruning.{PrunedOpening, pruned_of}
 use Rattle.p3_merkle_tree.specs.Schemes.{cap_rule_of, params_of}
-use Rattle.p3_merkle_tree.specs.Views.{batch_of, found_pair, pruned_lent, pruned_made}
+use Rattle.p3_merkle_tree.specs.Views.{found_pair, pruned_borrowed, pruned_made}
 use Rattle.end_to_end.proofs.ComparisonFacts.{compared_pruned}
 use Rattle.end_to_end.proofs.RefusalFacts.{pruned_unrefused}
 use Rattle.end_to_end.proofs.plain_compared.commit_compare_pruned.Goals as goal
 
 pub returns-clause-opened : goal.returns-clause-opened
 returns-clause-opened g c =
-    let batch = batch_of g.M.Matrix.height_of g.M.Matrix.width_of g.M.Matrix.row_of g.row.N in
-    let at = params_of g.H.CryptographicHasher.hash g.C.PseudoCompressionFunction.compression g.row.D
-    c.args.scheme.now in
-    let indices = c.args.indices.now in
-    subst (λ (ms : List _). let p = at (shape (batch ms)).dimensions in
-    IsOwn p (batch ms) (layers_of c.in_ok-cap.tree) →
-    pruned_made indices c.in_ok-opening.opening ≡ honest_query p.functions (batch ms) p.layer indices)
-    c.in_ok-cap.ensures.matrices c.in_ok-opening.ensures.honest c.in_ok-cap.ensures.committed.own_layers
+    let committed = c.in_ok-cap.ensures.committed in
+    let opened = c.in_ok-opening.ensures.opened in
+    record {
+      opened = opened.is_honest committed.own_layers;
+      accepted = opened.is_accepted (roots_of c.in_ok-cap.cap) committed;
+    }
 
 pub returns-clause-compared : goal.returns-clause-compared
 returns-clause-compared g c =
@@ -31,20 +29,14 @@ returns-clause-compared g c =
     let digest_eq = g.PW.Value.PartialEq.eq in
     let scheme = c.args.scheme.now in
     let rule = cap_rule_of scheme in
-    let at = params_of g.H.CryptographicHasher.hash g.C.PseudoCompressionFunction.compression g.row.D scheme in
-    let batch = batch_of g.M.Matrix.height_of g.M.Matrix.width_of g.M.Matrix.row_of g.row.N in
-    let b = batch c.args.matrices.items in
-    let k = at (shape b).dimensions in
+    let at = λ (ds : List Dimensions). params_of scheme (shape_of g.row.N ds) in
+    let k = params_of scheme (shape (tree_batch c.in_ok-cap.tree)) in
     let cap = roots_of c.in_ok-cap.cap in
     let indices = c.args.indices.now in
-    let p = pruned_lent indices c.args.rows.now c.args.proof.now in
+    let p = pruned_borrowed indices c.args.rows.now c.args.proof.now in
     let q = pruned_made indices c.in_ok-opening.opening in
     let r = c.extract_collision_multi-found.result in
-    let committed = c.in_ok-cap.ensures.committed in
-    let under_own_cap = subst (λ (ms : List _). let k = at (shape (batch ms)).dimensions in
-    IsOwn k (batch ms) (layers_of c.in_ok-cap.tree) → IsPrunedAccepted k (cap_over k (batch ms)) q)
-    c.in_ok-cap.ensures.matrices c.in_ok-opening.ensures.accepted committed.own_layers in
-    let accepted = subst (λ (z : List (List _)). IsPrunedAccepted k z q) (sym committed.own_cap) under_own_cap in
+    let accepted = c.in_ok-opening.ensures.opened.is_accepted cap c.in_ok-cap.ensures.committed in
     let same = c.deref.ensures.value ∙ c.in_ok-cap.ensures.dimensions in
     let lent = c.deref-2.ensures.value in
     let is = subst (λ (z : List Dimensions × PrunedOpening _ _). IsExtraction row_eq digest_eq rule (at z.0)

@@ -1,84 +1,42 @@
--- The siblings are the honest ones, and the opening is accepted.
-use Rattle.std.proofs.Common.{lit<, ◌≡◌, ◌∙◌, List, ap, subst, sym}
+-- The opening is honest and accepted, so the verdict is Ok, or memory runs out.
+use Rattle.std.proofs.Common.{◌∙◌, List, subst}
 use Rattle.p3_support.specs.Shown.{roots_of, row_lists}
 use Rattle.p3_support.specs.declared.matrix.Dimensions.{Dimensions}
-use Rattle.p3_merkle_tree.specs.Commitments.{IsOwn, cap_over}
-use Rattle.p3_merkle_tree.specs.Geometry.{shape_of}
-use Rattle.p3_merkle_tree.specs.HidingSchemes.{generator_of, plain_of, salted_made}
-use Rattle.p3_merkle_tree.specs.Nodes.{Batch, shape}
-use Rattle.p3_merkle_tree.specs.Parts.{layers_of, matrices_of, tree_batch}
-use Rattle.p3_merkle_tree.specs.SaltedOpenings.{IsSaltedAccepted, SaltedOpening}
-use Rattle.p3_merkle_tree.specs.SaltedOpenings.{salted_of, widened}
-use Rattle.p3_merkle_tree.specs.SaltedPresented.{presented_salted}
-use Rattle.p3_merkle_tree.specs.SaltedTrees.{HaveSaltColumns}
-use Rattle.p3_merkle_tree.specs.Schemes.{cap_height_of, cap_layer_over, cap_rule_of, params_of}
-use Rattle.p3_merkle_tree.specs.Views.{batch_of}
+use Rattle.p3_merkle_tree.specs.HidingSchemes.{salted_made, salted_params_of}
+use Rattle.p3_merkle_tree.specs.Parts.{matrices_of}
 use Rattle.p3_merkle_tree.specs.Presented.{IsVerdict}
-use Rattle.end_to_end.proofs.SaltedFacts.{cap_in_tree, memory_left, own_siblings, salted_widened}
+use Rattle.p3_merkle_tree.specs.SaltedOpenings.{SaltedOpening, salted_of}
+use Rattle.p3_merkle_tree.specs.SaltedPresented.{presented_salted}
+use Rattle.p3_merkle_tree.specs.SaltedTrees.{unsalted_dimensions}
+use Rattle.end_to_end.proofs.SaltedFacts.{memory_left}
 use Rattle.end_to_end.proofs.salted.salted_commit_open_verify.Goals as goal
 
-pub returns-clause-siblings : goal.returns-clause-siblings
-returns-clause-siblings g c =
-    let b = batch_of g.M.Matrix.height_of g.M.Matrix.width_of g.M.Matrix.row_of g.row.N c.args.matrices.items in
-    let e = g.row.SALT_ELEMS in
-    let plain = plain_of c.args.scheme.now in
-    let later = plain_of c.salted_committed.new.scheme in
-    let k = params_of g.H.CryptographicHasher.hash g.C.PseudoCompressionFunction.compression g.row.D plain
-    (widened e (shape b).dimensions) in
-    let tree = c.in_ok-cap.tree in
-    let s = shape (tree_batch tree) in
-    let wide : s.dimensions ≡ widened e (shape b).dimensions =
-    ap (λ (salted : Batch _). (shape salted).dimensions) c.in_ok-cap.ensures.salted
-    ∙ salted_widened g.P.Value.SaltWord.of_salt_word e b.matrices
-    (g.R.Rng.stream (generator_of c.args.scheme.now)) in
-    let same : cap_layer_over later s ≡ k.layer =
-    λ i. cap_layer_over (c.in_ok-cap.ensures.scheme i) (shape_of g.row.N (wide i)) in
-    c.in_ok-opening.ensures.siblings
-    ∙ own_siblings k.functions (tree_batch tree) (layers_of tree) c.in_ok-cap.ensures.committed.own_layers tree.arity
-    tree.lawful (cap_layer_over later s) k.layer (cap_in_tree s (cap_rule_of later) (cap_height_of later)) same
-    c.restoration.ensures.opening c.args.index (c.in_ok-cap.ensures.below 0 0 (lit< tt))
-
-pub returns-clause-accepted : goal.returns-clause-accepted
-returns-clause-accepted g c =
-    let plain = plain_of c.args.scheme.now in
-    let e = g.row.SALT_ELEMS in
-    let at = params_of g.H.CryptographicHasher.hash g.C.PseudoCompressionFunction.compression g.row.D in
-    let batch = batch_of g.M.Matrix.height_of g.M.Matrix.width_of g.M.Matrix.row_of g.row.N in
-    let b = batch c.args.matrices.items in
-    let ds = (shape b).dimensions in
-    let k = at plain (widened e ds) in
-    let tree = c.in_ok-cap.tree in
-    let salted = tree_batch tree in
+pub returns-clause-opened : goal.returns-clause-opened
+returns-clause-opened g c =
     let committed = c.in_ok-cap.ensures.committed in
-    let u = salted_made c.args.index c.in_ok-opening.opening in
-    let lefts = ap (λ (ms : List _). (shape (batch ms)).dimensions) c.in_ok-cap.ensures.matrices in
-    let under_own_cap = subst (λ (z : _ × List Dimensions).
-    let k = at z.0 (widened e z.1) in IsOwn k salted (layers_of tree) → HaveSaltColumns e (matrices_of tree) →
-    IsSaltedAccepted e z.1 k (cap_over k salted) u)
-    (λ i. (c.in_ok-cap.ensures.scheme i, lefts i)) c.in_ok-opening.ensures.accepted committed.own_layers
-    c.in_ok-cap.ensures.columns in
-    subst (λ (z : List (List _)). IsSaltedAccepted e ds k z u) (sym committed.own_cap) under_own_cap
+    let opened = c.in_ok-opening.ensures.opened in
+    record {
+      rows = opened.rows;
+      salts = opened.salts;
+      siblings = opened.is_honest committed.committed.own_layers;
+      accepted = opened.is_accepted (roots_of c.in_ok-cap.cap) committed;
+    }
 
 pub returns-clause-verdict : goal.returns-clause-verdict
 returns-clause-verdict g c =
-    let digest_eq = g.PW.Value.PartialEq.eq in
-    let plain = plain_of c.args.scheme.now in
     let e = g.row.SALT_ELEMS in
-    let at = params_of g.H.CryptographicHasher.hash g.C.PseudoCompressionFunction.compression g.row.D in
-    let batch = batch_of g.M.Matrix.height_of g.M.Matrix.width_of g.M.Matrix.row_of g.row.N in
-    let b = batch c.args.matrices.items in
-    let ds = (shape b).dimensions in
-    let k = at plain (widened e ds) in
     let cap = roots_of c.in_ok-cap.cap in
-    let u = salted_made c.args.index c.in_ok-opening.opening in
+    let presented = λ (ds : List Dimensions) (o : SaltedOpening _ _).
+    presented_salted g.PW.Value.PartialEq.eq e ds (salted_params_of c.salted_committed.new.scheme ds) cap o in
     let same = c.deref.ensures.value ∙ c.in_ok-cap.ensures.dimensions in
     let lent = c.from-honest.ensures in
-    let is = subst (λ (z : _ × List Dimensions × SaltedOpening _ _).
-    IsVerdict (presented_salted digest_eq e z.1 (at z.0 (widened e z.1)) cap z.2) c.verify_batch-verdict.result)
+    let is = subst (λ (z : List Dimensions × SaltedOpening _ _).
+    IsVerdict (presented z.0 z.1) c.verify_batch-verdict.result)
     (λ i. (
-      c.in_ok-cap.ensures.scheme i,
       same i,
       salted_of c.args.index (row_lists (lent.0 i)) (row_lists (lent.1 i).0.items) (lent.1 i).1.items,
     ))
     c.verify_batch-verdict.ensures in
-    memory_left (presented_salted digest_eq e ds k cap u) c.verify_batch-verdict.result is (returns-clause-accepted g c)
+    memory_left (presented (unsalted_dimensions g.row.N (matrices_of c.in_ok-cap.tree))
+    (salted_made c.args.index c.in_ok-opening.opening)) c.verify_batch-verdict.result is
+    (returns-clause-opened g c).accepted

@@ -1,15 +1,16 @@
 -- The indices are looked at where heights and widths are taken.
 use Rattle.std.proofs.Common.{◌<◌, ◌∙◌, ℕ, List, Option, Some, ap, inr, subst, sym}
-use Rattle.std.specs.Prelude.{All}
+use Rattle.std.specs.Prelude.{All, map}
 use Rattle.std.specs.Option.{option_or}
 use Rattle.std.proofs.lemmas.Result.{err_from_is_err_and}
-use Rattle.p3_support.specs.Batches.{greatest, heights_of}
+use Rattle.p3_support.specs.Batches.{dimensions_in, greatest, heights_of}
+use Rattle.p3_support.specs.Pairs.{left_of}
 use Rattle.p3_support.specs.declared.matrix.Dimensions.{Dimensions}
 use Rattle.p3_merkle_tree.specs.Geometry.{heights}
 use Rattle.p3_merkle_tree.specs.HidingSchemes.{generator_of}
 use Rattle.p3_merkle_tree.specs.MerkleTreeError.{MerkleTreeError}
 use Rattle.p3_merkle_tree.specs.Nodes.{Batch, shape}
-use Rattle.p3_merkle_tree.specs.Parts.{tree_batch}
+use Rattle.p3_merkle_tree.specs.Parts.{matrices_of, tree_batch}
 use Rattle.p3_merkle_tree.specs.Refusals.{AnswersUnlessMemory, queries_refusal}
 use Rattle.p3_merkle_tree.specs.Views.{batch_of}
 use Rattle.end_to_end.proofs.SaltedFacts.{first_below, heights_stay, salted_widened}
@@ -56,3 +57,10 @@ returns-clause-first g c =
     let below = subst (λ (m : ℕ). All (λ i. i < m) c.args.indices.now) c.get_max_height.ensures
     c.in_ok-check_indices.ensures.below in
     first_below m c.args.indices.now c.in_ok-cap.tree.lawful.some_above_0 below
+
+pub returns-clause-dimensions : goal.returns-clause-dimensions
+returns-clause-dimensions g c =
+    let taken = dimensions_in g.M.Matrix.height_of g.M.Matrix.width_of in
+    let ms = map left_of (matrices_of c.in_ok-cap.tree) in
+    c.in_ok-dimensions.ensures ∙ ap taken (c.deref.ensures.value ∙ sym c.in_ok-cap.ensures.matrices)
+    ∙ sym (c.dimensions.ensures ms)

@@ -1,95 +1,53 @@
 -- The claimed pruned opening is compared with the honest one, under the cap of the salted matrices.
-use Rattle.std.proofs.Common.{◌≡◌, ◌∙◌, List, ap, refl, subst, sym}
+use Rattle.std.proofs.Common.{◌∙◌, List, refl, subst}
 use Rattle.p3_support.specs.Shown.{roots_of, row_sets}
 use Rattle.p3_support.specs.declared.matrix.Dimensions.{Dimensions}
-use Rattle.p3_merkle_tree.specs.CapRule.TheVariants.{Lowered}
-use Rattle.p3_merkle_tree.specs.Commitments.{IsOwn, cap_over}
-use Rattle.p3_merkle_tree.specs.Geometry.{shape_of}
-use Rattle.p3_merkle_tree.specs.HidingSchemes.{generator_of, plain_of, salted_pruned_made}
-use Rattle.p3_merkle_tree.specs.HidingSchemes.{salted_pruned_lent}
-use Rattle.p3_merkle_tree.specs.Nodes.{Batch, shape}
-use Rattle.p3_merkle_tree.specs.Parts.{layers_of, matrices_of, tree_batch}
-use Rattle.p3_merkle_tree.specs.SaltedOpenings.{IsSaltedPrunedAccepted, SaltedPruned}
-use Rattle.p3_merkle_tree.specs.SaltedOpenings.{salted_pruned_of, widened}
-use Rattle.p3_merkle_tree.specs.SaltedPresented.{presented_salted_pruned}
-use Rattle.p3_merkle_tree.specs.SaltedTrees.{HaveSaltColumns}
-use Rattle.p3_merkle_tree.specs.Schemes.{cap_height_of, cap_layer_over, cap_rule_of, params_of}
-use Rattle.p3_merkle_tree.specs.Views.{batch_of}
-use Rattle.p3_merkle_tree.specs.Extraction.{IsExtraction}
-use Rattle.p3_merkle_tree.specs.SaltedExtraction.{ConflictSomewhere, ConflictWhereAuthenticated, SomeSaltedPair}
-use Rattle.p3_merkle_tree.specs.Views.{found_pair}
-use Rattle.std.specs.Prelude.{IfOk, IsSome}
+use Rattle.p3_merkle_tree.specs.HidingSchemes.{plain_of, salted_params_of, salted_pruned_borrowed, salted_pruned_made}
+use Rattle.p3_merkle_tree.specs.Parts.{matrices_of}
+use Rattle.p3_merkle_tree.specs.SaltedExtraction.{IsSaltedPrunedExtraction}
+use Rattle.p3_merkle_tree.specs.SaltedOpenings.{SaltedPruned, salted_pruned_of}
+use Rattle.p3_merkle_tree.specs.SaltedTrees.{unsalted_dimensions}
+use Rattle.p3_merkle_tree.specs.Schemes.{cap_rule_of}
 use Rattle.end_to_end.proofs.ComparisonFacts.{compared_salted_pruned}
 use Rattle.end_to_end.proofs.RefusalFacts.{salted_pruned_unrefused}
-use Rattle.end_to_end.proofs.SaltedFacts.{cap_in_tree, own_digests, salted_widened}
 use Rattle.end_to_end.proofs.salted_compared.salted_commit_compare_pruned.Goals as goal
 
-pub returns-clause-digests : goal.returns-clause-digests
-returns-clause-digests g c =
-    let b = batch_of g.M.Matrix.height_of g.M.Matrix.width_of g.M.Matrix.row_of g.row.N c.args.matrices.items in
-    let e = g.row.SALT_ELEMS in
-    let plain = plain_of c.args.scheme.now in
-    let later = plain_of c.salted_committed.new.scheme in
-    let k = params_of g.H.CryptographicHasher.hash g.C.PseudoCompressionFunction.compression g.row.D plain
-    (widened e (shape b).dimensions) in
-    let tree = c.in_ok-cap.tree in
-    let s = shape (tree_batch tree) in
-    let wide : s.dimensions ≡ widened e (shape b).dimensions =
-    ap (λ (salted : Batch _). (shape salted).dimensions) c.in_ok-cap.ensures.salted
-    ∙ salted_widened g.P.Value.SaltWord.of_salt_word e b.matrices
-    (g.R.Rng.stream (generator_of c.args.scheme.now)) in
-    let same : cap_layer_over later s ≡ k.layer =
-    λ i. cap_layer_over (c.in_ok-cap.ensures.scheme i) (shape_of g.row.N (wide i)) in
-    c.in_ok-opening.ensures.digests
-    ∙ own_digests k.functions (tree_batch tree) (layers_of tree) c.in_ok-cap.ensures.committed.own_layers tree.arity
-    tree.lawful (cap_layer_over later s) k.layer (cap_in_tree s (cap_rule_of later) (cap_height_of later)) same
-    c.restoration.ensures.pruned_opening c.args.indices.now c.in_ok-cap.ensures.below
+pub returns-clause-opened : goal.returns-clause-opened
+returns-clause-opened g c =
+    let committed = c.in_ok-cap.ensures.committed in
+    let opened = c.in_ok-opening.ensures.opened in
+    record {
+      rows = opened.rows;
+      salts = opened.salts;
+      digests = opened.is_honest committed.committed.own_layers;
+      accepted = opened.is_accepted (roots_of c.in_ok-cap.cap) committed;
+    }
 
 pub returns-clause-compared : goal.returns-clause-compared
 returns-clause-compared g c =
     let row_eq = g.P.Value.PartialEq.eq in
     let digest_eq = g.PW.Value.PartialEq.eq in
-    let plain = plain_of c.args.scheme.now in
     let e = g.row.SALT_ELEMS in
-    let at = params_of g.H.CryptographicHasher.hash g.C.PseudoCompressionFunction.compression g.row.D in
-    let batch = batch_of g.M.Matrix.height_of g.M.Matrix.width_of g.M.Matrix.row_of g.row.N in
-    let b = batch c.args.matrices.items in
-    let ds = (shape b).dimensions in
-    let k = at plain (widened e ds) in
-    let tree = c.in_ok-cap.tree in
-    let salted = tree_batch tree in
+    let scheme = c.salted_committed.new.scheme in
+    let rule = cap_rule_of (plain_of scheme) in
+    let arity = (plain_of scheme).arity in
+    let ds = unsalted_dimensions g.row.N (matrices_of c.in_ok-cap.tree) in
+    let k = salted_params_of scheme ds in
     let cap = roots_of c.in_ok-cap.cap in
-    let committed = c.in_ok-cap.ensures.committed in
-    let q = salted_pruned_made c.args.indices.now c.in_ok-opening.opening.0 c.in_ok-opening.opening.1 in
-    let lefts = ap (λ (ms : List _). (shape (batch ms)).dimensions) c.in_ok-cap.ensures.matrices in
-    let under_own_cap = subst (λ (z : _ × List Dimensions).
-    let k = at z.0 (widened e z.1) in IsOwn k salted (layers_of tree) → HaveSaltColumns e (matrices_of tree) →
-    IsSaltedPrunedAccepted e z.1 k (cap_over k salted) q)
-    (λ i. (c.in_ok-cap.ensures.scheme i, lefts i)) c.in_ok-opening.ensures.accepted committed.own_layers
-    c.in_ok-cap.ensures.columns in
-    let accepted = subst (λ (z : List (List _)). IsSaltedPrunedAccepted e ds k z q) (sym committed.own_cap)
-    under_own_cap in
+    let p = salted_pruned_borrowed c.args.indices.now c.args.rows.now c.args.proof.now in
+    let q = salted_pruned_made c.args.indices.now c.in_ok-opening.opening in
+    let accepted = (returns-clause-opened g c).accepted in
     let same = c.deref.ensures.value ∙ c.in_ok-cap.ensures.dimensions in
     let lent = c.deref-2.ensures.value in
     let proof = c.in_ok-opening.opening.1 in
-    let p = salted_pruned_lent c.args.indices.now c.args.rows.now c.args.proof.now in
     let r = c.extract_collision_multi-found.result in
-    let moved : _ ≡ (plain, ds, q) = λ i. (
-      c.in_ok-cap.ensures.scheme i,
+    let is = subst (λ (z : List Dimensions × SaltedPruned _ _).
+    IsSaltedPrunedExtraction row_eq digest_eq rule e z.0 (salted_params_of scheme z.0) cap p z.1 r)
+    (λ i. (
       same i,
       salted_pruned_of c.args.indices.now (row_sets (lent i)) (row_sets proof.0.items) proof.1.sibling_hashes.items,
-    ) in
-    let is = subst (λ (z : _ × List Dimensions × SaltedPruned _ _). let k = at z.0 (widened e z.1) in
-    IsExtraction row_eq digest_eq (cap_rule_of z.0) k (presented_salted_pruned row_eq digest_eq e z.1 k cap p)
-    (presented_salted_pruned row_eq digest_eq e z.1 k cap z.2) (found_pair r)) moved
-    c.extract_collision_multi-found.ensures.extraction in
-    let two_ways = subst (λ (z : _ × List Dimensions × SaltedPruned _ _). let k = at z.0 (widened e z.1) in
-    SomeSaltedPair k p z.2 (ConflictWhereAuthenticated k) → IfOk r (λ found. IsSome found)) moved
-    c.extract_collision_multi-found.ensures.two_ways in
-    let somewhere = subst (λ (z : _ × List Dimensions × SaltedPruned _ _). let k = at z.0 (widened e z.1) in
-    cap_rule_of z.0 ≡ Lowered → SomeSaltedPair k p z.2 (ConflictSomewhere k) → IfOk r (λ found. IsSome found)) moved
-    c.extract_collision_multi-found.ensures.lowered_two_ways in
+    )) c.extract_collision_multi-found.ensures in
     let unrefused = salted_pruned_unrefused row_eq digest_eq e ds k cap g.met.P.PackedValue.eq_is_equality
-    g.met.PW.PackedValue.eq_is_equality c.answers.ensures.each_path plain.arity q accepted in
-    compared_salted_pruned row_eq digest_eq (cap_rule_of plain) e ds k cap p q refl c.extraction.ensures.one_index
-    plain.arity unrefused accepted r is two_ways somewhere
+    g.met.PW.PackedValue.eq_is_equality c.answers.ensures.each_path arity q accepted in
+    compared_salted_pruned row_eq digest_eq rule e ds k cap p q refl c.extraction.ensures.one_index arity unrefused
+    accepted r is

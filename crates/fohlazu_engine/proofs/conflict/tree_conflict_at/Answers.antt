@@ -1,10 +1,9 @@
 -- What is lent to the library is what was read.
 use Rattle.std.proofs.Common.{◌∙◌, List, ℕ, ap, rules}
 use Rattle.std.specs.Prelude.{replicate}
-use Rattle.p3_hashes.specs.Sha.{sha256_nodes, sha256_rows}
-use Rattle.p3_hashes.specs.declared.sha_eights.Sha256RowsInEights.{Sha256RowsInEights}
 use Rattle.p3_support.specs.Shown.{row_sets}
 use Rattle.p3_support.specs.declared.matrix.Dimensions.{Dimensions}
+use Rattle.p3_merkle_core.specs.Geometry.{shape_of}
 use Rattle.p3_merkle_core.specs.Pruning.{pruned_of, PrunedOpening}
 use Rattle.p3_merkle_mmcs.specs.Schemes.{cap_rule_of, params_of}
 use Rattle.mmcs_engine.specs.Program.{sha_functions}
@@ -22,8 +21,7 @@ returns-then-is_none g c =
     let r = proof_of c.args.second.now in
     none_is_found (opening_shown p).indices (opening_shown r).indices c.in_ok-found.found (difference_under s p r)
     (difference_found (cap_rule_of c.scheme_of.result) c.extract_collision_multi.result c.in_ok-found.found
-    (ap (λ (dims : List Dimensions). params_of (λ (h : Sha256RowsInEights) (bytes : List ℕ). sha256_rows bytes)
-    (λ h (digests : List (List ℕ)). sha256_nodes digests) 32 c.scheme_of.result dims)
+    (ap (λ (dims : List Dimensions). params_of c.scheme_of.result (shape_of g.row.N dims))
     (c.deref-2.ensures.value ∙ c.in_ok-dimensions.ensures)
     ∙ c.scheme_of.ensures.params c.args.seal.now.content.count)
     (c.new-cap.ensures ∙ c.in_ok-from_slice.ensures.items ∙ c.deref.ensures.value)
@@ -42,8 +40,7 @@ returns g c =
     text_is_found (opening_shown p).indices (opening_shown r).indices c.in_ok-text.text.items c.in_ok-found.found
     (difference_under s p r)
     (difference_found (cap_rule_of c.scheme_of.result) c.extract_collision_multi.result c.in_ok-found.found
-    (ap (λ (dims : List Dimensions). params_of (λ (h : Sha256RowsInEights) (bytes : List ℕ). sha256_rows bytes)
-    (λ h (digests : List (List ℕ)). sha256_nodes digests) 32 c.scheme_of.result dims)
+    (ap (λ (dims : List Dimensions). params_of c.scheme_of.result (shape_of g.row.N dims))
     (c.deref-2.ensures.value ∙ c.in_ok-dimensions.ensures)
     ∙ c.scheme_of.ensures.params c.args.seal.now.content.count)
     (c.new-cap.ensures ∙ c.in_ok-from_slice.ensures.items ∙ c.deref.ensures.value)

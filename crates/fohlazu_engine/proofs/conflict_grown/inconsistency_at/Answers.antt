@@ -1,11 +1,10 @@
 -- What is lent to the library is what was read.
-use Rattle.std.proofs.Common.{◌∙◌, ◌-◌, List, ℕ, ap}
+use Rattle.std.proofs.Common.{◌∙◌, ◌-◌, List, ap}
 use Rattle.std.proofs.Math.Nat.{max-zero}
-use Rattle.p3_hashes.specs.Sha.{sha256_nodes, sha256_rows}
-use Rattle.p3_hashes.specs.declared.sha_eights.Sha256RowsInEights.{Sha256RowsInEights}
 use Rattle.p3_support.specs.Batches.{greatest, heights_of}
 use Rattle.p3_support.specs.Shown.{row_lists}
 use Rattle.p3_support.specs.declared.matrix.Dimensions.{Dimensions}
+use Rattle.p3_merkle_core.specs.Geometry.{shape_of}
 use Rattle.p3_merkle_core.specs.Openings.{opening_of}
 use Rattle.p3_merkle_mmcs.specs.Schemes.{params_of}
 use Rattle.fohlazu_text.specs.Fields.{entry_fields}
@@ -26,8 +25,7 @@ returns-clause-found g c =
     (entry_fields c.args.other.now) in
     let old_dimensions_are = c.deref-3.ensures.value ∙ c.in_ok-old_dimensions.ensures in
     let new_dimensions_are = c.deref-4.ensures.value ∙ c.in_ok-new_dimensions.ensures in
-    let params_over = λ (dims : List Dimensions). params_of (λ (h : Sha256RowsInEights) (bytes : List ℕ).
-    sha256_rows bytes) (λ h (digests : List (List ℕ)). sha256_nodes digests) 32 c.scheme_of.result dims in
+    let params_over = λ (dims : List Dimensions). params_of c.scheme_of.result (shape_of g.row.N dims) in
     let top = λ (dims : List Dimensions). greatest (heights_of dims) in
     let old_count = c.args.crossing.old.now.content.count in
     let new_count = c.args.crossing.new.now.content.count in

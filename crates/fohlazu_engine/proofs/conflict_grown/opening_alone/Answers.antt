@@ -1,10 +1,9 @@
 -- The path is the one that the proof restores.
-use Rattle.std.proofs.Common.{◌∙◌, ◌∷◌, [], List, ℕ, ap}
+use Rattle.std.proofs.Common.{◌∙◌, ◌∷◌, [], List, ap}
 use Rattle.sha2.specs.Sha256.{sha256}
-use Rattle.p3_hashes.specs.Sha.{sha256_nodes, sha256_rows}
-use Rattle.p3_hashes.specs.declared.sha_eights.Sha256RowsInEights.{Sha256RowsInEights}
 use Rattle.p3_support.specs.Shown.{row_lists, row_sets}
 use Rattle.p3_support.specs.declared.matrix.Dimensions.{Dimensions}
+use Rattle.p3_merkle_core.specs.Geometry.{shape_of}
 use Rattle.p3_merkle_core.specs.Pruning.{pruned_of, restored_paths}
 use Rattle.p3_merkle_core.specs.Views.{shown_paths}
 use Rattle.p3_merkle_mmcs.specs.Schemes.{params_of}
@@ -16,8 +15,7 @@ use Rattle.fohlazu_engine.proofs.conflict_grown.opening_alone.Goals as goal
 
 pub returns : goal.returns
 returns g c =
-    let params_are = ap (λ (dims : List Dimensions). params_of (λ (h : Sha256RowsInEights) (bytes : List ℕ).
-    sha256_rows bytes) (λ h (digests : List (List ℕ)). sha256_nodes digests) 32 c.scheme_of.result dims)
+    let params_are = ap (λ (dims : List Dimensions). params_of c.scheme_of.result (shape_of g.row.N dims))
     (c.deref.ensures.value ∙ c.in_ok-dimensions.ensures)
     ∙ c.scheme_of.ensures.params c.args.count in
     let pruned_is = (λ i. pruned_of (c.deref-2.ensures.value i) (row_sets (c.deref-3.ensures.value i))

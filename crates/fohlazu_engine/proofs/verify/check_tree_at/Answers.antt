@@ -1,9 +1,8 @@
 -- What is lent to the library is what was read.
-use Rattle.std.proofs.Common.{◌∙◌, List, ℕ, ap}
-use Rattle.p3_hashes.specs.Sha.{sha256_nodes, sha256_rows}
-use Rattle.p3_hashes.specs.declared.sha_eights.Sha256RowsInEights.{Sha256RowsInEights}
+use Rattle.std.proofs.Common.{◌∙◌, List, ap}
 use Rattle.p3_support.specs.Shown.{row_sets}
 use Rattle.p3_support.specs.declared.matrix.Dimensions.{Dimensions}
+use Rattle.p3_merkle_core.specs.Geometry.{shape_of}
 use Rattle.p3_merkle_core.specs.Pruning.{pruned_of}
 use Rattle.p3_merkle_mmcs.specs.Schemes.{params_of}
 use Rattle.fohlazu_engine.proofs.VerdictFacts.{answer_is}
@@ -12,10 +11,9 @@ use Rattle.fohlazu_engine.proofs.verify.check_tree_at.Goals as goal
 pub returns : goal.returns
 returns g c =
     answer_is c.verify_batch_pruned.result
-    (ap (λ (dims : List Dimensions). params_of (λ (h : Sha256RowsInEights) (bytes : List ℕ). sha256_rows bytes)
-    (λ h (digests : List (List ℕ)). sha256_nodes digests) 32 c.scheme_of.result dims)
+    (ap (λ (dims : List Dimensions). params_of c.scheme_of.result (shape_of g.row.N dims))
     (c.deref-2.ensures.value ∙ c.in_ok-dimensions.ensures)
     ∙ c.scheme_of.ensures.params c.args.seal.now.content.count)
     (c.new-cap.ensures ∙ c.in_ok-from_slice.ensures.items ∙ c.deref.ensures.value)
     ((λ i. pruned_of (c.deref-3.ensures.value i) (row_sets (c.deref-4.ensures.value i))
-    c.args.shown.now.paths.sibling_hashes.items) ∙ c.requires.opening) c.verify_batch_pruned.ensures.verdict.answer
+    c.args.shown.now.paths.sibling_hashes.items) ∙ c.requires.opening) c.verify_batch_pruned.ensures.answer

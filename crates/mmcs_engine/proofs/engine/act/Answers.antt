@@ -9,7 +9,7 @@ use Rattle.p3_merkle_core.specs.Nodes.{shape, Batch}
 use Rattle.p3_merkle_core.specs.Pruning.{pruned_len}
 use Rattle.p3_merkle_core.specs.Refusals.{pruned_len_refusal, queries_refusal, AnswersUnlessMemory}
 use Rattle.p3_merkle_prover.specs.Parts.{layers_of, tree_batch}
-use Rattle.p3_merkle_mmcs.specs.Schemes.{cap_layer_over, params_over}
+use Rattle.p3_merkle_mmcs.specs.Schemes.{cap_layer_of, params_of}
 use Rattle.mmcs_engine.specs.Inner.Stored.{stored_batch}
 use Rattle.mmcs_engine.specs.Text.{ok_line}
 use Rattle.mmcs_engine.specs.Inner.Alike.{opened_text}
@@ -24,6 +24,12 @@ batch_given g c = stored_batch g.row.N c.args.matrices.items
 
 same_batch : (g : Over) (c : After-check_indices g) → tree_batch c.in_ok-roots.tree ≡ batch_given g c
 same_batch g c = ap (stored_batch g.row.N) c.in_ok-roots.ensures.matrices
+
+-- it is committed to
+own : (g : Over) (c : After-check_indices g) → IsCommitment (params_of c.args.scheme.now (shape (batch_given g c)))
+    (roots_of c.in_ok-roots.roots) (batch_given g c) (layers_of c.in_ok-roots.tree)
+own g c = subst (λ (b : Batch g.row.W.Denot). IsCommitment (params_of c.args.scheme.now (shape b))
+    (roots_of c.in_ok-roots.roots) b (layers_of c.in_ok-roots.tree)) (same_batch g c) c.in_ok-roots.ensures.committed
 
 -- the test of the indices is that of the tallest matrix
 same_test : (g : Over) (c : After-check_indices g) →
@@ -61,8 +67,9 @@ returns-in-Commit-clause-text g c =
     let w = g.met.W.Word in
     commit_printed g.W.Word.value w.some_word w.one_word _ _ _ _ _ _ _ c.requires.scheme
     (stored_batch g.row.N c.args.matrices.items) c.args.args.now.command.action c.args.args.now.indices.items
-    c.cap_text.result (λ text. text.items) (roots_of c.in_ok-roots.roots) c.in_ok-roots.ensures.committed.own_cap
-    c.in-Commit.is c.cap_text.ensures.text
+    c.cap_text.result (λ text. text.items) (roots_of c.in_ok-roots.roots)
+    (own g (goal.at.returns-in-Commit-clause-text g c).After-check_indices).own_cap c.in-Commit.is
+    c.cap_text.ensures.text
 
 pub returns-in-Commit-clause-answer : goal.returns-in-Commit-clause-answer
 returns-in-Commit-clause-answer g c =
@@ -77,10 +84,11 @@ returns-in-Open-clause-text g c =
     let lent = c.as_slice-indices.result.now in
     open_printed g.W.Word.value w.some_word w.one_word _ _ _ _ _ _ _ c.requires.scheme
     (stored_batch g.row.N c.args.matrices.items) c.args.args.now.command.action c.args.args.now.indices.items
-    c.open_text.result (λ text. text.items) nodes lent c.in_ok-roots.ensures.committed.own_layers
+    c.open_text.result (λ text. text.items) nodes lent
+    (own g (goal.at.returns-in-Open-clause-text g c).After-check_indices).own_layers
     c.as_slice-indices.ensures.value c.in-Open.is
     (subst (λ (b : Batch g.row.W.Denot). IfOk c.open_text.result (λ text. text.items
-    ≡ opened_text g.W.Word.value g.W.Word.HEX_DIGITS b nodes lent (cap_layer_over c.args.scheme.now (shape b))))
+    ≡ opened_text g.W.Word.value g.W.Word.HEX_DIGITS b nodes lent (cap_layer_of c.args.scheme.now (shape b))))
     (same_batch g (goal.at.returns-in-Open-clause-text g c).After-check_indices) c.open_text.ensures.text)
 
 pub returns-in-Open-clause-answer : goal.returns-in-Open-clause-answer
@@ -97,7 +105,7 @@ returns-clause-text g c =
     (stored_batch g.row.N c.args.matrices.items) c.args.args.now.command.action c.args.args.now.indices.items
     c.check_text.result (λ text. text.items) lent c.as_slice-indices.ensures.value c.in-Check.is
     (subst (λ (b : Batch g.row.W.Denot). IfOk c.check_text.result (λ text. text.items
-    ≡ ok_line (pruned_len (shape b) lent (cap_layer_over c.args.scheme.now (shape b)))))
+    ≡ ok_line (pruned_len (shape b) lent (cap_layer_of c.args.scheme.now (shape b)))))
     (same_batch g (goal.at.returns-clause-text g c).After-check_indices) c.check_text.ensures.text)
 
 pub returns-clause-answer : goal.returns-clause-answer
@@ -114,10 +122,4 @@ check_text-requires g c =
     let shapes = stored_shape c.deref.result.now c.args.matrices.items c.in_ok-dimensions.dimensions.items
     c.deref-in-Check.result.now g.row.N c.deref-in-Check.ensures.value c.in_ok-dimensions.ensures
     c.deref.ensures.value ∙ ap shape same in
-    let committed = subst (λ (b : Batch g.row.W.Denot). IsCommitment
-    (params_over g.H.CryptographicHasher.hash g.C.PseudoCompressionFunction.compression g.row.D
-    c.args.scheme.now (shape b)) (roots_of c.in_ok-roots.roots) b (layers_of c.in_ok-roots.tree)) same
-    c.in_ok-roots.ensures.committed in (
-      search rules,
-      (search rules, (search rules, (search rules, (below, (shapes, committed))))),
-    )
+    (search rules, (search rules, (search rules, (search rules, (below, (shapes, c.in_ok-roots.ensures.committed))))))

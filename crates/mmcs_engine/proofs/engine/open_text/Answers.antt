@@ -15,7 +15,7 @@ returns-clause-text g c =
     let b = tree_batch c.args.tree.now in
     let value = g.W.Word.value in
     let lines = flat_map (opened_lines value b) c.args.indices.now in
-    let opened = c.in_ok-opening.ensures.opened in
+    let opened = c.in_ok-opening.ensures.opened.in_layers in
     c.in_ok-text_of_opening.ensures b
     (ap row_sets c.deref.ensures.value ∙ ap (λ (z : PrunedOpening _ _). z.rows) opened)
     ∙ ap (λ ds. lines ++ digest_lines g.W.Word.HEX_DIGITS (map (map value) ds))
@@ -25,5 +25,6 @@ pub text_of_opening-requires : goal.text_of_opening-requires
 text_of_opening-requires g c = (
   search rules,
   sets_long c.deref.result.now (honest_rows (tree_batch c.args.tree.now)) c.args.indices.now
-      (ap row_sets c.deref.ensures.value ∙ ap (λ (z : PrunedOpening _ _). z.rows) c.in_ok-opening.ensures.opened),
+      (ap row_sets c.deref.ensures.value
+      ∙ ap (λ (z : PrunedOpening _ _). z.rows) c.in_ok-opening.ensures.opened.in_layers),
 )

@@ -2,8 +2,9 @@ use Rattle.std.proofs.Common.{◌∙◌, Err, ap, rules, sym}
 use Rattle.std.proofs.lemmas.Result.{err_from_is_err_and}
 use Rattle.std.specs.Prelude.{replicate}
 use Rattle.p3_support.specs.Shown.{roots_of, row_sets}
+use Rattle.p3_merkle_core.specs.Geometry.{shape_of}
 use Rattle.p3_merkle_core.specs.Pruning.{pruned_of}
-use Rattle.p3_merkle_mmcs.specs.Schemes.{cap_rule_of, scheme_functions, params_of}
+use Rattle.p3_merkle_mmcs.specs.Schemes.{cap_rule_of, functions_of, params_of}
 use Rattle.mmcs_verify_engine.specs.Inner.TypedCollisions.{typed_text}
 use Rattle.mmcs_verify_engine.proofs.CompareFacts.{as_read, inputs_full, none_refused, one_refused, queries_found}
 use Rattle.mmcs_verify_engine.proofs.CompareFacts.{shown_inputs, text_found, Extracts}
@@ -15,14 +16,14 @@ use Rattle.mmcs_verify_engine.proofs.engine.collide_by.Goals.{After-extract_coll
 -- what is lent to the extraction is what was read
 extracts : (g : Over) (c : After-extract_collision_multi g) →
     Extracts g.W.PartialEq.eq (cap_rule_of c.args.scheme.now)
-    (params_of g.H.CryptographicHasher.hash g.C.PseudoCompressionFunction.compression g.row.D c.args.scheme.now
-    c.as_slice-dimensions.result.now) c.in_ok-pair.pair c.extract_collision_multi.result
+    (params_of c.args.scheme.now (shape_of g.row.N c.as_slice-dimensions.result.now)) c.in_ok-pair.pair
+    c.extract_collision_multi.result
     c.extract_collision_multi.result
 extracts g c =
     let pair = c.in_ok-pair.pair in
     as_read g.W.PartialEq.eq (cap_rule_of c.args.scheme.now)
-    (params_of g.H.CryptographicHasher.hash g.C.PseudoCompressionFunction.compression g.row.D c.args.scheme.now
-    c.as_slice-dimensions.result.now) pair c.extract_collision_multi.result (roots_of c.new-cap.result) _ _
+    (params_of c.args.scheme.now (shape_of g.row.N c.as_slice-dimensions.result.now)) pair
+    c.extract_collision_multi.result (roots_of c.new-cap.result) _ _
     c.new-cap.ensures
     (λ i. pruned_of (c.deref.ensures.value i) (row_sets (c.deref-2.ensures.value i)) pair.first.digests.items)
     (λ i. pruned_of (c.deref-3.ensures.value i) (row_sets (c.deref-4.ensures.value i)) pair.second.digests.items)
@@ -69,5 +70,4 @@ returns-clause-text g c =
     ∙ (λ i. typed_text g.W.Word.value g.W.Word.HEX_DIGITS (sym c.requires.functions i) (c.deref-5.ensures.value i)
     (c.deref-6.ensures.value i) (shown_inputs found))
     ∙ text_found _ _ _ pair _ e found c.in_ok-found.was g.W.Word.value g.W.Word.HEX_DIGITS
-    (scheme_functions g.H.CryptographicHasher.hash g.C.PseudoCompressionFunction.compression g.row.D
-    c.args.scheme.now))
+    (functions_of c.args.scheme.now))

@@ -11,19 +11,19 @@ schedule-init c = λ j below b words.
     let h = lane j c.args.state.now in
     let long : length c.args.block.now ≡ 16 = omega arith in
     let window = IsWindow_first b (lane j c.args.block.now) (length-map c.args.block.now _ ∙ long) words in
-    let one = c.first_four_steps-v.ensures j below b h window refl in
-    let two = c.first_four_steps-v-2.ensures j below b h window one in
-    let three = c.first_four_steps-v-3.ensures j below b h window two in
-    (window, c.first_four_steps-v-4.ensures j below b h window three)
+    let one = c.four_block_rounds-v.ensures j below b h window refl in
+    let two = c.four_block_rounds-v-2.ensures j below b h window one in
+    let three = c.four_block_rounds-v-3.ensures j below b h window two in
+    (window, c.four_block_rounds-v-4.ensures j below b h window three)
 
 pub schedule-preserved : goal.schedule-preserved
 schedule-preserved c = λ j below b words.
     let h = lane j c.args.state.now in
-    let one = c.four_steps-v.ensures j below b h (IsRoundsAt_at b h _ _ _ _ (omega arith)
+    let one = c.four_scheduled_rounds-v.ensures j below b h (IsRoundsAt_at b h _ _ _ _ (omega arith)
     (c.schedule.invariant j below b words)) in
-    let two = c.four_steps-v-in-schedule.ensures j below b h one in
-    let three = c.four_steps-v-in-schedule-2.ensures j below b h two in
-    let four = c.four_steps-v-in-schedule-3.ensures j below b h three in
+    let two = c.four_scheduled_rounds-v-in-schedule.ensures j below b h one in
+    let three = c.four_scheduled_rounds-v-in-schedule-2.ensures j below b h two in
+    let four = c.four_scheduled_rounds-v-in-schedule-3.ensures j below b h three in
     IsRoundsAt_at b h _ _ _ _ (omega arith) four
 
 pub returns : goal.returns

@@ -7,7 +7,7 @@ use Rattle.p3_hashes.proofs.eights.columns_of_four.Goals as goal
 pub returns-clause-columns : goal.returns-clause-columns
 returns-clause-columns c =
     let words = λ (m : ℕ). slice_range (message c.args.width c.args.messages.now m) c.args.column (c.args.column + 4) in
-    c.turn_four.ensures
+    c.transpose.ensures
     ∙ turned_same (c.words_at.ensures.words ∙ ap words (sym (add-zero c.args.first))) c.words_at-2.ensures.words
     c.words_at-3.ensures.words c.words_at-4.ensures.words
 

@@ -9,7 +9,7 @@ loop-element-preserved g c = (
   λ k below.
       let of = λ (p : g.row.P.Denot). slice_index_or (g.P.PackedValue.lanes p) k g.P.PackedValue.default_value in
       map_seen_more of (λ (s : ℕ). take_in s (of c.args.word)) c.args.state.now c.loop-element.state
-      c.loop-element.element-index c.step_together.result c.element-item.result (search rules)
+      c.loop-element.element-index c.mul_31_add.result c.element-item.result (search rules)
       c.loop-element.invariant.0
-      (search (rules, c.step_together.ensures k below)) (c.loop-element.invariant.1 k below),
+      (search (rules, c.mul_31_add.ensures k below)) (c.loop-element.invariant.1 k below),
 )

@@ -25,8 +25,8 @@ loop-e-preserved g c =
                 let x = of k (slice_index_or child e c.index-child-e.result) in
                 let element : of k new ≡ mix_in s (c.args.place, x) =
                 c.add_to_each.ensures k below
-                ∙ ap (λ n. (of k c.step_together.result + n) % 2 ^ 32) c.low_bits-number.ensures
-                ∙ ap (λ t. (t + c.args.place % 2 ^ 32) % 2 ^ 32) (c.step_together.ensures k below)
+                ∙ ap (λ n. (of k c.mul_31_add.result + n) % 2 ^ 32) c.low_bits-number.ensures
+                ∙ ap (λ t. (t + c.args.place % 2 ^ 32) % 2 ^ 32) (c.mul_31_add.ensures k below)
                 ∙ mixed s x c.args.place in
                 rw same (lane_of_written (of k) old e new 0 inside ∙ element
                 ∙ rw (← read, ← word, c.loop-e.invariant.2 k e (omega arith)) refl)

@@ -41,7 +41,7 @@ returns-then-filled_count-block_count c = λ j below.
     let alone : t < (c.args.width + 72) / 64 = omega arith in
     let done : c.loop-t.t ≡ t = omega (arith, c.loop-t.auto.t-end) in
     let all : t + 1 ≡ (c.args.width + 72) / 64 = omega arith in
-    c.compress_again.ensures j below block (c.requires.padding alone m long j below)
+    c.compress_prepared.ensures j below block (c.requires.padding alone m long j below)
     ∙ ap (λ (s : List ℕ). compress s block)
     (c.loop-t.invariant j below ∙ ap (hash_after initial_hash_256 p) done)
     ∙ sym (hash_next initial_hash_256 p t)

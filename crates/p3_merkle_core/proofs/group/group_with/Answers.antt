@@ -1,16 +1,9 @@
 -- Each turn writes one of the siblings.
 use Rattle.std.proofs.Common.{arith, ◌≡◌, ◌<◌, length, replicate}
 use Rattle.std.proofs.lemmas.List.{length-replicate}
-use Rattle.p3_merkle_core.proofs.Lists.GroupFacts.{group_around_is, put_first, put_before, put_behind, put_all}
+use Rattle.p3_merkle_core.proofs.Lists.GroupFacts.{group_around_is, put_before, put_behind, put_all}
 use Rattle.p3_merkle_core.proofs.group.group_with.Goals as goal
 use Rattle.p3_merkle_core.proofs.group.group_with.Goals.{then-k-position, else-k-position}
-
-pub loop-k-init : goal.loop-k-init
-loop-k-init g c =
-    let slots = replicate g.row.N c.args.default_digest in
-    let room : length c.args.siblings.now < length slots =
-    omega (arith, length-replicate g.row.N c.args.default_digest, c.requires.fits) in
-    put_first slots c.args.siblings.now c.args.position c.args.digest c.requires.placed room
 
 pub loop-k-preserved : goal.loop-k-preserved
 loop-k-preserved g c =

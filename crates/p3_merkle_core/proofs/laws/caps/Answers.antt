@@ -1,4 +1,4 @@
-use Rattle.p3_merkle_core.proofs.Shapes.CapFacts.{fixed_is, none_out, rules_agree}
+use Rattle.p3_merkle_core.proofs.Shapes.CapFacts.{none_out, rules_agree}
 use Rattle.p3_merkle_core.proofs.laws.caps.Goals as goal
 
 pub returns-clause-lowered : goal.returns-clause-lowered
@@ -6,6 +6,3 @@ returns-clause-lowered c = none_out
 
 pub returns-clause-agree : goal.returns-clause-agree
 returns-clause-agree c = rules_agree
-
-pub returns-clause-fixed : goal.returns-clause-fixed
-returns-clause-fixed c = fixed_is

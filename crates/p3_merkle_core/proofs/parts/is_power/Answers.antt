@@ -1,7 +1,6 @@
 -- A power that does not fit is above the height.
-use Rattle.std.proofs.Common.{◌*◌, ◌≤◌, ◌^◌, arith, sym}
+use Rattle.std.proofs.Common.{◌*◌, ◌≤◌, ◌^◌, arith, sym, inl, inr}
 use Rattle.std.proofs.lemmas.Bool.{cases_lt}
-use Rattle.std.proofs.Common.{inl, inr}
 use Rattle.p3_merkle_core.proofs.InParts.CallFacts.{power_beyond}
 use Rattle.p3_merkle_core.proofs.parts.is_power.Goals as goal
 

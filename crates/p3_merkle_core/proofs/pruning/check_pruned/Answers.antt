@@ -13,50 +13,8 @@ use Rattle.p3_merkle_core.proofs.Lists.RisingFacts.{increasing_from}
 use Rattle.p3_merkle_core.proofs.Pruned.AgreeFacts.{firsts_inside}
 use Rattle.p3_merkle_core.proofs.Pruned.LeadFacts.{all_fit, firsts_next, found_or, kept_or}
 use Rattle.p3_merkle_core.proofs.Pruned.SlotFacts.{all_below, distinct_bounded, distinct_rising, set_read}
-use Rattle.p3_merkle_core.proofs.Pruned.PrunedFacts.{asked_from, full_from, late_from, pruned_counted, pruned_early}
-use Rattle.p3_merkle_core.proofs.Pruned.PrunedFacts.{pruned_late}
+use Rattle.p3_merkle_core.proofs.Pruned.PrunedFacts.{asked_from, full_from, late_from, pruned_counted, pruned_late}
 use Rattle.p3_merkle_core.proofs.pruning.check_pruned.Goals as goal
-
-pub returns-in_err-check_queries : goal.returns-in_err-check_queries
-returns-in_err-check_queries g c =
-    let s = shape_of c.args.steps.now.arity c.args.steps.now.dimensions.now in
-    let e = c.in_err-check_queries.field-0.0 in
-    let early = rw (← length-map c.args.rows.now (λ rows. row_lists rows.items)) at
-    c.in_err-check_queries.ensures.answer in
-    let left = err_from_is_err_and c.from_residual.result c.from_residual.ensures.1 in
-    let found = pruned_early g.T.PartialEq.eq s c.args.cap_layer c.args.indices.now (row_sets c.args.rows.now)
-    c.args.num_digests e early in
-    rw left.1 (inr (found ∙ ap (λ e. Some e) (sym left.2)))
-
-pub returns-in_err-queried : goal.returns-in_err-queried
-returns-in_err-queried g c =
-    let left = err_from_is_err_and c.from_residual-in_err-queried.result c.from_residual-in_err-queried.ensures.1 in
-    rw left.1 (inl left.2)
-
-pub check_repeats-requires-clause-queried : goal.check_repeats-requires-clause-queried
-check_repeats-requires-clause-queried g c = c.in_ok-queried.ensures
-
-pub check_repeats-requires-clause-pairs : goal.check_repeats-requires-clause-pairs
-check_repeats-requires-clause-pairs g c = (
-    asked_from (heights_of c.args.steps.now.dimensions.now) c.args.indices.now (length c.args.rows.now)
-    c.args.num_digests c.in_ok-check_queries.ensures.answer
-    ).pairs
-
-pub returns-in_err-check_repeats : goal.returns-in_err-check_repeats
-returns-in_err-check_repeats g c =
-    let s = shape_of c.args.steps.now.arity c.args.steps.now.dimensions.now in
-    let early = rw (← length-map c.args.rows.now (λ rows. row_lists rows.items)) at
-    c.in_ok-check_queries.ensures.answer in
-    let left = err_from_is_err_and c.from_residual-in_err-check_repeats.result
-    c.from_residual-in_err-check_repeats.ensures.1 in
-    let found = pruned_counted g.T.PartialEq.eq s c.args.cap_layer c.args.indices.now (row_sets c.args.rows.now)
-    c.args.num_digests c.in_err-check_repeats.field-0.0 early (rw c.in_err-check_repeats.ensures refl) in
-    rw left.1 (inr (found ∙ ap (λ e. Some e) (sym left.2)))
-
-pub returns-in_err-leaves : goal.returns-in_err-leaves
-returns-in_err-leaves g c =
-    let left = err_from_is_err_and c.from_residual-in_err-leaves.result c.from_residual-in_err-leaves.ensures.1 in
-    rw left.1 (inl left.2)
 
 pub new-covered-requires : goal.new-covered-requires
 new-covered-requires g c = record {
@@ -81,9 +39,6 @@ returns-in_err-check_digest_count g c =
     c.args.num_digests c.in_err-check_digest_count.field-0.0 early
     (rw (c.in_ok-check_repeats.ensures, some) refl) in
     rw left.1 (inr (found ∙ ap (λ e. Some e) (sym left.2)))
-
-pub loop-query-init : goal.loop-query-init
-loop-query-init g c = refl
 
 -- a first query is a query
 pub bounds-rows-query : goal.bounds-rows-query

@@ -9,9 +9,6 @@ use Rattle.p3_merkle_core.proofs.pruning.check_repeats.Goals.{else-query-first-v
 use Rattle.p3_merkle_core.proofs.pruning.check_repeats.Goals.{else-query-first-via-else-query-first}
 use Rattle.p3_merkle_core.proofs.pruning.check_repeats.Goals as goal
 
-pub loop-query-init : goal.loop-query-init
-loop-query-init g c = refl
-
 pub bounds-rows-first : goal.bounds-rows-first
 bounds-rows-first g c =
     let indices = c.args.indices.now in

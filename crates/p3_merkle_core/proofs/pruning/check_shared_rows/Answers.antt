@@ -1,6 +1,5 @@
 -- Each turn is one level. No two slots are under one leaf.
-use Rattle.std.proofs.Common.{◌≡◌, ◌-◌, ◌+◌, ◌/◌, ◌^◌, ◌∙◌, suc, map, arith, refl, None, Some, add-one, ap, sym, inl}
-use Rattle.std.proofs.Common.{inr}
+use Rattle.std.proofs.Common.{◌≡◌, ◌-◌, ◌+◌, ◌/◌, ◌^◌, ◌∙◌, suc, map, arith, refl, None, Some, add-one, ap, sym, inr}
 use Rattle.std.specs.List.{range_with_len}
 use Rattle.std.proofs.lemmas.Result.{err_from_is_err_and}
 use Rattle.p3_merkle_core.specs.Geometry.{ancestor, heights, layer_exponent, shape_of}
@@ -15,7 +14,7 @@ use Rattle.p3_merkle_core.proofs.Shapes.StepFacts.{layer_start}
 use Rattle.p3_merkle_core.proofs.Pruned.LeadFacts.{found_or, kept_or, layer_fault, layer_read}
 use Rattle.p3_merkle_core.proofs.Pruned.LeadFacts.{leaves_agree, levels_next, matrices_full, no_matrix, nodes_by_bits}
 use Rattle.p3_merkle_core.proofs.Pruned.SlotFacts.{ascending_from}
-use Rattle.p3_merkle_core.proofs.pruning.check_shared_rows.Goals.{then-up+in_ok-list_matrices+in_ok-check_layer}
+use Rattle.p3_merkle_core.proofs.pruning.check_shared_rows.Goals.{then-up+in_ok-list_matrices+in_ok-check_rows_under_nodes}
 use Rattle.p3_merkle_core.proofs.pruning.check_shared_rows.Goals.{else-up}
 use Rattle.p3_merkle_core.proofs.pruning.check_shared_rows.Goals as goal
 
@@ -35,32 +34,19 @@ loop-level-init g c =
           (leaves_agree g.T.PartialEq.eq g.met.T.Eq.laws s leaves firsts sets c.requires.ascending);
     }
 
-pub up-up-requires : goal.up-up-requires
-up-up-requires g c = record {
-  arity = refl;
-  level = omega (arith, c.loop-level-test.true, c.requires.layer);
-  exponent = c.loop-level.invariant.at;
-}
-
-pub returns-in_err-list_matrices : goal.returns-in_err-list_matrices
-returns-in_err-list_matrices g c =
-    let left = err_from_is_err_and c.from_residual.result
-    c.from_residual.ensures.1 in
-    rw left.1 (inl left.2)
-
 pub overflow_sub-bits : goal.overflow_sub-bits
 overflow_sub-bits g c =
     let s = shape_of c.args.steps.now.arity c.args.steps.now.dimensions.now in
     omega (
       arith,
-      c.up-up.ensures.exponent,
+      c.step_up-up.ensures.exponent,
       c.args.steps.now.walked.leaves,
       layer_start s,
       exponent_low s (suc c.loop-level.level),
     )
 
-pub check_layer-requires : goal.check_layer-requires
-check_layer-requires g c =
+pub check_rows_under_nodes-requires : goal.check_rows_under_nodes-requires
+check_rows_under_nodes-requires g c =
     let s = shape_of c.args.steps.now.arity c.args.steps.now.dimensions.now in
     let leaves = c.args.queried.now.indices.items in
     let firsts = c.args.queried.now.first_queries.items in
@@ -80,12 +66,12 @@ check_layer-requires g c =
       );
       queries = rw read_is c.requires.queries;
       full = matrices_full c.args.steps.now.dimensions.now firsts read c.deref.result.now sets
-          c.up-up.result.exponent c.requires.full (c.deref.ensures.value ∙ c.in_ok-list_matrices.ensures)
+          c.step_up-up.result.exponent c.requires.full (c.deref.ensures.value ∙ c.in_ok-list_matrices.ensures)
           read_is;
     }
 
-pub returns-in_err-check_layer : goal.returns-in_err-check_layer
-returns-in_err-check_layer g c =
+pub returns-in_err-check_rows_under_nodes : goal.returns-in_err-check_rows_under_nodes
+returns-in_err-check_rows_under_nodes g c =
     let eq = g.T.PartialEq.eq in
     let s = shape_of c.args.steps.now.arity c.args.steps.now.dimensions.now in
     let leaves = c.args.queried.now.indices.items in
@@ -95,21 +81,21 @@ returns-in_err-check_layer g c =
     let t = c.args.cap_layer in
     let h = layer_fault eq s leaves firsts sets in
     let total = layers_refusal eq s t leaves firsts sets in
-    let e = c.in_err-check_layer.field-0.0 in
-    let at : c.up-up.result.exponent ≡ layer_exponent s (l + 1) = rw add-one c.up-up.ensures.exponent in
-    let bits = c.args.steps.now.exponent - c.up-up.result.exponent in
+    let e = c.in_err-check_rows_under_nodes.field-0.0 in
+    let at : c.step_up-up.result.exponent ≡ layer_exponent s (l + 1) = rw add-one c.step_up-up.ensures.exponent in
+    let bits = c.args.steps.now.exponent - c.step_up-up.result.exponent in
     let nodes = map (λ i. i / 2 ^ bits) c.deref-then-up.result.now in
     let above : nodes ≡ map (ancestor s (l + 1)) leaves = rw c.deref-then-up.ensures.value
     (nodes_by_bits s c.requires.arity (l + 1) bits (rw (at, c.args.steps.now.walked.leaves, layer_start s) refl) leaves
     c.requires.below) in
     let some = layer_read eq s leaves firsts c.deref-then-up-2.result.now c.deref.result.now
-    nodes sets (l + 1) c.up-up.result.exponent (Some e) at
+    nodes sets (l + 1) c.step_up-up.result.exponent (Some e) at
     (c.deref.ensures.value ∙ c.in_ok-list_matrices.ensures) above
-    c.deref-then-up-2.ensures.value c.in_err-check_layer.ensures in
+    c.deref-then-up-2.ensures.value c.in_err-check_rows_under_nodes.ensures in
     let found = found_or (h (l + 1)) (first_of h (range_with_len (l + 1 + 1) (t - (l + 1)))) total e
     (levels_next h t l total (omega arith) c.loop-level.invariant.so_far) some in
-    let left = err_from_is_err_and c.from_residual-in_err-check_layer.result
-    c.from_residual-in_err-check_layer.ensures.1 in
+    let left = err_from_is_err_and c.from_residual-in_err-check_rows_under_nodes.result
+    c.from_residual-in_err-check_rows_under_nodes.ensures.1 in
     rw left.1 (inr (found ∙ ap (λ e. Some e) (sym left.2)))
 
 pub loop-level-preserved : goal.loop-level-preserved
@@ -123,30 +109,25 @@ loop-level-preserved g c =
     let t = c.args.cap_layer in
     let h = layer_fault eq s leaves firsts sets in
     let total = layers_refusal eq s t leaves firsts sets in
-    let at : c.up-up.result.exponent ≡ layer_exponent s (l + 1) = rw add-one c.up-up.ensures.exponent in
-    let bits = c.args.steps.now.exponent - c.up-up.result.exponent in
+    let at : c.step_up-up.result.exponent ≡ layer_exponent s (l + 1) = rw add-one c.step_up-up.ensures.exponent in
+    let bits = c.args.steps.now.exponent - c.step_up-up.result.exponent in
     let above : map (λ i. i / 2 ^ bits) leaves ≡ map (ancestor s (l + 1)) leaves =
     nodes_by_bits s c.requires.arity (l + 1) bits (rw (at, c.args.steps.now.walked.leaves, layer_start s) refl) leaves
     c.requires.below in
     let none : h (l + 1) ≡ None = elim c.if-up.branch [
-      | then-up+in_ok-list_matrices+in_ok-check_layer w ↦
+      | then-up+in_ok-list_matrices+in_ok-check_rows_under_nodes w ↦
           layer_read eq s leaves firsts w.deref-then-up-2.result.now w.deref.result.now
-          (map (λ i. i / 2 ^ bits) w.deref-then-up.result.now) sets (l + 1) c.up-up.result.exponent None at
+          (map (λ i. i / 2 ^ bits) w.deref-then-up.result.now) sets (l + 1) c.step_up-up.result.exponent None at
           (w.deref.ensures.value ∙ w.in_ok-list_matrices.ensures)
           (rw w.deref-then-up.ensures.value above)
-          w.deref-then-up-2.ensures.value w.in_ok-check_layer.ensures
+          w.deref-then-up-2.ensures.value w.in_ok-check_rows_under_nodes.ensures
       | else-up w ↦
           rw add-one
           (no_matrix eq (heights s) (layer_exponent s (suc l)) (map (ancestor s (suc l)) leaves) firsts sets
-          (sym c.up-up.ensures.rows ∙ w.if-up.false))
+          (sym c.step_up-up.ensures.rows ∙ w.if-up.false))
     ] in
     record {
       at = at;
       so_far = kept_or (h (l + 1)) (first_of h (range_with_len (l + 1 + 1) (t - (l + 1)))) total
           (levels_next h t l total (omega arith) c.loop-level.invariant.so_far) none;
     }
-
-pub returns : goal.returns
-returns g c =
-    let none : c.args.cap_layer - c.loop-level.level ≡ 0 = omega arith in
-    sym (rw none at c.loop-level.invariant.so_far)

@@ -6,8 +6,7 @@ use Rattle.p3_merkle_core.proofs.Covered.ChildFacts.{IsSent, walk_start, walk_en
 use Rattle.p3_merkle_core.proofs.Covered.ChildFacts.{none_next, placed_at}
 use Rattle.p3_merkle_core.proofs.pruning.children_of.Given.{Over}
 use Rattle.p3_merkle_core.proofs.pruning.children_of.Goals as goal
-use Rattle.p3_merkle_core.proofs.pruning.children_of.Goals.{then-known-covered+then-covered-known}
-use Rattle.p3_merkle_core.proofs.pruning.children_of.Goals.{else-known-covered}
+use Rattle.p3_merkle_core.proofs.pruning.children_of.Goals.{then-known-covered+then-covered-known, else-known-covered}
 use Rattle.p3_merkle_core.proofs.pruning.children_of.Goals.{else-known-covered-via-then-known-covered+else-covered-known}
 use Rattle.p3_merkle_core.proofs.pruning.children_of.Goals.{else-known-covered-via-else-known-covered}
 
@@ -16,7 +15,7 @@ loop-parent-init g c =
     let none : c.args.step * 0 ≡ 0 = omega arith in
     record {
       walked = rw none (walk_start c.args.covered.now (children_under c.args.step c.args.parents.now)
-          c.args.digests.now c.args.sent.now c.in_ok-children.children.items c.in_ok-children.ensures.items);
+          c.args.digests.now c.args.proof_digests.now c.in_ok-children.children.items c.in_ok-children.ensures.items);
       capacity = c.in_ok-children.ensures.exact;
     }
 
@@ -26,45 +25,15 @@ overflow_mul-first g c = omega (arith, c.requires.low c.loop-parent.parent-index
 pub overflow_add-child-end : goal.overflow_add-child-end
 overflow_add-child-end g c = omega (arith, c.requires.low c.loop-parent.parent-index 0 c.loop-parent-test.true)
 
-pub loop-child-init : goal.loop-child-init
-loop-child-init g c =
-    let n = c.args.step in
-    let i = c.loop-parent.parent-index in
-    let first = n * get_or c.args.parents.now i 0 in
-    let none : n * i + (first - first) ≡ n * i = omega arith in
-    record {
-      walked = rw none c.loop-parent.invariant.walked;
-      capacity = c.loop-parent.invariant.capacity;
-    }
-
 pub offset_bounds-digests-known : goal.offset_bounds-digests-known
 offset_bounds-digests-known g c = omega (arith, c.requires.one_each, c.if-known-covered.true)
 
 pub bounds-digests-known : goal.bounds-digests-known
 bounds-digests-known g c = rw c.requires.one_each c.if-known-covered.true
 
--- the children so far are fewer than all
-pub push_reserved-requires : goal.push_reserved-requires
-push_reserved-requires g c =
-    let n = c.args.step in
-    let i = c.loop-parent.parent-index in
-    let first = n * get_or c.args.parents.now i 0 in
-    let at = placed_at n i c.args.parents.now first c.loop-child.child refl c.loop-parent-test.true
-    c.loop-child.auto.child c.loop-child-test.true in
-    omega (arith, at.inside, c.loop-child.invariant.walked.each, c.loop-child.invariant.capacity)
-
-pub push_reserved-requires-else-known-covered : goal.push_reserved-requires-else-known-covered
-push_reserved-requires-else-known-covered g c =
-    let n = c.args.step in
-    let i = c.loop-parent.parent-index in
-    let first = n * get_or c.args.parents.now i 0 in
-    let at = placed_at n i c.args.parents.now first c.loop-child.child refl c.loop-parent-test.true
-    c.loop-child.auto.child c.loop-child-test.true in
-    omega (arith, at.inside, c.loop-child.invariant.walked.each, c.loop-child.invariant.capacity)
-
 -- a digest is left for a child that is not covered
 left : (g : Over) (c : goal.After-len g) →
-    IsSent c.len.result c.loop-child.known (length c.args.sent.now)
+    IsSent c.len.result c.loop-child.known (length c.args.proof_digests.now)
 left g c =
     let n = c.args.step in
     let i = c.loop-parent.parent-index in
@@ -73,7 +42,7 @@ left g c =
     c.loop-child.auto.child c.loop-child-test.true in
     let long : c.len.result ≡ n * i + (c.loop-child.child - first) =
     omega (arith, c.loop-child.invariant.walked.each) in
-    rw long (is_sent n c.args.parents.now c.args.covered.now c.args.digests.now c.args.sent.now c.requires
+    rw long (is_sent n c.args.parents.now c.args.covered.now c.args.digests.now c.args.proof_digests.now c.requires
     (n * i + (c.loop-child.child - first)) c.loop-child.known c.loop-child.children.items at.inside
     c.loop-child.invariant.walked
     (λ h e. elim c.else-known-covered.branch [
@@ -86,11 +55,11 @@ left g c =
 pub overflow_sub-len : goal.overflow_sub-len
 overflow_sub-len g c = (left g c).behind
 
-pub offset_bounds-sent-len : goal.offset_bounds-sent-len
-offset_bounds-sent-len g c = (left g c).within
+pub offset_bounds-proof_digests-len : goal.offset_bounds-proof_digests-len
+offset_bounds-proof_digests-len g c = (left g c).within
 
-pub bounds-sent-len : goal.bounds-sent-len
-bounds-sent-len g c = (left g c).below
+pub bounds-proof_digests-len : goal.bounds-proof_digests-len
+bounds-proof_digests-len g c = (left g c).below
 
 pub loop-child-preserved : goal.loop-child-preserved
 loop-child-preserved g c =
@@ -104,7 +73,7 @@ loop-child-preserved g c =
     record {
       walked = rw next (elim c.if-known-covered.branch [
         | then-known-covered+then-covered-known w ↦
-            known_more n c.args.parents.now c.args.covered.now c.args.digests.now c.args.sent.now c.requires
+            known_more n c.args.parents.now c.args.covered.now c.args.digests.now c.args.proof_digests.now c.requires
             place c.loop-child.known c.loop-child.children.items at.inside c.loop-child.invariant.walked
             w.if-known-covered.true (w.if-covered-known.true ∙ at.child_is) w.index-digests-known.result
             c.if-known-covered.known c.if-known-covered.children.items
@@ -119,10 +88,10 @@ loop-child-preserved g c =
                   v.if-known-covered.false h
             ] in
             let long : w.len.result ≡ place = omega (arith, c.loop-child.invariant.walked.each) in
-            let read = rw long at w.index-sent-len.is in
-            unknown_more n c.args.parents.now c.args.covered.now c.args.digests.now c.args.sent.now c.requires
+            let read = rw long at w.index-proof_digests-len.is in
+            unknown_more n c.args.parents.now c.args.covered.now c.args.digests.now c.args.proof_digests.now c.requires
             place c.loop-child.known c.loop-child.children.items at.inside c.loop-child.invariant.walked
-            other w.index-sent-len.result c.if-known-covered.known c.if-known-covered.children.items
+            other w.index-proof_digests-len.result c.if-known-covered.known c.if-known-covered.children.items
             read w.known-is (ap (λ v. v.items) w.children-is ∙ w.push_reserved-else-known-covered.ensures.items)
       ]);
       capacity = elim c.if-known-covered.branch [
@@ -135,23 +104,11 @@ loop-child-preserved g c =
       ];
     }
 
-pub loop-parent-preserved : goal.loop-parent-preserved
-loop-parent-preserved g c =
-    let n = c.args.step in
-    let i = c.loop-parent.parent-index in
-    let first = n * get_or c.args.parents.now i 0 in
-    let next : n * (i + 1) ≡ n * i + (c.loop-child.child - first) =
-    omega (arith, c.loop-child-test.false, c.loop-child.auto.child-end) in
-    record {
-      walked = rw next c.loop-child.invariant.walked;
-      capacity = c.loop-child.invariant.capacity;
-    }
-
 pub returns : goal.returns
 returns g c =
     let n = c.args.step in
     let all : c.loop-parent.parent-index ≡ length c.args.parents.now = omega arith in
     let whole : n * c.loop-parent.parent-index ≡ n * length c.args.parents.now = ap (λ k. n * k) all in
-    walk_end n c.args.parents.now c.args.covered.now c.args.digests.now c.args.sent.now c.requires
+    walk_end n c.args.parents.now c.args.covered.now c.args.digests.now c.args.proof_digests.now c.requires
     (n * c.loop-parent.parent-index) c.loop-parent.known c.loop-parent.children.items
     (omega (arith, whole)) (omega (arith, whole)) c.loop-parent.invariant.walked

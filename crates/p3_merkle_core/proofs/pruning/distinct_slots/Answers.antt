@@ -1,7 +1,7 @@
 -- Each turn writes the slot of one more query.
 use Rattle.std.proofs.Common.{◌≡◌, ◌∙◌, arith, ap, get_or, inl, inr, length}
 use Rattle.std.specs.declared.vec.Vec.{Vec}
-use Rattle.p3_merkle_core.proofs.Pruned.SortedFacts.{slots_all, slotted_all, slotted_next}
+use Rattle.p3_merkle_core.proofs.Pruned.SortedFacts.{slots_all, slotted_next}
 use Rattle.p3_merkle_core.proofs.pruning.distinct_slots.Goals.{then-position-eq0, else-position-eq0+else-previous-index}
 use Rattle.p3_merkle_core.proofs.pruning.distinct_slots.Goals.{then-position-eq0-via-then-position-eq0}
 use Rattle.p3_merkle_core.proofs.pruning.distinct_slots.Goals.{then-position-eq0-via-else-position-eq0+then-previous-index}
@@ -43,11 +43,6 @@ loop-position-preserved c =
             capacity = rw w.distinct-is (omega (arith, so_far.capacity.0), so_far.capacity.1);
           }
     ]
-
-pub returns-clause-distinct : goal.returns-clause-distinct
-returns-clause-distinct c = slotted_all c.args.sorted.now c.args.indices.now c.requires c.loop-position.position
-    c.loop-position.previous c.loop-position.distinct.items c.loop-position.slots.items (omega arith)
-    c.loop-position.invariant.slotted
 
 pub returns-clause-slots : goal.returns-clause-slots
 returns-clause-slots c = slots_all c.args.sorted.now c.args.indices.now c.requires c.loop-position.position

@@ -13,7 +13,7 @@ use Rattle.p3_merkle_core.proofs.Shapes.MarkFacts.{more_bits, no_bits, one_more}
 use Rattle.p3_merkle_core.proofs.Shapes.QuotientFacts.{ceil_below, ceil_covers, ceil_le_self}
 use Rattle.p3_merkle_core.proofs.Shapes.WholeSteps.{none, whole_steps, IsWalked}
 use Rattle.p3_merkle_core.specs.Geometry.{exponent, shape_of}
-use Rattle.p3_merkle_core.proofs.Shapes.KeptSteps.{kept_more, level_is}
+use Rattle.p3_merkle_core.proofs.Shapes.OwnedSteps.{kept_more, level_is}
 use Rattle.p3_merkle_core.proofs.Shapes.StepFacts.{at_start, at_more, at_end, layer_start, next_falls, whole_step_falls}
 use Rattle.p3_merkle_core.proofs.Shapes.LeastFacts.{exponent_le}
 use Rattle.p3_merkle_core.proofs.steps.steps_of.Goals.{then-bit, else-bit}
@@ -167,16 +167,6 @@ overflow_add-num_levels c =
     omega (
       arith,
       c.loop-exponents.invariant.0.room,
-      ap exponent c.extremes_of-max_height.ensures.greatest,
-      exponent_le c.extremes_of-max_height.result.0 64 (omega arith),
-    )
-
-pub overflow_add-num_levels-2 : goal.overflow_add-num_levels-2
-overflow_add-num_levels-2 c =
-    let w = walked c in
-    omega (
-      arith,
-      w.at_root.room,
       ap exponent c.extremes_of-max_height.ensures.greatest,
       exponent_le c.extremes_of-max_height.result.0 64 (omega arith),
     )

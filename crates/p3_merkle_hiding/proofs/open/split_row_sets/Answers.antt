@@ -1,7 +1,7 @@
 -- Each turn adds the parts of one more set; the pairs are the matrices of the tree.
 use Rattle.std.proofs.Common.{◌∙◌, ap, append-nil, arith, map}
 use Rattle.std.proofs.lemmas.List.{nil_from_length}
-use Rattle.std.proofs.lemmas.Result.{err_from_is_err_and}
+use Rattle.std.proofs.lemmas.Result.{IfOk-from_err}
 use Rattle.std.specs.Vec.Iter.{into_iter_items}
 use Rattle.p3_support.specs.Shown.{row_lists, row_sets}
 use Rattle.p3_merkle_hiding.proofs.DrawFacts.{same_more}
@@ -9,59 +9,46 @@ use Rattle.p3_merkle_hiding.specs.Inner.SaltedParts.{left_widths, salt_parts, un
 use Rattle.p3_merkle_hiding.proofs.open.split_row_sets.Goals as goal
 
 pub returns-in_err-pairs-clause-rows : goal.returns-in_err-pairs-clause-rows
-returns-in_err-pairs-clause-rows g c =
-    let p = err_from_is_err_and c.from_residual.result c.from_residual.ensures.1 in
-    rw p.1 tt
+returns-in_err-pairs-clause-rows g c = IfOk-from_err c.from_residual.result _ c.from_residual.ensures.0
 
 pub returns-in_err-pairs-clause-salts : goal.returns-in_err-pairs-clause-salts
-returns-in_err-pairs-clause-salts g c =
-    let p = err_from_is_err_and c.from_residual.result c.from_residual.ensures.1 in
-    rw p.1 tt
+returns-in_err-pairs-clause-salts g c = IfOk-from_err c.from_residual.result _ c.from_residual.ensures.0
 
 pub returns-in_err-unsalted-clause-rows : goal.returns-in_err-unsalted-clause-rows
 returns-in_err-unsalted-clause-rows g c =
-    let p = err_from_is_err_and c.from_residual-in_err-unsalted.result c.from_residual-in_err-unsalted.ensures.1 in
-    rw p.1 tt
+    IfOk-from_err c.from_residual-in_err-unsalted.result _ c.from_residual-in_err-unsalted.ensures.0
 
 pub returns-in_err-unsalted-clause-salts : goal.returns-in_err-unsalted-clause-salts
 returns-in_err-unsalted-clause-salts g c =
-    let p = err_from_is_err_and c.from_residual-in_err-unsalted.result c.from_residual-in_err-unsalted.ensures.1 in
-    rw p.1 tt
+    IfOk-from_err c.from_residual-in_err-unsalted.result _ c.from_residual-in_err-unsalted.ensures.0
 
 pub returns-in_err-salts-clause-rows : goal.returns-in_err-salts-clause-rows
 returns-in_err-salts-clause-rows g c =
-    let p = err_from_is_err_and c.from_residual-in_err-salts.result c.from_residual-in_err-salts.ensures.1 in
-    rw p.1 tt
+    IfOk-from_err c.from_residual-in_err-salts.result _ c.from_residual-in_err-salts.ensures.0
 
 pub returns-in_err-salts-clause-salts : goal.returns-in_err-salts-clause-salts
 returns-in_err-salts-clause-salts g c =
-    let p = err_from_is_err_and c.from_residual-in_err-salts.result c.from_residual-in_err-salts.ensures.1 in
-    rw p.1 tt
+    IfOk-from_err c.from_residual-in_err-salts.result _ c.from_residual-in_err-salts.ensures.0
 
 pub returns-in_err-front-clause-rows : goal.returns-in_err-front-clause-rows
 returns-in_err-front-clause-rows g c =
-    let p = err_from_is_err_and c.from_residual-in_err-front.result c.from_residual-in_err-front.ensures.1 in
-    rw p.1 tt
+    IfOk-from_err c.from_residual-in_err-front.result _ c.from_residual-in_err-front.ensures.0
 
 pub returns-in_err-front-clause-salts : goal.returns-in_err-front-clause-salts
 returns-in_err-front-clause-salts g c =
-    let p = err_from_is_err_and c.from_residual-in_err-front.result c.from_residual-in_err-front.ensures.1 in
-    rw p.1 tt
+    IfOk-from_err c.from_residual-in_err-front.result _ c.from_residual-in_err-front.ensures.0
 
 pub returns-in_err-push-clause-rows : goal.returns-in_err-push-clause-rows
 returns-in_err-push-clause-rows g c =
-    let p = err_from_is_err_and c.from_residual-in_err-push.result c.from_residual-in_err-push.ensures.1 in
-    rw p.1 tt
+    IfOk-from_err c.from_residual-in_err-push.result _ c.from_residual-in_err-push.ensures.0
 
 pub returns-in_err-push-clause-salts : goal.returns-in_err-push-clause-salts
 returns-in_err-push-clause-salts g c =
-    let p = err_from_is_err_and c.from_residual-in_err-push.result c.from_residual-in_err-push.ensures.1 in
-    rw p.1 tt
+    IfOk-from_err c.from_residual-in_err-push.result _ c.from_residual-in_err-push.ensures.0
 
 pub returns-in_err-push-2-clause-rows : goal.returns-in_err-push-2-clause-rows
 returns-in_err-push-2-clause-rows g c =
-    let p = err_from_is_err_and c.from_residual-in_err-push-2.result c.from_residual-in_err-push-2.ensures.1 in
-    rw p.1 tt
+    IfOk-from_err c.from_residual-in_err-push-2.result _ c.from_residual-in_err-push-2.ensures.0
 
 pub loop-rows-preserved : goal.loop-rows-preserved
 loop-rows-preserved g c =

@@ -1,7 +1,7 @@
 -- Each turn cuts one more row; where either list is at its end, all rows are taken apart.
 use Rattle.std.proofs.Common.{◌≡◌, ◌⊎◌, ◌∙◌, ℕ, [], ap, arith, drop, inl, inr, length, map, min, sym, take}
 use Rattle.std.proofs.lemmas.List.{drop_min, nil_from_length, take_min}
-use Rattle.std.proofs.lemmas.Result.{err_from_is_err_and}
+use Rattle.std.proofs.lemmas.Result.{IfOk-from_err}
 use Rattle.std.specs.Iterator.Adapters.{zip_first, zip_second}
 use Rattle.std.specs.Slice.Iter.{iter_rest}
 use Rattle.std.specs.Vec.Iter.{into_iter_items}
@@ -12,34 +12,26 @@ use Rattle.p3_merkle_hiding.proofs.SaltFacts.{joined_end, joined_more, second_en
 use Rattle.p3_merkle_hiding.proofs.open.split_rows.Goals as goal
 
 pub returns-in_err-unsalted-clause-rows : goal.returns-in_err-unsalted-clause-rows
-returns-in_err-unsalted-clause-rows g c =
-    let p = err_from_is_err_and c.from_residual.result c.from_residual.ensures.1 in
-    rw p.1 tt
+returns-in_err-unsalted-clause-rows g c = IfOk-from_err c.from_residual.result _ c.from_residual.ensures.0
 
 pub returns-in_err-unsalted-clause-salts : goal.returns-in_err-unsalted-clause-salts
-returns-in_err-unsalted-clause-salts g c =
-    let p = err_from_is_err_and c.from_residual.result c.from_residual.ensures.1 in
-    rw p.1 tt
+returns-in_err-unsalted-clause-salts g c = IfOk-from_err c.from_residual.result _ c.from_residual.ensures.0
 
 pub returns-in_err-salts-clause-rows : goal.returns-in_err-salts-clause-rows
 returns-in_err-salts-clause-rows g c =
-    let p = err_from_is_err_and c.from_residual-in_err-salts.result c.from_residual-in_err-salts.ensures.1 in
-    rw p.1 tt
+    IfOk-from_err c.from_residual-in_err-salts.result _ c.from_residual-in_err-salts.ensures.0
 
 pub returns-in_err-salts-clause-salts : goal.returns-in_err-salts-clause-salts
 returns-in_err-salts-clause-salts g c =
-    let p = err_from_is_err_and c.from_residual-in_err-salts.result c.from_residual-in_err-salts.ensures.1 in
-    rw p.1 tt
+    IfOk-from_err c.from_residual-in_err-salts.result _ c.from_residual-in_err-salts.ensures.0
 
 pub returns-in_err-push-clause-rows : goal.returns-in_err-push-clause-rows
 returns-in_err-push-clause-rows g c =
-    let p = err_from_is_err_and c.from_residual-in_err-push.result c.from_residual-in_err-push.ensures.1 in
-    rw p.1 tt
+    IfOk-from_err c.from_residual-in_err-push.result _ c.from_residual-in_err-push.ensures.0
 
 pub returns-in_err-push-clause-salts : goal.returns-in_err-push-clause-salts
 returns-in_err-push-clause-salts g c =
-    let p = err_from_is_err_and c.from_residual-in_err-push.result c.from_residual-in_err-push.ensures.1 in
-    rw p.1 tt
+    IfOk-from_err c.from_residual-in_err-push.result _ c.from_residual-in_err-push.ensures.0
 
 pub loop-row-preserved : goal.loop-row-preserved
 loop-row-preserved g c =

@@ -76,8 +76,8 @@ loop-level-preserved g c =
     let count = layers_count (λ nodes. length nodes.items) tree.layers.items s tree.layer_lengths in (
       λ d. group_next d (λ nodes. nodes.items) tree.layers.items s c.args.index c.loop-level.level c.step-step.result
           c.loop-level.node c.index.result.now c.index.result.now.items c.loop-level.siblings.items
-          c.extend_with_others.new.digests.items w (omega arith) c.index.ensures refl (c.loop-level.invariant.0 d)
-          (rw (c.position_of-position.ensures, c.deref.ensures.value) at c.in_ok-extend_with_others.ensures),
+          c.extend_except.new.digests.items w (omega arith) c.index.ensures refl (c.loop-level.invariant.0 d)
+          (rw (c.position_of-position.ensures, c.deref.ensures.value) at c.in_ok-extend_except.ensures),
       c.parent_of-node.ensures ∙ node_next s c.args.index c.loop-level.level c.step-step.result c.loop-level.node
           (length c.index.result.now.items) w,
     )
@@ -94,8 +94,8 @@ returns-in_err-siblings g c =
     let gone = err_from_is_err_and c.from_residual.result c.from_residual.ensures.1 in
     rw (gone.1, gone.2) (record { siblings = λ d. tt; memory = inl refl })
 
-pub returns-in_err-extend_with_others : goal.returns-in_err-extend_with_others
-returns-in_err-extend_with_others g c =
-    let gone = err_from_is_err_and c.from_residual-in_err-extend_with_others.result
-    c.from_residual-in_err-extend_with_others.ensures.1 in
+pub returns-in_err-extend_except : goal.returns-in_err-extend_except
+returns-in_err-extend_except g c =
+    let gone = err_from_is_err_and c.from_residual-in_err-extend_except.result
+    c.from_residual-in_err-extend_except.ensures.1 in
     rw (gone.1, gone.2) (record { siblings = λ d. tt; memory = inl refl })

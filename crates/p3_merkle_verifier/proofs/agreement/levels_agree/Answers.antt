@@ -2,16 +2,12 @@
 use Rattle.std.proofs.Common.{◌≡◌, ◌∙◌, Option, None, Some, ap, false, inl, inr, not, refl, sym}
 use Rattle.std.specs.Option.{is_some}
 use Rattle.std.proofs.lemmas.Bool.{true≢false}
-use Rattle.p3_merkle_verifier.proofs.AgreeFacts.{levels_apart, levels_same}
+use Rattle.p3_merkle_verifier.proofs.AgreeFacts.{levels_same}
 use Rattle.p3_merkle_verifier.proofs.agreement.levels_agree.Goals as goal
 
 is_absent : {A : Type 0} (o : Option A) → is_some o ≡ false → o ≡ None
 is_absent None e = refl
 is_absent (Some x) e = absurd (true≢false e)
-
-pub returns-then-first-second : goal.returns-then-first-second
-returns-then-first-second g c =
-    λ dec dec_w t. levels_apart c.args.rows.now c.args.first.now c.args.second.now c.if-first-second.true
 
 pub returns-then-is_none : goal.returns-then-is_none
 returns-then-is_none g c =

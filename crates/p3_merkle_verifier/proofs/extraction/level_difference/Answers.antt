@@ -9,7 +9,7 @@ use Rattle.p3_merkle_core.specs.Checks.{Input, digests_at}
 use Rattle.p3_merkle_core.specs.declared.collision.InputPair.{InputPair}
 use Rattle.p3_merkle_core.specs.declared.collision.Place.TheVariants.{Group}
 use Rattle.p3_merkle_verifier.specs.Inner.Collisions.{first_words, inputs_above, second_words, IsDifference, Shows}
-use Rattle.p3_merkle_verifier.proofs.WalkFacts.{found_apart, found_here}
+use Rattle.p3_merkle_verifier.proofs.WalkFacts.{found_here}
 use Rattle.p3_merkle_verifier.proofs.extraction.level_difference.Goals as goal
 
 last_is_above : {T W : Type 0} (eq : Input T W → Input T W → Bool) (x y : Input T W) (xs ys : List (Input T W))
@@ -22,11 +22,6 @@ last_is_group : {T W : Type 0} (eq : Input T W → Input T W → Bool) (same : B
     eq x y ≡ same → Shows None (last_difference eq xs ys) → IsDifference found same (x, y) →
     Shows found (last_difference eq (x ∷ xs) (y ∷ ys))
 last_is_group eq same x y xs ys found test none here = rw (← none, test) here
-
-pub returns-then-first-second : goal.returns-then-first-second
-returns-then-first-second g c =
-    λ f s l o u m n a b. found_apart (input_eq g.T.PartialEq.eq g.W.PartialEq.eq) f s l o u c.args.first.now
-    c.args.second.now m n c.if-first-second.true
 
 pub returns-in-Some : goal.returns-in-Some
 returns-in-Some g c =

@@ -1,5 +1,5 @@
 -- The first check that fails refuses the form, and lawful heights are within the limit.
-use Rattle.std.proofs.Common.{◌≡◌, ◌∙◌, ℕ, List, None, length, refl, rules, sym}
+use Rattle.std.proofs.Common.{◌≡◌, ℕ, List, None, length, refl, sym}
 use Rattle.std.specs.declared.vec.Vec.{Vec}
 use Rattle.std.proofs.lemmas.Bool.{eq-eqb}
 use Rattle.std.proofs.lemmas.List.{length-map}
@@ -31,16 +31,3 @@ siblings_below-expected_proof_len-requires-clause-low g c =
     tallest_fits (heights_of c.args.steps.now.dimensions.now)
     (none_large_from_lawful (heights_of c.args.steps.now.dimensions.now)
     (c.in_ok-check_heights.ensures.lawful.0 refl))
-
-pub returns-then-index-max_height-clause-answer : goal.returns-then-index-max_height-clause-answer
-returns-then-index-max_height-clause-answer g c = search rules
-
-pub returns-clause-answer : goal.returns-clause-answer
-returns-clause-answer g c = search rules
-
-pub returns-clause-reach : goal.returns-clause-reach
-returns-clause-reach g c = record {
-  arity = c.requires.arity;
-  in_tree = c.requires.in_tree;
-  all_siblings = c.if-num_siblings-expected_proof_len.false ∙ c.siblings_below-expected_proof_len.ensures;
-}

@@ -13,8 +13,7 @@ use Rattle.p3_merkle_verifier.specs.Inner.RestoredLevels.{node_of_query, tree_of
 use Rattle.p3_merkle_verifier.proofs.ChildFacts.{leaf_queries, leaves_known, queries_known}
 use Rattle.p3_merkle_verifier.proofs.ParentFacts.{queries_next}
 use Rattle.p3_merkle_verifier.proofs.pruned_check.queries_at.Goals as goal
-use Rattle.p3_merkle_verifier.proofs.pruned_check.queries_at.Goals.{then-slot-eq0}
-use Rattle.p3_merkle_verifier.proofs.pruned_check.queries_at.Goals.{then-slot-eq0-via-then-slot-eq0}
+use Rattle.p3_merkle_verifier.proofs.pruned_check.queries_at.Goals.{then-slot-eq0, then-slot-eq0-via-then-slot-eq0}
 use Rattle.p3_merkle_verifier.proofs.pruned_check.queries_at.Goals.{then-slot-eq0-via-else-slot-eq0+then-previous-node}
 use Rattle.p3_merkle_verifier.proofs.pruned_check.queries_at.Goals.{else-slot-eq0+else-previous-node}
 
@@ -87,9 +86,6 @@ loop-slot-preserved g c =
         | else-slot-eq0+else-previous-node w ↦ rw w.queries-is (omega (arith, so_far.capacity.0), so_far.capacity.1)
       ];
     }
-
-pub returns-clause-among : goal.returns-clause-among
-returns-clause-among g c = c.loop-slot.invariant.among
 
 pub returns-clause-queries : goal.returns-clause-queries
 returns-clause-queries g c l h at =

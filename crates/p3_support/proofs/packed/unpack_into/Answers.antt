@@ -32,10 +32,10 @@ loop-e-preserved g c =
     let pick = λ (k : ℕ) (q : g.row.PW.Denot). slice_index_or (lanes q) k zero in
     let value = slice_index_or packed e c.index-packed-e.result in
     let below : e < length packed = omega arith in (
-      c.put_lanes.ensures.long ∙ long,
-      λ k h. ap length (c.put_lanes.ensures.written k h) ∙ length-set (row k) e (pick k value) ∙ wide k h,
+      c.unpack_value.ensures.long ∙ long,
+      λ k h. ap length (c.unpack_value.ensures.written k h) ∙ length-set (row k) e (pick k value) ∙ wide k h,
       λ k h j low. let inside : e < length (row k) = omega (arith, wide k h) in
-          ap (λ xs. slice_index_or xs j zero) (c.put_lanes.ensures.written k h)
+          ap (λ xs. slice_index_or xs j zero) (c.unpack_value.ensures.written k h)
           ∙ filled_more (λ i. slice_index_or (lane_of lanes zero k packed) i zero) (row k) e (pick k value) zero inside
           (sym (get_or-map (pick k) packed e c.index-packed-e.result zero below)) (so_far k h) j low,
     )

@@ -8,7 +8,7 @@ use Rattle.p3_support.proofs.Runs.{run_of_loop}
 use Rattle.p3_hashes.proofs.fold.FoldHashCryptographicHasher.hash_iter_slices.Goals as goal
 
 pub loop-words-init : goal.loop-words-init
-loop-words-init g c = alone 0 c.start-state.result (fold_hash g.row.D []) c.start-state.ensures
+loop-words-init g c = alone 0 c.initial_state-state.result (fold_hash g.row.D []) c.initial_state-state.ensures
 
 pub loop-words-preserved : goal.loop-words-preserved
 loop-words-preserved g c =

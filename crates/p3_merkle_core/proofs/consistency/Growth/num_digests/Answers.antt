@@ -1,11 +1,9 @@
 -- Each turn counts the digests of one layer.
-use Rattle.std.proofs.Common.{◌≡◌, ◌≤◌, add-one, ap, arith, length, sym, ◌∙◌}
-use Rattle.p3_merkle_core.specs.Consistency.{new_layer, sent_at}
+use Rattle.std.proofs.Common.{◌≡◌, ◌≤◌, add-one, ap, arith, sym, ◌∙◌}
 use Rattle.p3_merkle_core.specs.Inner.Growths.{parts_above, parts_at}
 use Rattle.p3_merkle_core.proofs.Growths.PartFacts.{few_at, in_order, parts_next}
 use Rattle.p3_merkle_core.proofs.Growths.SentFacts.{fits_count, num_new, num_new_is, num_old}
 use Rattle.p3_merkle_core.proofs.Growths.SentFacts.{num_old_below, num_old_from, sent_more}
-use Rattle.p3_merkle_core.proofs.Lists.ListFacts.{joined}
 use Rattle.p3_merkle_core.proofs.consistency.Growth.num_digests.Goals as goal
 use Rattle.p3_merkle_core.proofs.consistency.Growth.num_digests.Goals.{then-layer-old_cap_layer, else-layer-old_cap_layer}
 
@@ -72,9 +70,3 @@ loop-layer-preserved c =
             omega (arith, more, new, old, w.count-is, c.loop-layer.invariant.count)
       ]);
     }
-
-pub returns : goal.returns
-returns c =
-    let g = c.args.self.now in
-    let end : c.loop-layer.layer ≡ new_layer g = omega arith in
-    c.loop-layer.invariant.count ∙ ap (λ l. length (joined (sent_at g) l)) end

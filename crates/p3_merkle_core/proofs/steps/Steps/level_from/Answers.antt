@@ -4,14 +4,11 @@ use Rattle.std.proofs.lemmas.Nat.{one_shl}
 use Rattle.p3_merkle_core.specs.Geometry.{shape_of, height_at}
 use Rattle.p3_merkle_core.proofs.Shapes.LevelFacts.{small_at, level_is, low, next_small, grouped_is}
 use Rattle.p3_merkle_core.proofs.Covered.CoveredFacts.{padded_le}
-use Rattle.p3_merkle_core.proofs.Shapes.KeptSteps.{bridge_at}
+use Rattle.p3_merkle_core.proofs.Shapes.OwnedSteps.{bridge_at}
 use Rattle.p3_merkle_core.proofs.steps.Steps.level_from.Goals.{then-self-below+then-len-arity, else-self-below}
 use Rattle.p3_merkle_core.proofs.steps.Steps.level_from.Goals.{else-self-below-via-then-self-below+else-len-arity}
 use Rattle.p3_merkle_core.proofs.steps.Steps.level_from.Goals.{else-self-below-via-else-self-below}
 use Rattle.p3_merkle_core.proofs.steps.Steps.level_from.Goals as goal
-
-pub up-up-requires-clause-exponent : goal.up-up-requires-clause-exponent
-up-up-requires-clause-exponent c = c.requires.at_x
 
 pub overflow_shl-grouped_len : goal.overflow_shl-grouped_len
 overflow_shl-grouped_len c =
@@ -50,8 +47,8 @@ padded_len-requires-clause-fits c =
     ]) in
     let least = c.requires.arity.fits in
     let two = c.requires.arity.above_1 in
-    let k = next_small c.up-up.result.step g c.requires c.up-up.ensures.step grouped in
-    omega (arith, padded_le (g / c.up-up.result.step) self.arity (omega arith), k)
+    let k = next_small c.step_up-up.result.step g c.requires c.step_up-up.ensures.step grouped in
+    omega (arith, padded_le (g / c.step_up-up.result.step) self.arity (omega arith), k)
 
 pub height_of_exponent-requires : goal.height_of_exponent-requires
 height_of_exponent-requires c =
@@ -81,6 +78,6 @@ returns-clause-level c =
             | else-self-below-via-else-self-below w ↦ rw w.if-self-below.false refl
           ])
     ]) in
-    level_is c.up-up.result.step c.up-up.result.exponent g c.padded_len.result c.height_of_exponent.result
-    c.up-up.result.has_rows c.requires c.up-up.ensures.step c.up-up.ensures.exponent grouped c.padded_len.ensures
-    (c.height_of_exponent.ensures ∙ ap (λ m. height_at m c.up-up.result.exponent) self.walked.tallest) c.up-up.ensures.rows
+    level_is c.step_up-up.result.step c.step_up-up.result.exponent g c.padded_len.result c.height_of_exponent.result
+    c.step_up-up.result.has_rows c.requires c.step_up-up.ensures.step c.step_up-up.ensures.exponent grouped c.padded_len.ensures
+    (c.height_of_exponent.ensures ∙ ap (λ m. height_at m c.step_up-up.result.exponent) self.walked.tallest) c.step_up-up.ensures.rows

@@ -1,6 +1,11 @@
-use Rattle.std.proofs.Common.{ℕ, ◌≤◌, ◌+◌, ◌-◌, length}
+use Rattle.std.proofs.Common.{◌≡◌, ℕ, ◌≤◌, ◌+◌, ◌-◌, length, take}
+use Rattle.std.specs.Prelude.{sum_by}
 use Rattle.p3_merkle_digests.specs.Inner.Slots.{rows_over, IsFilled}
 use Rattle.p3_merkle_digests.proofs.batched.LayerRows+P+PW+H+M+array+D+PW+Value.write_batched.Given as goal
+
+-- the widths of the matrices so far
+abbrev pub invariant-loop-matrix : goal.invariant-loop-matrix
+invariant-loop-matrix g l = l.len ≡ sum_by g.M.Matrix.width_of (take l.matrix-index l.self.matrices.now)
 
 -- the slots so far are written
 abbrev pub invariant-loop-done : goal.invariant-loop-done

@@ -1,26 +1,18 @@
 -- The plain commitment to the pairs is that to the salted matrices.
 use Rattle.std.proofs.Common.{◌≡◌, ◌∙◌, List, None, ap, map, refl, rules, subst, sym}
-use Rattle.std.specs.Prelude.{IfOk}
 use Rattle.std.proofs.lemmas.Result.{IfOk-weaker}
 use Rattle.p3_support.specs.Pairs.{left_of}
-use Rattle.p3_merkle_core.specs.Commitments.{IsCommitment}
 use Rattle.p3_support.specs.Batches.{dimensions_in}
 use Rattle.p3_merkle_core.specs.Views.{matrix_of}
-use Rattle.p3_merkle_hiding.specs.Salted.{salted_matrices}
-use Rattle.p3_support.specs.Shown.{roots_of}
-use Rattle.p3_merkle_prover.specs.Parts.{layers_of}
 use Rattle.p3_merkle_core.specs.Refusals.{AnswersUnlessMemory}
-use Rattle.p3_merkle_core.specs.Geometry.{shape_of}
 use Rattle.p3_support.specs.declared.matrix.Dimensions.{Dimensions}
-use Rattle.p3_merkle_core.specs.Nodes.{Batch, Matrix, dimensions_of, shape}
-use Rattle.p3_merkle_mmcs.specs.Schemes.{params_over}
-use Rattle.p3_merkle_hiding.specs.HidingSchemes.{generator_of, plain_of}
+use Rattle.p3_merkle_core.specs.Nodes.{Batch, Matrix, dimensions_of}
 use Rattle.p3_merkle_hiding.specs.SaltRefusals.{salted_commit_refusal}
 use Rattle.p3_merkle_hiding.specs.SaltedTrees.{HaveSaltColumns}
 use Rattle.p3_merkle_hiding.specs.Inner.SaltedParts.{pair_matrix}
 use Rattle.p3_merkle_core.proofs.Lists.ViewFacts.{dimensions_are}
-use Rattle.p3_merkle_hiding.proofs.CommitFacts.{memory_alone, memory_or, nothing_drawn, nothing_made, on_ok}
-use Rattle.p3_merkle_hiding.proofs.CommitFacts.{salted_widened, unrefused}
+use Rattle.p3_merkle_hiding.proofs.CommitFacts.{both_made, memory_alone, memory_or, nothing_drawn, nothing_made}
+use Rattle.p3_merkle_hiding.proofs.CommitFacts.{on_ok, unrefused}
 use Rattle.p3_merkle_hiding.proofs.commit.MerkleTreeHidingMmcs+P+PW+H+C+R+N+D+SALT_ELEMS.commit.Goals as goal
 
 pub returns-in_err-dimensions-clause-answer : goal.returns-in_err-dimensions-clause-answer
@@ -39,51 +31,39 @@ returns-in_err-pairs g c =
     record {
       answer = search rules;
       matrices = nothing_made _ r err;
-      columns = nothing_made _ r err;
       batch = nothing_made _ r err;
       committed = nothing_made _ r err;
-      rest = nothing_drawn _ r err;
-      further = c.salted_pairs.ensures.further;
+      drawn = record { rest = nothing_drawn _ r err; further = c.salted_pairs.ensures.further; scheme = refl };
       untouched = search rules;
-      scheme = refl;
     }
 
 pub returns : goal.returns
 returns g c =
     let shown = map (matrix_of g.M.Matrix.height_of g.M.Matrix.width_of g.M.Matrix.row_of) in
     let e = g.row.SALT_ELEMS in
-    let of_word = g.P.Value.SaltWord.of_salt_word in
-    let plain = plain_of c.args.self.now in
-    let params = params_over g.H.CryptographicHasher.hash g.C.PseudoCompressionFunction.compression g.row.D plain in
     let ms = c.args.matrices.items in
-    let drawn = g.R.Rng.stream (generator_of c.args.self.now) in
     let r = c.commit_checked.result in
     let are = ap (dimensions_in g.M.Matrix.height_of g.M.Matrix.width_of) c.deref.ensures.value
     ∙ sym (dimensions_are g.M.Matrix.height_of g.M.Matrix.width_of g.M.Matrix.row_of ms) in
     let none = subst (λ (ds : List Dimensions). salted_commit_refusal e ds ≡ None) are
     c.in_ok-dimensions.ensures.answer in
-    let salted = c.in_ok-pairs.ensures.salted in
     let over : List (Matrix _) → Batch _ = λ z. record { arity = g.row.N; matrices = z } in
     let memory = memory_alone r None c.commit_checked.ensures.memory refl in
     record {
       answer = unrefused r (salted_commit_refusal e (dimensions_of (shown ms))) memory none;
       matrices = IfOk-weaker r _ _ (λ made is. ap (map left_of) is ∙ c.in_ok-pairs.ensures.matrices)
           c.commit_checked.ensures.matrices;
-      columns = IfOk-weaker r _ _
-          (λ made is. subst (λ (z : List _). HaveSaltColumns e z) (sym is) c.in_ok-pairs.ensures.columns)
+      batch = IfOk-weaker r _ _
+          (λ made is. ap (λ z. over (map pair_matrix z)) is ∙ ap over c.in_ok-pairs.ensures.salted)
           c.commit_checked.ensures.matrices;
-      batch = IfOk-weaker r _ _ (λ made is. ap (λ z. over (map pair_matrix z)) is ∙ ap over salted)
-          c.commit_checked.ensures.matrices;
-      committed =
-          subst (λ (ds : List Dimensions).
-          IfOk r (λ made. IsCommitment (params (shape_of g.row.N ds)) (roots_of made.0)
-          (over (salted_matrices of_word e (shown ms) drawn)) (layers_of made.1)))
-          (salted_widened of_word e (shown ms) drawn)
-          (subst (λ (b : Batch _).
-          IfOk r (λ made. IsCommitment (params (shape b)) (roots_of made.0) b (layers_of made.1))) (ap over salted)
-          c.commit_checked.ensures.committed);
-      rest = on_ok _ r c.in_ok-pairs.ensures.rest;
-      further = c.in_ok-pairs.ensures.further;
+      committed = both_made _ _ _ r (λ made is own. record {
+        committed = own;
+        columns = subst (λ (z : List _). HaveSaltColumns e z) (sym is) c.in_ok-pairs.ensures.columns;
+      }) c.commit_checked.ensures.matrices c.commit_checked.ensures.committed;
+      drawn = record {
+        rest = on_ok _ r c.in_ok-pairs.ensures.rest;
+        further = c.in_ok-pairs.ensures.further;
+        scheme = refl;
+      };
       untouched = memory_or _ r memory;
-      scheme = refl;
     }

@@ -1,60 +1,42 @@
--- Each row is taken apart where its left matrix ends; of an own tree the opening is accepted.
+-- Each row is taken apart where its left matrix ends; what is accepted with its salts joined is accepted.
 use Rattle.std.proofs.Common.{◌∙◌, List, ap, map, subst, sym}
-use Rattle.p3_merkle_core.specs.Nodes.{dimensions_of}
-use Rattle.p3_merkle_core.specs.Commitments.{cap_over}
-use Rattle.p3_merkle_core.specs.Openings.{Opening, opening_of}
 use Rattle.p3_merkle_core.specs.Checks.{IsAccepted}
+use Rattle.p3_merkle_core.specs.Geometry.{shape_of}
+use Rattle.p3_merkle_core.specs.Nodes.{shape}
+use Rattle.p3_merkle_core.specs.Openings.{Opening, opening_of}
 use Rattle.p3_merkle_prover.specs.Parts.{matrices_of, tree_batch}
 use Rattle.p3_merkle_mmcs.specs.Schemes.{params_of}
 use Rattle.p3_support.specs.Shown.{row_lists}
+use Rattle.p3_support.specs.declared.matrix.Dimensions.{Dimensions}
 use Rattle.p3_merkle_hiding.proofs.SplitFacts.{left_is, right_is, salted_from}
-use Rattle.p3_merkle_hiding.specs.HidingSchemes.{plain_of}
-use Rattle.p3_merkle_hiding.specs.SaltedOpenings.{IsSaltedAccepted, SaltedOpening, salted_of}
-use Rattle.p3_merkle_hiding.specs.Inner.SaltedParts.{left_widths, salt_parts, unsalted_parts, pair_matrix}
-use Rattle.p3_merkle_hiding.specs.SaltedOpenings.{widened}
-use Rattle.p3_merkle_hiding.specs.SaltedTrees.{unsalted_dimensions}
+use Rattle.p3_merkle_hiding.specs.HidingSchemes.{plain_of, salted_made}
+use Rattle.p3_merkle_hiding.specs.Inner.SaltedParts.{left_widths, salt_parts, unsalted_parts}
 use Rattle.p3_merkle_hiding.proofs.open.MerkleTreeHidingMmcs+P+PW+H+C+R+N+D+SALT_ELEMS.open_batch.Goals as goal
 
-pub returns-clause-rows : goal.returns-clause-rows
-returns-clause-rows g c =
-    let tree = c.args.tree.now in
-    let pairs = ap (map (λ p. p.now)) c.deref.ensures.value ∙ c.in_ok-pairs.ensures.matrices in
-    let joined = ap (λ (z : Opening _ _). z.rows) c.in_ok-opening.ensures.opened in
-    ap (λ v. row_lists v.items) c.new.ensures.values ∙ c.in_ok-rows.ensures.rows
-    ∙ (λ i. unsalted_parts (left_widths (pairs i)) (joined i))
-    ∙ left_is g.row.N (matrices_of tree) g.met.M.Matrix.length_row_of tree.lawful c.args.index c.requires
-
-pub returns-clause-salts : goal.returns-clause-salts
-returns-clause-salts g c =
-    let tree = c.args.tree.now in
-    let pairs = ap (map (λ p. p.now)) c.deref.ensures.value ∙ c.in_ok-pairs.ensures.matrices in
-    let joined = ap (λ (z : Opening _ _). z.rows) c.in_ok-opening.ensures.opened in
-    ap (λ z. row_lists z.0.items) c.new.ensures.proof ∙ c.in_ok-rows.ensures.salts
-    ∙ (λ i. salt_parts (left_widths (pairs i)) (joined i))
-    ∙ right_is g.row.N (matrices_of tree) g.met.M.Matrix.length_row_of tree.lawful c.args.index c.requires
-
-pub returns-clause-siblings : goal.returns-clause-siblings
-returns-clause-siblings g c =
-    ap (λ z. z.1.items) c.new.ensures.proof ∙ ap (λ (z : Opening _ _). z.siblings) c.in_ok-opening.ensures.opened
-
-pub returns-clause-accepted : goal.returns-clause-accepted
-returns-clause-accepted g c = λ own salted.
-    let tree = c.args.tree.now in
+pub returns-clause-opened : goal.returns-clause-opened
+returns-clause-opened g c =
     let n = g.row.N in
-    let e = g.row.SALT_ELEMS in
-    let params = params_of g.H.CryptographicHasher.hash g.C.PseudoCompressionFunction.compression g.row.D
-    (plain_of c.args.self.now) in
-    let b = tree_batch tree in
-    let ds = unsalted_dimensions n (matrices_of tree) in
-    let wide = params (widened e ds) in
-    let siblings = c.in_ok-opening.opening.opening_proof.items in
-    let plain = params (dimensions_of (map pair_matrix (matrices_of tree))) in
-    let joined = ap (λ (z : Opening _ _). z.rows) c.in_ok-opening.ensures.opened in
-    let accepted =
-    subst (λ (rows : List (List _)). IsAccepted plain (cap_over plain b) (opening_of c.args.index rows siblings))
-    joined (c.in_ok-opening.ensures.accepted own) in
-    let made = salted_from n (matrices_of tree) g.met.M.Matrix.length_row_of tree.lawful params (λ k. cap_over k b) e
-    c.args.index siblings c.requires salted accepted in
-    let kept = ap (λ z. z.1.items) c.new.ensures.proof in
-    subst (λ (o : SaltedOpening _ _). IsSaltedAccepted e ds wide (cap_over wide b) o)
-    (λ i. salted_of c.args.index (sym (returns-clause-rows g c) i) (sym (returns-clause-salts g c) i) (sym kept i)) made
+    let i = c.args.index in
+    let plain = plain_of c.args.self.now in
+    let tree = c.args.tree.now in
+    let pairs = matrices_of tree in
+    let law = g.met.M.Matrix.length_row_of in
+    let pairs_are = ap (map (λ p. p.now)) c.deref.ensures.value ∙ c.in_ok-pairs.ensures.matrices in
+    let opened = c.in_ok-opening.ensures.opened in
+    let joined = ap (λ (z : Opening _ _). z.rows) opened.in_layers in
+    let rows = ap (λ v. row_lists v.items) c.new.ensures.values ∙ c.in_ok-rows.ensures.rows
+    ∙ (λ k. unsalted_parts (left_widths (pairs_are k)) (joined k)) ∙ left_is n pairs law tree.lawful i c.requires in
+    let salts = ap (λ z. row_lists z.0.items) c.new.ensures.proof ∙ c.in_ok-rows.ensures.salts
+    ∙ (λ k. salt_parts (left_widths (pairs_are k)) (joined k)) ∙ right_is n pairs law tree.lawful i c.requires in
+    let siblings = ap (λ z. z.1.items) c.new.ensures.proof in
+    record {
+      rows = rows;
+      salts = salts;
+      siblings = siblings ∙ ap (λ (z : Opening _ _). z.siblings) opened.in_layers;
+      is_honest = λ own. siblings ∙ ap (λ (z : Opening _ _). z.siblings) (opened.is_honest own);
+      is_accepted = λ cap own. salted_from n pairs law tree.lawful
+          (λ (ds : List Dimensions). params_of plain (shape_of n ds)) cap g.row.SALT_ELEMS (salted_made i c.new.result)
+          c.requires own.columns rows salts
+          (subst (IsAccepted (params_of plain (shape (tree_batch tree))) cap)
+          (λ k. opening_of i (joined k) (sym siblings k)) (opened.is_accepted cap own.committed));
+    }

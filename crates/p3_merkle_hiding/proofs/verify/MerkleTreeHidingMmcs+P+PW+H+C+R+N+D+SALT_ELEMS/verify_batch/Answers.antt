@@ -1,12 +1,14 @@
 -- Rows followed by their salts are answered by the plain check; the answer says what is accepted.
-use Rattle.std.proofs.Common.{◌∙◌, ap, rules, subst, sym}
+use Rattle.std.proofs.Common.{◌∙◌, List, ap, rules, subst, sym}
+use Rattle.p3_support.specs.declared.matrix.Dimensions.{Dimensions}
+use Rattle.p3_merkle_core.specs.Geometry.{shape_of}
 use Rattle.p3_merkle_core.specs.Openings.{opening_of}
 use Rattle.p3_merkle_core.specs.Refusals.{AnswersUnlessMemory, refusal_under}
-use Rattle.p3_merkle_core.specs.Views.{opening_lent}
+use Rattle.p3_merkle_core.specs.Views.{opening_borrowed}
 use Rattle.p3_merkle_mmcs.specs.Schemes.{params_of}
-use Rattle.p3_merkle_mmcs.proofs.PrunedFacts.{verdict_by}
+use Rattle.p3_merkle_mmcs.proofs.VerdictFacts.{verdict_by}
 use Rattle.p3_support.specs.Shown.{roots_of, row_lists}
-use Rattle.p3_merkle_hiding.specs.HidingSchemes.{plain_of, salted_lent, salted_params_of}
+use Rattle.p3_merkle_hiding.specs.HidingSchemes.{plain_of, salted_borrowed, salted_params_of}
 use Rattle.p3_merkle_hiding.specs.SaltRefusals.{salted_rows_refusal}
 use Rattle.p3_merkle_hiding.specs.SaltedOpenings.{joined, salted_rows}
 use Rattle.p3_merkle_hiding.specs.SaltedPresented.{presented_salted}
@@ -18,10 +20,9 @@ returns-in_err-salted g c =
     let same = g.PW.Value.PartialEq.eq in
     let ds = c.args.dimensions.now in
     let e = g.row.SALT_ELEMS in
-    let params = salted_params_of g.H.CryptographicHasher.hash g.C.PseudoCompressionFunction.compression g.row.D
-    c.args.self.now ds in
+    let params = salted_params_of c.args.self.now ds in
     let cap = roots_of c.args.commit.now in
-    let o = salted_lent c.args.index c.args.opening in
+    let o = salted_borrowed c.args.index c.args.opening in
     let r = c.from_residual.result in
     let rows = ap row_lists c.unpack.ensures.values in
     let salts = ap row_lists (c.deref.ensures.value ∙ ap (λ z. z.0.items) c.unpack.ensures.proof) in
@@ -33,16 +34,14 @@ returns-in_err-salted g c =
 
 pub returns : goal.returns
 returns g c =
-    let plain = params_of g.H.CryptographicHasher.hash g.C.PseudoCompressionFunction.compression g.row.D
-    (plain_of c.args.self.now) in
+    let plain = λ (ds : List Dimensions). params_of (plain_of c.args.self.now) (shape_of g.row.N ds) in
     let same = g.PW.Value.PartialEq.eq in
     let ds = c.args.dimensions.now in
     let e = g.row.SALT_ELEMS in
-    let params = salted_params_of g.H.CryptographicHasher.hash g.C.PseudoCompressionFunction.compression g.row.D
-    c.args.self.now ds in
+    let params = salted_params_of c.args.self.now ds in
     let cap = roots_of c.args.commit.now in
-    let o = salted_lent c.args.index c.args.opening in
-    let p = opening_lent c.args.index c.new-opening.result in
+    let o = salted_borrowed c.args.index c.args.opening in
+    let p = opening_borrowed c.args.index c.new-opening.result in
     let r = c.verify_batch.result in
     let rows = ap row_lists c.unpack.ensures.values in
     let salts = ap row_lists (c.deref.ensures.value ∙ ap (λ z. z.0.items) c.unpack.ensures.proof) in

@@ -1,12 +1,14 @@
 -- The answer says what is accepted.
-use Rattle.std.proofs.Common.{◌∙◌, ap, rules, subst, sym}
+use Rattle.std.proofs.Common.{◌∙◌, List, ap, rules, subst, sym}
+use Rattle.p3_support.specs.declared.matrix.Dimensions.{Dimensions}
+use Rattle.p3_merkle_core.specs.Geometry.{shape_of}
 use Rattle.p3_merkle_core.specs.Pruning.{pruned_of}
 use Rattle.p3_merkle_core.specs.Refusals.{AnswersUnlessMemory, pruned_refusal_under}
-use Rattle.p3_merkle_core.specs.Views.{pruned_lent}
+use Rattle.p3_merkle_core.specs.Views.{pruned_borrowed}
 use Rattle.p3_merkle_mmcs.specs.Schemes.{params_of}
-use Rattle.p3_merkle_mmcs.proofs.PrunedFacts.{verdict_by}
+use Rattle.p3_merkle_mmcs.proofs.VerdictFacts.{verdict_by}
 use Rattle.p3_support.specs.Shown.{roots_of, row_sets}
-use Rattle.p3_merkle_hiding.specs.HidingSchemes.{plain_of, salted_pruned_lent, salted_params_of}
+use Rattle.p3_merkle_hiding.specs.HidingSchemes.{plain_of, salted_pruned_borrowed, salted_params_of}
 use Rattle.p3_merkle_hiding.specs.SaltRefusals.{salted_sets_refusal}
 use Rattle.p3_merkle_hiding.specs.SaltedOpenings.{joined_sets, salted_sets}
 use Rattle.p3_merkle_hiding.specs.SaltedPresented.{presented_salted_pruned}
@@ -19,10 +21,9 @@ returns-in_err-salted g c =
     let same = g.PW.Value.PartialEq.eq in
     let ds = c.args.dimensions.now in
     let e = g.row.SALT_ELEMS in
-    let params = salted_params_of g.H.CryptographicHasher.hash g.C.PseudoCompressionFunction.compression g.row.D
-    c.args.self.now ds in
+    let params = salted_params_of c.args.self.now ds in
     let cap = roots_of c.args.commit.now in
-    let o = salted_pruned_lent c.args.indices.now c.args.rows.now c.args.proof.now in
+    let o = salted_pruned_borrowed c.args.indices.now c.args.rows.now c.args.proof.now in
     let r = c.from_residual.result in
     let salts = ap row_sets c.deref.ensures.value in
     let before = subst (AnswersUnlessMemory r) (λ i. salted_sets_refusal e ds (row_sets c.args.rows.now) (salts i))
@@ -35,17 +36,15 @@ returns-in_err-salted g c =
 
 pub returns : goal.returns
 returns g c =
-    let plain = params_of g.H.CryptographicHasher.hash g.C.PseudoCompressionFunction.compression g.row.D
-    (plain_of c.args.self.now) in
+    let plain = λ (ds : List Dimensions). params_of (plain_of c.args.self.now) (shape_of g.row.N ds) in
     let eq = g.P.Value.PartialEq.eq in
     let same = g.PW.Value.PartialEq.eq in
     let ds = c.args.dimensions.now in
     let e = g.row.SALT_ELEMS in
-    let params = salted_params_of g.H.CryptographicHasher.hash g.C.PseudoCompressionFunction.compression g.row.D
-    c.args.self.now ds in
+    let params = salted_params_of c.args.self.now ds in
     let cap = roots_of c.args.commit.now in
-    let o = salted_pruned_lent c.args.indices.now c.args.rows.now c.args.proof.now in
-    let p = pruned_lent c.args.indices.now c.deref-3.result.now c.args.proof.now.1 in
+    let o = salted_pruned_borrowed c.args.indices.now c.args.rows.now c.args.proof.now in
+    let p = pruned_borrowed c.args.indices.now c.deref-3.result.now c.args.proof.now.1 in
     let r = c.verify_multi_batch.result in
     let salts = ap row_sets c.deref.ensures.value in
     let none = sym (λ i. salted_sets_refusal e ds (row_sets c.args.rows.now) (salts i))
@@ -58,4 +57,4 @@ returns g c =
     verdict_by (presented_salted_pruned eq same e ds params cap o)
     (salted_pruned_accepted same e ds params cap g.met.PW.PackedValue.eq_is_equality eq
     g.met.P.PackedValue.eq_is_equality (plain_of c.args.self.now).arity o) r
-    (subst (AnswersUnlessMemory r) refusal c.verify_multi_batch.ensures.verdict.answer)
+    (subst (AnswersUnlessMemory r) refusal c.verify_multi_batch.ensures.answer)

@@ -1,7 +1,7 @@
 -- The matrices have one height, which is the greatest; the digests are the tree's, and of an own tree they are accepted.
 use Rattle.std.proofs.Common.{◌≡◌, ◌∙◌, [], Some, None, ap, arith, sym, inr}
 use Rattle.std.specs.Option.{option_or}
-use Rattle.std.proofs.lemmas.Result.{err_from_is_err_and}
+use Rattle.std.proofs.lemmas.Result.{IfOk-from_err, err_from_is_err_and}
 use Rattle.p3_support.specs.Batches.{greatest}
 use Rattle.p3_merkle_core.specs.Consistency.{digests_by}
 use Rattle.p3_merkle_core.specs.ConsistencyRefusals.{growth_refusal, one_height_refusal}
@@ -13,14 +13,12 @@ use Rattle.p3_support.specs.Batches.{heights_of}
 use Rattle.p3_merkle_core.proofs.Growths.VerdictFacts.{growth_taken}
 use Rattle.p3_merkle_core.proofs.Shapes.OneHeight.{greatest_is}
 use Rattle.p3_merkle_prover.specs.Parts.{layers_of, tree_batch}
-use Rattle.p3_merkle_mmcs.specs.Schemes.{growth_of, scheme_functions}
+use Rattle.p3_merkle_mmcs.specs.Schemes.{functions_of, growth_of}
 use Rattle.p3_merkle_mmcs.proofs.OwnGrowth.{one_height, own_consistent}
 use Rattle.p3_merkle_mmcs.proofs.consistency.MerkleTreeMmcs+P+PW+H+C+N+D.prove_consistency.Goals as goal
 
 pub returns-in_err-new_height-clause-digests : goal.returns-in_err-new_height-clause-digests
-returns-in_err-new_height-clause-digests g c =
-    let p = err_from_is_err_and c.from_residual.result c.from_residual.ensures.1 in
-    rw p.1 tt
+returns-in_err-new_height-clause-digests g c = IfOk-from_err c.from_residual.result _ c.from_residual.ensures.0
 
 pub returns-in_err-new_height-clause-accepted : goal.returns-in_err-new_height-clause-accepted
 returns-in_err-new_height-clause-accepted g c =
@@ -29,8 +27,7 @@ returns-in_err-new_height-clause-accepted g c =
 
 pub returns-in_err-check_heights-clause-digests : goal.returns-in_err-check_heights-clause-digests
 returns-in_err-check_heights-clause-digests g c =
-    let p = err_from_is_err_and c.from_residual-in_err-check_heights.result c.from_residual-in_err-check_heights.ensures.1 in
-    rw p.1 tt
+    IfOk-from_err c.from_residual-in_err-check_heights.result _ c.from_residual-in_err-check_heights.ensures.0
 
 pub returns-in_err-check_heights-clause-accepted : goal.returns-in_err-check_heights-clause-accepted
 returns-in_err-check_heights-clause-accepted g c =
@@ -39,8 +36,7 @@ returns-in_err-check_heights-clause-accepted g c =
 
 pub returns-in_err-digests-clause-digests : goal.returns-in_err-digests-clause-digests
 returns-in_err-digests-clause-digests g c =
-    let p = err_from_is_err_and c.from_residual-in_err-digests.result c.from_residual-in_err-digests.ensures.1 in
-    rw p.1 tt
+    IfOk-from_err c.from_residual-in_err-digests.result _ c.from_residual-in_err-digests.ensures.0
 
 pub returns-in_err-digests-clause-accepted : goal.returns-in_err-digests-clause-accepted
 returns-in_err-digests-clause-accepted g c =
@@ -121,6 +117,5 @@ returns-clause-accepted g c =
     let grown : c.growth-growth.result ≡ growth = c.growth-growth.ensures
     ∙ ap (growth_of scheme c.args.old_height) (sym (greatest_is (shape b) tree.arity h one)) in
     let taken = (growth_taken growth).0 (ap growth_refusal (sym grown) ∙ c.in_ok-check_heights.ensures) in
-    λ old own begins. own_consistent (scheme_functions g.H.CryptographicHasher.hash
-    g.C.PseudoCompressionFunction.compression g.row.D scheme) growth old b tree.arity taken begins scheme.cap_rule
+    λ old own begins. own_consistent (functions_of scheme) growth old b tree.arity taken begins scheme.cap_rule
     (layers_of tree) c.in_ok-digests.digests.items own (returns-clause-digests g c)

@@ -1,18 +1,17 @@
 -- Heights and widths are refused first; the checker's answer means what the definition says of it.
-use Rattle.std.proofs.Common.{◌≡◌, ◌∙◌, Some, ap, inr, refl, replicate, subst, sym}
+use Rattle.std.proofs.Common.{◌≡◌, ◌∙◌, Some, ap, inr, refl, subst, sym}
 use Rattle.std.specs.Prelude.{Err, IfOk}
 use Rattle.std.specs.Option.{option_map}
 use Rattle.std.proofs.lemmas.Result.{err_from_is_err_and}
-use Rattle.p3_support.specs.Shown.{roots_of, row_lists}
+use Rattle.p3_support.specs.Shown.{roots_of}
 use Rattle.p3_merkle_core.specs.Caps.{cap_layer}
 use Rattle.p3_merkle_core.specs.ConsistencyRefusals.{ConsistencyAnswers}
 use Rattle.p3_merkle_core.specs.Geometry.{shape_of}
 use Rattle.p3_merkle_core.specs.Inconsistency.{inconsistency, inconsistency_in}
-use Rattle.p3_merkle_core.specs.Views.{opening_lent}
+use Rattle.p3_merkle_core.specs.Views.{opening_borrowed}
 use Rattle.p3_merkle_core.proofs.Growths.InconsistencyFacts.{inconsistency_answer}
 use Rattle.p3_merkle_verifier.specs.Inner.Inconsistency.{checked_refusal}
-use Rattle.p3_merkle_mmcs.specs.Schemes.{growth_of, scheme_functions}
-use Rattle.p3_merkle_mmcs.proofs.CheckFacts.{opening_is}
+use Rattle.p3_merkle_mmcs.specs.Schemes.{functions_of, growth_of}
 use Rattle.p3_merkle_mmcs.proofs.GrownFacts.{grown, grown_setting, parts_alike}
 use Rattle.p3_merkle_mmcs.proofs.GrownFacts.{refused_later, refused_new, refused_old, refused_widths}
 use Rattle.p3_merkle_mmcs.proofs.inconsistency.MerkleTreeMmcs+P+PW+H+C+N+D.extract_inconsistency.Goals as goal
@@ -21,11 +20,11 @@ pub returns-in_err-old_height : goal.returns-in_err-old_height
 returns-in_err-old_height g c =
     let scheme = c.args.self.now in
     let same = g.PW.Value.PartialEq.eq in
-    let f = scheme_functions g.H.CryptographicHasher.hash g.C.PseudoCompressionFunction.compression g.row.D scheme in
+    let f = functions_of scheme in
     let old_ds = c.args.old_dimensions.now in
     let new_ds = c.args.new_dimensions.now in
-    let o = opening_lent c.args.index c.args.old_opening in
-    let u = opening_lent c.args.index c.args.new_opening in
+    let o = opening_borrowed c.args.index c.args.old_opening in
+    let u = opening_borrowed c.args.index c.args.new_opening in
     let old_cap = roots_of c.args.old_cap.now in
     let new_cap = roots_of c.args.new_cap.now in
     let digests = c.args.proof.now.digests.items in
@@ -41,11 +40,11 @@ pub returns-in_err-new_height : goal.returns-in_err-new_height
 returns-in_err-new_height g c =
     let scheme = c.args.self.now in
     let same = g.PW.Value.PartialEq.eq in
-    let f = scheme_functions g.H.CryptographicHasher.hash g.C.PseudoCompressionFunction.compression g.row.D scheme in
+    let f = functions_of scheme in
     let old_ds = c.args.old_dimensions.now in
     let new_ds = c.args.new_dimensions.now in
-    let o = opening_lent c.args.index c.args.old_opening in
-    let u = opening_lent c.args.index c.args.new_opening in
+    let o = opening_borrowed c.args.index c.args.old_opening in
+    let u = opening_borrowed c.args.index c.args.new_opening in
     let old_cap = roots_of c.args.old_cap.now in
     let new_cap = roots_of c.args.new_cap.now in
     let digests = c.args.proof.now.digests.items in
@@ -63,11 +62,11 @@ pub returns-in_err-check_same_widths : goal.returns-in_err-check_same_widths
 returns-in_err-check_same_widths g c =
     let scheme = c.args.self.now in
     let same = g.PW.Value.PartialEq.eq in
-    let f = scheme_functions g.H.CryptographicHasher.hash g.C.PseudoCompressionFunction.compression g.row.D scheme in
+    let f = functions_of scheme in
     let old_ds = c.args.old_dimensions.now in
     let new_ds = c.args.new_dimensions.now in
-    let o = opening_lent c.args.index c.args.old_opening in
-    let u = opening_lent c.args.index c.args.new_opening in
+    let o = opening_borrowed c.args.index c.args.old_opening in
+    let u = opening_borrowed c.args.index c.args.new_opening in
     let old_cap = roots_of c.args.old_cap.now in
     let new_cap = roots_of c.args.new_cap.now in
     let digests = c.args.proof.now.digests.items in
@@ -86,17 +85,14 @@ returns g c =
     let scheme = c.args.self.now in
     let same = g.PW.Value.PartialEq.eq in
     let row = g.P.Value.PartialEq.eq in
-    let hash = g.H.CryptographicHasher.hash in
-    let compression = g.C.PseudoCompressionFunction.compression in
-    let none = replicate g.row.D g.PW.PackedValue.default_value in
-    let f = scheme_functions hash compression g.row.D scheme in
+    let f = functions_of scheme in
     let n = g.row.N in
     let rule = scheme.cap_rule in
     let height = scheme.cap_height in
     let old_ds = c.args.old_dimensions.now in
     let new_ds = c.args.new_dimensions.now in
-    let o = opening_lent c.args.index c.args.old_opening in
-    let u = opening_lent c.args.index c.args.new_opening in
+    let o = opening_borrowed c.args.index c.args.old_opening in
+    let u = opening_borrowed c.args.index c.args.new_opening in
     let old_cap = roots_of c.args.old_cap.now in
     let new_cap = roots_of c.args.new_cap.now in
     let digests = c.args.proof.now.digests.items in
@@ -108,16 +104,8 @@ returns g c =
     (c.steps_of-old_steps.ensures.dimensions i)) rule height) in
     let new_at = c.cap_layer-2.ensures ∙ (λ i. cap_layer (shape_of (c.steps_of-new_steps.ensures.arity i)
     (c.steps_of-new_steps.ensures.dimensions i)) rule height) in
-    let first = opening_is c.new.result c.args.index (row_lists c.args.old_opening.opened_values.now)
-    c.args.old_opening.opening_proof.now.items c.new.ensures.index (ap row_lists c.new.ensures.rows)
-    c.new.ensures.siblings in
-    let second = opening_is c.new-2.result c.args.index (row_lists c.args.new_opening.opened_values.now)
-    c.args.new_opening.opening_proof.now.items c.new-2.ensures.index (ap row_lists c.new-2.ensures.rows)
-    c.new-2.ensures.siblings in
-    let alike = parts_alike hash compression none n _ _ _ _ _ _ _ _ _ _ _ _ _ _ _ _ _ _ _ _ _ _ _ _
-    refl refl growth c.steps_of-old_steps.ensures.dimensions
-    c.steps_of-new_steps.ensures.dimensions old_at new_at c.roots.ensures c.roots-new_roots.ensures c.deref.ensures.value first
-    second in
+    let alike = parts_alike f n growth c.steps_of-old_steps.ensures.dimensions c.steps_of-new_steps.ensures.dimensions
+    old_at new_at c.roots.ensures c.roots-new_roots.ensures c.deref.ensures.value c.new.ensures c.new-2.ensures in
     let later = refused_later same x c.in_ok-old_height.ensures.answer c.in_ok-new_height.ensures.answer
     c.in_ok-check_same_widths.ensures in
     let answer = subst (ConsistencyAnswers c.checked_inconsistency.result) (ap (checked_refusal same) alike ∙ sym later)

@@ -3,7 +3,7 @@ use Rattle.std.proofs.Common.{◌≡◌, ◌<◌, ap, sym, ◌∙◌, arith, get
 use Rattle.std.proofs.lemmas.List.{get_or-map, length-map}
 use Rattle.p3_support.specs.declared.matrix.Dimensions.{Dimensions}
 use Rattle.p3_merkle_core.specs.Geometry.{exponent, heights, layer_exponent, shape_of}
-use Rattle.p3_merkle_mmcs.specs.Schemes.{cap_layer_over}
+use Rattle.p3_merkle_mmcs.specs.Schemes.{cap_layer_of}
 use Rattle.p3_merkle_mmcs.proofs.AuthenticFacts.{authenticated_is}
 use Rattle.p3_merkle_core.proofs.Collisions.ExtractionFacts.{all_authenticated}
 use Rattle.p3_merkle_mmcs.proofs.mmcs.Scheme.is_authenticated.Goals as goal
@@ -12,7 +12,7 @@ pub returns-clause-authenticated : goal.returns-clause-authenticated
 returns-clause-authenticated g c =
     let dimensions = c.args.dimensions.now in
     let s = shape_of g.row.N dimensions in
-    let t = cap_layer_over c.args.self.now s in
+    let t = cap_layer_of c.args.self.now s in
     let k = c.args.matrix in
     let made = c.steps_of-steps.ensures in
     let cap = rw (made.arity, made.dimensions) at c.cap_layer-cap_layer.ensures in

@@ -1,29 +1,25 @@
 -- The boundary of the covered leaves is counted, which is least.
 use Rattle.std.proofs.Common.{◌∙◌, arith, inl, refl}
-use Rattle.std.proofs.lemmas.Result.{err_from_is_err_and}
+use Rattle.std.proofs.lemmas.Result.{IfOk-from_err, err_from_is_err_and}
 use Rattle.p3_support.specs.Batches.{heights_of}
 use Rattle.p3_merkle_core.specs.Geometry.{shape_of, IsArity}
 use Rattle.p3_merkle_core.specs.Pruning.{pruned_len}
 use Rattle.p3_merkle_core.proofs.Covered.Sufficient.{count_least}
 use Rattle.p3_merkle_core.proofs.Shapes.GateFacts.{none_large_from_lawful, tallest_fits}
-use Rattle.p3_merkle_mmcs.specs.Schemes.{cap_layer_over}
+use Rattle.p3_merkle_mmcs.specs.Schemes.{cap_layer_of}
 use Rattle.p3_merkle_mmcs.proofs.CheckFacts.{are_steps}
 use Rattle.p3_merkle_mmcs.proofs.mmcs.Scheme.pruned_len.Goals as goal
 
 pub returns-in_err-check_heights-clause-least : goal.returns-in_err-check_heights-clause-least
-returns-in_err-check_heights-clause-least g c =
-    let p = err_from_is_err_and c.from_residual.result c.from_residual.ensures.1 in
-    rw p.1 tt
+returns-in_err-check_heights-clause-least g c = IfOk-from_err c.from_residual.result _ c.from_residual.ensures.0
 
 pub returns-in_err-check_indices-clause-least : goal.returns-in_err-check_indices-clause-least
 returns-in_err-check_indices-clause-least g c =
-    let p = err_from_is_err_and c.from_residual-in_err-check_indices.result c.from_residual-in_err-check_indices.ensures.1 in
-    rw p.1 tt
+    IfOk-from_err c.from_residual-in_err-check_indices.result _ c.from_residual-in_err-check_indices.ensures.0
 
 pub returns-in_err-leaves-clause-least : goal.returns-in_err-leaves-clause-least
 returns-in_err-leaves-clause-least g c =
-    let p = err_from_is_err_and c.from_residual-in_err-leaves.result c.from_residual-in_err-leaves.ensures.1 in
-    rw p.1 tt
+    IfOk-from_err c.from_residual-in_err-leaves.result _ c.from_residual-in_err-leaves.ensures.0
 
 pub returns-in_err-leaves-clause-answer : goal.returns-in_err-leaves-clause-answer
 returns-in_err-leaves-clause-answer g c =
@@ -48,7 +44,7 @@ returns-clause-least g c =
     let arity : IsArity made.result.arity = rw made.ensures.arity scheme.arity in
     let below = rw made.result.walked.tallest at c.in_ok-check_indices.ensures.below in
     let own = c.new.ensures in
-    count_least s c.args.indices.now (cap_layer_over scheme s) c.boundary_len.result
+    count_least s c.args.indices.now (cap_layer_of scheme s) c.boundary_len.result
     (record {
       well_shaped = scheme.arity;
       below = rw made.ensures.dimensions at below;

@@ -1,6 +1,6 @@
 -- The path goes by the steps of the dimensions, to the scheme's own cap layer; lawful heights are within the limit.
 use Rattle.std.proofs.Common.{◌∙◌, refl}
-use Rattle.std.proofs.lemmas.Result.{err_from_is_err_and}
+use Rattle.std.proofs.lemmas.Result.{IfOk-from_err}
 use Rattle.p3_support.specs.Batches.{heights_of}
 use Rattle.p3_merkle_core.specs.Geometry.{positions_below, schedule_below}
 use Rattle.p3_merkle_core.proofs.Shapes.GateFacts.{tallest_fits, none_large_from_lawful}
@@ -8,34 +8,26 @@ use Rattle.p3_merkle_mmcs.proofs.CheckFacts.{are_steps}
 use Rattle.p3_merkle_mmcs.proofs.mmcs.Scheme.replay_arity_and_positions.Goals as goal
 
 pub returns-in_err-check_heights-clause-schedule : goal.returns-in_err-check_heights-clause-schedule
-returns-in_err-check_heights-clause-schedule g c =
-    let p = err_from_is_err_and c.from_residual.result c.from_residual.ensures.1 in
-    rw p.1 tt
+returns-in_err-check_heights-clause-schedule g c = IfOk-from_err c.from_residual.result _ c.from_residual.ensures.0
 
 pub returns-in_err-check_heights-clause-positions : goal.returns-in_err-check_heights-clause-positions
-returns-in_err-check_heights-clause-positions g c =
-    let p = err_from_is_err_and c.from_residual.result c.from_residual.ensures.1 in
-    rw p.1 tt
+returns-in_err-check_heights-clause-positions g c = IfOk-from_err c.from_residual.result _ c.from_residual.ensures.0
 
 pub returns-in_err-schedule_below-clause-schedule : goal.returns-in_err-schedule_below-clause-schedule
 returns-in_err-schedule_below-clause-schedule g c =
-    let p = err_from_is_err_and c.from_residual-in_err-schedule_below.result c.from_residual-in_err-schedule_below.ensures.1 in
-    rw p.1 tt
+    IfOk-from_err c.from_residual-in_err-schedule_below.result _ c.from_residual-in_err-schedule_below.ensures.0
 
 pub returns-in_err-schedule_below-clause-positions : goal.returns-in_err-schedule_below-clause-positions
 returns-in_err-schedule_below-clause-positions g c =
-    let p = err_from_is_err_and c.from_residual-in_err-schedule_below.result c.from_residual-in_err-schedule_below.ensures.1 in
-    rw p.1 tt
+    IfOk-from_err c.from_residual-in_err-schedule_below.result _ c.from_residual-in_err-schedule_below.ensures.0
 
 pub returns-in_err-positions_below-clause-schedule : goal.returns-in_err-positions_below-clause-schedule
 returns-in_err-positions_below-clause-schedule g c =
-    let p = err_from_is_err_and c.from_residual-in_err-positions_below.result c.from_residual-in_err-positions_below.ensures.1 in
-    rw p.1 tt
+    IfOk-from_err c.from_residual-in_err-positions_below.result _ c.from_residual-in_err-positions_below.ensures.0
 
 pub returns-in_err-positions_below-clause-positions : goal.returns-in_err-positions_below-clause-positions
 returns-in_err-positions_below-clause-positions g c =
-    let p = err_from_is_err_and c.from_residual-in_err-positions_below.result c.from_residual-in_err-positions_below.ensures.1 in
-    rw p.1 tt
+    IfOk-from_err c.from_residual-in_err-positions_below.result _ c.from_residual-in_err-positions_below.ensures.0
 
 pub siblings_below-expected_proof_len-requires-clause-low : goal.siblings_below-expected_proof_len-requires-clause-low
 siblings_below-expected_proof_len-requires-clause-low g c =

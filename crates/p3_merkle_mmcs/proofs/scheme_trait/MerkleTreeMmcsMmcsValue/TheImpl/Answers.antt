@@ -1,11 +1,9 @@
 -- What the calls promise of this scheme gives what the trait promises of all.
 use Rattle.std.proofs.Common.{◌≡◌}
 use Rattle.p3_merkle_core.specs.declared.error.MerkleTreeError.TheVariants.{OutOfMemory}
-use Rattle.p3_merkle_core.specs.Refusals.{refusal_under}
-use Rattle.p3_merkle_core.specs.Views.{opening_lent}
 use Rattle.p3_merkle_mmcs.proofs.CommitmentFacts.{answers_by_definition, kept_by_errors, memory_alone}
 use Rattle.p3_merkle_mmcs.proofs.CommitmentFacts.{no_error_when_ok}
-use Rattle.p3_merkle_mmcs.specs.Schemes.{params_of}
+use Rattle.p3_merkle_mmcs.specs.Committed.{presented_one}
 use Rattle.p3_support.specs.Shown.{roots_of}
 use Rattle.p3_merkle_mmcs.proofs.scheme_trait.MerkleTreeMmcsMmcsValue.TheImpl.Goals as goal
 
@@ -30,10 +28,8 @@ open_batch-tells g _ _ _ _ _ c = record {
 pub verify_batch-tells : goal.verify_batch-tells
 verify_batch-tells g _ _ _ _ _ c = record {
   accepted = c.ensures.accepted.0;
-  answer = answers_by_definition c.result (refusal_under g.PW.Value.PartialEq.eq
-      (params_of g.H.CryptographicHasher.hash g.C.PseudoCompressionFunction.compression g.row.D c.args.self.now
-      c.args.dimensions.now) (roots_of c.args.commitment.now) (opening_lent c.args.index c.args.opening))
-      c.ensures.answer;
+  answer = answers_by_definition c.result (presented_one c.args.self.now c.args.dimensions.now
+      c.args.commitment.now c.args.index c.args.opening).refusal c.ensures.answer;
   memory = λ accepted. no_error_when_ok c.result (λ e. e ≡ OutOfMemory) (c.ensures.accepted.1 accepted);
 }
 
@@ -46,7 +42,7 @@ open_multi_batch-tells g _ _ _ _ _ c = record {
 
 pub verify_multi_batch-tells : goal.verify_multi_batch-tells
 verify_multi_batch-tells g _ _ _ _ _ c = record {
-  accepted = c.ensures.verdict.ok_is_accepted;
-  answer = c.ensures.verdict.answer;
-  memory = λ accepted. memory_alone c.result (c.ensures.verdict.accepted_is_ok accepted);
+  accepted = c.ensures.ok_is_accepted;
+  answer = c.ensures.answer;
+  memory = λ accepted. memory_alone c.result (c.ensures.accepted_is_ok accepted);
 }

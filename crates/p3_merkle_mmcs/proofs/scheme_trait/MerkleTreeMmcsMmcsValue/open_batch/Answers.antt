@@ -1,17 +1,14 @@
 -- What is opened is what the other call opens, in the words of the trait.
-use Rattle.std.proofs.Common.{◌∙◌, List, ap, subst, sym}
+use Rattle.std.proofs.Common.{◌∙◌, List, ap, subst}
 use Rattle.std.proofs.lemmas.Result.{IfOk-weaker}
-use Rattle.p3_merkle_core.specs.Openings.{Opening}
-use Rattle.std.specs.Prelude.{IfOk}
 use Rattle.p3_support.specs.declared.matrix.Dimensions.{Dimensions}
-use Rattle.p3_merkle_core.specs.Geometry.{shape_of}
-use Rattle.p3_merkle_core.specs.Nodes.{shape}
 use Rattle.p3_merkle_core.specs.Checks.{IsAccepted}
-use Rattle.p3_merkle_prover.specs.Parts.{matrices_of, tree_batch}
-use Rattle.p3_merkle_mmcs.specs.Inner.CommitmentLaws.{rows_are}
-use Rattle.p3_merkle_core.proofs.Lists.ViewFacts.{dimensions_are}
-use Rattle.p3_merkle_mmcs.specs.Schemes.{params_over}
+use Rattle.p3_merkle_core.specs.Geometry.{shape_of}
 use Rattle.p3_merkle_core.specs.Views.{opening_made}
+use Rattle.p3_merkle_core.proofs.Lists.ViewFacts.{dimensions_are}
+use Rattle.p3_merkle_prover.specs.Parts.{matrices_of}
+use Rattle.p3_merkle_mmcs.specs.Inner.CommitmentLaws.{rows_are}
+use Rattle.p3_merkle_mmcs.specs.Schemes.{params_of}
 use Rattle.p3_merkle_mmcs.proofs.scheme_trait.MerkleTreeMmcsMmcsValue.open_batch.Goals as goal
 
 pub returns-clause-rows : goal.returns-clause-rows
@@ -19,18 +16,12 @@ returns-clause-rows g c =
     let tree = c.args.prover_data.now in
     let rows = rows_are g.M.Matrix.height_of g.M.Matrix.width_of g.M.Matrix.row_of g.row.N (matrices_of tree)
     c.args.index tree.lawful c.lemma_index.ensures in
-    IfOk-weaker c.open_batch.result _ _ (λ o opened. ap (λ (z : Opening _ _). z.rows) opened ∙ rows)
+    IfOk-weaker c.open_batch.result _ _ (λ o opened. ap (λ z. z.rows) opened.in_layers ∙ rows)
     c.open_batch.ensures.opened
 
 pub returns-clause-accepted : goal.returns-clause-accepted
 returns-clause-accepted g c = λ roots own.
-    let scheme = c.args.self.now in
-    let tree = c.args.prover_data.now in
-    let over = params_over g.H.CryptographicHasher.hash g.C.PseudoCompressionFunction.compression g.row.D scheme in
-    let under_cap =
-    subst (λ (cap : List (List _)).
-    IfOk c.open_batch.result (λ o. IsAccepted (over (shape (tree_batch tree))) cap (opening_made c.args.index o)))
-    (sym own.own_cap) (c.open_batch.ensures.accepted own.own_layers) in
-    subst (λ (ds : List Dimensions).
-    IfOk c.open_batch.result (λ o. IsAccepted (over (shape_of g.row.N ds)) roots (opening_made c.args.index o)))
-    (dimensions_are g.M.Matrix.height_of g.M.Matrix.width_of g.M.Matrix.row_of (matrices_of tree)) under_cap
+    IfOk-weaker c.open_batch.result _ _ (λ o opened. subst (λ (ds : List Dimensions).
+    IsAccepted (params_of c.args.self.now (shape_of g.row.N ds)) roots (opening_made c.args.index o))
+    (dimensions_are g.M.Matrix.height_of g.M.Matrix.width_of g.M.Matrix.row_of (matrices_of c.args.prover_data.now))
+    (opened.is_accepted roots own)) c.open_batch.ensures.opened

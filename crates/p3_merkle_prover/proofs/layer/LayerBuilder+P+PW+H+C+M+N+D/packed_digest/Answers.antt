@@ -9,10 +9,9 @@ use Rattle.p3_merkle_prover.proofs.layer.LayerBuilder+P+PW+H+C+M+N+D.packed_dige
 pub returns-then-not-self : goal.returns-then-not-self
 returns-then-not-self g c = λ k small.
     let builder = c.args.self.now in
-    let hash = g.H.CryptographicHasher.hash in
-    let f = functions_in hash g.C.PseudoCompressionFunction.compression g.row.D builder in
+    let f = functions_in builder in
     let none : builder.level.has_rows ≡ false = search rules in
-    node_alone f g.row.N (leaf_in hash g.row.D builder) builder.level builder.below.now builder.children
+    node_alone f g.row.N (leaf_in builder) builder.level builder.below.now builder.children
     (c.args.first + k) (omega (arith, c.requires.nodes, small))
     (lane_of g.PW.PackedValue.lanes g.PW.PackedValue.default_value k c.compress_children_packed-folded.result) none
     (c.compress_children_packed-folded.ensures k small)
@@ -20,10 +19,9 @@ returns-then-not-self g c = λ k small.
 pub returns : goal.returns
 returns g c = λ k small.
     let builder = c.args.self.now in
-    let hash = g.H.CryptographicHasher.hash in
     let lane = lane_of g.PW.PackedValue.lanes g.PW.PackedValue.default_value k in
-    let f = functions_in hash g.C.PseudoCompressionFunction.compression g.row.D builder in
-    let leaf = leaf_in hash g.row.D builder in
+    let f = functions_in builder in
+    let leaf = leaf_in builder in
     let has : builder.level.has_rows ≡ true = search rules in
     let tall : c.args.first + k < builder.rows.height = omega (arith, c.requires.rows has, small) in
     let row : lane c.packed_digest-rows.result ≡ leaf (c.args.first + k) =

@@ -16,7 +16,7 @@ returns g c =
     let end = c.min-end.result in
     let done = c.if-LANES-gt1.done in
     let d = replicate g.row.D g.PW.PackedValue.default_value in
-    let f = slot_of g.H.CryptographicHasher.hash g.C.PseudoCompressionFunction.compression g.row.D c.args.self.now in
+    let f = slot_of c.args.self.now in
     let size = length-take-le end old (omega arith) in
     let few : done ≤ end = elim c.if-LANES-gt1.branch [
       | then-LANES-gt1+then-LANES-gt1-2 w ↦ omega arith

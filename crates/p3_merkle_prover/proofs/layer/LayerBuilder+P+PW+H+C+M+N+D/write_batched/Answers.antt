@@ -14,14 +14,12 @@ returns-then-not-self g c =
     let builder = c.args.self.now in
     let v = builder.level in
     let first = c.args.first in
-    let hash = g.H.CryptographicHasher.hash in
-    let compression = g.C.PseudoCompressionFunction.compression in
-    let f = functions_in hash compression g.row.D builder in
+    let f = functions_in builder in
     let slots = c.compress_children.new.slots in
     let folded = c.in_ok-compress_children.ensures in
-    fill_by_all (λ (j : ℕ). slot_of hash compression g.row.D builder (first + j)) slots (length c.args.slots.now) []
+    fill_by_all (λ (j : ℕ). slot_of builder (first + j)) slots (length c.args.slots.now) []
     folded.long
-    (λ j h. node_alone f g.row.N (leaf_in hash g.row.D builder) v builder.below.now builder.children (first + j)
+    (λ j h. node_alone f g.row.N (leaf_in builder) v builder.below.now builder.children (first + j)
     (omega (arith, h, c.requires)) (slice_index_or slots j []) c.if-not-self.true
     (folded.filled j h ∙ children_from f g.row.N v builder.below.now first j))
 
@@ -39,10 +37,8 @@ returns g c =
     let builder = c.args.self.now in
     let v = builder.level in
     let first = c.args.first in
-    let hash = g.H.CryptographicHasher.hash in
-    let compression = g.C.PseudoCompressionFunction.compression in
-    let f = functions_in hash compression g.row.D builder in
-    let leaf = leaf_in hash g.row.D builder in
+    let f = functions_in builder in
+    let leaf = leaf_in builder in
     let made = λ (j : ℕ). leaf (first + j) in
     let nodes = c.compress_children.new.slots in
     let folded = c.in_ok-compress_children.ensures in
@@ -57,7 +53,7 @@ returns g c =
     let rows : length c.deref.result.now ≡ n = ap length are ∙ length-map-range_with_len made 0 n in
     let slots = c.inject_row_digests.new.slots in
     IfOk-weaker c.inject_row_digests.result _ _
-    (λ ok filled. fill_by_all (λ (j : ℕ). slot_of hash compression g.row.D builder (first + j)) slots
+    (λ ok filled. fill_by_all (λ (j : ℕ). slot_of builder (first + j)) slots
     (length c.args.slots.now) [] (filled.long ∙ folded.long)
     (λ j h.
     let row = ap (λ l. slice_index_or l j []) are

@@ -39,7 +39,7 @@ loop-block-preserved g c =
     let w = g.PW.PackedValue.WIDTH in
     let block = c.loop-block.block in
     let builder = c.args.self.now in
-    let slot = slot_of g.H.CryptographicHasher.hash g.C.PseudoCompressionFunction.compression g.row.D builder in
+    let slot = slot_of builder in
     let digests = c.packed_digest-digests.result in
     let seen = λ (k : ℕ). lane_of g.PW.PackedValue.lanes g.PW.PackedValue.default_value k digests in
     let written : (k : ℕ) → k < w → slice_index_or c.unpack_at.new.rows (block * w + k) []

@@ -9,7 +9,7 @@ invariant-loop-block g l =
     let lanes = g.PW.PackedValue.WIDTH in
     record {
       written : IsFilled
-          (slot_of g.H.CryptographicHasher.hash g.C.PseudoCompressionFunction.compression g.row.D l.self)
+          (slot_of l.self)
           (l.block * lanes) (length l.initial.slots) l.slots;
       in_nodes : (w : ℕ) → w ≡ lanes → l.block < l.blocks → l.block * w + lanes ≤ l.self.level.raw_len;
       in_rows : (w : ℕ) → w ≡ lanes → l.block < l.blocks → l.self.level.has_rows ≡ true →

@@ -26,8 +26,8 @@ index-requires g c = omega (arith, layers_long c.loop-below.layers.items c.loop-
 
 pub lemma_children-requires-clause-slots : goal.lemma_children-requires-clause-slots
 lemma_children-requires-clause-slots g c =
-    let above : CanRaise (functions_for g.H.CryptographicHasher.hash g.C.PseudoCompressionFunction.compression g.row.D
-    c.args.self.now) (batch_for c.args.self.now) c.level_from-level.result c.as_slice-nodes.result.now =
+    let above : CanRaise (functions_for c.args.self.now) (batch_for c.args.self.now) c.level_from-level.result
+    c.as_slice-nodes.result.now =
     can_raise c.loop-below.layers.items c.args.self.now.build c.loop-below.invariant c.args.self.now.arity
     c.level_from-level.ensures.level c.level_from-level.ensures.below c.index.ensures
     c.as_slice-nodes.ensures.value in
@@ -35,8 +35,7 @@ lemma_children-requires-clause-slots g c =
 
 pub loop-below-preserved : goal.loop-below-preserved
 loop-below-preserved g c =
-    let f = functions_for g.H.CryptographicHasher.hash g.C.PseudoCompressionFunction.compression g.row.D
-    c.args.self.now in
+    let f = functions_for c.args.self.now in
     let below = c.as_slice-nodes.result.now in
     let level = c.level_from-level.result in
     let above : CanRaise f (batch_for c.args.self.now) level below = can_raise c.loop-below.layers.items

@@ -6,5 +6,5 @@ use Rattle.p3_merkle_prover.proofs.layers.TreeBuilder+P+PW+H+C+M+N+D.layers.Give
 -- the layers so far
 abbrev pub invariant-loop-below : goal.invariant-loop-below
 invariant-loop-below g l =
-    IsBuilt (functions_for g.H.CryptographicHasher.hash g.C.PseudoCompressionFunction.compression g.row.D l.self)
-    (batch_for l.self) l.below l.exponent l.len (map (λ nodes. nodes.items) l.layers.items)
+    IsBuilt (functions_for l.self) (batch_for l.self) l.below l.exponent l.len
+    (map (λ nodes. nodes.items) l.layers.items)

@@ -31,8 +31,7 @@ pub returns : goal.returns
 returns g c =
     let all = c.args.self.now.matrices.now in
     let h = c.args.self.now.steps.now.max_height in
-    let f = functions_for g.H.CryptographicHasher.hash g.C.PseudoCompressionFunction.compression g.row.D
-    c.args.self.now in
+    let f = functions_for c.args.self.now in
     let picked = c.as_slice.result.now in
     let made = λ (j : ℕ).
     leaf_over f.hash f.default_digest (rows_over (λ m. g.M.Matrix.row_of m.now) picked) h (0 + j) in

@@ -25,8 +25,7 @@ returns g c =
     let level = c.args.level in
     let all = c.args.self.now.matrices.now in
     let below = c.args.below.now in
-    let f = functions_for g.H.CryptographicHasher.hash g.C.PseudoCompressionFunction.compression g.row.D
-    c.args.self.now in
+    let f = functions_for c.args.self.now in
     let picked = c.as_slice.result.now in
     let made = slot_above f g.row.N
     (leaf_over f.hash f.default_digest (rows_over (λ m. g.M.Matrix.row_of m.now) picked) level.height) level below in

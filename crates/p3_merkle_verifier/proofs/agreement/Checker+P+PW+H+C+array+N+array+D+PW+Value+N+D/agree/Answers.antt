@@ -1,9 +1,9 @@
 -- Each turn compares one level of both checks.
-use Rattle.std.proofs.Common.{◌≡◌, ◌∙◌, add-one, ap, arith, subst, sym, zip}
+use Rattle.std.proofs.Common.{◌∙◌, add-one, ap, sym, zip}
 use Rattle.p3_support.specs.Batches.{heights_of}
 use Rattle.p3_merkle_core.specs.Checks.{words_of_exponent}
 use Rattle.p3_merkle_core.specs.Geometry.{shape_of}
-use Rattle.p3_merkle_verifier.specs.Inner.Checks.{functions_of, opening_in, AgreeBelow}
+use Rattle.p3_merkle_verifier.specs.Inner.Checks.{functions_of, opening_in}
 use Rattle.p3_merkle_verifier.proofs.AgreeFacts.{agree_more, agree_start, rows_same}
 use Rattle.p3_merkle_verifier.proofs.agreement.Checker+P+PW+H+C+array+N+array+D+PW+Value+N+D.agree.Goals as goal
 use Rattle.p3_merkle_verifier.proofs.agreement.Checker+P+PW+H+C+array+N+array+D+PW+Value+N+D.agree.Goals.{else-first-second-via-then-first-second+else-not-agree, else-first-second-via-else-first-second}
@@ -17,8 +17,8 @@ loop-level-init g c =
     let heights = heights_of steps.dimensions.now in
     let leaves = rw c.requires.arity at steps.walked.leaves in
     record {
-      first_progress = c.leaf-first_progress.ensures;
-      second_progress = c.leaf-second_progress.ensures;
+      first_progress = c.start-first_progress.ensures;
+      second_progress = c.start-second_progress.ensures;
       agree = agree_start (functions_of c.args.self.now) s o u (λ one. elim c.else-first-second.branch [
         | else-first-second-via-then-first-second+else-not-agree w ↦
             ap (λ x. words_of_exponent x (zip heights o.rows)) (sym leaves)
@@ -42,8 +42,8 @@ loop-level-preserved g c =
     let o = opening_in c.args.first in
     let u = opening_in c.args.second in
     let heights = heights_of c.args.steps.now.dimensions.now in
-    let mine = c.computed_level-mine.ensures in
-    let theirs = c.computed_level-theirs.ensures in
+    let mine = c.compute_level-mine.ensures in
+    let theirs = c.compute_level-theirs.ensures in
     record {
       first_progress = rw add-one mine.progress;
       second_progress = rw add-one theirs.progress;
@@ -53,10 +53,3 @@ loop-level-preserved g c =
           (ap (λ x. words_of_exponent x (zip heights o.rows)) mine.progress.at_exponent)
           (ap (λ x. words_of_exponent x (zip heights u.rows)) mine.progress.at_exponent));
     }
-
-pub returns : goal.returns
-returns g c =
-    let s = shape_of g.row.N c.args.steps.now.dimensions.now in
-    let here : c.loop-level.level ≡ c.args.cap_layer = omega arith in
-    λ t. subst (AgreeBelow (functions_of c.args.self.now) s (opening_in c.args.first) (opening_in c.args.second)) here
-    c.loop-level.invariant.agree

@@ -1,31 +1,10 @@
 -- The old cap's entries first; then each turn is one layer.
 use Rattle.std.proofs.Common.{◌≡◌, add-one, arith}
-use Rattle.std.proofs.lemmas.Result.{err_from_is_err_and}
 use Rattle.p3_merkle_core.specs.Consistency.{new_layer}
 use Rattle.p3_merkle_verifier.specs.Inner.Checks.{functions_of}
 use Rattle.p3_merkle_verifier.specs.Inner.Consistency.{evidence_in}
 use Rattle.p3_merkle_verifier.proofs.EntryFacts.{known_start, layers_rise}
 use Rattle.p3_merkle_verifier.proofs.consistency.Checker+P+PW+H+C+array+N+array+D+PW+Value+N+D.mixed_at_new_cap.Goals as goal
-
-pub returns-in_err-known-clause-mixed : goal.returns-in_err-known-clause-mixed
-returns-in_err-known-clause-mixed g c =
-    let p = err_from_is_err_and c.from_residual.result c.from_residual.ensures.1 in
-    rw p.1 tt
-
-pub returns-in_err-known-clause-known : goal.returns-in_err-known-clause-known
-returns-in_err-known-clause-known g c =
-    let p = err_from_is_err_and c.from_residual.result c.from_residual.ensures.1 in
-    rw p.1 tt
-
-pub returns-in_err-mixed-clause-mixed : goal.returns-in_err-mixed-clause-mixed
-returns-in_err-mixed-clause-mixed g c =
-    let p = err_from_is_err_and c.from_residual-in_err-mixed.result c.from_residual-in_err-mixed.ensures.1 in
-    rw p.1 tt
-
-pub returns-in_err-mixed-clause-known : goal.returns-in_err-mixed-clause-known
-returns-in_err-mixed-clause-known g c =
-    let p = err_from_is_err_and c.from_residual-in_err-mixed.result c.from_residual-in_err-mixed.ensures.1 in
-    rw p.1 tt
 
 pub loop-layer-init : goal.loop-layer-init
 loop-layer-init g c =

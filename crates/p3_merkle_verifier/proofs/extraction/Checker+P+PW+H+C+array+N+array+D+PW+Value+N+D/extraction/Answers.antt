@@ -42,6 +42,3 @@ returns-clause-answer g c =
     both_taken (refusal (opening_in c.args.first)) (refusal (opening_in c.args.second))
     c.in_ok-check_opening.ensures.answer
     c.in_ok-check_opening-2.ensures.answer
-
-pub returns-clause-found : goal.returns-clause-found
-returns-clause-found g c = c.in_ok-last_difference.ensures

@@ -9,13 +9,6 @@ use Rattle.p3_merkle_verifier.proofs.SharedFacts.{difference_shared}
 use Rattle.p3_merkle_verifier.proofs.WalkFacts.{found_next}
 use Rattle.p3_merkle_verifier.proofs.extraction.Checker+P+PW+H+C+array+N+array+D+PW+Value+N+D.last_difference.Goals as goal
 
-pub loop-level-init : goal.loop-level-init
-loop-level-init g c = record {
-  first_progress = c.leaf-first_progress.ensures;
-  second_progress = c.leaf-second_progress.ensures;
-  found = rw c.requires.arity at c.in_ok-last.ensures;
-}
-
 pub loop-level-preserved : goal.loop-level-preserved
 loop-level-preserved g c =
     let f = functions_of c.args.self.now in
@@ -24,8 +17,8 @@ loop-level-preserved g c =
     let o = opening_in c.args.first in
     let u = opening_in c.args.second in
     let heights = heights_of c.args.steps.now.dimensions.now in
-    let mine = c.computed_level-mine.ensures in
-    let theirs = c.computed_level-theirs.ensures in
+    let mine = c.compute_level-mine.ensures in
+    let theirs = c.compute_level-theirs.ensures in
     record {
       first_progress = rw add-one mine.progress;
       second_progress = rw add-one theirs.progress;

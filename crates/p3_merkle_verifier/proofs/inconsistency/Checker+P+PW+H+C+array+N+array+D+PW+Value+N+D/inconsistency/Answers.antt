@@ -38,10 +38,3 @@ returns-in_err-check_consistency g c =
           (sym c.in-Ok-check_opening.is ∙ c.check_opening-2.ensures.answer)) c.in_err-check_consistency.ensures;
       found = tt;
     })
-
-pub returns-clause-answer : goal.returns-clause-answer
-returns-clause-answer g c =
-    let same = g.PW.Value.PartialEq.eq in
-    let x = grown_in (functions_of c.args.self.now) g.row.N c.args.proof c.args.new_roots.now c.args.old c.args.new in
-    sym (proof_refused same x (sym c.in-Ok.is ∙ c.check_opening.ensures.answer)
-    (sym c.in-Ok-check_opening.is ∙ c.check_opening-2.ensures.answer)) ∙ c.in_ok-check_consistency.ensures

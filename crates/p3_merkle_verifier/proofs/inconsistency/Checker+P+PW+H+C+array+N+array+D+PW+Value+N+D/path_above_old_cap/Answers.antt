@@ -1,6 +1,5 @@
 -- The old cap's entries first; then each turn is one layer.
 use Rattle.std.proofs.Common.{◌≡◌, ◌≤◌, ◌/◌, ◌^◌, ◌∙◌, suc, add-one, ap, arith}
-use Rattle.std.proofs.lemmas.Result.{err_from_is_err_and}
 use Rattle.p3_merkle_core.specs.Consistency.{new_layer, new_value, old_layer}
 use Rattle.p3_merkle_verifier.specs.Inner.Checks.{functions_of}
 use Rattle.p3_merkle_verifier.specs.Inner.Consistency.{evidence_in}
@@ -8,36 +7,6 @@ use Rattle.p3_merkle_verifier.specs.Inner.Inconsistency.{child_values}
 use Rattle.p3_merkle_verifier.proofs.EntryFacts.{known_start, layers_rise}
 use Rattle.p3_merkle_verifier.proofs.InconsistencyFacts.{more_groups, push_count}
 use Rattle.p3_merkle_verifier.proofs.inconsistency.Checker+P+PW+H+C+array+N+array+D+PW+Value+N+D.path_above_old_cap.Goals as goal
-
-pub returns-in_err-known-clause-groups : goal.returns-in_err-known-clause-groups
-returns-in_err-known-clause-groups g c =
-    let p = err_from_is_err_and c.from_residual.result c.from_residual.ensures.1 in
-    rw p.1 (λ given low below. tt)
-
-pub returns-in_err-known-clause-count : goal.returns-in_err-known-clause-count
-returns-in_err-known-clause-count g c =
-    let p = err_from_is_err_and c.from_residual.result c.from_residual.ensures.1 in
-    rw p.1 tt
-
-pub returns-in_err-push_group-clause-groups : goal.returns-in_err-push_group-clause-groups
-returns-in_err-push_group-clause-groups g c =
-    let p = err_from_is_err_and c.from_residual-in_err-push_group.result c.from_residual-in_err-push_group.ensures.1 in
-    rw p.1 (λ given low below. tt)
-
-pub returns-in_err-push_group-clause-count : goal.returns-in_err-push_group-clause-count
-returns-in_err-push_group-clause-count g c =
-    let p = err_from_is_err_and c.from_residual-in_err-push_group.result c.from_residual-in_err-push_group.ensures.1 in
-    rw p.1 tt
-
-pub returns-in_err-mixed-clause-groups : goal.returns-in_err-mixed-clause-groups
-returns-in_err-mixed-clause-groups g c =
-    let p = err_from_is_err_and c.from_residual-in_err-mixed.result c.from_residual-in_err-mixed.ensures.1 in
-    rw p.1 (λ given low below. tt)
-
-pub returns-in_err-mixed-clause-count : goal.returns-in_err-mixed-clause-count
-returns-in_err-mixed-clause-count g c =
-    let p = err_from_is_err_and c.from_residual-in_err-mixed.result c.from_residual-in_err-mixed.ensures.1 in
-    rw p.1 tt
 
 pub loop-layer-init : goal.loop-layer-init
 loop-layer-init g c =

@@ -1,62 +1,11 @@
 -- Each turn is one layer.
 use Rattle.std.proofs.Common.{◌≡◌, ◌-◌, ◌∙◌, ap, sym, add-one, arith, rules}
-use Rattle.std.proofs.lemmas.Result.{err_from_is_err_and}
 use Rattle.p3_merkle_core.specs.Consistency.{new_value, old_layer, old_value}
 use Rattle.p3_merkle_verifier.specs.Inner.Checks.{functions_of}
 use Rattle.p3_merkle_verifier.specs.Inner.Consistency.{evidence_in}
 use Rattle.p3_merkle_verifier.specs.Inner.Inconsistency.{child_values}
 use Rattle.p3_merkle_verifier.proofs.InconsistencyFacts.{groups_count, more_groups, no_groups}
 use Rattle.p3_merkle_verifier.proofs.inconsistency.Checker+P+PW+H+C+array+N+array+D+PW+Value+N+D.path_below_old_cap.Goals as goal
-
-pub returns-in_err-push_group-clause-old : goal.returns-in_err-push_group-clause-old
-returns-in_err-push_group-clause-old g c =
-    let p = err_from_is_err_and c.from_residual.result c.from_residual.ensures.1 in
-    rw p.1 tt
-
-pub returns-in_err-push_group-clause-new : goal.returns-in_err-push_group-clause-new
-returns-in_err-push_group-clause-new g c =
-    let p = err_from_is_err_and c.from_residual.result c.from_residual.ensures.1 in
-    rw p.1 tt
-
-pub returns-in_err-push_group-clause-mixed : goal.returns-in_err-push_group-clause-mixed
-returns-in_err-push_group-clause-mixed g c =
-    let p = err_from_is_err_and c.from_residual.result c.from_residual.ensures.1 in
-    rw p.1 tt
-
-pub returns-in_err-push_group-clause-old_count : goal.returns-in_err-push_group-clause-old_count
-returns-in_err-push_group-clause-old_count g c =
-    let p = err_from_is_err_and c.from_residual.result c.from_residual.ensures.1 in
-    rw p.1 tt
-
-pub returns-in_err-push_group-clause-new_count : goal.returns-in_err-push_group-clause-new_count
-returns-in_err-push_group-clause-new_count g c =
-    let p = err_from_is_err_and c.from_residual.result c.from_residual.ensures.1 in
-    rw p.1 tt
-
-pub returns-in_err-push_group-2-clause-old : goal.returns-in_err-push_group-2-clause-old
-returns-in_err-push_group-2-clause-old g c =
-    let p = err_from_is_err_and c.from_residual-in_err-push_group-2.result c.from_residual-in_err-push_group-2.ensures.1 in
-    rw p.1 tt
-
-pub returns-in_err-push_group-2-clause-new : goal.returns-in_err-push_group-2-clause-new
-returns-in_err-push_group-2-clause-new g c =
-    let p = err_from_is_err_and c.from_residual-in_err-push_group-2.result c.from_residual-in_err-push_group-2.ensures.1 in
-    rw p.1 tt
-
-pub returns-in_err-push_group-2-clause-mixed : goal.returns-in_err-push_group-2-clause-mixed
-returns-in_err-push_group-2-clause-mixed g c =
-    let p = err_from_is_err_and c.from_residual-in_err-push_group-2.result c.from_residual-in_err-push_group-2.ensures.1 in
-    rw p.1 tt
-
-pub returns-in_err-push_group-2-clause-old_count : goal.returns-in_err-push_group-2-clause-old_count
-returns-in_err-push_group-2-clause-old_count g c =
-    let p = err_from_is_err_and c.from_residual-in_err-push_group-2.result c.from_residual-in_err-push_group-2.ensures.1 in
-    rw p.1 tt
-
-pub returns-in_err-push_group-2-clause-new_count : goal.returns-in_err-push_group-2-clause-new_count
-returns-in_err-push_group-2-clause-new_count g c =
-    let p = err_from_is_err_and c.from_residual-in_err-push_group-2.result c.from_residual-in_err-push_group-2.ensures.1 in
-    rw p.1 tt
 
 pub loop-layer-init : goal.loop-layer-init
 loop-layer-init g c =

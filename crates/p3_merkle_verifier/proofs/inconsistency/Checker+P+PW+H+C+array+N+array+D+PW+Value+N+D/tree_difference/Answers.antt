@@ -20,12 +20,12 @@ loop-level-preserved g c =
     let f = functions_of c.args.self.now in
     let s = shape_of g.row.N c.args.of.steps.now.dimensions.now in
     let l = c.loop-level.level in
-    let opened = c.computed_level-opened.ensures in
+    let opened = c.compute_level-opened.ensures in
     let inside : l - c.args.from < length c.args.groups.now = omega (arith, c.requires.count, c.loop-level.auto.level) in
     record {
       progress = rw add-one opened.progress;
       found = shown_next g.P.Value.PartialEq.eq g.PW.Value.PartialEq.eq f s (opening_in c.args.of.opening)
-          (row_lists c.args.groups.now) c.args.from l c.computed_level-opened.result _ _ c.loop-level.last _
+          (row_lists c.args.groups.now) c.args.from l c.compute_level-opened.result _ _ c.loop-level.last _
           c.loop-level.auto.level opened
           (row_at c.args.groups.now (l - c.args.from) c.index-groups-level.result c.deref.result.now inside
           c.index-groups-level.is c.deref.ensures.value) c.in_ok-found.ensures c.loop-level.invariant.found c.or-last.ensures;

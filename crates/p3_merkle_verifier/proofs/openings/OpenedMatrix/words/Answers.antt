@@ -3,15 +3,8 @@ use Rattle.std.proofs.Common.{◌≡◌, ◌<◌, ◌∙◌, [], ap, arith, leng
 use Rattle.std.specs.declared.vec.Vec.{Vec}
 use Rattle.std.proofs.lemmas.List.{get_or-map, length-map}
 use Rattle.p3_support.specs.Shown.{row_lists, row_sets}
-use Rattle.p3_merkle_verifier.proofs.GroupFacts.{set_read}
+use Rattle.p3_merkle_core.proofs.Pruned.SlotFacts.{set_read}
 use Rattle.p3_merkle_verifier.proofs.openings.OpenedMatrix.words.Goals as goal
-
-pub bounds-self-self : goal.bounds-self-self
-bounds-self-self g c =
-    let m = c.args.self.now in
-    let sets = m.sets.now in
-    let inside : get_or m.queries.now c.args.row 0 < length (row_sets sets) = m.among c.args.row 0 c.requires in
-    omega (arith, length-map sets (λ rows. row_lists rows.items))
 
 pub index-requires : goal.index-requires
 index-requires g c =

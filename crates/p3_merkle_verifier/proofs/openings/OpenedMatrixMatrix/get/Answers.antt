@@ -6,13 +6,6 @@ use Rattle.p3_merkle_verifier.specs.Inner.OpenedMatrices.{row_in}
 use Rattle.p3_merkle_verifier.specs.Inner.OpenedRows.{length-opened_row}
 use Rattle.p3_merkle_verifier.proofs.openings.OpenedMatrixMatrix.get.Goals as goal
 
-pub bounds-words-column : goal.bounds-words-column
-bounds-words-column g c =
-    let m = c.args.self.now in
-    let long = length-opened_row (row_sets m.sets.now) m.queries.now m.place m.width m.among m.fit c.args.row
-    c.requires.row_in in
-    rw (c.words.ensures, long) c.requires.column_in
-
 pub returns : goal.returns
 returns g c =
     let m = c.args.self.now in

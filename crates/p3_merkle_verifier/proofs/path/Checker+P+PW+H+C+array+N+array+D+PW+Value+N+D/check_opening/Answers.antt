@@ -1,12 +1,9 @@
 -- The form, then each turn is one level of the check, then the cap's entry.
-use Rattle.std.proofs.Common.{◌≡◌, add-one, arith, false, true}
+use Rattle.std.proofs.Common.{◌≡◌, arith, false, true}
 use Rattle.p3_merkle_core.specs.Geometry.{shape_of}
 use Rattle.p3_merkle_verifier.specs.Inner.Checks.{functions_of, opening_in}
 use Rattle.p3_merkle_verifier.proofs.FormFacts.{answered_by_entry}
 use Rattle.p3_merkle_verifier.proofs.path.Checker+P+PW+H+C+array+N+array+D+PW+Value+N+D.check_opening.Goals as goal
-
-pub loop-level-preserved : goal.loop-level-preserved
-loop-level-preserved g c = rw add-one c.computed_level.ensures.progress
 
 pub returns-then-is_entry-clause-answer : goal.returns-then-is_entry-clause-answer
 returns-then-is_entry-clause-answer g c =

@@ -3,15 +3,9 @@ use Rattle.std.proofs.Common.{rules, ◌≡◌, ◌∙◌, ◌*◌, ◌/◌, ◌
 use Rattle.std.proofs.Math.Nat.{div-mul-le_self, mul_comm}
 use Rattle.std.proofs.lemmas.List.{take_at}
 use Rattle.std.proofs.lemmas.List.FromFn.{length-map-range_with_len}
-use Rattle.std.proofs.lemmas.Result.{err_from_is_err_and}
 use Rattle.p3_merkle_verifier.specs.Inner.NodeDigests.{group_digest}
 use Rattle.p3_merkle_verifier.proofs.GroupFacts.{groups_compressed}
 use Rattle.p3_merkle_verifier.proofs.pruned_check.Checker+P+PW+H+C+array+N+array+D+PW+Value+N+D.group_digests.Goals as goal
-
-pub returns-in_err-digests : goal.returns-in_err-digests
-returns-in_err-digests g c =
-    let p = err_from_is_err_and c.from_residual.result c.from_residual.ensures.1 in
-    record { count = rw p.1 tt; digests = rw p.1 tt }
 
 pub compress_children-requires : goal.compress_children-requires
 compress_children-requires g c =
@@ -22,12 +16,6 @@ compress_children-requires g c =
     let most : step * (n / step) ≤ n = rw (mul_comm step (n / step)) (div-mul-le_self n step) in
     let inside : step * length c.deref_mut.result.now ≤ n = rw long most in
     search (rules, inside)
-
-pub returns-in_err-compress_children : goal.returns-in_err-compress_children
-returns-in_err-compress_children g c =
-    let p = err_from_is_err_and c.from_residual-in_err-compress_children.result
-    c.from_residual-in_err-compress_children.ensures.1 in
-    record { count = rw p.1 tt; digests = rw p.1 tt }
 
 pub returns : goal.returns
 returns g c =

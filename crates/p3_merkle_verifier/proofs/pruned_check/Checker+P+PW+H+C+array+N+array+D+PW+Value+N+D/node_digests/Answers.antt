@@ -2,7 +2,7 @@
 use Rattle.std.proofs.Common.{◌≡◌, ◌∙◌, ◌<◌, [], ap, arith, drop, length, map, sym, take, zip, ◌++◌}
 use Rattle.std.proofs.lemmas.Bool.{true≢false}
 use Rattle.std.proofs.lemmas.List.{length-map, take_at}
-use Rattle.std.proofs.lemmas.Result.{err_from_is_err_and, IfOk-weaker}
+use Rattle.std.proofs.lemmas.Result.{IfOk-weaker}
 use Rattle.p3_merkle_core.specs.Inner.Covered.{covered_at}
 use Rattle.p3_merkle_core.specs.Pruning.{words_under}
 use Rattle.p3_merkle_verifier.specs.Inner.Checks.{functions_of}
@@ -11,27 +11,6 @@ use Rattle.p3_merkle_verifier.specs.Inner.RestoredLevels.{opened_by, tree_of}
 use Rattle.p3_merkle_verifier.proofs.GroupFacts.{pairs_injected}
 use Rattle.p3_merkle_verifier.proofs.LayerFacts.{covers, digests_long, leaves_restored, restored_at}
 use Rattle.p3_merkle_verifier.proofs.pruned_check.Checker+P+PW+H+C+array+N+array+D+PW+Value+N+D.node_digests.Goals as goal
-
-pub returns-in_err-digests : goal.returns-in_err-digests
-returns-in_err-digests g c =
-    let p = err_from_is_err_and c.from_residual.result c.from_residual.ensures.1 in
-    record { count = rw p.1 tt; restored = rw p.1 tt }
-
-pub returns-in_err-rows : goal.returns-in_err-rows
-returns-in_err-rows g c =
-    let p = err_from_is_err_and c.from_residual-in_err-rows.result c.from_residual-in_err-rows.ensures.1 in
-    record { count = rw p.1 tt; restored = rw p.1 tt }
-
-pub returns-in_err-pairs : goal.returns-in_err-pairs
-returns-in_err-pairs g c =
-    let p = err_from_is_err_and c.from_residual-in_err-pairs.result c.from_residual-in_err-pairs.ensures.1 in
-    record { count = rw p.1 tt; restored = rw p.1 tt }
-
-pub returns-in_err-inject_row_digests : goal.returns-in_err-inject_row_digests
-returns-in_err-inject_row_digests g c =
-    let p = err_from_is_err_and c.from_residual-in_err-inject_row_digests.result
-    c.from_residual-in_err-inject_row_digests.ensures.1 in
-    record { count = rw p.1 tt; restored = rw p.1 tt }
 
 pub returns-then-layer-eq0-clause-restored : goal.returns-then-layer-eq0-clause-restored
 returns-then-layer-eq0-clause-restored g c =

@@ -1,5 +1,5 @@
 -- Each turn is one layer more.
-use Rattle.std.proofs.Common.{◌∙◌, ◌++◌, ◌∷◌, [], List, ap, arith}
+use Rattle.std.proofs.Common.{◌∙◌, ◌++◌, ◌∷◌, [], List, ap}
 use Rattle.p3_merkle_core.specs.declared.pruning.CoveredLayer.{CoveredLayer}
 use Rattle.p3_merkle_verifier.specs.Inner.Checks.{functions_of}
 use Rattle.p3_merkle_verifier.specs.Inner.RestoredLevels.{opened_by, tree_of}
@@ -17,9 +17,6 @@ loop-level-init g c =
     layers_start f s t p c.push.new.self.items c.args.leaves
     (c.in_ok-push.ensures.items ∙ ap (λ (xs : List (CoveredLayer _)). xs ++ c.args.leaves ∷ []) c.in_ok-layers.ensures.items)
     c.requires.leaves
-
-pub index-below-requires : goal.index-below-requires
-index-below-requires g c = omega (arith, c.loop-level.invariant.climb.count, c.loop-level-test.true)
 
 pub loop-level-preserved : goal.loop-level-preserved
 loop-level-preserved g c =

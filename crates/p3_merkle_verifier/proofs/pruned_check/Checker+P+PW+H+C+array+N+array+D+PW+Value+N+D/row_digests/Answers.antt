@@ -15,9 +15,6 @@ use Rattle.p3_merkle_verifier.proofs.LayerFacts.{agreed_with, rows_of_queries}
 use Rattle.p3_merkle_verifier.proofs.OpenedFacts.{by_places}
 use Rattle.p3_merkle_verifier.proofs.pruned_check.Checker+P+PW+H+C+array+N+array+D+PW+Value+N+D.row_digests.Goals as goal
 
-pub opened_matrices-requires : goal.opened_matrices-requires
-opened_matrices-requires g c = rw c.deref.ensures.value c.in_ok-queries.ensures.among
-
 pub returns : goal.returns
 returns g c = λ l le at.
     let restorable = c.args.restorable.now in

@@ -13,11 +13,6 @@ loop-level-init g c =
     let p = opened_by restorable in
     leaves_are (functions_of c.args.self.now) s t p c.args.leaves c.requires.leaves.coverage c.requires.leaves.childless
 
-pub layer_above-requires-clause-coverage : goal.layer_above-requires-clause-coverage
-layer_above-requires-clause-coverage g c =
-    let at = c.loop-level.invariant.coverage in
-    record { shape_is = at.shape_is; indices_are = at.indices_are; layer_is = at.layer_is }
-
 pub loop-level-preserved : goal.loop-level-preserved
 loop-level-preserved g c =
     let restorable = c.args.restorable.now in

@@ -1,32 +1,11 @@
 -- What is restored of an opening that is accepted can be compared.
 use Rattle.std.proofs.Common.{refl}
-use Rattle.std.proofs.lemmas.Result.{err_from_is_err_and}
 use Rattle.p3_merkle_core.specs.Geometry.{shape_of}
 use Rattle.p3_merkle_verifier.specs.Inner.Checks.{functions_of}
 use Rattle.p3_merkle_verifier.specs.Inner.RestoredLevels.{pruned_in}
 use Rattle.p3_merkle_verifier.specs.declared.pruned_extraction.RestoredQueries.{RestoredQueries}
 use Rattle.p3_merkle_verifier.proofs.QueryFacts.{comparable, consistent, leaves_known, restored}
 use Rattle.p3_merkle_verifier.proofs.pruned_extraction.Checker+P+PW+H+C+array+N+array+D+PW+Value+N+D.checked_queries.Goals as goal
-
-pub returns-in_err-leaves-clause-comparable : goal.returns-in_err-leaves-clause-comparable
-returns-in_err-leaves-clause-comparable g c =
-    let p = err_from_is_err_and c.from_residual.result c.from_residual.ensures.1 in
-    rw p.1 tt
-
-pub returns-in_err-leaves-clause-consistent : goal.returns-in_err-leaves-clause-consistent
-returns-in_err-leaves-clause-consistent g c =
-    let p = err_from_is_err_and c.from_residual.result c.from_residual.ensures.1 in
-    rw p.1 tt
-
-pub returns-in_err-leaves-clause-leaves : goal.returns-in_err-leaves-clause-leaves
-returns-in_err-leaves-clause-leaves g c =
-    let p = err_from_is_err_and c.from_residual.result c.from_residual.ensures.1 in
-    rw p.1 tt
-
-pub returns-in_err-leaves-clause-restored : goal.returns-in_err-leaves-clause-restored
-returns-in_err-leaves-clause-restored g c =
-    let p = err_from_is_err_and c.from_residual.result c.from_residual.ensures.1 in
-    rw p.1 tt
 
 pub returns-clause-comparable : goal.returns-clause-comparable
 returns-clause-comparable g c =

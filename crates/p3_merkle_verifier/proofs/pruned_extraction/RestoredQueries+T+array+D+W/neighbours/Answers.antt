@@ -1,31 +1,9 @@
 -- What the search among the leaves says of the queries.
-use Rattle.std.proofs.Common.{◌≡◌, ◌-◌, List, ℕ, Ok, Err, arith, inl, length, min, subst}
+use Rattle.std.proofs.Common.{◌≡◌, ◌-◌, List, ℕ, Err, arith, length, min, subst}
 use Rattle.std.specs.List.Sorted.{IsBinarySearchResult}
 use Rattle.std.specs.Ordering.{nat_cmp}
-use Rattle.p3_merkle_verifier.proofs.NeighbourFacts.{found_between, found_there, high_there, low_there}
-use Rattle.p3_merkle_verifier.proofs.NeighbourFacts.{missed_between, read_inside}
+use Rattle.p3_merkle_verifier.proofs.NeighbourFacts.{high_there, low_there, missed_between, read_inside}
 use Rattle.p3_merkle_verifier.proofs.pruned_extraction.RestoredQueries+T+array+D+W.neighbours.Goals as goal
-
-pub returns-in-Ok-clause-below : goal.returns-in-Ok-clause-below
-returns-in-Ok-clause-below g c =
-    let search = subst (λ (ns : List ℕ). IsBinarySearchResult (λ y. nat_cmp y c.args.index) ns (Ok c.in-Ok.slot))
-    c.deref.ensures.value c.in-Ok.ensures.position in
-    read_inside c.args.self.now c.args.index c.requires.leaves c.in-Ok.slot c.index.result.now
-    (found_there c.args.self.now c.args.index c.requires.leaves c.in-Ok.slot search) c.index.ensures
-
-pub returns-in-Ok-clause-above : goal.returns-in-Ok-clause-above
-returns-in-Ok-clause-above g c =
-    let search = subst (λ (ns : List ℕ). IsBinarySearchResult (λ y. nat_cmp y c.args.index) ns (Ok c.in-Ok.slot))
-    c.deref.ensures.value c.in-Ok.ensures.position in
-    read_inside c.args.self.now c.args.index c.requires.leaves c.in-Ok.slot c.index-in-Ok.result.now
-    (found_there c.args.self.now c.args.index c.requires.leaves c.in-Ok.slot search) c.index-in-Ok.ensures
-
-pub returns-in-Ok-clause-between : goal.returns-in-Ok-clause-between
-returns-in-Ok-clause-between g c =
-    let search = subst (λ (ns : List ℕ). IsBinarySearchResult (λ y. nat_cmp y c.args.index) ns (Ok c.in-Ok.slot))
-    c.deref.ensures.value c.in-Ok.ensures.position in
-    λ k inside. inl (found_between c.args.self.now c.args.index c.requires.leaves c.in-Ok.slot c.index.result.now
-    search c.index.ensures k inside)
 
 pub returns-in-Err-clause-below : goal.returns-in-Err-clause-below
 returns-in-Err-clause-below g c =

@@ -1,0 +1,30 @@
+use Rattle.std.proofs.Common.{◌≡◌, ℕ, List, ◌+◌, ◌*◌, ◌∙◌, refl, sym, ap, add-one, take, drop, arith}
+use Rattle.sha2.specs.Sha256.{compress, hash_after, initial_hash_256}
+use Rattle.p3_support.specs.Lists.{message}
+use Rattle.p3_hashes.proofs.Lanewise.{each_lane}
+use Rattle.p3_hashes.proofs.Padding.{word_of_block}
+use Rattle.p3_hashes.proofs.padded.whole_states.Goals as goal
+
+pub loop-t-init : goal.loop-t-init
+unfolding hash_after
+loop-t-init c = each_lane _ refl refl refl refl refl refl refl refl
+
+-- one more block
+hash_next : (h p : List ℕ) (t : ℕ) → hash_after h p (t + 1) ≡ compress (hash_after h p t) (take 64 (drop (t * 64) p))
+unfolding hash_after
+hash_next h p t = rw add-one refl
+
+pub loop-t-preserved : goal.loop-t-preserved
+loop-t-preserved c = λ j below.
+    let p = message (64 * c.args.count) c.args.messages.now j in
+    let t = c.loop-t.t in
+    let block = take 64 (drop (t * 64) p) in
+    c.compress_eight.ensures j below block (λ i inside. c.whole_block.ensures j i below inside
+    ∙ sym (word_of_block p t i inside))
+    ∙ ap (λ (s : List ℕ). compress s block) (c.loop-t.invariant j below) ∙ sym (hash_next initial_hash_256 p t)
+
+pub returns : goal.returns
+returns c = λ j below.
+    let done : c.loop-t.t ≡ c.args.count = omega (arith, c.loop-t.auto.t-end) in
+    c.loop-t.invariant j below
+    ∙ ap (hash_after initial_hash_256 (message (64 * c.args.count) c.args.messages.now j)) done

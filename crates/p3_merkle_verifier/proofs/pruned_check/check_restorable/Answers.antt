@@ -1,0 +1,48 @@
+-- What is not refused restores, and its distinct indices are the covered leaves.
+use Rattle.std.proofs.Common.{◌∙◌, [], ap, length, replicate, sym}
+use Rattle.std.proofs.lemmas.List.{length-map, length-replicate}
+use Rattle.p3_support.specs.Shown.{row_lists, row_sets}
+use Rattle.p3_merkle_core.specs.Geometry.{heights, shape_of}
+use Rattle.p3_merkle_core.specs.Inner.Agreement.{opened_with}
+use Rattle.p3_merkle_core.specs.Refusals.{ok_unless}
+use Rattle.p3_merkle_core.proofs.Pruned.Answered.{restorable}
+use Rattle.p3_merkle_core.proofs.Pruned.PrunedFacts.{asked_of}
+use Rattle.p3_merkle_core.proofs.Shapes.GateFacts.{none_large_from_lawful, tallest_fits}
+use Rattle.p3_merkle_verifier.proofs.LayerFacts.{agreed_with}
+use Rattle.p3_merkle_verifier.proofs.pruned_check.check_restorable.Goals as goal
+
+pub invariant_of-restorable : goal.invariant_of-restorable
+invariant_of-restorable g c =
+    let eq = g.P.Value.PartialEq.eq in
+    let s = shape_of c.args.steps.now.arity c.args.steps.now.dimensions.now in
+    let t = c.args.cap_layer in
+    let opening = c.args.opening in
+    let rows = row_sets opening.sets.now in
+    let p = opened_with opening.indices.now rows (length opening.sent.now) in
+    let none = c.in_ok-queried.ensures.0 in
+    let r = restorable eq s t p g.met.P.PackedValue.eq_is_equality (ap (λ refusal. ok_unless refusal (tt {0})) none) in
+    let asked = asked_of eq s t p none in
+    record {
+      queried = record { well_shaped = c.requires.arity; below = r.below; in_tree = c.requires.in_tree };
+      low = tallest_fits (heights s) (none_large_from_lawful (heights s) r.lawful);
+      pairs = sym (length-map opening.sets.now (λ rows. row_lists rows.items)) ∙ sym asked.pairs;
+      all_sent = sym (length-replicate (length opening.sent.now) []) ∙ r.count;
+      agreed = agreed_with s t opening.indices.now rows (replicate (length opening.sent.now) []) [] r.agreed;
+      fit = r.rows_fit;
+      distinct = c.in_ok-queried.ensures.1;
+    }
+
+pub new-requires : goal.new-requires
+new-requires g c =
+    let s = shape_of c.args.steps.now.arity c.args.steps.now.dimensions.now in
+    let opening = c.args.opening in
+    let p = opened_with opening.indices.now (row_sets opening.sets.now) (length opening.sent.now) in
+    let none = c.in_ok-queried.ensures.0 in
+    let r = restorable g.P.Value.PartialEq.eq s c.args.cap_layer p g.met.P.PackedValue.eq_is_equality
+    (ap (λ refusal. ok_unless refusal (tt {0})) none) in
+    record {
+      arity = c.requires.arity;
+      low = tallest_fits (heights s) (none_large_from_lawful (heights s) r.lawful);
+      below = r.below;
+      nodes = c.in_ok-nodes.ensures.items ∙ c.deref.ensures.value ∙ c.in_ok-queried.ensures.1.indices;
+    }
