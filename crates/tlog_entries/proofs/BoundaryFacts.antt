@@ -1,22 +1,20 @@
--- The boundary of some entries, child by child.
-use Rattle.std.proofs.Common.{◌≡◌, ℕ, ◌+◌, ◌-◌, ◌*◌, ◌<◌, ◌≤◌, Bool, true, false, not, List, [], ◌∷◌, ◌++◌, map, filter}
-use Rattle.std.proofs.Common.{refl, ap, sym, ◌∙◌, arith, length, take, get_or, append_assoc, append-nil, eqb}
-use Rattle.std.proofs.Common.{inl, inr, cond}
+-- The boundary of some entries, sibling by sibling.
+use Rattle.std.proofs.Common.{◌≡◌, ℕ, suc, ◌+◌, ◌*◌, ◌/◌, ◌%◌, ◌<◌, Bool, true, false, not, List, [], ◌∷◌, ◌++◌, map}
+use Rattle.std.proofs.Common.{filter, ap, sym, ◌∙◌, arith, length, take, get_or, append_assoc, eqb, eq-eqb, inl, inr}
 use Rattle.std.specs.Prelude.{Result, Ok, Err}
 use Rattle.std.specs.Result.{is_err}
-use Rattle.std.specs.List.{flat_map, range_with_len}
 use Rattle.std.specs.List.Sorted.{IsBinarySearchResult}
 use Rattle.std.specs.Ordering.{nat_cmp}
-use Rattle.std.proofs.lemmas.Bool.{cases_lt, eqb-true, false_from_ne_true}
-use Rattle.std.proofs.lemmas.Grind.{flat_map-append}
+use Rattle.std.proofs.lemmas.Bool.{cases_Bool, cases_eq, cases_lt, eqb-true, false_from_ne_true, or_left, or_right}
+use Rattle.std.proofs.lemmas.Bool.{true≢false}
 use Rattle.std.proofs.lemmas.List.{map-append, take_more, get_or_default}
 use Rattle.std.proofs.lemmas.List.Elements.{filter-append}
 use Rattle.std.proofs.lemmas.List.Folds.{Any-from_list_any}
 use Rattle.std.proofs.lemmas.List.Sorted.{searched}
 use Rattle.p3_support.specs.Lists.{is_among}
 use Rattle.p3_merkle_core.specs.Inner.Agreement.{IsAscending}
-use Rattle.p3_merkle_core.specs.Inner.Children.{children_under}
-use Rattle.p3_merkle_core.proofs.Lists.RisingFacts.{listed_at, range_joined}
+use Rattle.p3_merkle_core.proofs.Lists.RisingFacts.{IsRising, is_listed, listed_at, rising_lower}
+use Rattle.tlog_entries.specs.Inner.Siblings.{sibling}
 
 -- ---- what a binary search finds
 
@@ -41,50 +39,56 @@ missed_among xs x (Err i) up h t =
       | inr more ↦ let l = missed.2 q.0 more q.2 in absurd (omega arith)
     ]))
 
--- ---- child by child
+-- ---- sibling by sibling
 
--- one number more
-pub more_in_range : (p : ℕ → Bool) (a i : ℕ) → a ≤ i →
-    filter p (range_with_len a (i + 1 - a)) ≡ filter p (range_with_len a (i - a)) ++ cond (p i) (i ∷ []) []
-more_in_range p a i h =
-    let e : i - a + 1 ≡ i + 1 - a = omega arith in
-    let z : a + (i - a) ≡ i = omega arith in
-    let joined = rw (e, z) at (range_joined a (i - a) 1) in
-    let one : filter p (range_with_len i 1) ≡ cond (p i) (i ∷ []) [] = refl in
-    ap (filter p) joined ∙ filter-append p (range_with_len a (i - a)) (range_with_len i 1)
-    ∙ ap (λ ys. filter p (range_with_len a (i - a)) ++ ys) one
+-- one node more
+pub node_more : {X : Type 0} (f : ℕ → X) (p : ℕ → Bool) (g : ℕ → ℕ) (xs : List ℕ) (i : ℕ) (old so_far new : List X) →
+    i < length xs → so_far ≡ old ++ map f (filter p (map g (take i xs))) →
+    new ≡ so_far ++ map f (filter p (g (get_or xs i 0) ∷ [])) →
+    new ≡ old ++ map f (filter p (map g (take (i + 1) xs)))
+node_more f p g xs i old so_far new h is more =
+    let front = map g (take i xs) in
+    let last = g (get_or xs i 0) ∷ [] in
+    more ∙ ap (λ ys. ys ++ map f (filter p last)) is
+    ∙ append_assoc old (map f (filter p front)) (map f (filter p last))
+    ∙ ap (λ ys. old ++ ys) (sym (map-append f (filter p front) (filter p last))
+    ∙ ap (map f) (sym (filter-append p front last)))
+    ∙ ap (λ ys. old ++ map f (filter p ys))
+    (sym (ap (map g) (take_more xs i 0 h) ∙ map-append g (take i xs) (get_or xs i 0 ∷ [])))
 
--- one child more that passes, or one that does not
-pub child_kept : {X : Type 0} (f : ℕ → X) (p : ℕ → Bool) (a i : ℕ) (old so_far new : List X) → a ≤ i → p i ≡ true →
-    so_far ≡ old ++ map f (filter p (range_with_len a (i - a))) → new ≡ so_far ++ f i ∷ [] →
-    new ≡ old ++ map f (filter p (range_with_len a (i + 1 - a)))
-child_kept f p a i old so_far new h t is more =
-    more ∙ ap (λ ys. ys ++ f i ∷ []) is
-    ∙ append_assoc old (map f (filter p (range_with_len a (i - a)))) (f i ∷ [])
-    ∙ ap (λ ys. old ++ ys) (sym (ap (map f) (more_in_range p a i h ∙ rw t refl)
-    ∙ map-append f (filter p (range_with_len a (i - a))) (i ∷ [])))
+-- ---- siblings ascend
 
-pub child_left : {X : Type 0} (f : ℕ → X) (p : ℕ → Bool) (a i : ℕ) (old so_far : List X) → a ≤ i → p i ≡ false →
-    so_far ≡ old ++ map f (filter p (range_with_len a (i - a))) →
-    so_far ≡ old ++ map f (filter p (range_with_len a (i + 1 - a)))
-child_left f p a i old so_far h n is =
-    is ∙ ap (λ ys. old ++ map f ys)
-    (sym (more_in_range p a i h ∙ rw n (append-nil (filter p (range_with_len a (i - a))))))
+-- ascending numbers without their least bound
+rising_past : (a : ℕ) (xs : List ℕ) → IsRising a xs → is_listed xs a ≡ false → IsRising (suc a) xs
+rising_past a [] r missed = tt
+rising_past a (x ∷ xs) r missed =
+    elim (cases_eq x a) [
+      | inl e ↦ absurd (true≢false (sym (or_left (eqb x a) (is_listed xs a) (eq-eqb x a e)) ∙ missed))
+      | inr ne ↦ (omega (arith, r.0), r.1)
+    ]
 
--- one parent more
-pub parent_more : {X : Type 0} (f : ℕ → X) (p : ℕ → Bool) (parents : List ℕ) (i a b : ℕ) (old so_far new : List X) →
-    i < length parents → a ≡ 2 * get_or parents i 0 → b ≡ a + 2 →
-    so_far ≡ old ++ map f (filter p (children_under 2 (take i parents))) →
-    new ≡ so_far ++ map f (filter p (range_with_len a (b - a))) →
-    new ≡ old ++ map f (filter p (children_under 2 (take (i + 1) parents)))
-parent_more f p parents i a b old so_far new h is_a is_b is more =
-    let g = λ (q : ℕ). range_with_len (2 * q) 2 in
-    let front = flat_map g (take i parents) in
-    let two : b - a ≡ 2 = omega arith in
-    let joined : flat_map g (take (i + 1) parents) ≡ front ++ range_with_len a 2 =
-    ap (flat_map g) (take_more parents i 0 h) ∙ flat_map-append g (take i parents) (get_or parents i 0 ∷ [])
-    ∙ ap (λ ys. front ++ ys) (append-nil (g (get_or parents i 0)) ∙ ap (λ k. range_with_len k 2) (sym is_a)) in
-    more ∙ rw two (ap (λ ys. ys ++ map f (filter p (range_with_len a 2))) is)
-    ∙ append_assoc old (map f (filter p front)) (map f (filter p (range_with_len a 2)))
-    ∙ ap (λ ys. old ++ ys) (sym (map-append f (filter p front) (filter p (range_with_len a 2)))
-    ∙ ap (map f) (sym (filter-append p front (range_with_len a 2)) ∙ ap (filter p) (sym joined)))
+-- the siblings of ascending numbers that are not among them ascend
+pub siblings_rise : (here : List ℕ) (h : ℕ) (xs : List ℕ) →
+    ((j : ℕ) → is_listed xs j ≡ true → is_listed here j ≡ true) → IsRising (2 * h) xs → IsRising (2 * h) (filter (λ j. not (is_listed here j)) (map sibling xs))
+siblings_rise here h [] within r = tt
+siblings_rise here h (x ∷ xs) within r =
+    let k = sibling x in
+    let inside = λ (j : ℕ) (l : is_listed xs j ≡ true). within j (or_right (eqb x j) (is_listed xs j) l) in
+    elim (cases_Bool (is_listed here k)) [
+      | inl t ↦ rw t (siblings_rise here h xs inside (rising_lower (2 * h) (suc x) xs (omega (arith, r.0)) r.1))
+      | inr f ↦
+          let past : IsRising (2 * (x / 2 + 1)) xs =
+          elim (cases_eq (x % 2) 0) [
+            | inl even ↦
+                let next : suc x ≡ k = omega arith in
+                let no : is_listed xs (suc x) ≡ false =
+                false_from_ne_true (is_listed xs (suc x)) (λ l.
+                true≢false (sym (rw next at (inside (suc x) l)) ∙ f)) in
+                rising_lower (2 * (x / 2 + 1)) (suc (suc x)) xs (omega arith) (rising_past (suc x) xs r.1 no)
+            | inr odd ↦ rising_lower (2 * (x / 2 + 1)) (suc x) xs (omega arith) r.1
+          ] in
+          rw f (
+            omega (arith, r.0),
+            rising_lower (suc k) (2 * (x / 2 + 1)) _ (omega arith) (siblings_rise here (x / 2 + 1) xs inside past),
+          )
+    ]

@@ -1,27 +1,32 @@
 -- The boundary of some entries in the tree of a log.
-use Rattle.std.proofs.Common.{◌≡◌, ℕ, zero, suc, ◌+◌, ◌*◌, ◌^◌, ◌<◌, ◌≤◌, Bool, true, not, List, [], ◌∷◌, ◌++◌, map}
-use Rattle.std.proofs.Common.{filter, refl, ap, sym, ◌∙◌, arith, add-one, eqb, length, get_or, All}
+use Rattle.std.proofs.Common.{◌≡◌, ℕ, zero, suc, ◌+◌, ◌^◌, ◌<◌, ◌≤◌, Bool, true, not, List, ◌++◌, map}
+use Rattle.std.proofs.Common.{filter, ap, sym, ◌∙◌, arith, add-one, eqb, length, get_or, All}
+use Rattle.std.specs.Prelude.{◌/◌, ◌&&◌, ◌≢◌}
 use Rattle.std.specs.List.{range_with_len}
-use Rattle.std.proofs.lemmas.Bool.{eqb-true}
+use Rattle.std.proofs.lemmas.Bool.{and_from, and_parts, both_ways, eqb-true, false_from_ne_true, not-true}
+use Rattle.std.proofs.lemmas.Bool.{not_from_false, true≢false}
 use Rattle.std.proofs.lemmas.List.{get_or_default, get_or-map, length-map}
-use Rattle.std.proofs.lemmas.List.Elements.{All-append, filter-append}
+use Rattle.std.proofs.lemmas.List.Elements.{All-append}
 use Rattle.std.proofs.lemmas.List.Folds.{Any-from_list_any}
+use Rattle.std.proofs.lemmas.Map.Views.{any-filter_same}
 use Rattle.std.proofs.Math.Nat.{div-le_self}
 use Rattle.p3_support.specs.Lists.{is_among}
 use Rattle.p3_merkle_core.specs.Geometry.{Shape, ancestor, exponent, layer_len, leaves_under}
-use Rattle.p3_merkle_core.specs.Geometry.{levels}
+use Rattle.p3_merkle_core.specs.Geometry.{levels, step}
 use Rattle.p3_merkle_core.specs.Inner.Agreement.{IsAscending}
-use Rattle.p3_merkle_core.specs.Inner.Children.{children_under}
 use Rattle.p3_merkle_core.specs.Inner.Covered.{covered_at}
 use Rattle.p3_merkle_core.specs.Pruning.{CanQuery, boundary, boundary_at, is_boundary, is_covered}
-use Rattle.p3_merkle_core.proofs.Covered.CoveredFacts.{boundary_by_lists, listed_covered}
+use Rattle.p3_merkle_core.proofs.Covered.CoveredFacts.{covered_child, covered_listed, group_fits, listed_covered}
+use Rattle.p3_merkle_core.proofs.Covered.Under.{covered_up}
 use Rattle.p3_merkle_core.proofs.Lists.ListFacts.{joined_more}
-use Rattle.p3_merkle_core.proofs.Lists.RisingFacts.{by_groups, listed_at, rising_filter}
+use Rattle.p3_merkle_core.proofs.Lists.RisingFacts.{filter_is, listed_at, listed_map, map_lists, rising_filter}
 use Rattle.p3_merkle_core.proofs.Pruned.SlotFacts.{ascending_from}
 use Rattle.p3_merkle_core.proofs.Shapes.LadderFacts.{levels_le}
 use Rattle.p3_merkle_core.proofs.Shapes.LeastFacts.{exponent_le}
 use Rattle.tlog.specs.Verdicts.{size_limit}
 use Rattle.tlog_entries.specs.Instance.{log_shape}
+use Rattle.tlog_entries.specs.Inner.Siblings.{sibling}
+use Rattle.tlog_entries.proofs.BoundaryFacts.{siblings_rise}
 use Rattle.tlog_entries.proofs.Shapes.{step_of_two, tallest, two_is_arity}
 
 -- indices below the size can be queried
@@ -49,36 +54,70 @@ covered_small s indices m l j below c =
     (ap (λ x. eqb (ancestor s l x) j) (get_or_default indices q.0 0 q.1 q.2 ∙ q.3) ∙ q.4) in
     omega (arith, below q.0 0 q.2, div-le_self i (leaves_under s l))
 
-pub parents_fit : (size : ℕ) (indices : List ℕ) (l : ℕ) (xs : List ℕ) → size ≤ size_limit →
+pub nodes_fit : (size : ℕ) (indices : List ℕ) (l : ℕ) (xs : List ℕ) → size ≤ size_limit →
     All (λ i. i < size) indices →
-    xs ≡ covered_at (log_shape size) indices l → All (λ parent. 2 * parent + 2 < 2 ^ 64) xs
-parents_fit size indices l xs small below is k d h =
+    xs ≡ covered_at (log_shape size) indices l → All (λ node. node + 1 < 2 ^ 64) xs
+nodes_fit size indices l xs small below is k d h =
     let s = log_shape size in
     let c = listed_covered s indices l (get_or xs k d)
     (ap (λ (ys : List ℕ). is_among ys (get_or xs k d)) (sym is) ∙ listed_at xs k d h) in
     omega (arith, covered_small s indices size l (get_or xs k d) below c)
 
--- the uncovered children of the covered nodes above are the boundary's
-children_by_groups : (p : ℕ → Bool) (n : ℕ) (parents : List ℕ) → filter p (children_under n parents)
-    ≡ by_groups n p parents
-children_by_groups p n [] = refl
-children_by_groups p n (g ∷ parents) = filter-append p (range_with_len (n * g) n) (children_under n parents)
-    ∙ ap (λ ys. filter p (range_with_len (n * g) n) ++ ys) (children_by_groups p n parents)
+not_if : (x y : Bool) → (x ≡ true → y ≡ true) → not y ≡ true → not x ≡ true
+not_if x y h n = not_from_false x (false_from_ne_true x (λ e. both_ways y (not-true y n) (h e)))
 
-pub boundary_more : (size : ℕ) (indices : List ℕ) (l : ℕ) (here above : List ℕ) (old new : List (ℕ × ℕ)) →
-    All (λ i. i < size) indices → l < levels (log_shape size) → here ≡ covered_at (log_shape size) indices l →
-    above ≡ covered_at (log_shape size) indices (suc l) → old ≡ boundary (log_shape size) indices l →
-    new ≡ old ++ map (λ j. (l, j)) (filter (λ j. not (is_among here j)) (children_under 2 above)) →
-    new ≡ boundary (log_shape size) indices (l + 1)
-boundary_more size indices l here above old new below h is_here is_above is_old is_new =
+-- what a filter lists
+kept_where : (p : ℕ → Bool) (xs : List ℕ) (j : ℕ) → is_among (filter p xs) j ≡ (p j && is_among xs j)
+kept_where p xs j = any-filter_same (λ x. eqb x j) p (p j) (λ x e. ap p (eqb-true x j e)) xs
+
+-- the uncovered siblings of the covered nodes are the boundary's
+siblings_are : (size : ℕ) (indices : List ℕ) (l : ℕ) → All (λ i. i < size) indices → l < levels (log_shape size) →
+    let s = log_shape size in let here = covered_at s indices l in
+    filter (λ j. not (is_among here j)) (map sibling here)
+    ≡ filter (is_boundary s indices l) (range_with_len 0 (layer_len s l))
+siblings_are size indices l below h =
     let s = log_shape size in
-    let p = λ (j : ℕ). not (is_among (covered_at s indices l) j) in
-    let groups : filter p (children_under 2 (covered_at s indices (suc l)))
-    ≡ filter (is_boundary s indices l) (range_with_len 0 (layer_len s l)) =
-    children_by_groups p 2 (covered_at s indices (suc l))
-    ∙ ap (λ n. by_groups n p (covered_at s indices (suc l))) (sym (step_of_two size l))
-    ∙ boundary_by_lists s indices (levels s) (log_query size indices below) l h in
-    is_new ∙ rw (is_old, is_here, is_above, groups, add-one) (sym (joined_more (boundary_at s indices) l))
+    let here = covered_at s indices l in
+    let w = log_query size indices below in
+    let p = λ (j : ℕ). not (is_among here j) in
+    let two = step_of_two size l in
+    filter_is (is_boundary s indices l) 0 (layer_len s l) (filter p (map sibling here)) (record {
+      rising = siblings_rise here 0 here (λ j t. t) (rising_filter (is_covered s indices l) 0 (layer_len s l));
+      sound = λ j t.
+          let kept = and_parts (p j) (is_among (map sibling here) j) (sym (kept_where p (map sibling here) j) ∙ t) in
+          let from = listed_map sibling here j kept.1 in
+          let up = covered_up s indices l from.0 (listed_covered s indices l from.0 from.1) in
+          let above : is_covered s indices (suc l) (j / step s l) ≡ true =
+          let e : from.0 / step s l ≡ j / step s l = rw two (omega (arith, from.2)) in rw e at up in
+          let fits = group_fits s indices (levels s) w l h (j / step s l)
+          (covered_listed s indices (levels s) w (suc l) (j / step s l) (omega arith) above) in (
+            (let inside = rw two at fits in omega arith),
+            and_from (is_covered s indices (suc l) (j / step s l)) (not (is_covered s indices l j)) above
+                (not_if (is_covered s indices l j) (is_among here j)
+                (covered_listed s indices (levels s) w l j (omega arith)) kept.0),
+          );
+      complete = λ j low high b.
+          let both = and_parts (is_covered s indices (suc l) (j / step s l)) (not (is_covered s indices l j)) b in
+          let child = covered_child s indices l (j / step s l) both.0 in
+          let e : child.0 / 2 ≡ j / 2 = ap (λ n. child.0 / n) (sym two) ∙ child.2 ∙ ap (λ n. j / n) two in
+          let other : child.0 ≢ j = λ same.
+          true≢false (sym (rw same at child.1) ∙ not-true (is_covered s indices l j) both.1) in
+          let is : sibling child.0 ≡ j = omega (arith, other) in
+          let there = covered_listed s indices (levels s) w l child.0 (omega arith) child.1 in
+          kept_where p (map sibling here) j
+          ∙ and_from (p j) (is_among (map sibling here) j)
+          (not_if (is_among here j) (is_covered s indices l j) (listed_covered s indices l j) both.1)
+          (rw is at (map_lists sibling here child.0 there));
+    })
+
+pub boundary_more : (size : ℕ) (indices : List ℕ) (l : ℕ) (here : List ℕ) (old new : List (ℕ × ℕ)) →
+    All (λ i. i < size) indices → l < levels (log_shape size) → here ≡ covered_at (log_shape size) indices l →
+    old ≡ boundary (log_shape size) indices l →
+    new ≡ old ++ map (λ j. (l, j)) (filter (λ j. not (is_among here j)) (map sibling here)) →
+    new ≡ boundary (log_shape size) indices (l + 1)
+boundary_more size indices l here old new below h is_here is_old is_new =
+    is_new ∙ rw (is_old, is_here, siblings_are size indices l below h, add-one)
+    (sym (joined_more (boundary_at (log_shape size) indices) l))
 
 -- ---- the layers of the boundary
 

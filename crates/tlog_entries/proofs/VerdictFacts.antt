@@ -267,18 +267,17 @@ module _ (hash : HashFunction) (size : ℕ) (indices : List ℕ) (leaves proof :
         ]
 
     -- what the port answers is answered of entries
-    pub verdict_kept : {V : Type 0} (v : V) → IsVerdict port (Ok v) →
-        Keeps hash size indices leaves proof root (Ok tt)
-    verdict_kept v w = keeps hash size indices leaves proof root (Ok tt) (ok_unrefused v w)
-
-    pub error_kept : {V : Type 0} (e : MerkleTreeError) (why : EntriesError) → IsMeaning e why →
-        IsVerdict {V = V} port (Err e) → Keeps hash size indices leaves proof root (Err why)
-    error_kept {V} e why means w = keeps hash size indices leaves proof root (Err why) (elim means [
-      | inl memory ↦ inl memory.1
-      | inr rest ↦ elim rest [
-        | inl other ↦
-            let verdict = subst (λ (x : MerkleTreeError). IsVerdict {V = V} port (Err x)) other.0 w in
-            inr (other_root verdict ∙ ap Some (sym other.1))
-        | inr two ↦ inr (other_error e two.0 two.1 w ∙ ap Some (sym two.2))
-      ]
-    ])
+    pub meaning_kept : (verdict : Result (Unit {0}) MerkleTreeError) (result : Result (Unit {0}) EntriesError) →
+        IsVerdict port verdict → IsMeaning verdict result → Keeps hash size indices leaves proof root result
+    meaning_kept (Ok v) result w is =
+        rw is (keeps hash size indices leaves proof root (Ok v) (ok_unrefused v w))
+    meaning_kept (Err e) result w means = rw means.1 (keeps hash size indices leaves proof root (Err means.0)
+        (elim means.2 [
+          | inl memory ↦ inl memory.1
+          | inr rest ↦ elim rest [
+            | inl other ↦
+                let verdict = subst (λ (x : MerkleTreeError). IsVerdict {V = Unit {0}} port (Err x)) other.0 w in
+                inr (other_root verdict ∙ ap Some (sym other.1))
+            | inr two ↦ inr (other_error e two.0 two.1 w ∙ ap Some (sym two.2))
+          ]
+        ]))

@@ -1,3 +1,4 @@
 -- Definitions that only proofs, and calls that no public contract mentions, use.
 pub mod Paths
 pub mod Meanings
+pub mod Siblings

@@ -3,13 +3,13 @@ ghost use Rattle.std.specs.Prelude.{◌≡◌, ℕ, List, [], length, slice_inde
 ghost use Rattle.std.specs.Prelude.{filter, map, not};
 ghost use Rattle.p3_merkle_core.specs.Geometry.{levels};
 ghost use Rattle.p3_merkle_core.specs.Inner.Agreement.{IsAscending};
-ghost use Rattle.p3_merkle_core.specs.Inner.Children.{children_under};
 ghost use Rattle.p3_merkle_core.specs.Pruning.{boundary};
 ghost use Rattle.p3_support.specs.Lists.{is_among};
 ghost use Rattle.tlog.specs.Rfc9162.{Hash};
 ghost use Rattle.tlog.specs.Verdicts.{size_limit};
 ghost use Rattle.tlog_tree.specs.Trees.{all_there, leaves_root, values_at};
 ghost use Rattle.tlog_entries.specs.Entries.{AreIncluded, is_node as is_node_by, proof_nodes};
+ghost use Rattle.tlog_entries.specs.Inner.Siblings.{sibling};
 ghost use Rattle.tlog_entries.specs.Instance.{log_shape};
 
 use crate::tree::dimensions_of;
@@ -59,7 +59,7 @@ pub(crate) fn is_node(size: usize, slot: (usize, usize)) -> bool
 }
 
 /// The slots whose digests a proof of some entries has, each by its layer and its place there: layer by layer from the
-/// leaves, ascending, padding included. It allocates a list of the covered nodes for each layer.
+/// leaves, ascending, padding included.
 ///
 /// # Errors
 ///
@@ -80,31 +80,27 @@ pub(crate) fn boundary_slots(
     let mut covered = Covered::new(&steps, indices, distinct_indices(alloc, indices)?);
     let mut slots = Vec::new(alloc);
     for layer in 0..steps.num_levels {
-        let below = Vec::from_slice(alloc, &covered.nodes)?;
+        push_uncovered(&mut slots, layer, &covered.nodes)?;
         covered.climb();
-        push_uncovered(&mut slots, layer, &covered.nodes, &below)?;
     }
     Ok(slots)
 }
 
-/// Adds the children of some nodes that are not covered, in order. `layer` is the children's layer, whose covered nodes
-/// ascend.
+/// Adds the siblings of the covered nodes of a layer that are not covered, in order. The covered nodes ascend.
 fn push_uncovered(
     slots: &mut Vec<(usize, usize)>,
     layer: usize,
-    parents: &[usize],
     covered: &[usize],
 ) -> Result<(), AllocError>
     requires ascending { IsAscending covered.now }
-    requires fits { All (λ parent. 2 * parent + 2 < 2 ^ 64) parents.now }
+    requires fits { All (λ node. node + 1 < 2 ^ 64) covered.now }
     ensures { IfOk result (λ done. slots.new.items ≡ slots.old.items
-        ++ map (λ j. (layer, j)) (filter (λ j. not (is_among covered.now j)) (children_under 2 parents.now))) }
+        ++ map (λ j. (layer, j)) (filter (λ j. not (is_among covered.now j)) (map sibling covered.now))) }
 {
-    for parent in parents {
-        for child in 2 * *parent..2 * *parent + 2 {
-            if covered.binary_search(&child).is_err() {
-                slots.push((layer, child))?;
-            }
+    for node in covered {
+        let sibling = if *node % 2 == 0 { *node + 1 } else { *node - 1 };
+        if covered.binary_search(&sibling).is_err() {
+            slots.push((layer, sibling))?;
         }
     }
     Ok(())

@@ -1,6 +1,5 @@
-//! What an accepted proof of several entries shows of them, or else a collision of SHA-256.
+//! What an accepted proof of several entries shows of them, or else a collision of the hash function.
 ghost use Rattle.std.specs.Prelude.{◌≡◌, ◌↔◌, ◌<◌, ℕ, [], IfOk, IfSome, IsNone, length, slice_index, slice_index_or};
-ghost use Rattle.sha2.specs.Sha256.{sha256};
 ghost use Rattle.tlog.specs.Collisions.{IsCollision, entries_of};
 ghost use Rattle.tlog_collisions.specs.Fixed.{RootFixesLeaf};
 ghost use Rattle.tlog_entries.specs.Fixed.{RootFixesLeaves};
@@ -11,20 +10,20 @@ use crate::error::EntriesError;
 use crate::node::Node;
 use crate::opening::opening_of;
 use crate::tree::{dimensions_of, log_scheme};
-use crate::verify::verify_entries;
+use crate::verify::verify;
 use p3_merkle_core::pruning::MerkleAuthPath;
-use sha2::Sha256;
 use std::alloc::{AllocError, Global};
+use tlog::LogHash;
 use tlog::collision::{Collision, root};
 use tlog_collisions::leaf_collision;
 
 /// A collision, if one proof of several leaf hashes is accepted under the root of the entries, and one of them is not
-/// that of the entry at its index, counted from 0; else `None`.
+/// that of the entry at its index, counted from 0; else `None`. The hash function may be any whose values have 32 bytes.
 ///
 /// # Errors
 ///
 /// `AllocError` if memory runs out.
-pub fn entries_collision(
+pub fn entries_collision<H: LogHash<32>>(
     alloc: Global,
     entries: &[Vec<u8>],
     indices: &[usize],
@@ -32,12 +31,12 @@ pub fn entries_collision(
     proof: &[[u8; 32]],
 ) -> Result<Option<Collision>, AllocError>
     ensures none { IfOk result (λ found. IsNone found
-        ↔ RootFixesLeaves sha256 (entries_of entries.now) indices.now leaves.now proof.now) }
-    ensures collision { IfOk result (λ found. IfSome found (IsCollision sha256)) }
+        ↔ RootFixesLeaves H.hash (entries_of entries.now) indices.now leaves.now proof.now) }
+    ensures collision { IfOk result (λ found. IfSome found (IsCollision H.hash)) }
 {
     let size = entries.len();
-    let root = root::<Sha256, 32>(entries);
-    match verify_entries(alloc, size, indices, leaves, proof, &root) {
+    let root = root::<H, 32>(entries);
+    match verify::<H>(alloc, size, indices, leaves, proof, &root) {
         Ok(()) => {}
         Err(EntriesError::OutOfMemory) => return Err(AllocError),
         Err(_) => return Ok(None),
@@ -46,7 +45,7 @@ pub fn entries_collision(
         return Err(AllocError);
     };
     // An accepted proof restores, so that only memory is left to fail.
-    let Ok(paths) = log_scheme().restore_and_recompute_paths(
+    let Ok(paths) = log_scheme::<H>().restore_and_recompute_paths(
         alloc,
         &dimensions_of(size),
         indices,
@@ -55,12 +54,12 @@ pub fn entries_collision(
     ) else {
         return Err(AllocError);
     };
-    path_collision(alloc, entries, indices, leaves, &paths)
+    path_collision::<H>(alloc, entries, indices, leaves, &paths)
 }
 
 /// A collision, if one of some leaf hashes is accepted with its path under the root of the entries, and it is not that
 /// of the entry at its index; else `None`.
-fn path_collision(
+fn path_collision<H: LogHash<32>>(
     alloc: Global,
     entries: &[Vec<u8>],
     indices: &[usize],
@@ -70,13 +69,13 @@ fn path_collision(
     requires leaves { length leaves.now ≡ length indices.now }
     requires paths { length paths.now ≡ length indices.now }
     ensures none { IfOk result (λ found. IsNone found ↔ ((k : ℕ) → k < length indices.now →
-        RootFixesLeaf sha256 (entries_of entries.now) (slice_index indices.now k) (slice_index_or leaves.now k [])
+        RootFixesLeaf H.hash (entries_of entries.now) (slice_index indices.now k) (slice_index_or leaves.now k [])
         (present_in (slice_index_or (siblings_of paths.now) k [])))) }
-    ensures collision { IfOk result (λ found. IfSome found (IsCollision sha256)) }
+    ensures collision { IfOk result (λ found. IfSome found (IsCollision H.hash)) }
 {
     for k in 0..indices.len() {
         let path = present(alloc, &paths[k].siblings)?;
-        let found = leaf_collision::<Sha256, 32>(alloc, entries, indices[k], &leaves[k], &path)?;
+        let found = leaf_collision::<H, 32>(alloc, entries, indices[k], &leaves[k], &path)?;
         if found.is_some() {
             return Ok(found);
         }

@@ -25,7 +25,7 @@ pub fn smallest_proof()
     ensures { ProofIsSmallest }
 {}
 
-/// What is not refused is what is accepted.
+/// The definition of why entries are refused gives no reason exactly if they are accepted.
 pub fn unrefused_is_accepted()
     ensures { (hash : Hash) (size : ℕ) (indices : List ℕ) (leaves proof : List (List ℕ)) (root : List ℕ) →
         (entries_refusal hash size indices leaves proof root ≡ None)

@@ -1,9 +1,8 @@
 //! The hash and the compression of a log's tree (RFC 9162, 2.1.1).
 ghost use Rattle.std.specs.Prelude.{◌≡◌, ℕ, ◌<◌, ◌∷◌, [], map};
-ghost use Rattle.sha2.specs.Sha256.{sha256};
 ghost use Rattle.p3_merkle_mmcs.specs.Schemes.{params_of};
 ghost use Rattle.p3_support.specs.Lists.{lane_of};
-ghost use Rattle.tlog_entries.specs.Instance.{log_dimensions, log_params};
+ghost use Rattle.tlog_entries.specs.Instance.{log_dimensions, log_params, log_shape};
 ghost use Rattle.tlog_entries.specs.Nodes.{last_word, parent_digest, parent};
 ghost use Rattle.tlog_entries.specs.declared.node.Node.TheVariants.{Absent};
 
@@ -13,14 +12,15 @@ use p3_support::compress::PseudoCompressionFunction;
 use p3_support::hasher::CryptographicHasher;
 use p3_support::matrix::Dimensions;
 use std::convert::AsSlice;
-use tlog::node_hash;
+use std::marker::PhantomData;
+use tlog::LogHash;
 
-/// The parent of two nodes: SHA-256 of a byte 1 and both hashes (RFC 9162, 2.1.1), or the only child.
-fn parent_of(left: Node, right: Node) -> Node
-    ensures { result ≡ parent sha256 left right }
+/// The parent of two nodes: the hash of a byte 1 and both hashes (RFC 9162, 2.1.1), or the only child.
+fn parent_of<H: LogHash<32>>(left: Node, right: Node) -> Node
+    ensures { result ≡ parent H.hash left right }
 {
     match (left, right) {
-        (Node::Hash(left), Node::Hash(right)) => Node::Hash(node_hash(&left, &right)),
+        (Node::Hash(left), Node::Hash(right)) => Node::Hash(H::node_hash(&left, &right)),
         (left, Node::Absent) => left,
         (Node::Absent, right) => right,
     }
@@ -74,20 +74,22 @@ impl CryptographicHasher<Node, Node, 1> for LeafHashes {
     }
 }
 
-/// The compression of a log's tree.
-#[derive(Clone, Copy, Debug)]
-pub struct NodeHashes;
+/// The compression of a log's tree under a hash function.
+#[derive(Debug, Drop)]
+pub struct NodeHashes<H> {
+    hash: PhantomData<H>,
+}
 
-impl PseudoCompressionFunction<Node, 2, 1> for NodeHashes {
+impl<H: LogHash<32>> PseudoCompressionFunction<Node, 2, 1> for NodeHashes<H> {
     const LANES: usize = 1;
 
-    ghost compression = { λ c group. parent_digest sha256 group };
+    ghost compression = { λ c group. parent_digest H.hash group };
 
     fn compress(&self, input: [[Node; 1]; 2]) -> [Node; 1]
-        ensures { result ≡ parent_digest sha256 input }
+        ensures { result ≡ parent_digest H.hash input }
     {
         let [[left], [right]] = input;
-        [parent_of(left, right)]
+        [parent_of::<H>(left, right)]
     }
 
     fn compress_many(&self, groups: &[[[Node; 1]; 2]], out: &mut [[Node; 1]]) {
@@ -98,19 +100,24 @@ impl PseudoCompressionFunction<Node, 2, 1> for NodeHashes {
 
     fn compress_packed(&self, input: [[Node; 1]; 2]) -> [Node; 1]
         ensures { (k : ℕ) → k < 1 → lane_of (λ node. node ∷ []) Absent k result
-            ≡ parent_digest sha256 (map (lane_of (λ node. node ∷ []) Absent k) input) }
+            ≡ parent_digest H.hash (map (lane_of (λ node. node ∷ []) Absent k) input) }
     {
         self.compress(input)
     }
 }
 
 /// The scheme of a log's tree, whose cap is the root.
-pub(crate) fn log_scheme() -> MerkleTreeMmcs<Node, Node, LeafHashes, NodeHashes, 2, 1>
-    ensures { (size : ℕ) → params_of ⟦<LeafHashes as CryptographicHasher<Node, Node, 1>>⟧.hash
-        ⟦<NodeHashes as PseudoCompressionFunction<Node, 2, 1>>⟧.compression 1 result (log_dimensions size)
-        ≡ log_params sha256 size }
+pub(crate) fn log_scheme<H: LogHash<32>>() -> MerkleTreeMmcs<
+    Node,
+    Node,
+    LeafHashes,
+    NodeHashes<H>,
+    2,
+    1,
+>
+    ensures { (size : ℕ) → params_of result (log_shape size) ≡ log_params H.hash size }
 {
-    MerkleTreeMmcs::new(LeafHashes, NodeHashes, 0)
+    MerkleTreeMmcs::new(LeafHashes, NodeHashes { hash: PhantomData }, 0)
 }
 
 /// The dimensions of the column of a log's leaf hashes.

@@ -13,7 +13,9 @@ use crate::opening::opening_of;
 use crate::tree::{dimensions_of, log_scheme};
 use p3_merkle_core::error::MerkleTreeError;
 use p3_support::opening::MerkleCap;
+use sha2::Sha256;
 use std::alloc::Global;
+use tlog::LogHash;
 
 /// Whether one proof shows that the log of `size` entries under `root` has these leaf hashes as those of the entries at
 /// these indices, counted from 0: one for each index, in their order. The indices may be in any order, with repeats.
@@ -50,29 +52,46 @@ pub fn verify_entries(
     ensures refused { AnswersUnless (λ e. e ≡ OutOfMemory) result
         (entries_refusal sha256 size indices.now leaves.now proof.now root.now) }
 {
+    verify::<Sha256>(alloc, size, indices, leaves, proof, root)
+}
+
+/// The same under any hash function.
+pub(crate) fn verify<H: LogHash<32>>(
+    alloc: Global,
+    size: usize,
+    indices: &[usize],
+    leaves: &[[u8; 32]],
+    proof: &[[u8; 32]],
+    root: &[u8; 32],
+) -> Result<(), EntriesError>
+    ensures accepted { IsOk result
+        → (size ≤ size_limit) × AreIncluded H.hash size indices.now leaves.now proof.now root.now }
+    ensures complete { size ≤ size_limit → AreIncluded H.hash size indices.now leaves.now proof.now root.now
+        → AnswersUnless (λ e. e ≡ OutOfMemory) result None }
+    ensures refused { AnswersUnless (λ e. e ≡ OutOfMemory) result
+        (entries_refusal H.hash size indices.now leaves.now proof.now root.now) }
+{
     let opening = opening_of(alloc, size, indices, leaves, proof)?;
     let cap = MerkleCap::new(vec![in alloc; [Node::Hash(*root)]]?);
-    match log_scheme().verify_batch_pruned(
+    meaning_of(log_scheme::<H>().verify_batch_pruned(
         alloc,
         &cap,
         &dimensions_of(size),
         indices,
         &opening.opened_values,
         &opening.pruned_proof,
-    ) {
-        Ok(()) => Ok(()),
-        Err(e) => Err(meaning_of(e)),
-    }
+    ))
 }
 
-/// Why entries are refused whose form is right, by why their opening is.
-fn meaning_of(e: MerkleTreeError) -> EntriesError
-    ensures { IsMeaning e result }
+/// The verdict on entries whose form is right, by that on their opening.
+fn meaning_of(verdict: Result<(), MerkleTreeError>) -> Result<(), EntriesError>
+    ensures { IsMeaning verdict result }
 {
-    match e {
-        MerkleTreeError::OutOfMemory => EntriesError::OutOfMemory,
-        MerkleTreeError::CapMismatch => EntriesError::RootMismatch,
+    match verdict {
+        Ok(()) => Ok(()),
+        Err(MerkleTreeError::OutOfMemory) => Err(EntriesError::OutOfMemory),
+        Err(MerkleTreeError::CapMismatch) => Err(EntriesError::RootMismatch),
         // One of two openings of one index.
-        _ => EntriesError::TwoLeafHashes,
+        Err(_) => Err(EntriesError::TwoLeafHashes),
     }
 }

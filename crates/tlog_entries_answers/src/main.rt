@@ -6,18 +6,21 @@
 //! - `digests SIZE INDICES`: the first four bytes of each digest of the proof, as a tree of the log computes them.
 //! - `verify SIZE LOG-SIZE INDICES LEAVES NODES`: what `verify_entries` says of a log of SIZE entries, where the root,
 //!   the leaf hashes, which are those of the entries at LEAVES, and the digests are from a log of LOG-SIZE entries.
+//! - `weak SIZE INDICES LEAVES PROOF`: whether `entries_collision` finds a collision of a hash function of eight bits,
+//!   the first byte of SHA-256. Leaf hashes and digests of the proof are given by this byte.
 //!
-//! A line that is no question ends the program.
+//! A line that is no question ends the program, and so does a collision of SHA-256 that these entries and a proof show.
 #![tactic(auto)]
 
-use anyhow::{Result, bail};
+use anyhow::{Result, bail, ensure};
 use sha2::Sha256;
 use std::alloc::Global;
 use std::io;
 use std::io::{BufWriter, Write};
 use tlog::collision::root;
 use tlog::leaf_hash;
-use tlog_entries::{entry_places, verify_entries};
+use tlog_entries::{EntriesError, entries_collision, entry_places, verify_entries};
+use tlog_tests::weak::Weak;
 use tlog_tree::TreeBuilder;
 
 /// The first entries.
@@ -50,6 +53,17 @@ fn numbers(alloc: Global, list: &str) -> Result<Vec<usize>> {
         }
     }
     Ok(numbers)
+}
+
+/// The values of a list under the hash function of eight bits.
+fn weak_hashes(alloc: Global, list: &str) -> Result<Vec<[u8; 32]>> {
+    let mut hashes = Vec::new(alloc);
+    for number in &numbers(alloc, list)? {
+        let mut hash = [0; 32];
+        hash[0] = u8::try_from(*number)?;
+        hashes.push(hash)?;
+    }
+    Ok(hashes)
 }
 
 /// The values of the nodes of a list in the tree of these entries.
@@ -103,10 +117,13 @@ fn answer_line<W: Write>(alloc: Global, line: &str, out: &mut W) -> Result<()> {
                 leaves.push(leaf_hash(entry))?;
             }
             let builder = TreeBuilder::new(alloc, &places)?.push_many(alloc, &leaves)?;
+            let mut text = String::new(alloc);
             for value in &builder.values(alloc)? {
                 let [a, b, c, d, ..] = value.unwrap_or([0; 32]);
-                write!(out, "{} ", hex::encode(alloc, &[a, b, c, d])?)?;
+                text.push_str(&hex::encode(alloc, &[a, b, c, d])?)?;
+                text.push(' ')?;
             }
+            write!(out, "{text}")?;
         }
         "verify" => {
             let log_size: usize = words.next().unwrap_or_default().parse()?;
@@ -116,9 +133,22 @@ fn answer_line<W: Write>(alloc: Global, line: &str, out: &mut W) -> Result<()> {
             let leaves = leaf_hashes(alloc, &log, &leaves)?;
             let proof = nodes(alloc, &log, words.next().unwrap_or_default())?;
             let root = root::<Sha256, 32>(&log);
+            let found = entries_collision::<Sha256>(alloc, &log, &indices, &leaves, &proof)?;
+            ensure!(found.is_none(), "SHA-256 has a collision");
             match verify_entries(alloc, size, &indices, &leaves, &proof, &root) {
                 Ok(()) => write!(out, "accepted")?,
+                Err(EntriesError::OutOfMemory) => bail!("out of memory"),
                 Err(e) => write!(out, "{e}")?,
+            }
+        }
+        "weak" => {
+            let log = entries(alloc, size)?;
+            let indices = numbers(alloc, words.next().unwrap_or_default())?;
+            let leaves = weak_hashes(alloc, words.next().unwrap_or_default())?;
+            let proof = weak_hashes(alloc, words.next().unwrap_or_default())?;
+            match entries_collision::<Weak>(alloc, &log, &indices, &leaves, &proof)? {
+                Some(_) => write!(out, "collision")?,
+                None => write!(out, "none")?,
             }
         }
         _ => bail!("there is no such question"),

@@ -33,7 +33,9 @@ fn one_entry(rt: HostRuntime) -> Result<(), Fail> {
             let proof = inclusion_proof::<Sha256, 32>(alloc, &entries, index)?;
             let verdict = verify_entries(alloc, size, &[index], &[leaf], &proof, &root);
             assert_eq!(rt; verdict, Ok(()));
-            assert!(rt; entries_collision(alloc, &entries, &[index], &[leaf], &proof)?.is_none());
+            assert!(rt;
+                entries_collision::<Sha256>(alloc, &entries, &[index], &[leaf], &proof)?.is_none()
+            );
         }
     }
     Ok(())

@@ -1,10 +1,10 @@
 -- The hashes of inputs of one length, which lie one after another, are the parents of a layer.
 use Rattle.std.proofs.Common.{◌≡◌, ℕ, zero, suc, ◌+◌, ◌-◌, ◌*◌, ◌/◌, ◌<◌, List, [], ◌∷◌, ◌++◌, length, map, take}
-use Rattle.std.proofs.Common.{drop, get_or, refl, sym, ap, ◌∙◌, arith}
+use Rattle.std.proofs.Common.{drop, get_or, refl, sym, ap, ◌∙◌, arith, append_assoc}
 use Rattle.std.proofs.Math.Nat.{add-mul, one-mul}
 use Rattle.std.proofs.Math.Seq.{take-append_seam, drop-append-add}
 use Rattle.std.proofs.Common.{length-append, ◌%◌}
-use Rattle.std.proofs.lemmas.List.{drop_more, get_or-map, length-map}
+use Rattle.std.proofs.lemmas.List.{append-nil, drop_more, get_or-map, length-map}
 use Rattle.std.proofs.lemmas.List.FromFn.{fill_by_all}
 use Rattle.std.proofs.lemmas.Simd.{map-map}
 use Rattle.std.specs.List.{flat_map, range_with_len}
@@ -90,26 +90,37 @@ length-flat n L each =
     length-pieces (suc (n + n)) (node_inputs L) (each_input n L each)
     ∙ ap (λ (m : ℕ). suc (n + n) * m) (length-inputs L)
 
+-- the inputs of the first i pairs
+abbrev pub IsSoFar : List (List ℕ) → ℕ → List (List ℕ) → Type 0
+IsSoFar L i inputs = inputs ++ node_inputs (drop (2 * i) L) ≡ node_inputs L
+
 -- one more input
-pub inputs_more : (L : List (List ℕ)) (i : ℕ) → 2 * i + 1 < length L →
-    flat_inputs (drop (2 * i) L)
-    ≡ (1 ∷ (get_or L (2 * i) [] ++ get_or L (2 * i + 1) [])) ++ flat_inputs (drop (2 * (i + 1)) L)
-inputs_more L i h =
+pub inputs_more : (L : List (List ℕ)) (i : ℕ) (inputs : List (List ℕ)) → 2 * i + 1 < length L → IsSoFar L i inputs →
+    IsSoFar L (i + 1) (inputs ++ (1 ∷ (get_or L (2 * i) [] ++ get_or L (2 * i + 1) [])) ∷ [])
+inputs_more L i inputs h is =
+    let input = 1 ∷ (get_or L (2 * i) [] ++ get_or L (2 * i + 1) []) in
     let twice : 2 * i + 1 + 1 ≡ 2 * (i + 1) = omega arith in
     let one = drop_more L (2 * i) [] (omega arith) in
     let two = drop_more L (2 * i + 1) [] h in
-    ap flat_inputs (one ∙ ap (λ (rest : List (List ℕ)). get_or L (2 * i) [] ∷ rest) two)
-    ∙ ap (λ (j : ℕ). (1 ∷ (get_or L (2 * i) [] ++ get_or L (2 * i + 1) [])) ++ flat_inputs (drop j L)) twice
+    append_assoc inputs (input ∷ []) (node_inputs (drop (2 * (i + 1)) L))
+    ∙ ap (λ (rest : List (List ℕ)). inputs ++ rest)
+    (sym (ap node_inputs (one ∙ ap (λ (rest : List (List ℕ)). get_or L (2 * i) [] ∷ rest) two)
+    ∙ ap (λ (j : ℕ). input ∷ node_inputs (drop j L)) twice))
+    ∙ is
 
 -- no input is left
-pub inputs_end : (L : List (List ℕ)) (i : ℕ) → i ≡ length L / 2 → flat_inputs (drop (2 * i) L) ≡ []
-inputs_end L i e =
-    rw (single_is L i e) (none (single L) (length-single L))
+pub inputs_end : (L : List (List ℕ)) (i : ℕ) (inputs : List (List ℕ)) → i ≡ length L / 2 → IsSoFar L i inputs →
+    inputs ≡ node_inputs L
+inputs_end L i inputs e is =
+    sym (append-nil inputs) ∙ ap (λ (rest : List (List ℕ)). inputs ++ rest) (sym left) ∙ is
   where
-    none : (M : List (List ℕ)) → length M ≡ length L % 2 → flat_inputs M ≡ []
+    none : (M : List (List ℕ)) → length M ≡ length L % 2 → node_inputs M ≡ []
     none [] m = refl
     none (node ∷ []) m = refl
     none (left ∷ (right ∷ rest)) m = absurd (omega arith)
+
+    left : node_inputs (drop (2 * i) L) ≡ []
+    left = rw (single_is L i e) (none (single L) (length-single L))
 
 -- the hashes of the inputs of a layer's nodes of n bytes are the parents
 pub hashes_are_parents : (n m : ℕ) (hash : Hash) (L hashes : List (List ℕ)) (flat : List ℕ) →

@@ -1,10 +1,10 @@
 -- Each turn is one layer.
-use Rattle.std.proofs.Common.{◌≡◌, ◌<◌, ◌∙◌, add-one, ap, arith, refl, suc}
+use Rattle.std.proofs.Common.{◌≡◌, ◌<◌, ◌∙◌, add-one, ap, arith, refl}
 use Rattle.p3_merkle_core.specs.Geometry.{levels}
 use Rattle.p3_merkle_core.specs.Pruning.{boundary}
 use Rattle.p3_merkle_core.proofs.Covered.ClimbFacts.{covered_here}
 use Rattle.tlog_entries.specs.Instance.{log_shape}
-use Rattle.tlog_entries.proofs.ShapeFacts.{boundary_more, covered_ascend, layers_small, log_query, parents_fit}
+use Rattle.tlog_entries.proofs.ShapeFacts.{boundary_more, covered_ascend, layers_small, log_query, nodes_fit}
 use Rattle.tlog_entries.proofs.Shapes.{tallest, two_is_arity}
 use Rattle.tlog_entries.proofs.boundary.boundary_slots.Goals as goal
 
@@ -34,20 +34,19 @@ pub push_uncovered-requires-clause-ascending : goal.push_uncovered-requires-clau
 push_uncovered-requires-clause-ascending c =
     let at = c.loop-layer.invariant in
     let s = log_shape c.args.size in
-    let here = covered_here c.loop-layer.covered s c.args.indices.now c.loop-layer.layer at.shape_is at.indices at.layer in
-    covered_ascend s c.args.indices.now c.loop-layer.layer c.deref-in-loop-layer-2.result.now
-    (c.deref-in-loop-layer-2.ensures.value ∙ c.in_ok-below.ensures.items ∙ c.deref.ensures.value
-    ∙ here.nodes_are)
+    let here = covered_here c.loop-layer.covered s c.args.indices.now c.loop-layer.layer at.shape_is at.indices
+    at.layer in
+    covered_ascend s c.args.indices.now c.loop-layer.layer c.deref.result.now
+    (c.deref.ensures.value ∙ here.nodes_are)
 
 pub push_uncovered-requires-clause-fits : goal.push_uncovered-requires-clause-fits
 push_uncovered-requires-clause-fits c =
     let at = c.loop-layer.invariant in
     let l = c.loop-layer.layer in
-    let there = covered_here c.climb.new.self (log_shape c.args.size) c.args.indices.now (suc l)
-    (rw c.climb.ensures.steps at.shape_is) (c.climb.ensures.indices ∙ at.indices)
-    (rw at.layer at c.climb.ensures.layer) in
-    parents_fit c.args.size c.args.indices.now (suc l) c.deref-in-loop-layer.result.now c.requires.limit
-    c.requires.within (c.deref-in-loop-layer.ensures.value ∙ there.nodes_are)
+    let here = covered_here c.loop-layer.covered (log_shape c.args.size) c.args.indices.now l at.shape_is at.indices
+    at.layer in
+    nodes_fit c.args.size c.args.indices.now l c.deref.result.now c.requires.limit
+    c.requires.within (c.deref.ensures.value ∙ here.nodes_are)
 
 pub climb-requires : goal.climb-requires
 climb-requires c =
@@ -70,17 +69,13 @@ loop-layer-preserved c =
     steps.result.walked.whole in
     let below : l < levels (log_shape size) = omega arith in
     let here = covered_here c.loop-layer.covered (log_shape size) indices l at.shape_is at.indices at.layer in
-    let there = covered_here c.climb.new.self (log_shape size) indices (suc l) (rw c.climb.ensures.steps at.shape_is)
-    (c.climb.ensures.indices ∙ at.indices) (rw at.layer at c.climb.ensures.layer) in
     record {
       shape_is = rw c.climb.ensures.steps at.shape_is;
       indices = c.climb.ensures.indices ∙ at.indices;
       layer = rw add-one (rw at.layer at c.climb.ensures.layer);
-      so_far = boundary_more size indices l c.deref-in-loop-layer-2.result.now c.deref-in-loop-layer.result.now
-          c.loop-layer.slots.items c.push_uncovered.new.slots.items c.requires.within below
-          (c.deref-in-loop-layer-2.ensures.value ∙ c.in_ok-below.ensures.items ∙ c.deref.ensures.value
-          ∙ here.nodes_are)
-          (c.deref-in-loop-layer.ensures.value ∙ there.nodes_are) at.so_far c.in_ok-push_uncovered.ensures;
+      so_far = boundary_more size indices l c.deref.result.now c.loop-layer.slots.items
+          c.push_uncovered.new.slots.items c.requires.within below
+          (c.deref.ensures.value ∙ here.nodes_are) at.so_far c.in_ok-push_uncovered.ensures;
     }
 
 pub returns-clause-layers : goal.returns-clause-layers

@@ -1,37 +1,34 @@
--- Each turn is one child, or one parent.
-use Rattle.std.proofs.Common.{◌*◌, ap, arith, not, get_or, sym, ◌∙◌, refl}
+-- Each turn is one node.
+use Rattle.std.proofs.Common.{◌≡◌, ◌++◌, ◌∷◌, [], ℕ, ap, arith, filter, get_or, map, not, sym, ◌∙◌, append-nil}
 use Rattle.p3_support.specs.Lists.{is_among}
-use Rattle.tlog_entries.proofs.BoundaryFacts.{child_kept, child_left, found_among, missed_among, parent_more}
+use Rattle.tlog_entries.specs.Inner.Siblings.{sibling}
+use Rattle.tlog_entries.proofs.BoundaryFacts.{found_among, missed_among, node_more}
 use Rattle.tlog_entries.proofs.boundary.push_uncovered.Goals as goal
+use Rattle.tlog_entries.proofs.boundary.push_uncovered.Goals.{then-node-eq0, else-node-eq0}
 use Rattle.tlog_entries.proofs.boundary.push_uncovered.Goals.{then-is_err+in_ok-push, else-is_err}
 
-pub loop-child-preserved : goal.loop-child-preserved
-loop-child-preserved c =
+pub loop-node-preserved : goal.loop-node-preserved
+loop-node-preserved c =
     let covered = c.args.covered.now in
-    let child = c.loop-child.child-counter in
-    let first = 2 * get_or c.args.parents.now c.loop-parent.parent-index 0 in
+    let s = c.if-node-eq0.sibling in
+    let so_far = c.loop-node.slots.items in
+    let f : ℕ → ℕ × ℕ = λ j. (c.args.layer, j) in
+    let is : s ≡ sibling (get_or covered c.loop-node.node-index 0) =
+    elim c.if-node-eq0.branch [
+      | then-node-eq0 w ↦ w.sibling-is ∙ omega (arith, w.if-node-eq0.true)
+      | else-node-eq0 w ↦ w.sibling-is ∙ omega (arith, w.if-node-eq0.false)
+    ] in
+    let more : c.if-is_err.slots.items
+    ≡ so_far ++ map f (filter (λ j. not (is_among covered j)) (s ∷ [])) =
     elim c.if-is_err.branch [
-      | then-is_err+in_ok-push w ↦ record {
-        after = omega arith;
-        so_far = child_kept (λ j. (c.args.layer, j)) (λ j. not (is_among covered j)) first child
-            c.loop-parent.slots.items c.loop-child.slots.items c.if-is_err.slots.items c.loop-child.invariant.after
-            (missed_among covered child c.binary_search.result c.requires.ascending c.binary_search.ensures.position
-            (sym w.if-is_err.ensures.value)) c.loop-child.invariant.so_far
-            (ap (λ slots. slots.items) w.slots-is ∙ w.in_ok-push.ensures.items);
-      }
-      | else-is_err w ↦ record {
-        after = omega arith;
-        so_far = ap (λ slots. slots.items) w.slots-is
-            ∙ child_left (λ j. (c.args.layer, j)) (λ j. not (is_among covered j)) first child
-            c.loop-parent.slots.items c.loop-child.slots.items c.loop-child.invariant.after
-            (found_among covered child c.binary_search.result c.requires.ascending c.binary_search.ensures.position
-            (sym w.if-is_err.ensures.value)) c.loop-child.invariant.so_far;
-      }
-    ]
-
-pub loop-parent-preserved : goal.loop-parent-preserved
-loop-parent-preserved c =
-    parent_more (λ j. (c.args.layer, j)) (λ j. not (is_among c.args.covered.now j)) c.args.parents.now
-    c.loop-parent.parent-index (2 * get_or c.args.parents.now c.loop-parent.parent-index 0) c.loop-child.child-counter
-    c.args.slots.now.items c.loop-parent.slots.items c.loop-child.slots.items (omega arith) refl (omega arith)
-    c.loop-parent.invariant c.loop-child.invariant.so_far
+      | then-is_err+in_ok-push w ↦
+          let t = missed_among covered s c.binary_search.result c.requires.ascending c.binary_search.ensures.position
+          (sym w.if-is_err.ensures.value) in
+          rw t (ap (λ slots. slots.items) w.slots-is ∙ w.in_ok-push.ensures.items)
+      | else-is_err w ↦
+          let t = found_among covered s c.binary_search.result c.requires.ascending c.binary_search.ensures.position
+          (sym w.if-is_err.ensures.value) in
+          rw t (ap (λ slots. slots.items) w.slots-is ∙ sym (append-nil so_far))
+    ] in
+    node_more f (λ j. not (is_among covered j)) sibling covered c.loop-node.node-index c.args.slots.now.items so_far
+    c.if-is_err.slots.items c.loop-node-test.true c.loop-node.invariant (rw is at more)

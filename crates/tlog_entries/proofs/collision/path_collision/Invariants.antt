@@ -1,5 +1,4 @@
 use Rattle.std.proofs.Common.{◌<◌, ℕ, [], get_or}
-use Rattle.sha2.specs.Sha256.{sha256}
 use Rattle.tlog.specs.Collisions.{entries_of}
 use Rattle.tlog_collisions.specs.Fixed.{RootFixesLeaf}
 use Rattle.tlog_entries.specs.Inner.Paths.{siblings_of}
@@ -8,5 +7,5 @@ use Rattle.tlog_entries.proofs.collision.path_collision.Given as goal
 
 -- no collision is in the leaf hashes so far
 abbrev pub invariant-loop-k : goal.invariant-loop-k
-invariant-loop-k l = (j : ℕ) → j < l.k → RootFixesLeaf sha256 (entries_of l.entries) (get_or l.indices j 0)
+invariant-loop-k g l = (j : ℕ) → j < l.k → RootFixesLeaf g.H.LogHash.hash (entries_of l.entries) (get_or l.indices j 0)
     (get_or l.leaves j []) (present (get_or (siblings_of l.paths) j []))

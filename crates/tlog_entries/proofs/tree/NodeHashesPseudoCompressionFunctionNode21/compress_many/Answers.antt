@@ -1,15 +1,14 @@
 -- Each place has the digest of its group.
 use Rattle.std.proofs.Common.{rules, ◌≡◌, ◌<◌, ◌∙◌, sym, length, [], map}
 use Rattle.std.proofs.lemmas.List.{ext_get_or, get_or-map, length-map}
-use Rattle.sha2.specs.Sha256.{sha256}
 use Rattle.tlog_entries.specs.Nodes.{parent_digest}
 use Rattle.tlog_entries.proofs.tree.NodeHashesPseudoCompressionFunctionNode21.compress_many.Goals as goal
 
 pub returns : goal.returns
-returns c =
+returns g c =
     let groups = c.args.groups.now in
     let same : length c.loop-i.out ≡ length groups = c.loop-i.invariant.0 ∙ sym c.requires in
-    ext_get_or [] c.loop-i.out (map (parent_digest sha256) groups)
-    (same ∙ sym (length-map groups (parent_digest sha256))) (λ k h.
+    ext_get_or [] c.loop-i.out (map (parent_digest g.H.LogHash.hash) groups)
+    (same ∙ sym (length-map groups (parent_digest g.H.LogHash.hash))) (λ k h.
     let below : k < length groups = rw (← same) h in
-    c.loop-i.invariant.1 k (search rules) ∙ sym (get_or-map (parent_digest sha256) groups k [] [] below))
+    c.loop-i.invariant.1 k (search rules) ∙ sym (get_or-map (parent_digest g.H.LogHash.hash) groups k [] [] below))
