@@ -1,0 +1,192 @@
+-- Proofs of entries of a file.
+use Rattle.std.proofs.Common.{◌≡◌, ◌≤◌, ◌<◌, ◌-◌, ◌*◌, ◌^◌, ◌==◌, ◌∙◌, ℕ}
+use Rattle.std.proofs.Common.{List, [], ◌∷◌, ap, arith, inl, inr, length, map}
+use Rattle.std.proofs.Common.{get_or, refl, subst, sym, zip, Option, None, Some, Result, Ok, Err, Vec, Global, ⊎_elim}
+use Rattle.std.specs.Prelude.{Bool, true, false, All, filter, nat_le, nat_lt}
+use Rattle.std.specs.List.{list_all}
+use Rattle.std.specs.Option.{option_or}
+use Rattle.std.proofs.lemmas.Bool.{cases_Bool, eqb-true, leb-true, lt-ltb}
+use Rattle.std.proofs.lemmas.List.{get_or-map, length-map}
+use Rattle.std.proofs.lemmas.List.Elements.{All-cons, All-head, All-nil, All-tail}
+use Rattle.p3_merkle_core.specs.Refusals.{first_of, ok_unless, unless}
+use Rattle.sha2.specs.Sha256.{sha256}
+use Rattle.tlog.specs.Rfc9162.{Hash, leaf_hash, root_of}
+use Rattle.tlog.specs.Verdicts.{size_limit}
+use Rattle.tlog_tree.specs.Trees.{all_there, node_at, values_at}
+use Rattle.p3_merkle_core.specs.Geometry.{levels}
+use Rattle.p3_merkle_core.specs.Pruning.{boundary}
+use Rattle.tlog_entries.specs.Entries.{is_node, proof_nodes}
+use Rattle.tlog_entries.specs.Instance.{log_shape}
+use Rattle.log_text.specs.Texts.{CheckpointFields, EntryFields}
+use Rattle.log_files.specs.Entries.{entry_at, wanted_of}
+use Rattle.log_files.specs.declared.cut.Cut.{Cut}
+use Rattle.log_text.proofs.NoteLaws.{notes}
+use Rattle.log_text.specs.Reading.{checkpoint_in}
+use Rattle.log_text.specs.declared.error.TextError.{TextError}
+use Rattle.log_files.specs.declared.reading.ReadLog.{ReadLog}
+use Rattle.log_commands.specs.Commands.{HoldsOfInput}
+use Rattle.log_commands.specs.Inner.{entry_of, HasEntries, ReadsAs}
+use Rattle.log_commands.specs.Outcomes.{bytes_in, Gives}
+use Rattle.log_commands.specs.Outcomes.{and_then, bytes_from, entries_read}
+use Rattle.log_commands.specs.Outcomes.{entries_under, number_refusal, said_by, tree_refusal}
+use Rattle.log_commands.specs.declared.error.Error.{Error}
+use Rattle.log_commands.specs.declared.error.Error.TheVariants.{OutOfMemory}
+use Rattle.log_commands.specs.declared.error.Source.{Source}
+use Rattle.log_commands.specs.declared.error.Source.TheVariants.{File}
+
+-- ---- entries under a checkpoint are as many as it has
+
+ok_none : {V E : Type 0} (r : Option E) (v w : V) → ok_unless r v ≡ Ok w → (r ≡ None) × (v ≡ w)
+ok_none None v w is = (refl, cc)
+ok_none (Some e) v w is = cc
+
+none_first : {E : Type 0} (b : Bool) (e : E) (rest : Option E) → option_or (unless b e) rest ≡ None → b ≡ true
+none_first true e rest is = refl
+none_first false e rest is = cc
+
+by_read : (c : CheckpointFields) (r : Result (List (List ℕ)) Error) (entries : List (List ℕ)) →
+    and_then r (λ first. ok_unless (tree_refusal c (length first) (root_of sha256 first)) first) ≡ Ok entries →
+    length entries ≡ c.size
+by_read c (Err e) entries is = cc
+by_read c (Ok first) entries is =
+    let found = ok_none (tree_refusal c (length first) (root_of sha256 first)) first entries is in
+    ap length (sym found.1)
+    ∙ eqb-true (length first) c.size (none_first (length first == c.size) _ _ found.0)
+
+pub under_size : (cut : Cut) (c : CheckpointFields) (input : Option (List ℕ)) (entries : List (List ℕ)) →
+    and_then (bytes_from File input) (entries_under cut c) ≡ Ok entries → length entries ≡ c.size
+under_size cut c None entries is = cc
+under_size cut c (Some bytes) entries is = by_read c (entries_read cut (Some c.size) bytes) entries is
+
+none_rest : {E : Type 0} (b : Bool) (e : E) (rest : Option E) → option_or (unless b e) rest ≡ None → rest ≡ None
+none_rest true e rest is = is
+none_rest false e rest is = cc
+
+-- numbers that are not refused
+pub numbers_inside : (size : ℕ) (numbers : List ℕ) → first_of (number_refusal size) numbers ≡ None →
+    All (λ n. n ≤ size) numbers
+numbers_inside size [] none = All-nil (λ n. n ≤ size)
+numbers_inside size (n ∷ ns) none =
+    All-cons (λ n. n ≤ size) n ns (leb-true n size (none_first (nat_le n size) _ _ none))
+    (numbers_inside size ns (none_rest (nat_le n size) _ _ none))
+
+-- ---- digests
+
+-- nodes with entries below them have values
+pub nodes_there : (hash : Hash) (L : List (List ℕ)) (places : List (ℕ × ℕ)) →
+    values_at hash L (filter (is_node (length L)) places)
+    ≡ all_there (map (λ (layer, slot). node_at hash L layer slot) (filter (is_node (length L)) places))
+nodes_there hash L [] = refl
+nodes_there hash L (p ∷ ps) =
+    ⊎_elim
+    (λ (yes : nat_lt (p.1 * 2 ^ p.0) (length L) ≡ true).
+    rw yes (rw yes (ap (λ xs. Some (node_at hash L p.0 p.1) ∷ xs) (nodes_there hash L ps))))
+    (λ (no : nat_lt (p.1 * 2 ^ p.0) (length L) ≡ false). rw no (nodes_there hash L ps))
+    (cases_Bool (nat_lt (p.1 * 2 ^ p.0) (length L)))
+
+-- ---- entries
+
+pub numbered_are : (entries : List (List ℕ)) (numbers : List ℕ) →
+    map entry_of (zip numbers (map (entry_at entries) (map (λ n. n - 1) numbers)))
+    ≡ map (λ n. record { number = n; bytes = entry_at entries (n - 1) }) numbers
+numbered_are entries [] = refl
+numbered_are entries (n ∷ ns) =
+    ap (λ (es : List EntryFields). record { number = n; bytes = entry_at entries (n - 1) } ∷ es) (numbered_are entries ns)
+
+-- numbers from 1 to the size are indices below it
+pub within_size : (size : ℕ) (numbers : List ℕ) → All (λ n. 1 ≤ n) numbers → All (λ n. n ≤ size) numbers →
+    All (λ index. index < size) (map (λ n. n - 1) numbers)
+within_size size numbers from to k d within =
+    let room : k < length numbers = omega (arith, length-map numbers (λ (n : ℕ). n - 1)) in
+    let first : 1 ≤ get_or numbers k 0 = from k 0 room in
+    let last : get_or numbers k 0 ≤ size = to k 0 room in
+    let below : get_or numbers k 0 - 1 < size = omega arith in
+    subst (λ (m : ℕ). m < size) (sym (get_or-map (λ (n : ℕ). n - 1) numbers k 0 d room)) below
+
+all_inside : (size : ℕ) (numbers : List ℕ) → All (λ n. 1 ≤ n) numbers → All (λ n. n ≤ size) numbers →
+    list_all (λ index. nat_lt index size) (map (λ n. n - 1) numbers) ≡ true
+all_inside size [] from to = refl
+all_inside size (n ∷ ns) from to =
+    let first : 1 ≤ n = All-head (λ n. 1 ≤ n) n ns from in
+    let last : n ≤ size = All-head (λ n. n ≤ size) n ns to in
+    let below : n - 1 < size = omega arith in
+    rw (lt-ltb (n - 1) size below)
+    (all_inside size ns (All-tail (λ n. 1 ≤ n) n ns from) (All-tail (λ n. n ≤ size) n ns to))
+
+pub wanted_is : (entries : List (List ℕ)) (numbers : List ℕ) (size : ℕ) → length entries ≡ size →
+    All (λ n. 1 ≤ n) numbers → All (λ n. n ≤ size) numbers →
+    wanted_of entries (map (λ n. n - 1) numbers) ≡ map (entry_at entries) (map (λ n. n - 1) numbers)
+wanted_is entries numbers size is from to = rw (is, all_inside size numbers from to) refl
+
+-- ---- the outcome under a checkpoint, by what is read
+
+module _ {W : Type 0} (read : List ℕ → Result (List (List ℕ)) Error) (next : List (List ℕ) → Result W Error) where
+  abbrev under : Option (List ℕ) → Result (List (List ℕ)) Error
+  under input = and_then (bytes_from File input) read
+
+  abbrev whole : Option (List ℕ) → Result W Error
+  whole input = and_then (bytes_from File input) (λ bytes. and_then (read bytes) next)
+
+  whole_is : (input : Option (List ℕ)) → and_then (under input) next ≡ whole input
+  whole_is None = refl
+  whole_is (Some bytes) = refl
+
+  pub whole_stops : {V : Type 0} (view : V → W) (known : Option (List ℕ)) (nodes : List (ℕ × ℕ)) (wanted : List ℕ)
+      (result : Result V Error) (e : Error) → result ≡ Err e →
+      HoldsOfInput known (λ input. ReadsAs nodes wanted (Err e) (under input)) →
+      HoldsOfInput known (λ input. Gives view result (whole input))
+  whole_stops view known nodes wanted result e is reads =
+      rw is (
+        reads.0,
+        reads.1,
+        ⊎_elim inl
+            (λ failed. inr (sym (whole_is reads.0) ∙ ap (λ r. and_then r next) failed)) reads.2,
+      )
+
+  pub whole_goes : {V : Type 0} (view : V → W) (known : Option (List ℕ)) (nodes : List (ℕ × ℕ)) (wanted : List ℕ)
+      (log : ReadLog) (result : Result V Error) →
+      HoldsOfInput known (λ input. ReadsAs nodes wanted (Ok log) (under input)) →
+      ((input : Option (List ℕ)) (entries : List (List ℕ)) → under input ≡ Ok entries →
+      HasEntries nodes wanted entries log → Gives view result (next entries)) →
+      HoldsOfInput known (λ input. Gives view result (whole input))
+  whole_goes view known nodes wanted log result reads each = (
+    reads.0,
+    reads.1,
+    subst (λ (outcome : Result W Error). Gives view result outcome)
+        (sym (ap (λ r. and_then r next) reads.2.1) ∙ whole_is reads.0)
+        (each reads.0 reads.2.0 reads.2.1 reads.2.2),
+  )
+
+-- a text that is made
+pub gives_text : (text : Vec ℕ Global) (own : List ℕ) → text.items ≡ own → Gives bytes_in (Ok text) (Ok own)
+gives_text text own is = ap Ok (sym is)
+
+-- memory that ran out
+pub no_memory : {V W : Type 0} (view : V → W) (known : Option (List ℕ)) (F : Option (List ℕ) → Result W Error)
+    (result : Result V Error) (e : Error) → result ≡ Err e → e ≡ OutOfMemory →
+    HoldsOfInput known (λ input. Gives view result (F input))
+no_memory view known F result e is memory = rw is (None, tt, inl memory)
+
+-- ---- the size of a checkpoint
+
+said_ok : {V : Type 0} (source : Source) (r : Result V TextError) (v : V) → said_by source r ≡ Ok v → r ≡ Ok v
+said_ok source (Ok w) v is = let same : w ≡ v = cc in ap Ok same
+said_ok source (Err e) v is = cc
+
+pub limit_of : (source : Source) (text : List ℕ) (c : CheckpointFields) → said_by source (checkpoint_in text) ≡ Ok c →
+    c.size ≤ size_limit
+limit_of source text c is =
+    let found = (notes text c).0 (said_ok source (checkpoint_in text) c is) in found.2.checkpoint.size
+
+-- the values of the nodes of a proof are there
+pub values_there : (entries : List (List ℕ)) (indices : List ℕ) →
+    values_at sha256 (map (leaf_hash sha256) entries) (proof_nodes (length entries) indices)
+    ≡ all_there (map (λ (layer, slot). node_at sha256 (map (leaf_hash sha256) entries) layer slot)
+    (proof_nodes (length entries) indices))
+values_there entries indices =
+    let s = log_shape (length entries) in
+    let slots = boundary s indices (levels s) in
+    subst (λ (n : ℕ). values_at sha256 (map (leaf_hash sha256) entries) (filter (is_node n) slots)
+    ≡ all_there (map (λ (layer, slot). node_at sha256 (map (leaf_hash sha256) entries) layer slot)
+    (filter (is_node n) slots))) (length-map entries (leaf_hash sha256))
+    (nodes_there sha256 (map (leaf_hash sha256) entries) slots)

@@ -1,0 +1,59 @@
+-- Each turn reads the next part.
+use Rattle.std.proofs.Common.{◌≡◌, ◌+◌, length, ◌∙◌, [], ◌∷◌, ◌++◌, Err, None, append-nil, arith}
+use Rattle.std.proofs.Common.{ap, inl, inr, map, subst, sym, List, Option, Some, ℕ, ⊎_elim}
+use Rattle.std.proofs.lemmas.Result.{err_from_is_err_and}
+use Rattle.log_commands.specs.Commands.{AreReadAs}
+use Rattle.log_commands.specs.Outcomes.{bytes_in}
+use Rattle.log_commands.specs.declared.error.Error.TheVariants.{Read}
+use Rattle.log_commands.specs.declared.error.Source.TheVariants.{Part}
+use Rattle.std.specs.Vec.Iter.{into_iter_items}
+use Rattle.std.proofs.lemmas.List.{length-map, nil_from_length}
+use Rattle.log_commands.proofs.InputFacts.{all_read, makes_more, makes_none, read_up_to, stops_at, unread}
+use Rattle.log_commands.proofs.command.read_parts.Goals as goal
+
+pub loop-part-init : goal.loop-part-init
+loop-part-init g c =
+    makes_none g.Src.Read.remaining _ c.args.parts.items c.new-texts.result.items
+    c.into_iter-part-iterator.ensures.into_iter_gives.0 c.new-texts.ensures.items
+
+pub loop-part-preserved : goal.loop-part-preserved
+loop-part-preserved g c =
+    makes_more g.Src.Read.remaining (into_iter_items c.loop-part.part-iterator) (into_iter_items c.next.new.self)
+    c.in-Some.part c.args.parts.items c.loop-part.texts.items c.push.new.self.items c.in_ok-read_text.field-0
+    c.in-Some.ensures.steps.0 c.in_ok-read_text.ensures.bytes c.in_ok-push.ensures.items c.loop-part.invariant
+
+pub returns-in_err-read_text : goal.returns-in_err-read_text
+returns-in_err-read_text g c =
+    let left = err_from_is_err_and c.from_residual.result c.from_residual.ensures.1 in
+    let done = map bytes_in c.loop-part.texts.items in
+    rw (left.1, left.2)
+    (⊎_elim
+    (λ memory. let none = unread g.Src.Read.remaining c.args.parts.items in (none.0, none.1, inl memory))
+    (λ failed.
+    let stops = stops_at g.Src.Read.remaining (into_iter_items c.loop-part.part-iterator)
+    (into_iter_items c.next.new.self) c.in-Some.part c.args.parts.items c.loop-part.texts.items
+    c.in-Some.ensures.steps.0 c.loop-part.invariant in
+    let len_is : c.len.result ≡ 0 + length done = omega (arith, length-map c.loop-part.texts.items bytes_in) in (
+      map Some done ++ None ∷ stops.0,
+      stops.1,
+      inr (read_up_to 0 done stops.0 ∙ ap Err (sym (failed ∙ ap (λ n. Read (Part n)) len_is))),
+    ))
+    c.in_err-read_text.ensures.failed)
+
+pub returns-in_err-push : goal.returns-in_err-push
+returns-in_err-push g c =
+    let left = err_from_is_err_and c.from_residual-in_err-push.result c.from_residual-in_err-push.ensures.1 in
+    let none = unread g.Src.Read.remaining c.args.parts.items in rw left.1 (none.0, none.1, inl left.2)
+
+pub returns : goal.returns
+returns g c =
+    let it = c.loop-part.part-iterator in
+    let left = nil_from_length (into_iter_items it) (omega (arith, it.rest.ok.0, c.in-None.ensures.steps.0)) in
+    let texts = map bytes_in c.loop-part.texts.items in (
+      map Some texts,
+      subst (λ (all : List (Option (List ℕ))). AreReadAs (map g.Src.Read.remaining c.args.parts.items) all)
+          (append-nil (map Some texts))
+          (c.loop-part.invariant []
+          (subst (λ (xs : List _). AreReadAs (map g.Src.Read.remaining xs) []) (sym left) tt)),
+      all_read 0 texts,
+    )

@@ -1,0 +1,40 @@
+-- What is read is of the bytes of the file, or they are refused.
+use Rattle.std.proofs.Common.{◌≡◌, ◌∙◌, Err, None, Some, ap, arith, inl, inr, sym, ⊎_elim}
+use Rattle.std.proofs.lemmas.List.{length-map}
+use Rattle.sha2.specs.Sha256.{sha256}
+use Rattle.tlog.specs.Rfc9162.{leaf_hash}
+use Rattle.log_files.specs.Entries.{entries_in, first_of as first_entries, read_refusal}
+use Rattle.log_files.specs.Logs.{IsLogOf}
+use Rattle.log_commands.specs.Inner.{read_error}
+use Rattle.log_commands.proofs.FileFacts.{file_known, read_err, read_ok}
+use Rattle.log_commands.proofs.files.read_file.Goals as goal
+
+pub returns-in-Ok : goal.returns-in-Ok
+returns-in-Ok g c =
+    let log = c.in-Ok.log in
+    let found = file_known (g.Src.Read.remaining c.args.file.now)
+    (IsLogOf log c.args.cut c.args.limit c.args.nodes.now c.args.wanted.now) c.in-Ok.ensures.read in
+    let entries = first_entries c.args.limit (entries_in c.args.cut found.0) in (
+      Some found.0,
+      found.1,
+      (
+        entries,
+        read_ok c.args.cut c.args.limit found.0
+            (omega (arith, log.tree.frontier.limit, found.2.tree.frontier.size, length-map entries (leaf_hash sha256)))
+            found.2.not_refused,
+        record { tree = found.2.tree; wanted_are = found.2.entries },
+      ),
+    )
+
+pub returns-in-Err : goal.returns-in-Err
+returns-in-Err g c =
+    let is = c.read_error.ensures in
+    ⊎_elim
+    (λ memory. (None, tt, inl (is ∙ ap read_error memory)))
+    (λ other. ⊎_elim
+    (λ failed. (None, tt, inr (ap Err (sym (is ∙ ap read_error failed)))))
+    (λ refused.
+    let found = file_known (g.Src.Read.remaining c.args.file.now)
+    (λ bytes. read_refusal c.args.cut c.args.limit bytes ≡ Some c.in-Err.error) refused in
+    (Some found.0, found.1, inr (read_err c.args.cut c.args.limit found.0 c.in-Err.error found.2 ∙ ap Err (sym is))))
+    other) c.in-Err.ensures.refused

@@ -1,0 +1,25 @@
+-- Where either list is at its end, all entries are made.
+use Rattle.std.proofs.Common.{◌≡◌, ◌⊎◌, ◌∙◌, [], ap, inl, inr, map, sym, zip}
+use Rattle.std.specs.Iterator.Adapters.{zip_first, zip_second}
+use Rattle.std.specs.Slice.Iter.{iter_rest}
+use Rattle.std.specs.Vec.Iter.{into_iter_items}
+use Rattle.std.proofs.lemmas.List.{nil_from_length}
+use Rattle.log_text.specs.Texts.{entry_fields}
+use Rattle.log_commands.specs.Inner.{entry_of}
+use Rattle.log_commands.specs.Outcomes.{bytes_in}
+use Rattle.log_commands.proofs.LoopFacts.{pairs_end}
+use Rattle.log_commands.proofs.prove.numbered.Goals as goal
+
+pub returns : goal.returns
+returns c =
+    let it = c.loop-number.number-iterator in
+    let numbers_left = iter_rest (zip_first it) in
+    let entries_left = into_iter_items (zip_second it) in
+    let ended : (numbers_left ≡ []) ⊎ (map bytes_in entries_left ≡ []) =
+    elim c.in-None.ensures.steps [
+      | inl first ↦ inl (nil_from_length numbers_left first.1.0)
+      | inr second ↦
+          inr (ap (map bytes_in) (nil_from_length entries_left (sym (zip_second it).rest.ok.0 ∙ second.1.0)))
+    ] in
+    pairs_end entry_fields entry_of c.loop-number.numbered.items numbers_left (map bytes_in entries_left)
+    (map entry_of (zip c.args.numbers.now (map bytes_in c.args.entries.items))) c.loop-number.invariant ended

@@ -1,0 +1,124 @@
+-- What a run of the program ends in.
+use Rattle.std.specs.Prelude.{◌≡◌, ◌⊎◌, ◌≤◌, ◌<◌, ◌+◌, ◌^◌, ℕ, List, []}
+use Rattle.std.specs.Prelude.{◌∷◌, ◌++◌, length, map, All, Option, None, Some, IfSome}
+use Rattle.std.specs.Prelude.{option_map, string_bytes, true, Result, Ok, Err}
+use Rattle.std.specs.Io.KnownBytes.{Appends}
+use Rattle.log_text.specs.Lines.{is_origin}
+use Rattle.log_files.specs.Entries.{IsCut}
+use Rattle.log_files.specs.declared.cut.Cut.{Cut}
+use Rattle.log_commands.specs.Outcomes.{and_then, bytes_from, compared, join_outcome, prove_growth, prove_under}
+use Rattle.log_commands.specs.Outcomes.{requested, seal_outcome, verify_consistency_outcome, verify_outcome}
+use Rattle.log_commands.specs.declared.error.Error.{Error}
+use Rattle.log_commands.specs.declared.error.Error.TheVariants.{OutOfMemory, Write}
+use Rattle.log_commands.specs.declared.error.Source.TheVariants.{Checkpoint, File, New, Old, Part, Proof}
+use Rattle.log_commands.specs.declared.command.Command.{Command}
+use Rattle.log_commands.specs.declared.command.Command.TheVariants.{Join, Prove, ProveConsistency, Seal, Verify}
+use Rattle.log_commands.specs.declared.command.Command.TheVariants.{VerifyConsistency}
+use Rattle.log_commands.specs.declared.verify.Print.{Print}
+use Rattle.log_commands.specs.declared.verify.Print.TheVariants.{Blocks, Lines, Raw}
+
+-- ---- what can be run
+
+-- the numbers of some entries, from 1 on
+abbrev pub AreNumbers : List ℕ → Type 0
+AreNumbers numbers = (0 < length numbers) × All (λ number. 1 ≤ number) numbers
+
+-- entries without their numbers are printed if these are requested; raw bytes, if one is
+abbrev pub IsPrint : Print → Option (List ℕ) → Type 0
+IsPrint Lines None = Unit {0}
+IsPrint Lines (Some numbers) = AreNumbers numbers
+IsPrint (Blocks size) (Some numbers) = AreNumbers numbers × ((1 ≤ size) × (size ≤ 2 ^ 30))
+IsPrint Raw (Some numbers) = AreNumbers numbers × (length numbers ≡ 1)
+IsPrint print None = ⊥
+
+-- a lawful origin, blocks of 1 to 2 ^ 30 bytes, and numbers from 1 on
+abbrev pub IsLawful : {Src : Type 0} → Command Src → Type 0
+IsLawful (Seal origin cut file) = (is_origin (string_bytes origin) ≡ true) × IsCut cut
+IsLawful (Prove cut checkpoint file numbers) = IsCut cut × AreNumbers numbers.items
+IsLawful (Verify print checkpoint proof numbers) = IsPrint print (option_map (λ ns. ns.items) numbers)
+IsLawful (ProveConsistency cut old new file) = IsCut cut
+IsLawful (VerifyConsistency old proof) = Unit {0}
+IsLawful (Join origin parts) = is_origin (string_bytes origin) ≡ true
+
+-- ---- inputs
+
+-- an input is read as this: as its bytes, which are the known ones if any are known; or not, since a read fails
+abbrev pub IsReadAs : Option (List ℕ) → Option (List ℕ) → Type 0
+IsReadAs known None = Unit {0}
+IsReadAs known (Some bytes) = IfSome known (λ all. bytes ≡ all)
+
+-- a fact holds of what an input is read as
+abbrev pub HoldsOfInput : Option (List ℕ) → (Option (List ℕ) → Type 0) → Type 0
+HoldsOfInput known Holds = (input : Option (List ℕ)) × IsReadAs known input × Holds input
+
+-- and of what inputs are read as
+abbrev pub AreReadAs : List (Option (List ℕ)) → List (Option (List ℕ)) → Type 0
+AreReadAs [] [] = Unit {0}
+AreReadAs (known ∷ more) (input ∷ inputs) = IsReadAs known input × AreReadAs more inputs
+AreReadAs known inputs = ⊥
+
+abbrev pub HoldsOfInputs : List (Option (List ℕ)) → (List (Option (List ℕ)) → Type 0) → Type 0
+HoldsOfInputs known Holds = (inputs : List (Option (List ℕ))) × AreReadAs known inputs × Holds inputs
+
+-- the bytes of parts, counted from k, if all can be read
+abbrev pub bytes_of_parts : ℕ → List (Option (List ℕ)) → Result (List (List ℕ)) Error
+bytes_of_parts k [] = Ok []
+bytes_of_parts k (input ∷ inputs) =
+    and_then (bytes_from (Part k) input) (λ text. and_then (bytes_of_parts (k + 1) inputs) (λ texts. Ok (text ∷ texts)))
+
+-- ---- the outcome
+
+-- the outcomes by definition, from what the inputs are read as, in this order: a text to print, or an error
+abbrev pub seal_file : List ℕ → Cut → Option (List ℕ) → Result (List ℕ) Error
+seal_file origin cut file = and_then (bytes_from File file) (seal_outcome origin cut)
+
+abbrev pub prove_file : Cut → (checkpoint file : Option (List ℕ)) → List ℕ → Result (List ℕ) Error
+prove_file cut checkpoint file numbers =
+    and_then (bytes_from Checkpoint checkpoint) (λ text. and_then (requested text numbers) (λ c.
+    and_then (bytes_from File file) (prove_under cut c numbers)))
+
+abbrev pub verify_proof : Print → (checkpoint proof : Option (List ℕ)) → Option (List ℕ) → Result (List ℕ) Error
+verify_proof print checkpoint proof numbers =
+    and_then (bytes_from Checkpoint checkpoint) (λ text. and_then (bytes_from Proof proof) (λ shown.
+    verify_outcome print text shown numbers))
+
+abbrev pub prove_file_growth : Cut → (old new file : Option (List ℕ)) → Result (List ℕ) Error
+prove_file_growth cut old new file =
+    and_then (bytes_from Old old) (λ one. and_then (bytes_from New new) (λ other.
+    and_then (compared one other) (λ (o, n). and_then (bytes_from File file) (prove_growth cut o n other))))
+
+abbrev pub verify_growth : (old proof : Option (List ℕ)) → Result (List ℕ) Error
+verify_growth old proof =
+    and_then (bytes_from Old old) (λ one. and_then (bytes_from Proof proof) (λ shown.
+    verify_consistency_outcome one shown))
+
+abbrev pub join_parts : List ℕ → List (Option (List ℕ)) → Result (List ℕ) Error
+join_parts origin parts = and_then (bytes_of_parts 0 parts) (join_outcome origin)
+
+-- a command has this outcome
+abbrev pub HasOutcome : {Src : Type 0} → (Src → Option (List ℕ)) → Command Src → Result (List ℕ) Error → Type 0
+HasOutcome remaining (Seal origin cut file) outcome =
+    HoldsOfInput (remaining file) (λ bytes. outcome ≡ seal_file (string_bytes origin) cut bytes)
+HasOutcome remaining (Prove cut checkpoint file numbers) outcome =
+    HoldsOfInput (remaining checkpoint) (λ text. HoldsOfInput (remaining file) (λ bytes.
+    outcome ≡ prove_file cut text bytes numbers.items))
+HasOutcome remaining (Verify print checkpoint proof numbers) outcome =
+    HoldsOfInput (remaining checkpoint) (λ text. HoldsOfInput (remaining proof) (λ shown.
+    outcome ≡ verify_proof print text shown (option_map (λ ns. ns.items) numbers)))
+HasOutcome remaining (ProveConsistency cut old new file) outcome =
+    HoldsOfInput (remaining old) (λ one. HoldsOfInput (remaining new) (λ other. HoldsOfInput (remaining file) (λ bytes.
+    outcome ≡ prove_file_growth cut one other bytes)))
+HasOutcome remaining (VerifyConsistency old proof) outcome =
+    HoldsOfInput (remaining old) (λ one. HoldsOfInput (remaining proof) (λ shown. outcome ≡ verify_growth one shown))
+HasOutcome remaining (Join origin parts) outcome =
+    HoldsOfInputs (map remaining parts.items) (λ texts. outcome ≡ join_parts (string_bytes origin) texts)
+
+-- a run of this outcome ends so: the text is written, or after a failed write as much of it as was written; an error
+-- is returned; or memory runs out
+abbrev pub EndsIn : {V : Type 0} → Option (List ℕ) → Option (List ℕ) → Result (List ℕ) Error → Result V Error → Type 0
+EndsIn old new (Ok text) (Ok done) = Appends old new text
+EndsIn old new (Ok text) (Err error) =
+    (error ≡ OutOfMemory)
+    ⊎ ((error ≡ Write) × ((front : List ℕ) × (rest : List ℕ) × (text ≡ front ++ rest) × Appends old new front))
+EndsIn old new (Err wanted) (Ok done) = ⊥
+EndsIn old new (Err wanted) (Err error) = (error ≡ OutOfMemory) ⊎ (error ≡ wanted)

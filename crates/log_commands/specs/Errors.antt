@@ -1,0 +1,35 @@
+-- Errors and their exit statuses.
+use Rattle.std.specs.Prelude.{ℕ}
+use Rattle.log_text.specs.declared.error.TextError.{TextError}
+use Rattle.log_text.specs.declared.error.TextError.TheVariants.{Line as WrongLine, OutOfMemory as NoTextMemory}
+use Rattle.tlog_entries.specs.declared.error.EntriesError.{EntriesError}
+use Rattle.tlog_entries.specs.declared.error.EntriesError.TheVariants.{OutOfMemory as NoEntriesMemory}
+use Rattle.log_commands.specs.declared.error.Error.{Error}
+use Rattle.log_commands.specs.declared.error.Error.TheVariants.{OutOfMemory, Refused}
+use Rattle.log_commands.specs.declared.error.Refusal.TheVariants.{CheckpointLine, Entries, Line}
+use Rattle.log_commands.specs.declared.error.Source.{Source}
+use Rattle.log_commands.specs.declared.error.Source.TheVariants.{Checkpoint, New, Old, Part, Proof}
+
+-- 1 if a file or a proof is refused, 2 for a wrong line of a checkpoint and otherwise
+abbrev pub status_of : Error → ℕ
+status_of (Refused Checkpoint (Line line expected)) = 2
+status_of (Refused Old (Line line expected)) = 2
+status_of (Refused New (Line line expected)) = 2
+status_of (Refused (Part k) (Line line expected)) = 2
+status_of (Refused source refusal) = 1
+status_of error = 2
+
+-- the error of an input whose text is wrong
+abbrev pub text_error : Source → TextError → Error
+text_error source (WrongLine line expected) = Refused source (Line line expected)
+text_error source NoTextMemory = OutOfMemory
+
+-- the error of a consistency proof whose checkpoint is wrong
+abbrev pub checkpoint_error : TextError → Error
+checkpoint_error (WrongLine line expected) = Refused Proof (CheckpointLine line expected)
+checkpoint_error NoTextMemory = OutOfMemory
+
+-- the error of a proof whose entries the verifier refuses
+abbrev pub entries_error : EntriesError → Error
+entries_error NoEntriesMemory = OutOfMemory
+entries_error error = Refused Proof (Entries error)

@@ -1,0 +1,4 @@
+pub mod Errors
+pub mod Outcomes
+pub mod Commands
+pub mod Inner

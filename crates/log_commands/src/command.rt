@@ -1,0 +1,289 @@
+//! Runs commands.
+
+ghost use Rattle.std.specs.Prelude.{◌≡◌, ◌⊎◌, ◌≤◌, ◌^◌, Decides, Err, List, OnErr, Option, Result, map, option_map, ℕ};
+ghost use Rattle.std.specs.Prelude.{string_bytes};
+ghost use Rattle.log_files.specs.Entries.{IsCut};
+ghost use Rattle.log_commands.specs.Commands.{AreNumbers, bytes_of_parts, join_parts, prove_file, prove_file_growth};
+ghost use Rattle.log_commands.specs.Commands.{verify_growth, verify_proof, EndsIn, HasOutcome, HoldsOfInput};
+ghost use Rattle.log_commands.specs.Commands.{HoldsOfInputs, IsLawful, IsPrint};
+ghost use Rattle.log_commands.specs.Outcomes.{bytes_in, Gives};
+ghost use Rattle.log_commands.specs.declared.error.Error.{Error};
+ghost use Rattle.log_commands.specs.declared.error.Error.TheVariants.{Write as FailedWrite};
+
+use crate::error::{Error, Source};
+use crate::join::join;
+use crate::prove::prove;
+use crate::prove_consistency::prove_consistency;
+use crate::seal::seal;
+use crate::texts::read_text;
+use crate::verify::{Print, verify};
+use crate::verify_consistency::verify_consistency;
+use crate::write::write_text;
+use log_files::Cut;
+use log_text::is_origin;
+use std::alloc::Global;
+use std::io::{Read, Write};
+
+/// A command, with the inputs that it reads.
+#[derive(Drop)]
+pub enum Command<Src> {
+    /// Prints the checkpoint of a file, or with the origin `PART_ORIGIN` of a part of a file.
+    Seal {
+        /// The name of the log.
+        origin: String,
+        /// How the file is cut into entries.
+        cut: Cut,
+        /// The file.
+        file: Src,
+    },
+    /// Prints a proof of entries of a file.
+    Prove {
+        /// How the file is cut into entries.
+        cut: Cut,
+        /// The checkpoint of the file, which may have grown since.
+        checkpoint: Src,
+        /// The file.
+        file: Src,
+        /// The numbers of the entries, counted from 1.
+        numbers: Vec<usize>,
+    },
+    /// Prints the entries of a proof that is accepted.
+    Verify {
+        /// How they are printed.
+        print: Print,
+        /// The checkpoint.
+        checkpoint: Src,
+        /// The proof.
+        proof: Src,
+        /// The numbers of the entries that are requested: all of the proof without.
+        numbers: Option<Vec<usize>>,
+    },
+    /// Prints a proof that the file of a new checkpoint begins with the entries of an old one.
+    ProveConsistency {
+        /// How the file is cut into entries.
+        cut: Cut,
+        /// The old checkpoint.
+        old: Src,
+        /// The new checkpoint.
+        new: Src,
+        /// The file.
+        file: Src,
+    },
+    /// Prints the new checkpoint of such a proof, if it is accepted.
+    VerifyConsistency {
+        /// The old checkpoint.
+        old: Src,
+        /// The proof.
+        proof: Src,
+    },
+    /// Prints the checkpoint of a file whose parts are sealed.
+    Join {
+        /// The name of the log.
+        origin: String,
+        /// The parts, in their order.
+        parts: Vec<Src>,
+    },
+}
+
+impl<Src> Command<Src> {
+    /// Whether it can be run: an origin is one, a block has 1 to 2^30 bytes, at least one entry is requested, and
+    /// entries are numbered from 1. Entries as lines alone are verified without numbers, and one entry as raw bytes.
+    pub fn is_lawful(&self) -> bool
+        ensures { Decides result (IsLawful self.now) }
+    {
+        match self {
+            Command::Seal { origin, cut, .. } => is_origin(origin) && is_cut(*cut),
+            Command::Prove { cut, numbers, .. } => is_cut(*cut) && are_numbers(numbers),
+            Command::Verify { print, numbers, .. } => is_print(*print, numbers),
+            Command::ProveConsistency { cut, .. } => is_cut(*cut),
+            Command::VerifyConsistency { .. } => true,
+            Command::Join { origin, .. } => is_origin(origin),
+        }
+    }
+}
+
+/// Whether a block may have so many bytes.
+fn is_block(size: usize) -> bool
+    ensures { Decides result ((1 ≤ size) × (size ≤ 2 ^ 30)) }
+{
+    1 <= size && size <= 1 << 30
+}
+
+/// Whether a file may be cut so.
+fn is_cut(cut: Cut) -> bool
+    ensures { Decides result (IsCut cut) }
+{
+    match cut {
+        Cut::Lines(_) => true,
+        Cut::Blocks(size) => is_block(size),
+    }
+}
+
+/// Whether these are numbers of entries.
+fn are_numbers(numbers: &[usize]) -> bool
+    ensures { Decides result (AreNumbers numbers.now) }
+{
+    !numbers.is_empty() && numbers.iter().all(|number| 1 <= *number)
+}
+
+/// Whether entries of these numbers may be printed so.
+fn is_print(print: Print, numbers: &Option<Vec<usize>>) -> bool
+    ensures { Decides result (IsPrint print (option_map (λ ns. ns.items) numbers.now)) }
+{
+    let Some(numbers) = numbers else {
+        return print == Print::Lines;
+    };
+    let fits = match print {
+        Print::Lines => true,
+        Print::Blocks(size) => is_block(size),
+        Print::Raw => numbers.len() == 1,
+    };
+    are_numbers(numbers) && fits
+}
+
+/// Runs a command: reads its inputs one after another, and writes what it answers.
+///
+/// # Errors
+///
+/// Those of the command's own call; `Read` where an input cannot be read; `Write` if the output cannot be written. No
+/// other error leaves anything written.
+pub fn run<Src: Read + Drop, Dst: Write>(
+    alloc: Global,
+    command: Command<Src>,
+    output: &mut Dst,
+) -> Result<(), Error>
+    requires { IsLawful command }
+    ensures silent { OnErr result ((result ≡ Err FailedWrite) ⊎ (output.new ≡ output.old)) }
+    ensures outcome { (outcome : Result (List ℕ) Error) × HasOutcome Src.remaining command outcome
+        × EndsIn (Dst.contents output.old) (Dst.contents output.new) outcome result }
+{
+    let text = answer(alloc, command)?;
+    write_text(output, &text)
+}
+
+/// What a command prints.
+fn answer<Src: Read + Drop>(alloc: Global, command: Command<Src>) -> Result<Vec<u8>, Error>
+    requires { IsLawful command }
+    ensures { (outcome : Result (List ℕ) Error) × HasOutcome Src.remaining command outcome
+        × Gives bytes_in result outcome }
+{
+    match command {
+        Command::Seal {
+            origin,
+            cut,
+            mut file,
+        } => seal(alloc, &origin, cut, &mut file),
+        Command::Prove {
+            cut,
+            mut checkpoint,
+            mut file,
+            numbers,
+        } => { prove_file(alloc, cut, &mut checkpoint, &mut file, &numbers) }
+        Command::Verify {
+            print,
+            mut checkpoint,
+            mut proof,
+            numbers,
+        } => { verify_proof(alloc, print, &mut checkpoint, &mut proof, &numbers) }
+        Command::ProveConsistency {
+            cut,
+            mut old,
+            mut new,
+            mut file,
+        } => { prove_file_growth(alloc, cut, &mut old, &mut new, &mut file) }
+        Command::VerifyConsistency { mut old, mut proof } => {
+            verify_growth(alloc, &mut old, &mut proof)
+        }
+        Command::Join { origin, parts } => join_parts(alloc, &origin, parts),
+    }
+}
+
+/// Reads the checkpoint, then the file.
+fn prove_file<Src: Read>(
+    alloc: Global,
+    cut: Cut,
+    checkpoint: &mut Src,
+    file: &mut Src,
+    numbers: &[usize],
+) -> Result<Vec<u8>, Error>
+    requires cut { IsCut cut }
+    requires numbers { AreNumbers numbers.now }
+    ensures { HoldsOfInput (Src.remaining checkpoint.old) (λ text. HoldsOfInput (Src.remaining file.old) (λ bytes.
+        Gives bytes_in result (prove_file cut text bytes numbers.now))) }
+{
+    let text = read_text(alloc, Source::Checkpoint, checkpoint)?;
+    prove(alloc, cut, &text, numbers, file)
+}
+
+/// Reads the checkpoint, then the proof.
+fn verify_proof<Src: Read>(
+    alloc: Global,
+    print: Print,
+    checkpoint: &mut Src,
+    proof: &mut Src,
+    numbers: &Option<Vec<usize>>,
+) -> Result<Vec<u8>, Error>
+    ensures { HoldsOfInput (Src.remaining checkpoint.old) (λ text. HoldsOfInput (Src.remaining proof.old) (λ shown.
+        Gives bytes_in result (verify_proof print text shown (option_map (λ ns. ns.items) numbers.now)))) }
+{
+    let text = read_text(alloc, Source::Checkpoint, checkpoint)?;
+    let shown = read_text(alloc, Source::Proof, proof)?;
+    match numbers {
+        Some(numbers) => verify(alloc, print, &text, &shown, Some(numbers)),
+        None => verify(alloc, print, &text, &shown, None),
+    }
+}
+
+/// Reads the checkpoints, then the file.
+fn prove_file_growth<Src: Read>(
+    alloc: Global,
+    cut: Cut,
+    old: &mut Src,
+    new: &mut Src,
+    file: &mut Src,
+) -> Result<Vec<u8>, Error>
+    requires { IsCut cut }
+    ensures { HoldsOfInput (Src.remaining old.old) (λ one. HoldsOfInput (Src.remaining new.old) (λ other.
+        HoldsOfInput (Src.remaining file.old) (λ bytes.
+        Gives bytes_in result (prove_file_growth cut one other bytes)))) }
+{
+    let one = read_text(alloc, Source::Old, old)?;
+    let other = read_text(alloc, Source::New, new)?;
+    prove_consistency(alloc, cut, &one, &other, file)
+}
+
+/// Reads the old checkpoint, then the proof.
+fn verify_growth<Src: Read>(alloc: Global, old: &mut Src, proof: &mut Src) -> Result<Vec<u8>, Error>
+    ensures { HoldsOfInput (Src.remaining old.old) (λ one. HoldsOfInput (Src.remaining proof.old) (λ shown.
+        Gives bytes_in result (verify_growth one shown))) }
+{
+    let one = read_text(alloc, Source::Old, old)?;
+    let shown = read_text(alloc, Source::Proof, proof)?;
+    verify_consistency(alloc, &one, &shown)
+}
+
+/// Reads the parts.
+fn join_parts<Src: Read + Drop>(
+    alloc: Global,
+    origin: &str,
+    parts: Vec<Src>,
+) -> Result<Vec<u8>, Error>
+    ensures { HoldsOfInputs (map Src.remaining parts.items)
+        (λ texts. Gives bytes_in result (join_parts origin.now texts)) }
+{
+    let texts = read_parts(alloc, parts)?;
+    join(alloc, origin, &texts)
+}
+
+/// All bytes of the parts.
+fn read_parts<Src: Read + Drop>(alloc: Global, parts: Vec<Src>) -> Result<Vec<Vec<u8>>, Error>
+    ensures { HoldsOfInputs (map Src.remaining parts.items)
+        (λ texts. Gives (λ all. map bytes_in all.items) result (bytes_of_parts 0 texts)) }
+{
+    let mut texts = Vec::new(alloc);
+    for mut part in parts {
+        let source = Source::Part(texts.len());
+        texts.push(read_text(alloc, source, &mut part)?)?;
+    }
+    Ok(texts)
+}

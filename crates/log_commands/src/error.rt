@@ -1,0 +1,216 @@
+//! Why a command stops.
+
+ghost use Rattle.std.specs.Prelude.{◌≡◌};
+ghost use Rattle.log_commands.specs.Errors.{entries_error, status_of, text_error};
+ghost use Rattle.log_commands.specs.Inner.{read_error};
+ghost use Rattle.log_commands.specs.declared.error.Error.TheVariants.{OutOfMemory};
+
+use log_files::ReadError;
+use log_text::{Expected, TextError};
+use std::alloc::{AllocError, AllocFailed};
+use thiserror::Error;
+use tlog::ProofError;
+use tlog_entries::EntriesError;
+
+/// Why a command stops. It prints as one line, without the name of an input.
+#[derive(Clone, Copy, Debug, Error)]
+pub enum Error {
+    /// What an input says is refused.
+    #[error("{1}")]
+    Refused(Source, Refusal),
+    /// An input cannot be read.
+    #[error("cannot be read")]
+    Read(Source),
+    /// The output cannot be written.
+    #[error("the output cannot be written")]
+    Write,
+    /// Memory ran out.
+    #[error("out of memory")]
+    OutOfMemory,
+}
+
+/// An input of a command.
+#[derive(Clone, Copy, Debug)]
+pub enum Source {
+    /// The checkpoint of the file.
+    Checkpoint,
+    /// The old checkpoint.
+    Old,
+    /// The new checkpoint.
+    New,
+    /// A part of a file, by its place among the parts, counted from 0.
+    Part(usize),
+    /// The file.
+    File,
+    /// The proof.
+    Proof,
+}
+
+/// Why an input is refused.
+#[derive(Clone, Copy, Debug, Error)]
+pub enum Refusal {
+    /// A wrong line of a text.
+    #[error("line {line}: expected {expected}")]
+    Line {
+        /// Its number, counted from 1.
+        line: usize,
+        /// What is expected there.
+        expected: Expected,
+    },
+    /// A wrong line of the checkpoint that a consistency proof contains.
+    #[error("line {line} of its checkpoint: expected {expected}")]
+    CheckpointLine {
+        /// Its number in the checkpoint, counted from 1.
+        line: usize,
+        /// What is expected there.
+        expected: Expected,
+    },
+    /// A requested entry that the checkpoint does not have.
+    #[error("it has {size} entries, and no entry {number}")]
+    NumberPastEnd {
+        /// The number of the entry.
+        number: usize,
+        /// How many entries the checkpoint has.
+        size: usize,
+    },
+    /// A file that ends inside a line.
+    #[error("ends inside a line")]
+    EndsInsideLine,
+    /// More entries than a log may have.
+    #[error("more than 2^62 entries")]
+    TooManyEntries,
+    /// A file with fewer entries than the checkpoint.
+    #[error("it has {got} of the {expected} entries of the checkpoint")]
+    TooFewEntries {
+        /// How many entries the file has.
+        got: usize,
+        /// How many the checkpoint has.
+        expected: usize,
+    },
+    /// A file with other entries than the checkpoint.
+    #[error("its entries are not those of the checkpoint")]
+    OtherEntries,
+    /// A file that begins with other entries than those of the old checkpoint.
+    #[error("its first entries are not those of the old checkpoint")]
+    OtherOldEntries,
+    /// A proof of other entries than the requested ones, or in another order.
+    #[error("its entries are not the requested ones, in their order")]
+    OtherNumbers,
+    /// A proof with an entry that a file of lines, or of such blocks, does not have.
+    #[error("entry {number}: no line, or no block of this size")]
+    NoSuchEntry {
+        /// The number that the proof gives the entry.
+        number: usize,
+    },
+    /// A proof of entries that the verifier refuses.
+    #[error("{0}")]
+    Entries(EntriesError),
+    /// A new checkpoint of another log than the old one.
+    #[error("its origin is not that of the old checkpoint")]
+    OtherOrigin,
+    /// A new checkpoint with fewer entries than the old one.
+    #[error("it has {new} entries, fewer than the {old} of the old checkpoint")]
+    SmallerSize {
+        /// How many entries the old checkpoint has.
+        old: usize,
+        /// How many the new one has.
+        new: usize,
+    },
+    /// Two checkpoints of one log and one size with different roots.
+    #[error("two histories of one log, with one size and different roots: keep both checkpoints as evidence")]
+    TwoHistories,
+    /// A consistency proof from another old size.
+    #[error("it is a proof from {got} entries, and the old checkpoint has {expected}")]
+    OtherOldSize {
+        /// The size that the proof begins with.
+        got: usize,
+        /// The size of the old checkpoint.
+        expected: usize,
+    },
+    /// A consistency proof that the verifier refuses.
+    #[error("{0}")]
+    Consistency(ProofError),
+    /// A part whose size does not fit the first one's.
+    #[error("{size} entries: all parts have one size, a power of two ({first} in the first), the last may have fewer")]
+    PartSize {
+        /// How many entries the part has.
+        size: usize,
+        /// How many the first one has.
+        first: usize,
+    },
+}
+
+impl Error {
+    /// The input that is refused or cannot be read, if there is one.
+    pub fn source(&self) -> Option<Source> {
+        match self {
+            Error::Refused(source, _) | Error::Read(source) => Some(*source),
+            Error::Write | Error::OutOfMemory => None,
+        }
+    }
+
+    /// The exit status of a program that stops so: 1 if a file or a proof is refused, 2 for a wrong line of a
+    /// checkpoint and otherwise.
+    pub fn status(&self) -> u8
+        ensures { result ≡ status_of self.now }
+    {
+        match self {
+            Error::Refused(Source::Checkpoint, Refusal::Line { .. }) => 2,
+            Error::Refused(Source::Old, Refusal::Line { .. }) => 2,
+            Error::Refused(Source::New, Refusal::Line { .. }) => 2,
+            Error::Refused(Source::Part(_), Refusal::Line { .. }) => 2,
+            Error::Refused(_, _) => 1,
+            _ => 2,
+        }
+    }
+}
+
+impl From<AllocError> for Error {
+    ghost from_gives = { λ _ e. e ≡ OutOfMemory };
+
+    fn from(_error: AllocError) -> Error {
+        Error::OutOfMemory
+    }
+}
+
+impl<T: Drop> From<AllocFailed<T>> for Error {
+    ghost from_gives = { λ _ e. e ≡ OutOfMemory };
+
+    fn from(_error: AllocFailed<T>) -> Error {
+        Error::OutOfMemory
+    }
+}
+
+/// The error of an input whose text is wrong.
+pub(crate) fn text_error(source: Source, error: TextError) -> Error
+    ensures { result ≡ text_error source error }
+{
+    match error {
+        TextError::Line { line, expected } => {
+            Error::Refused(source, Refusal::Line { line, expected })
+        }
+        TextError::OutOfMemory => Error::OutOfMemory,
+    }
+}
+
+/// The error of a proof whose entries the verifier refuses.
+pub(crate) fn entries_error(error: EntriesError) -> Error
+    ensures { result ≡ entries_error error }
+{
+    match error {
+        EntriesError::OutOfMemory => Error::OutOfMemory,
+        error => Error::Refused(Source::Proof, Refusal::Entries(error)),
+    }
+}
+
+/// The error of a file that is not read.
+pub(crate) fn read_error(error: ReadError) -> Error
+    ensures { result ≡ read_error error }
+{
+    match error {
+        ReadError::Read => Error::Read(Source::File),
+        ReadError::TooManyEntries => Error::Refused(Source::File, Refusal::TooManyEntries),
+        ReadError::EndsInsideLine => Error::Refused(Source::File, Refusal::EndsInsideLine),
+        ReadError::OutOfMemory => Error::OutOfMemory,
+    }
+}

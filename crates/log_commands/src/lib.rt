@@ -1,0 +1,20 @@
+//! What `fohlazu` answers: checkpoints of files, proofs of entries and of growth, and verdicts on them.
+#![tactic(auto)]
+
+pub mod command;
+pub mod error;
+mod files;
+pub mod join;
+pub mod prove;
+pub mod prove_consistency;
+pub mod seal;
+mod texts;
+pub mod verify;
+pub mod verify_consistency;
+mod write;
+
+pub use command::{Command, run};
+pub use error::{Error, Refusal, Source};
+pub use log_files::{Cut, PartialLine};
+pub use log_text::{PART_ORIGIN, is_key_name, is_origin};
+pub use verify::Print;

@@ -1,0 +1,150 @@
+//! Proves entries of a file.
+
+ghost use Rattle.std.specs.Prelude.{◌≡◌, ℕ, ◌-◌, ◌≤◌, List, length, All, Err, IfOk, MatchResult, None, Some, map, zip};
+ghost use Rattle.p3_merkle_core.specs.Refusals.{first_of};
+ghost use Rattle.tlog.specs.Verdicts.{size_limit};
+ghost use Rattle.tlog_entries.specs.Entries.{proof_nodes};
+ghost use Rattle.log_files.specs.Entries.{IsCut, entry_at, wanted_of};
+ghost use Rattle.log_text.specs.Texts.{checkpoint_fields, entries_text, entry_fields};
+ghost use Rattle.log_commands.specs.Commands.{AreNumbers, HoldsOfInput};
+ghost use Rattle.log_commands.specs.Inner.{entry_of, HasEntries};
+ghost use Rattle.log_commands.specs.Outcomes.{bytes_in, Gives};
+ghost use Rattle.log_commands.specs.Outcomes.{and_then, bytes_from, number_refusal, proof_over, prove_under, requested};
+ghost use Rattle.log_commands.specs.declared.error.Error.{Error};
+ghost use Rattle.log_commands.specs.declared.error.Source.TheVariants.{File};
+
+use crate::error::{Error, Refusal, Source};
+use crate::files::{present, read_under};
+use crate::texts::read_checkpoint;
+use log_files::{Cut, ReadLog};
+use log_text::{Checkpoint, EntriesProof, Entry};
+use std::alloc::{AllocError, Global};
+use std::io::Read;
+use tlog_entries::entry_places;
+
+/// The proof of entries of a file under its checkpoint, by their numbers, counted from 1, in the order of these, also
+/// repeated. The file may have grown: of it as many entries are read as the checkpoint has, in one pass.
+///
+/// # Errors
+///
+/// The first of these that applies, where `OutOfMemory` may come at any time:
+///
+/// - the first wrong line of the checkpoint;
+/// - `NumberPastEnd` for the first number that the checkpoint does not have. The file is not read.
+/// - `Read` if the file cannot be read;
+/// - `EndsInsideLine`, else `TooFewEntries`, else `OtherEntries`.
+pub fn prove<Src: Read>(
+    alloc: Global,
+    cut: Cut,
+    checkpoint: &[u8],
+    numbers: &[usize],
+    file: &mut Src,
+) -> Result<Vec<u8>, Error>
+    requires cut { IsCut cut }
+    requires numbers { AreNumbers numbers.now }
+    ensures answer { HoldsOfInput (Src.remaining file.old) (λ input. Gives bytes_in result
+        (and_then (requested checkpoint.now numbers.now) (λ c.
+        and_then (bytes_from File input) (prove_under cut c numbers.now)))) }
+    ensures unread { (error : Error) → requested checkpoint.now numbers.now ≡ Err error → file.new ≡ file.old }
+{
+    let checkpoint = requested(checkpoint, numbers)?;
+    prove_under(alloc, cut, &checkpoint, numbers, file)
+}
+
+/// The checkpoint that a text says, if it has the requested entries.
+fn requested<'a>(checkpoint: &'a [u8], numbers: &[usize]) -> Result<Checkpoint<'a>, Error>
+    ensures checkpoint { Gives checkpoint_fields result (requested checkpoint.now numbers.now) }
+    ensures numbers { IfOk result (λ c. All (λ number. number ≤ c.size) numbers.now) }
+    ensures limit { IfOk result (λ c. c.size ≤ size_limit) }
+{
+    let checkpoint = read_checkpoint(Source::Checkpoint, checkpoint)?;
+    check_numbers(checkpoint.size, numbers)?;
+    Ok(checkpoint)
+}
+
+/// Checks that a log of so many entries has these.
+fn check_numbers(size: usize, numbers: &[usize]) -> Result<(), Error>
+    ensures { let refusal = first_of (number_refusal size) numbers.now in
+        MatchResult result (λ ok. refusal ≡ None) (λ error. refusal ≡ Some error) }
+{
+    for number in numbers {
+        check_number(size, *number)?;
+    }
+    Ok(())
+}
+
+/// Checks that a log of so many entries has this one.
+fn check_number(size: usize, number: usize) -> Result<(), Error>
+    ensures { let refusal = number_refusal size number in
+        MatchResult result (λ ok. refusal ≡ None) (λ error. refusal ≡ Some error) }
+{
+    if number <= size {
+        Ok(())
+    } else {
+        Err(Error::Refused(Source::Checkpoint, Refusal::NumberPastEnd { number, size }))
+    }
+}
+
+/// The proof of entries under a checkpoint that has them.
+fn prove_under<Src: Read>(
+    alloc: Global,
+    cut: Cut,
+    checkpoint: &Checkpoint<'_>,
+    numbers: &[usize],
+    file: &mut Src,
+) -> Result<Vec<u8>, Error>
+    requires cut { IsCut cut }
+    requires numbers { AreNumbers numbers.now }
+    requires inside { All (λ number. number ≤ checkpoint.now.size) numbers.now }
+    requires limit { checkpoint.now.size ≤ size_limit }
+    ensures { HoldsOfInput (Src.remaining file.old) (λ input. Gives bytes_in result
+        (and_then (bytes_from File input) (prove_under cut (checkpoint_fields checkpoint.now) numbers.now))) }
+{
+    let indices = indices_of(alloc, numbers)?;
+    let places = entry_places(alloc, &indices, checkpoint.size)?;
+    let log = read_under(alloc, cut, checkpoint, &places, &indices, file)?;
+    Ok(text_of(alloc, numbers, log)?)
+}
+
+/// The text of the proof of entries that were read.
+fn text_of(alloc: Global, numbers: &[usize], log: ReadLog) -> Result<Vec<u8>, AllocError>
+    ensures { IfOk result (λ text. (entries : List (List ℕ)) → let indices = map (λ n. n - 1) numbers.now in
+        HasEntries (proof_nodes (length entries) indices) indices entries log →
+        wanted_of entries indices ≡ map (entry_at entries) indices →
+        text.items ≡ entries_text (proof_over entries numbers.now)) }
+{
+    let ReadLog { tree, entries } = log;
+    let values = tree.values(alloc)?;
+    let digests = present(alloc, &values)?;
+    let entries = numbered(alloc, numbers, entries)?;
+    EntriesProof { entries, digests }.to_text(alloc)
+}
+
+/// The indices of entries, counted from 0.
+fn indices_of(alloc: Global, numbers: &[usize]) -> Result<Vec<usize>, AllocError>
+    ensures { IfOk result (λ indices. indices.items ≡ map (λ n. n - 1) numbers.now) }
+{
+    numbers
+        .iter()
+        .map(|number| number.saturating_sub(1))
+        .collect(alloc)
+}
+
+/// Entries of these numbers and bytes.
+fn numbered(
+    alloc: Global,
+    numbers: &[usize],
+    entries: Vec<Vec<u8>>,
+) -> Result<Vec<Entry>, AllocError>
+    ensures { IfOk result (λ numbered. map entry_fields numbered.items
+        ≡ map entry_of (zip numbers.now (map bytes_in entries.items))) }
+{
+    let mut numbered = Vec::with_capacity(alloc, numbers.len())?;
+    for (number, bytes) in numbers.iter().zip(entries) {
+        numbered.push(Entry {
+            number: *number,
+            bytes,
+        })?;
+    }
+    Ok(numbered)
+}

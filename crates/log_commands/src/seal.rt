@@ -1,0 +1,33 @@
+//! Seals a file.
+
+ghost use Rattle.log_files.specs.Entries.{IsCut};
+ghost use Rattle.log_commands.specs.Commands.{HoldsOfInput, seal_file};
+ghost use Rattle.log_commands.specs.Outcomes.{bytes_in, Gives};
+
+use crate::error::Error;
+use crate::files::{read_file, size_and_root};
+use log_files::Cut;
+use log_text::Checkpoint;
+use std::alloc::Global;
+use std::io::Read;
+
+/// The checkpoint of a file under this origin, in one pass over the file: how many entries it has, and the root of
+/// their tree (RFC 9162, 2.1.1). With `PART_ORIGIN` it is a part of a file.
+///
+/// # Errors
+///
+/// `Read` if the file cannot be read; `TooManyEntries`, else `EndsInsideLine`; `OutOfMemory` at any time.
+pub fn seal<Src: Read>(
+    alloc: Global,
+    origin: &str,
+    cut: Cut,
+    file: &mut Src,
+) -> Result<Vec<u8>, Error>
+    requires { IsCut cut }
+    ensures { HoldsOfInput (Src.remaining file.old)
+        (λ input. Gives bytes_in result (seal_file origin.now cut input)) }
+{
+    let log = read_file(alloc, cut, None, &[], &[], file)?;
+    let (size, root) = size_and_root(&log);
+    Ok(Checkpoint { origin, size, root }.to_text(alloc)?)
+}

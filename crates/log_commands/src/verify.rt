@@ -1,0 +1,210 @@
+//! Verifies proofs of entries.
+
+ghost use Rattle.std.specs.Prelude.{◌≡◌, ◌-◌, ◌++◌, ◌⊎◌, IfOk, OnOk};
+ghost use Rattle.std.specs.Prelude.{MatchResult, None, Some, flat_map, map, option_map};
+ghost use Rattle.sha2.specs.Sha256.{sha256};
+ghost use Rattle.p3_merkle_core.specs.Refusals.{first_of};
+ghost use Rattle.tlog.specs.Rfc9162.{leaf_hash as leaf_hash_by};
+ghost use Rattle.log_text.specs.Texts.{checkpoint_fields, entries_fields, entry_fields};
+ghost use Rattle.log_commands.specs.Inner.{IsMemory};
+ghost use Rattle.log_commands.specs.Outcomes.{bytes_in, Gives};
+ghost use Rattle.log_commands.specs.Outcomes.{entry_refusal, is_printable, numbers_refusal, printed, proof_refusal};
+ghost use Rattle.log_commands.specs.Outcomes.{verify_outcome};
+ghost use Rattle.log_commands.specs.declared.error.Error.TheVariants.{OutOfMemory};
+
+use crate::error::{Error, Refusal, Source, entries_error};
+use crate::texts::{read_checkpoint, read_entries};
+use log_text::{Checkpoint, EntriesProof, Entry};
+use std::alloc::{AllocError, Global};
+use tlog::leaf_hash;
+use tlog_entries::verify_entries;
+
+/// How entries are printed.
+#[derive(Clone, Copy, Debug, PartialEq, Eq)]
+pub enum Print {
+    /// As lines, each with a line feed, after its number and a tab where no numbers are requested.
+    Lines,
+    /// As blocks of so many bytes, one after another. The last of the log may be shorter.
+    Blocks(usize),
+    /// The bytes of an entry, as they are.
+    Raw,
+}
+
+/// The entries of a proof, as they are printed, if it is accepted under a checkpoint: those of these numbers, in this
+/// order, or all that it has. Signatures are not checked.
+///
+/// # Errors
+///
+/// The first of these that applies, where `OutOfMemory` may come at any time:
+///
+/// - the first wrong line of the checkpoint, then of the proof;
+/// - `OtherNumbers` if the proof has other entries than the requested ones, or in another order;
+/// - `NoSuchEntry` for the first that cannot be printed: a line with a line feed inside, a block of another length;
+/// - `Entries` with the verifier's reason.
+pub fn verify(
+    alloc: Global,
+    print: Print,
+    checkpoint: &[u8],
+    proof: &[u8],
+    numbers: Option<&[usize]>,
+) -> Result<Vec<u8>, Error>
+    ensures { Gives bytes_in result
+        (verify_outcome print checkpoint.now proof.now (option_map (λ ns. ns.now) numbers.entry)) }
+{
+    let checkpoint = read_checkpoint(Source::Checkpoint, checkpoint)?;
+    let proof = read_entries(alloc, proof)?;
+    check_requested(alloc, numbers, &proof.entries)?;
+    check_entries(print, checkpoint.size, &proof.entries)?;
+    check_proof(alloc, &checkpoint, &proof)?;
+    Ok(text_of(alloc, print, numbers.is_some(), &proof.entries)?)
+}
+
+/// Checks that entries are the requested ones, in their order, if numbers are requested.
+fn check_requested(alloc: Global, numbers: Option<&[usize]>, entries: &[Entry]) -> Result<(), Error>
+    ensures { let refusal = numbers_refusal (option_map (λ ns. ns.now) numbers.entry) (map entry_fields entries.now) in
+        MatchResult result (λ ok. refusal ≡ None) (λ error. (error ≡ OutOfMemory) ⊎ (refusal ≡ Some error)) }
+{
+    match numbers {
+        Some(numbers) => check_numbers(alloc, numbers, entries),
+        None => Ok(()),
+    }
+}
+
+/// Checks that entries have these numbers, in this order.
+fn check_numbers(alloc: Global, numbers: &[usize], entries: &[Entry]) -> Result<(), Error>
+    ensures { let refusal = numbers_refusal (Some numbers.now) (map entry_fields entries.now) in
+        MatchResult result (λ ok. refusal ≡ None) (λ error. (error ≡ OutOfMemory) ⊎ (refusal ≡ Some error)) }
+{
+    let proved = numbers_of(alloc, entries)?;
+    if proved.as_slice() == numbers {
+        Ok(())
+    } else {
+        Err(Error::Refused(Source::Proof, Refusal::OtherNumbers))
+    }
+}
+
+/// The numbers of entries.
+fn numbers_of(alloc: Global, entries: &[Entry]) -> Result<Vec<usize>, AllocError>
+    ensures { IfOk result (λ numbers. numbers.items ≡ map (λ e. e.number) (map entry_fields entries.now)) }
+{
+    entries.iter().map(|entry| entry.number).collect(alloc)
+}
+
+/// The indices of entries, counted from 0.
+fn indices_of(alloc: Global, entries: &[Entry]) -> Result<Vec<usize>, AllocError>
+    ensures { IfOk result (λ indices. indices.items ≡ map (λ e. e.number - 1) (map entry_fields entries.now)) }
+{
+    entries
+        .iter()
+        .map(|entry| entry.number.saturating_sub(1))
+        .collect(alloc)
+}
+
+/// The leaf hashes of entries.
+fn leaves_of(alloc: Global, entries: &[Entry]) -> Result<Vec<[u8; 32]>, AllocError>
+    ensures { IfOk result
+        (λ leaves. leaves.items ≡ map (λ e. leaf_hash_by sha256 e.bytes) (map entry_fields entries.now)) }
+{
+    let mut leaves = Vec::with_capacity(alloc, entries.len())?;
+    for entry in entries {
+        leaves.push(leaf_hash(&entry.bytes))?;
+    }
+    Ok(leaves)
+}
+
+/// Checks that entries can be printed.
+fn check_entries(print: Print, size: usize, entries: &[Entry]) -> Result<(), Error>
+    ensures { let refusal = first_of (entry_refusal print size) (map entry_fields entries.now) in
+        MatchResult result (λ ok. refusal ≡ None) (λ error. refusal ≡ Some error) }
+{
+    for entry in entries {
+        check_entry(print, size, entry)?;
+    }
+    Ok(())
+}
+
+/// Checks that an entry can be printed.
+fn check_entry(print: Print, size: usize, entry: &Entry) -> Result<(), Error>
+    ensures { let refusal = entry_refusal print size (entry_fields entry.now) in
+        MatchResult result (λ ok. refusal ≡ None) (λ error. refusal ≡ Some error) }
+{
+    if is_printable(print, size, entry) {
+        Ok(())
+    } else {
+        Err(Error::Refused(
+            Source::Proof,
+            Refusal::NoSuchEntry {
+                number: entry.number,
+            },
+        ))
+    }
+}
+
+/// Whether an entry can be printed.
+fn is_printable(print: Print, size: usize, entry: &Entry) -> bool
+    ensures { result ≡ is_printable print size (entry_fields entry.now) }
+{
+    let len = entry.bytes.len();
+    match print {
+        Print::Lines => entry.bytes.iter().all(|byte| *byte != b'\n'),
+        Print::Blocks(block) if entry.number == size => 1 <= len && len <= block,
+        Print::Blocks(block) => len == block,
+        Print::Raw => true,
+    }
+}
+
+/// Checks a proof by the verifier.
+fn check_proof(
+    alloc: Global,
+    checkpoint: &Checkpoint<'_>,
+    proof: &EntriesProof,
+) -> Result<(), Error>
+    ensures { let refusal = proof_refusal (checkpoint_fields checkpoint.now) (entries_fields proof.now) in
+        MatchResult result (λ ok. refusal ≡ None) (λ error. (error ≡ OutOfMemory) ⊎ (refusal ≡ Some error)) }
+{
+    let indices = indices_of(alloc, &proof.entries)?;
+    let leaves = leaves_of(alloc, &proof.entries)?;
+    let (size, root) = (checkpoint.size, &checkpoint.root);
+    match verify_entries(alloc, size, &indices, &leaves, &proof.digests, root) {
+        Ok(()) => Ok(()),
+        Err(error) => Err(entries_error(error)),
+    }
+}
+
+/// What is printed of entries.
+fn text_of(
+    alloc: Global,
+    print: Print,
+    is_requested: bool,
+    entries: &[Entry],
+) -> Result<Vec<u8>, AllocError>
+    ensures { IfOk result
+        (λ text. text.items ≡ flat_map (printed print is_requested) (map entry_fields entries.now)) }
+{
+    let mut text = Vec::new(alloc);
+    for entry in entries {
+        push_entry(alloc, &mut text, print, is_requested, entry)?;
+    }
+    Ok(text)
+}
+
+/// Appends what is printed of an entry.
+fn push_entry(
+    alloc: Global,
+    text: &mut Vec<u8>,
+    print: Print,
+    is_requested: bool,
+    entry: &Entry,
+) -> Result<(), AllocError>
+    ensures { OnOk result (text.new.items ≡ text.old.items ++ printed print is_requested (entry_fields entry.now)) }
+{
+    if print == Print::Lines && !is_requested {
+        let head = format!(in alloc; "{}\t", entry.number)?;
+        text.extend_from_slice(head.as_bytes())?;
+    }
+    text.extend_from_slice(&entry.bytes)?;
+    match print {
+        Print::Lines => text.extend_from_slice(b"\n"),
+        _ => Ok(()),
+    }
+}

@@ -1,0 +1,80 @@
+//! Verifies that a log of a new checkpoint begins with the entries of an old one.
+
+ghost use Rattle.std.specs.Prelude.{◌≡◌, None, Some, MatchResult};
+ghost use Rattle.log_text.specs.Reading.{checkpoint_in};
+ghost use Rattle.log_text.specs.Texts.{checkpoint_fields, consistency_fields};
+ghost use Rattle.log_commands.specs.Outcomes.{bytes_in, Gives};
+ghost use Rattle.log_commands.specs.Outcomes.{consistency_refused, growth_refusal, old_size_refusal, said_inside};
+ghost use Rattle.log_commands.specs.Outcomes.{verify_consistency_outcome};
+
+use crate::error::{Error, Refusal, Source};
+use crate::texts::{check_growth, read_checkpoint, read_consistency};
+use log_text::{Checkpoint, ConsistencyProof, TextError};
+use std::alloc::Global;
+use tlog::verify_consistency as verify;
+
+/// The new checkpoint that a consistency proof contains, as it stands there with its signatures, if the proof shows
+/// that its log begins with the entries of the old checkpoint (RFC 9162, 2.1.4.2). Signatures are not checked.
+///
+/// # Errors
+///
+/// The first of these that applies, where `OutOfMemory` may come at any time:
+///
+/// - the first wrong line of the old checkpoint, then of the proof;
+/// - `OtherOldSize` if the proof is from another size than that of the old checkpoint;
+/// - `CheckpointLine` for the first wrong line of the new checkpoint;
+/// - `OtherOrigin`, `SmallerSize` or `TwoHistories` if the new checkpoint does not follow the old one;
+/// - `Consistency` with the verifier's reason.
+pub fn verify_consistency(alloc: Global, old: &[u8], proof: &[u8]) -> Result<Vec<u8>, Error>
+    ensures { Gives bytes_in result (verify_consistency_outcome old.now proof.now) }
+{
+    let old = read_checkpoint(Source::Old, old)?;
+    let proof = read_consistency(alloc, proof)?;
+    check_old_size(&old, &proof)?;
+    let new = read_new(&proof)?;
+    check_growth(Source::Proof, &old, &new)?;
+    check_digests(&old, &new, &proof)?;
+    Ok(Vec::from_slice(alloc, proof.checkpoint)?)
+}
+
+/// Checks that a proof is from the size of the old checkpoint.
+fn check_old_size(old: &Checkpoint<'_>, proof: &ConsistencyProof<'_>) -> Result<(), Error>
+    ensures { let refusal = old_size_refusal (checkpoint_fields old.now) (consistency_fields proof.now) in
+        MatchResult result (λ ok. refusal ≡ None) (λ error. refusal ≡ Some error) }
+{
+    let (got, expected) = (proof.old_size, old.size);
+    if got == expected {
+        Ok(())
+    } else {
+        Err(Error::Refused(Source::Proof, Refusal::OtherOldSize { got, expected }))
+    }
+}
+
+/// The new checkpoint that a proof contains.
+fn read_new<'a>(proof: &ConsistencyProof<'a>) -> Result<Checkpoint<'a>, Error>
+    ensures { Gives checkpoint_fields result (said_inside (checkpoint_in proof.now.checkpoint.now)) }
+{
+    match Checkpoint::parse(proof.checkpoint) {
+        Ok(checkpoint) => Ok(checkpoint),
+        Err(TextError::Line { line, expected }) => {
+            Err(Error::Refused(Source::Proof, Refusal::CheckpointLine { line, expected }))
+        }
+        Err(TextError::OutOfMemory) => Err(Error::OutOfMemory),
+    }
+}
+
+/// Checks the digests of a proof.
+fn check_digests(
+    old: &Checkpoint<'_>,
+    new: &Checkpoint<'_>,
+    proof: &ConsistencyProof<'_>,
+) -> Result<(), Error>
+    ensures { let refusal = consistency_refused (checkpoint_fields old.now) (checkpoint_fields new.now)
+        proof.now.digests.items in
+        MatchResult result (λ ok. refusal ≡ None) (λ error. refusal ≡ Some error) }
+{
+    match verify(old.size, new.size, &proof.digests, &old.root, &new.root) {
+        Ok(()) => Ok(()),
+        Err(error) => Err(Error::Refused(Source::Proof, Refusal::Consistency(error))),
+    }
+}

@@ -1,0 +1,7 @@
+mod EntryFacts
+mod CutFacts
+mod WantedFacts
+mod SplitterFacts
+mod EndFacts
+mod BuiltFacts
+mod ReaderFacts

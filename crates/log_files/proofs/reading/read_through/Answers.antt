@@ -1,0 +1,115 @@
+-- What was read so far has been built.
+use Rattle.std.proofs.Common.{◌⊎◌, ℕ, List, ◌≡◌, ◌++◌, ◌∙◌, [], append-nil, arith, inl, inr, leb-true, refl, subst, sym}
+use Rattle.std.proofs.Common.{take}
+use Rattle.std.proofs.lemmas.Result.{err_from_is_err_and}
+use Rattle.std.specs.Io.KnownBytes.{Consumes, ReadConsumes}
+use Rattle.log_files.specs.Inner.Splitting.{AreTooMany, HasBuilt, IsReady}
+use Rattle.log_files.specs.declared.cut.Cut.{Cut}
+use Rattle.log_files.specs.declared.error.ReadError.{ReadError}
+use Rattle.log_files.specs.declared.error.ReadError.TheVariants.{OutOfMemory, TooManyEntries}
+use Rattle.log_files.proofs.ReaderFacts.{consumes_kept, consumes_more, consumes_none, refused_reading}
+use Rattle.log_files.proofs.reading.read_through.Goals as goal
+use Rattle.log_files.proofs.reading.read_through.Goals.{in-Ok+in_ok-tree-in-Ok, in-Err}
+
+pub loop-turn-init : goal.loop-turn-init
+loop-turn-init g c = record {
+  wide = c.as_mut_slice-window.ensures.len ∙ c.in_ok-buffer.ensures.len;
+  ready = c.requires;
+  same = (refl, refl);
+  built = λ nodes wanted b. ([], consumes_none (g.Src.Read.remaining c.args.file.now), b);
+}
+
+pub returns-then-is_full : goal.returns-then-is_full
+returns-then-is_full g c =
+    let s = c.loop-turn.splitter in
+    record {
+      ready = c.loop-turn.invariant.ready;
+      same = c.loop-turn.invariant.same;
+      built = λ nodes wanted b.
+          let (front, consumed, now) = c.loop-turn.invariant.built nodes wanted b in
+          (front, consumed, now, inr (leb-true s.limit s.count (sym c.is_full.ensures ∙ c.if-is_full.true)));
+      refused = λ nodes wanted b. tt;
+    }
+
+pub returns-in-Ok-eq0 : goal.returns-in-Ok-eq0
+returns-in-Ok-eq0 g c =
+    let begun = g.Src.Read.remaining c.args.file.now in
+    let before = g.Src.Read.remaining c.loop-turn.file in
+    let after = g.Src.Read.remaining c.read.new.self in
+    let read = subst (λ r. ReadConsumes before after r c.read.new.buf) c.in-Ok-eq0.is c.read.ensures.bytes in
+    let none = subst (λ n. Consumes before after (take n c.read.new.buf)) c.in-Ok-eq0.field-0-test read.0 in
+    let at_end = read.1 c.in-Ok-eq0.field-0-test (omega (arith, c.loop-turn.invariant.wide, c.read.auto.buf)) in
+    record {
+      ready = c.loop-turn.invariant.ready;
+      same = c.loop-turn.invariant.same;
+      built = λ nodes wanted b.
+          let (front, consumed, now) = c.loop-turn.invariant.built nodes wanted b in (
+            front,
+            subst (Consumes begun after) (append-nil front) (consumes_more begun before after front [] consumed none),
+            now,
+            inl at_end,
+          );
+      refused = λ nodes wanted b. tt;
+    }
+
+pub loop-turn-preserved : goal.loop-turn-preserved
+loop-turn-preserved g c =
+    let begun = g.Src.Read.remaining c.args.file.now in
+    let before = g.Src.Read.remaining c.loop-turn.file in
+    let after = g.Src.Read.remaining c.read.new.self in
+    let first = c.args.splitter.now in
+    let tree = c.match-read.tree in
+    let before_same = c.loop-turn.invariant.same in
+    elim c.match-read.branch [
+      | in-Ok+in_ok-tree-in-Ok w ↦
+          let pushed = w.in_ok-tree-in-Ok.ensures in
+          record {
+            wide = omega (arith, c.read.auto.buf, c.loop-turn.invariant.wide);
+            ready = subst IsReady (sym w.splitter-is) pushed.ready;
+            same = subst (λ s. (s.cut ≡ first.cut) × (s.limit ≡ first.limit)) (sym w.splitter-is)
+                (pushed.same.0 ∙ before_same.0, pushed.same.1 ∙ before_same.1);
+            built = λ nodes wanted b.
+                let (front, consumed, now) = c.loop-turn.invariant.built nodes wanted b in
+                let more = take w.in-Ok.count c.read.new.buf in (
+                  front ++ more,
+                  consumes_more begun before after front more consumed w.in-Ok.ensures.bytes.0,
+                  subst (λ s. HasBuilt nodes wanted s tree (front ++ more)) (sym w.splitter-is)
+                      (subst (λ t. HasBuilt nodes wanted w.push.new.splitter t (front ++ more)) (sym w.tree-is)
+                      (pushed.built nodes wanted front now)),
+                );
+          }
+      | in-Err w ↦
+          record {
+            wide = omega (arith, c.read.auto.buf, c.loop-turn.invariant.wide);
+            ready = subst IsReady (sym w.splitter-is) c.loop-turn.invariant.ready;
+            same = subst (λ s. (s.cut ≡ first.cut) × (s.limit ≡ first.limit)) (sym w.splitter-is) before_same;
+            built = λ nodes wanted b.
+                let (front, consumed, now) = c.loop-turn.invariant.built nodes wanted b in (
+                  front,
+                  consumes_kept begun before after front consumed w.in-Err.ensures.bytes,
+                  subst (λ s. HasBuilt nodes wanted s tree front) (sym w.splitter-is)
+                      (subst (λ t. HasBuilt nodes wanted c.loop-turn.splitter t front) (sym w.tree-is) now),
+                );
+          }
+    ]
+
+abbrev IsRefused : ReadError → Cut → ℕ → List ℕ → Type 0
+IsRefused e cut limit bytes = (e ≡ OutOfMemory) ⊎ ((e ≡ TooManyEntries) × AreTooMany cut limit bytes)
+
+pub returns-in_err-tree-in-Ok-clause-refused : goal.returns-in_err-tree-in-Ok-clause-refused
+returns-in_err-tree-in-Ok-clause-refused g c =
+    let begun = g.Src.Read.remaining c.args.file.now in
+    let before = g.Src.Read.remaining c.loop-turn.file in
+    let after = g.Src.Read.remaining c.read.new.self in
+    let s = c.loop-turn.splitter in
+    let first = c.args.splitter.now in
+    let same = c.loop-turn.invariant.same in
+    let more = take c.in-Ok.count c.read.new.buf in
+    let p = err_from_is_err_and c.from_residual-in_err-tree-in-Ok.result c.from_residual-in_err-tree-in-Ok.ensures.1 in
+    λ nodes wanted b.
+    let (front, consumed, now) = c.loop-turn.invariant.built nodes wanted b in
+    rw (p.1, p.2) (refused_reading c.in_err-tree-in-Ok.field-0.0 first.cut first.limit begun after front more
+    (consumes_more begun before after front more consumed c.in-Ok.ensures.bytes.0)
+    (λ rest. subst (λ k. IsRefused c.in_err-tree-in-Ok.field-0.0 k first.limit (front ++ (more ++ rest))) same.0
+    (subst (λ n. IsRefused c.in_err-tree-in-Ok.field-0.0 s.cut n (front ++ (more ++ rest))) same.1
+    (c.in_err-tree-in-Ok.ensures.refused nodes wanted front rest now))))

@@ -1,0 +1,47 @@
+-- The next wanted entry is copied to its place.
+use Rattle.std.proofs.Common.{◌≡◌, ℕ, ◌-◌, ◌<◌, ◌++◌, List, [], ◌∙◌, All, Bor, ap, arith, drop, get_or, length, map}
+use Rattle.std.proofs.Common.{length-append, length-drop, refl, set, subst, sym, take_all}
+use Rattle.std.proofs.lemmas.List.{get_or-map, length-map, length-set, map-set}
+use Rattle.std.proofs.lemmas.List.Elements.{All-drop, All-weaker}
+use Rattle.log_files.proofs.WantedFacts.{entry_among, one_copied, some_held}
+use Rattle.log_files.proofs.wanted.WantedEntries.copy.Goals as goal
+
+abbrev bytes_of : Bor (List ℕ) → List ℕ
+bytes_of entry = entry.now
+
+pub wanted-init : goal.wanted-init
+wanted-init c = record {
+  places = c.requires;
+  holds = λ wanted ended is holds.
+      some_held c.args.self.now wanted c.args.first ended (map bytes_of c.args.entries.now) is holds;
+}
+
+pub wanted-preserved : goal.wanted-preserved
+wanted-preserved c =
+    let w = c.wanted.self in
+    let left = w.left.now in
+    let p = c.in-Some.next.now in
+    let entries = c.args.entries.now in
+    let E = map bytes_of entries in
+    let at = c.saturating_sub-at.result in
+    let copy = c.in_ok-self.field-0 in
+    let follow = take_all (length left - 1) (drop 1 left) (omega (arith, length-drop 1 left)) in
+    let inside : at < length entries = omega (arith, c.if-at-entries.false) in
+    let far : at ≡ p.0 - c.args.first = c.saturating_sub-at.ensures in
+    let kept = length-set w.entries.items p.1 copy in
+    let Old = λ (q : ℕ × ℕ). q.1 < length w.entries.items in
+    let New = λ (q : ℕ × ℕ). q.1 < length (set w.entries.items p.1 copy) in
+    record {
+      places = subst (All New) (sym follow)
+          (All-drop New 1 left (All-weaker Old New (λ q h. omega (arith, h, kept)) left c.wanted.invariant.places));
+      holds = λ wanted ended is holds.
+          let within : p.0 < length (ended ++ E) =
+          omega (arith, far, inside, is, length-append ended E, length-map entries bytes_of) in
+          let read = c.in_ok-self.ensures.items ∙ sym (get_or-map bytes_of entries at _ [] inside)
+          ∙ ap (λ n. get_or E n []) far in
+          one_copied w _ wanted c.args.first (ended ++ E) p copy.items c.in-Some.ensures.value follow
+          (map-set (λ e. e.items) w.entries.items p.1 copy) refl within
+          (λ low. entry_among ended E c.args.first p.0 copy.items is low
+          (omega (arith, far, inside, length-map entries bytes_of)) read)
+          (c.wanted.invariant.holds wanted ended is holds);
+    }

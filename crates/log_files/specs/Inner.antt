@@ -1,0 +1,3 @@
+-- Definitions that only proofs and internal calls use.
+pub mod Wanted
+pub mod Splitting

@@ -1,0 +1,5 @@
+pub mod Entries
+pub mod Examples
+pub mod Errors
+pub mod Logs
+pub mod Inner

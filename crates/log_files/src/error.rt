@@ -1,0 +1,53 @@
+//! Why a file is not read.
+
+ghost use Rattle.std.specs.Prelude.{◌≡◌, if◌then◌else◌};
+ghost use Rattle.log_files.specs.Errors.{read_error_of};
+ghost use Rattle.log_files.specs.declared.error.ReadError.TheVariants.{OutOfMemory};
+
+use std::alloc::{AllocError, AllocFailed};
+use thiserror::Error;
+use tlog_tree::TreeError;
+
+/// Why the entries of a file are not read. It prints as one line.
+#[derive(Clone, Copy, Debug, PartialEq, Eq, Error)]
+pub enum ReadError {
+    /// A read failed.
+    #[error("cannot be read")]
+    Read,
+    /// The file has more than 2^62 entries.
+    #[error("has more than 2^62 entries")]
+    TooManyEntries,
+    /// The file ends inside a line, and a partial line is refused.
+    #[error("ends inside a line")]
+    EndsInsideLine,
+    /// Memory ran out.
+    #[error("out of memory")]
+    OutOfMemory,
+}
+
+impl From<AllocError> for ReadError {
+    ghost from_gives = { λ _ e. e ≡ OutOfMemory };
+
+    fn from(_error: AllocError) -> ReadError {
+        ReadError::OutOfMemory
+    }
+}
+
+impl<T: Drop> From<AllocFailed<T>> for ReadError {
+    ghost from_gives = { λ _ e. e ≡ OutOfMemory };
+
+    fn from(_error: AllocFailed<T>) -> ReadError {
+        ReadError::OutOfMemory
+    }
+}
+
+impl From<TreeError> for ReadError {
+    ghost from_gives = { λ error e. e ≡ read_error_of error };
+
+    fn from(error: TreeError) -> ReadError {
+        match error {
+            TreeError::SizeTooLarge => ReadError::TooManyEntries,
+            _ => ReadError::OutOfMemory,
+        }
+    }
+}

@@ -1,0 +1,151 @@
+//! The tree of a log that stands in a file, and single entries of it, in one pass over a reader.
+
+ghost use Rattle.std.specs.Prelude.{◌≡◌, ◌⊎◌, ◌≤◌, ◌++◌, ℕ, List, [], IfErr, IfOk, OnOk, Some};
+ghost use Rattle.std.specs.Io.KnownBytes.{Consumes, IsAtEnd};
+ghost use Rattle.log_files.specs.Entries.{read_refusal, HoldsOfFile, IsCut};
+ghost use Rattle.log_files.specs.Logs.{IsLogOf};
+ghost use Rattle.log_files.specs.Inner.Splitting.{AreTooMany, HasBuilt, IsReady, ReadsTooMany};
+ghost use Rattle.log_files.specs.declared.error.ReadError.TheVariants.{OutOfMemory, Read as FailedRead};
+ghost use Rattle.log_files.specs.declared.error.ReadError.TheVariants.{TooManyEntries};
+
+use crate::cut::Cut;
+use crate::error::ReadError;
+use crate::splitter::Splitter;
+use crate::wanted::{WantedEntries, places_in_order};
+use std::alloc::Global;
+use std::io::{ErrorKind, Read};
+use tlog_tree::TreeBuilder;
+
+/// How many bytes are read at a time.
+const BUFFER: usize = 1 << 20;
+
+/// What is read of a log in a file.
+#[derive(Drop)]
+pub struct ReadLog {
+    /// Its tree, with the values of the wanted nodes.
+    pub tree: TreeBuilder,
+    /// The bytes of the wanted entries, in the order of their indices in the call. Empty if the log lacks one of them.
+    pub entries: Vec<Vec<u8>>,
+}
+
+/// Reads a log that stands in a file, in one pass from where the reader stands: its tree (RFC 9162, 2.1.1), with the
+/// values of wanted nodes, each by its layer and its slot, and the bytes of wanted entries, each by its index, counted
+/// from 0, in any order and as often as it is named.
+///
+/// With a limit it reads so many entries, and of the file hardly more: of what follows them nothing is said. Without
+/// one it reads to the end of the file. Beside wanted nodes and entries it holds less than 8 MiB, whatever the file
+/// has; of wanted entries it holds at most twice their bytes.
+///
+/// # Errors
+///
+/// `EndsInsideLine` if the file ends inside a line, ahead of the limit, and a partial line is refused. `TooManyEntries`
+/// if more than 2^62 entries are read. `Read` if a read fails; an interrupted read is retried. `OutOfMemory` if memory
+/// runs out.
+pub fn read_log<Src: Read>(
+    alloc: Global,
+    cut: Cut,
+    limit: Option<usize>,
+    wanted_nodes: &[(usize, usize)],
+    wanted_entries: &[usize],
+    file: &mut Src,
+) -> Result<ReadLog, ReadError>
+    requires { IsCut cut }
+    ensures read { IfOk result (λ log. HoldsOfFile (Src.remaining file.old)
+        (IsLogOf log cut limit wanted_nodes.now wanted_entries.now)) }
+    ensures refused { IfErr result (λ e. (e ≡ OutOfMemory) ⊎ ((e ≡ FailedRead)
+        ⊎ HoldsOfFile (Src.remaining file.old) (λ bytes. read_refusal cut limit bytes ≡ Some e))) }
+{
+    let places = places_in_order(alloc, wanted_entries)?;
+    let wanted = WantedEntries::new(alloc, &places)?;
+    let mut splitter = Splitter::new(cut, limit.unwrap_or(usize::MAX), wanted);
+    let tree = TreeBuilder::new(alloc, wanted_nodes)?;
+    let tree = read_through(alloc, &mut splitter, tree, file)?;
+    finish(alloc, splitter, tree)
+}
+
+/// Reads a file until it ends, or until as many entries have ended as are read at most.
+fn read_through<Src: Read>(
+    alloc: Global,
+    splitter: &mut Splitter<'_>,
+    mut tree: TreeBuilder,
+    file: &mut Src,
+) -> Result<TreeBuilder, ReadError>
+    requires { IsReady splitter.old }
+    ensures ready { OnOk result (IsReady splitter.new) }
+    ensures same { OnOk result ((splitter.new.cut ≡ splitter.old.cut) × (splitter.new.limit ≡ splitter.old.limit)) }
+    ensures built { (nodes : List (ℕ × ℕ)) (wanted : List ℕ) → HasBuilt nodes wanted splitter.old tree [] →
+        IfOk result (λ read. (front : List ℕ) × Consumes (Src.remaining file.old) (Src.remaining file.new) front
+        × HasBuilt nodes wanted splitter.new read front
+        × (IsAtEnd (Src.remaining file.new) ⊎ (splitter.new.limit ≤ splitter.new.count))) }
+    ensures refused { (nodes : List (ℕ × ℕ)) (wanted : List ℕ) → HasBuilt nodes wanted splitter.old tree [] →
+        IfErr result (λ e. (e ≡ OutOfMemory) ⊎ ((e ≡ FailedRead) ⊎ ((e ≡ TooManyEntries)
+        × ReadsTooMany splitter.old.cut splitter.old.limit (Src.remaining file.old) (Src.remaining file.new)))) }
+{
+    let mut buffer = vec![in alloc; 0; BUFFER]?;
+    let window = buffer.as_mut_slice();
+    for _turn in 0..u64::MAX {
+        if splitter.is_full() {
+            return Ok(tree);
+        }
+        match file.read(window) {
+            Ok(0) => return Ok(tree),
+            Ok(count) => tree = push(alloc, splitter, tree, &window[..count])?,
+            Err(error) if error.kind() == ErrorKind::Interrupted => {}
+            Err(error) if error.kind() == ErrorKind::OutOfMemory => {
+                return Err(ReadError::OutOfMemory);
+            }
+            Err(_) => return Err(ReadError::Read),
+        }
+    }
+    Err(ReadError::Read)
+}
+
+/// Reads the next bytes of a file, and grows its tree by the entries that end in them.
+fn push(
+    alloc: Global,
+    splitter: &mut Splitter<'_>,
+    mut tree: TreeBuilder,
+    bytes: &[u8],
+) -> Result<TreeBuilder, ReadError>
+    requires { IsReady splitter.old }
+    ensures ready { OnOk result (IsReady splitter.new) }
+    ensures same { OnOk result ((splitter.new.cut ≡ splitter.old.cut) × (splitter.new.limit ≡ splitter.old.limit)) }
+    ensures built { (nodes : List (ℕ × ℕ)) (wanted front : List ℕ) → HasBuilt nodes wanted splitter.old tree front →
+        IfOk result (λ grown. HasBuilt nodes wanted splitter.new grown (front ++ bytes.now)) }
+    ensures refused { (nodes : List (ℕ × ℕ)) (wanted front rest : List ℕ) →
+        HasBuilt nodes wanted splitter.old tree front → IfErr result (λ e. (e ≡ OutOfMemory) ⊎ ((e ≡ TooManyEntries)
+        × AreTooMany splitter.old.cut splitter.old.limit (front ++ (bytes.now ++ rest)))) }
+{
+    let mut left = bytes;
+    'entries: while !left.is_empty() && !splitter.is_full() {
+        let (hashes, rest) = splitter.read(alloc, left)?;
+        tree = tree.push_many(alloc, &hashes)?;
+        left = rest;
+    }
+    Ok(tree)
+}
+
+/// The log of a file that has ended, or whose entries have reached the limit.
+fn finish(
+    alloc: Global,
+    mut splitter: Splitter<'_>,
+    tree: TreeBuilder,
+) -> Result<ReadLog, ReadError>
+    requires { IsReady splitter }
+    ensures read { (nodes : List (ℕ × ℕ)) (wanted front rest : List ℕ) →
+        HasBuilt nodes wanted splitter.entry tree front →
+        (rest ≡ []) ⊎ (splitter.entry.limit ≤ splitter.entry.count) →
+        IfOk result (λ log. IsLogOf log splitter.entry.cut (Some splitter.entry.limit) nodes wanted (front ++ rest)) }
+    ensures refused { (nodes : List (ℕ × ℕ)) (wanted front rest : List ℕ) →
+        HasBuilt nodes wanted splitter.entry tree front →
+        (rest ≡ []) ⊎ (splitter.entry.limit ≤ splitter.entry.count) →
+        IfErr result (λ e. (e ≡ OutOfMemory)
+        ⊎ (read_refusal splitter.entry.cut (Some splitter.entry.limit) (front ++ rest) ≡ Some e)) }
+{
+    let hashes = splitter.end_file(alloc)?;
+    let tree = tree.push_many(alloc, &hashes)?;
+    Ok(ReadLog {
+        tree,
+        entries: splitter.into_wanted(alloc),
+    })
+}

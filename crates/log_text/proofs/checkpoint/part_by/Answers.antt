@@ -1,0 +1,17 @@
+use Rattle.std.proofs.Common.{length, sym, ◌∙◌, arith}
+use Rattle.std.specs.Prelude.{if◌then◌else◌, nat_lt}
+use Rattle.std.proofs.lemmas.Bool.Decides.{Decides-ltb}
+use Rattle.log_text.specs.Reading.{after_origin, missing, part_origin_by, then_read}
+use Rattle.log_text.specs.declared.error.Expected.TheVariants.{ShortNote}
+use Rattle.log_text.proofs.NoteFacts.{part_next}
+use Rattle.log_text.proofs.TestFacts.{fails}
+use Rattle.log_text.proofs.checkpoint.part_by.Goals as goal
+
+pub returns : goal.returns
+returns c =
+    let text = c.args.text.now in
+    let short = fails (nat_lt 1000000 (length text)) (Decides-ltb 1000000 (length text)) (λ long. omega (arith, long))
+    in
+    c.after_origin.ensures
+    ∙ sym ((λ i. if short i then missing ShortNote text else then_read (part_origin_by text) after_origin)
+    ∙ part_next text c.in_ok-left.left.now (sym c.in_ok-left.ensures))

@@ -1,0 +1,7 @@
+use Rattle.std.proofs.Common.{◌≡◌, ◌++◌, take}
+use Rattle.std.specs.Prelude.{flat_map}
+use Rattle.log_text.specs.Texts.{digest_line}
+use Rattle.log_text.proofs.text.push_digests.Given as goal
+
+abbrev pub invariant-loop-digest : goal.invariant-loop-digest
+invariant-loop-digest l = l.text.items ≡ l.fn.text.items ++ flat_map digest_line (take l.digest-index l.digests)

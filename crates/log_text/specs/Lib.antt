@@ -1,0 +1,6 @@
+pub mod Lines
+pub mod Texts
+pub mod Reading
+pub mod Laws
+pub mod Inner
+pub mod Examples

@@ -1,0 +1,127 @@
+//! Why a text is refused.
+
+ghost use Rattle.std.specs.Prelude.{◌≡◌, length};
+ghost use Rattle.log_text.specs.Reading.{error_of};
+ghost use Rattle.log_text.specs.declared.error.Stop.TheVariants.{Memory, Missing};
+
+use std::alloc::{AllocError, AllocFailed};
+use thiserror::Error;
+
+/// Why a text is refused. It prints as one line.
+#[derive(Debug, Drop, Error)]
+pub enum TextError {
+    /// The first wrong line. The bytes of an entry are wrong at their first line, and a note is too long at its first.
+    #[error("line {line}: expected {expected}")]
+    Line {
+        /// Its number, counted from 1: one more than there are line feeds ahead of it.
+        line: usize,
+        /// What is expected there.
+        expected: Expected,
+    },
+    /// Memory ran out.
+    #[error("out of memory")]
+    OutOfMemory,
+}
+
+/// What is expected of a line.
+#[derive(Clone, Copy, Debug, Error)]
+pub enum Expected {
+    /// A note that is not too long.
+    #[error("a text of at most 1000000 bytes")]
+    ShortNote,
+    /// The origin of a log.
+    #[error("1 to 100 characters, no control character, and no space first or last")]
+    Origin,
+    /// The origin of a log, where that of a part is.
+    #[error("the origin of a log, not that of a part, which only `join` takes")]
+    NotPart,
+    /// The origin of a part.
+    #[error("`fohlazu part 1`")]
+    PartOrigin,
+    /// The size of a log.
+    #[error("a number up to 2^62")]
+    Size,
+    /// A digest.
+    #[error("the base64 of 32 bytes")]
+    Digest,
+    /// An extension line, or what may follow instead.
+    #[error("text without control characters, a blank line or the end")]
+    Extension,
+    /// A signature.
+    #[error("`— NAME BASE64`")]
+    Signature,
+    /// The first line of a proof of entries.
+    #[error("`fohlazu proof 1`")]
+    ProofVersion,
+    /// The number of entries of a proof.
+    #[error("`entries COUNT`")]
+    EntryCount,
+    /// The number and the length of an entry.
+    #[error("`entry NUMBER LENGTH`")]
+    EntryHead,
+    /// The bytes of an entry.
+    #[error("{0} bytes and a line feed")]
+    EntryBytes(usize),
+    /// The number of digests of a proof.
+    #[error("`digests COUNT`")]
+    DigestCount,
+    /// The old size of a consistency proof.
+    #[error("`old SIZE`")]
+    OldSize,
+    /// A digest, or the end of the digests.
+    #[error("the base64 of 32 bytes, or a blank line")]
+    DigestOrBlank,
+    /// The end of the digests.
+    #[error("a blank line")]
+    Blank,
+    /// The end of the text.
+    #[error("the end")]
+    End,
+}
+
+/// Why reading stops.
+#[derive(Clone, Copy)]
+pub(crate) enum Stop {
+    /// Something else stands at the front of the last `left` bytes than is expected there.
+    Missing { left: usize, expected: Expected },
+    /// Memory ran out.
+    Memory,
+}
+
+impl From<AllocError> for Stop {
+    ghost from_gives = { λ _ stop. stop ≡ Memory };
+
+    fn from(_error: AllocError) -> Stop {
+        Stop::Memory
+    }
+}
+
+impl<T: Drop> From<AllocFailed<T>> for Stop {
+    ghost from_gives = { λ _ stop. stop ≡ Memory };
+
+    fn from(_error: AllocFailed<T>) -> Stop {
+        Stop::Memory
+    }
+}
+
+/// Reading stops at what is left.
+pub(crate) fn missing(left: &[u8], expected: Expected) -> Stop
+    ensures { result ≡ Missing (length left.now) expected }
+{
+    let left = left.len();
+    Stop::Missing { left, expected }
+}
+
+/// The error of a text where reading stops.
+pub(crate) fn error_of(text: &[u8], stop: Stop) -> TextError
+    ensures { result ≡ error_of text.now stop }
+{
+    match stop {
+        Stop::Missing { left, expected } => {
+            let above = &text[..text.len().saturating_sub(left)];
+            let line = above.iter().filter(|byte| **byte == b'\n').count() + 1;
+            TextError::Line { line, expected }
+        }
+        Stop::Memory => TextError::OutOfMemory,
+    }
+}

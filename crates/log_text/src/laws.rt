@@ -1,0 +1,48 @@
+//! What follows from the definitions, as the contracts of calls that do nothing.
+
+ghost use Rattle.log_text.specs.Laws.{
+  CheckpointsAreReadAgain,
+  ConsistencyProofsAreSpelled,
+  EntriesProofsAreSpelled,
+  NotesAreSpelled,
+  PartsAreSpelled,
+  SignaturesChangeNothing,
+  ThreeLinesAreSpelled,
+};
+
+/// A note is read as a checkpoint exactly if it is that checkpoint's text with any extension lines and signatures, and
+/// the checkpoint is no part.
+pub fn notes_are_spelled()
+    ensures { NotesAreSpelled }
+{}
+
+/// And so it is with parts.
+pub fn parts_are_spelled()
+    ensures { PartsAreSpelled }
+{}
+
+/// A checkpoint or a part is read again as it was printed.
+pub fn checkpoints_are_read_again()
+    ensures { CheckpointsAreReadAgain }
+{}
+
+/// A checkpoint of three lines, so without extension lines and signatures, has one spelling: it is printed as it was
+/// read.
+pub fn three_lines_are_spelled()
+    ensures { ThreeLinesAreSpelled }
+{}
+
+/// A note is read as its text is read without the signatures.
+pub fn signatures_change_nothing()
+    ensures { SignaturesChangeNothing }
+{}
+
+/// A text is read as a proof of entries exactly if it is the text of that proof.
+pub fn entries_proofs_are_spelled()
+    ensures { EntriesProofsAreSpelled }
+{}
+
+/// And so it is with consistency proofs.
+pub fn consistency_proofs_are_spelled()
+    ensures { ConsistencyProofsAreSpelled }
+{}

@@ -1,0 +1,17 @@
+//! The texts of logs: checkpoints by C2SP's tlog-checkpoint, with or without the signatures of a signed note, parts of
+//! files, proofs of entries, and consistency proofs as C2SP's tlog-witness sends them. A value is printed in one
+//! spelling, and read from that alone. No tree is computed here, and no signature is checked.
+#![tactic(auto)]
+
+pub mod checkpoint;
+pub mod consistency;
+pub mod entries;
+pub mod error;
+pub mod laws;
+mod line;
+mod text;
+
+pub use checkpoint::{Checkpoint, PART_ORIGIN, is_key_name, is_origin};
+pub use consistency::ConsistencyProof;
+pub use entries::{EntriesProof, Entry};
+pub use error::{Expected, TextError};

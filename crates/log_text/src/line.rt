@@ -1,0 +1,251 @@
+//! Lines of a text, and what they say.
+
+ghost use Rattle.std.specs.Prelude.{◌≡◌, ◌≤◌, ◌<◌, ◌^◌, ◌⊎◌, Err, IfErr, IfOk, IfSome, Ok, Some, length, option_map};
+ghost use Rattle.std.specs.Prelude.{take};
+ghost use Rattle.std.specs.Option.{SomeIff};
+ghost use Rattle.std.specs.Result.{result_map_both};
+ghost use Rattle.std.specs.Str.Parse.{IsNumeral, digits_value};
+ghost use Rattle.base64.specs.Decode.{decoded_estimate};
+ghost use Rattle.log_text.specs.Lines.{base64_bytes, cut_at, digest_of, is_key_name, is_line, is_signature, is_text};
+ghost use Rattle.log_text.specs.Lines.{number_after, number_of};
+ghost use Rattle.log_text.specs.Reading.{at_blank, at_text_end, digest_by, digests_by, ended, line_by, line_that, many};
+ghost use Rattle.log_text.specs.Inner.Rests.{rest_of};
+ghost use Rattle.log_text.specs.declared.error.Stop.TheVariants.{Memory};
+
+use crate::checkpoint::PART_ORIGIN;
+use crate::error::{Expected, Stop, missing};
+use base64::engine::general_purpose::STANDARD;
+use std::alloc::Global;
+
+/// The bytes ahead of the first byte that is this one, and those after it.
+pub(crate) fn cut_at(mark: u8, bytes: &[u8]) -> Option<(&[u8], &[u8])>
+    ensures { option_map (λ (front, back). (front.now, back.now)) result ≡ cut_at mark bytes.now }
+{
+    let at = bytes.iter().position(|byte| *byte == mark)?;
+    Some((&bytes[..at], &bytes[at + 1..]))
+}
+
+/// The number of one or more ASCII digits, if it fits `usize`.
+fn parse_number(digits: &[u8]) -> Option<usize>
+    ensures { SomeIff result (IsNumeral 10 digits.now × (digits_value 10 digits.now < 2 ^ 64))
+        (digits_value 10 digits.now) }
+{
+    // `parse` takes a sign as well.
+    if digits.first() == Some(&b'+') {
+        return None;
+    }
+    let text = str::from_utf8(digits).ok()?;
+    text.parse().ok()
+}
+
+/// The number up to 2^62 whose decimal digits these are.
+pub(crate) fn number_of(digits: &[u8]) -> Option<usize>
+    ensures { result ≡ number_of digits.now }
+{
+    if digits.len() > 1 && digits[0] == b'0' {
+        return None;
+    }
+    let number = parse_number(digits)?;
+    if number <= 1 << 62 {
+        Some(number)
+    } else {
+        None
+    }
+}
+
+/// A number after a word.
+fn number_after(word: &[u8], line: &[u8]) -> Option<usize>
+    ensures { result ≡ number_after word.now line.now }
+{
+    number_of(line.strip_prefix(word)?)
+}
+
+/// Decodes base64, and returns how many bytes it is of.
+fn decode(text: &[u8], bytes: &mut [u8]) -> Option<usize>
+    requires { decoded_estimate (length text.now) ≤ length bytes.old }
+    ensures len { result ≡ option_map length (base64_bytes text.now) }
+    ensures bytes { IfSome result (λ n. base64_bytes text.now ≡ Some (take n bytes.new)) }
+{
+    STANDARD.decode_slice_unchecked(text, bytes).ok()
+}
+
+/// How many bytes this is the base64 of.
+fn base64_len(text: &[u8]) -> Option<usize>
+    ensures { result ≡ option_map length (base64_bytes text.now) }
+{
+    let mut bytes = [0u8; 3];
+    let mut len = 0;
+    let mut rest = text;
+    while rest.len() > 4 {
+        let (group, below) = rest.split_at(4);
+        if decode(group, &mut bytes)? != 3 {
+            return None;
+        }
+        len += 3;
+        rest = below;
+    }
+    Some(len + decode(rest, &mut bytes)?)
+}
+
+/// The 32 bytes whose base64 this is.
+fn digest_of(line: &[u8]) -> Option<[u8; 32]>
+    ensures { result ≡ digest_of line.now }
+{
+    if line.len() != 44 {
+        return None;
+    }
+    let mut bytes = [0u8; 33];
+    if decode(line, &mut bytes)? != 32 {
+        return None;
+    }
+    let mut digest = [0u8; 32];
+    digest.copy_from_slice(&bytes[..32]);
+    Some(digest)
+}
+
+/// Whether this is UTF-8 without control characters.
+fn is_text(bytes: &[u8]) -> bool
+    ensures { result ≡ is_text bytes.now }
+{
+    str::from_utf8(bytes).is_ok() && bytes.iter().all(|byte| *byte >= b' ')
+}
+
+/// Whether this is the name of a key.
+#[tactic(auto, unfolding(crate::specs::Lines::is_key_name))]
+pub(crate) fn is_key_name(name: &[u8]) -> bool
+    ensures { result ≡ is_key_name name.now }
+{
+    if name.is_empty() || !is_text(name) {
+        return false;
+    }
+    name.iter().all(|byte| *byte != b' ' && *byte != b'+')
+}
+
+/// Whether a line is a signature.
+#[tactic(auto, unfolding(crate::specs::Lines::is_signature))]
+fn is_signature(line: &[u8]) -> bool
+    ensures { result ≡ is_signature line.now }
+{
+    let Some(rest) = line.strip_prefix(b"\xe2\x80\x94 ") else {
+        return false;
+    };
+    let Some((name, signature)) = cut_at(b' ', rest) else {
+        return false;
+    };
+    is_key_name(name) && base64_len(signature).is_some_and(|len| len >= 5)
+}
+
+/// Whether a line is what is expected, of the kinds that say nothing else.
+#[tactic(auto, unfolding(crate::specs::Lines::is_line))]
+fn is_line(expected: Expected, line: &[u8]) -> bool
+    ensures { result ≡ is_line expected line.now }
+{
+    match expected {
+        Expected::PartOrigin => line == PART_ORIGIN.as_bytes(),
+        Expected::Extension => !line.is_empty() && is_text(line),
+        Expected::Signature => is_signature(line),
+        Expected::ProofVersion => line == b"fohlazu proof 1".as_slice(),
+        Expected::Blank => line.is_empty(),
+        _ => false,
+    }
+}
+
+/// Reads past a line that is what is expected.
+pub(crate) fn skip_line(left: &[u8], expected: Expected) -> Result<&[u8], Stop>
+    ensures { result_map_both (λ rest. rest.now) (λ stop. stop) result ≡ rest_of (line_that expected left.now) }
+{
+    let stop = missing(left, expected);
+    let (line, rest) = cut_at(b'\n', left).ok_or(stop)?;
+    if is_line(expected, line) {
+        Ok(rest)
+    } else {
+        Err(stop)
+    }
+}
+
+/// Reads past such lines, at most so many, up to a blank line or the end.
+pub(crate) fn skip_lines(left: &[u8], expected: Expected, limit: usize) -> Result<&[u8], Stop>
+    ensures { result_map_both (λ rest. rest.now) (λ stop. stop) result
+        ≡ rest_of (many at_text_end (line_that expected) limit left.now) }
+{
+    let mut rest = left;
+    for _line in 0..limit {
+        if rest.is_empty() || rest[0] == b'\n' {
+            return Ok(rest);
+        }
+        rest = skip_line(rest, expected)?;
+    }
+    Ok(rest)
+}
+
+/// Reads a number after a word.
+pub(crate) fn number_by<'a>(
+    left: &'a [u8],
+    word: &[u8],
+    expected: Expected,
+) -> Result<(usize, &'a [u8]), Stop>
+    ensures { result_map_both (λ (number, rest). (number, rest.now)) (λ stop. stop) result
+        ≡ line_by expected (number_after word.now) left.now }
+{
+    let stop = missing(left, expected);
+    let (line, rest) = cut_at(b'\n', left).ok_or(stop)?;
+    let number = number_after(word, line).ok_or(stop)?;
+    Ok((number, rest))
+}
+
+/// Reads a digest, where a blank line may stand instead or not.
+#[tactic(auto, unfolding(crate::specs::Reading::digest_by))]
+pub(crate) fn digest_by(left: &[u8], blank_stops: bool) -> Result<([u8; 32], &[u8]), Stop>
+    ensures { result_map_both (λ (digest, rest). (digest, rest.now)) (λ stop. stop) result
+        ≡ digest_by blank_stops left.now }
+{
+    let stop = match blank_stops {
+        true => missing(left, Expected::DigestOrBlank),
+        false => missing(left, Expected::Digest),
+    };
+    let (line, rest) = cut_at(b'\n', left).ok_or(stop)?;
+    let digest = digest_of(line).ok_or(stop)?;
+    Ok((digest, rest))
+}
+
+/// Whether a blank line stands next.
+fn at_blank(left: &[u8]) -> bool
+    ensures { result ≡ at_blank left.now }
+{
+    !left.is_empty() && left[0] == b'\n'
+}
+
+/// Reads so many digests; at most so many, where a blank line stops them.
+pub(crate) fn digests_by(
+    alloc: Global,
+    left: &[u8],
+    blank_stops: bool,
+    count: usize,
+) -> Result<(Vec<[u8; 32]>, &[u8]), Stop>
+    ensures read { IfOk result
+        (λ (digests, rest). digests_by blank_stops count left.now ≡ Ok (digests.items, rest.now)) }
+    ensures stop { IfErr result (λ stop. (stop ≡ Memory) ⊎ (digests_by blank_stops count left.now ≡ Err stop)) }
+{
+    let mut digests = Vec::new(alloc);
+    let mut rest = left;
+    for _digest in 0..count {
+        if blank_stops && at_blank(rest) {
+            return Ok((digests, rest));
+        }
+        let (digest, below) = digest_by(rest, blank_stops)?;
+        digests.push(digest)?;
+        rest = below;
+    }
+    Ok((digests, rest))
+}
+
+/// Nothing is left.
+pub(crate) fn ended(left: &[u8]) -> Result<(), Stop>
+    ensures { result ≡ ended tt left.now }
+{
+    if left.is_empty() {
+        Ok(())
+    } else {
+        Err(missing(left, Expected::End))
+    }
+}
