@@ -5,7 +5,7 @@ from headline import headline_of
 from needed import Needed
 
 LIST = "docs/AUDIT.md"
-MOST_LINES = 1000
+MOST_LINES = 1100
 
 
 class Checks:

@@ -1,7 +1,7 @@
 """Runs a program with each of its requests for memory refused in turn, alone and with all later ones:
-python3 program.py mmcs|fohlazu|tlog_answers PROGRAM LIBRARY. It prints a line for each command and one for all. The
-status is 1 where a run did anything else than answer as with ample memory, or say that memory ran out, alone and as the
-program does."""
+python3 program.py mmcs|fohlazu|tlog_answers|tlog_entries_answers PROGRAM LIBRARY. It prints a line for each command and
+one for all. The status is 1 where a run did anything else than answer as with ample memory, or say that memory ran out,
+alone and as the program does."""
 
 import os
 import subprocess
@@ -20,16 +20,28 @@ TABLES = [
 FILES = {"lines": b"one\ntwo\n\n" + 100 * b"x" + b"\nlast", "blocks": bytes(range(133))}
 # Their first three entries, each as a part of a file.
 PARTS = {"lines": [b"one\n", b"two\n", b"\n"], "blocks": [bytes(range(i, i + 8)) for i in (0, 8, 16)]}
-# Questions about logs, which are answered by recursion, by a tree that grows and by composed proofs.
-QUESTIONS = [
-    text.split() for text in ("0 root", "11 root", "11 inclusion 2", "11 consistency 3", "9 consistency 8")
-]
+# Questions about logs, which are answered by recursion, by a tree that grows and by composed proofs; and about proofs
+# of several entries, which are made, accepted, refused for two leaf hashes of one entry or for another root, or show a
+# collision.
+QUESTIONS = {
+    "tlog_answers": ("0 root", "11 root", "11 inclusion 2", "11 consistency 3", "9 consistency 8"),
+    "tlog_entries_answers": (
+        "places 11 10,0",
+        "digests 7 1,5,1",
+        "verify 7 7 1,5,1 1,5,1 0.0,0.4,1.1,1.3",
+        "verify 7 7 1,5,1 1,5,2 0.0,0.4,1.1,1.3",
+        "verify 7 7 1,5,1 1,4,1 0.0,0.4,1.1,1.3",
+        "weak 8 5,3,5 59,68,59 6,132,207,159",
+    ),
+}
 SEALED = {"lines": ["--label", "a"], "blocks": ["--blocks", "8", "--cap-height", "1"]}
 # What a run says that has no memory, and its status.
 OUT_OF_MEMORY = {
     "mmcs": [(1, b"", b"out of memory\n")],
     "fohlazu": [(2, b"", b"fohlazu: out of memory\n")],
-    "tlog_answers": [(1, b"", b"Error: %s\n" % text) for text in (b"memory allocation failed", b"out of memory")],
+} | {
+    name: [(1, b"", b"Error: %s\n" % text) for text in (b"memory allocation failed", b"out of memory")]
+    for name in QUESTIONS
 }
 MOST = 10_000
 
@@ -55,7 +67,7 @@ class Trials:
         """Status, output and error of a run, and how many requests it made and how many were refused."""
         with tempfile.TemporaryFile() as report:
             settings = {"LD_PRELOAD": self.library, mode: str(number), "REFUSE_REPORT": str(report.fileno())}
-            is_asked = self.name == "tlog_answers"
+            is_asked = self.name in QUESTIONS
             done = subprocess.run(
                 [self.program, *([] if is_asked else words)],
                 cwd=self.folder,
@@ -141,8 +153,8 @@ def main():
     name, program, library = sys.argv[1:]
     with tempfile.TemporaryDirectory() as folder:
         trials = Trials(name, program, library, folder)
-        commands = {"mmcs": TABLES, "tlog_answers": QUESTIONS}
-        total, wrong = try_all(trials, commands.get(name) or files_of(trials))
+        questions = [text.split() for text in QUESTIONS.get(name, ())]
+        total, wrong = try_all(trials, questions or (TABLES if name == "mmcs" else files_of(trials)))
     print(f"{total} runs of {name}, {wrong} wrong")
     return 1 if wrong else 0
 
