@@ -192,7 +192,7 @@ fn assert_noted<P: FoldLane, const L: usize, const G: usize>(
 /// 17 rows, and layers of 9, 5, 3, 2 nodes and 1, in eight lanes.
 static IN_LANES: [Run; 8] = [
     (RowLanes(8), 2),
-    (Rows(1), 1),
+    (Row, 1),
     (GroupLanes(8), 1),
     (Groups(1), 1),
     (Groups(5), 1),
@@ -203,9 +203,9 @@ static IN_LANES: [Run; 8] = [
 
 /// Three rows, and two rows that are injected above them: the children of both nodes, then the rows, then the pairs.
 static WITH_ROWS: [Run; 5] = [
-    (Rows(3), 1),
+    (Row, 3),
     (Groups(2), 1),
-    (Rows(2), 1),
+    (Row, 2),
     (Groups(2), 1),
     (Groups(1), 1),
 ];
@@ -252,13 +252,23 @@ static FEW_ROWS: [Run; 6] = [
     (Groups(1), 1),
 ];
 
+/// The same, where the hasher takes one row at a time.
+static ROW_BY_ROW: [Run; 6] = [
+    (Row, 5),
+    (Groups(3), 1),
+    (Row, 3),
+    (Groups(3), 1),
+    (Groups(2), 1),
+    (Groups(1), 1),
+];
+
 #[test]
-fn layers_are_taken_together_whatever_the_functions_take(rt: HostRuntime) -> Result<(), Fail> {
+fn nodes_are_taken_together_and_rows_unless_the_hasher_takes_one(rt: HostRuntime) -> Result<(), Fail> {
     let alloc = rt.alloc();
     assert_noted::<u32, 8, 8>(&rt, alloc, &[(1, 17)], &LAYER_BY_LAYER)?;
     assert_noted::<u32, 8, 8>(&rt, alloc, &[(1, 17), (1, 9), (1, 3)], &WITH_ALL_ROWS)?;
     assert_noted::<u32, 8, 1>(&rt, alloc, &[(1, 5), (1, 3)], &FEW_ROWS)?;
-    assert_noted::<u32, 1, 8>(&rt, alloc, &[(1, 5), (1, 3)], &FEW_ROWS)?;
+    assert_noted::<u32, 1, 8>(&rt, alloc, &[(1, 5), (1, 3)], &ROW_BY_ROW)?;
     Ok(())
 }
 
