@@ -15,15 +15,12 @@ ghost use Rattle.p3_merkle_core.specs.Laws.{LastDifferenceCollides, LastInputIsR
 ghost use Rattle.p3_merkle_core.specs.Laws.{MatricesHaveLayers, OkIsAccepted, OkIsCapped, OkIsEachAccepted};
 ghost use Rattle.p3_merkle_core.specs.Laws.{OkIsRestorable, OkOrCapMismatch, OneIndexIsBound, OwnOpeningIsHonest};
 ghost use Rattle.p3_merkle_core.specs.Laws.{OwnPrunedOpeningIsHonest, PrunedAnswerIsExtraction, RefusedUnderEachCap};
-ghost use Rattle.p3_merkle_core.specs.Laws.{LayerHasNodes, OneHeightIsEnough, OneHeightNodesAreChildren};
-ghost use Rattle.p3_merkle_core.specs.Laws.{PartsMakeLayers, PartsMakeRoots};
+ghost use Rattle.p3_merkle_core.specs.Laws.{OneHeightIsEnough, OneHeightNodesAreChildren};
 ghost use Rattle.p3_merkle_core.specs.Laws.{RootIsAlone, RowsAreAncestors, RowsAreBound, RulesAgree};
 ghost use Rattle.p3_merkle_core.specs.Laws.{ScheduleStopsAtCap, TestedIsArity, UnrefusedIsLawful, WalkEnds};
-ghost use Rattle.p3_merkle_core.specs.ConsistencyLaws.{HonestIsConsistent, OldNodesStay, ProofsAreShort};
-ghost use Rattle.p3_merkle_core.specs.ConsistencyLaws.{FoundIsInconsistency, RowsStay, UnrefusedIsConsistent};
 
 use crate::collision::{Collision, InputPair, Place};
-use crate::error::{MerkleTreeError, PartsError, PrunedProofError};
+use crate::error::{MerkleTreeError, PrunedProofError};
 use crate::pruning::{MerkleAuthPath, PrunedBatchOpening, PrunedMerklePaths};
 use p3_support::matrix::Matrix;
 use p3_support::opening::BatchOpening;
@@ -38,13 +35,6 @@ pub fn error_eq(a: &MerkleTreeError, b: &MerkleTreeError) -> bool
 
 /// `==` holds of two errors of pruned proofs exactly if they are the same value.
 pub fn pruned_proof_error_eq(a: &PrunedProofError, b: &PrunedProofError) -> bool
-    ensures { IsTrue result ↔ (a.now ≡ b.now) }
-{
-    *a == *b
-}
-
-/// `==` holds of two errors of parts exactly if they are the same value.
-pub fn parts_error_eq(a: &PartsError, b: &PartsError) -> bool
     ensures { IsTrue result ↔ (a.now ≡ b.now) }
 {
     *a == *b
@@ -156,19 +146,6 @@ pub fn one_height<T, W>()
     ensures nodes { OneHeightNodesAreChildren T W }
 {}
 
-/// A list is cut into parts, all but the last of one height, which is a power of the arity. By clause:
-///
-/// - `caps`: a cap that is a layer of its batch has the batch's nodes;
-/// - `layers`: up to the first part's root, a layer of the list is the parts' layers, one after another, then default
-///   digests;
-/// - `roots`: the layer of the first part's root is the list of the parts' roots, then default digests. The last part's
-///   root is first compressed with default digests, once for each level that it lacks.
-pub fn parts<T, W>()
-    ensures caps { LayerHasNodes T W }
-    ensures layers { PartsMakeLayers T W }
-    ensures roots { PartsMakeRoots T W }
-{}
-
 /// The honest opening of each index is accepted, and the honest pruned opening of each list of indices.
 pub fn completeness<T, W>()
     ensures single { HonestIsAccepted T W }
@@ -247,25 +224,4 @@ pub fn boundary()
     ensures least { BoundaryIsLeast }
     ensures apart { BoundaryNodesAreApart }
     ensures held { BoundaryNodesAreHeld }
-{}
-
-/// What holds of proofs of consistency, by clause:
-///
-/// - `short`: a proof has at most `N - 1` digests for each layer below the new cap, and one more;
-/// - `one_value`: if a new batch begins with the rows of an old one, each old node has one value in both trees;
-/// - `honest`: then the proof that is read from the new tree is accepted under both caps;
-/// - `unrefused`: a proof that is not refused is one that is accepted.
-pub fn consistency<T, W>()
-    ensures short { ProofsAreShort }
-    ensures one_value { OldNodesStay T W }
-    ensures honest { HonestIsConsistent T W }
-    ensures unrefused { UnrefusedIsConsistent T W }
-{}
-
-/// Two openings of one index that are accepted under the old cap and the new one of a list that grows, where a proof of
-/// consistency is accepted between both: what is found is two different inputs with one digest, and where nothing is
-/// found, their rows are the same.
-pub fn append_only<T, W>()
-    ensures found { FoundIsInconsistency T W }
-    ensures rows { RowsStay T W }
 {}
