@@ -1,4 +1,5 @@
-//! The fold functions of many messages and of many groups, eight at a time, each in a lane of its own.
+//! The fold functions of many messages and of many groups, eight at a time, each in a lane of its own. `messages` has
+//! messages of `width` words, one after another; column `c` is word `c` of each. A group is `N` digests, its children.
 ghost use Rattle.std.specs.Prelude.{◌≡◌, ℕ, ◌+◌, ◌*◌, ◌/◌, ◌^◌, ◌<◌, ◌≤◌, [], length, map, slice_index_or, slice_range};
 ghost use Rattle.std.specs.Prelude.{take};
 ghost use Rattle.p3_support.specs.Lists.{lane_of, message as message_of};

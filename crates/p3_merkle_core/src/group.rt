@@ -1,4 +1,5 @@
-//! Groups of `N` digests, the inputs of a compression.
+//! Groups of `N` digests, the inputs of a compression. Where there are fewer digests, copies of `default_digest`
+//! follow.
 
 ghost use Rattle.std.specs.Prelude.{◌≡◌, ◌+◌, ◌<◌, ◌≤◌, ◌∷◌, ◌++◌, [], length, insert, slice_index_or};
 ghost use Rattle.std.specs.Option.{option_to_list};
@@ -91,8 +92,8 @@ pub fn mixed_group<W: Copy, const N: usize, const D: usize>(
     )
 }
 
-/// The group of two digests, then default digests. A node with rows compresses the digest of its children and that of
-/// its rows in this way. `N` must be at least 2.
+/// The group of two digests, `left` and `right`, then default digests. A node to which rows belong compresses the
+/// digest of its children and that of its rows in this way. `N` must be at least 2.
 pub fn pair_group<W: Copy, const N: usize, const D: usize>(
     default_digest: [W; D],
     left: [W; D],

@@ -1,5 +1,6 @@
-//! The shape of trees over matrices of one height, computed from the height alone, and the checks of lists that are
-//! committed to in parts. Nothing here allocates.
+//! The shape of trees over matrices of one height, computed from the height alone, and the checks of a list that is
+//! committed to in parts: part `k` has the rows that follow those of part `k - 1`. An arity is a power of two from 2 to
+//! 2^62, and a cap height counts levels below the root. Nothing here allocates.
 
 ghost use Rattle.std.specs.Prelude.{◌≡◌, ◌≤◌, ◌<◌, ◌==◌, ◌^◌, IfOk, MatchResult, None, Some, length, map};
 ghost use Rattle.std.specs.List.{range_with_len, sum};
@@ -15,7 +16,7 @@ use crate::error::PartsError;
 use crate::geometry::{MAX_HEIGHT, exponent_of};
 use p3_support::opening::MerkleCap;
 
-/// How many steps lead from the leaves of matrices of one height to the root. The arity must be a power of two from 2
+/// How many levels lead from the leaves of matrices of one height to the root. The arity must be a power of two from 2
 /// to 2^62.
 pub fn levels_of_height(arity: usize, height: usize) -> usize
     requires { IsArity arity }
@@ -47,7 +48,7 @@ pub fn nodes_of_height(arity: usize, height: usize, layer: usize) -> usize
     nodes
 }
 
-/// Whether a height is a power of the arity, 1 included. The arity must be a power of two from 2 to 2^62.
+/// Whether a height is a power of the arity, 1 included.
 fn is_power(arity: usize, height: usize) -> bool
     requires { IsArity arity }
     ensures { result ≡ (height == arity ^ levels_over arity height) }
@@ -63,8 +64,7 @@ fn is_power(arity: usize, height: usize) -> bool
 }
 
 /// Checks the heights of parts, at least one: `PartHeight` for the first that is not allowed. All parts but the last
-/// have one height, a power of the arity; the last has at least one row, and no more than the first. The arity must be
-/// a power of two from 2 to 2^62.
+/// have one height, a power of the arity; the last has at least one row, and no more than the first.
 fn check_heights_of_parts(arity: usize, heights: &[usize]) -> Result<(), PartsError>
     requires arity { IsArity arity }
     requires some { 0 < length heights.now }
@@ -131,8 +131,8 @@ pub fn check_parts(arity: usize, heights: &[usize], num_caps: usize) -> Result<u
     height_of_whole(heights)
 }
 
-/// Checks that the cap of each part has a digest for each node of its layer. There must be as many caps as heights, and
-/// the arity must be a power of two from 2 to 2^62.
+/// Checks that the cap of each part, of height `cap_height`, has a digest for each node of its layer. There must be as
+/// many caps as heights, and the arity must be a power of two from 2 to 2^62.
 ///
 /// # Errors
 ///

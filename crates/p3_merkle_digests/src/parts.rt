@@ -1,5 +1,5 @@
 //! The cap of a list that is committed to in parts, computed from the caps of the parts: their nodes are raised layer
-//! by layer.
+//! by layer. Part `k` has the rows that follow those of part `k - 1`. A cap height counts levels below the root.
 
 ghost use denote.Param.{ArrayAt};
 ghost use Rattle.std.specs.Mem.{FitsInMemory};
@@ -47,8 +47,8 @@ fn parents<PW: PackedValue, C: PseudoCompressionFunction<PW, N, D>, const N: usi
     Ok(parents)
 }
 
-/// Replaces the nodes from `start` on, which are in one layer, by their ancestors `levels` levels above. `start` must
-/// be at most the number of nodes.
+/// Replaces the nodes from `start` on, which are in one layer, by their ancestors `levels` levels above, computed by
+/// [`parents`]. `start` must be at most the number of nodes.
 fn raise<PW: PackedValue, C: PseudoCompressionFunction<PW, N, D>, const N: usize, const D: usize>(
     alloc: Global,
     compress: &C,
@@ -71,7 +71,8 @@ fn raise<PW: PackedValue, C: PseudoCompressionFunction<PW, N, D>, const N: usize
     Ok(())
 }
 
-/// The nodes of all parts in the layer of the first part's cap, one part after another, computed from the caps.
+/// The nodes of all parts in the layer of the first part's cap, one part after another, computed from the caps, which
+/// must be long enough. There is a cap of height `cap_height` for each of `heights`, at least one.
 fn nodes_of_parts<
     F,
     PW: PackedValue,

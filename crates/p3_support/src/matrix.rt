@@ -53,8 +53,8 @@ pub trait Matrix<T> {
         ensures { slice_get (row_of self.now row) column ≡ Some result };
 
     /// A slice of elements that the matrix stores one after another, from `column` of `row` on. It may end anywhere,
-    /// run on into the next rows, or be empty, as it is for a matrix that stores no elements. The caller reads by
-    /// [`get`](Self::get) what it lacks. The row must be below the height, and the column at most the width.
+    /// run on into the next rows, or be empty: the caller reads the elements that it lacks by [`get`](Self::get). The
+    /// row must be below the height, and the column at most the width.
     fn piece(&self, row: usize, column: usize) -> &[T]
         requires row_in { row < height_of self.now }
         requires column_in { column ≤ width_of self.now }
