@@ -63,8 +63,8 @@ impl<
     /// of each row followed by its salts, under dimensions with `SALT_ELEMS` more columns.
     ///
     /// An accepted opening has a row set and a salt set for each index: one row for each of `dimensions`, of that
-    /// width, and `SALT_ELEMS` salts for each row. Queries of one index have the same rows and salts. Queries under
-    /// one node have the same rows and salts of the matrices that are injected there. `dimensions` are those of the
+    /// width, and `SALT_ELEMS` salts for each row. Queries of one index have the same rows and salts. Queries under one
+    /// node have the same rows and salts of the matrices that belong to the node's layer. `dimensions` are those of the
     /// matrices without salts, in input order; they must come from the verifier, never from the proof. The call
     /// allocates the joined rows.
     ///

@@ -1,4 +1,5 @@
-//! The scheme: it commits to matrices, opens their rows, and verifies openings.
+//! The scheme: it commits to matrices, opens their rows, and verifies openings. A cap is a layer of the tree; a level
+//! leads from a layer to the next above it; a cap height counts levels below the root.
 
 ghost use Rattle.std.specs.Prelude.{◌≡◌, ◌<◌, ◌≤◌, IfOk, IsTrue, None};
 ghost use Rattle.p3_merkle_core.specs.Computed.{Computes};
@@ -228,7 +229,7 @@ impl<
         self.commit_checked(alloc, checked_matrices(alloc, matrices)?)
     }
 
-    /// Commits to matrices whose heights are checked already, as [`commit`](Self::commit) does.
+    /// Commits to matrices whose heights are checked already, `leaves`, as [`commit`](Self::commit) does.
     ///
     /// # Errors
     ///
@@ -322,7 +323,7 @@ impl<
     }
 }
 
-/// States that an arity passes the test of arities.
+/// States that an arity, a power of two from 2 to 2^62, passes the test of arities.
 fn lemma_arity<const N: usize>()
     requires { IsArity N }
     ensures { IsTrue (is_arity N) }

@@ -57,9 +57,10 @@ impl<F: Copy, W: Copy, M: Matrix<F> + Drop, const N: usize, const D: usize> Merk
     ghost use Rattle.p3_merkle_prover.specs.Parts.{layers_of, matrices_of, tree_batch};
 
     /// Builds the tree over matrices, which it owns from then on, in input order. Leaf `i` is the digest of the rows
-    /// `i` of the tallest matrices, one after another. A node compresses its children; where matrices are injected at
-    /// its layer, the result is compressed with the digest of their rows. Default digests stand for missing children,
-    /// for rows past the end of a matrix, and in the slots that pad a layer.
+    /// `i` of the tallest matrices, one after another. A node above is the compression of its children. Each other
+    /// matrix belongs to a layer by its height: there the digest of a node is compressed once more, with that of its
+    /// rows. Default digests stand for missing children, for rows past the end of a matrix, and in the slots that pad a
+    /// layer.
     ///
     /// `N` must be a power of two from 2 to 2^62, and both packings must have equally many lanes, at least one. Each
     /// layer is allocated once.

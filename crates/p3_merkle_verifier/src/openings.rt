@@ -1,4 +1,6 @@
-//! Openings as a check reads them: a single one with its index, a pruned one, and the rows of both.
+//! Openings as a check reads them: a single one with its index, a pruned one, and the rows of both. The exponent of a
+//! matrix is log2 of its height, rounded up. A query is one index of a pruned opening, and its row set has one row of
+//! each matrix.
 
 ghost use Rattle.std.specs.Prelude.{◌≡◌, ◌<◌, ◌≤◌, All, length, map, zip};
 ghost use Rattle.std.specs.Iterator.{YieldsFirstBy, item_count};
@@ -97,7 +99,7 @@ pub struct OpenedMatrix<'a, T> {
 }
 
 impl<'a, T> OpenedMatrix<'a, T> {
-    /// The row of query `queries[row]`.
+    /// Row `row` of the matrix: that of query `queries[row]`.
     fn words(&self, row: usize) -> &[T]
         requires { row < length self.now.queries.now }
         ensures { result.now ≡ opened_row (row_sets self.now.sets.now) self.now.queries.now self.now.place row }
