@@ -1,5 +1,4 @@
-//! The fold functions: a hash and a compression by sums modulo 2^32, for tests of trees and of lanes. They are not
-//! secure.
+//! The fold functions: a hash and a compression by sums modulo 2^32, for tests of trees. They are not secure.
 ghost use Rattle.std.specs.Prelude.{◌≡◌, ℕ, ◌+◌, ◌%◌, ◌^◌, ◌<◌, List, [], length, map, slice_index_or};
 ghost use Rattle.std.specs.Iterator.{IsFinite};
 ghost use Rattle.std.specs.Iterator.Runs.{WholeRun};

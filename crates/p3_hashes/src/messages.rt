@@ -43,7 +43,7 @@ pub(crate) fn words(messages: &[u8], width: usize, at: usize) -> u32x8
     ])
 }
 
-/// Byte `at` of padded message `j` of eight. It must lie ahead of the eight bytes of the length.
+/// Byte `at` of padded message `j` of eight. The length must lie after it.
 #[inline(always)]
 fn padded_byte(messages: &[u8], width: usize, j: usize, at: usize) -> u8
     requires full { length messages.now ≡ 8 * width }
@@ -60,8 +60,7 @@ fn padded_byte(messages: &[u8], width: usize, j: usize, at: usize) -> u8
     }
 }
 
-/// The word at byte `at` of padded message `j` of eight. The message may end within it. It must lie ahead of the eight
-/// bytes of the length.
+/// The word at byte `at` of padded message `j` of eight. The message may end within it; the length must lie after it.
 #[inline(always)]
 fn mixed_word(messages: &[u8], width: usize, j: usize, at: usize) -> u32
     requires full { length messages.now ≡ 8 * width }
@@ -79,7 +78,7 @@ fn mixed_word(messages: &[u8], width: usize, j: usize, at: usize) -> u32
 }
 
 /// The words at byte `at` of the eight padded messages: lane `j` is from message `j`, which may end within its word.
-/// The words must lie ahead of the eight bytes of the length.
+/// The length must lie after these words.
 fn mixed_words(messages: &[u8], width: usize, at: usize) -> u32x8
     requires full { length messages.now ≡ 8 * width }
     requires before { at + 12 ≤ 64 * ((width + 72) / 64) }
@@ -190,8 +189,7 @@ fn filled_count(width: usize) -> usize
 }
 
 /// The inputs of the rounds over the last block of messages of `width` bytes, if that block is padding alone. It is the
-/// same for all of them, so its schedule is computed once. If it has bytes of the messages, these are zeros that
-/// nothing reads.
+/// same for all of them, so its schedule is computed once. Otherwise the result is zeros, which nothing reads.
 fn padding_inputs(width: usize) -> [u32x8; 64]
     requires { width + 72 < 2 ^ 64 }
     ensures { IsPadding width result }
@@ -285,8 +283,7 @@ where
     }
 }
 
-/// Writes the digest of message `i` into `out[i]`, eight at a time. The messages after the last whole eight are left
-/// out.
+/// Writes the digest of message `i` into `out[i]`, eight at a time, up to the last whole eight.
 fn hash_eights<const D: usize>(messages: &[u8], width: usize, out: &mut [[u8; D]])
 where
     Sha256: DigestSize<D>,
@@ -321,8 +318,7 @@ where
     }
 }
 
-/// Writes the digest of message `i` into `out[i]`. The messages lie one after another, of `width` bytes each, as many
-/// as `out` has places.
+/// Writes the digest of message `i` into `out[i]`, for as many messages as `out` has places.
 pub(crate) fn hash_all<const D: usize>(messages: &[u8], width: usize, out: &mut [[u8; D]])
 where
     Sha256: DigestSize<D>,

@@ -24,7 +24,7 @@ pub enum PrunedProofError {
         /// The position of the index, from 0, among the distinct queried indices, ascending.
         slot: usize,
     },
-    /// Two queries under one node have different rows of a matrix that is injected there.
+    /// Two queries under one node have different rows of a matrix that belongs to the node's layer.
     #[error("unique path slot {slot} disagrees with its group's lead on matrix {matrix}'s opened row")]
     InconsistentGroupOpening {
         /// The position, from 0, among the distinct queried indices, ascending, of the index whose row differs from

@@ -1,7 +1,7 @@
 //! Heights, widths and lengths of layers, computed from the dimensions of matrices. Nothing here allocates.
 //!
-//! Heights are lawful if each is the tallest one halved, and each time rounded up, some number of times. A layer has as
-//! many slots as digests: those of its nodes come first, and default digests pad it.
+//! Heights are lawful if each is the tallest one halved, and each time rounded up, some number of times. The slots of a
+//! layer are its nodes, then default digests as padding.
 
 ghost use Rattle.std.specs.Prelude.{◌≡◌, ◌/◌, ◌%◌, ◌^◌, ◌<◌, ◌≤◌, Some, None, MatchResult, map};
 ghost use Rattle.p3_support.specs.Batches.{heights_of, greatest};

@@ -1,5 +1,4 @@
-//! Groups of `N` digests, the inputs of a compression. Where there are fewer digests, copies of `default_digest`
-//! follow.
+//! Groups of `N` digests, the inputs of a compression. Where there are fewer digests, default digests follow.
 
 ghost use Rattle.std.specs.Prelude.{◌≡◌, ◌+◌, ◌<◌, ◌≤◌, ◌∷◌, ◌++◌, [], length, insert, slice_index_or};
 ghost use Rattle.std.specs.Option.{option_to_list};

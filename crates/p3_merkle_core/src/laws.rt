@@ -11,7 +11,8 @@
 //!   covered themselves: a pruned opening has their digests. It restores if its form is right and its rows agree: then
 //!   it gives the digest of each covered node, and the path of each query.
 //! - The check of an opening has an input at each place of its path: the words hashed at the leaf; on each level the
-//!   digests of a group and, where rows come in, their words and the digests of a pair.
+//!   digests of a group and, if matrices belong to the layer above, their words and the digests of a pair. Two checks
+//!   share a place if they reach one node there.
 
 ghost use Rattle.std.specs.Prelude.{◌≡◌, ◌↔◌, IsTrue};
 ghost use Rattle.p3_merkle_core.specs.Refusals.{IsEquality};

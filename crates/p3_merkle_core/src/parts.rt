@@ -1,6 +1,6 @@
 //! The shape of trees over matrices of one height, computed from the height alone, and the checks of a list that is
 //! committed to in parts: part `k` has the rows that follow those of part `k - 1`. An arity is a power of two from 2 to
-//! 2^62, and a cap height counts levels below the root. Nothing here allocates.
+//! 2^62; a cap height counts levels below the root. Nothing here allocates.
 
 ghost use Rattle.std.specs.Prelude.{◌≡◌, ◌≤◌, ◌<◌, ◌==◌, ◌^◌, IfOk, MatchResult, None, Some, length, map};
 ghost use Rattle.std.specs.List.{range_with_len, sum};
@@ -16,8 +16,7 @@ use crate::error::PartsError;
 use crate::geometry::{MAX_HEIGHT, exponent_of};
 use p3_support::opening::MerkleCap;
 
-/// How many levels lead from the leaves of matrices of one height to the root. The arity must be a power of two from 2
-/// to 2^62.
+/// How many levels a tree over matrices of one height has. The arity must be a power of two from 2 to 2^62.
 pub fn levels_of_height(arity: usize, height: usize) -> usize
     requires { IsArity arity }
     ensures { result ≡ levels_over arity height }
@@ -34,9 +33,8 @@ pub fn cap_layer_of_height(arity: usize, height: usize, cap_height: usize) -> us
     levels_of_height(arity, height).saturating_sub(cap_height)
 }
 
-/// How many nodes a layer has over matrices of one height: the height divided by the arity and rounded up, once for
-/// each layer below it. `layer` counts from the leaves, up to the root's. The arity must be a power of two from 2 to
-/// 2^62.
+/// How many nodes a layer has over matrices of one height: that divided by the arity and rounded up, once for each
+/// layer below it. `layer` counts from the leaves, up to the root's. The arity must be a power of two from 2 to 2^62.
 pub fn nodes_of_height(arity: usize, height: usize, layer: usize) -> usize
     requires { IsArity arity }
     ensures { result ≡ nodes_over arity height layer }

@@ -5,10 +5,8 @@
 //!   the distinct indices, ascending.
 //! - A node is covered if it is a queried leaf or above one. The boundary is the children of covered nodes that are not
 //!   covered themselves: a proof has their digests.
-//! - The exponent of a height is its log2, rounded up. A matrix belongs to the layer of its exponent, and has one row
-//!   for each node there.
-//! - Rows agree if queries of one index have one row set, and queries under one node the same rows of the matrices of
-//!   the node's layer.
+//! - The exponent of a height is its log2, rounded up. A matrix belongs to the layer of its exponent.
+//! - Rows agree if queries of one index have one row set, and queries under a node one row of each matrix of its layer.
 
 ghost use Rattle.std.specs.Prelude.{◌≡◌, ℕ, ◌+◌, ◌-◌, ◌*◌, ◌/◌, ◌%◌, ◌^◌, ◌<◌, ◌≤◌, ◌⊎◌, ◌++◌, Some, None, List};
 ghost use Rattle.std.specs.Prelude.{[], All, IfOk, MatchResult, length, map, remove, slice_index, slice_index_or, true};
@@ -33,21 +31,17 @@ use crate::steps::{Covered, Steps, check_heights};
 use p3_support::matrix::Dimensions;
 use std::alloc::{AllocError, Global};
 
-/// The digests of a pruned proof, which opens several leaves at once. [`PrunedMerklePaths`] is this proof at digests of
-/// words.
+/// The digests of a pruned proof, which opens several leaves at once. [`PrunedMerklePaths`] has digests of words.
 #[derive(Debug, Clone, PartialEq, Eq, Drop)]
 pub struct PrunedProof<X> {
-    /// The digests of the boundary in wire order: level by level from the leaves up, ascending on each level. A node is
-    /// covered if it is a queried leaf or above one; the boundary is the children of covered nodes that are not covered
-    /// themselves.
+    /// The digests of the boundary in wire order: level by level from the leaves up, ascending on each level.
     pub sibling_hashes: Vec<X>,
 }
 
 /// The digests of a pruned proof, of `D` words each (`PrunedMerklePaths` in the Rust crate).
 pub type PrunedMerklePaths<W, const D: usize> = PrunedProof<[W; D]>;
 
-/// The rows of several leaves, and one proof for all of them. [`PrunedBatchOpening`] is this opening at digests of
-/// words.
+/// The rows of several leaves, and one proof for all of them. [`PrunedBatchOpening`] has digests of words.
 #[derive(Debug, Clone, PartialEq, Eq, Drop)]
 pub struct PrunedRows<T, X> {
     /// For each query, in query order, one row of each matrix, in input order.
@@ -60,8 +54,7 @@ pub struct PrunedRows<T, X> {
 /// Rust crate).
 pub type PrunedBatchOpening<T, W, const D: usize> = PrunedRows<T, [W; D]>;
 
-/// A leaf and the siblings on its path, as a pruned proof restores them. [`MerkleAuthPath`] is this path at digests of
-/// words.
+/// A leaf and the siblings on its path, as a pruned proof restores them. [`MerkleAuthPath`] has digests of words.
 #[derive(Debug, Clone, PartialEq, Eq, Drop)]
 pub struct AuthPath<X> {
     /// The index of the leaf, from 0.
@@ -101,8 +94,8 @@ pub struct DistinctQueries {
 ///
 /// # Errors
 ///
-/// `IndexOutOfBounds` with the highest index, if that is not below `max_height`; with the index 0, if there are no
-/// indices and `max_height` is 0.
+/// `IndexOutOfBounds` with the highest index if that is not below `max_height`, or with 0 if `max_height` is 0 and
+/// there is no index.
 pub fn check_indices(max_height: usize, indices: &[usize]) -> Result<(), MerkleTreeError>
     ensures answer { MatchResult result (λ ok. queries_refusal max_height indices.now ≡ None)
         (λ e. queries_refusal max_height indices.now ≡ Some e) }
@@ -221,9 +214,9 @@ fn check_same_rows<T: Eq>(
 }
 
 /// Checks that slots under one node of a layer have the same rows of `matrices`, the positions of the layer's matrices,
-/// else `InconsistentGroupOpening`. Each slot is compared with the first one under its node. `indices` are ascending;
-/// `first_queries` has the query of each whose row set, in `rows`, is compared. A node's number is an index without its
-/// lowest `bits` bits.
+/// else `InconsistentGroupOpening`. Each slot is compared with the first one under its node. `indices` are distinct and
+/// ascending; `first_queries` has the first query of each, whose row set in `rows` is compared. A node's number is an
+/// index without its lowest `bits` bits.
 fn check_rows_under_nodes<T: Eq>(
     matrices: &[usize],
     indices: &[usize],
@@ -254,8 +247,7 @@ fn check_rows_under_nodes<T: Eq>(
     Ok(())
 }
 
-/// Replaces the contents of `matrices` by the positions, in input order, of the matrices whose heights have this
-/// exponent.
+/// Replaces the contents of `matrices` by the positions, in input order, of the matrices of this exponent.
 fn list_matrices(
     matrices: &mut Vec<usize>,
     dimensions: &[Dimensions],
@@ -322,7 +314,7 @@ fn check_shared_rows<T: Eq>(
 /// power of two from 2 to 2^62.
 ///
 /// It sorts the indices once, and allocates at most five numbers for each index at a time, and one for each matrix of a
-/// layer above the leaves. The number of allocations doesn't depend on the indices.
+/// layer above the leaves.
 ///
 /// # Errors
 ///
@@ -334,8 +326,7 @@ fn check_shared_rows<T: Eq>(
 /// - `IndexOutOfBounds`: the highest index is not below the tallest height;
 /// - `InconsistentDuplicateOpenings`: the row set of a query is not that of the first query of its index;
 /// - `SiblingCountMismatch`: the number of digests is not that of the boundary nodes;
-/// - `WrongBatchSize`, `WrongWidth`: by ascending indices, the error of [`check_widths`] for the first query of the
-///   index;
+/// - `WrongBatchSize`, `WrongWidth`: by ascending indices, the error of [`check_widths`] for the first query of each;
 /// - `InconsistentGroupOpening`: layer by layer, by ascending indices and in input order of the matrices, a row is not
 ///   that of the lowest index under the same node.
 pub fn check_pruned<T: Eq>(

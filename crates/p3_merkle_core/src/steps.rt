@@ -57,8 +57,7 @@ struct MatrixExponents<'a> {
 }
 
 impl<'a> MatrixExponents<'a> {
-    /// What the steps above a layer depend on: its exponent `layer`, at most 64, and the end of the lower exponents of
-    /// matrices.
+    /// What the steps above a layer depend on: its exponent `layer`, at most 64, and the matrices' lower exponents.
     fn at(&self, layer: usize) -> Exponents
         requires { layer ≤ 64 }
         ensures layer { result.layer ≡ layer }
@@ -245,8 +244,7 @@ pub fn check_heights(dimensions: &[Dimensions]) -> Result<(), MerkleTreeError>
     Ok(())
 }
 
-/// The steps of a tree, with its own copy of the dimensions. A tree stores them, so that no opening computes them
-/// again.
+/// The steps of a tree, with its own copy of the dimensions. A tree stores them for its openings.
 #[derive(Debug, Drop)]
 pub struct OwnedSteps {
     /// The dimensions of all matrices.
@@ -263,8 +261,7 @@ pub struct OwnedSteps {
 }
 
 impl OwnedSteps {
-    /// Computes the steps of the tree over matrices of these dimensions, which it owns: see [`steps_of`]. The arity
-    /// must be at least 2.
+    /// Computes the steps of the tree over matrices of these dimensions by [`steps_of`]. The arity must be at least 2.
     pub fn new(dimensions: Vec<Dimensions>, arity: usize) -> OwnedSteps
         requires { 2 ≤ arity }
         ensures dimensions { result.dimensions.items ≡ dimensions.items }
@@ -462,8 +459,9 @@ impl<'a> Steps<'a> {
         Ok(schedule)
     }
 
-    /// The place of the index's ancestor among the children of its parent, for each level below a layer, from the
-    /// leaves up. The layer must be at most the number of levels. It allocates a list of one number for each level.
+    /// For each level below a layer, from the leaves up, the position of the index's ancestor there among its parent's
+    /// children, from 0. The layer must be at most the number of levels. It allocates a list of one number for each
+    /// level.
     ///
     /// # Errors
     ///
@@ -511,9 +509,8 @@ pub struct Covered<'a> {
 }
 
 impl<'a> Covered<'a> {
-    /// The covered leaves of some indices, as [`distinct_indices`](crate::pruning::distinct_indices) lists them. The
-    /// indices must be below the tallest height, the arity a power of two from 2 to 2^62, and no height above
-    /// [`MAX_HEIGHT`].
+    /// The covered leaves: `nodes` must be the distinct `indices`, ascending. The indices must be below the tallest
+    /// height, the arity a power of two from 2 to 2^62, and no height above [`MAX_HEIGHT`].
     pub fn new(steps: &'a Steps<'a>, indices: &'a [usize], nodes: Vec<usize>) -> Covered<'a>
         requires arity { IsArity steps.now.arity }
         requires low { greatest (heights_of steps.now.dimensions.now) ≤ height_limit }
@@ -592,8 +589,7 @@ impl<'a> Covered<'a> {
     }
 }
 
-/// Replaces ascending nodes of a layer by their parents, each once, ascending. `step` is how many children a parent
-/// has.
+/// Replaces ascending nodes of a layer by their parents, each once, ascending. A parent has `step` children.
 fn replace_by_parents(covered: &mut Vec<usize>, step: usize)
     requires { 0 < step }
     ensures { IsAscending covered.old.items → covered.new.items ≡ distinct (map (λ j. j / step) covered.old.items) }

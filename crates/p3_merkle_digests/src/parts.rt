@@ -1,5 +1,6 @@
 //! The cap of a list that is committed to in parts, computed from the caps of the parts: their nodes are raised layer
-//! by layer. Part `k` has the rows that follow those of part `k - 1`. A cap height counts levels below the root.
+//! by layer. Part `k` has the rows that follow those of part `k - 1`. All parts but the last have one height, a power
+//! of `N`; the last has at least one row, and no more than the first. A cap height counts levels below the root.
 
 ghost use denote.Param.{ArrayAt};
 ghost use Rattle.std.specs.Mem.{FitsInMemory};
@@ -111,17 +112,16 @@ fn nodes_of_parts<
     Ok(nodes)
 }
 
-/// The digests of the cap of the whole list, computed from the caps of its parts. `heights` are those of the parts, in
-/// order; the parts' caps and the whole's are of height `cap_height`. They are the nodes of the parts, raised to the
-/// layer of the whole's cap, then default digests up to that layer's length. The arity must be a power of two from 2 to
-/// 2^62.
+/// The digests of the cap of the list, computed from the caps of its parts. `heights` are those of the parts, in order;
+/// the parts' caps and the whole's are of height `cap_height`. They are the nodes of the parts, raised to the layer of
+/// the whole's cap, then default digests up to that layer's length. The arity must be a power of two from 2 to 2^62.
 ///
 /// # Errors
 ///
 /// The first of these that applies: `NoParts` if there are no heights; `WrongCapCount` if there is not one cap for
-/// each; `PartHeight` for the first part that has another height than it may have; `TooLarge` if the heights add up to
-/// more than 2^62; `CapTooShort` for the first part whose cap has fewer digests than its layer has nodes. `OutOfMemory`
-/// may come at any time.
+/// each; `PartHeight` for the first part whose height is not allowed; `TooLarge` if the heights add up to more than
+/// 2^62; `CapTooShort` for the first part whose cap has fewer digests than its layer has nodes. `OutOfMemory` may come
+/// at any time.
 pub fn cap_digests_from_parts<
     F,
     PW: PackedValue,

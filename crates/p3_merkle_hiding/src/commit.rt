@@ -108,8 +108,7 @@ fn salted_dimensions<T, M: Matrix<T>>(
 }
 
 /// Draws `salt_elems` salts for each row of the matrices, and returns each matrix beside its salts. Each salt takes one
-/// call of `next_u64`: matrix by matrix in input order, row by row. `dimensions` are those of the matrices with their
-/// salts.
+/// call of `next_u64`: matrix by matrix in input order, row by row. `dimensions` are those with salts.
 fn salted_pairs<T: SaltWord, M: Matrix<T> + Drop, R: Rng>(
     alloc: Global,
     rng: &mut R,

@@ -83,8 +83,7 @@ impl<
 
     /// Extracts a collision from two accepted pruned openings of one cap: the first pair of queries that gives a
     /// collision, in the order of the first list, then of the second. Returns the position of each query in its list,
-    /// from 0, and two different inputs of the hasher or of the compression with one digest; or `None` if all queries
-    /// agree.
+    /// from 0, and two different inputs of the hasher or of the compression with one digest; or `None` if all agree.
     ///
     /// The first opening is `indices1`, `rows1` and `proof1`, the second `indices2`, `rows2` and `proof2`: a row set
     /// for each index, and a proof with a salt set for each. Both are verified as by
@@ -95,8 +94,7 @@ impl<
     ///
     /// # Errors
     ///
-    /// The error of `verify_multi_batch` for the first opening, else that for the second; `OutOfMemory` may come at any
-    /// time.
+    /// The error of `verify_multi_batch` for the first opening, else for the second. `OutOfMemory` may come any time.
     pub fn extract_collision_multi(
         &self,
         alloc: Global,

@@ -42,8 +42,7 @@ fn left_matrices<'a, F, X, G, A: Matrix<F>, B: Matrix<F>, const N: usize>(
 }
 
 /// Splits each row of one index into the matrix's own words and its salts, and returns the row set and the salt set.
-/// `pairs` has the matrix of each row beside its salts. The own words stay in the row's memory, and the salts are
-/// copied.
+/// `pairs` has the matrix of each row beside its salts. Only the salts are copied.
 fn split_rows<F: Copy, A: Matrix<F>, B: Matrix<F>>(
     alloc: Global,
     pairs: &[&HorizontalPair<F, A, B>],

@@ -28,9 +28,9 @@ impl<
     /// the rows.
     ///
     /// An accepted opening has one row for each of `dimensions`, of that width, and `SALT_ELEMS` salts for each row.
-    /// For each level below the cap it has the digests of the path's group but the path's own. `dimensions` are those
-    /// of the matrices without salts, in input order; they must come from the verifier, never from the proof. The call
-    /// allocates the joined rows.
+    /// For each level below the cap it has the siblings of the path's node. `dimensions` are those of the matrices
+    /// without salts, in input order; they must come from the verifier, never from the proof. The call allocates the
+    /// joined rows.
     ///
     /// # Errors
     ///

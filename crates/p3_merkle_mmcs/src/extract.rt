@@ -1,6 +1,6 @@
 //! Extraction of collisions from two openings of one cap, single or pruned. A check goes from the leaf up, level by
-//! level, and has an input of the hash or of the compression at each place. Openings conflict in a row if both have it,
-//! with other words.
+//! level, and has an input of the hash or of the compression at each place. Openings conflict in a row if both have it
+//! and its words differ.
 
 ghost use Rattle.std.specs.Prelude.{◌≡◌, ◌<◌, IfOk, IsTrue, MatchResult, None, Some, length};
 ghost use Rattle.p3_merkle_core.specs.Checks.{is_authenticated as authenticates};
@@ -124,13 +124,11 @@ impl<
     /// second as [`extract_collision`](Self::extract_collision) compares two openings. Returns the first pair that
     /// gives a collision, in the order of the first list, then of the second: the position of each query in its list,
     /// from 0, and the collision. Beside both verifications the call takes the time of four checks for each query of
-    /// the first opening and of two for each query of the second, and memory for the computed siblings and for what two
-    /// checks share.
+    /// the first opening and of two for each query of the second.
     ///
     /// # Errors
     ///
-    /// The error of `verify_batch_pruned` for the first opening, else that for the second; `OutOfMemory` may come at
-    /// any time.
+    /// The error of `verify_batch_pruned` for the first opening, else for the second. `OutOfMemory` may come any time.
     pub fn extract_collision_multi(
         &self,
         alloc: Global,

@@ -261,8 +261,8 @@ impl<
     ///
     /// The index counts rows of the tallest matrix and must be below its height. A matrix whose height is the tallest
     /// one halved `k` times (rounded up each time) opens its row `index >> k`. The siblings come level by level, from
-    /// the leaves to the cap: all digests of the group but the path's own, in order. They are read from the tree. The
-    /// opening is accepted under the cap of the tree if the tree was built with this scheme's hasher and compression.
+    /// the leaves to the cap: the other children of the parent of the path's node, ascending. The opening is accepted
+    /// under the cap of the tree if the tree was built with this scheme's hasher and compression.
     ///
     /// # Errors
     ///
@@ -291,10 +291,9 @@ impl<
     /// level by level, and compares the last digest with the cap's entry above the leaf. It does not allocate.
     ///
     /// An accepted opening has one row for each of `dimensions`, of that width. For each level below the cap it has the
-    /// digests of the path's group but the path's own. `dimensions` are those of the matrices, in input order. They
-    /// must come from the verifier, never from the proof: a cap does not bind them. Under the rule `Fixed` the rows of
-    /// a matrix above the cap's layer are never hashed, and only their width is checked; under `Lowered` there is no
-    /// such matrix.
+    /// siblings of the path's node. `dimensions` are those of the matrices, in input order. They must come from the
+    /// verifier, never from the proof: a cap does not bind them. Under the rule `Fixed` the rows of a matrix above the
+    /// cap's layer are never hashed, and only their width is checked; under `Lowered` there is no such matrix.
     ///
     /// # Errors
     ///

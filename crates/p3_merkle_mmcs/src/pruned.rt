@@ -1,6 +1,6 @@
-//! Pruned openings: the rows of several leaves by one proof, with no digest that the rows give already. A row set has
-//! one row of each matrix. A query is one index of a list. The restored path of a query is its siblings, each a digest
-//! of the proof or computed from rows and such digests.
+//! Pruned openings: the rows of several leaves by one proof. A query is one index of a list, and its row set has one
+//! row of each matrix. Its restored path is its siblings, each a digest of the proof or computed from the rows and the
+//! proof.
 
 ghost use Rattle.std.specs.Prelude.{◌≡◌, ◌<◌, All, IfOk, None};
 ghost use Rattle.p3_merkle_core.specs.Geometry.{heights, shape_of};

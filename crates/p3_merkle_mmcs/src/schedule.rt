@@ -1,5 +1,5 @@
-//! The steps and positions on paths, level by level; and the matrices of a tree. The step of a level is how many
-//! children a node above it has.
+//! The steps and positions on paths, level by level; and the matrices of a tree. A level's step is how many children a
+//! node above it has.
 
 ghost use Rattle.std.specs.Prelude.{◌≡◌, ◌≤◌, IfErr, IfOk, map, take, vec_len, None};
 ghost use Rattle.p3_support.specs.Batches.{heights_of};

@@ -68,7 +68,7 @@ pub(crate) type TreeBuilder<
     const D: usize,
 > = TreeOver<'a, P, PW, H, C, M, [[PW::Value; D]; N], N, D>;
 
-/// Replaces the contents of `picked` by the matrices of a height, in rows, in input order.
+/// Replaces the contents of `picked` by the matrices that have `height` rows, in input order.
 fn pick_matrices<'a, T, M: Matrix<T>>(
     picked: &mut Vec<&'a M>,
     matrices: &'a [M],
@@ -94,8 +94,7 @@ fn default_digests<PW: PackedValue, const D: usize>(
     Ok(digests)
 }
 
-/// States that a layer `below`, padding included, has the children of each node of the layer above it, which `level`
-/// describes.
+/// States that a layer `below`, padding included, has the children of each node of the layer above, `level`.
 fn lemma_children<X>(steps: &Steps<'_>, level: &Level, below: &[X])
     requires level { IsLevel (shape_of steps.now.arity steps.now.dimensions.now) level.now }
     requires slots { length below.now ≡ layer_len (shape_of steps.now.arity steps.now.dimensions.now) level.now.below }
@@ -137,8 +136,7 @@ impl<
         Ok(leaves)
     }
 
-    /// The layer above `below`, with the shape that `level` gives. `picked` and `buffers` are scratch memory that all
-    /// layers share.
+    /// The layer above `below`, of the shape `level`. `picked` and `buffers` are scratch memory that all layers share.
     fn next_layer(
         &self,
         alloc: Global,

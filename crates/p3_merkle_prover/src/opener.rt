@@ -1,6 +1,5 @@
 //! What is read from a tree: its cap, and for one leaf a row of each matrix and the siblings on the leaf's path. Layer
-//! 0 is the leaves; level `l` leads from layer `l` to layer `l + 1`, and its step is how many children a node above it
-//! has.
+//! 0 is the leaves. Level `l` leads to layer `l + 1`; its step is how many children a node of that layer has.
 
 ghost use Rattle.std.specs.Prelude.{◌≡◌, ◌<◌, ◌≤◌, ◌++◌, length, map, slice_get, IfOk, None, Some};
 ghost use Rattle.std.specs.List.{remove};
@@ -36,8 +35,7 @@ pub fn max_height<F, X, G, M: Matrix<F>, const N: usize>(tree: &Tree<F, X, G, M,
     tree.steps.max_height
 }
 
-/// The cap that is layer `layer` of a tree, padding included. `layer` counts from the leaves, and must be at most the
-/// number of levels.
+/// The cap that is layer `layer` of a tree, padding included. `layer` must be at most the number of levels.
 ///
 /// # Errors
 ///

@@ -49,8 +49,7 @@ pub fn rows_of_indices<F: Copy, X, G, M: Matrix<F>, const N: usize>(
 
 /// The digests of a pruned proof of some leaves: those of the boundary below layer `cap_layer`, level by level from the
 /// leaves up, ascending. Each index must be below [`max_height`](crate::opener::max_height), and `cap_layer` at most
-/// the number of levels. It sorts a copy of the indices, copies the distinct ones once more, and allocates the digests
-/// once, at their number. It takes one step for each index and level.
+/// the number of levels. It sorts a copy of the indices, and allocates the digests once, at their number.
 ///
 /// # Errors
 ///

@@ -1,6 +1,6 @@
 //! Whether the checks of two openings agree at every place that both share. Nothing is allocated. A check has inputs at
-//! the leaf and on each level, which leads to the next node of its path. Two checks share the leaf, or a level, if it
-//! leads both to one node.
+//! the leaf and on each level, which leads to the next node of its path. Two checks share the leaf or a level if they
+//! reach one node there.
 
 ghost use Rattle.std.specs.Prelude.{◌≡◌, IsTrue, length, replicate};
 ghost use Rattle.p3_merkle_core.specs.Geometry.{shape_of};

@@ -83,8 +83,7 @@ pub(crate) fn differing_digests<T, W: Copy + Eq, const D: usize>(
     }))
 }
 
-/// The words of the rows of the matrices of one exponent, one row after another. `rows` has one row for each of
-/// `dimensions`.
+/// The words of the rows of the matrices of one exponent, one after another. `rows` has a row for each of `dimensions`.
 fn opened_words<T: Copy + Drop>(
     alloc: Global,
     dimensions: &[Dimensions],
@@ -251,8 +250,7 @@ impl<
     /// Extracts a collision from two openings under the roots of a cap: the inputs at the last place that both checks
     /// share and at which they differ, or `None` if the checks agree.
     ///
-    /// `N` must be a power of two from 2 to 2^62 and the arity of `steps`; `cap_layer` must be at most the number of
-    /// levels.
+    /// `N` must be a power of two from 2 to 2^62 and the arity of `steps`; `cap_layer` at most the number of levels.
     ///
     /// # Errors
     ///

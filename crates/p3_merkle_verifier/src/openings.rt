@@ -1,6 +1,5 @@
 //! Openings as a check reads them: a single one with its index, a pruned one, and the rows of both. The exponent of a
-//! matrix is log2 of its height, rounded up. A query is one index of a pruned opening, and its row set has one row of
-//! each matrix.
+//! matrix is log2 of its height, rounded up. A query is one index of a pruned opening; a row set is its rows.
 
 ghost use Rattle.std.specs.Prelude.{◌≡◌, ◌<◌, ◌≤◌, All, length, map, zip};
 ghost use Rattle.std.specs.Iterator.{YieldsFirstBy, item_count};

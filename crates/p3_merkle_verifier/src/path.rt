@@ -68,7 +68,7 @@ pub struct ComputedLevel<X, G> {
     pub level: usize,
     /// The siblings with the node's digest at its position, then default digests.
     pub group: G,
-    /// The digests of the group and of the rows, if matrices are injected at the layer above.
+    /// The digests of the group and of the rows, if matrices belong to the layer above.
     pub pair: Option<G>,
     /// The node above the level.
     pub above: Progress<X>,
@@ -143,8 +143,7 @@ impl<
     const N: usize,
     const D: usize,
 > Checker<'a, P, PW, H, C, [[PW::Value; D]; N], N, D> {
-    /// The digest of the rows of the matrices of one exponent, hashed one after another as one message. `rows` has one
-    /// row for each of `dimensions`.
+    /// The digest of the rows of the matrices of one exponent, as one message. `rows` has one for each of `dimensions`.
     fn row_digest(
         &self,
         dimensions: &[Dimensions],
@@ -240,11 +239,9 @@ impl<
         }
     }
 
-    /// Checks an opening against the roots of a cap: its form, and that its path leads to the root above the leaf. It
-    /// does not allocate.
+    /// Checks an opening against the roots of a cap: its form, and that its path leads to the root above the leaf.
     ///
-    /// `N` must be a power of two from 2 to 2^62 and the arity of `steps`; `cap_layer` must be at most the number of
-    /// levels.
+    /// `N` must be a power of two from 2 to 2^62 and the arity of `steps`; `cap_layer` at most the number of levels.
     ///
     /// # Errors
     ///

@@ -61,9 +61,8 @@ impl<'a, T, W: Copy, const D: usize> PrunedOpeningRef<'a, T, [W; D]> {
     }
 }
 
-/// Checks the form of a pruned opening, and that its rows agree: those of queries of one index, and those of queries
-/// under one node in the layer's matrices. Returns the checked opening and its covered leaves. The error is that of
-/// [`check_pruned`].
+/// Checks by [`check_pruned`], with its errors, the form of a pruned opening, and that its rows agree wherever queries
+/// share a node. Returns the opening and its covered leaves.
 fn check_restorable<'a, P: PackedValue, X>(
     alloc: Global,
     steps: &'a Steps<'a>,
@@ -136,7 +135,7 @@ fn layer_above<'a, T, X: Copy>(
     })
 }
 
-/// The first query under each covered node of the layer of this exponent, by ascending nodes.
+/// The position of the first query under each covered node of the layer of this exponent, by ascending nodes.
 fn queries_at<T, X>(
     alloc: Global,
     restorable: &RestorableOpening<'_, T, X>,
@@ -340,8 +339,7 @@ impl<
         Ok(digests)
     }
 
-    /// Checks that the roots of a cap have the digest of each covered node of the cap's layer, which is `here`, else
-    /// `CapMismatch`.
+    /// Checks that the roots of a cap have the digest of each covered node of its layer, `here`, else `CapMismatch`.
     fn check_roots(
         &self,
         alloc: Global,
@@ -363,8 +361,7 @@ impl<
         Ok(())
     }
 
-    /// The cap's layer of a pruned opening, computed up from its covered leaves. It stores the children of one layer at
-    /// a time.
+    /// The cap's layer of a pruned opening, computed up from its covered leaves. Only one layer is stored at a time.
     fn top_layer<'b>(
         &self,
         alloc: Global,
@@ -416,13 +413,12 @@ impl<
     /// Checks a pruned opening against the roots of a cap: checks its form, computes the digest of each covered node of
     /// the cap's layer from the rows and the proof's digests, and compares it with the root at that node.
     ///
-    /// `N` must be a power of two from 2 to 2^62 and the arity of `steps`; `cap_layer` must be at most the number of
-    /// levels.
+    /// `N` must be a power of two from 2 to 2^62 and the arity of `steps`; `cap_layer` at most the number of levels.
     ///
     /// # Errors
     ///
-    /// The error of [`check_pruned`]; else `CapMismatch` where a root is another, or is not there. `OutOfMemory` may
-    /// come at any time.
+    /// The error of [`check_pruned`], else `CapMismatch` if a root is wrong or missing. `OutOfMemory` may come any
+    /// time.
     pub fn check_pruned_opening(
         &self,
         alloc: Global,
@@ -478,8 +474,7 @@ impl<
     /// Restores the path of each query up to the cap's layer, in query order, from a pruned opening: each sibling is a
     /// digest of the proof, or is computed from the rows and these digests. No cap is compared.
     ///
-    /// `N` must be a power of two from 2 to 2^62 and the arity of `steps`; `cap_layer` must be at most the number of
-    /// levels.
+    /// `N` must be a power of two from 2 to 2^62 and the arity of `steps`; `cap_layer` at most the number of levels.
     ///
     /// # Errors
     ///

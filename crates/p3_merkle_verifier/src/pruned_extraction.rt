@@ -1,6 +1,5 @@
 //! Extraction from two pruned openings under one cap: the first pair of queries whose checks differ. The check of a
-//! query goes from its leaf up its restored path; two checks share a place, the leaf or a level, if they reach one node
-//! there.
+//! query goes from its leaf up its restored path; two checks share the leaf or a level if they reach one node there.
 
 ghost use Rattle.std.specs.Prelude.{◌≡◌, ◌⊎◌, ℕ, ◌<◌, IfOk, IsTrue, length, replicate};
 ghost use Rattle.std.specs.Option.{option_or};
@@ -118,8 +117,7 @@ impl<
         })
     }
 
-    /// Whether the check of the opening `first` agrees with that of query `place` of `queries`, wherever both share a
-    /// place.
+    /// Whether the check of the opening `first` agrees with that of query `place`, wherever both share a place.
     fn agrees_with(
         &self,
         steps: &Steps<'_>,

@@ -45,8 +45,7 @@ pub trait Matrix<T> {
     fn width(&self) -> usize
         ensures { result ≡ width_of self.now };
 
-    /// The element in a row and a column, both counted from 0. The row must be below the height, the column below the
-    /// width.
+    /// The element in a row and a column, both from 0. The row must be below the height, the column below the width.
     fn get(&self, row: usize, column: usize) -> T
         requires row_in { row < height_of self.now }
         requires column_in { column < width_of self.now }

@@ -76,8 +76,8 @@ pub trait Mmcs<T, M: Matrix<T>> {
     /// # Errors
     ///
     /// The scheme's reason for refusing the matrices, which leaves the scheme and its generator unchanged. Matrices
-    /// that the scheme can commit to fail only if memory runs out. That may be reported at any time, and the generator
-    /// may have drawn by then.
+    /// that the scheme can commit to fail only if memory runs out. That may come at any time, and the generator may
+    /// have drawn by then.
     fn commit(
         &mut self,
         alloc: Global,
