@@ -58,7 +58,7 @@ struct MatrixExponents<'a> {
 
 impl<'a> MatrixExponents<'a> {
     /// What the steps above a layer depend on: its exponent `layer`, at most 64, and the matrices' lower exponents.
-    fn at(&self, layer: usize) -> Exponents
+    fn exponents_at(&self, layer: usize) -> Exponents
         requires { layer ≤ 64 }
         ensures layer { result.layer ≡ layer }
         ensures next { AreExponents (heights_of self.now.dimensions.now) result }
@@ -114,7 +114,7 @@ fn next_step(
     // No matrix's exponent lies between those of the two layers, so all lower ones are at most the upper layer's.
     let has_rows = exponents.lower_end > layer;
     let above = if has_rows {
-        matrices.at(layer)
+        matrices.exponents_at(layer)
     } else {
         Exponents {
             layer,
@@ -175,7 +175,7 @@ pub fn steps_of(dimensions: &[Dimensions], arity: usize) -> Steps<'_>
         }
     }
     let matrices = MatrixExponents { dimensions, bits };
-    let mut exponents = matrices.at(exponent);
+    let mut exponents = matrices.exponents_at(exponent);
     let none = LevelStep {
         is_bridge: false,
         has_rows: false,

@@ -10,7 +10,7 @@ use p3_merkle_core::cap::CapRule;
 use p3_merkle_core::error::MerkleTreeError;
 use p3_merkle_core::steps::steps_of;
 use p3_merkle_prover::checked::{CheckedMatrices, checked_matrices, tree_over};
-use p3_merkle_prover::opener::{cap_at, rows_of_index, siblings_of_index, steps_in};
+use p3_merkle_prover::opener::{cap_at, rows_of_index, siblings_of_index, tree_steps};
 use p3_merkle_prover::tree::MerkleTree;
 use p3_merkle_verifier::checker::Checker;
 use p3_merkle_verifier::openings::OpeningRef;
@@ -251,7 +251,7 @@ impl<
     {
         lemma_arity::<N>();
         let tree = tree_over::<P, PW, H, C, M, N, D>(alloc, &self.hash, &self.compress, leaves)?;
-        let cap_layer = steps_in(&tree).cap_layer(self.cap_rule, self.cap_height);
+        let cap_layer = tree_steps(&tree).cap_layer(self.cap_rule, self.cap_height);
         let cap = cap_at(alloc, &tree, cap_layer)?;
         Ok((cap, tree))
     }
@@ -277,7 +277,7 @@ impl<
         ensures opened { IfOk result (λ o. Opens self.now tree.now (opening_made index o)) }
         ensures memory { AnswersUnlessMemory result None }
     {
-        let steps = steps_in(tree);
+        let steps = tree_steps(tree);
         let cap_layer = steps.cap_layer(self.cap_rule, self.cap_height);
         let opened_values = rows_of_index(alloc, tree, index)?;
         let opening_proof = siblings_of_index(alloc, tree, &steps, index, cap_layer)?;

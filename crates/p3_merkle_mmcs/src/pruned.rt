@@ -21,7 +21,7 @@ use p3_merkle_core::pruning::{
     distinct_indices,
 };
 use p3_merkle_core::steps::{Covered, check_heights, steps_of};
-use p3_merkle_prover::opener::steps_in;
+use p3_merkle_prover::opener::tree_steps;
 use p3_merkle_prover::pruned_opener::{boundary_digests, rows_of_indices};
 use p3_merkle_prover::tree::MerkleTree;
 use p3_merkle_verifier::openings::PrunedOpeningRef;
@@ -102,7 +102,7 @@ impl<
         ensures opened { IfOk result (λ o. OpensPruned self.now tree.now (pruned_made indices.now o)) }
         ensures memory { AnswersUnlessMemory result None }
     {
-        let cap_layer = steps_in(tree).cap_layer(self.cap_rule, self.cap_height);
+        let cap_layer = tree_steps(tree).cap_layer(self.cap_rule, self.cap_height);
         let opened_values = rows_of_indices(alloc, tree, indices)?;
         let sibling_hashes = boundary_digests(alloc, tree, indices, cap_layer)?;
         Ok(PrunedRows {

@@ -15,7 +15,7 @@ ghost use Rattle.p3_merkle_prover.specs.Parts.{layers_of, tree_batch};
 ghost use Rattle.p3_merkle_core.specs.Pruning.{boundary_by};
 ghost use Rattle.p3_merkle_core.specs.Refusals.{AnswersUnlessMemory};
 
-use crate::opener::{rows_of_index, steps_in};
+use crate::opener::{rows_of_index, tree_steps};
 use crate::tree::Tree;
 use p3_merkle_core::error::MerkleTreeError;
 use p3_merkle_core::geometry::position_of;
@@ -67,7 +67,7 @@ pub fn boundary_digests<F, X: Copy, G, M: Matrix<F>, const N: usize>(
         IfOk result (λ digests. digests.items ≡ own) }
     ensures memory { AnswersUnlessMemory result None }
 {
-    let steps = steps_in(tree);
+    let steps = tree_steps(tree);
     let mut covered = Covered::new(&steps, indices, distinct_indices(alloc, indices)?);
     let len = covered.clone(alloc)?.boundary_len(cap_layer);
     let mut digests = Vec::with_capacity(alloc, len)?;
