@@ -146,13 +146,13 @@ pub fn shape()
     ensures gate { UnrefusedIsLawful }
 {}
 
-/// The dimensions that [`dimensions_of`](p3_support::matrix::dimensions_of) returns of matrices are those in the shape
-/// of their batch, under which their openings are accepted.
+/// The dimensions that [`dimensions_of`](p3_support::matrix::dimensions_of) returns of matrices are those for which the
+/// definitions accept the matrices' own openings.
 pub fn dimensions<T, M: Matrix<T>, const N: usize>()
     ensures { BatchHasDimensions M.height_of M.width_of M.row_of N }
 {}
 
-/// What holds of caps, by clause:
+/// What holds of caps by the rules of [`CapRule`](crate::cap::CapRule), by clause:
 ///
 /// - `lowered`: under the rule `Lowered` a cap authenticates every matrix;
 /// - `agree`: if a cap of the rule `Fixed` does so too, both rules give the same cap;

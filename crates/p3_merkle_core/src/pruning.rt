@@ -308,10 +308,10 @@ fn check_shared_rows<T: Eq>(
     Ok(())
 }
 
-/// Checks everything about a pruned opening that does not depend on the cap's digests: whether its paths can be
-/// restored up to layer `cap_layer`. Returns its distinct indices, with their queries. `rows` has the row set of each
-/// index, and the proof has `num_digests` digests. `cap_layer` must be at most the number of levels, and the arity a
-/// power of two from 2 to 2^62.
+/// Checks everything about a pruned opening that does not depend on the cap's digests: whether the siblings of its
+/// queries can be computed up to layer `cap_layer`. Returns its distinct indices, with their queries. `rows` has the
+/// row set of each index, and the proof has `num_digests` digests. `cap_layer` must be at most the number of levels,
+/// and the arity a power of two from 2 to 2^62.
 ///
 /// It sorts the indices once, and allocates at most five numbers for each index at a time, and one for each matrix of a
 /// layer above the leaves.

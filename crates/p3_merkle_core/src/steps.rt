@@ -57,7 +57,8 @@ struct MatrixExponents<'a> {
 }
 
 impl<'a> MatrixExponents<'a> {
-    /// What the steps above a layer depend on: its exponent `layer`, at most 64, and the matrices' lower exponents.
+    /// The exponents on which the steps above a layer depend: the layer's own, `layer`, which must be at most 64, and
+    /// the end of the matrices' lower ones.
     fn exponents_at(&self, layer: usize) -> Exponents
         requires { layer ≤ 64 }
         ensures layer { result.layer ≡ layer }

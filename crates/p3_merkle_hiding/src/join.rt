@@ -91,8 +91,8 @@ pub fn salted_sets<T: Copy>(
     })
 }
 
-/// Checks that there is one row for each matrix, of the matrix's width without salts, as [`check_widths`] does; and
-/// then that there is one list of salts for each row, else `WrongBatchSize`.
+/// Checks by [`check_widths`] that there is one row for each matrix, of the matrix's width without salts; and then that
+/// there is one list of salts for each row, else `WrongBatchSize`.
 fn check_rows_and_salts<T>(
     dimensions: &[Dimensions],
     rows: &[Vec<T>],

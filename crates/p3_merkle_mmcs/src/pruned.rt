@@ -199,8 +199,8 @@ impl<
 
     /// Restores the path of each query, in query order, with its index: the siblings that
     /// [`open_batch`](Self::open_batch) would open. They are computed from the rows of all queries and the digests of a
-    /// pruned proof. The parameters are those of [`verify_batch_pruned`](Self::verify_batch_pruned), and an opening
-    /// whose paths are restored has the form of an accepted one.
+    /// pruned proof. The parameters are as in [`verify_batch_pruned`](Self::verify_batch_pruned), and an opening whose
+    /// paths are restored has the form of an accepted one.
     ///
     /// No cap is compared, so a restored path proves nothing by itself. `verify_batch_pruned` accepts an opening under
     /// a cap exactly if its paths are restored and [`verify_batch`](Self::verify_batch) accepts each query with its

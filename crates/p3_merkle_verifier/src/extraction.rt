@@ -46,7 +46,7 @@ pub(crate) struct RowPair<'a, T> {
 }
 
 impl<'a, T: Eq> RowPair<'a, T> {
-    /// Whether both openings have the same rows of these matrices. Nothing is copied.
+    /// Whether both openings have the same rows of the matrices of the exponent. Nothing is copied.
     pub(crate) fn agree(&self) -> bool
         ensures { result ≡ pointwise (pointwise T.eq) (first_rows self.now) (second_rows self.now) }
     {

@@ -32,7 +32,7 @@ impl<'a, T, W, const D: usize> OpeningRef<'a, T, [W; D]> {
     ghost use Rattle.p3_merkle_core.specs.Views.{opening_borrowed};
     ghost use Rattle.p3_merkle_verifier.specs.Inner.Checks.{opening_in};
 
-    /// The opening of the leaf `index` by these rows and siblings.
+    /// The opening of the leaf `index` that has the rows and siblings of `opening`.
     pub fn new(
         index: usize,
         opening: BatchOpeningRef<'a, T, Vec<[W; D]>>,
