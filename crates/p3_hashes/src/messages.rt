@@ -1,7 +1,7 @@
 //! SHA-256 of messages of `width` bytes, which lie one after another: eight at a time, one message a lane, and what is
 //! left one by one. A padded message is one followed by its padding (FIPS 180-4, 5.1.1): a byte 0x80, zeros, and the
-//! length in eight bytes, up to a whole block of 64 bytes. It is the same for all, since it depends on the length
-//! alone. A word is four bytes, high byte first.
+//! length in eight bytes, up to a whole block of 64 bytes. Padding depends on the length alone, so it is the same for
+//! all. A word is four bytes, high byte first.
 ghost use Rattle.std.specs.Prelude.{◌≡◌, List, ℕ, [], ◌+◌, ◌*◌, ◌/◌, ◌^◌, ◌<◌, ◌≤◌, length, slice_index};
 ghost use Rattle.std.specs.Prelude.{slice_index_or};
 ghost use Rattle.sha2.specs.Sha256.{digest_bytes, final_hash, initial_hash_256, padded_message, sha256, word_at};

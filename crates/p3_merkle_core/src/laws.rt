@@ -259,7 +259,7 @@ pub fn extraction<T, W>()
 ///
 /// - `suffices`: the boundary suffices;
 /// - `smallest`: no list of uncovered nodes that suffices is shorter than the boundary;
-/// - `alone`: one that is no longer has the same nodes;
+/// - `alone`: one that is as short has the boundary's nodes;
 /// - `least`: the boundary suffices, and every other list of uncovered nodes that suffices is longer;
 /// - `apart`: no node is under two boundary nodes;
 /// - `held`: a list of uncovered nodes that suffices has each boundary node, or two different nodes under it.

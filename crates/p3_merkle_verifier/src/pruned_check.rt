@@ -135,7 +135,8 @@ fn layer_above<'a, T, X: Copy>(
     })
 }
 
-/// The position of the first query under each covered node of the layer of this exponent, by ascending nodes.
+/// For each covered node of the layer of this exponent, ascending, the position of a query under it: the first one of
+/// its lowest leaf.
 fn queries_at<T, X>(
     alloc: Global,
     restorable: &RestorableOpening<'_, T, X>,
@@ -260,8 +261,8 @@ impl<
     const N: usize,
     const D: usize,
 > Checker<'a, P, PW, H, C, [[PW::Value; D]; N], N, D> {
-    /// For each covered node of the layer with this exponent, ascending, the digest of the rows of the first query
-    /// under it, of the matrices that belong to the layer.
+    /// For each covered node of the layer with this exponent, ascending, the digest of the rows that the queries under
+    /// it opened of the layer's matrices.
     fn row_digests(
         &self,
         alloc: Global,
@@ -309,7 +310,7 @@ impl<
 
     /// The digests of the covered nodes of layer `layer`, which is `here`, ascending. A leaf's is that of the rows of
     /// its first query. Any other node's is the compression of its children; where matrices belong to the layer, it is
-    /// compressed once more with the digest of their rows, from the first query under the node.
+    /// compressed once more with the digest of their rows, which the queries under the node share.
     pub(crate) fn node_digests(
         &self,
         alloc: Global,
@@ -361,7 +362,7 @@ impl<
         Ok(())
     }
 
-    /// The cap's layer of a pruned opening, computed up from its covered leaves. Only one layer is stored at a time.
+    /// The cap's layer of a pruned opening, computed up from its covered leaves. Only one layer's children are stored.
     fn top_layer<'b>(
         &self,
         alloc: Global,
