@@ -99,7 +99,7 @@ pub struct OpenedMatrix<'a, T> {
 
 impl<'a, T> OpenedMatrix<'a, T> {
     /// Row `row` of the matrix: that of query `queries[row]`.
-    fn words(&self, row: usize) -> &[T]
+    fn row_words(&self, row: usize) -> &[T]
         requires { row < length self.now.queries.now }
         ensures { result.now ≡ opened_row (row_sets self.now.sets.now) self.now.queries.now self.now.place row }
     {
@@ -127,11 +127,11 @@ impl<'a, T: Copy> Matrix<T> for OpenedMatrix<'a, T> {
     }
 
     fn get(&self, row: usize, column: usize) -> T {
-        self.words(row)[column]
+        self.row_words(row)[column]
     }
 
     fn piece(&self, row: usize, column: usize) -> &[T] {
-        &self.words(row)[column..]
+        &self.row_words(row)[column..]
     }
 
     ghost length_row_of = { λ m r h. length-opened_row (row_sets m.sets.now) m.queries.now m.place m.width
