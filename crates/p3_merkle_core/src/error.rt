@@ -94,8 +94,7 @@ pub enum MerkleTreeError {
     /// The pruned proof does not fit its queries and rows.
     #[error("malformed pruned proof: {0}")]
     MalformedPrunedProof(PrunedProofError),
-    /// A height is above 2^62, the greatest one allowed; or, in the salted scheme, a width with its salts does not fit
-    /// `usize`.
+    /// A height is above 2^62, the greatest one allowed; or, with salts, a width does not fit `usize`.
     #[error("matrix {matrix}: size {size} is too large")]
     TooLarge {
         /// The position of the matrix in input order, from 0.

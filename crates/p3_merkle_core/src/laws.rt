@@ -215,10 +215,9 @@ pub fn restoration<T, W>()
 ///
 /// - `single`: a single opening is answered `Ok` exactly if it is accepted;
 /// - `pruned`: without a cap, a pruned opening is answered `Ok` exactly if it restores;
-/// - `under_cap`: under a cap it is answered `Ok` exactly if it restores and the cap has each covered node of its
-///   layer;
-/// - `each_path`: and exactly if it restores and each query is accepted with its restored path;
-/// - `restored`: of an opening that restores, the last two conditions are one;
+/// - `under_cap`: under a cap it is so exactly if it restores and the cap has each covered node of its layer;
+/// - `each_path`: under a cap it is so exactly if it restores and each query is accepted with its restored path;
+/// - `restored`: of an opening that restores, the two conditions under a cap are one;
 /// - `refused`: an opening that does not restore is refused with the same error under each cap;
 /// - `answered`: one that restores is answered `Ok` under a cap exactly if each query is, with its restored path;
 /// - `mismatch`: one that restores is answered `Ok` or `CapMismatch` under each cap.
@@ -238,10 +237,8 @@ pub fn answers<T, W>()
 /// - `collision`: if they differ at a shared place, the last such place has two different inputs with one digest;
 /// - `single`, `pruned`: the result that the definitions give for two openings is the first refusal; else `None` if all
 ///   checks agree where they share a place; else the collision of the first two queries whose checks differ;
-/// - `rows`: if they agree at each shared place, every row of an authenticated matrix that both open has the same
-///   words;
-/// - `one_index`: two of one index agree exactly if they have the same siblings, and the same row of each authenticated
-///   matrix;
+/// - `rows`: if they agree at each shared place, each row of an authenticated matrix that both open is the same;
+/// - `one_index`: two of one index agree exactly if they have the same siblings, and the same authenticated rows;
 /// - `full`: each group or pair that a check compresses has as many digests as the arity;
 /// - `last`: the digest of a check's last input is the one that is compared with the cap.
 pub fn extraction<T, W>()

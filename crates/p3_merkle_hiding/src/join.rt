@@ -173,8 +173,7 @@ fn joined_rows<T: Copy>(
     Ok(joined)
 }
 
-/// Each row of several queries followed by its salts, as [`joined_rows`] pairs them. Each query has a row set and a
-/// salt set.
+/// Each row of several queries followed by its salts, as [`joined_rows`] pairs them, row set by row set.
 fn joined_row_sets<T: Copy>(
     alloc: Global,
     sets: &[Vec<Vec<T>>],

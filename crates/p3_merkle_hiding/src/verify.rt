@@ -24,8 +24,7 @@ impl<
     const SALT_ELEMS: usize,
 > MerkleTreeHidingMmcs<P, PW, H, C, R, N, D, SALT_ELEMS> {
     /// Verifies an opening of the leaf `index` with its salts against a cap: the plain scheme's verification of each
-    /// row followed by its salts, under dimensions with `SALT_ELEMS` more columns. A cap binds the salts as it binds
-    /// the rows.
+    /// row followed by its salts, under dimensions with `SALT_ELEMS` more columns. A cap binds salts as it binds rows.
     ///
     /// An accepted opening has one row for each of `dimensions`, of that width, and `SALT_ELEMS` salts for each row.
     /// For each level below the cap it has the siblings of the path's node. `dimensions` are those of the matrices

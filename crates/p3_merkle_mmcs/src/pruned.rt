@@ -1,6 +1,5 @@
 //! Pruned openings: the rows of several leaves by one proof. A query is one index of a list, and its row set has one
-//! row of each matrix. Its restored path is its siblings, each a digest of the proof or computed from the rows and the
-//! proof.
+//! row of each matrix. Its restored path is its siblings, each from the proof or computed.
 
 ghost use Rattle.std.specs.Prelude.{◌≡◌, ◌<◌, All, IfOk, None};
 ghost use Rattle.p3_merkle_core.specs.Geometry.{heights, shape_of};

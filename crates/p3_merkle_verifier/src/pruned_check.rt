@@ -418,8 +418,7 @@ impl<
     ///
     /// # Errors
     ///
-    /// The error of [`check_pruned`], else `CapMismatch` if a root is wrong or missing. `OutOfMemory` may come any
-    /// time.
+    /// The error of [`check_pruned`], else `CapMismatch` if a root is wrong or missing; `OutOfMemory` at any time.
     pub fn check_pruned_opening(
         &self,
         alloc: Global,

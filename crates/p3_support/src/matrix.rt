@@ -25,8 +25,8 @@ pub struct Dimensions {
     pub height: usize,
 }
 
-/// A matrix of elements `T`, with `height` rows of `width` elements each. Every call returns the same for the same
-/// matrix.
+/// A matrix of elements `T`, with `height` rows of `width` elements each. On one matrix each call always returns the
+/// same.
 pub trait Matrix<T> {
     // The number of rows.
     ghost height_of: { Self → ℕ };
