@@ -9,10 +9,10 @@ pub enum Place {
     Leaf,
     /// The digests compressed on this level: the path's own among its siblings, then default digests.
     Group(usize),
-    /// The words hashed for the matrices injected above this level.
+    /// The words hashed for the matrices that belong to the layer above this level.
     Rows(usize),
-    /// The digests compressed when rows are injected above this level: that of the group, that of the rows, then
-    /// default digests.
+    /// The digests compressed if matrices belong to the layer above this level: the group's, the rows', then default
+    /// digests.
     Pair(usize),
 }
 

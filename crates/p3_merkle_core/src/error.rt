@@ -23,7 +23,7 @@ pub enum PrunedProofError {
         /// The position of the index, from 0, among the distinct queried indices, ascending.
         slot: usize,
     },
-    /// Two queries under one node have different rows of a matrix that is injected there.
+    /// Two queries under one node have different rows of a matrix that belongs to the node's layer.
     #[error("unique path slot {slot} disagrees with its group's lead on matrix {matrix}'s opened row")]
     InconsistentGroupOpening {
         /// The position, from 0, among the distinct queried indices, ascending, of the index whose row differs from
@@ -93,8 +93,7 @@ pub enum MerkleTreeError {
     /// The pruned proof does not fit its queries and rows.
     #[error("malformed pruned proof: {0}")]
     MalformedPrunedProof(PrunedProofError),
-    /// A height is above 2^62, the greatest one allowed; or, in the salted scheme, a width with its salts does not fit
-    /// `usize`.
+    /// A height is above 2^62, the greatest one allowed; or, with salts, a width does not fit `usize`.
     #[error("matrix {matrix}: size {size} is too large")]
     TooLarge {
         /// The position of the matrix in input order, from 0.

@@ -1,4 +1,4 @@
-//! Groups of `N` digests, the inputs of a compression.
+//! Groups of `N` digests, the inputs of a compression. Where there are fewer digests, default digests follow.
 
 ghost use Rattle.std.specs.Prelude.{◌≡◌, ◌+◌, ◌<◌, ◌≤◌, ◌∷◌, [], length, insert};
 ghost use Rattle.p3_merkle_core.specs.Nodes.{padded};
@@ -41,8 +41,8 @@ pub fn padded_group<W: Copy, const N: usize, const D: usize>(
     group_with(default_digest, children[0], 0, &children[1..])
 }
 
-/// The group of two digests, then default digests. A node with rows compresses the digest of its children and that of
-/// its rows in this way. `N` must be at least 2.
+/// The group of two digests, `left` and `right`, then default digests. A node to which rows belong compresses the
+/// digest of its children and that of its rows in this way. `N` must be at least 2.
 pub fn pair_group<W: Copy, const N: usize, const D: usize>(
     default_digest: [W; D],
     left: [W; D],

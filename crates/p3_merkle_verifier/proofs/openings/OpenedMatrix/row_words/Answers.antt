@@ -4,7 +4,7 @@ use Rattle.std.specs.declared.vec.Vec.{Vec}
 use Rattle.std.proofs.lemmas.List.{get_or-map, length-map}
 use Rattle.p3_support.specs.Shown.{row_lists, row_sets}
 use Rattle.p3_merkle_core.proofs.Pruned.SlotFacts.{set_read}
-use Rattle.p3_merkle_verifier.proofs.openings.OpenedMatrix.words.Goals as goal
+use Rattle.p3_merkle_verifier.proofs.openings.OpenedMatrix.row_words.Goals as goal
 
 pub index-requires : goal.index-requires
 index-requires g c =
