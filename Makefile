@@ -12,7 +12,7 @@ KIT := rattle-kit-13f
 LOGIC := dac8208d650f15bf
 KIT_CHECK := yes
 
-VERSION := $(shell sed -n 's/^pub const VERSION.*"\(.*\)";/\1/p' crates/mmcs_engine/src/lib.rt)
+VERSION := $(shell sed -n 's/^const VERSION.*"\(.*\)";/\1/p' crates/fohlazu/src/args.rt)
 PROGRAMS := fohlazu mmcs mmcs-verify
 WITH_PROGRAMS := $(PROGRAMS) libmmcs_verify.a
 LOGS := libfohlazu.a libfohlazu.so
