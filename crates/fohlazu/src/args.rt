@@ -110,7 +110,8 @@ fn refusal_of(command: &Command<Input<'_>>) -> &'static str {
     match command {
         Command::Verify { .. } =>
             "--raw prints one entry, and --blocks those whose numbers are given",
-        _ => "--origin has 1 to 100 characters, no control character, and no space first or last",
+        _ =>
+            "an origin has 1 to 100 characters, no control character, and no space first or last: say --origin",
     }
 }
 
