@@ -12,7 +12,7 @@ KIT := rattle-kit-13f
 LOGIC := dac8208d650f15bf
 KIT_CHECK := yes
 
-VERSION := $(shell sed -n 's/^const VERSION.*"\(.*\)";/\1/p' crates/fohlazu/src/*.rt)
+VERSION := $(shell sed -n 's/^const VERSION.*"\(.*\)";/\1/p' crates/fohlazu/src/args.rt)
 PROGRAMS := fohlazu mmcs
 LIBRARY_FOR_C := libfohlazu.a libfohlazu.so
 FILES := $(PROGRAMS) $(LIBRARY_FOR_C)

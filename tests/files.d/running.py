@@ -79,8 +79,10 @@ class Program:
         elif refused.name is None:
             if not said:
                 yield "says nothing of wrong words"
-        elif said != refused.line.encode() + b"\n":
+        elif not is_line(said) or not said.startswith(refused.line.encode()):
             yield f"says {said!r}, expected {refused.line!r}"
+        elif not refused.line.endswith(" ") and len(said) > len(refused.line.encode()) + 1:
+            yield f"says {said!r}, expected {refused.line!r} alone"
 
 
 def is_line(said):

@@ -1,59 +1,64 @@
-//! Seals files, proves single entries of them, and verifies the proofs: `fohlazu --help` says how.
+//! Seals logs in files, proves their entries and their growth, and verifies the proofs: `fohlazu --help` says how.
 #![tactic(auto)]
 
+mod args;
 mod input;
-mod words;
 
-use fohlazu_engine::ending::{Names, ended};
-use fohlazu_engine::run::run;
-use std::env;
-use std::io::ErrorKind;
+use args::{Args, ArgsError, parse_args};
+use log_commands::{Error, run};
+use std::cell::Cell;
 use std::process::ExitCode;
-use words::{Asked, Unread, asked_of};
+use std::{env, io};
 
 fn main(rt: HostRuntime) -> ExitCode {
-    let alloc = rt.alloc();
-    let words: Vec<String> = match env::args(&rt) {
-        Ok(words) => match words.collect(alloc) {
-            Ok(words) => words,
-            Err(_) => return failed(&rt, "out of memory"),
-        },
-        Err(error) if error.kind() == ErrorKind::OutOfMemory => {
-            return failed(&rt, "out of memory");
+    let words = match read_words(&rt) {
+        Ok(words) => words,
+        Err(error) if error.kind() == io::ErrorKind::OutOfMemory => {
+            return refuse(&rt, "out of memory");
         }
-        Err(_) => return failed(&rt, "a word is no text in UTF-8"),
+        Err(_) => return refuse(&rt, "an argument is no text in UTF-8"),
     };
-    match asked_of(&rt, words.as_slice()) {
-        Ok(
-            Asked {
-                command,
-                names,
-                parts,
-            },
-        ) => {
-            let names = Names {
-                parts: &parts,
-                ..names
-            };
-            let answer = run(alloc, command, &mut rt.stdout());
-            ended(&rt, &names, answer)
+    let failure = Cell::new(None);
+    match parse_args(&rt, &failure, &words) {
+        Ok((command, args)) => match run(rt.alloc(), command, &mut rt.stdout()) {
+            Ok(()) => ExitCode::SUCCESS,
+            Err(error) => stop(&rt, &args, failure.get(), error),
+        },
+        Err(ArgsError::Clap(error)) => print_help(&rt, &error),
+        Err(ArgsError::Refused(why)) => refuse(&rt, why),
+    }
+}
+
+/// The words of the command line.
+fn read_words(rt: &HostRuntime) -> io::Result<Vec<String>> {
+    Ok(env::args(rt)?.collect(rt.alloc())?)
+}
+
+/// Prints why a command stops: what the input is called, and why it is refused or a read of it failed.
+fn stop(rt: &HostRuntime, args: &Args<'_>, failure: Option<io::Error>, error: Error) -> ExitCode {
+    let _ = match (error, error.source(), failure) {
+        (Error::Read(_), Some(source), Some(failure)) => {
+            eprintln!(rt; "fohlazu: {}: {failure}", args.name_of(source))
         }
-        Err(Unread::Words(error)) => told(&rt, &error),
-        Err(Unread::Refused(why)) => failed(&rt, why),
-    }
+        (_, Some(source), _) => eprintln!(rt; "fohlazu: {}: {error}", args.name_of(source)),
+        _ => eprintln!(rt; "fohlazu: {error}"),
+    };
+    ExitCode::from(error.status())
 }
 
-/// Prints what `clap` says of the words, or the help that they ask for.
-fn told(rt: &HostRuntime, error: &clap::Error) -> ExitCode {
-    let status = if error.exit_code() == 0 { 0 } else { 2 };
+/// Prints the help that is asked for, or what is wrong about the arguments.
+fn print_help(rt: &HostRuntime, error: &clap::Error) -> ExitCode {
+    if error.kind() == clap::error::ErrorKind::OutOfMemory {
+        return refuse(rt, "out of memory");
+    }
     match error.print(rt) {
-        Ok(()) => ExitCode::from(status),
-        Err(_) => ExitCode::from(2),
+        Ok(()) if error.exit_code() == 0 => ExitCode::SUCCESS,
+        _ => ExitCode::from(2),
     }
 }
 
-/// Prints why nothing is done.
-fn failed(rt: &HostRuntime, why: &str) -> ExitCode {
+/// Prints why nothing is run.
+fn refuse(rt: &HostRuntime, why: &str) -> ExitCode {
     let _ = eprintln!(rt; "fohlazu: {why}");
     ExitCode::from(2)
 }

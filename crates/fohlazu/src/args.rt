@@ -1,0 +1,302 @@
+//! The arguments of the program.
+
+ghost use Rattle.std.specs.Prelude.{IfOk};
+ghost use Rattle.log_commands.specs.Commands.{IsLawful};
+
+use crate::input::Input;
+use clap::{Arg, ArgMatches, Command as Syntax, arg, value_parser};
+use log_commands::{Command, Cut, PART_ORIGIN, PartialLine, Print, Source};
+use std::alloc::{AllocError, Global};
+use std::cell::Cell;
+use std::io;
+use std::path::Path;
+use thiserror::Error;
+
+/// The version of the programs and of the libraries. The Makefile reads it here.
+const VERSION: &str = "0.1.0";
+
+/// The commands, each with what it does, an example and its arguments.
+const COMMANDS: [(&str, &str, &str, &str); 6] = [
+    (
+        "seal",
+        "Prints the checkpoint of a file: the log's name, how many entries it has, and their root",
+        "Example: fohlazu seal --origin journal.example log > checkpoint",
+        "origin part blocks whole-lines partial FILE",
+    ),
+    (
+        "prove",
+        "Prints a proof of entries of a file",
+        "Example: fohlazu prove checkpoint log 3 > proof",
+        "blocks whole-lines partial CHECKPOINT FILE NUMBER!",
+    ),
+    (
+        "verify",
+        "Verifies a proof of entries, and prints them: without numbers each after its own and a tab",
+        "Example: fohlazu verify checkpoint proof 3",
+        "blocks raw CHECKPOINT PROOF NUMBER",
+    ),
+    (
+        "prove-consistency",
+        "Prints a proof that the file of a new checkpoint begins with the entries of an old one",
+        "Example: fohlazu prove-consistency old new log > proof",
+        "blocks whole-lines partial OLD NEW FILE",
+    ),
+    (
+        "verify-consistency",
+        "Verifies such a proof, and prints the new checkpoint, whose signatures are not checked",
+        "Example: fohlazu verify-consistency old proof > new",
+        "OLD PROOF",
+    ),
+    (
+        "join",
+        "Prints the checkpoint of a file from its parts: all but the last have one count, a power of two",
+        "Example: fohlazu join --origin journal.example part1 part2 > checkpoint",
+        "origin! PART",
+    ),
+];
+
+/// Why no command is run.
+#[derive(Debug, Drop, Error)]
+pub(crate) enum ArgsError {
+    /// The arguments are not as the help says, or they ask for it.
+    #[error("{0}")]
+    Clap(#[from] clap::Error),
+    /// They are refused for another reason.
+    #[error("{0}")]
+    Refused(&'static str),
+}
+
+/// The arguments of a command.
+#[derive(Drop)]
+pub(crate) struct Args<'a> {
+    rt: &'a HostRuntime,
+    found: ArgMatches<'a>,
+    /// Takes why a read fails.
+    failure: &'a Cell<Option<io::Error>>,
+}
+
+/// Reads the arguments: the command, and what its inputs are called. The cell takes why a read of them fails.
+///
+/// # Errors
+///
+/// Why nothing is run.
+pub(crate) fn parse_args<'a>(
+    rt: &'a HostRuntime,
+    failure: &'a Cell<Option<io::Error>>,
+    words: &'a [String],
+) -> Result<(Command<Input<'a>>, Args<'a>), ArgsError>
+    ensures { IfOk result (λ (command, args). IsLawful command) }
+{
+    let alloc = rt.alloc();
+    let mut matches = program(alloc)
+        .map_err(clap::Error::from)?
+        .try_get_matches_from(words)?;
+    let Some((name, found)) = matches.remove_subcommand() else {
+        return Err(ArgsError::Refused("a command is wanted"));
+    };
+    let args = Args { rt, found, failure };
+    if args.stdin_count() > 1 {
+        return Err(ArgsError::Refused("`-` is standard input, once at most"));
+    }
+    let command = args.command(alloc, name)?;
+    if !command.is_lawful() {
+        return Err(ArgsError::Refused(refusal_of(&command)));
+    }
+    Ok((command, args))
+}
+
+/// Why a command is not run.
+fn refusal_of(command: &Command<Input<'_>>) -> &'static str {
+    match command {
+        Command::Verify { .. } =>
+            "--raw prints one entry, and --blocks those whose numbers are given",
+        _ =>
+            "an origin has 1 to 100 characters, no control character, and no space first or last: say --origin",
+    }
+}
+
+impl<'a> Args<'a> {
+    /// What an input is called.
+    pub(crate) fn name_of(&self, source: Source) -> &'a str {
+        let (id, k) = match source {
+            Source::Checkpoint => ("CHECKPOINT", 0),
+            Source::Old => ("OLD", 0),
+            Source::New => ("NEW", 0),
+            Source::Part(k) => ("PART", k),
+            Source::File => ("FILE", 0),
+            Source::Proof => ("PROOF", 0),
+        };
+        self.texts(id).get(k).copied().unwrap_or("")
+    }
+
+    /// The command of this name.
+    fn command(&self, alloc: Global, name: &str) -> Result<Command<Input<'a>>, clap::Error> {
+        Ok(match name {
+            "seal" => Command::Seal {
+                origin: self.origin(alloc)?,
+                cut: self.cut(),
+                file: self.input("FILE"),
+            },
+            "prove" => Command::Prove {
+                cut: self.cut(),
+                checkpoint: self.input("CHECKPOINT"),
+                file: self.input("FILE"),
+                numbers: self.numbers(alloc)?,
+            },
+            "verify" => Command::Verify {
+                print: self.print(),
+                checkpoint: self.input("CHECKPOINT"),
+                proof: self.input("PROOF"),
+                numbers: Some(self.numbers(alloc)?).filter(|numbers| !numbers.is_empty()),
+            },
+            "prove-consistency" => Command::ProveConsistency {
+                cut: self.cut(),
+                old: self.input("OLD"),
+                new: self.input("NEW"),
+                file: self.input("FILE"),
+            },
+            "verify-consistency" => Command::VerifyConsistency {
+                old: self.input("OLD"),
+                proof: self.input("PROOF"),
+            },
+            _ => Command::Join {
+                origin: self.origin(alloc)?,
+                parts: self.parts(alloc)?,
+            },
+        })
+    }
+
+    /// How many inputs are standard input.
+    fn stdin_count(&self) -> usize {
+        let mut count: usize = 0;
+        for id in ["CHECKPOINT", "OLD", "NEW", "FILE", "PROOF", "PART"] {
+            let names = self.texts(id).iter();
+            count = count.saturating_add(names.filter(|name| **name == "-").count());
+        }
+        count
+    }
+
+    /// The values of an argument.
+    fn texts(&self, id: &str) -> &[&'a str] {
+        self.found.get_strs(id).unwrap_or(&[])
+    }
+
+    /// An input that is required.
+    fn input(&self, id: &str) -> Input<'a> {
+        self.input_of(self.found.get_str(id).unwrap_or(""))
+    }
+
+    /// The input of this name.
+    fn input_of(&self, name: &'a str) -> Input<'a> {
+        Input {
+            rt: self.rt,
+            name,
+            file: None,
+            failure: self.failure,
+        }
+    }
+
+    /// The parts.
+    fn parts(&self, alloc: Global) -> Result<Vec<Input<'a>>, AllocError> {
+        let mut parts = Vec::new(alloc);
+        for name in self.texts("PART") {
+            parts.push(self.input_of(name))?;
+        }
+        Ok(parts)
+    }
+
+    /// The numbers of entries.
+    fn numbers(&self, alloc: Global) -> Result<Vec<usize>, AllocError> {
+        match self.found.get_many::<usize>("NUMBER") {
+            Some(numbers) => numbers.filter_map(|number| number.ok()).collect(alloc),
+            None => Ok(Vec::new(alloc)),
+        }
+    }
+
+    /// The origin: that of a part, the one that is given, or `localhost/` and the file's name.
+    fn origin(&self, alloc: Global) -> Result<String, AllocError> {
+        if self.found.get_flag("part") {
+            return String::from_str(alloc, PART_ORIGIN);
+        }
+        if let Some(origin) = self.found.get_str("origin") {
+            return String::from_str(alloc, origin);
+        }
+        let name = match self.found.get_str("FILE") {
+            Some("-") => "stdin",
+            file => file
+                .and_then(|file| Path::new(file).file_name())
+                .unwrap_or(""),
+        };
+        format!(in alloc; "localhost/{name}")
+    }
+
+    /// How the file is cut into entries.
+    fn cut(&self) -> Cut {
+        match self.found.get_one("blocks") {
+            Some(bytes) => Cut::Blocks(bytes),
+            None if self.found.get_flag("whole-lines") => Cut::Lines(PartialLine::LeaveOut),
+            None if self.found.get_flag("partial") => Cut::Lines(PartialLine::Include),
+            None => Cut::Lines(PartialLine::Refuse),
+        }
+    }
+
+    /// How entries are printed.
+    fn print(&self) -> Print {
+        match self.found.get_one("blocks") {
+            Some(bytes) => Print::Blocks(bytes),
+            None if self.found.get_flag("raw") => Print::Raw,
+            None => Print::Lines,
+        }
+    }
+}
+
+/// What the program takes.
+fn program<'a>(alloc: Global) -> Result<Syntax<'a>, AllocError> {
+    let mut program = Syntax::new(alloc, "fohlazu")
+        .bin_name("fohlazu")?
+        .version(VERSION)
+        .about("Seals logs in files by RFC 9162, proves entries and growth, and verifies proofs")
+        .after_help("An input called - is standard input. Example: fohlazu seal log > checkpoint")
+        .subcommand_required(true)
+        .arg_required_else_help(true);
+    for (name, about, example, ids) in COMMANDS {
+        let mut command = Syntax::new(alloc, name).about(about).after_help(example);
+        for id in ids.split(' ') {
+            command = command.arg(argument(alloc, id)?)?;
+        }
+        program = program.subcommand(command)?;
+    }
+    Ok(program)
+}
+
+/// An argument.
+fn argument<'a>(alloc: Global, id: &str) -> Result<Arg<'a>, AllocError> {
+    let bytes = value_parser!(usize).range(1..=1073741824);
+    let number = value_parser!(usize).range(1..);
+    Ok(match id {
+        "origin" => arg!(in alloc; --origin <ORIGIN> "The log's name, if not `localhost/FILE`"),
+        "origin!" => arg!(in alloc; --origin <ORIGIN> "The log's name").required(true),
+        "part" => arg!(in alloc; --part "Print a part, for `join`").conflicts_with("origin")?,
+        "blocks" =>
+            arg!(in alloc; --blocks <BYTES> "Take blocks of 1 to 1073741824 bytes as entries, not lines").value_parser(
+                bytes,
+            ),
+        "whole-lines" =>
+            arg!(in alloc; --"whole-lines" "Leave out a last line without a line feed").conflicts_with(
+                "blocks",
+            )?,
+        "partial" =>
+            arg!(in alloc; --partial "Take a last line without a line feed as an entry").conflicts_with_all(
+                &["blocks", "whole-lines"],
+            )?,
+        "raw" => arg!(in alloc; --raw "Print one entry byte for byte").conflicts_with("blocks")?,
+        "CHECKPOINT" => arg!(in alloc; <CHECKPOINT> "The checkpoint"),
+        "OLD" => arg!(in alloc; <OLD> "The old checkpoint"),
+        "NEW" => arg!(in alloc; <NEW> "The new checkpoint"),
+        "FILE" => arg!(in alloc; <FILE> "The file, which may have grown since it was sealed"),
+        "PROOF" => arg!(in alloc; <PROOF> "The proof"),
+        "PART" => arg!(in alloc; <PART> ... "The parts, in order"),
+        "NUMBER" => arg!(in alloc; [NUMBER] ... "The numbers of the entries").value_parser(number),
+        _ => arg!(in alloc; <NUMBER> ... "The numbers of the entries, from 1").value_parser(number),
+    })
+}

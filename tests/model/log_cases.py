@@ -1,0 +1,238 @@
+"""Random files, sealed, proved, grown and joined by the commands of `fohlazu`, and all of this damaged."""
+
+from typing import NamedTuple
+
+import log_commands
+import log_texts
+import logs
+from log_texts import checkpoint_text, consistency_text, entries_text
+
+CUTS = [[], [], [], ["--partial"], ["--whole-lines"]]
+LENGTHS = [0, 0, 1, 2, 5, 54, 55, 56, 63, 64, 118, 119, 120, 300]
+ORIGINS = ["journal.example", "a", "localhost/log of today", "caf\u00e9", "x" * 100]
+SIGNATURES = ["\u2014 journal.example bm90IGNoZWNrZWQ=\n".encode(), "\u2014 w\u00e9 MTIzNDU2Nzg5\n".encode()]
+
+
+# bytes of a text of which not each is damaged, and how many are then
+LONG, SAMPLE = 700, 40
+
+
+class Case(NamedTuple):
+    kind: str
+    words: list
+    contents: dict
+
+    def answer(self):
+        return log_commands.answer(self.words, self.contents.get)
+
+
+def printed(words, contents):
+    """What a command prints that is not to be refused."""
+    answer = log_commands.answer(words, contents.get)
+    assert answer.status == 0, (words, answer)
+    return answer.printed
+
+
+def file_of(source, limit, cuts=CUTS):
+    """A random file, and the words that say how it is cut."""
+    count = source.randrange(limit + 1)
+    if source.randrange(3) == 0:
+        size = source.choice([1, 2, 3, 55, 64, 100])
+        data = bytes(source.choice(b"ab\n\xff") for _ in range(size * count + source.randrange(size)))
+        return data, ["--blocks", str(size)]
+    rows = [bytes(source.choice(b"ab \r\0\xff\t") for _ in range(source.choice(LENGTHS))) for _ in range(count)]
+    cut = source.choice(cuts)
+    rest = source.choice([b"", b"a", b"last\r"]) if cut else b""
+    return b"".join(row + b"\n" for row in rows) + rest, cut
+
+
+def published(source, checkpoint):
+    """A checkpoint with extension lines and signatures, or as it is."""
+    more = b"".join(source.choice([b"extension\n", b" \n"]) for _ in range(source.choice([0, 0, 0, 1, 2])))
+    signatures = [source.choice(SIGNATURES) for _ in range(source.choice([0, 0, 0, 1, 2, 100]))]
+    return checkpoint + more + (b"\n" + b"".join(signatures) if signatures else b"")
+
+
+def damaged(source, text, few):
+    """Texts with a byte or a line dropped, changed, or put in front of; all of a short text, or a few."""
+    few = SAMPLE if few is None and len(text) > LONG else few
+    places = range(len(text) + 1) if few is None else [source.randint(0, len(text)) for _ in range(few)]
+    for at in places:
+        byte = bytes([source.choice([source.randrange(256), *b"\n\r =0+/A\xe2"])])
+        yield text[:at] + text[at + 1 :]
+        yield text[:at] + byte + text[at + 1 :]
+        yield text[:at] + byte + text[at:]
+    lines = text.splitlines(keepends=True)
+    for at in range(len(lines)) if few is None else [source.randrange(len(lines)) for _ in range(few if lines else 0)]:
+        yield b"".join(lines[:at] + lines[at + 1 :])
+        yield b"".join([*lines[:at], source.choice(lines), *lines[at + source.randrange(2) :]])
+
+
+def whole_and_damaged(source, kind, words, contents, few):
+    """A case, and those where one of its texts is damaged."""
+    yield Case(f"{kind}, whole", words, contents)
+    for name in contents:
+        for text in damaged(source, contents[name], few):
+            yield Case(f"{kind}, {name} damaged", words, {**contents, name: text})
+
+
+def numbers_of(source, size, most=5):
+    return [source.randint(1, size) for _ in range(source.randint(1, most))]
+
+
+def near(source, numbers):
+    """The words of numbers, or of others."""
+    numbers = list(numbers)
+    kind = source.randrange(8)
+    if kind == 0:
+        numbers[source.randrange(len(numbers))] += source.choice([-1, 1, 100, 1 << 62])
+    elif kind == 1:
+        source.shuffle(numbers)
+    elif kind == 2:
+        numbers.append(source.choice(numbers))
+    return [str(number) for number in numbers]
+
+
+def seals(source, limit, few):
+    data, cut = file_of(source, limit, [*CUTS, []])
+    for words in (cut, [], ["--partial"], ["--whole-lines"], ["--blocks", str(source.choice([1, 7, 1 << 30]))]):
+        named = source.choice([[], ["--part"], ["--origin", source.choice(ORIGINS)]])
+        yield Case("a file", ["seal", *named, *words, source.choice(["log", "log", "-"])], {"log": data, "-": data})
+    yield Case("a file that ends inside a line", ["seal", "log"], {"log": data + b"x"})
+    origin = source.choice(["", " a", "a ", "a\tb", "x" * 101])
+    yield Case("a wrong origin", ["seal", "--origin", origin, "log"], {"log": data})
+
+
+def sealed(source, limit):
+    """A file with at least one entry, how it is cut, its checkpoint and how many entries it has."""
+    while True:
+        data, cut = file_of(source, limit)
+        checkpoint = printed(["seal", "--origin", source.choice(ORIGINS), *cut, "log"], {"log": data})
+        size = log_texts.checkpoint(checkpoint)[1]
+        if size:
+            return data, cut, checkpoint, size
+
+
+def proves(source, limit, few):
+    data, cut, checkpoint, size = sealed(source, limit)
+    numbers = numbers_of(source, size)
+    contents = {"checkpoint": published(source, checkpoint), "log": data}
+    words = ["prove", *cut, "checkpoint", "log"]
+    yield from whole_and_damaged(source, "a file", [*words, *map(str, numbers)], contents, few)
+    yield Case("other numbers", [*words, *near(source, numbers)], contents)
+    yield Case("a file that has grown", [*words, *map(str, numbers)], {**contents, "log": data + b"more\nand more"})
+    yield Case("cut otherwise", ["prove", *source.choice(CUTS), *words[len(cut) + 1 :], "1"], contents)
+
+
+def known(source):
+    """A checkpoint of up to 2^62 entries of which some are known, and a proof of these."""
+    size = source.choice([source.randint(1, 40), source.randint(1, logs.MOST), logs.MOST, logs.MOST - 1])
+    found = {name: source.choice([b"", b"a", b"entry %d" % name, b"a\nb"]) for name in numbers_of(source, size)}
+    numbers = [source.choice([*found]) for _ in range(source.randint(0, 2))] + [*found]
+    nodes = sorted(logs.entry_nodes([name - 1 for name in numbers], 0, size))
+    digests = [source.randbytes(32) for _ in nodes]
+    values = {(first, last): digest for (_, _, first, last), digest in zip(nodes, digests)}
+    leaves = {name - 1: logs.leaf_hash(data) for name, data in found.items()}
+    checkpoint = checkpoint_text(b"known.example", size, logs.root_of_entries(0, size, leaves, values))
+    return checkpoint, entries_text([(name, found[name]) for name in numbers], digests), numbers
+
+
+def verifies(source, limit, few):
+    if source.randrange(2):
+        checkpoint, proof, numbers = known(source)
+        cut = []
+    else:
+        data, cut, checkpoint, size = sealed(source, limit)
+        numbers = numbers_of(source, size)
+        proof = printed(["prove", *cut, "c", "log", *map(str, numbers)], {"c": checkpoint, "log": data})
+    contents = {"checkpoint": published(source, checkpoint), "proof": proof}
+    ways = cut if cut[:1] == ["--blocks"] else []
+    words = ["verify", *ways, "checkpoint", "proof"]
+    found, digests = log_texts.entries(proof)
+    kind = "entries" if ways or all(b"\n" not in data for _, data in found) else "line feeds inside"
+    for asked in [[str(number) for number in numbers]] + ([[]] if not ways else []):
+        yield from whole_and_damaged(source, kind if asked else f"all {kind}", [*words, *asked], contents, few)
+    yield Case("other numbers", [*words, *near(source, numbers)], contents)
+    blocks = ["verify", "--blocks", str(source.randrange(1, 70)), *words[-2:]]
+    yield Case("printed otherwise", [*blocks, *map(str, numbers)], contents)
+    yield Case("raw", ["verify", "--raw", *words[-2:], *map(str, numbers[: source.choice([1, 1, 2])])], contents)
+    other = [(name + source.choice([0, 1]), data + source.choice([b"", b"\n", b"x"])) for name, data in found]
+    digests = digests if source.randrange(3) else [*digests, source.randbytes(32)][source.randrange(2) :]
+    yield Case("entries changed", [*words, *map(str, numbers)], {**contents, "proof": entries_text(other, digests)})
+
+
+def grown(source, limit):
+    """A file that has grown, how it is cut, and the checkpoints of its beginning and of all of it."""
+    data, cut, new, size = sealed(source, limit)
+    told = log_commands.words_of("seal").parse_args([*cut, "log"])
+    found = log_commands.entries_of(told, data, None)
+    old = source.choice([0, size, *range(size)])
+    origin = log_texts.checkpoint(new)[0]
+    return data, cut, checkpoint_text(origin, old, logs.Log(found).root(0, old)), new
+
+
+def others(source, checkpoint):
+    """Other checkpoints: of another origin, size or root."""
+    origin, size, root = log_texts.checkpoint(checkpoint)
+    yield checkpoint_text(b"another.example", size, root)
+    yield checkpoint_text(origin, max(0, size + source.choice([-1, 1, 100])), root)
+    yield checkpoint_text(origin, size, source.randbytes(32))
+
+
+def proves_growth(source, limit, few):
+    data, cut, old, new = grown(source, limit)
+    contents = {"old": published(source, old), "new": published(source, new), "log": data}
+    words = ["prove-consistency", *cut, "old", "new", "log"]
+    yield from whole_and_damaged(source, "growth", words, contents, few)
+    for name in ("old", "new"):
+        for other in others(source, contents[name]):
+            yield Case(f"another {name} checkpoint", words, {**contents, name: other})
+
+
+def known_growth(source):
+    """Checkpoints of up to 2^62 entries, and a proof between them."""
+    size = source.choice([source.randint(1, 40), source.randint(1, logs.MOST), logs.MOST])
+    old = source.choice([source.randint(1, size), 1 << source.randrange(size.bit_length())])
+    digests = [source.randbytes(32) for _ in range(logs.subproof_length(old, size, True))]
+    before, after = logs.roots_of_subproof(old, size, source.randbytes(32), digests)
+    return checkpoint_text(b"known.example", old, before), checkpoint_text(b"known.example", size, after), digests
+
+
+def verifies_growth(source, limit, few):
+    if source.randrange(2):
+        old, new, digests = known_growth(source)
+        proof = consistency_text(log_texts.checkpoint(old)[1], digests, published(source, new))
+    else:
+        data, cut, old, new = grown(source, limit)
+        contents = {"old": old, "new": published(source, new), "log": data}
+        proof = printed(["prove-consistency", *cut, "old", "new", "log"], contents)
+    contents = {"old": published(source, old), "proof": proof}
+    yield from whole_and_damaged(source, "growth", ["verify-consistency", "old", "proof"], contents, few)
+    size, digests, new = log_texts.consistency(proof)
+    for other in others(source, new):
+        yield Case("another new checkpoint", ["verify-consistency", "old", "proof"],
+                   {**contents, "proof": consistency_text(size, digests, other)})
+    other = [*digests, source.randbytes(32)][source.randrange(2) :]
+    yield Case("other digests", ["verify-consistency", "old", "proof"],
+               {**contents, "proof": consistency_text(size, other, new)})
+
+
+def joins(source, limit, few):
+    size, count = 1 << source.randrange(4), source.randint(1, 5)
+    rows = [b"%d" % source.randrange(1000) for _ in range(size * (count - 1) + source.randint(1, size))]
+    data = [b"".join(row + b"\n" for row in rows[at : at + size]) for at in range(0, len(rows), size)]
+    names = [f"part{at}" for at in range(len(data))]
+    contents = {name: printed(["seal", "--part", "log"], {"log": part}) for name, part in zip(names, data)}
+    words = ["join", "--origin", source.choice(ORIGINS), *names]
+    whole = printed(["seal", *words[1:3], "log"], {"log": b"".join(data)})
+    assert Case("", words, contents).answer().printed == whole
+    yield from whole_and_damaged(source, "parts", words, contents, few)
+    some = [source.choice(names) for _ in range(source.randint(1, 4))]
+    yield Case("other parts", [*words[:3], *some], contents)
+    count = source.choice([0, 1 << source.randrange(63), 3, 1 << 62])
+    huge = {name: checkpoint_text(log_texts.PART, count, source.randbytes(32)) for name in names}
+    yield Case("huge parts", words, {**huge, names[-1]: source.choice([*contents.values(), *huge.values()])})
+
+
+CASES = {"seal": seals, "prove": proves, "verify": verifies, "join": joins}
+CASES |= {"prove-consistency": proves_growth, "verify-consistency": verifies_growth}

@@ -1,0 +1,259 @@
+"""The commands of `fohlazu`: what they print, or refuse, and with which status. It answers as the program does:
+
+    python3 tests/model/log_commands.py seal examples/journal/monday.txt
+"""
+
+import argparse
+import os
+import sys
+from typing import NamedTuple, Optional
+
+import log_files
+import log_texts
+import logs
+from log_texts import PART, checkpoint_text, consistency_text, entries_text
+
+MOST_BYTES = 1 << 30
+LAST = (1 << 64) - 1
+INPUTS = {"seal": ["FILE"], "prove": ["CHECKPOINT", "FILE"], "verify": ["CHECKPOINT", "PROOF"]}
+INPUTS |= {"prove-consistency": ["OLD", "NEW", "FILE"], "verify-consistency": ["OLD", "PROOF"]}
+COMMANDS = [*INPUTS, "join"]
+REASONS = {logs.TOO_FEW_DIGESTS: "has too few digests", logs.TOO_MANY_DIGESTS: "has too many digests"}
+REASONS |= {logs.OLD_ROOT_MISMATCH: "is of another old root", logs.ROOT_MISMATCH: "is of another root"}
+
+
+class Refused(Exception):
+    """Why a command stops: its status, the input and the reason, or the beginning of it; no input for wrong words."""
+
+    def __init__(self, status, name, why):
+        super().__init__(status, name, why)
+        self.status = status
+        self.name = name
+        self.line = f"fohlazu: {name}: {why}"
+
+
+class Answer(NamedTuple):
+    status: int
+    printed: bytes
+    refused: Optional[Refused] = None
+
+
+class Words(argparse.ArgumentParser):
+    def error(self, message):
+        raise Refused(2, None, message)
+
+
+def number(least, most):
+    """Reads a number between two bounds."""
+
+    def read(word):
+        if not (word.isascii() and word.isdecimal() and least <= int(word) <= most):
+            raise ValueError(word)
+        return int(word)
+
+    return read
+
+
+def words_of(command):
+    """The words that a command takes."""
+    words = Words(allow_abbrev=False, add_help=False)
+    ways = words.add_mutually_exclusive_group()
+    if command not in ("verify-consistency", "join"):
+        ways.add_argument("--blocks", type=number(1, MOST_BYTES))
+    if "FILE" in INPUTS.get(command, []):
+        ways.add_argument("--whole-lines", action="store_true")
+        ways.add_argument("--partial", action="store_true")
+    if command == "verify":
+        ways.add_argument("--raw", action="store_true")
+    if command in ("seal", "join"):
+        names = words.add_mutually_exclusive_group()
+        names.add_argument("--origin")
+    if command == "seal":
+        names.add_argument("--part", action="store_true")
+    for name in INPUTS.get(command, []):
+        words.add_argument(name)
+    if command == "join":
+        words.add_argument("PART", nargs="+")
+    if command in ("prove", "verify"):
+        words.add_argument("NUMBER", nargs="+" if command == "prove" else "*", type=number(1, LAST))
+    return words
+
+
+def command_of(words):
+    """A command and its words, if it can be run."""
+    if not words or words[0] not in COMMANDS:
+        raise Refused(2, None, "no command")
+    command, told = words[0], words_of(words[0]).parse_args(words[1:])
+    if command == "seal" and told.origin is None:
+        name = "stdin" if told.FILE == "-" else os.path.basename(told.FILE)
+        told.origin = PART.decode() if told.part else f"localhost/{name}"
+    names = getattr(told, "PART", []) + [getattr(told, name) for name in INPUTS.get(command, [])]
+    if names.count("-") > 1 or (command == "join" and told.origin is None):
+        raise Refused(2, None, "standard input twice, or no origin")
+    if command in ("seal", "join") and not log_texts.is_origin(told.origin.encode()):
+        raise Refused(2, None, "no origin")
+    if command == "verify" and ((told.blocks and not told.NUMBER) or (told.raw and len(told.NUMBER) != 1)):
+        raise Refused(2, None, "no numbers, or too many")
+    return command, told
+
+
+class Inputs:
+    """The bytes of files by their names; none where one can't be read."""
+
+    def __init__(self, contents):
+        self.contents = contents
+
+    def bytes(self, name):
+        data = self.contents(name)
+        if data is None:
+            raise Refused(2, name, "")
+        return data
+
+    @staticmethod
+    def read(status, name, data, reading, where=""):
+        """What a text says."""
+        try:
+            return reading(data)
+        except log_texts.Wrong as wrong:
+            raise Refused(status, name, f"line {wrong.args[0]}{where}: expected ") from None
+
+    def checkpoint(self, name):
+        return self.read(2, name, self.bytes(name), log_texts.checkpoint)
+
+
+def refuse_if(condition, name, why):
+    if condition:
+        raise Refused(1, name, why)
+
+
+def entries_of(told, data, limit):
+    """The entries of a file, up to a limit, or all."""
+    cut = told.blocks or ("include" if told.partial else "leave-out" if told.whole_lines else "refuse")
+    found, is_refused = log_files.entries_of(str(cut), data)
+    refuse_if(is_refused and (limit is None or len(found) < limit), told.FILE, "ends inside a line")
+    return found[:limit]
+
+
+def tree_under(told, data, size, root):
+    """The tree of the entries of a checkpoint, and these."""
+    found = entries_of(told, data, size)
+    refuse_if(len(found) < size, told.FILE, f"it has {len(found)} of the {size} entries of the checkpoint")
+    log = logs.Log(found)
+    refuse_if(log.root(0, size) != root, told.FILE, "its entries are not those of the checkpoint")
+    return log, found
+
+
+def seal(told, inputs):
+    found = entries_of(told, inputs.bytes(told.FILE), None)
+    return checkpoint_text(told.origin.encode(), len(found), logs.Log(found).root(0, len(found)))
+
+
+def prove(told, inputs):
+    _, size, root = inputs.checkpoint(told.CHECKPOINT)
+    for name in told.NUMBER:
+        refuse_if(name > size, told.CHECKPOINT, f"it has {size} entries, and no entry {name}")
+    log, found = tree_under(told, inputs.bytes(told.FILE), size, root)
+    nodes = sorted(logs.entry_nodes([name - 1 for name in told.NUMBER], 0, size))
+    digests = [log.root(first, last) for _, _, first, last in nodes]
+    return entries_text([(name, found[name - 1]) for name in told.NUMBER], digests)
+
+
+def is_printable(told, size, name, data):
+    if told.blocks:
+        return 1 <= len(data) <= told.blocks if name == size else len(data) == told.blocks
+    return told.raw or b"\n" not in data
+
+
+def verify(told, inputs):
+    text, proof = inputs.bytes(told.CHECKPOINT), inputs.bytes(told.PROOF)
+    _, size, root = inputs.read(2, told.CHECKPOINT, text, log_texts.checkpoint)
+    found, digests = inputs.read(1, told.PROOF, proof, log_texts.entries)
+    names = [name for name, _ in found]
+    others = "its entries are not the requested ones, in their order"
+    refuse_if(told.NUMBER and names != told.NUMBER, told.PROOF, others)
+    for name, data in found:
+        why = f"entry {name}: no line, or no block of this size"
+        refuse_if(not is_printable(told, size, name, data), told.PROOF, why)
+    leaves = [logs.leaf_hash(data) for _, data in found]
+    verdict = logs.entries(size, [name - 1 for name in names], leaves, digests, root)
+    refuse_if(verdict != "accepted", told.PROOF, verdict)
+    end = b"" if told.blocks or told.raw else b"\n"
+    return b"".join((b"" if told.NUMBER else b"%d\t" % name) + data + end for name, data in found)
+
+
+def compare(name, old, new):
+    """Refuses a new checkpoint that does not follow an old one."""
+    refuse_if(old[0] != new[0], name, "its origin is not that of the old checkpoint")
+    refuse_if(old[1] > new[1], name, f"it has {new[1]} entries, fewer than the {old[1]} of the old checkpoint")
+    refuse_if(old[1] == new[1] and old[2] != new[2], name, "two histories of one log, with one size and different "
+              "roots: keep both checkpoints as evidence")
+
+
+def prove_consistency(told, inputs):
+    texts = [inputs.bytes(name) for name in (told.OLD, told.NEW)]
+    old, new = (inputs.read(2, name, text, log_texts.checkpoint) for name, text in zip((told.OLD, told.NEW), texts))
+    compare(told.NEW, old, new)
+    log, _ = tree_under(told, inputs.bytes(told.FILE), *new[1:])
+    refuse_if(log.root(0, old[1]) != old[2], told.FILE, "its first entries are not those of the old checkpoint")
+    digests = log.subproof(old[1], 0, new[1], True) if old[1] else []
+    return consistency_text(old[1], digests, texts[1])
+
+
+def verify_consistency(told, inputs):
+    text, proof = inputs.bytes(told.OLD), inputs.bytes(told.PROOF)
+    old = inputs.read(2, told.OLD, text, log_texts.checkpoint)
+    size, digests, next_text = inputs.read(1, told.PROOF, proof, log_texts.consistency)
+    refuse_if(size != old[1], told.PROOF, f"it is a proof from {size} entries, and the old checkpoint has {old[1]}")
+    new = inputs.read(1, told.PROOF, next_text, log_texts.checkpoint, " of its checkpoint")
+    compare(told.PROOF, old, new)
+    verdict = logs.consistency(old[1], new[1], digests, old[2], new[2])
+    refuse_if(verdict != logs.ACCEPTED, told.PROOF, f"the proof {REASONS.get(verdict)}")
+    return next_text
+
+
+def join(told, inputs):
+    texts = [inputs.bytes(name) for name in told.PART]
+    parts = [inputs.read(2, name, text, lambda text: log_texts.checkpoint(text, True))
+             for name, text in zip(told.PART, texts)]
+    sizes = [size for _, size, _ in parts]
+    for at, (name, size) in enumerate(zip(told.PART, sizes)):
+        fits = 1 <= size <= sizes[0] if at + 1 == len(sizes) else size == sizes[0] and size.bit_count() == 1
+        refuse_if(not fits, name, f"{size} entries: all parts have one size, a power of two ({sizes[0]} in the first), "
+                  "the last may have fewer")
+    refuse_if(sum(sizes) > logs.MOST, told.PART[0], "more than 2^62 entries")
+    whole = logs.Log([])
+    whole.leaves = [root for _, _, root in parts]
+    return checkpoint_text(told.origin.encode(), sum(sizes), whole.root(0, len(parts)))
+
+
+ANSWERS = {"seal": seal, "prove": prove, "verify": verify, "join": join}
+ANSWERS |= {"prove-consistency": prove_consistency, "verify-consistency": verify_consistency}
+
+
+def answer(words, contents):
+    """What a command answers; `contents` tells the bytes of a file by its name."""
+    try:
+        command, told = command_of(words)
+        return Answer(0, ANSWERS[command](told, Inputs(contents)))
+    except Refused as refused:
+        return Answer(refused.status, b"", refused)
+
+
+def bytes_of(name):
+    """The bytes of a file; none where it can't be read."""
+    try:
+        return sys.stdin.buffer.read() if name == "-" else open(name, "rb").read()
+    except OSError:
+        return None
+
+
+def main():
+    found = answer(sys.argv[1:], bytes_of)
+    if found.refused:
+        print(found.refused.line, file=sys.stderr)
+    sys.stdout.buffer.write(found.printed)
+    sys.exit(found.status)
+
+
+if __name__ == "__main__":
+    main()
