@@ -16,10 +16,10 @@ TABLES = [
     for arity in ("2", "4", "8")
     for action in (["commit"], ["open", "3", "0", "3"], ["check", "3", "0", "3"])
 ]
-# Short lines, an empty one, one of two blocks of SHA-256, and one that ends with the file; of seventeen blocks.
-FILES = {"lines": b"one\ntwo\n\n" + 100 * b"x" + b"\nlast", "blocks": bytes(range(133))}
-# Their first three entries, each as a part of a file.
-PARTS = {"lines": [b"one\n", b"two\n", b"\n"], "blocks": [bytes(range(i, i + 8)) for i in (0, 8, 16)]}
+# Short lines, an empty one, one of two blocks of SHA-256 and a last one of a byte; and blocks.
+FILES = {"lines": b"one\ntwo\n\n" + 100 * b"x" + b"\nl\n", "blocks": bytes(range(37))}
+# Their first four entries, two in each of two parts.
+PARTS = {"lines": [b"one\ntwo\n", b"\n" + 100 * b"x" + b"\n"], "blocks": [bytes(range(16)), bytes(range(16, 32))]}
 # Questions about logs, which are answered by recursion, by a tree that grows and by composed proofs; and about proofs
 # of several entries, which are made, accepted, refused for two leaf hashes of one entry or for another root, or show a
 # collision.
@@ -34,7 +34,7 @@ QUESTIONS = {
         "weak 8 5,3,5 59,68,59 6,132,207,159",
     ),
 }
-SEALED = {"lines": ["--label", "a"], "blocks": ["--blocks", "8", "--cap-height", "1"]}
+CUTS = {"lines": [], "blocks": ["--blocks", "8"]}
 # What a run says that has no memory, and its status.
 OUT_OF_MEMORY = {
     "mmcs": [(1, b"", b"out of memory\n")],
@@ -99,35 +99,26 @@ class Trials:
 
 
 def files_of(trials):
-    """The commands of files, once these are written."""
-    for kind, options in SEALED.items():
-        for arity in ("2", "4", "8"):
-            file, seal, proof = (f"{name}-{kind}-{arity}" for name in ("file", "seal", "proof"))
-            trials.write(file, FILES[kind])
-            sealing = ["seal", "--arity", arity, *options, file]
-            trials.write(seal, trials.answer(sealing))
-            trials.write(proof, trials.answer(["prove", seal, file, "4", "1", "4"]))
-            yield sealing
-            yield ["prove", seal, file, "4", "1", "4"]
-            yield ["verify", seal, proof, "4", "1", "4"]
-            yield ["conflict", seal, proof, proof]
-            yield from grown_of(trials, kind, arity, [file, seal, proof])
-
-
-def grown_of(trials, kind, arity, later):
-    """The commands of a file that has grown from its first entries, and of the seals of these entries."""
-    file, seal, proof = later
-    parts = [(f"part-{kind}-{arity}-{number}", part) for number, part in enumerate(PARTS[kind])]
-    for name, part in [*parts, (f"old-{file}", b"".join(PARTS[kind]))]:
-        trials.write(name, part)
-        trials.write(f"{name}.seal", trials.answer(["seal", "--arity", arity, *SEALED[kind], name]))
-    old, before, consistency = f"old-{file}.seal", f"old-{proof}", f"consistency-{kind}-{arity}"
-    trials.write(before, trials.answer(["prove", old, f"old-{file}", "3", "1"]))
-    trials.write(consistency, trials.answer(["prove-consistency", old, seal, file]))
-    yield ["prove-consistency", old, seal, file]
-    yield ["verify-consistency", old, seal, consistency]
-    yield ["conflict", old, seal, consistency, before, proof]
-    yield ["join", *(f"{name}.seal" for name, _ in parts)]
+    """The commands of files, once these and what the commands read are written."""
+    for kind, cut in CUTS.items():
+        names = [f"{name}-{kind}" for name in ("file", "old", "new", "proof", "growth", "part0", "part1")]
+        file, old, new, proof, growth, *parts = names
+        trials.write(file, FILES[kind])
+        for name, data in [(old, b"".join(PARTS[kind])), *zip(parts, PARTS[kind])]:
+            trials.write("begun", data)
+            trials.write(name, trials.answer(["seal", *cut, "--part" if name in parts else "--origin=a", "begun"]))
+        seal, prove = ["seal", "--origin", "a", *cut, file], ["prove", *cut, new, file, "4", "1", "4"]
+        trials.write(new, trials.answer(seal))
+        trials.write(proof, trials.answer(prove))
+        trials.write(growth, trials.answer(["prove-consistency", *cut, old, new, file]))
+        yield seal
+        yield prove
+        yield ["verify", *cut, new, proof, "4", "1", "4"]
+        yield ["prove-consistency", *cut, old, new, file]
+        yield ["verify-consistency", old, growth]
+        yield ["join", "--origin", "a", *parts]
+    yield ["seal", "file-lines"]
+    yield ["verify", "new-lines", "proof-lines"]
 
 
 def try_all(trials, commands):
