@@ -1,5 +1,5 @@
 -- Proofs of entries are accepted, and stay as they are.
-use Rattle.std.proofs.Common.{◌≡◌, ◌≤◌, ◌<◌, ◌-◌, ◌==◌, ◌∙◌, ℕ, List, [], ◌∷◌, ◌++◌, ap, arith, get_or, length, length-append}
+use Rattle.std.proofs.Common.{◌≡◌, ◌≤◌, ◌<◌, ◌-◌, ◌∙◌, ℕ, List, [], ◌∷◌, ◌++◌, ap, arith, get_or, length, length-append}
 use Rattle.std.proofs.Common.{map, refl, subst, sym, take, None, Some, Ok, Option}
 use Rattle.std.specs.Prelude.{◌^◌, Bool, true, is_some, All}
 use Rattle.std.specs.Cmp.Lexicographic.{bytes_decides}
@@ -23,23 +23,22 @@ use Rattle.log_text.specs.Texts.{entries_text, CheckpointFields, EntriesFields, 
 use Rattle.log_text.specs.Texts.{IsEntry}
 use Rattle.log_text.proofs.EntriesFacts.{entries_proofs}
 use Rattle.log_text.proofs.NoteLaws.{notes}
-use Rattle.log_files.specs.Entries.{entries_in, entry_at, IsCut}
+use Rattle.log_files.specs.Entries.{entries_in, entry_at}
 use Rattle.log_files.specs.declared.cut.Cut.{Cut}
 use Rattle.log_commands.specs.Commands.{prove_file, AreNumbers}
-use Rattle.log_commands.specs.Laws.{printed_of, AreRequested, BeginsWith, CanSay, FitsCut, IsCheckpointOf}
+use Rattle.log_commands.specs.Laws.{printed_of, AreRequested, CanSay}
 use Rattle.log_commands.specs.Laws.{ProofsAreAccepted, ProofsAreProved, ProofsStay}
 use Rattle.log_commands.specs.Errors.{entries_error}
 use Rattle.log_commands.specs.Outcomes.{and_then, checkpoint_of, entries_under, entry_refusal, number_refusal}
 use Rattle.log_commands.specs.Outcomes.{numbers_refusal, printed, proof_over, proof_refusal, prove_under, requested}
-use Rattle.log_commands.specs.Outcomes.{is_printable, said_by, verify_outcome}
-use Rattle.log_commands.specs.declared.error.Error.{Error}
+use Rattle.log_commands.specs.Outcomes.{is_printable, said_by}
 use Rattle.log_commands.specs.declared.error.Source.TheVariants.{Checkpoint, Proof}
 use Rattle.log_commands.specs.declared.verify.Print.{Print}
 use Rattle.log_commands.proofs.DigestFacts.{digest_is, root_is}
 use Rattle.log_commands.proofs.LawFacts.{said, stepped, unrefused}
 use Rattle.log_commands.proofs.PrintFacts.{prints}
 use Rattle.log_commands.proofs.ProveFacts.{numbers_inside, within_size}
-use Rattle.log_commands.proofs.UnderFacts.{are_under, first_under, under_first, AreUnder}
+use Rattle.log_commands.proofs.UnderFacts.{are_under, first_under, under_first}
 
 -- nothing is refused of each
 none_of : {X E : Type 0} (h : X → Option E) (xs : List X) → All (λ x. h x ≡ None) xs → first_of h xs ≡ None
@@ -73,8 +72,7 @@ is_proved cut checkpoint file numbers proof is =
     let inside = unrefused (first_of (number_refusal text.0.size) numbers) text.0 c text.2 in
     let last = stepped (entries_under cut c file) (λ entries. Ok (entries_text (proof_over entries numbers))) proof
     first.2 in
-    let same : entries_text (proof_over last.0 numbers) ≡ proof = cc in
-    (
+    let same : entries_text (proof_over last.0 numbers) ≡ proof = cc in (
       c,
       last.0,
       record {
@@ -98,8 +96,7 @@ proves cut checkpoint file numbers c entries said_is inside read =
 
 pub proofs_are_proved : ProofsAreProved
 proofs_are_proved cut origin checkpoint file first numbers said_is begins inside =
-    let found = (notes checkpoint (checkpoint_of origin first)).0 said_is in
-    (
+    let found = (notes checkpoint (checkpoint_of origin first)).0 said_is in (
       entries_text (proof_over first numbers),
       proves cut checkpoint file numbers (checkpoint_of origin first) first said_is
           (numbers_pass (length first) numbers inside)

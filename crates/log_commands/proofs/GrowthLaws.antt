@@ -1,10 +1,9 @@
 -- Growth is proved, and its proofs are accepted.
-use Rattle.std.proofs.Common.{◌≡◌, ◌≤◌, ◌<◌, ◌+◌, ◌^◌, ◌==◌, ◌∙◌, ℕ, List, [], ◌∷◌, ◌++◌, ap, arith, drop, eq-eqb, inl}
-use Rattle.std.proofs.Common.{inr, length, length-append, refl, sym, subst, take, None, Some, Ok, Err, Option, Result}
-use Rattle.std.specs.Prelude.{◌||◌, not, Bool, true, false, nat_le, IsOk}
+use Rattle.std.proofs.Common.{◌≡◌, ◌≤◌, ◌<◌, ◌==◌, ◌∙◌, ℕ, List, [], ◌∷◌, ◌++◌, ap, arith, eq-eqb, inl}
+use Rattle.std.proofs.Common.{inr, length, length-append, refl, sym, subst, take, None, Some, Ok, Err, Option}
+use Rattle.std.specs.Prelude.{◌||◌, not, true, nat_le}
 use Rattle.std.specs.Cmp.Lexicographic.{bytes_decides}
 use Rattle.std.specs.Option.{option_map}
-use Rattle.std.specs.Result.{result_err}
 use Rattle.std.proofs.lemmas.Bool.{cases_eq, le-leb, leb-true, ne_eqb, true≢false}
 use Rattle.std.proofs.lemmas.List.{append-nil, nil_from_length, take_at}
 use Rattle.std.proofs.lemmas.List.Elements.{All-nil}
@@ -19,13 +18,10 @@ use Rattle.log_text.specs.Reading.{checkpoint_in, consistency_in}
 use Rattle.log_text.specs.Texts.{consistency_text, CheckpointFields, ConsistencyFields, IsConsistencyProof, IsDigest}
 use Rattle.log_text.proofs.ConsistencyFacts.{consistency_proofs}
 use Rattle.log_text.proofs.NoteLaws.{notes}
-use Rattle.log_files.specs.Entries.{entries_in, first_of as first_entries, is_refused}
-use Rattle.log_files.specs.declared.cut.Cut.{Cut}
-use Rattle.log_commands.specs.Commands.{prove_file_growth}
-use Rattle.log_commands.specs.Laws.{BeginsWith, GrowthIsAccepted, GrowthIsProved, IsCheckpointOf}
-use Rattle.log_commands.specs.Outcomes.{and_then, checkpoint_of, compared, consistency_refused, entries_read}
+use Rattle.log_commands.specs.Laws.{GrowthIsAccepted, GrowthIsProved}
+use Rattle.log_commands.specs.Outcomes.{and_then, checkpoint_of, compared, consistency_refused}
 use Rattle.log_commands.specs.Outcomes.{entries_under, growth_digests, growth_refusal, growth_text, old_size_refusal}
-use Rattle.log_commands.specs.Outcomes.{prove_growth, said_by, said_inside, tree_refusal, verify_consistency_outcome}
+use Rattle.log_commands.specs.Outcomes.{prove_growth, said_by, said_inside, verify_consistency_outcome}
 use Rattle.log_commands.specs.declared.error.Error.TheVariants.{Refused}
 use Rattle.log_commands.specs.declared.error.Refusal.TheVariants.{Consistency, OtherOldEntries, OtherOldSize}
 use Rattle.log_commands.specs.declared.error.Source.{Source}
@@ -213,8 +209,7 @@ growth_is_proved cut origin old new file first more old_is new_is begins =
     ap (λ r. and_then (said_by Old r) (λ a. and_then (said_by New (checkpoint_in new)) (λ b.
     ok_unless (growth_refusal New a b) (a, b)))) old_is
     ∙ ap (λ r. and_then (said_by New r) (λ b. ok_unless (growth_refusal New o b) (o, b))) new_is
-    ∙ ap (λ r. ok_unless r (o, n)) (follows origin first more) in
-    (
+    ∙ ap (λ r. ok_unless r (o, n)) (follows origin first more) in (
       proof,
       ap (λ r. and_then r (λ (a, b). prove_growth cut a b new file)) both
           ∙ ap (λ r. and_then r (growth_text o n new)) (first_under cut origin file all begins small)

@@ -1,15 +1,15 @@
 -- The parts of a file: their sizes, and the root of their roots.
-use Rattle.std.proofs.Common.{◌≡◌, ◌≤◌, ◌<◌, ◌+◌, ◌*◌, ◌/◌, ◌^◌, ◌==◌, ◌∙◌, ℕ, zero, suc, List, [], ◌∷◌, ◌++◌, ap, arith}
+use Rattle.std.proofs.Common.{◌≡◌, ◌≤◌, ◌<◌, ◌+◌, ◌/◌, ◌^◌, ◌==◌, ◌∙◌, ℕ, zero, suc, List, [], ◌∷◌, ◌++◌, ap, arith}
 use Rattle.std.proofs.Common.{eq-eqb, get_or, inl, inr, length, map, refl, subst, sym, append-nil, None, length-append}
-use Rattle.std.specs.Prelude.{◌&&◌, true, false, nat_le}
+use Rattle.std.specs.Prelude.{true, false, nat_le}
 use Rattle.std.specs.Int.{is_power_of_two}
-use Rattle.std.specs.List.{flat_map, range_with_len}
+use Rattle.std.specs.List.{flat_map}
 use Rattle.std.proofs.lemmas.Bool.{and_from, and_parts, cases_eq, eqb-true, le-leb, leb-true, ne_eqb}
 use Rattle.std.proofs.lemmas.Bool.Decides.{eqb_tells}
 use Rattle.std.proofs.lemmas.Nat.{ones_le_self, pow_pos}
 use Rattle.std.proofs.Math.Nat.{pow-succ'}
 use Rattle.p3_merkle_core.proofs.Shapes.LeastFacts.{n_below_pow}
-use Rattle.tlog.specs.Rfc9162.{Hash, mth, mth_within, node_hash}
+use Rattle.tlog.specs.Rfc9162.{Hash, mth_within, node_hash}
 use Rattle.tlog.proofs.Bits.{power_of_double, power_of_odd, power_of_one}
 use Rattle.tlog.proofs.Layers.{above, itself, length-above, mth_above}
 use Rattle.tlog_tree.specs.Trees.{leaves_root}
@@ -62,8 +62,8 @@ have_size size (x ∷ []) each = let part = each 0 (omega arith) in part.last re
 have_size size (x ∷ y ∷ sizes) each = (
   (let part = each 0 (omega arith) in part.other (omega arith)),
   have_size size (y ∷ sizes) (λ k within.
-  let part = each (suc k) (omega arith) in
-  record { last = λ is. part.last (omega arith); other = λ is. part.other (omega arith) }),
+      let part = each (suc k) (omega arith) in
+      record { last = λ is. part.last (omega arith); other = λ is. part.other (omega arith) }),
 )
 
 parts_have : (size : ℕ) (sizes : List ℕ) (k : ℕ) → HaveSize size sizes → k < length sizes → IsPart size sizes k

@@ -1,12 +1,12 @@
 -- The parts of a file are joined to what seal prints of the whole file.
-use Rattle.std.proofs.Common.{◌≡◌, ◌≤◌, ◌<◌, ◌+◌, ◌^◌, ◌∙◌, ℕ, List, [], ◌∷◌, ◌++◌, ap, arith, length, map, refl, subst}
+use Rattle.std.proofs.Common.{◌≡◌, ◌≤◌, ◌+◌, ◌^◌, ◌∙◌, ℕ, List, [], ◌∷◌, ◌++◌, ap, arith, length, map, refl, subst}
 use Rattle.std.proofs.Common.{sym, append-nil, length-append, None, Ok}
 use Rattle.std.specs.Prelude.{true, false, nat_le}
 use Rattle.std.specs.List.{concat, flat_map, sum}
 use Rattle.std.proofs.lemmas.Bool.{le-leb}
 use Rattle.std.proofs.lemmas.List.{length-map, map-append}
 use Rattle.std.proofs.lemmas.List.Sums.{sum_by-cons}
-use Rattle.p3_merkle_core.specs.Refusals.{first_some, ok_unless, unless}
+use Rattle.p3_merkle_core.specs.Refusals.{ok_unless}
 use Rattle.sha2.specs.Sha256.{sha256}
 use Rattle.tlog.specs.Rfc9162.{leaf_hash, root_of}
 use Rattle.tlog.specs.Verdicts.{size_limit}
@@ -19,8 +19,8 @@ use Rattle.log_text.proofs.LineFacts.{part_is_origin}
 use Rattle.log_files.specs.Entries.{entries_in, is_refused, IsCut}
 use Rattle.log_files.specs.declared.cut.Cut.{Cut}
 use Rattle.log_commands.specs.Laws.{AreSealed, EndWithEntries, HaveSize, PartsJoin}
-use Rattle.log_commands.specs.Outcomes.{and_then, checkpoint_of, entries_read, join_outcome, join_refusal, joined}
-use Rattle.log_commands.specs.Outcomes.{parts_in, said_by, seal_outcome, sizes_refusal}
+use Rattle.log_commands.specs.Outcomes.{and_then, checkpoint_of, join_refusal, joined}
+use Rattle.log_commands.specs.Outcomes.{parts_in, said_by, sizes_refusal}
 use Rattle.log_commands.specs.declared.error.Source.TheVariants.{Part}
 use Rattle.log_commands.proofs.FileFacts.{read_ok}
 use Rattle.log_commands.proofs.FileLaws.{entries_of_all, nothing_refused, rest_of_two}
@@ -137,8 +137,7 @@ parts_join origin cut files texts text is are end = (
       (ap (λ fields. map (λ (p : ℕ × List ℕ). p.0) fields) same ∙ sizes_say cut is files) sizes.1 in
       let few : length (entries_in cut (concat files)) ≤ size_limit =
       subst (λ n. n ≤ size_limit)
-      (ap (λ fields. sum (map (λ (p : ℕ × List ℕ). p.0) fields)) same ∙ size_is cut is files end) j.few in
-      (
+      (ap (λ fields. sum (map (λ (p : ℕ × List ℕ). p.0) fields)) same ∙ size_is cut is files end) j.few in (
         (sizes.0, have),
         ap (λ r. and_then r (λ entries. Ok (checkpoint_text (checkpoint_of origin entries))))
             (read_ok cut None (concat files) few (whole cut is files texts are end))

@@ -1,7 +1,7 @@
 -- The entries of a file can be printed as it is cut.
-use Rattle.std.proofs.Common.{◌≡◌, ◌≤◌, ◌<◌, ◌+◌, ◌-◌, ◌*◌, ◌/◌, ◌==◌, ◌∙◌, ℕ, zero, suc, List, [], ◌∷◌, ◌++◌, ap, arith}
-use Rattle.std.proofs.Common.{drop, get_or, inl, inr, length, map, refl, sym, subst, take, length-append, length-drop}
-use Rattle.std.specs.Prelude.{◌&&◌, if◌then◌else◌, not, Bool, true, false, nat_le, nat_lt, All}
+use Rattle.std.proofs.Common.{◌≡◌, ◌≤◌, ◌<◌, ◌+◌, ◌-◌, ◌*◌, ◌/◌, ◌==◌, ◌∙◌, ℕ, List, [], ◌∷◌, ◌++◌, ap, arith}
+use Rattle.std.proofs.Common.{drop, inl, inr, length, map, refl, sym, subst, length-append, length-drop}
+use Rattle.std.specs.Prelude.{if◌then◌else◌, not, Bool, true, false, nat_le, All}
 use Rattle.std.specs.List.{list_all, onto_first, range_with_len}
 use Rattle.std.proofs.lemmas.Bool.{and_from, cases_Bool, cases_eq, cases_lt, eq-eqb, le-leb, ne_eqb}
 use Rattle.std.proofs.lemmas.List.{get_or-append_right, get_or_append_left, length-take}
@@ -9,9 +9,8 @@ use Rattle.std.proofs.lemmas.List.Elements.{All-append, All-cons, All-get_or, Al
 use Rattle.std.proofs.lemmas.List.FromFn.{get_or-map-range_with_len, length-map-range_with_len}
 use Rattle.std.proofs.lemmas.List.Splits.{slice_split-cons_no, slice_split-cons_yes}
 use Rattle.std.proofs.Math.Nat.{div-mul-le_self, lt-mul-div-succ, mul-le-mul_right}
-use Rattle.log_text.specs.Texts.{EntryFields}
 use Rattle.log_files.specs.Entries.{all_but_last, block_of, entries_in, entry_at, last_entry, last_of, pieces_of}
-use Rattle.log_files.specs.Entries.{rest_of, whole_entries, IsCut}
+use Rattle.log_files.specs.Entries.{IsCut}
 use Rattle.log_files.specs.declared.cut.Cut.{Cut}
 use Rattle.log_files.specs.declared.cut.Cut.TheVariants.{Blocks as InBlocks, Lines as InLines}
 use Rattle.log_files.specs.declared.cut.PartialLine.{PartialLine}

@@ -1,6 +1,6 @@
 -- What seal and join print is read again.
-use Rattle.std.proofs.Common.{◌≡◌, ◌≤◌, ◌∙◌, ◌+◌, ℕ, List, [], ◌∷◌, ap, length, map, refl, subst, sym, None, Some, Ok}
-use Rattle.std.specs.Prelude.{true, false, nat_le, All}
+use Rattle.std.proofs.Common.{◌≡◌, ◌≤◌, ◌∙◌, ◌+◌, ℕ, List, [], ◌∷◌, ap, length, map, subst, sym, None, Ok}
+use Rattle.std.specs.Prelude.{false, nat_le, All}
 use Rattle.std.specs.List.{sum}
 use Rattle.std.proofs.lemmas.Bool.{leb-true}
 use Rattle.std.proofs.lemmas.List.Elements.{All-cons, All-map, All-nil}
@@ -8,9 +8,8 @@ use Rattle.p3_merkle_core.specs.Refusals.{ok_unless, unless}
 use Rattle.sha2.specs.Sha256.{sha256}
 use Rattle.tlog.specs.Verdicts.{size_limit}
 use Rattle.tlog_tree.specs.Trees.{leaves_root}
-use Rattle.log_text.specs.Lines.{is_origin}
 use Rattle.log_text.specs.Reading.{part_in}
-use Rattle.log_text.specs.Texts.{checkpoint_text, CheckpointFields, IsDigest}
+use Rattle.log_text.specs.Texts.{checkpoint_text, IsDigest}
 use Rattle.log_text.proofs.NoteLaws.{parts, read_again}
 use Rattle.log_files.specs.Entries.{entries_in, is_refused}
 use Rattle.log_files.specs.declared.cut.Cut.{Cut}
@@ -68,8 +67,7 @@ is_joined origin texts text is =
     let sizes = map (λ (p : ℕ × List ℕ). p.0) fields in
     let unrefused_is = unrefused (join_refusal sizes) (checkpoint_text (joined origin fields)) text found.2 in
     let fit = or_none (sizes_refusal sizes) _ unrefused_is.0 in
-    let few = or_none (unless (nat_le (sum sizes) size_limit) _) None fit.1 in
-    (
+    let few = or_none (unless (nat_le (sum sizes) size_limit) _) None fit.1 in (
       fields,
       record {
         fields_are = found.1;
@@ -103,8 +101,7 @@ joins_read origin texts text is done =
     let roots = map (λ (p : ℕ × List ℕ). p.1) fields in
     let root : IsDigest (leaves_root sha256 roots) =
     root_is (λ (leaf : List ℕ). leaf) roots
-    (All-map IsDigest (λ (p : ℕ × List ℕ). p.1) fields (parts_roots 0 texts fields j.fields_are)) in
-    (
+    (All-map IsDigest (λ (p : ℕ × List ℕ). p.1) fields (parts_roots 0 texts fields j.fields_are)) in (
       fields,
       j.fields_are,
       subst (λ t. Says t (joined origin fields)) (sym j.text_is)

@@ -1,5 +1,5 @@
 -- The entries of a file under a checkpoint.
-use Rattle.std.proofs.Common.{◌≡◌, ◌≤◌, ◌<◌, ◌==◌, ◌∙◌, ℕ, List, [], ◌∷◌, ◌++◌, ap, arith, eq-eqb, length, refl, subst, sym}
+use Rattle.std.proofs.Common.{◌≡◌, ◌≤◌, ◌==◌, ◌∙◌, ℕ, List, [], ◌∷◌, ap, arith, eq-eqb, length, refl, sym}
 use Rattle.std.proofs.Common.{take, None, Some, Ok}
 use Rattle.std.specs.Prelude.{◌&&◌, not, Bool, true, false, nat_lt}
 use Rattle.std.specs.Cmp.Lexicographic.{bytes_decides}
