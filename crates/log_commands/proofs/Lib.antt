@@ -1,3 +1,4 @@
+pub mod CollisionFacts
 pub mod FileFacts
 pub mod GrowthFacts
 pub mod InputFacts
