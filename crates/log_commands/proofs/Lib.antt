@@ -1,3 +1,4 @@
+pub mod CollisionFacts
 pub mod DigestFacts
 pub mod EntryLaws
 pub mod FileFacts

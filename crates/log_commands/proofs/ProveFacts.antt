@@ -36,11 +36,11 @@ use Rattle.log_commands.specs.declared.error.Source.TheVariants.{File}
 
 -- ---- entries under a checkpoint are as many as it has
 
-ok_none : {V E : Type 0} (r : Option E) (v w : V) → ok_unless r v ≡ Ok w → (r ≡ None) × (v ≡ w)
+pub ok_none : {V E : Type 0} (r : Option E) (v w : V) → ok_unless r v ≡ Ok w → (r ≡ None) × (v ≡ w)
 ok_none None v w is = (refl, cc)
 ok_none (Some e) v w is = cc
 
-none_first : {E : Type 0} (b : Bool) (e : E) (rest : Option E) → option_or (unless b e) rest ≡ None → b ≡ true
+pub none_first : {E : Type 0} (b : Bool) (e : E) (rest : Option E) → option_or (unless b e) rest ≡ None → b ≡ true
 none_first true e rest is = refl
 none_first false e rest is = cc
 
@@ -58,7 +58,7 @@ pub under_size : (cut : Cut) (c : CheckpointFields) (input : Option (List ℕ)) 
 under_size cut c None entries is = cc
 under_size cut c (Some bytes) entries is = by_read c (entries_read cut (Some c.size) bytes) entries is
 
-none_rest : {E : Type 0} (b : Bool) (e : E) (rest : Option E) → option_or (unless b e) rest ≡ None → rest ≡ None
+pub none_rest : {E : Type 0} (b : Bool) (e : E) (rest : Option E) → option_or (unless b e) rest ≡ None → rest ≡ None
 none_rest true e rest is = is
 none_rest false e rest is = cc
 
@@ -169,7 +169,7 @@ no_memory view known F result e is memory = rw is (None, tt, inl memory)
 
 -- ---- the size of a checkpoint
 
-said_ok : {V : Type 0} (source : Source) (r : Result V TextError) (v : V) → said_by source r ≡ Ok v → r ≡ Ok v
+pub said_ok : {V : Type 0} (source : Source) (r : Result V TextError) (v : V) → said_by source r ≡ Ok v → r ≡ Ok v
 said_ok source (Ok w) v is = let same : w ≡ v = cc in ap Ok same
 said_ok source (Err e) v is = cc
 

@@ -1,19 +1,23 @@
 -- Definitions that only proofs and internal calls use.
-use Rattle.std.specs.Prelude.{◌≡◌, ◌⊎◌, ℕ, List, map, MatchResult, Result, Ok, Err}
+use Rattle.std.specs.Prelude.{◌≡◌, ◌⊎◌, ℕ, ◌-◌, ◌≤◌, List, length, map, All, MatchResult, None, Result, Ok, Err}
 use Rattle.sha2.specs.Sha256.{sha256}
-use Rattle.tlog.specs.Rfc9162.{leaf_hash}
+use Rattle.tlog.specs.Rfc9162.{leaf_hash, root_of}
 use Rattle.tlog_tree.specs.Builders.{IsBuilderOf}
-use Rattle.log_text.specs.Texts.{EntryFields}
-use Rattle.log_files.specs.Entries.{wanted_of}
+use Rattle.tlog_entries.specs.Entries.{entries_refusal}
+use Rattle.log_text.specs.Reading.{checkpoint_in}
+use Rattle.log_text.specs.Texts.{EntriesFields, EntryFields}
+use Rattle.log_files.specs.Entries.{entry_at, wanted_of}
+use Rattle.log_files.specs.declared.cut.Cut.{Cut}
 use Rattle.log_files.specs.declared.error.ReadError.{ReadError}
 use Rattle.log_files.specs.declared.error.ReadError.TheVariants.{EndsInsideLine, OutOfMemory as NoFileMemory}
 use Rattle.log_files.specs.declared.error.ReadError.TheVariants.{Read as FailedRead, TooManyEntries}
 use Rattle.log_files.specs.declared.reading.ReadLog.{ReadLog}
-use Rattle.log_commands.specs.Outcomes.{bytes_in}
+use Rattle.log_commands.specs.Outcomes.{and_then, bytes_in, entries_under, said_by}
 use Rattle.log_commands.specs.declared.error.Error.{Error}
 use Rattle.log_commands.specs.declared.error.Error.TheVariants.{OutOfMemory, Read, Refused}
 use Rattle.log_commands.specs.declared.error.Refusal.TheVariants.{EndsInsideLine as InsideLine}
 use Rattle.log_commands.specs.declared.error.Refusal.TheVariants.{TooManyEntries as TooMany}
+use Rattle.log_commands.specs.declared.error.Source.{Source}
 use Rattle.log_commands.specs.declared.error.Source.TheVariants.{File}
 
 -- an error says that memory ran out
@@ -34,6 +38,23 @@ abbrev pub ReadsAs : List (ℕ × ℕ) → List ℕ → Result ReadLog Error →
 ReadsAs nodes wanted result outcome =
     MatchResult result (λ log. (entries : List (List ℕ)) × (outcome ≡ Ok entries) × HasEntries nodes wanted entries log)
     (λ error. (error ≡ OutOfMemory) ⊎ (outcome ≡ Err error))
+
+-- a proof of entries is accepted under the root of these
+pub record AreProved (entries : List (List ℕ)) (p : EntriesFields) : Type 0 where
+  pub from_1 : All (λ e. 1 ≤ e.number) p.entries
+  pub accepted : entries_refusal sha256 (length entries) (map (λ e. e.number - 1) p.entries)
+      (map (λ e. leaf_hash sha256 e.bytes) p.entries) p.digests (root_of sha256 entries) ≡ None
+
+-- an entry has the leaf hash of the one of its number
+pub record HasLeafIn (entries : List (List ℕ)) (e : EntryFields) : Type 0 where
+  pub from_1 : 1 ≤ e.number
+  pub within : e.number ≤ length entries
+  pub leaf : leaf_hash sha256 e.bytes ≡ leaf_hash sha256 (entry_at entries (e.number - 1))
+
+-- the entries of a file under its checkpoint, by their texts
+abbrev pub entries_by : Source → Cut → (checkpoint file : List ℕ) → Result (List (List ℕ)) Error
+entries_by source cut checkpoint file =
+    and_then (said_by source (checkpoint_in checkpoint)) (λ c. entries_under cut c file)
 
 -- the error of a file that is not read
 abbrev pub read_error : ReadError → Error

@@ -2,4 +2,5 @@ pub mod Errors
 pub mod Outcomes
 pub mod Commands
 pub mod Laws
+pub mod Collisions
 pub mod Inner

@@ -1,6 +1,7 @@
 //! What `fohlazu` answers: checkpoints of files, proofs of entries and of growth, and verdicts on them.
 #![tactic(auto)]
 
+pub mod collisions;
 pub mod command;
 pub mod error;
 mod files;

@@ -91,7 +91,7 @@ fn numbers_of(alloc: Global, entries: &[Entry]) -> Result<Vec<usize>, AllocError
 }
 
 /// The indices of entries, counted from 0.
-fn indices_of(alloc: Global, entries: &[Entry]) -> Result<Vec<usize>, AllocError>
+pub(crate) fn indices_of(alloc: Global, entries: &[Entry]) -> Result<Vec<usize>, AllocError>
     ensures { IfOk result (λ indices. indices.items ≡ map (λ e. e.number - 1) (map entry_fields entries.now)) }
 {
     entries
@@ -101,7 +101,7 @@ fn indices_of(alloc: Global, entries: &[Entry]) -> Result<Vec<usize>, AllocError
 }
 
 /// The leaf hashes of entries.
-fn leaves_of(alloc: Global, entries: &[Entry]) -> Result<Vec<[u8; 32]>, AllocError>
+pub(crate) fn leaves_of(alloc: Global, entries: &[Entry]) -> Result<Vec<[u8; 32]>, AllocError>
     ensures { IfOk result
         (λ leaves. leaves.items ≡ map (λ e. leaf_hash_by sha256 e.bytes) (map entry_fields entries.now)) }
 {
