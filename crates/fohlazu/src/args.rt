@@ -126,7 +126,8 @@ impl<'a> Args<'a> {
             Source::File => ("FILE", 0),
             Source::Proof => ("PROOF", 0),
         };
-        self.texts(id).get(k).copied().unwrap_or("")
+        let names = self.found.get_strs(id);
+        names.and_then(|names| names.get(k).copied()).unwrap_or("")
     }
 
     /// The command of this name.
@@ -170,15 +171,11 @@ impl<'a> Args<'a> {
     fn stdin_count(&self) -> usize {
         let mut count: usize = 0;
         for id in ["CHECKPOINT", "OLD", "NEW", "FILE", "PROOF", "PART"] {
-            let names = self.texts(id).iter();
-            count = count.saturating_add(names.filter(|name| **name == "-").count());
+            if let Some(names) = self.found.get_strs(id) {
+                count = count.saturating_add(names.iter().filter(|name| **name == "-").count());
+            }
         }
         count
-    }
-
-    /// The values of an argument.
-    fn texts(&self, id: &str) -> &[&'a str] {
-        self.found.get_strs(id).unwrap_or(&[])
     }
 
     /// An input that is required.
@@ -199,8 +196,10 @@ impl<'a> Args<'a> {
     /// The parts.
     fn parts(&self, alloc: Global) -> Result<Vec<Input<'a>>, AllocError> {
         let mut parts = Vec::new(alloc);
-        for name in self.texts("PART") {
-            parts.push(self.input_of(name))?;
+        if let Some(names) = self.found.get_strs("PART") {
+            for name in names {
+                parts.push(self.input_of(name))?;
+            }
         }
         Ok(parts)
     }
@@ -278,16 +277,16 @@ fn argument<'a>(alloc: Global, id: &str) -> Result<Arg<'a>, AllocError> {
         "origin!" => arg!(in alloc; --origin <ORIGIN> "The log's name").required(true),
         "part" => arg!(in alloc; --part "Print a part, for `join`").conflicts_with("origin")?,
         "blocks" =>
-            arg!(in alloc; --blocks <BYTES> "Take blocks of 1 to 1073741824 bytes as entries, not lines").value_parser(
-                bytes,
-            ),
+            arg!(in alloc; --blocks <BYTES> "Take blocks of 1 to 1073741824 bytes as entries, not lines")
+                .value_parser(bytes)
+                .conflicts_with("partial")?,
         "whole-lines" =>
             arg!(in alloc; --"whole-lines" "Leave out a last line without a line feed").conflicts_with(
                 "blocks",
             )?,
         "partial" =>
-            arg!(in alloc; --partial "Take a last line without a line feed as an entry").conflicts_with_all(
-                &["blocks", "whole-lines"],
+            arg!(in alloc; --partial "Take a last line without a line feed as an entry").conflicts_with(
+                "whole-lines",
             )?,
         "raw" => arg!(in alloc; --raw "Print one entry byte for byte").conflicts_with("blocks")?,
         "CHECKPOINT" => arg!(in alloc; <CHECKPOINT> "The checkpoint"),
