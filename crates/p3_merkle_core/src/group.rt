@@ -26,20 +26,26 @@ pub fn group_with<W: Copy, const N: usize, const D: usize>(
     group
 }
 
-/// The group of a node's children: their digests, then default digests. There must be from 1 to `N` children.
+/// The group of a node's children: their digests, then default digests. There must be at most `N` children.
 pub fn padded_group<W: Copy, const N: usize, const D: usize>(
     default_digest: [W; D],
     children: &[[W; D]],
 ) -> [[W; D]; N]
-    requires some { 0 < length children.now }
-    requires few { length children.now ≤ N }
+    requires { length children.now ≤ N }
     ensures { result ≡ padded N default_digest children.now }
 {
-    // A group without default digests is copied as a whole.
-    if let Some(group) = children.first_chunk::<N>() {
-        return *group;
-    }
-    group_with(default_digest, children[0], 0, &children[1..])
+    // Slot by slot: copies of slices as short as these are calls that take longer.
+    std::array::from_fn(
+        |place| -> [W; D]
+            ensures { result ≡ slice_index_or children.entry.now place default_digest }
+        {
+            if place < children.len() {
+                children[place]
+            } else {
+                default_digest
+            }
+        },
+    )
 }
 
 /// The child of a mixed node of a list that grows at a place, counted from the first one, where its old children come
@@ -82,7 +88,6 @@ pub fn mixed_group<W: Copy, const N: usize, const D: usize>(
     requires { length old.now + length (option_to_list mixed) + length new.now ≤ N }
     ensures { result ≡ padded N default_digest (old.now ++ option_to_list mixed ++ new.now) }
 {
-    // Slot by slot: copies of slices as short as these are calls that take longer.
     std::array::from_fn(
         |place| -> [W; D]
             ensures { let children = old.entry.now ++ option_to_list mixed ++ new.entry.now in
@@ -101,6 +106,8 @@ pub fn pair_group<W: Copy, const N: usize, const D: usize>(
     requires { 2 ≤ N }
     ensures { result ≡ padded N default_digest (left ∷ right ∷ []) }
 {
-    let others = [right];
-    group_with(default_digest, left, 0, &others)
+    let mut group = [default_digest; N];
+    group[0] = left;
+    group[1] = right;
+    group
 }
