@@ -1,6 +1,6 @@
 //! Groups of `N` digests, the inputs of a compression. Where there are fewer digests, default digests follow.
 
-ghost use Rattle.std.specs.Prelude.{◌≡◌, ◌+◌, ◌<◌, ◌≤◌, ◌∷◌, [], length, insert};
+ghost use Rattle.std.specs.Prelude.{◌≡◌, ◌+◌, ◌<◌, ◌≤◌, ◌∷◌, [], length, insert, slice_index_or};
 ghost use Rattle.p3_merkle_core.specs.Nodes.{padded};
 
 /// The group of a node on a path: its siblings with its own `digest` inserted at `position`, then default digests.
@@ -25,20 +25,26 @@ pub fn group_with<W: Copy, const N: usize, const D: usize>(
     group
 }
 
-/// The group of a node's children: their digests, then default digests. There must be from 1 to `N` children.
+/// The group of a node's children: their digests, then default digests. There must be at most `N` children.
 pub fn padded_group<W: Copy, const N: usize, const D: usize>(
     default_digest: [W; D],
     children: &[[W; D]],
 ) -> [[W; D]; N]
-    requires some { 0 < length children.now }
-    requires few { length children.now ≤ N }
+    requires { length children.now ≤ N }
     ensures { result ≡ padded N default_digest children.now }
 {
-    // A group without default digests is copied as a whole.
-    if let Some(group) = children.first_chunk::<N>() {
-        return *group;
-    }
-    group_with(default_digest, children[0], 0, &children[1..])
+    // Slot by slot: copies of slices as short as these are calls that take longer.
+    std::array::from_fn(
+        |place| -> [W; D]
+            ensures { result ≡ slice_index_or children.entry.now place default_digest }
+        {
+            if place < children.len() {
+                children[place]
+            } else {
+                default_digest
+            }
+        },
+    )
 }
 
 /// The group of two digests, `left` and `right`, then default digests. A node to which rows belong compresses the
@@ -51,6 +57,8 @@ pub fn pair_group<W: Copy, const N: usize, const D: usize>(
     requires { 2 ≤ N }
     ensures { result ≡ padded N default_digest (left ∷ right ∷ []) }
 {
-    let others = [right];
-    group_with(default_digest, left, 0, &others)
+    let mut group = [default_digest; N];
+    group[0] = left;
+    group[1] = right;
+    group
 }
