@@ -10,7 +10,7 @@ use Rattle.std.proofs.lemmas.Option.{slice_get_within, slice_get_read, get_or_fr
 use Rattle.std.proofs.lemmas.List.Edits.{get_or-between}
 use Rattle.std.proofs.Math.ListN.{get_or-append}
 use Rattle.std.proofs.lemmas.List.{drop_all, drop-append-le, get_or-append_right, length-append, length-drop}
-use Rattle.std.proofs.lemmas.List.{map-append, take-append-le, take-take}
+use Rattle.std.proofs.lemmas.List.{get_or-drop, get_or-take, map-append, take-append-le, take-take}
 use Rattle.std.proofs.lemmas.List.FromFn.{fill_by_all, get_or-map-range_with_len, length-map-range_with_len}
 use Rattle.std.proofs.lemmas.Simd.{map-map}
 use Rattle.std.proofs.lemmas.Bool.{eqb-true}
@@ -59,6 +59,35 @@ pub cut_piece : {A : Type 0} (xs whole : List A) (n : ℕ) → xs ≡ take (leng
 cut_piece xs whole n is few = ap (take n) is ∙ take-take n (length xs) whole few
 
 module _ {A : Type 0} (row : ℕ → List A) (w : ℕ) where
+  -- an element of one of n rows from r on
+  at_row : (r n k c : ℕ) (d : A) → ((j : ℕ) → j < r + n → length (row j) ≡ w) → k < n → c < w
+      → get_or (flat_map row (range_with_len r n)) (k * w + c) d ≡ get_or (row (r + k)) c d
+  at_row r zero k c d long few inside = absurd (omega (arith, few))
+  at_row r (suc n) zero c d long few inside =
+      let here : r + 0 ≡ r = omega arith in
+      let start : 0 * w + c ≡ c = omega arith in
+      rw (here, start) (get_or-append (row r) (flat_map row (range_with_len (r + 1) n)) d c
+      (omega (arith, inside, long r (omega arith))))
+  at_row r (suc n) (suc k) c d long few inside =
+      let rest = flat_map row (range_with_len (r + 1) n) in
+      let past : suc k * w + c - w ≡ k * w + c = omega (arith, next_start k w) in
+      let there : r + 1 + k ≡ r + suc k = omega arith in
+      get_or-append_right (row r) rest w (suc k * w + c) d (long r (omega arith)) (omega (arith, next_start k w))
+      ∙ ap (λ i. get_or rest i d) past
+      ∙ at_row (r + 1) n k c d (λ j h. long j (omega (arith, h))) (omega (arith, few)) inside
+      ∙ ap (λ j. get_or (row j) c d) there
+
+  -- the same in a piece from column c of row r on, of h rows in all
+  pub stored_at : (h r k c : ℕ) (d : A) (xs : List A) → ((j : ℕ) → j < h → length (row j) ≡ w) → r + k < h → c < w
+      → xs ≡ take (length xs) (drop c (flat_map row (range_with_len r (h - r)))) → k * w < length xs
+      → get_or xs (k * w) d ≡ get_or (row (r + k)) c d
+  stored_at h r k c d xs long below inside is some =
+      let all = flat_map row (range_with_len r (h - r)) in
+      let at : c + k * w ≡ k * w + c = omega arith in
+      ap (λ l. get_or l (k * w) d) is ∙ get_or-take (length xs) (drop c all) (k * w) d some
+      ∙ get_or-drop c all (k * w) d ∙ ap (λ i. get_or all i d) at
+      ∙ at_row r (h - r) k c d (λ j b. long j (omega (arith, b, below))) (omega (arith, below)) inside
+
   -- the first n of the rows from r to h
   pub whole_rows : (h r n : ℕ) → ((j : ℕ) → j < h → length (row j) ≡ w) → r + n ≤ h
       → take (n * w) (flat_map row (range_with_len r (h - r))) ≡ flat_map row (range_with_len r n)

@@ -1,7 +1,7 @@
 //! The rows of several matrices of one height, one after another.
-ghost use Rattle.std.specs.Prelude.{◌≡◌, ℕ, ◌+◌, ◌<◌, ◌≤◌, All};
+ghost use Rattle.std.specs.Prelude.{◌≡◌, ℕ, ◌+◌, ◌*◌, ◌^◌, ◌<◌, ◌≤◌, All, length, slice_index_or};
 ghost use Rattle.std.specs.Iterator.{YieldsFirst, YieldsFirstBy, item_count};
-ghost use Rattle.p3_support.specs.Lists.{columns_over, rows_of_height};
+ghost use Rattle.p3_support.specs.Lists.{column_of_rows, columns_over, rows_of_height};
 
 use crate::matrix::{Matrix, packed_column};
 use crate::packed::PackedValue;
@@ -65,6 +65,31 @@ impl<'a, T, M: Matrix<T>> Iterator for Rows<'a, T, M> {
     }
 }
 
+/// What [`packed_column`] returns, read from one piece of the matrix where it stores the rows so: the places of all
+/// lanes then take one multiplication, not one each.
+#[inline(always)]
+fn stored_column<P: PackedValue, M: Matrix<P::Value>>(matrix: &M, row: usize, column: usize) -> P
+    requires rows { row + P.WIDTH ≤ M.height_of matrix.now }
+    requires column { column < M.width_of matrix.now }
+    ensures { P.lanes result
+        ≡ column_of_rows (M.row_of matrix.now) P.default_value row P.WIDTH column }
+{
+    if P::WIDTH > 0 {
+        let width = matrix.width();
+        let piece = matrix.piece(row, column);
+        if width <= piece.len() / P::WIDTH {
+            return P::from_fn(
+                |k| -> P::Value
+                    requires inside { k * width < length piece.now }
+                    requires fits { k * width < 2 ^ 64 }
+                    ensures { (d : _) → result ≡ slice_index_or piece.entry.now (k * width) d }
+                { piece[k * width] },
+            );
+        }
+    }
+    packed_column(matrix, row, column)
+}
+
 /// An iterator over the columns of `P::WIDTH` rows of each of several matrices, one matrix after another, each column
 /// packed: lane `k` is from row `k` of these. Contracts speak of the list of columns that are left, each as its lanes.
 #[derive(Drop)]
@@ -116,7 +141,7 @@ impl<'a, T, P: PackedValue<Value = T>, M: Matrix<T>> Iterator for PackedRows<'a,
     fn next(&mut self) -> Option<P> {
         while let Some((first, others)) = self.matrices.split_first() {
             if self.next < first.width() {
-                let item = packed_column(first, self.row, self.next);
+                let item = stored_column(first, self.row, self.next);
                 self.next += 1;
                 return Some(item);
             }

@@ -3,8 +3,8 @@ use Rattle.std.proofs.Common.{arith, ◌+◌, ◌≤◌, ◌∙◌, ap, length, 
 use Rattle.p3_support.proofs.RowReads.{all_split, columns_more, columns_none, columns_skip}
 use Rattle.p3_support.proofs.rows.PackedRowsIterator.next.Goals as goal
 
-pub packed_column-item-requires-clause-rows : goal.packed_column-item-requires-clause-rows
-packed_column-item-requires-clause-rows g c =
+pub stored_column-item-requires-clause-rows : goal.stored_column-item-requires-clause-rows
+stored_column-item-requires-clause-rows g c =
     let s = c.loop-first.self-inside in
     (all_split (λ m. s.row + g.P.PackedValue.WIDTH ≤ g.M.Matrix.height_of m) c.in-Some.first.now c.in-Some.others.now
     s.matrices.now c.in-Some.ensures.cases.0 c.loop-first.invariant.0).0
@@ -12,7 +12,7 @@ packed_column-item-requires-clause-rows g c =
 pub returns-then-self-width-clause-steps : goal.returns-then-self-width-clause-steps
 returns-then-self-width-clause-steps g c =
     let s = c.loop-first.self-inside in
-    rw c.packed_column-item.ensures (sym c.self.view_is ∙ sym c.loop-first.invariant.1
+    rw c.stored_column-item.ensures (sym c.self.view_is ∙ sym c.loop-first.invariant.1
     ∙ columns_more g.M.Matrix.row_of g.M.Matrix.width_of g.P.PackedValue.default_value s.row g.P.PackedValue.WIDTH
     c.in-Some.first.now c.in-Some.others.now s.matrices.now s.next c.in-Some.ensures.cases.0
     (omega (arith, c.width.ensures, c.if-self-width.true)))
