@@ -171,9 +171,8 @@ impl<'a> Args<'a> {
     fn stdin_count(&self) -> usize {
         let mut count: usize = 0;
         for id in ["CHECKPOINT", "OLD", "NEW", "FILE", "PROOF", "PART"] {
-            if let Some(names) = self.found.get_strs(id) {
-                count = count.saturating_add(names.iter().filter(|name| **name == "-").count());
-            }
+            let names = self.found.get_strs(id).unwrap_or(&[]);
+            count = count.saturating_add(names.iter().filter(|name| **name == "-").count());
         }
         count
     }
@@ -196,10 +195,8 @@ impl<'a> Args<'a> {
     /// The parts.
     fn parts(&self, alloc: Global) -> Result<Vec<Input<'a>>, AllocError> {
         let mut parts = Vec::new(alloc);
-        if let Some(names) = self.found.get_strs("PART") {
-            for name in names {
-                parts.push(self.input_of(name))?;
-            }
+        for name in self.found.get_strs("PART").unwrap_or(&[]) {
+            parts.push(self.input_of(name))?;
         }
         Ok(parts)
     }

@@ -57,10 +57,8 @@ fn open(rt: &HostRuntime, name: &str) -> io::Result<(File, u64)> {
 
 impl<'a> Read for Input<'a> {
     fn read(&mut self, buf: &mut [u8]) -> io::Result<usize> {
-        let result = self.read_next(buf);
-        if let Err(error) = &result {
-            self.failure.set(Some(*error));
-        }
-        result
+        let failure = self.failure;
+        self.read_next(buf)
+            .inspect_err(|error| failure.set(Some(*error)))
     }
 }
