@@ -1,4 +1,4 @@
-"""What the scripts that measure seals of files share: the program, and the files in bench/out."""
+"""What the scripts that measure `fohlazu` share: the program, and the files in bench/out."""
 
 import os
 import random
@@ -47,3 +47,19 @@ def lines_of(source):
     """Lines of 63 printable bytes each, and their ends."""
     digits = source.randbytes(PIECE // 2).hex().encode()
     return b"\n".join(digits[at : at + 63] for at in range(0, len(digits) - 63, 63)) + b"\n"
+
+
+def short_of(source):
+    """Lines of 19 printable bytes each, and their ends."""
+    digits = source.randbytes(PIECE // 2).hex().encode()
+    return b"\n".join(digits[at : at + 19] for at in range(0, len(digits) - 19, 19)) + b"\n"
+
+
+def mixed_of(source):
+    """Lines of 60 to 250 bytes with their ends, each length as often as any other."""
+    digits, lines, at = source.randbytes(PIECE // 2).hex().encode(), [], 0
+    while at + 250 < len(digits):
+        end = at + source.randrange(59, 250)
+        lines.append(digits[at:end])
+        at = end
+    return b"\n".join(lines) + b"\n"

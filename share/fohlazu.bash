@@ -1,14 +1,16 @@
-# Completion of the words of fohlazu for bash.
+# Completion of the arguments of fohlazu for bash.
 _fohlazu() {
   local known='' word="${COMP_WORDS[COMP_CWORD]}"
   if [ "$COMP_CWORD" -eq 1 ]; then
-    known='seal prove verify conflict prove-consistency verify-consistency join --help --version'
-  elif [ "${COMP_WORDS[1]}" = seal ]; then
-    case "$3" in
-      --arity) known='2 4 8' ;;
-      --blocks) known='512 4096 65536' ;;
-      --cap-height) known='0 1 2 3' ;;
-      *) if [ "${word#-}" != "$word" ]; then known='--blocks --arity --cap-height --label'; fi ;;
+    known='seal prove verify prove-consistency verify-consistency join --help --version'
+  elif [ "$3" = --blocks ]; then
+    known='512 4096 65536'
+  elif [ "${word#-}" != "$word" ]; then
+    case "${COMP_WORDS[1]}" in
+      seal) known='--origin --part --blocks --whole-lines --partial' ;;
+      prove | prove-consistency) known='--blocks --whole-lines --partial' ;;
+      verify) known='--blocks --raw' ;;
+      join) known='--origin' ;;
     esac
   fi
   mapfile -t COMPREPLY < <(compgen -W "$known" -- "$word")
