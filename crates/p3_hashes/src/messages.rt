@@ -43,7 +43,7 @@ pub(crate) fn words(messages: &[u8], width: usize, at: usize) -> u32x8
     ])
 }
 
-/// Byte `at` of padded message `j` of eight. The length must lie after it.
+/// Byte `at` of padded message `j` of eight. It must not be one of the last eight, which have the length.
 #[inline(always)]
 fn padded_byte(messages: &[u8], width: usize, j: usize, at: usize) -> u8
     requires full { length messages.now ≡ 8 * width }
@@ -60,7 +60,8 @@ fn padded_byte(messages: &[u8], width: usize, j: usize, at: usize) -> u8
     }
 }
 
-/// The word at byte `at` of padded message `j` of eight. The message may end within it; the length must lie after it.
+/// The word at byte `at` of padded message `j` of eight, which may have bytes of the message and of its padding. `at` is
+/// at most `width`, and the word must end before the last eight bytes of the padded message, which have its length.
 #[inline(always)]
 fn mixed_word(messages: &[u8], width: usize, j: usize, at: usize) -> u32
     requires full { length messages.now ≡ 8 * width }
@@ -77,8 +78,7 @@ fn mixed_word(messages: &[u8], width: usize, j: usize, at: usize) -> u32
     ])
 }
 
-/// The words at byte `at` of the eight padded messages: lane `j` is from message `j`, which may end within its word.
-/// The length must lie after these words.
+/// The words at byte `at` of the eight padded messages: lane `j` is [`mixed_word`] of message `j`.
 fn mixed_words(messages: &[u8], width: usize, at: usize) -> u32x8
     requires full { length messages.now ≡ 8 * width }
     requires before { at + 12 ≤ 64 * ((width + 72) / 64) }

@@ -173,7 +173,8 @@ fn joined_rows<T: Copy>(
     Ok(joined)
 }
 
-/// Each row of several queries followed by its salts, as [`joined_rows`] pairs them, row set by row set.
+/// The row sets of several queries, each joined with its salt set by [`joined_rows`]. `sets` has the row sets and
+/// `salts` the salt sets; they are paired in order, up to the end of the shorter list.
 fn joined_row_sets<T: Copy>(
     alloc: Global,
     sets: &[Vec<Vec<T>>],

@@ -90,8 +90,10 @@ impl<T, X, G> Buffers<T, X, G> {
     }
 }
 
-/// States that the layer below has the children of the `count` nodes from `first` on.
-fn lemma_front<X>(arity: usize, level: &Level, below: &[X], first: usize, count: usize)
+/// States that the children of the `count` nodes from `first` on lie within the layer below, which has the children of
+/// each node one after another, so that [`write_batched`](LayerOver::write_batched) may begin to read there. `arity` is
+/// the most children that a node has.
+fn lemma_children_from<X>(arity: usize, level: &Level, below: &[X], first: usize, count: usize)
     requires children { HasChildren arity level.now (length below.now) }
     requires nodes { first + count ≤ level.now.raw_len }
     ensures { level.now.step * first + level.now.step * count ≤ length below.now }
@@ -170,7 +172,7 @@ impl<
             groups,
         } = buffers;
         let step = self.level.step;
-        lemma_front(N, &self.level, self.below, first, slots.len());
+        lemma_children_from(N, &self.level, self.below, first, slots.len());
         let below = &self.below[step * first..];
         compress_children::<PW, C, N, D>(self.compress, groups, below, step, slots)?;
         if !self.level.has_rows {

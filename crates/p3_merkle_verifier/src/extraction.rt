@@ -151,9 +151,11 @@ fn leaf_difference<T: Copy + Eq + Drop, W: Copy + Eq, const D: usize>(
     differing_words(alloc, Place::Leaf, &rows)
 }
 
-/// The pairs of a level in two checks if these differ, else the words of the rows if those do. `None` where both agree,
-/// or no matrix belongs to the layer above the level. `rows` are the rows of both openings there.
-fn differing_above<T: Copy + Eq + Drop, W: Copy + Eq, const N: usize, const D: usize>(
+/// The inputs of two checks at the last place of a level above its group where these differ: the pair, which is
+/// compressed last, else the words of the rows. `None` if both are the same, or if no matrix belongs to the layer above
+/// the level. `first` and `second` are that level of each check, and must reach one node; `rows` are the rows of both
+/// openings at the layer above.
+fn difference_above_group<T: Copy + Eq + Drop, W: Copy + Eq, const N: usize, const D: usize>(
     alloc: Global,
     rows: &RowPair<'_, T>,
     first: &ComputedLevel<[W; D], [[W; D]; N]>,
@@ -188,7 +190,7 @@ fn level_difference<T: Copy + Eq + Drop, W: Copy + Eq, const N: usize, const D: 
     if first.above.node != second.above.node {
         return Ok(None);
     }
-    match differing_above(alloc, rows, first, second)? {
+    match difference_above_group(alloc, rows, first, second)? {
         Some(above) => Ok(Some(above)),
         None => differing_digests(
             alloc,

@@ -62,7 +62,10 @@ impl<'a, T, W: Copy, const D: usize> PrunedOpeningRef<'a, T, [W; D]> {
 }
 
 /// Checks by [`check_pruned`], with its errors, the form of a pruned opening, and that its rows agree wherever queries
-/// share a node. Returns the opening and its covered leaves.
+/// share a node. Returns the opening with its steps, the cap's layer and its distinct indices, from which each path can
+/// be restored; and the layer of its covered leaves, from which the layers above are computed.
+///
+/// The arity of `steps` must be a power of two from 2 to 2^62, and `cap_layer` at most the number of levels.
 fn check_restorable<'a, P: PackedValue, X>(
     alloc: Global,
     steps: &'a Steps<'a>,
@@ -84,21 +87,21 @@ fn check_restorable<'a, P: PackedValue, X>(
         sets,
         sent,
     } = opening;
-    let queried = check_pruned(alloc, steps, cap_layer, indices, sets, sent.len())?;
-    let nodes = Vec::from_slice(alloc, &queried.indices)?;
+    let leaves = check_pruned(alloc, steps, cap_layer, indices, sets, sent.len())?;
+    let nodes = Vec::from_slice(alloc, &leaves.indices)?;
     let restorable = RestorableOpening {
         steps,
         cap_layer,
         opening,
-        leaves: queried,
+        leaves,
     };
-    let leaves = CoveredLayer {
+    let leaf_layer = CoveredLayer {
         covered: Covered::new(steps, indices, nodes),
         step: 0,
         has_rows: true,
         children: Vec::new(alloc),
     };
-    Ok((restorable, leaves))
+    Ok((restorable, leaf_layer))
 }
 
 /// The layer above `below`, which must be layer `level` and below the cap's layer. `digests` has the digest of each

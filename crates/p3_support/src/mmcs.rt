@@ -112,7 +112,7 @@ pub trait Mmcs<T, M: Matrix<T>> {
             IfOk result (λ o. accepts self.now c dimensions index (row_lists o.opened_values.items) o.opening_proof) }
         ensures memory { IfErr result is_out_of_memory };
 
-    /// The matrices of a commitment, in input order.
+    /// The matrices that `prover_data` has, in input order: those that were committed to.
     ///
     /// # Errors
     ///

@@ -19,7 +19,7 @@ invariant_of-restorable g c =
     let opening = c.args.opening in
     let rows = row_sets opening.sets.now in
     let p = opened_with opening.indices.now rows (length opening.sent.now) in
-    let none = c.in_ok-queried.ensures.0 in
+    let none = c.in_ok-leaves.ensures.0 in
     let r = restorable eq s t p g.met.P.PackedValue.eq_is_equality (ap (λ refusal. ok_unless refusal (tt {0})) none) in
     let asked = asked_of eq s t p none in
     record {
@@ -29,7 +29,7 @@ invariant_of-restorable g c =
       all_sent = sym (length-replicate (length opening.sent.now) []) ∙ r.count;
       agreed = agreed_with s t opening.indices.now rows (replicate (length opening.sent.now) []) [] r.agreed;
       fit = r.rows_fit;
-      distinct = c.in_ok-queried.ensures.1;
+      distinct = c.in_ok-leaves.ensures.1;
     }
 
 pub new-requires : goal.new-requires
@@ -37,12 +37,12 @@ new-requires g c =
     let s = shape_of c.args.steps.now.arity c.args.steps.now.dimensions.now in
     let opening = c.args.opening in
     let p = opened_with opening.indices.now (row_sets opening.sets.now) (length opening.sent.now) in
-    let none = c.in_ok-queried.ensures.0 in
+    let none = c.in_ok-leaves.ensures.0 in
     let r = restorable g.P.Value.PartialEq.eq s c.args.cap_layer p g.met.P.PackedValue.eq_is_equality
     (ap (λ refusal. ok_unless refusal (tt {0})) none) in
     record {
       arity = c.requires.arity;
       low = tallest_fits (heights s) (none_large_from_lawful (heights s) r.lawful);
       below = r.below;
-      nodes = c.in_ok-nodes.ensures.items ∙ c.deref.ensures.value ∙ c.in_ok-queried.ensures.1.indices;
+      nodes = c.in_ok-nodes.ensures.items ∙ c.deref.ensures.value ∙ c.in_ok-leaves.ensures.1.indices;
     }

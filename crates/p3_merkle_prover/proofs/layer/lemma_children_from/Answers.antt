@@ -1,6 +1,6 @@
 use Rattle.std.proofs.Common.{arith, ◌+◌, ◌*◌, ◌≤◌}
 use Rattle.std.proofs.Math.Nat.{mul-add, mul-le-mul_left}
-use Rattle.p3_merkle_prover.proofs.layer.lemma_front.Goals as goal
+use Rattle.p3_merkle_prover.proofs.layer.lemma_children_from.Goals as goal
 
 pub returns : goal.returns
 returns g c =
