@@ -1,10 +1,10 @@
 -- What writes of a value and others into slots leave.
-use Rattle.std.proofs.Common.{◌≡◌, ℕ, ◌+◌, ◌<◌, ◌≤◌, List, [], ◌∷◌, ◌++◌, refl, ap, sym, ◌∙◌, arith, length}
+use Rattle.std.proofs.Common.{◌≡◌, ℕ, zero, suc, ◌+◌, ◌-◌, ◌<◌, ◌≤◌, List, [], ◌∷◌, ◌++◌, refl, ap, sym, ◌∙◌, arith, length}
 use Rattle.std.proofs.Common.{get_or, take, drop, set, insert, replicate, cond, nat_lt, inl, inr, length-append}
 use Rattle.std.proofs.Common.{length-take, length-drop, length-set, get_or-set_same}
 use Rattle.std.proofs.lemmas.Bool.{cases_lt, lt-ltb, le-ltb}
 use Rattle.std.proofs.lemmas.List.{drop_more, take_more, take_all, append_assoc, set_at, drop-set-lt, length-take-le}
-use Rattle.std.proofs.lemmas.List.{drop-replicate}
+use Rattle.std.proofs.lemmas.List.{drop-replicate, ext_get_or, length-replicate}
 use Rattle.std.proofs.lemmas.List.Edits.{get_or-insert_at, get_or-insert_below, get_or-insert_above}
 use Rattle.p3_merkle_core.specs.Nodes.{padded}
 
@@ -92,3 +92,19 @@ group_around_is n default_element v others p h =
     let size : length (insert others p v)
     ≡ length others + 1 = simp (length-append, length-take, length-drop) (omega arith) in
     rw (size, drop-replicate (length others + 1) n default_element) refl
+
+-- behind the children every slot has the default digest
+default_behind : {X : Type 0} (d : X) (xs : List X) (r k : ℕ) → get_or (xs ++ replicate r d) k d ≡ get_or xs k d
+default_behind d [] zero k = refl
+default_behind d [] (suc r) zero = refl
+default_behind d [] (suc r) (suc k) = default_behind d [] r k
+default_behind d (x ∷ xs) r zero = refl
+default_behind d (x ∷ xs) r (suc k) = default_behind d xs r k
+
+-- a group that is made slot by slot: children, then default digests
+pub slots_made : {X : Type 0} (n : ℕ) (d : X) (xs ys : List X) → length xs ≤ n → length ys ≡ n →
+    ((k : ℕ) → k < n → get_or ys k d ≡ get_or xs k d) → ys ≡ padded n d xs
+slots_made n d xs ys few long each =
+    let whole : length (padded n d xs) ≡ n = rw (length-append, length-replicate) (omega arith) in
+    ext_get_or d ys (padded n d xs) (long ∙ sym whole)
+    (λ k below. each k (omega arith) ∙ sym (default_behind d xs (n - length xs) k))

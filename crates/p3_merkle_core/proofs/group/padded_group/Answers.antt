@@ -1,7 +1,7 @@
 -- Each slot has its child, or the default digest.
 use Rattle.std.proofs.Common.{◌≡◌, get_or, rules}
 use Rattle.p3_support.proofs.Made.{made_by}
-use Rattle.p3_merkle_core.proofs.Lists.MixedGroups.{slots_made}
+use Rattle.p3_merkle_core.proofs.Lists.GroupFacts.{slots_made}
 use Rattle.p3_merkle_core.proofs.group.padded_group.Goals as goal
 
 pub returns : goal.returns
