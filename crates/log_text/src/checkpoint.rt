@@ -123,7 +123,7 @@ fn log_origin_by(left: &[u8]) -> Result<(&str, &[u8]), Stop>
     Ok((origin, rest))
 }
 
-/// Reads past a line feed and 1 to 100 signatures, if anything is left.
+/// Reads past a blank line and 1 to 100 signatures, if anything is left.
 #[tactic(auto, unfolding(crate::specs::Reading::signatures_by))]
 fn skip_signatures(left: &[u8]) -> Result<&[u8], Stop>
     ensures { result_map_both (λ rest. rest.now) (λ stop. stop) result ≡ rest_of (signatures_by left.now) }
@@ -131,8 +131,9 @@ fn skip_signatures(left: &[u8]) -> Result<&[u8], Stop>
     if left.is_empty() {
         return Ok(left);
     }
-    let rest = skip_line(&left[1..], Expected::Signature)?;
-    skip_lines(rest, Expected::Signature, 99)
+    let left = skip_line(left, Expected::Blank)?;
+    let left = skip_line(left, Expected::Signature)?;
+    skip_lines(left, Expected::Signature, 99)
 }
 
 /// Reads what stands after an origin.
