@@ -13,7 +13,7 @@ use Rattle.log_text.specs.declared.error.Expected.TheVariants.{Blank, OldSize}
 use Rattle.log_text.proofs.Base64Facts.{base64_plain, length-base64}
 use Rattle.log_text.proofs.LineFacts.{blank_decided, digest_spelled, number_spelled, that_spelled}
 use Rattle.log_text.proofs.ManyFacts.{many_spelled}
-use Rattle.log_text.proofs.ReadFacts.{gives, in_turn, says}
+use Rattle.log_text.proofs.ReadFacts.{gives, in_turn, says, turn}
 
 -- ---- digests up to a blank line
 
@@ -47,15 +47,9 @@ consistency_proofs text p =
           let t4 = (blank_decided blank).0 none in
           subst (λ q. IsConsistencyProof q × (text ≡ consistency_text q)) same
           (record { old_size = small; digests = are; few_digests = few }, cc),
-      λ (is, t). back (
-        p.old_size,
-        flat_map digest_line p.digests ++ (line [] ++ p.checkpoint),
-        (is.old_size, t),
-        (
-          p.digests,
-          line [] ++ p.checkpoint,
-          ((is.digests, is.few_digests, λ less. refl), refl),
-          ([], p.checkpoint, ((blank_decided []).1 refl, refl), refl),
-        ),
-      ),
+      λ (is, t).
+          let new = line [] ++ p.checkpoint in
+          back (turn p.old_size (flat_map digest_line p.digests ++ new) (is.old_size, t) (turn p.digests new
+          ((is.digests, is.few_digests, λ less. refl), refl)
+          (turn [] p.checkpoint ((blank_decided []).1 refl, refl) refl))),
     )

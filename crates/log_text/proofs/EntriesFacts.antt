@@ -15,7 +15,7 @@ use Rattle.log_text.specs.declared.error.Expected.TheVariants.{DigestCount, Entr
 use Rattle.log_text.proofs.LineFacts.{digest_spelled, head_bytes, head_spelled, number_spelled, that_spelled}
 use Rattle.log_text.proofs.LineFacts.{version_decided}
 use Rattle.log_text.proofs.ManyFacts.{many_spelled}
-use Rattle.log_text.proofs.ReadFacts.{ends, gives, holds, in_turn, read_as, says, IsSpelled}
+use Rattle.log_text.proofs.ReadFacts.{ends, gives, holds, in_turn, read_as, says, turn, IsSpelled}
 
 -- ---- entries
 
@@ -34,16 +34,11 @@ bytes_spelled count left =
           ∙ sym (append_assoc (take count left) (10 ∷ []) (drop (count + 1) left)),
     ))
     (λ r (long, is).
-    let whole = is ∙ append_assoc r.0 (10 ∷ []) r.1 in (
-      (
-        omega (arith, ap length whole, length-append r.0 (10 ∷ r.1), long),
-        (λ i. get_or (whole i) (sym long i) 0) ∙ get_or-append_seam r.0 10 r.1 0,
-      ),
-      λ i. (
-        ((λ j. take (sym long j) (whole j)) ∙ take-append_seam r.0 (10 ∷ r.1)) i,
-        ((λ j. drop (sym long j + 1) (whole j)) ∙ drop-append-add r.0 (10 ∷ r.1) 1) i,
-      ),
-    ))
+    let whole = is ∙ append_assoc r.0 (10 ∷ []) r.1 in
+    let feed = (λ i. get_or (whole i) (sym long i) 0) ∙ get_or-append_seam r.0 10 r.1 0 in
+    let front = (λ i. take (sym long i) (whole i)) ∙ take-append_seam r.0 (10 ∷ r.1) in
+    let back = (λ i. drop (sym long i + 1) (whole i)) ∙ drop-append-add r.0 (10 ∷ r.1) 1 in
+    ((omega (arith, ap length whole, length-append r.0 (10 ∷ r.1), long), feed), λ i. (front i, back i)))
 
 pub entry_spelled : IsSpelled entry_by (λ e rest. IsEntry e) entry_lines
 unfolding entry_by
@@ -58,15 +53,9 @@ entry_spelled left =
           ∙ sym (append_assoc (line (head_bytes (head.0, length bytes))) (line bytes) l2),
     ))
     (λ r (is, parts).
-    let head : ℕ × ℕ = (r.0.number, length r.0.bytes) in (
-      head,
-      line r.0.bytes ++ r.1,
-      (
-        (is.from_1, is.number, is.len),
-        parts ∙ append_assoc (line (head_bytes head)) (line r.0.bytes) r.1,
-      ),
-      (r.0.bytes, r.1, (refl, refl), refl),
-    ))
+    let head : ℕ × ℕ = (r.0.number, length r.0.bytes) in
+    let text = parts ∙ append_assoc (line (head_bytes head)) (line r.0.bytes) r.1 in
+    turn head (line r.0.bytes ++ r.1) ((is.from_1, is.number, is.len), text) (turn r.0.bytes r.1 (refl, refl) refl))
 
 -- just so many
 all_of : {n : ℕ} {m : ℕ} → n ≤ m → (n < m → false ≡ true) → n ≡ m
@@ -86,32 +75,11 @@ entries_proofs text p =
     in_turn _ _ (many_spelled _ _ IsDigest digest_line (digest_spelled false) (λ d rest is. refl) digest_count left)
     (λ digests left. ends (record { entries = entries; digests = digests }) left)))))) in (
       λ is.
-          let (
-            version,
-            l1,
-            (version_is, t1),
-            (
-              count,
-              l2,
-              (small, t2),
-              (
-                entries,
-                l3,
-                ((are, few, full), t3),
-                (
-                  digest_count,
-                  l4,
-                  (digests_small, t4),
-                  (
-                    digests,
-                    l5,
-                    ((digests_are, digests_few, digests_full), t5),
-                    (t6, same),
-                  ),
-                ),
-              ),
-            ),
-          ) = read is in
+          let (version, l1, (version_is, t1), said) = read is in
+          let (count, l2, (small, t2), said) = said in
+          let (entries, l3, ((are, few, full), t3), said) = said in
+          let (digest_count, l4, (digests_small, t4), said) = said in
+          let (digests, l5, ((digests_are, digests_few, digests_full), t5), (t6, same)) = said in
           let all_entries = all_of few full in
           let all_digests = all_of digests_few digests_full in
           let t0 = (version_decided version).0 version_is in
@@ -129,37 +97,9 @@ entries_proofs text p =
           let digests = flat_map digest_line p.digests in
           let count = line (codes "digests " ++ decimal (length p.digests)) ++ digests in
           let entries = flat_map entry_lines p.entries ++ count in
-          back (
-            codes "fohlazu proof 1",
-            line (codes "entries " ++ decimal (length p.entries)) ++ entries,
-            ((version_decided (codes "fohlazu proof 1")).1 refl, t),
-            (
-              length p.entries,
-              entries,
-              (is.entry_count, refl),
-              (
-                p.entries,
-                count,
-                ((is.entries, omega arith, λ less. absurd (omega (arith, less))), refl),
-                (
-                  length p.digests,
-                  digests,
-                  (is.digest_count, refl),
-                  (
-                    p.digests,
-                    [],
-                    (
-                      (
-                        is.digests,
-                        omega arith,
-                        λ less. absurd (omega (arith, less)),
-                      ),
-                      sym (append-nil digests),
-                    ),
-                    (refl, refl),
-                  ),
-                ),
-              ),
-            ),
-          ),
+          back (turn (codes "fohlazu proof 1") (line (codes "entries " ++ decimal (length p.entries)) ++ entries)
+          ((version_decided (codes "fohlazu proof 1")).1 refl, t) (turn (length p.entries) entries (is.entry_count, refl)
+          (turn p.entries count ((is.entries, omega arith, λ less. absurd (omega (arith, less))), refl)
+          (turn (length p.digests) digests (is.digest_count, refl) (turn p.digests []
+          ((is.digests, omega arith, λ less. absurd (omega (arith, less))), sym (append-nil digests)) (refl, refl)))))),
     )

@@ -195,7 +195,10 @@ line_plain ProofVersion bytes is =
 line_plain Blank bytes is = subst IsPlain (sym ((blank_decided bytes).0 is)) (All-nil (λ c. 32 ≤ c))
 line_plain other bytes is = cc
 
-pub that_spelled : (expected : Expected) →
-    IsSpelled (line_that expected) (λ bytes rest. is_line expected bytes ≡ true) line
+-- a line is what is expected
+abbrev pub Fits : Expected → List ℕ → Type 0
+Fits expected line = is_line expected line ≡ true
+
+pub that_spelled : (expected : Expected) → IsSpelled (line_that expected) (λ bytes rest. Fits expected bytes) line
 that_spelled expected =
     passing_spelled expected (is_line expected) (λ bytes is. plain_lacks bytes (line_plain expected bytes is))

@@ -6,7 +6,7 @@ use Rattle.std.proofs.lemmas.List.Elements.{All-nil, All-cons, All-head, All-tai
 use Rattle.log_text.specs.Inner.Rests.{rest_of}
 use Rattle.log_text.specs.Reading.{many, then_read, Reads}
 use Rattle.log_text.specs.declared.error.Stop.{Stop}
-use Rattle.log_text.proofs.ReadFacts.{either, gives, in_turn, read_as, IsRead, IsSpelled}
+use Rattle.log_text.proofs.ReadFacts.{either, gives, in_turn, read_as, turn, IsRead, IsSpelled}
 
 -- ---- lists are read as they are printed, and as nothing else
 
@@ -57,14 +57,9 @@ module _ {V : Type 0} (stops : List ℕ → Bool) (read : List ℕ → Reads V) 
         read_as (in_turn _ _ (spelled left) (λ v rest. in_turn _ _ (many_spelled n rest) (λ vs end.
         gives (v ∷ vs, end))))
         (λ r (v, rest, (is, parts), (vs, end, ((are, few, stop), below), same)).
-        subst (AtFront (suc n) left) same (
-          (
-            All-cons Is v vs is are,
-            omega (arith, few),
-            λ less. stop (omega (arith, less)),
-          ),
-          parts ∙ ap (λ t. text v ++ t) below ∙ sym (append_assoc (text v) (flat_map text vs) end),
-        ))
+        let all = append_assoc (text v) (flat_map text vs) end in
+        subst (AtFront (suc n) left) same
+        ((All-cons Is v vs is are, omega (arith, few), λ less. stop (omega (arith, less))), cc))
         (λ r said. some_read r.0 r.1 here said))
       where
         some_read : (vs : List V) (end : List ℕ) → stops left ≡ false → AtFront (suc n) left (vs, end) → (v : V)
@@ -72,12 +67,10 @@ module _ {V : Type 0} (stops : List ℕ → Bool) (read : List ℕ → Reads V) 
             × AtFront n rest (ws, below) × (◌≡◌ {A = List V × List ℕ} (v ∷ ws, below) (vs, end)))
         some_read [] end here ((are, few, stop), parts) =
             let stopped = stop (omega arith) in let same = ap stops parts in absurd cc
-        some_read (v ∷ vs) end here ((are, few, stop), parts) = (
-          v,
-          flat_map text vs ++ end,
-          (All-head Is v vs are, parts ∙ append_assoc (text v) (flat_map text vs) end),
-          (vs, end, ((All-tail Is v vs are, omega (arith, few), λ less. stop (omega (arith, less))), refl), refl),
-        )
+        some_read (v ∷ vs) end here ((are, few, stop), parts) =
+            turn v (flat_map text vs ++ end)
+            (All-head Is v vs are, parts ∙ append_assoc (text v) (flat_map text vs) end) (turn vs end
+            ((All-tail Is v vs are, omega (arith, few), λ less. stop (omega (arith, less))), refl) refl)
 
 -- ---- one value after another
 

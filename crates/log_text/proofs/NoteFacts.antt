@@ -9,7 +9,7 @@ use Rattle.log_text.specs.Reading.{after_origin, note_by, part_origin_by, then_r
 use Rattle.log_text.specs.Texts.{checkpoint_text, digest_line, line, signature_lines, CheckpointFields, IsNote}
 use Rattle.log_text.specs.declared.error.Expected.TheVariants.{PartOrigin, Size}
 use Rattle.log_text.proofs.LineFacts.{digest_spelled, number_spelled, part_decided, that_spelled}
-use Rattle.log_text.proofs.ReadFacts.{ends, in_turn, passes, read_as, IsRead, IsSpelled}
+use Rattle.log_text.proofs.ReadFacts.{ends, in_turn, passes, read_as, turn, IsRead, IsSpelled}
 use Rattle.log_text.proofs.SignatureFacts.{extensions_read, signatures_spelled, signatures_stop}
 
 -- what is read after the origin of a part
@@ -43,25 +43,11 @@ module _ (origin_by : List ℕ → Reads (List ℕ)) (Is : List ℕ → Type 0) 
       in_turn _ _ (number_spelled Size [] refl left) (λ size left. in_turn _ _ (digest_spelled false left) (λ root left.
       in_turn _ _ (extensions_read left) (λ extensions left. in_turn _ _ (signatures_spelled left) (λ signatures left.
       ends (record { origin = origin; size = size; root = root }) left)))))))
-      (λ c (
-        short,
-        (
-          origin,
-          l1,
-          (own, t1),
-          (
-            size,
-            l2,
-            (small, t2),
-            (
-              root,
-              l3,
-              (digest, t3),
-              (extensions, l4, ((are, _), t4), (signatures, l5, ((are_signed, few, _, _), t5), (t6, same))),
-            ),
-          ),
-        ),
-      ).
+      (λ c (short, (origin, l1, (own, t1), said)).
+      let (size, l2, (small, t2), said) = said in
+      let (root, l3, (digest, t3), said) = said in
+      let (extensions, l4, ((are, _), t4), said) = said in
+      let (signatures, l5, ((are_signed, few, _, _), t5), (t6, same)) = said in
       subst (IsNoteOf note) same (
         extensions,
         signatures,
@@ -80,32 +66,11 @@ module _ (origin_by : List ℕ → Reads (List ℕ)) (Is : List ℕ → Type 0) 
       (λ c (extensions, signatures, is, own).
       let end = signature_lines signatures in
       let lines = flat_map line extensions ++ end in
-      let rest = line (decimal c.size) ++ (digest_line c.root ++ lines) in (
+      let digest = digest_line c.root ++ lines in (
         λ long. omega (arith, is.short, long),
-        (
-          c.origin,
-          rest,
-          (own, is.spelled ∙ note_parts c lines),
-          (
-            c.size,
-            digest_line c.root ++ lines,
-            (is.checkpoint.size, refl),
-            (
-              c.root,
-              lines,
-              (is.checkpoint.root, refl),
-              (
-                extensions,
-                end,
-                ((is.extensions_are, λ _. signatures_stop signatures), refl),
-                (
-                  signatures,
-                  [],
-                  ((is.signatures_are, is.few_signatures, (λ _. refl), λ _. refl), sym (append-nil end)),
-                  (refl, refl),
-                ),
-              ),
-            ),
-          ),
-        ),
+        turn c.origin (line (decimal c.size) ++ digest)
+            (own, is.spelled ∙ note_parts c lines) (turn c.size digest (is.checkpoint.size, refl) (turn c.root lines
+            (is.checkpoint.root, refl) (turn extensions end ((is.extensions_are, λ _. signatures_stop signatures), refl)
+            (turn signatures [] ((is.signatures_are, is.few_signatures, (λ _. refl), λ _. refl), sym (append-nil end))
+            (refl, refl))))),
       ))

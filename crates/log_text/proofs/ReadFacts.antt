@@ -48,6 +48,11 @@ pub either : {W : Type 0} {P : W → Type 0} {a b : Result W Stop} (t : Bool) �
 either true passed failed = passed refl
 either false passed failed = failed refl
 
+-- what is said, value after value
+pub turn : {V : Type 0} {P Q : V → List ℕ → Type 0} (v : V) (rest : List ℕ) → P v rest → Q v rest →
+    (v : V) × (rest : List ℕ) × P v rest × Q v rest
+turn v rest is after = (v, rest, is, after)
+
 -- unless a test passes, or if it does
 pub passes : {W P : Type 0} {Q : W → Type 0} {r : Result W Stop} (stop : Stop) (t : Bool) → Decides t P →
     IsRead r Q → IsRead (if t then Err stop else r) (λ w. (P → ⊥) × Q w)

@@ -9,9 +9,9 @@ use Rattle.log_text.specs.Lines.{is_line}
 use Rattle.log_text.specs.Reading.{at_end, at_text_end, extensions_by, line_that, signatures_by}
 use Rattle.log_text.specs.Texts.{line, signature_lines, AreLines}
 use Rattle.log_text.specs.declared.error.Expected.TheVariants.{Blank, Extension, Signature}
-use Rattle.log_text.proofs.LineFacts.{blank_decided, is_solid, that_spelled, IsPlain}
+use Rattle.log_text.proofs.LineFacts.{blank_decided, is_solid, that_spelled, Fits, IsPlain}
 use Rattle.log_text.proofs.ManyFacts.{many_spelled}
-use Rattle.log_text.proofs.ReadFacts.{either, gives, in_turn, read_as, IsRead, IsSpelled}
+use Rattle.log_text.proofs.ReadFacts.{either, gives, in_turn, read_as, turn, IsRead, IsSpelled}
 
 -- a line that is plain and not blank is no stop
 goes_on : (l left : List ℕ) → (1 ≤ length l) × IsPlain l → at_text_end (line l ++ left) ≡ false
@@ -32,7 +32,7 @@ pub extensions_read : (left : List ℕ) → IsRead (extensions_by left) (λ r. (
     × (length r.0 < length left → at_text_end r.1 ≡ true)) × (left ≡ flat_map line r.0 ++ r.1))
 unfolding extensions_by
 extensions_read left =
-    read_as (many_spelled at_text_end (line_that Extension) (λ l. is_line Extension l ≡ true) line (that_spelled
+    read_as (many_spelled at_text_end (line_that Extension) (Fits Extension) line (that_spelled
     Extension) (λ l rest is. goes_on l rest (is_solid Extension (inl refl) l is)) (length left) left)
     (λ r ((are, few, stop), parts). ((are, stop), parts))
     (λ r ((are, stop), parts).
@@ -58,60 +58,41 @@ signatures_spelled left =
     let none = nil_from_length left (eqb-true (length left) 0 end) in
     read_as (gives ([], left))
     (λ r same. subst (λ (q : List (List ℕ) × List ℕ). AreSigned q.0 q.1 × (left ≡ signature_lines q.0 ++ q.1)) same
-    ((All-nil (λ s. is_line Signature s ≡ true), omega arith, λ few. ap at_text_end none, λ _. none), refl))
+    ((All-nil (Fits Signature), omega arith, λ few. ap at_text_end none, λ _. none), refl))
     (λ r said. only_none r.0 r.1 none said))
     (λ some.
     read_as (in_turn _ _ (that_spelled Blank left) (λ blank left. in_turn _ _ (that_spelled Signature left)
-    (λ s left. in_turn _ _ (many_spelled at_text_end (line_that Signature) (λ l. is_line Signature l ≡ true) line
+    (λ s left. in_turn _ _ (many_spelled at_text_end (line_that Signature) (Fits Signature) line
     (that_spelled Signature) (λ l rest is. goes_on l rest (is_solid Signature (inr refl) l is)) 99 left)
     (λ ss end. gives (s ∷ ss, end)))))
     (λ r (blank, l1, (none, t1), (s, l2, (is, t2), (ss, end, ((are, few, stop), t3), same))).
+    let t4 = (blank_decided blank).0 none in
+    let all = append_assoc (line s) (flat_map line ss) end in
     subst (λ (q : List (List ℕ) × List ℕ). AreSigned q.0 q.1 × (left ≡ signature_lines q.0 ++ q.1)) same (
       (
-        All-cons (λ l. is_line Signature l ≡ true) s ss is are,
+        All-cons (Fits Signature) s ss is are,
         omega (arith, few),
         λ less. stop (omega (arith, less)),
         λ nil. absurd (omega (arith, nil)),
       ),
-      let t4 = (blank_decided blank).0 none in
-          t1 ∙ (λ i. line (t4 i) ++ (t2 ∙ ap (λ t. line s ++ t) t3 ∙ sym (append_assoc (line s) (flat_map line ss) end)) i),
+      cc,
     ))
     (λ r said. some_read r.0 r.1 some said))
   where
     some_read : (ss : List (List ℕ)) (end : List ℕ) → at_end left ≡ false →
         AreSigned ss end × (left ≡ signature_lines ss ++ end) → (blank l1 : List ℕ)
-        × ((is_line Blank blank ≡ true) × (left ≡ line blank ++ l1)) × ((s l2 : List ℕ)
-        × ((is_line Signature s ≡ true) × (l1 ≡ line s ++ l2)) × ((more : List (List ℕ)) × (l3 : List ℕ)
+        × (Fits Blank blank × (left ≡ line blank ++ l1)) × ((s l2 : List ℕ)
+        × (Fits Signature s × (l1 ≡ line s ++ l2)) × ((more : List (List ℕ)) × (l3 : List ℕ)
         × (((AreLines Signature more) × (length more ≤ 99) × (length more < 99 → at_text_end l3 ≡ true))
         × (l2 ≡ flat_map line more ++ l3)) × (◌≡◌ {A = List (List ℕ) × List ℕ} (s ∷ more, l3) (ss, end))))
     some_read [] end some ((are, few, stop, none), parts) =
         let nil = ap at_end (parts ∙ none refl) in absurd cc
-    some_read (s ∷ ss) end some ((are, few, stop, none), parts) = (
-      [],
-      flat_map line (s ∷ ss) ++ end,
-      ((blank_decided []).1 refl, parts),
-      (
-        s,
-        flat_map line ss ++ end,
-        (
-          All-head (λ l. is_line Signature l ≡ true) s ss are,
-          append_assoc (line s) (flat_map line ss) end,
-        ),
-        (
-          ss,
-          end,
-          (
-            (
-              All-tail (λ l. is_line Signature l ≡ true) s ss are,
-              omega (arith, few),
-              λ less. stop (omega (arith, less)),
-            ),
-            refl,
-          ),
-          refl,
-        ),
-      ),
-    )
+    some_read (s ∷ ss) end some ((are, few, stop, none), parts) =
+        let first = All-head (Fits Signature) s ss are in
+        let more = All-tail (Fits Signature) s ss are in
+        turn [] (flat_map line (s ∷ ss) ++ end) ((blank_decided []).1 refl, parts) (turn s (flat_map line ss ++ end)
+        (first, append_assoc (line s) (flat_map line ss) end) (turn ss end
+        ((more, omega (arith, few), λ less. stop (omega (arith, less))), refl) refl))
 
     only_none : (ss : List (List ℕ)) (rest : List ℕ) → left ≡ [] →
         AreSigned ss rest × (left ≡ signature_lines ss ++ rest) →
