@@ -1,7 +1,8 @@
 -- Numbers are read as they are printed, and as nothing else.
-use Rattle.std.proofs.Common.{◌≡◌, ◌<◌, ◌≤◌, ◌^◌, ℕ, zero, suc, List, ◌++◌, length}
+use Rattle.std.proofs.Common.{◌≡◌, ◌<◌, ◌≤◌, ◌^◌, Bool, true, false, ℕ, zero, suc, List, ◌++◌, length}
 use Rattle.std.proofs.Common.{get_or, Option, Some, None, Result, Ok, Err, refl, sym, ap, ◌∙◌, subst, arith, inl, inr}
-use Rattle.std.specs.Prelude.{◌&&◌, decimal, nat_eq, nat_le, All, MatchResult}
+use Rattle.std.specs.Prelude.{◌&&◌, if◌then◌else◌, decimal, nat_eq, nat_le, All, MatchResult}
+use Rattle.std.specs.Bool.{then_some}
 use Rattle.std.specs.Cmp.Lexicographic.{pointwise, bytes_decides}
 use Rattle.std.specs.Option.{SomeIff}
 use Rattle.std.specs.Result.{result_ok}
@@ -16,7 +17,7 @@ use Rattle.std.proofs.lemmas.Str.{IsUtf8-from_ascii}
 use Rattle.std.proofs.lemmas.Str.Parse.{digit_at, IsNumeralModel}
 use Rattle.log_text.specs.Lines.{after, number_after, number_of}
 use Rattle.log_text.proofs.CutFacts.{after_found}
-use Rattle.log_text.proofs.TestFacts.{and_then, found, le_decided, no_found, only_if, said_as, IsFound}
+use Rattle.log_text.proofs.TestFacts.{and_then, found, le_decided, no_found, only_if, said_as, same_found, IsFound}
 
 -- ---- digits
 
@@ -78,9 +79,9 @@ not_parsed digits None said none =
     (numeral.0, omega (arith, numeral.1, small))))
 
 pub parsed : (digits : List ℕ) (o : Option ℕ) (n : ℕ) → Parses o digits → o ≡ Some n →
-    (1 < length digits → get_or digits 0 0 ≡ 48 → ⊥) → n ≤ 2 ^ 62 → Some n ≡ number_of digits
-parsed digits None n said is free small = absurd cc
-parsed digits (Some m) n said is free small =
+    (1 < length digits → get_or digits 0 0 ≡ 48 → ⊥) → then_some (nat_le n (2 ^ 62)) n ≡ number_of digits
+parsed digits None n said is free = absurd cc
+parsed digits (Some m) n said is free =
     let value : digits_value 10 digits ≡ n = sym said.1 ∙ cc in
     let numeral = said.0.0 in
     let one_zero = λ (first : get_or digits 0 0 ≡ 48).
@@ -88,20 +89,16 @@ parsed digits (Some m) n said is free small =
       | inl long ↦ absurd (free long first)
       | inr short ↦ omega (arith, short, numeral.0)
     ] in
-    sym ((number_found digits).back n (
-      small,
-      sym (decimal-digits_value own digits numeral.1 numeral.0 one_zero said.0.1) ∙ ap decimal value,
-    ))
-
-pub too_large : (digits : List ℕ) (o : Option ℕ) (n : ℕ) → Parses o digits → o ≡ Some n → 2 ^ 62 < n →
-    None ≡ number_of digits
-too_large digits None n said is large = absurd cc
-too_large digits (Some k) n said is large =
-    no_found (number_of digits) (number_found digits)
-    (λ m (small, same).
-    let value : n ≡ k = cc in
-    let numeral = decimal_is_IsNumeral m (omega (arith, small)) in
-    omega (arith, value, said.1, ap (digits_value 10) same, numeral.1, small, large))
+    let printed = sym (decimal-digits_value own digits numeral.1 numeral.0 one_zero said.0.1) ∙ ap decimal value in
+    by_test (nat_le n (2 ^ 62)) ∙ same_found _ _ (said_as (only_if (nat_le n (2 ^ 62)) (le_decided n (2 ^ 62)) (found n))
+    (λ k (small, same). subst (λ j. (j ≤ 2 ^ 62) × (digits ≡ decimal j)) same (small, printed))
+    (λ k (small, same).
+    let is : n ≡ k = sym value ∙ ap (digits_value 10) same ∙ (decimal_is_IsNumeral k (omega (arith, small))).1 in
+    (omega (arith, is, small), is))) (number_found digits)
+  where
+    by_test : (t : Bool) → then_some t n ≡ (if t then Some n else None)
+    by_test true = refl
+    by_test false = refl
 
 -- a number after a word
 pub number_after_found : (word line : List ℕ) →

@@ -34,8 +34,7 @@ fn parse_number(digits: &[u8]) -> Option<usize>
     if digits.first() == Some(&b'+') {
         return None;
     }
-    let text = str::from_utf8(digits).ok()?;
-    text.parse().ok()
+    str::from_utf8(digits).ok()?.parse().ok()
 }
 
 /// The number up to 2^62 whose decimal digits these are.
@@ -46,11 +45,7 @@ pub(crate) fn number_of(digits: &[u8]) -> Option<usize>
         return None;
     }
     let number = parse_number(digits)?;
-    if number <= 1 << 62 {
-        Some(number)
-    } else {
-        None
-    }
+    (number <= 1 << 62).then_some(number)
 }
 
 /// A number after a word.
