@@ -2,6 +2,7 @@
 use Rattle.std.proofs.Common.{◌≡◌, ◌≤◌, ◌+◌, ◌*◌, ◌==◌, true, ℕ, suc, List, [], ◌∷◌, ◌++◌, length}
 use Rattle.std.proofs.Common.{Ok, sym, ap, ◌∙◌, arith, append_assoc, append-nil, length-append}
 use Rattle.std.specs.Prelude.{cond, count_by, decimal, flat_map}
+use Rattle.std.specs.List.{sum_by}
 use Rattle.std.specs.Str.{chars, encode_utf8_all}
 use lib.Utf8.{encode}
 use Rattle.std.proofs.lemmas.Fmt.{length-decimal-le}
@@ -50,14 +51,7 @@ parts note c =
 encodes_short : (cs : List ℕ) → length (encode_utf8_all cs) ≤ 4 * length cs
 encodes_short [] = omega arith
 encodes_short (c ∷ cs) =
-    omega (
-      arith,
-      encodes_short cs,
-      length-append (encode c) (encode_utf8_all cs),
-      length-encode c,
-      (len_utf8_bounds
-          c).1,
-    )
+    omega (arith, encodes_short cs, length-append {A = ℕ}, length-encode c, (len_utf8_bounds c).1)
 
 origin_short : (origin : List ℕ) → is_origin origin ≡ true → length origin ≤ 400
 origin_short origin is =
@@ -66,20 +60,9 @@ origin_short origin is =
 
 text_short : (c : CheckpointFields) → IsCheckpoint c → length (checkpoint_text c) ≤ 1000000
 text_short c is =
-    let root : length (base64 c.root) ≡ 44 =
-    length-base64 c.root ∙ ap (λ n. unpadded_len n + padding_len n) is.root.0 in
-    omega (
-      arith,
-      root,
-      origin_short c.origin is.origin,
-      length-decimal-le 20 c.size (omega arith) (omega (arith, is.size))
-          (omega (arith, is.size)),
-      length-append (line c.origin) (line (decimal c.size) ++ digest_line c.root),
-      length-append (line (decimal c.size)) (digest_line c.root),
-      length-append c.origin (10 ∷ []),
-      length-append (decimal c.size) (10 ∷ []),
-      length-append (base64 c.root) (10 ∷ []),
-    )
+    let root = length-base64 c.root ∙ ap (λ n. unpadded_len n + padding_len n) is.root.0 in
+    let size = length-decimal-le 20 c.size (omega arith) (omega (arith, is.size)) (omega (arith, is.size)) in
+    omega (arith, root, size, origin_short c.origin is.origin, length-append {A = ℕ})
 
 printed : (c : CheckpointFields) → IsCheckpoint c → IsNote (checkpoint_text c) c [] []
 printed c is =
@@ -100,41 +83,19 @@ read_again c is = (
 
 -- ---- three lines
 
-abbrev feeds : List ℕ → ℕ
-feeds text = count_by (λ b. b == 10) text
-
-feeds-append : (a b : List ℕ) → feeds (a ++ b) ≡ feeds a + feeds b
-feeds-append a b = sum_by-append (λ c. cond (c == 10) 1 0) a b
-
-feeds_line : (bytes rest : List ℕ) → suc (feeds rest) ≤ feeds (line bytes ++ rest)
-feeds_line bytes rest = omega (arith, feeds-append (line bytes) rest, feeds-append bytes (10 ∷ []))
-
-feeds_text : (c : CheckpointFields) (rest : List ℕ) → 3 + feeds rest ≤ feeds (checkpoint_text c ++ rest)
-feeds_text c rest =
-    omega (
-      arith,
-      feeds-append (checkpoint_text c) rest,
-      feeds_line c.origin (line (decimal c.size) ++ digest_line c.root),
-      feeds_line (decimal c.size) (digest_line c.root),
-      feeds-append (base64 c.root) (10 ∷ []),
-    )
-
 pub three_lines : ThreeLinesAreSpelled
 three_lines note c read three =
     let found = (notes note c).0 read in
     by_lines found.0 found.1 found.2.spelled
   where
+    feeds : {text : List ℕ} → note ≡ text → sum_by (λ b. cond (b == 10) 1 0) text ≡ 3
+    feeds is = ap (count_by (λ b. b == 10)) (sym is) ∙ three
+
     by_lines : (extensions signatures : List (List ℕ)) →
         note ≡ checkpoint_text c ++ (flat_map line extensions ++ signature_lines signatures) → note ≡ checkpoint_text c
     by_lines [] [] is = is ∙ append-nil (checkpoint_text c)
-    by_lines [] (s ∷ ss) is =
-        let rest = flat_map line (s ∷ ss) in
-        absurd (omega (arith, three, ap feeds is, feeds_text c (signature_lines (s ∷ ss)), feeds_line [] rest))
-    by_lines (e ∷ es) signatures is =
-        let below = flat_map line es ++ signature_lines signatures in
-        let lines = flat_map line (e ∷ es) ++ signature_lines signatures in
-        let same : lines ≡ line e ++ below = append_assoc (line e) (flat_map line es) (signature_lines signatures) in
-        absurd (omega (arith, three, ap feeds is, feeds_text c lines, ap feeds same, feeds_line e below))
+    by_lines [] (s ∷ ss) is = absurd (omega (arith, simp sum_by-append at (feeds is)))
+    by_lines (e ∷ es) signatures is = absurd (omega (arith, simp sum_by-append at (feeds is)))
 
 -- ---- signatures
 

@@ -48,13 +48,6 @@ pub(crate) fn number_of(digits: &[u8]) -> Option<usize>
     (number <= 1 << 62).then_some(number)
 }
 
-/// A number after a word.
-fn number_after(word: &[u8], line: &[u8]) -> Option<usize>
-    ensures { result ≡ number_after word.now line.now }
-{
-    number_of(line.strip_prefix(word)?)
-}
-
 /// Decodes base64, and returns how many bytes it is of.
 fn decode(text: &[u8], bytes: &mut [u8]) -> Option<usize>
     requires { decoded_estimate (length text.now) ≤ length bytes.old }
@@ -184,7 +177,8 @@ pub(crate) fn number_by<'a>(
 {
     let stop = missing(left, expected);
     let (line, rest) = cut_at(b'\n', left).ok_or(stop)?;
-    let number = number_after(word, line).ok_or(stop)?;
+    let digits = line.strip_prefix(word).ok_or(stop)?;
+    let number = number_of(digits).ok_or(stop)?;
     Ok((number, rest))
 }
 
