@@ -63,10 +63,6 @@ impl Cut {
 
     /// The whole entries at the head of some bytes, at most `most`, and the bytes after them. There is one if one is
     /// whole and `most` is not 0.
-    ///
-    /// # Errors
-    ///
-    /// `AllocError` if memory runs out.
     pub(crate) fn entries_at_head(
         self,
         alloc: Global,

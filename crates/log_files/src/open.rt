@@ -26,13 +26,6 @@ impl OpenEntry {
         OpenEntry { hasher, len: 0 }
     }
 
-    /// Whether it has no bytes so far.
-    pub(crate) fn is_empty(&self) -> bool
-        ensures { (bytes : List ℕ) → HoldsOpen self.now bytes → result ≡ (length bytes == 0) }
-    {
-        self.len == 0
-    }
-
     /// Adds its next bytes.
     pub(crate) fn push(&mut self, more: &[u8])
         ensures { (bytes : List ℕ) → HoldsOpen self.old bytes → HoldsOpen self.new (bytes ++ more.now) }

@@ -146,6 +146,6 @@ fn finish(
     let tree = tree.push_many(alloc, &hashes)?;
     Ok(ReadLog {
         tree,
-        entries: splitter.into_wanted(alloc),
+        entries: splitter.wanted.into_entries(alloc),
     })
 }

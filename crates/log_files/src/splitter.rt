@@ -29,7 +29,7 @@ pub(crate) struct Splitter<'a> {
     /// The one that has not ended.
     open_entry: OpenEntry,
     /// Those that are wanted.
-    wanted: WantedEntries<'a>,
+    pub(crate) wanted: WantedEntries<'a>,
 }
 
 impl<'a> Splitter<'a> {
@@ -59,10 +59,6 @@ impl<'a> Splitter<'a> {
 
     /// Reads whole entries from the head of the next bytes of the file, or bytes of one entry. Returns the leaf hashes
     /// of the entries that have ended, and the bytes that are left.
-    ///
-    /// # Errors
-    ///
-    /// `AllocError` if memory runs out.
     pub(crate) fn read<'b>(
         &mut self,
         alloc: Global,
@@ -77,7 +73,7 @@ impl<'a> Splitter<'a> {
         ensures read { (wanted front : List ℕ) (ended : List (List ℕ)) → IsAt wanted self.old front ended →
             IfOk result (λ (hashes, rest). HasRead wanted self.new front ended bytes.now rest.now hashes.items) }
     {
-        if !self.open_entry.is_empty() {
+        if self.open_entry.len > 0 {
             return self.read_open(alloc, bytes);
         }
         let (hashes, rest) = self.read_whole(alloc, bytes)?;
@@ -170,10 +166,6 @@ impl<'a> Splitter<'a> {
     }
 
     /// Ends the file, or what is read of it. Returns the leaf hash of a last entry that ends with the file.
-    ///
-    /// # Errors
-    ///
-    /// `EndsInsideLine` if the file ends inside a line and a partial line is refused; `OutOfMemory` if memory runs out.
     pub(crate) fn end_file(&mut self, alloc: Global) -> Result<Vec<[u8; 32]>, ReadError>
         requires { HasPlaces self.old.wanted }
         ensures all { (wanted front rest : List ℕ) (ended : List (List ℕ)) → IsAt wanted self.old front ended →
@@ -186,7 +178,7 @@ impl<'a> Splitter<'a> {
             × (is_refused self.old.cut (Some self.old.limit) (front ++ rest) ≡ true)
             × (take self.old.limit (entries_in self.old.cut (front ++ rest)) ≡ ended))) }
     {
-        if self.is_full() || self.open_entry.is_empty() {
+        if self.is_full() || self.open_entry.len == 0 {
             return Ok(Vec::new(alloc));
         }
         match self.cut.partial() {
@@ -197,14 +189,5 @@ impl<'a> Splitter<'a> {
                 Ok(vec![in alloc; hash]?)
             }
         }
-    }
-
-    /// The wanted entries, if all of them have ended, else none.
-    pub(crate) fn into_wanted(self, alloc: Global) -> Vec<Vec<u8>>
-        ensures { (wanted : List ℕ) (ended : List (List ℕ)) (bytes : List ℕ) →
-            HoldsWanted self.entry.wanted wanted ended bytes →
-            map (λ entry. entry.items) result.items ≡ wanted_of ended wanted }
-    {
-        self.wanted.into_entries(alloc)
     }
 }

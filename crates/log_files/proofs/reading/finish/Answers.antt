@@ -49,5 +49,5 @@ returns-clause-read c =
     (c.in_ok-hashes.ensures.all wanted b.read (b.left_out ++ rest) b.ended b.at there) in
     let built = subst (λ xs. IsBuilderOf (leaves b.ended ++ xs) nodes tree) c.deref.ensures.value
     (c.in_ok-tree.ensures.built (leaves b.ended) nodes b.built) in
-    log_of (record { tree = tree; entries = c.into_wanted.result }) s.cut s.limit nodes wanted (front ++ rest) w b.ended
-    hashes all built (c.into_wanted.ensures wanted)
+    log_of (record { tree = tree; entries = c.into_entries.result }) s.cut s.limit nodes wanted (front ++ rest) w b.ended
+    hashes all built (c.into_entries.ensures wanted)
