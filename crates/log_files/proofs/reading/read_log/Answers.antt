@@ -1,5 +1,5 @@
 -- The file is read, from nothing on, and its log is finished.
-use Rattle.std.proofs.Common.{◌⊎◌, ◌≡◌, ◌∙◌, ◌≤◌, ◌++◌, ℕ, List, Some, subst, sym}
+use Rattle.std.proofs.Common.{⊎_elim, inl, inr, ◌⊎◌, ◌≡◌, ◌∙◌, ◌≤◌, ◌++◌, ℕ, List, Some, subst, sym}
 use Rattle.std.specs.List.Sorted.{IsPermutation}
 use Rattle.std.proofs.lemmas.Result.{err_from_is_err_and, IfErr-weaker, IfOk-weaker}
 use Rattle.log_files.specs.Entries.{read_refusal}
@@ -8,7 +8,7 @@ use Rattle.log_files.specs.declared.error.ReadError.TheVariants.{OutOfMemory, Re
 use Rattle.log_files.specs.Inner.Splitting.{ReadsTooMany}
 use Rattle.log_files.specs.Inner.Wanted.{places_of, IsAscending}
 use Rattle.log_files.proofs.BuiltFacts.{built_none}
-use Rattle.log_files.proofs.ReaderFacts.{err_of_file, log_with, ok_of_file, refused_either, refused_file}
+use Rattle.log_files.proofs.ReaderFacts.{log_with, of_file, refused_either, refused_file}
 use Rattle.log_files.proofs.reading.read_log.Goals as goal
 
 pub new-requires : goal.new-requires
@@ -38,22 +38,16 @@ returns g c =
     let (front, consumed, built, end) = c.in_ok-tree-2.ensures.built nodes wanted start in
     let same = c.in_ok-tree-2.ensures.same.0 ∙ c.new-splitter.ensures.same.0 in
     let most = c.in_ok-tree-2.ensures.same.1 ∙ c.new-splitter.ensures.same.1 ∙ c.unwrap_or.ensures in
+    let (rest, far, holds) = of_file before after front (s.limit ≤ s.count) consumed end in
     record {
-      read = ok_of_file c.finish.result before after front (s.limit ≤ s.count)
-          (λ log bytes. IsLogOf log cut limit nodes wanted bytes) consumed end
-          (λ rest far. IfOk-weaker c.finish.result
-          (λ log. IsLogOf log s.cut (Some s.limit) nodes wanted (front ++ rest))
-          (λ log. IsLogOf log cut limit nodes wanted (front ++ rest))
-          (λ log is. log_with log cut limit s.limit nodes wanted (front ++ rest) most
-          (subst (λ k. IsLogOf log k (Some s.limit) nodes wanted (front ++ rest)) same is))
-          (c.finish.ensures.read nodes wanted front rest built far));
-      refused = err_of_file c.finish.result before after front (s.limit ≤ s.count)
-          (λ e bytes. read_refusal cut limit bytes ≡ Some e) consumed end
-          (λ rest far. IfErr-weaker c.finish.result
-          (λ e. (e ≡ OutOfMemory) ⊎ (read_refusal s.cut (Some s.limit) (front ++ rest) ≡ Some e))
-          (λ e. (e ≡ OutOfMemory) ⊎ (read_refusal cut limit (front ++ rest) ≡ Some e))
-          (λ e why. refused_either e s.cut cut limit s.limit (front ++ rest) same most why)
-          (c.finish.ensures.refused nodes wanted front rest built far));
+      read = IfOk-weaker c.finish.result _ _ (λ log is. holds (IsLogOf log cut limit nodes wanted)
+          (log_with log cut limit s.limit nodes wanted (front ++ rest) most
+          (subst (λ k. IsLogOf log k (Some s.limit) nodes wanted (front ++ rest)) same is)))
+          (c.finish.ensures.read nodes wanted front rest built far);
+      refused = IfErr-weaker c.finish.result _ _ (λ e why.
+          ⊎_elim (λ none. inl none) (λ refusal. inr (inr (holds (λ bytes. read_refusal cut limit bytes ≡ Some e)
+          refusal))) (refused_either e s.cut cut limit s.limit (front ++ rest) same most why))
+          (c.finish.ensures.refused nodes wanted front rest built far);
     }
 
 pub returns-in_err-tree-2-clause-refused : goal.returns-in_err-tree-2-clause-refused
