@@ -1,5 +1,5 @@
 -- What a reader gives, piece after piece, and what is read of it.
-use Rattle.std.proofs.Common.{inr, leb-false, leb-true, nat_le, ◌≡◌, ◌≤◌, ◌⊎◌, ℕ, ◌-◌, ◌^◌, ◌==◌, ◌&&◌, Bool, true, false}
+use Rattle.std.proofs.Common.{⊎_elim, inr, leb-false, leb-true, nat_le, ◌≡◌, ◌≤◌, ◌⊎◌, ℕ, ◌-◌, ◌^◌, ◌==◌, ◌&&◌, Bool, true, false}
 use Rattle.std.proofs.Common.{not, nat_lt, List, [], ◌++◌, Option, None, Some, refl, sym, ap, ◌∙◌, append_assoc}
 use Rattle.std.proofs.Common.{append-nil, length, map, take, arith, subst, inl, length-take, take_all}
 use Rattle.std.specs.Io.KnownBytes.{Consumes, IsAtEnd, Keeps}
@@ -37,14 +37,22 @@ consumes_kept (Some all) None c front h k = absurd h
 consumes_kept (Some all) (Some left) None front h k = absurd k
 consumes_kept (Some all) (Some left) (Some rest) front h k = h ∙ ap (λ xs. front ++ xs) (sym k)
 
--- what holds of a file that was read to its end, or far enough for whatever follows
-pub of_file : (before after : Option (List ℕ)) (front : List ℕ) (Enough : Type 0) → Consumes before after front →
-    IsAtEnd after ⊎ Enough → (rest : List ℕ) × ((rest ≡ []) ⊎ Enough)
-    × ((Holds : List ℕ → Type 0) → Holds (front ++ rest) → HoldsOfFile before Holds)
-of_file None after front Enough read end =
-    ([], inl refl, λ Holds holds. (front, subst Holds (append-nil front) holds))
-of_file (Some all) None front Enough read end = absurd read
-of_file (Some all) (Some left) front Enough read end = (left, end, λ Holds holds. subst Holds (sym read) holds)
+-- what holds of a file that was read to its end, or far enough for whatever follows, where some that was read is left
+pub of_file : (before after : Option (List ℕ)) (front left : List ℕ) (Enough : Type 0) →
+    Consumes before after (front ++ left) → (left ≡ []) ⊎ Enough → IsAtEnd after ⊎ Enough → (more : List ℕ)
+    × ((left ++ more ≡ []) ⊎ Enough)
+    × ((Holds : List ℕ → Type 0) → Holds (front ++ (left ++ more)) → HoldsOfFile before Holds)
+of_file None after front left Enough read all end = (
+  [],
+  ⊎_elim (λ none. inl (append-nil left ∙ none)) (λ far. inr far) all,
+  λ Holds holds. (front ++ (left ++ []), holds),
+)
+of_file (Some bytes) None front left Enough read all end = absurd read
+of_file (Some bytes) (Some more) front left Enough read all end = (
+  more,
+  ⊎_elim (λ none. ⊎_elim (λ at. inl (λ i. none i ++ at i)) (λ far. inr far) end) (λ far. inr far) all,
+  λ Holds holds. subst Holds (sym (read ∙ append_assoc front left more)) holds,
+)
 
 -- ---- too many entries
 
@@ -80,9 +88,9 @@ pub refused_file : (e : ReadError) (cut : Cut) (limit : Option ℕ) (n : ℕ) (b
 refused_file e cut limit n before after is (inl none) = inl none
 refused_file e cut limit n before after is (inr (inl failed)) = inr (inl failed)
 refused_file e cut limit n before after is (inr (inr (why, far))) =
-    let (rest, _, holds) = of_file before after far.front (Unit {0}) far.consumed (inr tt) in
+    let (more, _, holds) = of_file before after [] far.front (Unit {0}) far.consumed (inr tt) (inr tt) in
     inr (inr (holds (λ bytes. read_refusal cut limit bytes ≡ Some e)
-    (refused_many cut limit n (far.front ++ rest) is (far.many rest) ∙ ap Some (sym why))))
+    (refused_many cut limit n (far.front ++ more) is (far.many more) ∙ ap Some (sym why))))
 
 -- ---- without a limit
 
@@ -123,9 +131,12 @@ same_refusal cut limit n bytes is =
           (refuses (partial_of cut) && (not (length (rest_of cut bytes) == 0) && short i))
     ]
 
-pub refused_either : (e : ReadError) (was cut : Cut) (limit : Option ℕ) (n : ℕ) (bytes : List ℕ) → was ≡ cut →
-    n ≡ unwrap_or limit (2 ^ 64 - 1) → (e ≡ OutOfMemory) ⊎ (read_refusal was (Some n) bytes ≡ Some e) →
-    (e ≡ OutOfMemory) ⊎ (read_refusal cut limit bytes ≡ Some e)
-refused_either e was cut limit n bytes same is (inl none) = inl none
-refused_either e was cut limit n bytes same is (inr refusal) =
-    inr (same_refusal cut limit n bytes is ∙ ap (λ k. read_refusal k (Some n) bytes) (sym same) ∙ refusal)
+pub refused_either : (e : ReadError) (was cut : Cut) (limit : Option ℕ) (n : ℕ) (bytes : List ℕ)
+    (before : Option (List ℕ)) → was ≡ cut → n ≡ unwrap_or limit (2 ^ 64 - 1) →
+    ((Holds : List ℕ → Type 0) → Holds bytes → HoldsOfFile before Holds) →
+    (e ≡ OutOfMemory) ⊎ (read_refusal was (Some n) bytes ≡ Some e) →
+    (e ≡ OutOfMemory) ⊎ ((e ≡ FailedRead) ⊎ HoldsOfFile before (λ bs. read_refusal cut limit bs ≡ Some e))
+refused_either e was cut limit n bytes before same is holds (inl none) = inl none
+refused_either e was cut limit n bytes before same is holds (inr refusal) =
+    inr (inr (holds (λ bs. read_refusal cut limit bs ≡ Some e)
+    (same_refusal cut limit n bytes is ∙ ap (λ k. read_refusal k (Some n) bytes) (sym same) ∙ refusal)))
