@@ -1,10 +1,10 @@
 -- The tree of the entries that have ended, as bytes of a file come.
 use Rattle.std.proofs.Common.{◌≡◌, ◌⊎◌, ◌∙◌, ◌++◌, ◌+◌, ◌-◌, ◌^◌, ◌<◌, ◌≤◌, [], ℕ, List, Bool, true, false}
-use Rattle.std.proofs.Common.{if◌then◌else◌, ap, append-nil, append_assoc, arith, inl, inr, leb-false, leb-true, length}
+use Rattle.std.proofs.Common.{if◌then◌else◌, ap, append-nil, append_assoc, arith, inl, inr, leb-false, length}
 use Rattle.std.proofs.Common.{length-append, length-take, map, nat_le, nat_lt, refl, subst, sym, take, Option, None}
 use Rattle.std.proofs.Common.{Some}
 use Rattle.std.specs.Prelude.{unwrap_or}
-use Rattle.std.proofs.lemmas.Bool.{cases_Bool, le-leb, lt-leb, ltb-true}
+use Rattle.std.proofs.lemmas.Bool.{le-leb, lt-leb, ltb-true}
 use Rattle.std.proofs.lemmas.List.{length-map, map-append}
 use Rattle.sha2.specs.Sha256.{sha256}
 use Rattle.tlog.specs.Rfc9162.{leaf_hash}

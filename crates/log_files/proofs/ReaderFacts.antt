@@ -1,9 +1,9 @@
 -- What a reader gives, piece after piece, and what is read of it.
-use Rattle.std.proofs.Common.{⊎_elim, inr, leb-false, leb-true, nat_le, ◌≡◌, ◌≤◌, ◌⊎◌, ℕ, ◌-◌, ◌^◌, ◌==◌, ◌&&◌, Bool, true, false}
+use Rattle.std.proofs.Common.{⊎_elim, inr, nat_le, ◌≡◌, ◌≤◌, ◌⊎◌, ℕ, ◌-◌, ◌^◌, ◌==◌, ◌&&◌}
 use Rattle.std.proofs.Common.{not, nat_lt, List, [], ◌++◌, Option, None, Some, refl, sym, ap, ◌∙◌, append_assoc}
-use Rattle.std.proofs.Common.{append-nil, length, map, take, arith, subst, inl, length-take, take_all}
+use Rattle.std.proofs.Common.{append-nil, length, take, arith, subst, inl, length-take, take_all}
 use Rattle.std.specs.Io.KnownBytes.{Consumes, IsAtEnd, Keeps}
-use Rattle.std.specs.Prelude.{unwrap_or, IfErr, IfOk, Result, Ok, Err}
+use Rattle.std.specs.Prelude.{unwrap_or}
 use Rattle.std.proofs.lemmas.Bool.{cases_lt, lt-ltb}
 use Rattle.std.proofs.lemmas.List.{length-map}
 use Rattle.sha2.specs.Sha256.{sha256}
@@ -11,7 +11,6 @@ use Rattle.tlog.specs.Rfc9162.{leaf_hash}
 use Rattle.log_files.specs.Entries.{entries_in, first_of, is_short, partial_of, read_refusal, refuses, rest_of, wanted_of}
 use Rattle.log_files.specs.Entries.{HoldsOfFile}
 use Rattle.log_files.specs.Inner.Splitting.{AreTooMany, ReadsTooMany}
-use Rattle.tlog_tree.specs.Builders.{IsBuilderOf}
 use Rattle.log_files.specs.Logs.{IsLogOf}
 use Rattle.log_files.specs.declared.cut.Cut.{Cut}
 use Rattle.log_files.specs.declared.error.ReadError.{ReadError}

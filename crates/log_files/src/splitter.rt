@@ -73,79 +73,28 @@ impl<'a> Splitter<'a> {
         ensures read { (wanted front : List ℕ) (ended : List (List ℕ)) → IsAt wanted self.old front ended →
             IfOk result (λ (hashes, rest). HasRead wanted self.new front ended bytes.now rest.now hashes.items) }
     {
-        if self.open_entry.len > 0 {
-            return self.read_open(alloc, bytes);
+        if self.open_entry.len == 0 {
+            let most = self.limit.saturating_sub(self.count);
+            let (entries, rest) = self.cut.entries_at_head(alloc, most, bytes)?;
+            if !entries.is_empty() {
+                self.wanted.copy(alloc, self.count, &entries)?;
+                self.count += entries.len();
+                return Ok((leaf_hashes(alloc, &entries)?, rest));
+            }
         }
-        let (hashes, rest) = self.read_whole(alloc, bytes)?;
-        if hashes.is_empty() {
-            return self.read_open(alloc, bytes);
-        }
-        Ok((hashes, rest))
-    }
-
-    /// Reads whole entries from the head of the next bytes, where none is open.
-    fn read_whole<'b>(
-        &mut self,
-        alloc: Global,
-        bytes: &'b [u8],
-    ) -> Result<(Vec<[u8; 32]>, &'b [u8]), AllocError>
-        requires { IsReady self.old }
-        ensures places { OnOk result (HasPlaces self.new.wanted) }
-        ensures same { OnOk result ((self.new.cut ≡ self.old.cut) × (self.new.limit ≡ self.old.limit)) }
-        ensures count { IfOk result (λ (hashes, rest). self.new.count ≡ self.old.count + length hashes.items) }
-        ensures read { IfOk result (λ (hashes, rest). (entries : List (List ℕ))
-            × AreAtHead self.old.cut bytes.now rest.now entries
-            × (hashes.items ≡ map (leaf_hash sha256) entries)
-            × ((wanted : List ℕ) (ended : List (List ℕ)) → Holds wanted self.old ended [] →
-            Holds wanted self.new (ended ++ entries) [])) }
-    {
-        let most = self.limit.saturating_sub(self.count);
-        let (entries, rest) = self.cut.entries_at_head(alloc, most, bytes)?;
-        self.wanted.copy(alloc, self.count, &entries)?;
-        self.count += entries.len();
-        Ok((leaf_hashes(alloc, &entries)?, rest))
-    }
-
-    /// Reads bytes of the open entry.
-    fn read_open<'b>(
-        &mut self,
-        alloc: Global,
-        bytes: &'b [u8],
-    ) -> Result<(Vec<[u8; 32]>, &'b [u8]), AllocError>
-        requires ready { IsReady self.old }
-        requires some { 0 < length bytes.now }
-        requires room { self.old.count < self.old.limit }
-        ensures ready { OnOk result (IsReady self.new) }
-        ensures same { OnOk result ((self.new.cut ≡ self.old.cut) × (self.new.limit ≡ self.old.limit)) }
-        ensures fewer { IfOk result (λ (hashes, rest). length rest.now < length bytes.now) }
-        ensures read { (wanted front : List ℕ) (ended : List (List ℕ)) → IsAt wanted self.old front ended →
-            IfOk result (λ (hashes, rest). HasRead wanted self.new front ended bytes.now rest.now hashes.items) }
-    {
         match self.cut.split_at_end(self.open_entry.len, bytes) {
             Some((more, rest)) => {
-                self.push(more)?;
+                self.open_entry.push(more);
+                self.wanted.push(self.count, more)?;
                 let hash = self.end(alloc)?;
                 Ok((vec![in alloc; hash]?, rest))
             }
             None => {
-                self.push(bytes)?;
+                self.open_entry.push(bytes);
+                self.wanted.push(self.count, bytes)?;
                 Ok((Vec::new(alloc), &bytes[bytes.len()..]))
             }
         }
-    }
-
-    /// Adds the next bytes of the open entry.
-    fn push(&mut self, more: &[u8]) -> Result<(), AllocError>
-        requires { HasPlaces self.old.wanted }
-        ensures places { OnOk result (HasPlaces self.new.wanted) }
-        ensures same { (self.new.cut ≡ self.old.cut) × (self.new.limit ≡ self.old.limit)
-            × (self.new.count ≡ self.old.count) }
-        ensures holds { (wanted : List ℕ) (ended : List (List ℕ)) (bytes : List ℕ) →
-            Holds wanted self.old ended bytes →
-            OnOk result (Holds wanted self.new ended (bytes ++ more.now)) }
-    {
-        self.open_entry.push(more);
-        self.wanted.push(self.count, more)
     }
 
     /// Ends the open entry, and returns its leaf hash.

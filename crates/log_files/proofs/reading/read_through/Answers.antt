@@ -3,7 +3,7 @@ use Rattle.std.proofs.Common.{◌⊎◌, ℕ, List, ◌≡◌, ◌++◌, ◌∙�
 use Rattle.std.proofs.Common.{take}
 use Rattle.std.proofs.lemmas.Result.{err_from_is_err_and}
 use Rattle.std.specs.Io.KnownBytes.{Consumes, ReadConsumes}
-use Rattle.log_files.specs.Inner.Splitting.{AreTooMany, HasBuilt, IsReady}
+use Rattle.log_files.specs.Inner.Splitting.{AreTooMany, IsReady}
 use Rattle.log_files.specs.declared.cut.Cut.{Cut}
 use Rattle.log_files.specs.declared.error.ReadError.{ReadError}
 use Rattle.log_files.specs.declared.error.ReadError.TheVariants.{OutOfMemory, TooManyEntries}
