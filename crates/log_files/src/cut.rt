@@ -1,5 +1,5 @@
 //! How a file is cut into entries.
-ghost use Rattle.std.specs.Prelude.{◌≡◌, ℕ, ◌≤◌, ◌++◌, List, [], MatchOption, IfOk, length, map, min};
+ghost use Rattle.std.specs.Prelude.{◌≡◌, ℕ, ◌≤◌, ◌++◌, List, MatchOption, IfOk, length, map, min};
 ghost use Rattle.log_files.specs.Entries.{IsCut, partial_of};
 ghost use Rattle.log_files.specs.Inner.Splitting.{ending, AreAtHead, IsOpen, IsWhole};
 

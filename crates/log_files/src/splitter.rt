@@ -1,11 +1,11 @@
 //! The entries of a file whose bytes come piece by piece.
 
 ghost use Rattle.std.specs.Prelude.{◌≡◌, ◌⊎◌, ◌+◌, ◌<◌, ◌≤◌, ◌∷◌, ◌++◌, ℕ, List, [], IfErr, IfOk, OnOk, length};
-ghost use Rattle.std.specs.Prelude.{map, nat_le, take, true, Some};
+ghost use Rattle.std.specs.Prelude.{nat_le, take, true, Some};
 ghost use Rattle.sha2.specs.Sha256.{sha256};
 ghost use Rattle.tlog.specs.Rfc9162.{leaf_hash};
-ghost use Rattle.log_files.specs.Entries.{entries_in, is_refused, wanted_of, IsCut};
-ghost use Rattle.log_files.specs.Inner.Splitting.{AreAll, AreAtHead, HasRead, Holds, IsAt, IsReady};
+ghost use Rattle.log_files.specs.Entries.{entries_in, is_refused, IsCut};
+ghost use Rattle.log_files.specs.Inner.Splitting.{AreAll, HasRead, Holds, IsAt, IsReady};
 ghost use Rattle.log_files.specs.Inner.Wanted.{HasPlaces, HoldsWanted};
 ghost use Rattle.log_files.specs.declared.error.ReadError.TheVariants.{EndsInsideLine, OutOfMemory};
 

@@ -8,7 +8,7 @@ use Rattle.std.specs.Prelude.{◌&&◌, if◌then◌else◌, nat_eq, nat_lt, opt
 use Rattle.std.specs.Cmp.Lexicographic.{pointwise, bytes_decides}
 use Rattle.std.specs.Option.{option_and_then}
 use Rattle.std.specs.Result.{result_ok}
-use Rattle.std.proofs.lemmas.Bool.{cases_lt}
+use Rattle.std.proofs.lemmas.Bool.{cases_lt, ne_eqb}
 use Rattle.std.proofs.lemmas.Bool.Decides.{Decides-and, Decides-eqb, Decides-like, Decides-ltb}
 use Rattle.std.proofs.lemmas.List.{get_or_past, length-replicate, take-append-drop, take_at, drop_at}
 use Rattle.std.proofs.lemmas.List.{get_or-append-add}
@@ -248,36 +248,28 @@ len_begins text = by_outcome (len_of text)
     by_outcome None = refl
     by_outcome (Some n) = ap Some (sym (zero-add n))
 
-module _ (text rest group below : List ℕ) (len : ℕ) (o : Option ℕ) where
-  pub len_more : (n : ℕ) → rest ≡ group ++ below → length group ≡ 4 → 4 < length rest → o ≡ len_of group →
-      o ≡ Some n → n ≡ 3 → len_of text ≡ option_map (λ k. len + k) (len_of rest) →
-      len_of text ≡ option_map (λ k. len + 3 + k) (len_of below)
-  len_more n split four long told is three so_far =
-      let more : 0 < length below = omega (arith, long, four, ap length split, length-append group below) in
-      so_far
-      ∙ ap (option_map (λ k. len + k)) (ap len_of split ∙ len_of_group group below four more
-      ∙ ap (λ g. with_group g (len_of below)) (sym told ∙ is ∙ ap Some three))
-      ∙ by_outcome (len_of below)
-    where
-      by_outcome : (b : Option ℕ) →
-          option_map (λ k. len + k) (option_map (λ m. 3 + m) b) ≡ option_map (λ k. len + 3 + k) b
-      by_outcome None = refl
-      by_outcome (Some k) = ap Some (sym (add_assoc len 3 k))
+pub len_step : (text rest group below : List ℕ) (len : ℕ) → rest ≡ group ++ below → length group ≡ 4 →
+    4 < length rest → len_of text ≡ option_map (λ k. len + k) (len_of rest) →
+    len_of text ≡ option_map (λ k. len + k) (with_group (len_of group) (len_of below))
+len_step text rest group below len split four long so_far =
+    let more : 0 < length below = omega (arith, long, four, ap length split, length-append group below) in
+    so_far ∙ ap (option_map (λ k. len + k)) (ap len_of split ∙ len_of_group group below four more)
 
-  pub len_refused : rest ≡ group ++ below → length group ≡ 4 → 4 < length rest → o ≡ len_of group →
-      ((n : ℕ) → o ≡ Some n → n ≡ 3 → ⊥) → len_of text ≡ option_map (λ k. len + k) (len_of rest) →
-      None ≡ len_of text
-  len_refused split four long told never so_far =
-      let more : 0 < length below = omega (arith, long, four, ap length split, length-append group below) in
-      sym (so_far
-      ∙ ap (option_map (λ k. len + k)) (ap len_of split ∙ len_of_group group below four more
-      ∙ ap (λ g. with_group g (len_of below)) (sym told) ∙ by_outcome o never))
-    where
-      by_outcome : (p : Option ℕ) → ((n : ℕ) → p ≡ Some n → n ≡ 3 → ⊥) → with_group p (len_of below) ≡ None
-      by_outcome None bad = refl
-      by_outcome (Some n) bad =
-          let other = fails (n == 3) (Decides-eqb n 3) (bad n refl) in
-          λ i. if other i then option_map (λ m. 3 + m) (len_of below) else None
+pub len_more : (len n : ℕ) (group rest : Option ℕ) → group ≡ Some n → n ≡ 3 →
+    option_map (λ k. len + k) (with_group group rest) ≡ option_map (λ k. len + 3 + k) rest
+len_more len n group rest some three =
+    ap (λ o. option_map (λ k. len + k) (with_group o rest)) (some ∙ ap Some three) ∙ by_rest rest
+  where
+    by_rest : (o : Option ℕ) → option_map (λ k. len + k) (option_map (λ m. 3 + m) o) ≡ option_map (λ k. len + 3 + k) o
+    by_rest None = refl
+    by_rest (Some k) = ap Some (sym (add_assoc len 3 k))
+
+pub len_refused : (len : ℕ) (group rest : Option ℕ) → ((n : ℕ) → group ≡ Some n → n ≡ 3 → ⊥) →
+    option_map (λ k. len + k) (with_group group rest) ≡ None
+len_refused len None rest never = refl
+len_refused len (Some n) rest never =
+    let other = ne_eqb n 3 (never n refl) in
+    λ i. option_map (λ k. len + k) (if other i then option_map (λ m. 3 + m) rest else None)
 
 -- what decoding into a slice tells
 module _ (text old new : List ℕ) (text_is : IsBytes text) (new_is : IsBytes new) (len : length new ≡ length old) where

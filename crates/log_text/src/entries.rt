@@ -1,11 +1,9 @@
 //! Proofs of entries.
 
 ghost use Rattle.std.specs.Prelude.{◌≡◌, ◌⊎◌, ◌++◌, Err, IfErr, IfOk, Ok, OnOk, flat_map, map};
-ghost use Rattle.std.specs.Result.{result_map_both};
 ghost use Rattle.log_text.specs.Lines.{head_of};
-ghost use Rattle.log_text.specs.Reading.{bytes_by, entries_by, entries_in, entry_by, line_by, many, never};
+ghost use Rattle.log_text.specs.Reading.{entries_by, entries_in, entry_by, many, never};
 ghost use Rattle.log_text.specs.Texts.{entries_fields, entries_text, entry_fields, entry_lines};
-ghost use Rattle.log_text.specs.declared.error.Expected.TheVariants.{EntryHead};
 ghost use Rattle.log_text.specs.declared.error.Stop.TheVariants.{Memory};
 ghost use Rattle.log_text.specs.declared.error.TextError.TheVariants.{OutOfMemory};
 
