@@ -23,7 +23,7 @@ use Rattle.base64.proofs.RoundTrip.{length-encode_symbols}
 use Rattle.base64.proofs.Tables.{are_tables_alphabet, is_alphabet_printable, printable_range}
 use Rattle.log_text.specs.Lines.{are_bytes, base64, base64_bytes, digest_of}
 use Rattle.log_text.specs.Texts.{IsDigest}
-use Rattle.log_text.proofs.TestFacts.{and_then, each_decided, fails, found, itself, mapped, no_found, only_if, said_as}
+use Rattle.log_text.proofs.TestFacts.{and_then, each_decided, found, itself, mapped, no_found, only_if, said_as}
 use Rattle.log_text.proofs.TestFacts.{same_found, IsFound}
 
 -- ---- bytes
@@ -85,47 +85,38 @@ length-base64 bytes =
 
 -- ---- printable
 
+record IsPrintable (text : List ℕ) : Type 0 where
+  high : All (λ c. 32 ≤ c) text
+
 module _ (e : GeneralPurpose) where
-  abbrev symbol : ℕ → ℕ
-  symbol i = slice_index e.encode_table i
-
-  plain_cons : (i : ℕ) (rest : List ℕ) → i < 64 → All (λ c. 32 ≤ c) rest → All (λ c. 32 ≤ c) (symbol i ∷ rest)
+  plain_cons : (i : ℕ) (rest : List ℕ) → i < 64 → IsPrintable rest →
+      IsPrintable (slice_index e.encode_table i ∷ rest)
   plain_cons i rest small plain =
-      All-cons (λ c. 32 ≤ c) (symbol i) rest
-      (printable_range (symbol i)
-      (is_alphabet_printable e.encode_table e.padding.value i
-      (are_tables_alphabet e.encode_table e.decode_table e.padding.value e.tables) small)).0
-      plain
+      let printable = is_alphabet_printable e.encode_table e.padding.value i
+      (are_tables_alphabet e.encode_table e.decode_table e.padding.value e.tables) small in
+      record { high = All-cons (λ c. 32 ≤ c) _ rest (printable_range _ printable).0 plain.high }
 
-  symbols_plain : (bytes : List ℕ) → IsBytes bytes → All (λ c. 32 ≤ c) (encode_symbols e.encode_table bytes)
+  symbols_plain : (bytes : List ℕ) → IsBytes bytes → IsPrintable (encode_symbols e.encode_table bytes)
   unfolding encode_symbols
-  symbols_plain [] is = All-nil (λ c. 32 ≤ c)
+  symbols_plain [] is = record { high = All-nil (λ c. 32 ≤ c) }
   symbols_plain (a ∷ []) is =
       let a_is : a < 256 = is 0 in
-      plain_cons (a / 4) (symbol (a % 4 * 16) ∷ []) (omega arith)
-      (plain_cons (a % 4 * 16) [] (omega arith) (All-nil (λ c. 32 ≤ c)))
+      plain_cons (a / 4) _ (omega arith) (plain_cons (a % 4 * 16) _ (omega arith) (symbols_plain [] (λ i. is (suc i))))
   symbols_plain (a ∷ b ∷ []) is =
-      let a_is : a < 256 = is 0 in
-      let b_is : b < 256 = is 1 in
-      plain_cons (a / 4) (symbol (a % 4 * 16 + b / 16) ∷ symbol (b % 16 * 4) ∷ []) (omega arith)
-      (plain_cons (a % 4 * 16 + b / 16) (symbol (b % 16 * 4) ∷ []) (omega arith)
-      (plain_cons (b % 16 * 4) [] (omega arith) (All-nil (λ c. 32 ≤ c))))
+      let (a_is, b_is) : (a < 256) × (b < 256) = (is 0, is 1) in
+      plain_cons (a / 4) _ (omega arith) (plain_cons (a % 4 * 16 + b / 16) _ (omega arith)
+      (plain_cons (b % 16 * 4) _ (omega arith) (symbols_plain [] (λ i. is (suc (suc i))))))
   symbols_plain (a ∷ b ∷ c ∷ rest) is =
-      let a_is : a < 256 = is 0 in
-      let b_is : b < 256 = is 1 in
-      let c_is : c < 256 = is 2 in
-      let more = encode_symbols e.encode_table rest in
-      plain_cons (a / 4)
-      (symbol (a % 4 * 16 + b / 16) ∷ symbol (b % 16 * 4 + c / 64) ∷ symbol (c % 64) ∷ more) (omega arith)
-      (plain_cons (a % 4 * 16 + b / 16) (symbol (b % 16 * 4 + c / 64) ∷ symbol (c % 64) ∷ more) (omega arith)
-      (plain_cons (b % 16 * 4 + c / 64) (symbol (c % 64) ∷ more) (omega arith)
-      (plain_cons (c % 64) more (omega arith) (symbols_plain rest (λ i. is (suc (suc (suc i))))))))
+      let (a_is, b_is, c_is) : (a < 256) × (b < 256) × (c < 256) = (is 0, is 1, is 2) in
+      plain_cons (a / 4) _ (omega arith) (plain_cons (a % 4 * 16 + b / 16) _ (omega arith)
+      (plain_cons (b % 16 * 4 + c / 64) _ (omega arith)
+      (plain_cons (c % 64) _ (omega arith) (symbols_plain rest (λ i. is (suc (suc (suc i))))))))
 
 pub base64_plain : (bytes : List ℕ) → IsBytes bytes → All (λ c. 32 ≤ c) (base64 bytes)
 unfolding base64
 base64_plain bytes is =
     All-append (λ c. 32 ≤ c) (encode_symbols standard.encode_table bytes)
-    (replicate (padding_len (length bytes)) 61) (symbols_plain standard bytes is)
+    (replicate (padding_len (length bytes)) 61) (symbols_plain standard bytes is).high
     (All-replicate (λ c. 32 ≤ c) (padding_len (length bytes)) 61 (omega arith))
 
 -- ---- digests

@@ -1,10 +1,9 @@
 -- The laws of notes.
-use Rattle.std.proofs.Common.{◌≡◌, ◌≤◌, ◌+◌, ◌*◌, ◌==◌, true, ℕ, suc, List, [], ◌∷◌, ◌++◌, length}
+use Rattle.std.proofs.Common.{◌≡◌, ◌≤◌, ◌+◌, ◌*◌, ◌==◌, true, ℕ, List, [], ◌∷◌, ◌++◌, length}
 use Rattle.std.proofs.Common.{Ok, sym, ap, ◌∙◌, arith, append_assoc, append-nil, length-append}
 use Rattle.std.specs.Prelude.{cond, count_by, decimal, flat_map}
 use Rattle.std.specs.List.{sum_by}
 use Rattle.std.specs.Str.{chars, encode_utf8_all}
-use lib.Utf8.{encode}
 use Rattle.std.proofs.lemmas.Fmt.{length-decimal-le}
 use Rattle.std.proofs.lemmas.List.Elements.{All-nil}
 use Rattle.std.proofs.lemmas.List.Sums.{sum_by-append}
@@ -14,7 +13,7 @@ use Rattle.log_text.specs.Lines.{base64, is_line, is_origin, part_origin}
 use Rattle.log_text.specs.Laws.{CheckpointsAreReadAgain, NotesAreSpelled, PartsAreSpelled}
 use Rattle.log_text.specs.Laws.{SignaturesChangeNothing, ThreeLinesAreSpelled}
 use Rattle.log_text.specs.Reading.{checkpoint_in, error_of, log_origin_by, note_by, part_origin_by}
-use Rattle.log_text.specs.Texts.{checkpoint_text, digest_line, line, signature_lines, CheckpointFields}
+use Rattle.log_text.specs.Texts.{checkpoint_text, line, signature_lines, CheckpointFields}
 use Rattle.log_text.specs.Texts.{IsCheckpoint, IsNote}
 use Rattle.log_text.specs.declared.error.Expected.TheVariants.{Extension, PartOrigin, Signature}
 use Rattle.log_text.proofs.Base64Facts.{length-base64}
