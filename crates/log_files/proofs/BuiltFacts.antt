@@ -1,10 +1,10 @@
 -- The tree of the entries that have ended, as bytes of a file come.
 use Rattle.std.proofs.Common.{◌≡◌, ◌⊎◌, ◌∙◌, ◌++◌, ◌+◌, ◌-◌, ◌^◌, ◌<◌, ◌≤◌, [], ℕ, List, Bool, true, false}
-use Rattle.std.proofs.Common.{if◌then◌else◌, ap, append-nil, append_assoc, arith, inl, inr, leb-false, leb-true, length}
+use Rattle.std.proofs.Common.{if◌then◌else◌, ap, append-nil, append_assoc, arith, inl, inr, leb-false, length}
 use Rattle.std.proofs.Common.{length-append, length-take, map, nat_le, nat_lt, refl, subst, sym, take, Option, None}
 use Rattle.std.proofs.Common.{Some}
 use Rattle.std.specs.Prelude.{unwrap_or}
-use Rattle.std.proofs.lemmas.Bool.{cases_Bool, le-leb, lt-leb, ltb-true}
+use Rattle.std.proofs.lemmas.Bool.{le-leb, lt-leb, ltb-true}
 use Rattle.std.proofs.lemmas.List.{length-map, map-append}
 use Rattle.sha2.specs.Sha256.{sha256}
 use Rattle.tlog.specs.Rfc9162.{leaf_hash}
@@ -16,7 +16,7 @@ use Rattle.tlog_tree.specs.declared.error.TreeError.TheVariants.{SizeTooLarge, O
 use Rattle.log_files.specs.Entries.{entries_in, is_refused, read_refusal, wanted_of}
 use Rattle.log_files.specs.Errors.{read_error_of}
 use Rattle.log_files.specs.Logs.{IsLogOf}
-use Rattle.log_files.specs.Inner.Splitting.{AreAll, AreTooMany, HasBuilt, HasRead, IsAt}
+use Rattle.log_files.specs.Inner.Splitting.{AreAll, AreTooMany, HasBuilt, HasGrown, HasRead, IsAt}
 use Rattle.log_files.specs.Inner.Wanted.{HoldsWanted}
 use Rattle.log_files.specs.declared.cut.Cut.{Cut}
 use Rattle.log_files.specs.declared.error.ReadError.{ReadError}
@@ -33,71 +33,49 @@ refusal_of few refused = if few then (if refused then Some EndsInsideLine else N
 abbrev pub leaves : List (List ℕ) → List (List ℕ)
 leaves entries = map (leaf_hash sha256) entries
 
--- at the start
-pub built_none : (nodes : List (ℕ × ℕ)) (wanted : List ℕ) (s : Splitter) (tree : TreeBuilder) → IsAt wanted s [] [] →
-    IsBuilderOf [] nodes tree → HasBuilt nodes wanted s tree []
-built_none nodes wanted s tree at built =
-    record { ended = []; read = []; left_out = []; parts = refl; at = at; built = built; all_read = λ _. refl }
-
 -- more entries have ended
 pub built_more : (nodes : List (ℕ × ℕ)) (wanted : List ℕ) (s t : Splitter) (tree grown : TreeBuilder)
-    (front left rest : List ℕ) (hashes : List (List ℕ)) → HasBuilt nodes wanted s tree front → s.count < s.limit →
+    (front left rest : List ℕ) (hashes : List (List ℕ)) → HasBuilt nodes wanted s tree front →
     ((at : List ℕ) (ended : List (List ℕ)) → IsAt wanted s at ended →
     HasRead wanted t at ended left rest hashes) →
     ((before : List (List ℕ)) → IsBuilderOf before nodes tree → IsBuilderOf (before ++ hashes) nodes grown) →
     (taken : List ℕ) × (left ≡ taken ++ rest) × HasBuilt nodes wanted t grown (front ++ taken)
-built_more nodes wanted s t tree grown front left rest hashes b room reads grows =
-    let step = reads b.read b.ended b.at in
-    let none = b.all_read (omega (arith, room, b.at.holds.counted)) in
-    let here : front ≡ b.read = b.parts ∙ ap (λ xs. b.read ++ xs) none ∙ append-nil b.read in (
+built_more nodes wanted s t tree grown front left rest hashes b reads grows =
+    let step = reads front b.ended b.at in (
       step.read,
       step.parts,
       record {
         ended = b.ended ++ step.more;
-        read = b.read ++ step.read;
-        left_out = [];
-        parts = ap (λ xs. xs ++ step.read) here ∙ sym (append-nil (b.read ++ step.read));
         at = step.at;
         built = subst (λ xs. IsBuilderOf xs nodes grown)
             (ap (λ xs. leaves b.ended ++ xs) step.hashed ∙ sym (map-append (leaf_hash sha256) b.ended step.more))
             (grows (leaves b.ended) b.built);
-        all_read = λ _. refl;
       },
     )
 
--- as many have ended as are read
-pub built_full : (nodes : List (ℕ × ℕ)) (wanted : List ℕ) (s : Splitter) (tree : TreeBuilder) (front left : List ℕ) →
-    nat_le s.limit s.count ≡ true → HasBuilt nodes wanted s tree front → HasBuilt nodes wanted s tree (front ++ left)
-built_full nodes wanted s tree front left full b =
-    record {
-      ended = b.ended;
-      read = b.read;
-      left_out = b.left_out ++ left;
-      parts = ap (λ xs. xs ++ left) b.parts ∙ append_assoc b.read b.left_out left;
-      at = b.at;
-      built = b.built;
-      all_read = λ room. absurd (omega (arith, room, leb-true s.limit s.count full, b.at.holds.counted));
-    }
-
 -- ---- all that is read
 
--- what is left out follows the entries, or there is nothing more
-pub ends_there : (nodes : List (ℕ × ℕ)) (wanted : List ℕ) (s : Splitter) (tree : TreeBuilder) (front rest : List ℕ) →
-    (b : HasBuilt nodes wanted s tree front) → (rest ≡ []) ⊎ (s.limit ≤ s.count) →
-    (b.left_out ++ rest ≡ []) ⊎ (s.limit ≤ s.count)
-ends_there nodes wanted s tree front rest b (inr full) = inr full
-ends_there nodes wanted s tree front rest b (inl none) =
-    elim (cases_Bool (nat_le s.limit s.count)) [
-      | inl full ↦ inr (leb-true s.limit s.count full)
-      | inr room ↦
-          let left = b.all_read (omega (arith, leb-false s.limit s.count room, b.at.holds.counted)) in
-          inl (ap (λ xs. xs ++ rest) left ∙ none)
+-- where not as many entries have ended as are read, all of the bytes have been read
+pub whole_read : (nodes : List (ℕ × ℕ)) (wanted : List ℕ) (s : Splitter) (tree : TreeBuilder) (front bytes : List ℕ) →
+    nat_le s.limit s.count ≡ false → (g : HasGrown nodes wanted s tree front bytes) → bytes ≡ g.read
+whole_read nodes wanted s tree front bytes room g =
+    elim g.all_read [
+      | inl none ↦ g.parts ∙ ap (λ xs. g.read ++ xs) none ∙ append-nil g.read
+      | inr full ↦ absurd (omega (arith, leb-false s.limit s.count room, full))
     ]
 
-pub moved : (nodes : List (ℕ × ℕ)) (wanted : List ℕ) (s : Splitter) (tree : TreeBuilder) (front rest : List ℕ) →
-    (b : HasBuilt nodes wanted s tree front) → b.read ++ (b.left_out ++ rest) ≡ front ++ rest
-moved nodes wanted s tree front rest b =
-    sym (append_assoc b.read b.left_out rest) ∙ ap (λ xs. xs ++ rest) (sym b.parts)
+pub grown_on : (nodes : List (ℕ × ℕ)) (wanted : List ℕ) (s t : Splitter) (tree grown : TreeBuilder)
+    (bytes more : List ℕ) → nat_le s.limit s.count ≡ false → (g : HasGrown nodes wanted s tree [] bytes) →
+    HasGrown nodes wanted t grown g.read more → HasGrown nodes wanted t grown [] (bytes ++ more)
+grown_on nodes wanted s t tree grown bytes more room g step =
+    let whole = whole_read nodes wanted s tree [] bytes room g in
+    record {
+      read = g.read ++ step.read;
+      left = step.left;
+      parts = (λ i. whole i ++ step.parts i) ∙ sym (append_assoc g.read step.read step.left);
+      built = step.built;
+      all_read = step.all_read;
+    }
 
 pub log_of : (log : ReadLog) (cut : Cut) (limit : ℕ) (nodes : List (ℕ × ℕ)) (wanted bytes : List ℕ) (w : WantedEntries)
     (ended hashes : List (List ℕ)) → AreAll wanted w cut limit ended bytes hashes →
@@ -129,14 +107,12 @@ size_of : (entries : List (List ℕ)) (nodes : List (ℕ × ℕ)) (tree : TreeBu
 size_of entries nodes tree built = built.frontier.size ∙ length-map entries (leaf_hash sha256)
 
 pub many_built : (nodes : List (ℕ × ℕ)) (wanted : List ℕ) (s t : Splitter) (tree : TreeBuilder)
-    (front left rest more : List ℕ) (hashes : List (List ℕ)) → HasBuilt nodes wanted s tree front → s.count < s.limit →
+    (front left rest more : List ℕ) (hashes : List (List ℕ)) → HasBuilt nodes wanted s tree front →
     ((at : List ℕ) (ended : List (List ℕ)) → IsAt wanted s at ended →
     HasRead wanted t at ended left rest hashes) → t.cut ≡ s.cut → t.limit ≡ s.limit →
     nat_lt size_limit (tree.frontier.size + length hashes) ≡ true → AreTooMany s.cut s.limit (front ++ (left ++ more))
-many_built nodes wanted s t tree front left rest more hashes b room reads same_cut same_limit many =
-    let step = reads b.read b.ended b.at in
-    let none = b.all_read (omega (arith, room, b.at.holds.counted)) in
-    let here : front ≡ b.read = b.parts ∙ ap (λ xs. b.read ++ xs) none ∙ append-nil b.read in
+many_built nodes wanted s t tree front left rest more hashes b reads same_cut same_limit many =
+    let step = reads front b.ended b.at in
     let count = ap length step.hashed ∙ length-map step.more (leaf_hash sha256) in
     let all : 2 ^ 62 < length (b.ended ++ step.more) = omega (
       arith,
@@ -145,14 +121,11 @@ many_built nodes wanted s t tree front left rest more hashes b room reads same_c
       count,
       length-append b.ended step.more,
     ) in
-    let moved : (b.read ++ step.read) ++ (rest ++ more) ≡ front ++ (left ++ more) =
-    append_assoc b.read step.read (rest ++ more)
-    ∙ ap (λ xs. b.read ++ xs) (sym (append_assoc step.read rest more) ∙ ap (λ xs. xs ++ more) (sym step.parts))
-    ∙ ap (λ xs. xs ++ (left ++ more)) (sym here) in
-    subst (λ bytes. AreTooMany s.cut s.limit bytes) moved
-    (subst (λ k. AreTooMany k s.limit ((b.read ++ step.read) ++ (rest ++ more))) same_cut
-    (subst (λ n. AreTooMany t.cut n ((b.read ++ step.read) ++ (rest ++ more))) same_limit
-    (many_at wanted t (b.read ++ step.read) (rest ++ more) (b.ended ++ step.more) step.at all)))
+    let moved : (front ++ step.read) ++ (rest ++ more) ≡ front ++ (left ++ more) =
+    append_assoc front step.read (rest ++ more)
+    ∙ ap (λ xs. front ++ xs) (sym (append_assoc step.read rest more) ∙ ap (λ xs. xs ++ more) (sym step.parts)) in
+    rw (← same_cut, ← same_limit, ← moved)
+    (many_at wanted t (front ++ step.read) (rest ++ more) (b.ended ++ step.more) step.at all)
 
 -- ---- why a file is not read
 
@@ -169,31 +142,27 @@ refused_many cut None n bytes is many =
 
 -- the file ends inside a line
 pub refused_inside : (nodes : List (ℕ × ℕ)) (wanted : List ℕ) (s : Splitter) (tree : TreeBuilder)
-    (front rest : List ℕ) → (b : HasBuilt nodes wanted s tree front) → (e : ReadError) →
-    (e ≡ OutOfMemory) ⊎ ((e ≡ EndsInsideLine)
-    × (is_refused s.cut (Some s.limit) (b.read ++ (b.left_out ++ rest)) ≡ true)
-    × (take s.limit (entries_in s.cut (b.read ++ (b.left_out ++ rest))) ≡ b.ended)) →
-    (e ≡ OutOfMemory) ⊎ (read_refusal s.cut (Some s.limit) (front ++ rest) ≡ Some e)
-refused_inside nodes wanted s tree front rest b e (inl none) = inl none
-refused_inside nodes wanted s tree front rest b e (inr (is, refused, all)) =
-    let bytes = b.read ++ (b.left_out ++ rest) in
-    let few : length (take s.limit (entries_in s.cut bytes)) ≤ 2 ^ 62 =
-    omega (arith, ap length all, size_of b.ended nodes tree b.built, tree.frontier.limit) in
-    inr (ap (read_refusal s.cut (Some s.limit)) (sym (moved nodes wanted s tree front rest b))
-    ∙ ap (λ t. refusal_of t (is_refused s.cut (Some s.limit) bytes))
-    (le-leb (length (take s.limit (entries_in s.cut bytes))) (2 ^ 62) few)
-    ∙ ap (refusal_of true) refused ∙ ap Some (sym is))
+    (front bytes : List ℕ) → (b : HasBuilt nodes wanted s tree front) → (e : ReadError) →
+    (e ≡ OutOfMemory) ⊎ ((e ≡ EndsInsideLine) × (is_refused s.cut (Some s.limit) bytes ≡ true)
+    × (take s.limit (entries_in s.cut bytes) ≡ b.ended)) →
+    (e ≡ OutOfMemory) ⊎ (read_refusal s.cut (Some s.limit) bytes ≡ Some e)
+refused_inside nodes wanted s tree front bytes b e (inl none) = inl none
+refused_inside nodes wanted s tree front bytes b e (inr (is, refused, all)) =
+    let read = take s.limit (entries_in s.cut bytes) in
+    let few : length read ≤ 2 ^ 62 = omega (arith, ap length all, size_of b.ended nodes tree b.built, tree.frontier.limit) in
+    inr ((λ i. refusal_of (le-leb (length read) (2 ^ 62) few i) (refused i)) ∙ ap Some (sym is))
 
-pub many_at_end : (nodes : List (ℕ × ℕ)) (wanted : List ℕ) (s : Splitter) (tree : TreeBuilder) (front rest : List ℕ) →
+pub many_at_end : (nodes : List (ℕ × ℕ)) (wanted : List ℕ) (s : Splitter) (tree : TreeBuilder) (front bytes : List ℕ) →
     (b : HasBuilt nodes wanted s tree front) → (w : WantedEntries) (hashes : List (List ℕ)) →
-    AreAll wanted w s.cut s.limit b.ended (front ++ rest) hashes →
-    nat_lt size_limit (tree.frontier.size + length hashes) ≡ true → AreTooMany s.cut s.limit (front ++ rest)
-many_at_end nodes wanted s tree front rest b w hashes all many =
+    AreAll wanted w s.cut s.limit b.ended bytes hashes →
+    nat_lt size_limit (tree.frontier.size + length hashes) ≡ true → AreTooMany s.cut s.limit bytes
+many_at_end nodes wanted s tree front bytes b w hashes all many =
+    let more = ap length all.hashed ∙ length-map all.more (leaf_hash sha256) in
     omega (
       arith,
       ltb-true size_limit (tree.frontier.size + length hashes) many,
       size_of b.ended nodes tree b.built,
-      ap length all.hashed ∙ length-map all.more (leaf_hash sha256),
+      more,
       ap length all.all,
       length-append b.ended all.more,
     )

@@ -1,7 +1,6 @@
 -- What a splitter has read.
 use Rattle.std.proofs.Common.{◌≡◌, ◌∙◌, ◌∷◌, ◌++◌, ◌<◌, ◌==◌, [], ℕ, List, ap, append-nil, append_assoc, arith, length}
 use Rattle.std.proofs.Common.{eqb-true, map, length-append, refl, subst, sym, true}
-use Rattle.std.proofs.lemmas.List.{length-map, nil_from_length}
 use Rattle.std.proofs.lemmas.List.Elements.{All-head}
 use Rattle.sha2.specs.Sha256.{sha256}
 use Rattle.tlog.specs.Rfc9162.{leaf_hash}
@@ -46,19 +45,6 @@ fewer_after_whole cut bytes rest (entry ∷ entries) is head some =
     let fewer = fewer_left cut [] entry (joined cut entries ++ rest) bytes (none_open cut is)
     (All-head (IsWhole cut) entry entries head.whole) parts in
     omega (arith, fewer, length-append (joined cut entries) rest)
-
--- or none
-pub none_read : (wanted : List ℕ) (s t : Splitter) (front : List ℕ) (ended entries hashes : List (List ℕ)) →
-    t.cut ≡ s.cut → (b : IsAt wanted s front ended) → b.open_bytes ≡ [] → hashes ≡ map (leaf_hash sha256) entries →
-    length hashes ≡ 0 → Holds wanted t (ended ++ entries) [] → IsAt wanted t front ended
-none_read wanted s t front ended entries hashes same b none hashed no_hashes holds =
-    let no_entries = nil_from_length entries
-    (sym (ap length hashed ∙ length-map entries (leaf_hash sha256)) ∙ no_hashes) in
-    record {
-      open_bytes = [];
-      holds = subst (λ xs. Holds wanted t xs []) (ap (λ xs. ended ++ xs) no_entries ∙ append-nil ended) holds;
-      at = subst (λ k. IsCutAt k front ended []) (sym same) (subst (IsCutAt s.cut front ended) none b.at);
-    }
 
 -- the open entry, to its end
 pub open_ended : (wanted : List ℕ) (s t : Splitter) (front bytes more rest : List ℕ) (ended : List (List ℕ)) →
@@ -110,15 +96,4 @@ ready_after s t bytes rest hashes ready same places step =
       cut = subst IsCut (sym same) ready.cut;
       places = places;
       stands = (wanted, front ++ read.read, ended ++ read.more, read.at);
-    }
-
-pub still_ready : (s t : Splitter) → IsReady s → t.cut ≡ s.cut → HasPlaces t.wanted →
-    ((wanted front : List ℕ) (ended : List (List ℕ)) → IsAt wanted s front ended → IsAt wanted t front ended) →
-    IsReady t
-still_ready s t ready same places still =
-    let (wanted, front, ended, b) = ready.stands in
-    record {
-      cut = subst IsCut (sym same) ready.cut;
-      places = places;
-      stands = (wanted, front, ended, still wanted front ended b);
     }

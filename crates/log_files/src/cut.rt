@@ -1,5 +1,5 @@
 //! How a file is cut into entries.
-ghost use Rattle.std.specs.Prelude.{◌≡◌, ℕ, ◌≤◌, ◌++◌, List, [], MatchOption, IfOk, length, map, min};
+ghost use Rattle.std.specs.Prelude.{◌≡◌, ℕ, ◌≤◌, ◌++◌, List, MatchOption, IfOk, length, map, min};
 ghost use Rattle.log_files.specs.Entries.{IsCut, partial_of};
 ghost use Rattle.log_files.specs.Inner.Splitting.{ending, AreAtHead, IsOpen, IsWhole};
 
@@ -63,10 +63,6 @@ impl Cut {
 
     /// The whole entries at the head of some bytes, at most `most`, and the bytes after them. There is one if one is
     /// whole and `most` is not 0.
-    ///
-    /// # Errors
-    ///
-    /// `AllocError` if memory runs out.
     pub(crate) fn entries_at_head(
         self,
         alloc: Global,

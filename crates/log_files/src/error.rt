@@ -1,6 +1,6 @@
 //! Why a file is not read.
 
-ghost use Rattle.std.specs.Prelude.{◌≡◌, if◌then◌else◌};
+ghost use Rattle.std.specs.Prelude.{◌≡◌};
 ghost use Rattle.log_files.specs.Errors.{read_error_of};
 ghost use Rattle.log_files.specs.declared.error.ReadError.TheVariants.{OutOfMemory};
 

@@ -1,6 +1,6 @@
 //! The entry of a file that has begun and not ended.
 
-ghost use Rattle.std.specs.Prelude.{◌≡◌, ℕ, ◌==◌, List, [], ◌++◌, length};
+ghost use Rattle.std.specs.Prelude.{◌≡◌, ℕ, List, [], ◌++◌};
 ghost use Rattle.sha2.specs.Sha256.{sha256};
 ghost use Rattle.tlog.specs.Rfc9162.{leaf_hash};
 ghost use Rattle.log_files.specs.Inner.Splitting.{HoldsOpen};
@@ -24,13 +24,6 @@ impl OpenEntry {
         let mut hasher = Sha256::new();
         hasher.update(&[0]);
         OpenEntry { hasher, len: 0 }
-    }
-
-    /// Whether it has no bytes so far.
-    pub(crate) fn is_empty(&self) -> bool
-        ensures { (bytes : List ℕ) → HoldsOpen self.now bytes → result ≡ (length bytes == 0) }
-    {
-        self.len == 0
     }
 
     /// Adds its next bytes.

@@ -4,7 +4,7 @@ ghost use Rattle.std.specs.Prelude.{◌≡◌, ◌⊎◌, ◌≤◌, ◌++◌, �
 ghost use Rattle.std.specs.Io.KnownBytes.{Consumes, IsAtEnd};
 ghost use Rattle.log_files.specs.Entries.{read_refusal, HoldsOfFile, IsCut};
 ghost use Rattle.log_files.specs.Logs.{IsLogOf};
-ghost use Rattle.log_files.specs.Inner.Splitting.{AreTooMany, HasBuilt, IsReady, ReadsTooMany};
+ghost use Rattle.log_files.specs.Inner.Splitting.{AreTooMany, HasBuilt, HasGrown, IsReady, ReadsTooMany};
 ghost use Rattle.log_files.specs.declared.error.ReadError.TheVariants.{OutOfMemory, Read as FailedRead};
 ghost use Rattle.log_files.specs.declared.error.ReadError.TheVariants.{TooManyEntries};
 
@@ -60,7 +60,10 @@ pub fn read_log<Src: Read>(
     let mut splitter = Splitter::new(cut, limit.unwrap_or(usize::MAX), wanted);
     let tree = TreeBuilder::new(alloc, wanted_nodes)?;
     let tree = read_through(alloc, &mut splitter, tree, file)?;
-    finish(alloc, splitter, tree)
+    let hashes = splitter.end_file(alloc)?;
+    let tree = tree.push_many(alloc, &hashes)?;
+    let entries = splitter.wanted.into_entries(alloc);
+    Ok(ReadLog { tree, entries })
 }
 
 /// Reads a file until it ends, or until as many entries have ended as are read at most.
@@ -74,8 +77,8 @@ fn read_through<Src: Read>(
     ensures ready { OnOk result (IsReady splitter.new) }
     ensures same { OnOk result ((splitter.new.cut ≡ splitter.old.cut) × (splitter.new.limit ≡ splitter.old.limit)) }
     ensures built { (nodes : List (ℕ × ℕ)) (wanted : List ℕ) → HasBuilt nodes wanted splitter.old tree [] →
-        IfOk result (λ read. (front : List ℕ) × Consumes (Src.remaining file.old) (Src.remaining file.new) front
-        × HasBuilt nodes wanted splitter.new read front
+        IfOk result (λ read. (bytes : List ℕ) × Consumes (Src.remaining file.old) (Src.remaining file.new) bytes
+        × HasGrown nodes wanted splitter.new read [] bytes
         × (IsAtEnd (Src.remaining file.new) ⊎ (splitter.new.limit ≤ splitter.new.count))) }
     ensures refused { (nodes : List (ℕ × ℕ)) (wanted : List ℕ) → HasBuilt nodes wanted splitter.old tree [] →
         IfErr result (λ e. (e ≡ OutOfMemory) ⊎ ((e ≡ FailedRead) ⊎ ((e ≡ TooManyEntries)
@@ -111,7 +114,7 @@ fn push(
     ensures ready { OnOk result (IsReady splitter.new) }
     ensures same { OnOk result ((splitter.new.cut ≡ splitter.old.cut) × (splitter.new.limit ≡ splitter.old.limit)) }
     ensures built { (nodes : List (ℕ × ℕ)) (wanted front : List ℕ) → HasBuilt nodes wanted splitter.old tree front →
-        IfOk result (λ grown. HasBuilt nodes wanted splitter.new grown (front ++ bytes.now)) }
+        IfOk result (λ grown. HasGrown nodes wanted splitter.new grown front bytes.now) }
     ensures refused { (nodes : List (ℕ × ℕ)) (wanted front rest : List ℕ) →
         HasBuilt nodes wanted splitter.old tree front → IfErr result (λ e. (e ≡ OutOfMemory) ⊎ ((e ≡ TooManyEntries)
         × AreTooMany splitter.old.cut splitter.old.limit (front ++ (bytes.now ++ rest)))) }
@@ -123,29 +126,4 @@ fn push(
         left = rest;
     }
     Ok(tree)
-}
-
-/// The log of a file that has ended, or whose entries have reached the limit.
-fn finish(
-    alloc: Global,
-    mut splitter: Splitter<'_>,
-    tree: TreeBuilder,
-) -> Result<ReadLog, ReadError>
-    requires { IsReady splitter }
-    ensures read { (nodes : List (ℕ × ℕ)) (wanted front rest : List ℕ) →
-        HasBuilt nodes wanted splitter.entry tree front →
-        (rest ≡ []) ⊎ (splitter.entry.limit ≤ splitter.entry.count) →
-        IfOk result (λ log. IsLogOf log splitter.entry.cut (Some splitter.entry.limit) nodes wanted (front ++ rest)) }
-    ensures refused { (nodes : List (ℕ × ℕ)) (wanted front rest : List ℕ) →
-        HasBuilt nodes wanted splitter.entry tree front →
-        (rest ≡ []) ⊎ (splitter.entry.limit ≤ splitter.entry.count) →
-        IfErr result (λ e. (e ≡ OutOfMemory)
-        ⊎ (read_refusal splitter.entry.cut (Some splitter.entry.limit) (front ++ rest) ≡ Some e)) }
-{
-    let hashes = splitter.end_file(alloc)?;
-    let tree = tree.push_many(alloc, &hashes)?;
-    Ok(ReadLog {
-        tree,
-        entries: splitter.into_wanted(alloc),
-    })
 }

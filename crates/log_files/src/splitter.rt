@@ -1,11 +1,11 @@
 //! The entries of a file whose bytes come piece by piece.
 
 ghost use Rattle.std.specs.Prelude.{◌≡◌, ◌⊎◌, ◌+◌, ◌<◌, ◌≤◌, ◌∷◌, ◌++◌, ℕ, List, [], IfErr, IfOk, OnOk, length};
-ghost use Rattle.std.specs.Prelude.{map, nat_le, take, true, Some};
+ghost use Rattle.std.specs.Prelude.{nat_le, take, true, Some};
 ghost use Rattle.sha2.specs.Sha256.{sha256};
 ghost use Rattle.tlog.specs.Rfc9162.{leaf_hash};
-ghost use Rattle.log_files.specs.Entries.{entries_in, is_refused, wanted_of, IsCut};
-ghost use Rattle.log_files.specs.Inner.Splitting.{AreAll, AreAtHead, HasRead, Holds, IsAt, IsReady};
+ghost use Rattle.log_files.specs.Entries.{entries_in, is_refused, IsCut};
+ghost use Rattle.log_files.specs.Inner.Splitting.{AreAll, HasRead, Holds, IsAt, IsReady};
 ghost use Rattle.log_files.specs.Inner.Wanted.{HasPlaces, HoldsWanted};
 ghost use Rattle.log_files.specs.declared.error.ReadError.TheVariants.{EndsInsideLine, OutOfMemory};
 
@@ -29,7 +29,7 @@ pub(crate) struct Splitter<'a> {
     /// The one that has not ended.
     open_entry: OpenEntry,
     /// Those that are wanted.
-    wanted: WantedEntries<'a>,
+    pub(crate) wanted: WantedEntries<'a>,
 }
 
 impl<'a> Splitter<'a> {
@@ -59,10 +59,6 @@ impl<'a> Splitter<'a> {
 
     /// Reads whole entries from the head of the next bytes of the file, or bytes of one entry. Returns the leaf hashes
     /// of the entries that have ended, and the bytes that are left.
-    ///
-    /// # Errors
-    ///
-    /// `AllocError` if memory runs out.
     pub(crate) fn read<'b>(
         &mut self,
         alloc: Global,
@@ -77,79 +73,28 @@ impl<'a> Splitter<'a> {
         ensures read { (wanted front : List ℕ) (ended : List (List ℕ)) → IsAt wanted self.old front ended →
             IfOk result (λ (hashes, rest). HasRead wanted self.new front ended bytes.now rest.now hashes.items) }
     {
-        if !self.open_entry.is_empty() {
-            return self.read_open(alloc, bytes);
+        if self.open_entry.len == 0 {
+            let most = self.limit.saturating_sub(self.count);
+            let (entries, rest) = self.cut.entries_at_head(alloc, most, bytes)?;
+            if !entries.is_empty() {
+                self.wanted.copy(alloc, self.count, &entries)?;
+                self.count += entries.len();
+                return Ok((leaf_hashes(alloc, &entries)?, rest));
+            }
         }
-        let (hashes, rest) = self.read_whole(alloc, bytes)?;
-        if hashes.is_empty() {
-            return self.read_open(alloc, bytes);
-        }
-        Ok((hashes, rest))
-    }
-
-    /// Reads whole entries from the head of the next bytes, where none is open.
-    fn read_whole<'b>(
-        &mut self,
-        alloc: Global,
-        bytes: &'b [u8],
-    ) -> Result<(Vec<[u8; 32]>, &'b [u8]), AllocError>
-        requires { IsReady self.old }
-        ensures places { OnOk result (HasPlaces self.new.wanted) }
-        ensures same { OnOk result ((self.new.cut ≡ self.old.cut) × (self.new.limit ≡ self.old.limit)) }
-        ensures count { IfOk result (λ (hashes, rest). self.new.count ≡ self.old.count + length hashes.items) }
-        ensures read { IfOk result (λ (hashes, rest). (entries : List (List ℕ))
-            × AreAtHead self.old.cut bytes.now rest.now entries
-            × (hashes.items ≡ map (leaf_hash sha256) entries)
-            × ((wanted : List ℕ) (ended : List (List ℕ)) → Holds wanted self.old ended [] →
-            Holds wanted self.new (ended ++ entries) [])) }
-    {
-        let most = self.limit.saturating_sub(self.count);
-        let (entries, rest) = self.cut.entries_at_head(alloc, most, bytes)?;
-        self.wanted.copy(alloc, self.count, &entries)?;
-        self.count += entries.len();
-        Ok((leaf_hashes(alloc, &entries)?, rest))
-    }
-
-    /// Reads bytes of the open entry.
-    fn read_open<'b>(
-        &mut self,
-        alloc: Global,
-        bytes: &'b [u8],
-    ) -> Result<(Vec<[u8; 32]>, &'b [u8]), AllocError>
-        requires ready { IsReady self.old }
-        requires some { 0 < length bytes.now }
-        requires room { self.old.count < self.old.limit }
-        ensures ready { OnOk result (IsReady self.new) }
-        ensures same { OnOk result ((self.new.cut ≡ self.old.cut) × (self.new.limit ≡ self.old.limit)) }
-        ensures fewer { IfOk result (λ (hashes, rest). length rest.now < length bytes.now) }
-        ensures read { (wanted front : List ℕ) (ended : List (List ℕ)) → IsAt wanted self.old front ended →
-            IfOk result (λ (hashes, rest). HasRead wanted self.new front ended bytes.now rest.now hashes.items) }
-    {
         match self.cut.split_at_end(self.open_entry.len, bytes) {
             Some((more, rest)) => {
-                self.push(more)?;
+                self.open_entry.push(more);
+                self.wanted.push(self.count, more)?;
                 let hash = self.end(alloc)?;
                 Ok((vec![in alloc; hash]?, rest))
             }
             None => {
-                self.push(bytes)?;
+                self.open_entry.push(bytes);
+                self.wanted.push(self.count, bytes)?;
                 Ok((Vec::new(alloc), &bytes[bytes.len()..]))
             }
         }
-    }
-
-    /// Adds the next bytes of the open entry.
-    fn push(&mut self, more: &[u8]) -> Result<(), AllocError>
-        requires { HasPlaces self.old.wanted }
-        ensures places { OnOk result (HasPlaces self.new.wanted) }
-        ensures same { (self.new.cut ≡ self.old.cut) × (self.new.limit ≡ self.old.limit)
-            × (self.new.count ≡ self.old.count) }
-        ensures holds { (wanted : List ℕ) (ended : List (List ℕ)) (bytes : List ℕ) →
-            Holds wanted self.old ended bytes →
-            OnOk result (Holds wanted self.new ended (bytes ++ more.now)) }
-    {
-        self.open_entry.push(more);
-        self.wanted.push(self.count, more)
     }
 
     /// Ends the open entry, and returns its leaf hash.
@@ -170,10 +115,6 @@ impl<'a> Splitter<'a> {
     }
 
     /// Ends the file, or what is read of it. Returns the leaf hash of a last entry that ends with the file.
-    ///
-    /// # Errors
-    ///
-    /// `EndsInsideLine` if the file ends inside a line and a partial line is refused; `OutOfMemory` if memory runs out.
     pub(crate) fn end_file(&mut self, alloc: Global) -> Result<Vec<[u8; 32]>, ReadError>
         requires { HasPlaces self.old.wanted }
         ensures all { (wanted front rest : List ℕ) (ended : List (List ℕ)) → IsAt wanted self.old front ended →
@@ -186,7 +127,7 @@ impl<'a> Splitter<'a> {
             × (is_refused self.old.cut (Some self.old.limit) (front ++ rest) ≡ true)
             × (take self.old.limit (entries_in self.old.cut (front ++ rest)) ≡ ended))) }
     {
-        if self.is_full() || self.open_entry.is_empty() {
+        if self.is_full() || self.open_entry.len == 0 {
             return Ok(Vec::new(alloc));
         }
         match self.cut.partial() {
@@ -197,14 +138,5 @@ impl<'a> Splitter<'a> {
                 Ok(vec![in alloc; hash]?)
             }
         }
-    }
-
-    /// The wanted entries, if all of them have ended, else none.
-    pub(crate) fn into_wanted(self, alloc: Global) -> Vec<Vec<u8>>
-        ensures { (wanted : List ℕ) (ended : List (List ℕ)) (bytes : List ℕ) →
-            HoldsWanted self.entry.wanted wanted ended bytes →
-            map (λ entry. entry.items) result.items ≡ wanted_of ended wanted }
-    {
-        self.wanted.into_entries(alloc)
     }
 }

@@ -9,10 +9,6 @@ use std::alloc::{AllocError, Global};
 use std::mem;
 
 /// The index of each wanted entry with its place among the wanted ones, in the order of the file.
-///
-/// # Errors
-///
-/// `AllocError` if memory runs out.
 pub(crate) fn places_in_order(
     alloc: Global,
     wanted: &[usize],
@@ -41,10 +37,6 @@ pub(crate) struct WantedEntries<'a> {
 
 impl<'a> WantedEntries<'a> {
     /// None of the wanted entries have come, which have these indices and places.
-    ///
-    /// # Errors
-    ///
-    /// `AllocError` if memory runs out.
     pub(crate) fn new(
         alloc: Global,
         places: &'a [(usize, usize)],
@@ -70,17 +62,10 @@ impl<'a> WantedEntries<'a> {
     fn is_next(&self, index: usize) -> bool
         ensures { result ≡ is_next index self.now.left.now }
     {
-        match self.left.first() {
-            Some(next) => next.0 == index,
-            None => false,
-        }
+        self.left.first().is_some_and(|next| next.0 == index)
     }
 
     /// Copies those of the next entries that are wanted. The first of them has index `first`.
-    ///
-    /// # Errors
-    ///
-    /// `AllocError` if memory runs out.
     pub(crate) fn copy(
         &mut self,
         alloc: Global,
@@ -105,10 +90,6 @@ impl<'a> WantedEntries<'a> {
     }
 
     /// Adds the next bytes of the open entry, which has this index.
-    ///
-    /// # Errors
-    ///
-    /// `AllocError` if memory runs out.
     pub(crate) fn push(&mut self, index: usize, more: &[u8]) -> Result<(), AllocError>
         requires { HasPlaces self.old }
         ensures places { OnOk result (HasPlaces self.new) }
@@ -123,10 +104,6 @@ impl<'a> WantedEntries<'a> {
     }
 
     /// Ends the open entry, which has this index.
-    ///
-    /// # Errors
-    ///
-    /// `AllocError` if memory runs out.
     pub(crate) fn end(&mut self, alloc: Global, index: usize) -> Result<(), AllocError>
         requires { HasPlaces self.old }
         ensures places { OnOk result (HasPlaces self.new) }

@@ -1,5 +1,5 @@
 -- Base64 is read as it is printed, and as nothing else; and group by group.
-use Rattle.std.proofs.Common.{◌≡◌, ◌<◌, ◌≤◌, ◌+◌, ◌*◌, ◌/◌, ◌%◌, ◌==◌, Bool, true, false, Decides, ℕ, suc, List, []}
+use Rattle.std.proofs.Common.{◌≡◌, ◌<◌, ◌≤◌, ◌+◌, ◌*◌, ◌/◌, ◌%◌, ◌==◌, Decides, ℕ, suc, List, []}
 use Rattle.std.proofs.Common.{◌∷◌, ◌++◌}
 use Rattle.std.proofs.Common.{length, get_or, take, drop, replicate, Option, Some, None, Result, Ok, Err, refl, sym, ap}
 use Rattle.std.proofs.Common.{◌∙◌}
@@ -8,22 +8,23 @@ use Rattle.std.specs.Prelude.{◌&&◌, if◌then◌else◌, nat_eq, nat_lt, opt
 use Rattle.std.specs.Cmp.Lexicographic.{pointwise, bytes_decides}
 use Rattle.std.specs.Option.{option_and_then}
 use Rattle.std.specs.Result.{result_ok}
-use Rattle.std.proofs.lemmas.Bool.{cases_lt}
-use Rattle.std.proofs.lemmas.Bool.Decides.{Decides-eqb, Decides-like, Decides-ltb}
+use Rattle.std.proofs.lemmas.Bool.{cases_lt, ne_eqb}
+use Rattle.std.proofs.lemmas.Bool.Decides.{Decides-and, Decides-eqb, Decides-like, Decides-ltb}
 use Rattle.std.proofs.lemmas.List.{get_or_past, length-replicate, take-append-drop, take_at, drop_at}
-use Rattle.std.proofs.lemmas.List.{get_or_append_left, get_or-append-add}
+use Rattle.std.proofs.lemmas.List.{get_or-append-add}
 use Rattle.std.proofs.lemmas.List.Elements.{All-append, All-cons, All-from_get_or, All-get_or, All-nil, All-replicate}
 use Rattle.base64.specs.Engines.{standard}
-use Rattle.base64.specs.GeneralPurpose.{IsBytes, IsConsistent, IsDecodedInto, IsStrict, decode_of, encode_of}
+use Rattle.base64.specs.GeneralPurpose.{IsBytes, IsDecodedInto, decode_of}
 use Rattle.base64.specs.Rfc4648.{encode_symbols, padding_len, unpadded_len}
 use Rattle.base64.specs.declared.decode.DecodeError.{DecodeError}
 use Rattle.base64.specs.declared.engine.general_purpose.GeneralPurpose.{GeneralPurpose}
-use Rattle.base64.proofs.EngineFacts.{decode_of-encode_of, decode_of_strict, encode_of-append}
+use Rattle.base64.proofs.EngineFacts.{decode_of-encode_of, decode_of_strict, encode_of-append, front_bytes}
 use Rattle.base64.proofs.RoundTrip.{length-encode_symbols}
 use Rattle.base64.proofs.Tables.{are_tables_alphabet, is_alphabet_printable, printable_range}
 use Rattle.log_text.specs.Lines.{are_bytes, base64, base64_bytes, digest_of}
 use Rattle.log_text.specs.Texts.{IsDigest}
-use Rattle.log_text.proofs.TestFacts.{and_then_some, both, each_decided, fails, same_bytes, tested}
+use Rattle.log_text.proofs.TestFacts.{and_then, each_decided, found, itself, mapped, no_found, only_if, said_as}
+use Rattle.log_text.proofs.TestFacts.{same_found, IsFound}
 
 -- ---- bytes
 
@@ -40,37 +41,30 @@ bytes_decided bytes =
 
 -- ---- whole texts
 
-pub base64_back : (bytes : List ℕ) → IsBytes bytes → base64_bytes (base64 bytes) ≡ Some bytes
-unfolding base64 base64_bytes
-base64_back bytes is =
-    let text = encode_of standard bytes in
-    let consistent : IsConsistent standard = refl in
-    let are = (bytes_decided bytes).1 is in
-    let same = same_bytes text in
-    ap (λ (r : Result (List ℕ) DecodeError). option_and_then (λ bs.
-    if are_bytes bs && pointwise nat_eq (encode_of standard bs) text then Some bs else None) (result_ok r))
-    (decode_of-encode_of standard bytes consistent is)
-    ∙ (λ i. if are i && same i then Some bytes else None)
+-- how many bytes a text is the base64 of
+abbrev pub len_of : List ℕ → Option ℕ
+len_of text = option_map length (base64_bytes text)
 
-pub base64_only : (text bytes : List ℕ) → base64_bytes text ≡ Some bytes → IsBytes bytes × (text ≡ base64 bytes)
-unfolding base64_bytes
-base64_only text bytes is =
-    let read = and_then_some
-    (λ (bs : List ℕ). if are_bytes bs && pointwise nat_eq (base64 bs) text then Some bs else None)
-    (result_ok (decode_of standard text)) bytes is in
-    let found = tested (are_bytes read.0 && pointwise nat_eq (base64 read.0) text) read.0 bytes read.2 in
-    let tests = both (are_bytes read.0) (pointwise nat_eq (base64 read.0) text) found.0 in (
-      subst IsBytes found.1 ((bytes_decided read.0).0 tests.0),
-      sym ((bytes_decides (base64 read.0) text).0 tests.1) ∙ ap base64 found.1,
-    )
+pub base64_found : (text : List ℕ) → IsFound (base64_bytes text) (λ bytes. IsBytes bytes × (text ≡ base64 bytes))
+unfolding base64 base64_bytes
+base64_found text =
+    said_as (and_then _ _ (itself (result_ok (decode_of standard text))) (λ bytes.
+    only_if (are_bytes bytes && pointwise nat_eq (base64 bytes) text)
+    (Decides-and _ _ (bytes_decided bytes) (bytes_decides (base64 bytes) text)) (found bytes)))
+    (λ bytes (read, decodes, ((are, same), is)). subst (λ bs. IsBytes bs × (text ≡ base64 bs)) is (are, sym same))
+    (λ bytes (are, is). (
+      bytes,
+      ap (λ t. result_ok (decode_of standard t)) is
+          ∙ ap result_ok (decode_of-encode_of standard bytes refl are),
+      ((are, sym is), refl),
+    ))
 
 -- what decoding tells
 pub decoded : (text bytes : List ℕ) → IsBytes text → IsBytes bytes → decode_of standard text ≡ Ok bytes →
     base64_bytes text ≡ Some bytes
 unfolding base64
 decoded text bytes text_is bytes_are is =
-    let strict : IsStrict standard = (refl, refl) in
-    ap base64_bytes (decode_of_strict standard text bytes strict text_is is) ∙ base64_back bytes bytes_are
+    (base64_found text).back bytes (bytes_are, decode_of_strict standard text bytes (refl, refl) text_is is)
 
 pub not_decoded : (text : List ℕ) (e : DecodeError) → decode_of standard text ≡ Err e → base64_bytes text ≡ None
 unfolding base64_bytes
@@ -91,112 +85,71 @@ length-base64 bytes =
 
 -- ---- printable
 
+record IsPrintable (text : List ℕ) : Type 0 where
+  high : All (λ c. 32 ≤ c) text
+
 module _ (e : GeneralPurpose) where
-  abbrev symbol : ℕ → ℕ
-  symbol i = slice_index e.encode_table i
-
-  plain_cons : (i : ℕ) (rest : List ℕ) → i < 64 → All (λ c. 32 ≤ c) rest → All (λ c. 32 ≤ c) (symbol i ∷ rest)
+  plain_cons : (i : ℕ) (rest : List ℕ) → i < 64 → IsPrintable rest →
+      IsPrintable (slice_index e.encode_table i ∷ rest)
   plain_cons i rest small plain =
-      All-cons (λ c. 32 ≤ c) (symbol i) rest
-      (printable_range (symbol i)
-      (is_alphabet_printable e.encode_table e.padding.value i
-      (are_tables_alphabet e.encode_table e.decode_table e.padding.value e.tables) small)).0
-      plain
+      let printable = is_alphabet_printable e.encode_table e.padding.value i
+      (are_tables_alphabet e.encode_table e.decode_table e.padding.value e.tables) small in
+      record { high = All-cons (λ c. 32 ≤ c) _ rest (printable_range _ printable).0 plain.high }
 
-  symbols_plain : (bytes : List ℕ) → IsBytes bytes → All (λ c. 32 ≤ c) (encode_symbols e.encode_table bytes)
+  symbols_plain : (bytes : List ℕ) → IsBytes bytes → IsPrintable (encode_symbols e.encode_table bytes)
   unfolding encode_symbols
-  symbols_plain [] is = All-nil (λ c. 32 ≤ c)
+  symbols_plain [] is = record { high = All-nil (λ c. 32 ≤ c) }
   symbols_plain (a ∷ []) is =
       let a_is : a < 256 = is 0 in
-      plain_cons (a / 4) (symbol (a % 4 * 16) ∷ []) (omega arith)
-      (plain_cons (a % 4 * 16) [] (omega arith) (All-nil (λ c. 32 ≤ c)))
+      plain_cons (a / 4) _ (omega arith) (plain_cons (a % 4 * 16) _ (omega arith) (symbols_plain [] (λ i. is (suc i))))
   symbols_plain (a ∷ b ∷ []) is =
-      let a_is : a < 256 = is 0 in
-      let b_is : b < 256 = is 1 in
-      plain_cons (a / 4) (symbol (a % 4 * 16 + b / 16) ∷ symbol (b % 16 * 4) ∷ []) (omega arith)
-      (plain_cons (a % 4 * 16 + b / 16) (symbol (b % 16 * 4) ∷ []) (omega arith)
-      (plain_cons (b % 16 * 4) [] (omega arith) (All-nil (λ c. 32 ≤ c))))
+      let (a_is, b_is) : (a < 256) × (b < 256) = (is 0, is 1) in
+      plain_cons (a / 4) _ (omega arith) (plain_cons (a % 4 * 16 + b / 16) _ (omega arith)
+      (plain_cons (b % 16 * 4) _ (omega arith) (symbols_plain [] (λ i. is (suc (suc i))))))
   symbols_plain (a ∷ b ∷ c ∷ rest) is =
-      let a_is : a < 256 = is 0 in
-      let b_is : b < 256 = is 1 in
-      let c_is : c < 256 = is 2 in
-      let more = encode_symbols e.encode_table rest in
-      plain_cons (a / 4)
-      (symbol (a % 4 * 16 + b / 16) ∷ symbol (b % 16 * 4 + c / 64) ∷ symbol (c % 64) ∷ more) (omega arith)
-      (plain_cons (a % 4 * 16 + b / 16) (symbol (b % 16 * 4 + c / 64) ∷ symbol (c % 64) ∷ more) (omega arith)
-      (plain_cons (b % 16 * 4 + c / 64) (symbol (c % 64) ∷ more) (omega arith)
-      (plain_cons (c % 64) more (omega arith) (symbols_plain rest (λ i. is (suc (suc (suc i))))))))
+      let (a_is, b_is, c_is) : (a < 256) × (b < 256) × (c < 256) = (is 0, is 1, is 2) in
+      plain_cons (a / 4) _ (omega arith) (plain_cons (a % 4 * 16 + b / 16) _ (omega arith)
+      (plain_cons (b % 16 * 4 + c / 64) _ (omega arith)
+      (plain_cons (c % 64) _ (omega arith) (symbols_plain rest (λ i. is (suc (suc (suc i))))))))
 
 pub base64_plain : (bytes : List ℕ) → IsBytes bytes → All (λ c. 32 ≤ c) (base64 bytes)
 unfolding base64
 base64_plain bytes is =
     All-append (λ c. 32 ≤ c) (encode_symbols standard.encode_table bytes)
-    (replicate (padding_len (length bytes)) 61) (symbols_plain standard bytes is)
+    (replicate (padding_len (length bytes)) 61) (symbols_plain standard bytes is).high
     (All-replicate (λ c. 32 ≤ c) (padding_len (length bytes)) 61 (omega arith))
-
--- how many bytes a text is the base64 of
-abbrev pub len_of : List ℕ → Option ℕ
-len_of text = option_map length (base64_bytes text)
 
 -- ---- digests
 
-pub digest_back : (digest : List ℕ) → IsDigest digest → digest_of (base64 digest) ≡ Some digest
-digest_back digest is =
-    let long = (Decides-eqb (length digest) 32).1 is.0 in
-    ap (option_and_then (λ (bytes : List ℕ). if length bytes == 32 then Some bytes else None)) (base64_back digest is.1)
-    ∙ (λ i. if long i then Some digest else None)
-
-pub digest_only : (line digest : List ℕ) → digest_of line ≡ Some digest → IsDigest digest × (line ≡ base64 digest)
-digest_only line digest is =
-    let read = and_then_some (λ (bytes : List ℕ). if length bytes == 32 then Some bytes else None) (base64_bytes line)
-    digest is in
-    let found = tested (length read.0 == 32) read.0 digest read.2 in
-    let text = base64_only line read.0 read.1 in
-    let long = (Decides-eqb (length read.0) 32).0 found.0 in
-    (subst IsDigest found.1 (long, text.0), text.1 ∙ ap base64 found.1)
+pub digest_found : (line : List ℕ) → IsFound (digest_of line) (λ digest. IsDigest digest × (line ≡ base64 digest))
+digest_found line =
+    said_as (and_then _ _ (base64_found line) (λ bytes.
+    only_if (length bytes == 32) (Decides-eqb (length bytes) 32) (found bytes)))
+    (λ digest (bytes, (are, text), (long, is)).
+    subst (λ d. IsDigest d × (line ≡ base64 d)) is ((long, are), text))
+    (λ digest ((long, are), text). (digest, (are, text), (long, refl)))
 
 -- no digest but of 44 symbols
 pub not_44 : (line : List ℕ) → (length line ≡ 44 → ⊥) → None ≡ digest_of line
-not_44 line other = by_outcome (digest_of line) refl
-  where
-    by_outcome : (o : Option (List ℕ)) → digest_of line ≡ o → None ≡ digest_of line
-    by_outcome None is = sym is
-    by_outcome (Some digest) is =
-        let found = digest_only line digest is in
-        absurd (other (ap length found.1 ∙ length-base64 digest ∙ ap (λ n. unpadded_len n + padding_len n) found.0.0))
+not_44 line other =
+    no_found (digest_of line) (digest_found line) (λ digest ((long, are), text).
+    other (ap length text ∙ length-base64 digest ∙ ap (λ n. unpadded_len n + padding_len n) long))
 
 -- what decoding tells of a digest
 pub not_digest : (line : List ℕ) (o : Option ℕ) → o ≡ len_of line → ((n : ℕ) → o ≡ Some n → n ≡ 32 → ⊥) →
     None ≡ digest_of line
-not_digest line o is never = by_outcome (digest_of line) refl
-  where
-    by_outcome : (d : Option (List ℕ)) → digest_of line ≡ d → None ≡ digest_of line
-    by_outcome None read = sym read
-    by_outcome (Some digest) read =
-        let found = and_then_some (λ (bytes : List ℕ). if length bytes == 32 then Some bytes else None)
-        (base64_bytes line) digest read in
-        let long = (Decides-eqb (length found.0) 32).0 (tested (length found.0 == 32) found.0 digest found.2).0 in
-        absurd (never (length found.0) (is ∙ ap (option_map length) found.1) long)
+not_digest line o is never =
+    no_found (digest_of line) (digest_found line) (λ digest ((long, are), text).
+    never (length digest) (is ∙ ap (option_map length) ((base64_found line).back digest (are, text))) long)
 
 pub is_digest : (line bytes digest : List ℕ) (n : ℕ) → base64_bytes line ≡ Some (take n bytes) → n ≡ 32 →
     length bytes ≡ 33 → digest ≡ take 32 bytes → Some digest ≡ digest_of line
 is_digest line bytes digest n is all len same =
-    let long : length (take 32 bytes) ≡ 32 = omega (arith, length-take 32 bytes, len) in
-    let fits = (Decides-eqb (length (take 32 bytes)) 32).1 long in
-    ap Some same
-    ∙ sym (ap (option_and_then (λ (bs : List ℕ). if length bs == 32 then Some bs else None))
-    (is ∙ ap (λ k. Some (take k bytes)) all)
-    ∙ (λ i. if fits i then Some (take 32 bytes) else None))
+    let whole : take n bytes ≡ digest = ap (λ k. take k bytes) all ∙ sym same in
+    let (are, text) = (base64_found line).only digest (is ∙ ap Some whole) in
+    sym ((digest_found line).back digest ((omega (arith, length-take 32 bytes, len, ap length same), are), text))
 
 -- ---- a group of four symbols ahead of others
-
-front_bytes : (a b : List ℕ) → IsBytes (a ++ b) → IsBytes a
-front_bytes a b is i =
-    elim (cases_lt i (length a)) [
-      | inl within ↦ let same : get_or (a ++ b) i 0 ≡ get_or a i 0 = get_or_append_left a b 0 i within in
-          omega (arith, is i, same)
-      | inr past ↦ let none : get_or a i 0 ≡ 0 = get_or_past a i 0 past in omega (arith, none)
-    ]
 
 back_bytes : (a b : List ℕ) → IsBytes (a ++ b) → IsBytes b
 back_bytes a b is i =
@@ -215,89 +168,68 @@ base64-append : (a b : List ℕ) → length a ≡ 3 → base64 (a ++ b) ≡ base
 unfolding base64
 base64-append a b three = encode_of-append standard a b (ap (λ n. n % 3) three)
 
--- a text that begins with four symbols is of more than three bytes, of which they are the first
-group_of_text : (group rest bytes : List ℕ) → length group ≡ 4 → 0 < length rest →
-    base64_bytes (group ++ rest) ≡ Some bytes →
-    (front : List ℕ) × (back : List ℕ) × (length front ≡ 3) × (bytes ≡ front ++ back) × (base64_bytes group ≡ Some
-    front)
-    × (base64_bytes rest ≡ Some back)
-group_of_text group rest bytes four more is =
-    let text = base64_only (group ++ rest) bytes is in
-    let front = take 3 bytes in
-    let back = drop 3 bytes in
-    let whole : front ++ back ≡ bytes = take-append-drop 3 bytes in
-    let total : length group + length rest ≡ unpadded_len (length bytes) + padding_len (length bytes) =
-    sym (length-append group rest) ∙ ap length text.1 ∙ length-base64 bytes in
-    let long : 3 ≤ length bytes = omega (arith, total, four, more) in
-    let three : length front ≡ 3 = omega (arith, length-take 3 bytes, long) in
-    let bytes_are : IsBytes (front ++ back) = subst IsBytes (sym whole) text.0 in
-    let spelled : group ++ rest ≡ base64 front ++ base64 back =
-    text.1 ∙ ap base64 (sym whole) ∙ base64-append front back three in
-    let symbols : length (base64 front) ≡ 4 = length-base64 front ∙ ap (λ n. unpadded_len n + padding_len n) three in
-    let group_is : group ≡ base64 front =
-    sym (take_at group rest 4 four) ∙ ap (take 4) spelled ∙ take_at (base64 front) (base64 back) 4 symbols in
-    let rest_is : rest ≡ base64 back =
-    sym (drop_at group rest 4 four) ∙ ap (drop 4) spelled ∙ drop_at (base64 front) (base64 back) 4 symbols in (
-      front,
-      back,
-      three,
-      sym whole,
-      ap base64_bytes group_is ∙ base64_back front (front_bytes front back bytes_are),
-      ap base64_bytes rest_is ∙ base64_back back (back_bytes front back bytes_are),
-    )
-
 -- how many bytes a text is of, by those of its first group and of the others
 abbrev pub with_group : Option ℕ → Option ℕ → Option ℕ
 with_group group rest =
     option_and_then (λ n. if n == 3 then option_map (λ m. 3 + m) rest else None) group
 
-no_rest : (n : ℕ) → with_group (Some n) None ≡ None
-no_rest n = by_test (n == 3)
-  where
-    by_test : (t : Bool) → (if t then option_map (λ m. 3 + m) None else None) ≡ None
-    by_test true = refl
-    by_test false = refl
+len_found : (text : List ℕ) →
+    IsFound (len_of text) (λ n. (bytes : List ℕ) × (IsBytes bytes × (text ≡ base64 bytes)) × (length bytes ≡ n))
+len_found text = mapped length (base64_bytes text) (base64_found text)
 
+-- a text that begins with four symbols is of more than three bytes, of which they are the first
 pub len_of_group : (group rest : List ℕ) → length group ≡ 4 → 0 < length rest →
     len_of (group ++ rest) ≡ with_group (len_of group) (len_of rest)
 len_of_group group rest four more =
-    by_outcomes (base64_bytes (group ++ rest)) (base64_bytes group) (base64_bytes rest) refl refl refl
-  where
-    -- no bytes of which the whole is
-    none_of : base64_bytes (group ++ rest) ≡ None → (front back : List ℕ) → base64_bytes group ≡ Some front →
-        base64_bytes rest ≡ Some back → length front ≡ 3 → ⊥
-    none_of none front back group_is rest_is three =
-        let a = base64_only group front group_is in
-        let b = base64_only rest back rest_is in
-        let read : base64_bytes (group ++ rest) ≡ Some (front ++ back) =
-        (λ i. base64_bytes (a.1 i ++ b.1 i))
-        ∙ ap base64_bytes (sym (base64-append front back three))
-        ∙ base64_back (front ++ back) (joined_bytes front back a.0 b.0) in
-        cc
-
-    by_outcomes : (w g r : Option (List ℕ)) → base64_bytes (group ++ rest) ≡ w → base64_bytes group ≡ g →
-        base64_bytes rest ≡ r → option_map length (base64_bytes (group ++ rest))
-        ≡ with_group (option_map length (base64_bytes group)) (option_map length (base64_bytes rest))
-    by_outcomes (Some bytes) g r w_is g_is r_is =
-        let parts = group_of_text group rest bytes four more w_is in
-        let front = parts.0 in
-        let back = parts.1 in
-        let three = (Decides-eqb (length front) 3).1 parts.2 in
-        ap (option_map length) w_is
-        ∙ ap Some (ap length parts.3 ∙ length-append front back ∙ ap (λ n. n + length back) parts.2)
-        ∙ sym ((λ i. with_group (option_map length (parts.4 i)) (option_map length (parts.5 i)))
-        ∙ (λ i. if three i then Some (3 + length back) else None))
-    by_outcomes None None r w_is g_is r_is =
-        ap (option_map length) w_is
-        ∙ sym (ap (λ o. with_group (option_map length o) (option_map length (base64_bytes rest))) g_is)
-    by_outcomes None (Some front) None w_is g_is r_is =
-        ap (option_map length) w_is
-        ∙ sym ((λ i. with_group (option_map length (g_is i)) (option_map length (r_is i))) ∙ no_rest (length front))
-    by_outcomes None (Some front) (Some back) w_is g_is r_is =
-        let other = fails (length front == 3) (Decides-eqb (length front) 3) (none_of w_is front back g_is r_is) in
-        ap (option_map length) w_is
-        ∙ sym ((λ i. with_group (option_map length (g_is i)) (option_map length (r_is i)))
-        ∙ (λ i. if other i then Some (3 + length back) else None))
+    same_found (len_of (group ++ rest)) _ (len_found (group ++ rest))
+    (said_as (and_then _ _ (len_found group) (λ n.
+    only_if (n == 3) (Decides-eqb n 3) (mapped (λ m. 3 + m) _ (len_found rest))))
+    (λ n (k, (front, (front_are, front_is), long), (three, (m, (back, (back_are, back_is), rest_long), same))).
+    let few : length front ≡ 3 = long ∙ three in (
+      front ++ back,
+      (
+        joined_bytes front back front_are back_are,
+        (λ i. front_is i ++ back_is i) ∙ sym (base64-append front back few),
+      ),
+      omega (arith, length-append front back, few, rest_long, same),
+    ))
+    (λ n (bytes, (are, text), long).
+    let front = take 3 bytes in
+    let back = drop 3 bytes in
+    let whole = take-append-drop 3 bytes in
+    let total = sym (length-append group rest) ∙ ap length text ∙ length-base64 bytes in
+    let three : length front ≡ 3 = omega (arith, length-take 3 bytes, total, four, more) in
+    let both : IsBytes (front ++ back) = subst IsBytes (sym whole) are in
+    let spelled : group ++ rest ≡ base64 front ++ base64 back =
+    text ∙ ap base64 (sym whole) ∙ base64-append front back three in
+    let symbols : length (base64 front) ≡ 4 = length-base64 front ∙ ap (λ n. unpadded_len n + padding_len n) three in (
+      3,
+      (
+        front,
+        (
+          front_bytes front back both,
+          sym (take_at group rest 4 four) ∙ ap (take 4) spelled
+              ∙ take_at (base64 front) (base64 back) 4 symbols,
+        ),
+        three,
+      ),
+      (
+        refl,
+        (
+          length back,
+          (
+            back,
+            (
+              back_bytes front back both,
+              sym (drop_at group rest 4 four) ∙ ap (drop 4) spelled
+                  ∙ drop_at (base64 front) (base64 back) 4 symbols,
+            ),
+            refl,
+          ),
+          omega (arith, ap length whole, length-append front back, three, long),
+        ),
+      ),
+    )))
 
 -- how many bytes there are, group by group
 pub len_begins : (text : List ℕ) → len_of text ≡ option_map (λ n. 0 + n) (len_of text)
@@ -307,36 +239,28 @@ len_begins text = by_outcome (len_of text)
     by_outcome None = refl
     by_outcome (Some n) = ap Some (sym (zero-add n))
 
-module _ (text rest group below : List ℕ) (len : ℕ) (o : Option ℕ) where
-  pub len_more : (n : ℕ) → rest ≡ group ++ below → length group ≡ 4 → 4 < length rest → o ≡ len_of group →
-      o ≡ Some n → n ≡ 3 → len_of text ≡ option_map (λ k. len + k) (len_of rest) →
-      len_of text ≡ option_map (λ k. len + 3 + k) (len_of below)
-  len_more n split four long told is three so_far =
-      let more : 0 < length below = omega (arith, long, four, ap length split, length-append group below) in
-      so_far
-      ∙ ap (option_map (λ k. len + k)) (ap len_of split ∙ len_of_group group below four more
-      ∙ ap (λ g. with_group g (len_of below)) (sym told ∙ is ∙ ap Some three))
-      ∙ by_outcome (len_of below)
-    where
-      by_outcome : (b : Option ℕ) →
-          option_map (λ k. len + k) (option_map (λ m. 3 + m) b) ≡ option_map (λ k. len + 3 + k) b
-      by_outcome None = refl
-      by_outcome (Some k) = ap Some (sym (add_assoc len 3 k))
+pub len_step : (text rest group below : List ℕ) (len : ℕ) → rest ≡ group ++ below → length group ≡ 4 →
+    4 < length rest → len_of text ≡ option_map (λ k. len + k) (len_of rest) →
+    len_of text ≡ option_map (λ k. len + k) (with_group (len_of group) (len_of below))
+len_step text rest group below len split four long so_far =
+    let more : 0 < length below = omega (arith, long, four, ap length split, length-append group below) in
+    so_far ∙ ap (option_map (λ k. len + k)) (ap len_of split ∙ len_of_group group below four more)
 
-  pub len_refused : rest ≡ group ++ below → length group ≡ 4 → 4 < length rest → o ≡ len_of group →
-      ((n : ℕ) → o ≡ Some n → n ≡ 3 → ⊥) → len_of text ≡ option_map (λ k. len + k) (len_of rest) →
-      None ≡ len_of text
-  len_refused split four long told never so_far =
-      let more : 0 < length below = omega (arith, long, four, ap length split, length-append group below) in
-      sym (so_far
-      ∙ ap (option_map (λ k. len + k)) (ap len_of split ∙ len_of_group group below four more
-      ∙ ap (λ g. with_group g (len_of below)) (sym told) ∙ by_outcome o never))
-    where
-      by_outcome : (p : Option ℕ) → ((n : ℕ) → p ≡ Some n → n ≡ 3 → ⊥) → with_group p (len_of below) ≡ None
-      by_outcome None bad = refl
-      by_outcome (Some n) bad =
-          let other = fails (n == 3) (Decides-eqb n 3) (bad n refl) in
-          λ i. if other i then option_map (λ m. 3 + m) (len_of below) else None
+pub len_more : (len n : ℕ) (group rest : Option ℕ) → group ≡ Some n → n ≡ 3 →
+    option_map (λ k. len + k) (with_group group rest) ≡ option_map (λ k. len + 3 + k) rest
+len_more len n group rest some three =
+    ap (λ o. option_map (λ k. len + k) (with_group o rest)) (some ∙ ap Some three) ∙ by_rest rest
+  where
+    by_rest : (o : Option ℕ) → option_map (λ k. len + k) (option_map (λ m. 3 + m) o) ≡ option_map (λ k. len + 3 + k) o
+    by_rest None = refl
+    by_rest (Some k) = ap Some (sym (add_assoc len 3 k))
+
+pub len_refused : (len : ℕ) (group rest : Option ℕ) → ((n : ℕ) → group ≡ Some n → n ≡ 3 → ⊥) →
+    option_map (λ k. len + k) (with_group group rest) ≡ None
+len_refused len None rest never = refl
+len_refused len (Some n) rest never =
+    let other = ne_eqb n 3 (never n refl) in
+    λ i. option_map (λ k. len + k) (if other i then option_map (λ m. 3 + m) rest else None)
 
 -- what decoding into a slice tells
 module _ (text old new : List ℕ) (text_is : IsBytes text) (new_is : IsBytes new) (len : length new ≡ length old) where

@@ -1,17 +1,18 @@
 -- Bytes are cut at the first byte of a kind, and a word is taken off that stands there.
-use Rattle.std.proofs.Common.{◌≡◌, ◌<◌, ◌≤◌, ◌+◌, ◌-◌, ◌==◌, Bool, true, false, ℕ, List, [], ◌∷◌, ◌++◌, length, get_or}
-use Rattle.std.proofs.Common.{take, drop, Option, Some, None, refl, sym, ap, ◌∙◌, arith, length-append}
-use Rattle.std.specs.Prelude.{cond, if◌then◌else◌, nat_eq, nat_lt, option_map, position, All}
+use Rattle.std.proofs.Common.{◌≡◌, ◌<◌, ◌≤◌, ◌+◌, ◌-◌, ◌==◌, Bool, true, false, ℕ, List, ◌∷◌, ◌++◌, length, get_or}
+use Rattle.std.proofs.Common.{take, drop, Option, Some, None, refl, sym, ap, ◌∙◌, arith, length-append, length-take, subst, add-one, drop-cons}
+use Rattle.std.specs.Prelude.{cond, nat_eq, nat_lt, option_map, position, All}
 use Rattle.std.specs.Cmp.Lexicographic.{pointwise, bytes_decides}
 use Rattle.std.specs.List.{position_or_len}
-use Rattle.std.specs.Option.{option_map_or}
 use Rattle.std.proofs.Math.Seq.{drop-append-add, drop-append_seam, get_or-append_seam, take-append_seam}
-use Rattle.std.proofs.lemmas.Bool.Decides.{Decides-eqb, Decides-ltb}
-use Rattle.std.proofs.lemmas.List.{get_or_append_left, length-drop, take-append-drop, take_all}
-use Rattle.std.proofs.lemmas.List.Elements.{All-get_or, All-weaker}
-use Rattle.std.proofs.lemmas.List.Sums.{passes_at_first, position_or_len_is, split_at_first}
+use Rattle.std.proofs.lemmas.Bool.Decides.{Decides-ltb}
+use Rattle.std.proofs.lemmas.Bool.{eq-eqb, eqb-true, ne_eqb}
+use Rattle.std.proofs.lemmas.List.Quantifiers.{position-Some}
+use Rattle.std.proofs.lemmas.List.{get_or-take, get_or_append_left, length-drop, take-append-drop, take_all}
+use Rattle.std.proofs.lemmas.List.Elements.{All-from_get_or, All-get_or, All-weaker}
+use Rattle.std.proofs.lemmas.List.Sums.{position_or_len_is}
 use Rattle.log_text.specs.Lines.{after, cut_at}
-use Rattle.log_text.proofs.TestFacts.{differs, none_some}
+use Rattle.log_text.proofs.TestFacts.{found, itself, mapped, only_if, said_as, IsFound}
 
 -- what has no such byte
 abbrev pub Lacks : ℕ → List ℕ → Type 0
@@ -19,7 +20,7 @@ Lacks mark bytes = All (λ b. (b == mark) ≡ false) bytes
 
 pub lacks_below : (mark low : ℕ) (bytes : List ℕ) → mark < low → All (λ c. low ≤ c) bytes → Lacks mark bytes
 lacks_below mark low bytes less high =
-    All-weaker (λ c. low ≤ c) (λ b. (b == mark) ≡ false) (λ c above. differs c mark (λ is. omega (
+    All-weaker (λ c. low ≤ c) (λ b. (b == mark) ≡ false) (λ c above. ne_eqb c mark (λ is. omega (
       arith,
       above,
       less,
@@ -27,7 +28,11 @@ lacks_below mark low bytes less high =
     )))
     bytes high
 
-pub cut_front : (mark : ℕ) (front back : List ℕ) → Lacks mark front →
+-- the bytes ahead of a place, and those after it
+abbrev parts_at : List ℕ → ℕ → List ℕ × List ℕ
+parts_at bytes at = (take at bytes, drop (at + 1) bytes)
+
+cut_front : (mark : ℕ) (front back : List ℕ) → Lacks mark front →
     cut_at mark (front ++ mark ∷ back) ≡ Some (front, back)
 cut_front mark front back none =
     let p : ℕ → Bool = λ b. b == mark in
@@ -36,7 +41,7 @@ cut_front mark front back none =
     position_or_len_is p text (length front) 0 (omega (arith, length-append front (mark ∷ back)))
     (λ k h. ap p (get_or_append_left front (mark ∷ back) 0 k h) ∙ All-get_or (λ b.
     (b == mark) ≡ false) front k 0 h none)
-    (λ h. ap p (get_or-append_seam front mark back 0) ∙ (Decides-eqb mark mark).1 refl) in
+    (λ h. ap p (get_or-append_seam front mark back 0) ∙ eq-eqb mark mark refl) in
     let within : nat_lt (length front) (length text) ≡ true =
     (Decides-ltb (length front) (length text)).1 (omega (arith, length-append front (mark ∷ back))) in
     let found : position p text ≡ Some (length front) =
@@ -45,33 +50,23 @@ cut_front mark front back none =
     ap (option_map (λ at. (take at text, drop (at + 1) text))) found
     ∙ (λ i. Some (take-append_seam front (mark ∷ back) i, drop-append-add front (mark ∷ back) 1 i))
 
--- the bytes ahead of a place, and those after it
-abbrev parts_at : List ℕ → ℕ → List ℕ × List ℕ
-parts_at bytes at = (take at bytes, drop (at + 1) bytes)
-
--- the first place of a byte
-abbrev first_of : ℕ → List ℕ → ℕ
-first_of mark bytes = position_or_len (λ b. b == mark) bytes
-
-pub cut_only : (mark : ℕ) (bytes front back : List ℕ) → cut_at mark bytes ≡ Some (front, back) →
-    bytes ≡ front ++ mark ∷ back
-cut_only mark bytes front back is = by_test (nat_lt (first_of mark bytes) (length bytes)) refl
-  where
-    by_test : (t : Bool) → nat_lt (first_of mark bytes) (length bytes) ≡ t → bytes ≡ front ++ mark ∷ back
-    by_test false far =
-        let none : cut_at mark bytes ≡ None =
-        (λ i. option_map (parts_at bytes) (cond (far i) (Some (first_of mark bytes)) None)) in
-        absurd (none_some (sym none ∙ is))
-    by_test true near =
-        let at = first_of mark bytes in
-        let some : cut_at mark bytes ≡ Some (parts_at bytes at) =
-        (λ i. option_map (parts_at bytes) (cond (near i) (Some at) None)) in
-        let same : Some (parts_at bytes at) ≡ Some (front, back) = sym some ∙ is in
-        let first = ap (λ o. option_map_or (λ (q : List ℕ × List ℕ). q.0) o []) same in
-        let second = ap (λ o. option_map_or (λ (q : List ℕ × List ℕ). q.1) o []) same in
-        let within = (Decides-ltb at (length bytes)).0 near in
-        let here = (Decides-eqb (get_or bytes at 0) mark).0 (passes_at_first (λ b. b == mark) bytes 0 within) in
-        split_at_first (λ b. b == mark) bytes 0 within ∙ (λ i. first i ++ here i ∷ second i)
+pub cut_found : (mark : ℕ) (bytes : List ℕ) →
+    IsFound (cut_at mark bytes) (λ p. Lacks mark p.0 × (bytes ≡ p.0 ++ mark ∷ p.1))
+cut_found mark bytes =
+    record {
+      back = λ p (lacks, parts). ap (cut_at mark) parts ∙ cut_front mark p.0 p.1 lacks;
+      only = λ p is.
+          let (at, here, parts) = (mapped (parts_at bytes) _ (itself (position (λ b. b == mark) bytes))).only p is in
+          let (within, same, before) = position-Some (λ b. b == mark) bytes at 0 here in
+          let found = eqb-true (get_or bytes at 0) mark same in
+          subst (λ (q : List ℕ × List ℕ). Lacks mark q.0 × (bytes ≡ q.0 ++ mark ∷ q.1)) parts (
+            All-from_get_or (λ b. (b == mark) ≡ false) (take at bytes) 0 (λ k h.
+                let near : k < at = omega (arith, h, length-take at bytes) in
+                ap (λ b. b == mark) (get_or-take at bytes k 0 near) ∙ before k near),
+            sym (take-append-drop at bytes)
+                ∙ rw (drop-cons bytes at 0 within) (λ i. take at bytes ++ (found i ∷ drop (sym (add-one at) i) bytes)),
+          );
+    }
 
 -- what the place of a byte tells
 pub cut_none : (mark : ℕ) (bytes : List ℕ) (place : Option ℕ) → place ≡ position (λ b. b == mark) bytes →
@@ -89,20 +84,9 @@ cut_some mark bytes place at is some =
 
 -- ---- words
 
-pub after_back : (word rest : List ℕ) → after word (word ++ rest) ≡ Some rest
-after_back word rest =
-    let same : pointwise nat_eq (take (length word) (word ++ rest)) word ≡ true =
-    (bytes_decides (take (length word) (word ++ rest)) word).1 (take-append_seam word rest) in
-    λ i. if same i then Some (drop-append_seam word rest i) else None
-
-pub after_only : (word bytes rest : List ℕ) → after word bytes ≡ Some rest → bytes ≡ word ++ rest
-after_only word bytes rest is =
-    by_test (pointwise nat_eq (take (length word) bytes) word) refl is
-  where
-    by_test : (t : Bool) → pointwise nat_eq (take (length word) bytes) word ≡ t →
-        (if t then Some (drop (length word) bytes) else None) ≡ Some rest → bytes ≡ word ++ rest
-    by_test false other found = cc
-    by_test true starts found =
-        let front = (bytes_decides (take (length word) bytes) word).0 starts in
-        let back : drop (length word) bytes ≡ rest = cc in
-        sym (take-append-drop (length word) bytes) ∙ (λ i. front i ++ back i)
+pub after_found : (word bytes : List ℕ) → IsFound (after word bytes) (λ rest. bytes ≡ word ++ rest)
+after_found word bytes =
+    let n = length word in
+    said_as (only_if (pointwise nat_eq (take n bytes) word) (bytes_decides (take n bytes) word) (found (drop n bytes)))
+    (λ rest (front, back). sym (take-append-drop n bytes) ∙ (λ i. front i ++ back i))
+    (λ rest is. (ap (take n) is ∙ take-append_seam word rest, ap (drop n) is ∙ drop-append_seam word rest))

@@ -1,114 +1,67 @@
 -- The laws of notes.
-use Rattle.std.proofs.Common.{◌≡◌, ◌≤◌, ◌+◌, ◌*◌, ◌==◌, true, ℕ, suc, List, [], ◌∷◌, ◌++◌, length}
+use Rattle.std.proofs.Common.{◌≡◌, ◌≤◌, ◌+◌, ◌*◌, ◌==◌, true, ℕ, List, [], ◌∷◌, ◌++◌, length}
 use Rattle.std.proofs.Common.{Ok, sym, ap, ◌∙◌, arith, append_assoc, append-nil, length-append}
-use Rattle.std.specs.Prelude.{◌&&◌, ◌-◌, cond, count_by, decimal, flat_map, not, nat_le, slice_index}
-use Rattle.std.specs.List.{list_all}
-use Rattle.std.specs.Result.{result_map_both}
-use Rattle.std.specs.Str.{chars, encode_utf8_all, is_utf8}
-use lib.Utf8.{encode}
+use Rattle.std.specs.Prelude.{cond, count_by, decimal, flat_map}
+use Rattle.std.specs.List.{sum_by}
+use Rattle.std.specs.Str.{chars, encode_utf8_all}
 use Rattle.std.proofs.lemmas.Fmt.{length-decimal-le}
 use Rattle.std.proofs.lemmas.List.Elements.{All-nil}
 use Rattle.std.proofs.lemmas.List.Sums.{sum_by-append}
-use Rattle.std.proofs.lemmas.Str.{encodes-chars, length-encode, len_utf8_bounds, IsUtf8-from_is_utf8}
+use Rattle.std.proofs.lemmas.Str.{encodes-chars, length-encode, len_utf8_bounds}
 use Rattle.base64.specs.Rfc4648.{padding_len, unpadded_len}
 use Rattle.log_text.specs.Lines.{base64, is_line, is_origin, part_origin}
 use Rattle.log_text.specs.Laws.{CheckpointsAreReadAgain, NotesAreSpelled, PartsAreSpelled}
 use Rattle.log_text.specs.Laws.{SignaturesChangeNothing, ThreeLinesAreSpelled}
-use Rattle.log_text.specs.Reading.{checkpoint_in, error_of, log_origin_by, note_by, part_in, part_origin_by}
-use Rattle.log_text.specs.Texts.{checkpoint_text, digest_line, line, signature_lines, CheckpointFields}
+use Rattle.log_text.specs.Reading.{checkpoint_in, error_of, log_origin_by, note_by, part_origin_by}
+use Rattle.log_text.specs.Texts.{checkpoint_text, line, signature_lines, CheckpointFields}
 use Rattle.log_text.specs.Texts.{IsCheckpoint, IsNote}
 use Rattle.log_text.specs.declared.error.Expected.TheVariants.{Extension, PartOrigin, Signature}
 use Rattle.log_text.proofs.Base64Facts.{length-base64}
-use Rattle.log_text.proofs.LineFacts.{log_origin_spelled, part_decided, part_is_origin, that_spelled}
+use Rattle.log_text.proofs.LineFacts.{log_origin_spelled, origin_parts, part_decided, part_is_origin, that_spelled}
 use Rattle.log_text.proofs.LineFacts.{IsLogOrigin}
-use Rattle.log_text.proofs.NoteFacts.{note_back, note_only}
-use Rattle.log_text.proofs.ReadFacts.{read_whole}
-use Rattle.log_text.proofs.TestFacts.{both, le_decided}
+use Rattle.log_text.proofs.NoteFacts.{note_read}
+use Rattle.log_text.proofs.ReadFacts.{says}
 
 -- ---- notes
 
-log_back : (note : List ℕ) (c : CheckpointFields) (extensions signatures : List (List ℕ)) →
-    IsNote note c extensions signatures → (c.origin ≡ part_origin → ⊥) → checkpoint_in note ≡ Ok c
-log_back note c extensions signatures is log =
-    ap (result_map_both (λ v. v) (error_of note))
-    (note_back log_origin_by IsLogOrigin log_origin_spelled note c extensions signatures (is.checkpoint.origin, log) is)
+pub notes : NotesAreSpelled
+notes note c =
+    let (read, back) = says (error_of note) (note_by log_origin_by note) c
+    (note_read log_origin_by IsLogOrigin log_origin_spelled (λ o is. is.0) note) in (
+      λ is. let (extensions, signatures, note_is, own) = read is in (extensions, signatures, note_is, own.1),
+      λ (extensions, signatures, is, log). back (extensions, signatures, is, (is.checkpoint.origin, log)),
+    )
 
 abbrev IsPart : List ℕ → Type 0
 IsPart origin = is_line PartOrigin origin ≡ true
 
-part_back : (note : List ℕ) (c : CheckpointFields) (extensions signatures : List (List ℕ)) →
-    IsNote note c extensions signatures → c.origin ≡ part_origin → part_in note ≡ Ok c
-part_back note c extensions signatures is part =
-    ap (result_map_both (λ v. v) (error_of note))
-    (note_back part_origin_by IsPart (that_spelled PartOrigin) note c extensions signatures
-    ((part_decided c.origin).1 part) is)
-
-pub notes : NotesAreSpelled
-notes note c = (
-  λ read.
-      let found = note_only log_origin_by IsLogOrigin log_origin_spelled note c (λ o is. is.0)
-      (read_whole (error_of note) (note_by log_origin_by note) c read) in
-      (found.0, found.1, found.2, found.3.1),
-  λ is. log_back note c is.0 is.1 is.2 is.3,
-)
-
 pub parts : PartsAreSpelled
-parts note c = (
-  λ read.
-      let found = note_only part_origin_by IsPart (that_spelled PartOrigin) note c
-      (λ o is. ap is_origin ((part_decided o).0 is) ∙ part_is_origin)
-      (read_whole (error_of note) (note_by part_origin_by note) c read) in
-      (found.0, found.1, found.2, (part_decided c.origin).0 found.3),
-  λ is. part_back note c is.0 is.1 is.2 is.3,
-)
+parts note c =
+    let part = part_decided c.origin in
+    let (read, back) = says (error_of note) (note_by part_origin_by note) c
+    (note_read part_origin_by IsPart (that_spelled PartOrigin)
+    (λ o is. ap is_origin ((part_decided o).0 is) ∙ part_is_origin) note) in (
+      λ is. let (extensions, signatures, note_is, own) = read is in (extensions, signatures, note_is, part.0 own),
+      λ (extensions, signatures, is, own). back (extensions, signatures, is, part.1 own),
+    )
 
 -- ---- what is printed
 
 encodes_short : (cs : List ℕ) → length (encode_utf8_all cs) ≤ 4 * length cs
 encodes_short [] = omega arith
 encodes_short (c ∷ cs) =
-    omega (
-      arith,
-      encodes_short cs,
-      length-append (encode c) (encode_utf8_all cs),
-      length-encode c,
-      (len_utf8_bounds
-          c).1,
-    )
+    omega (arith, encodes_short cs, length-append {A = ℕ}, length-encode c, (len_utf8_bounds c).1)
 
 origin_short : (origin : List ℕ) → is_origin origin ≡ true → length origin ≤ 400
-unfolding is_origin
 origin_short origin is =
-    let n = length origin in
-    let all = list_all (λ b. nat_le 32 b && not (b == 127)) origin in
-    let count = nat_le (length (chars origin)) 100 in
-    let last = not (slice_index origin (n - 1) == 32) in
-    let first = not (slice_index origin 0 == 32) in
-    let a = both (is_utf8 origin) (nat_le 1 n && (first && (last && (count && all)))) is in
-    let b = both (nat_le 1 n) (first && (last && (count && all))) a.1 in
-    let c = both first (last && (count && all)) b.1 in
-    let d = both last (count && all) c.1 in
-    let few = (le_decided (length (chars origin)) 100).0 (both count all d.1).0 in
-    let text = encodes-chars origin (IsUtf8-from_is_utf8 origin a.0) in
-    let short = encodes_short (chars origin) in
-    omega (arith, few, short, ap length text)
+    let (text, few, plain) = origin_parts origin is in
+    omega (arith, few, encodes_short (chars origin), ap length (encodes-chars origin text))
 
 text_short : (c : CheckpointFields) → IsCheckpoint c → length (checkpoint_text c) ≤ 1000000
 text_short c is =
-    let root : length (base64 c.root) ≡ 44 =
-    length-base64 c.root ∙ ap (λ n. unpadded_len n + padding_len n) is.root.0 in
-    omega (
-      arith,
-      root,
-      origin_short c.origin is.origin,
-      length-decimal-le 20 c.size (omega arith) (omega (arith, is.size))
-          (omega (arith, is.size)),
-      length-append (line c.origin) (line (decimal c.size) ++ digest_line c.root),
-      length-append (line (decimal c.size)) (digest_line c.root),
-      length-append c.origin (10 ∷ []),
-      length-append (decimal c.size) (10 ∷ []),
-      length-append (base64 c.root) (10 ∷ []),
-    )
+    let root = length-base64 c.root ∙ ap (λ n. unpadded_len n + padding_len n) is.root.0 in
+    let size = length-decimal-le 20 c.size (omega arith) (omega (arith, is.size)) (omega (arith, is.size)) in
+    omega (arith, root, size, origin_short c.origin is.origin, length-append {A = ℕ})
 
 printed : (c : CheckpointFields) → IsCheckpoint c → IsNote (checkpoint_text c) c [] []
 printed c is =
@@ -123,47 +76,25 @@ printed c is =
 
 pub read_again : CheckpointsAreReadAgain
 read_again c is = (
-  λ log. log_back (checkpoint_text c) c [] [] (printed c is) log,
-  λ part. part_back (checkpoint_text c) c [] [] (printed c is) part,
+  λ log. (notes (checkpoint_text c) c).1 ([], [], printed c is, log),
+  λ part. (parts (checkpoint_text c) c).1 ([], [], printed c is, part),
 )
 
 -- ---- three lines
-
-abbrev feeds : List ℕ → ℕ
-feeds text = count_by (λ b. b == 10) text
-
-feeds-append : (a b : List ℕ) → feeds (a ++ b) ≡ feeds a + feeds b
-feeds-append a b = sum_by-append (λ c. cond (c == 10) 1 0) a b
-
-feeds_line : (bytes rest : List ℕ) → suc (feeds rest) ≤ feeds (line bytes ++ rest)
-feeds_line bytes rest = omega (arith, feeds-append (line bytes) rest, feeds-append bytes (10 ∷ []))
-
-feeds_text : (c : CheckpointFields) (rest : List ℕ) → 3 + feeds rest ≤ feeds (checkpoint_text c ++ rest)
-feeds_text c rest =
-    omega (
-      arith,
-      feeds-append (checkpoint_text c) rest,
-      feeds_line c.origin (line (decimal c.size) ++ digest_line c.root),
-      feeds_line (decimal c.size) (digest_line c.root),
-      feeds-append (base64 c.root) (10 ∷ []),
-    )
 
 pub three_lines : ThreeLinesAreSpelled
 three_lines note c read three =
     let found = (notes note c).0 read in
     by_lines found.0 found.1 found.2.spelled
   where
+    feeds : {text : List ℕ} → note ≡ text → sum_by (λ b. cond (b == 10) 1 0) text ≡ 3
+    feeds is = ap (count_by (λ b. b == 10)) (sym is) ∙ three
+
     by_lines : (extensions signatures : List (List ℕ)) →
         note ≡ checkpoint_text c ++ (flat_map line extensions ++ signature_lines signatures) → note ≡ checkpoint_text c
     by_lines [] [] is = is ∙ append-nil (checkpoint_text c)
-    by_lines [] (s ∷ ss) is =
-        let rest = flat_map line (s ∷ ss) in
-        absurd (omega (arith, three, ap feeds is, feeds_text c (signature_lines (s ∷ ss)), feeds_line [] rest))
-    by_lines (e ∷ es) signatures is =
-        let below = flat_map line es ++ signature_lines signatures in
-        let lines = flat_map line (e ∷ es) ++ signature_lines signatures in
-        let same : lines ≡ line e ++ below = append_assoc (line e) (flat_map line es) (signature_lines signatures) in
-        absurd (omega (arith, three, ap feeds is, feeds_text c lines, ap feeds same, feeds_line e below))
+    by_lines [] (s ∷ ss) is = absurd (omega (arith, simp sum_by-append at (feeds is)))
+    by_lines (e ∷ es) signatures is = absurd (omega (arith, simp sum_by-append at (feeds is)))
 
 -- ---- signatures
 
@@ -192,17 +123,20 @@ signed text signatures c read whole are few short =
     by_signatures extensions [] is log =
         let lines = flat_map line extensions in
         let end = signature_lines signatures in
-        log_back (text ++ end) c extensions signatures
-        (record {
-          checkpoint = is.checkpoint;
-          extensions_are = is.extensions_are;
-          signatures_are = are;
-          few_signatures = few;
-          short = short;
-          spelled = ap (λ t. t ++ end) (is.spelled ∙ ap (λ t. checkpoint_text c ++ t) (append-nil lines))
-              ∙ append_assoc (checkpoint_text c) lines end;
-        })
-        log
+        (notes (text ++ end) c).1 (
+          extensions,
+          signatures,
+          record {
+            checkpoint = is.checkpoint;
+            extensions_are = is.extensions_are;
+            signatures_are = are;
+            few_signatures = few;
+            short = short;
+            spelled = ap (λ t. t ++ end) (is.spelled ∙ ap (λ t. checkpoint_text c ++ t) (append-nil lines))
+                ∙ append_assoc (checkpoint_text c) lines end;
+          },
+          log,
+        )
     by_signatures extensions (s ∷ ss) is log =
         let lines = flat_map line extensions in
         let rest = flat_map line (s ∷ ss) in

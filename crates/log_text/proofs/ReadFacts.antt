@@ -1,127 +1,122 @@
 -- Parts of a text that are read as they are printed, and as nothing else.
-use Rattle.std.proofs.Common.{◌≡◌, Bool, true, ℕ, List, [], ◌∷◌, ◌++◌, length, Option, Some, None}
-use Rattle.std.proofs.Common.{Result, Ok, Err, refl, sym, ap, ◌∙◌, append_assoc}
-use Rattle.std.specs.Prelude.{if◌then◌else◌}
+use Rattle.std.proofs.Common.{◌≡◌, Bool, true, false, Decides, ℕ, List, [], ◌∷◌, ◌++◌, Option, Some, None}
+use Rattle.std.proofs.Common.{Result, Ok, Err, refl, sym, ap, ◌∙◌, append_assoc, subst}
+use Rattle.std.specs.Prelude.{if◌then◌else◌, ◌↔◌}
 use Rattle.std.specs.Option.{option_map_or}
 use Rattle.std.specs.Result.{result_map_both}
 use Rattle.log_text.specs.Lines.{cut_at, passing}
-use Rattle.log_text.specs.Inner.Rests.{rest_of}
-use Rattle.log_text.specs.Reading.{ended, line_by, missing, then_read, Reads}
+use Rattle.log_text.specs.Reading.{ended, line_by, then_read, Reads}
 use Rattle.log_text.specs.Texts.{line}
 use Rattle.log_text.specs.declared.error.Expected.{Expected}
-use Rattle.log_text.specs.declared.error.Expected.TheVariants.{End}
 use Rattle.log_text.specs.declared.error.Stop.{Stop}
-use Rattle.log_text.specs.declared.error.Stop.TheVariants.{Missing}
 use Rattle.log_text.specs.declared.error.TextError.{TextError}
-use Rattle.log_text.proofs.CutFacts.{cut_front, cut_only, Lacks}
-use Rattle.log_text.proofs.TestFacts.{tested}
+use Rattle.log_text.proofs.CutFacts.{cut_found, Lacks}
+use Rattle.log_text.proofs.TestFacts.{found, only_if, said_as, IsFound}
 
--- at the front of a text just the texts of such values are read
-pub record IsSpelled {V : Type 0} (read : List ℕ → Reads V) (Is : V → Type 0) (text : V → List ℕ) : Type 0 where
-  pub back : (v : V) (rest : List ℕ) → Is v → read (text v ++ rest) ≡ Ok (v, rest)
-  pub only : (v : V) (left rest : List ℕ) → read left ≡ Ok (v, rest) → Is v × (left ≡ text v ++ rest)
+-- what was read if reading did not stop: just this is said of it
+pub record IsRead {W : Type 0} (r : Result W Stop) (Says : W → Type 0) : Type 0 where
+  pub back : (w : W) → Says w → r ≡ Ok w
+  pub only : (w : W) → r ≡ Ok w → Says w
+
+-- at the front of a text just the texts of such values are read, ahead of such a rest
+abbrev pub IsSpelled : {V : Type 0} → (List ℕ → Reads V) → (V → List ℕ → Type 0) → (V → List ℕ) → Type 0
+IsSpelled {V} read Is text = (left : List ℕ) → IsRead (read left) (λ r. Is r.0 r.1 × (left ≡ text r.0 ++ r.1))
 
 -- ---- steps
 
--- what is read after a value, and what was read ahead of it
-pub next_is : {V W : Type 0} (o : Reads V) (next : V → List ℕ → Result W Stop) (v : V) (rest : List ℕ) →
-    o ≡ Ok (v, rest) → then_read o next ≡ next v rest
-next_is o next v rest is = ap (λ r. then_read r next) is
+pub gives : {W : Type 0} (v : W) → IsRead (Ok v) (λ w. v ≡ w)
+gives v = record { back = λ w is. ap Ok is; only = λ w is. cc }
 
-pub ahead : {V W : Type 0} (o : Reads V) (next : V → List ℕ → Result W Stop) (w : W) → then_read o next ≡ Ok w →
-    (v : V) × (rest : List ℕ) × (o ≡ Ok (v, rest)) × (next v rest ≡ Ok w)
-ahead (Ok read) next w is = (read.0, read.1, refl, is)
-ahead (Err stop) next w is = cc
+pub ends : {W : Type 0} (v : W) (left : List ℕ) → IsRead (ended v left) (λ w. (left ≡ []) × (v ≡ w))
+ends v [] = record { back = λ w is. ap Ok is.1; only = λ w is. (refl, cc) }
+ends v (b ∷ left) = record { back = λ w (none, is). cc; only = λ w is. cc }
 
--- what is read after a value that is not kept
-pub skip_next : {V W : Type 0} (o : Reads V) (next : List ℕ → Result W Stop) (rest : List ℕ) → rest_of o ≡ Ok rest →
-    then_read o (λ v left. next left) ≡ next rest
-skip_next (Ok read) next rest is = let same : read.1 ≡ rest = cc in ap next same
-skip_next (Err stop) next rest is = cc
+pub in_turn : {V W : Type 0} {P : V × List ℕ → Type 0} {Q : V → List ℕ → W → Type 0} (o : Reads V)
+    (next : V → List ℕ → Result W Stop) → IsRead o P → ((v : V) (rest : List ℕ) → IsRead (next v rest) (Q v rest)) →
+    IsRead (then_read o next) (λ w. (v : V) × (rest : List ℕ) × P (v, rest) × Q v rest w)
+in_turn (Err stop) next here after =
+    record { back = λ w (v, rest, is, says). let none = here.back (v, rest) is in cc; only = λ w is. cc }
+in_turn (Ok read) next here after =
+    record {
+      back = λ w (v, rest, is, says).
+          ap (λ r. then_read r next) (here.back (v, rest) is) ∙ (after v rest).back w says;
+      only = λ w is. (read.0, read.1, here.only read refl, (after read.0 read.1).only w is);
+    }
 
--- what an outcome tells of what was there
-or_err : {A B : Type 0} (f : A → Result B Stop) (o : Option A) (stop : Stop) (w : B) →
-    option_map_or f o (Err stop) ≡ Ok w → (x : A) × (o ≡ Some x) × (f x ≡ Ok w)
-or_err f None stop w is = cc
-or_err f (Some x) stop w is = (x, refl, is)
+pub either : {W : Type 0} {P : W → Type 0} {a b : Result W Stop} (t : Bool) → (t ≡ true → IsRead a P) →
+    (t ≡ false → IsRead b P) → IsRead (if t then a else b) P
+either true passed failed = passed refl
+either false passed failed = failed refl
 
-pub ok_same : {A E : Type 0} (x y : A) → ◌≡◌ {A = Result A E} (Ok x) (Ok y) → x ≡ y
-ok_same x y is = cc
+-- what is said, value after value
+pub turn : {V : Type 0} {P Q : V → List ℕ → Type 0} (v : V) (rest : List ℕ) → P v rest → Q v rest →
+    (v : V) × (rest : List ℕ) × P v rest × Q v rest
+turn v rest is after = (v, rest, is, after)
 
--- nothing is left after what was read whole
-pub ended_only : {V : Type 0} (v w : V) (left : List ℕ) → ended v left ≡ Ok w → (v ≡ w) × (left ≡ [])
-ended_only v w [] is = (cc, refl)
-ended_only v w (b ∷ left) is = cc
+-- unless a test passes, or if it does
+pub passes : {W P : Type 0} {Q : W → Type 0} {r : Result W Stop} (stop : Stop) (t : Bool) → Decides t P →
+    IsRead r Q → IsRead (if t then Err stop else r) (λ w. (P → ⊥) × Q w)
+passes stop true decided here =
+    record { back = λ w (never, says). absurd (never (decided.0 refl)); only = λ w is. cc }
+passes stop false decided here =
+    record {
+      back = λ w (never, says). here.back w says;
+      only = λ w is. (λ holds. let other = decided.1 holds in cc, here.only w is);
+    }
 
--- whatever was read, its end tells
-pub ended_as : {V : Type 0} (v : V) (left : List ℕ) (u : Unit {0}) → Ok u ≡ ended {V = Unit {0}} tt left →
-    ended v left ≡ Ok v
-ended_as v [] u is = refl
-ended_as v (b ∷ left) u is = cc
+pub holds : {W P : Type 0} {Q : W → Type 0} {r : Result W Stop} (stop : Stop) (t : Bool) → Decides t P →
+    IsRead r Q → IsRead (if t then r else Err stop) (λ w. P × Q w)
+holds stop true decided here =
+    record { back = λ w (is, says). here.back w says; only = λ w is. (decided.0 refl, here.only w is) }
+holds stop false decided here =
+    record { back = λ w (is, says). let other = decided.1 is in cc; only = λ w is. cc }
 
-pub not_ended : {V : Type 0} (v : V) (left : List ℕ) (stop : Stop) → Err stop ≡ ended {V = Unit {0}} tt left →
-    ended v left ≡ Err stop
-not_ended v [] stop is = cc
-not_ended v (b ∷ left) stop is =
-    let same : stop ≡ Missing (length (b ∷ left)) End = cc in ap Err (sym same)
+-- what a value that is there tells
+there : {A W : Type 0} {P : A → Type 0} {Q : A → W → Type 0} (stop : Stop) (f : A → Result W Stop) (o : Option A) →
+    IsFound o P → ((x : A) → IsRead (f x) (Q x)) →
+    IsRead (option_map_or f o (Err stop)) (λ w. (x : A) × P x × Q x w)
+there stop f None here after =
+    record { back = λ w (x, is, says). let none = here.back x is in cc; only = λ w is. cc }
+there stop f (Some z) here after =
+    record {
+      back = λ w (x, is, says). ap (λ o. option_map_or f o (Err stop)) (here.back x is) ∙ (after x).back w says;
+      only = λ w is. (z, here.only z refl, (after z).only w is);
+    }
 
--- what a whole text says is what was read
-pub read_whole : {V : Type 0} (error : Stop → TextError) (r : Result V Stop) (v : V) →
-    result_map_both (λ w. w) error r ≡ Ok v → r ≡ Ok v
-read_whole error (Ok w) v is = let same : w ≡ v = cc in ap Ok same
-read_whole error (Err stop) v is = cc
+pub read_as : {W : Type 0} {P Q : W → Type 0} {r : Result W Stop} → IsRead r P → ((w : W) → P w → Q w) →
+    ((w : W) → Q w → P w) → IsRead r Q
+read_as here to from = record { back = λ w is. here.back w (from w is); only = λ w is. to w (here.only w is) }
+
+-- what a whole text says
+pub says : {V : Type 0} {P : V → Type 0} (error : Stop → TextError) (r : Result V Stop) (v : V) → IsRead r P →
+    (result_map_both (λ w. w) error r ≡ Ok v) ↔ P v
+says error (Ok w) v here = (
+  λ is. let same : w ≡ v = cc in here.only v (ap Ok same),
+  λ is. ap (result_map_both (λ u. u) error) (here.back v is),
+)
+says error (Err stop) v here = (λ is. cc, λ is. let none = here.back v is in cc)
 
 -- ---- lines
 
-module _ {V : Type 0} (expected : Expected) (says : List ℕ → Option V) where
-  line_back : (bytes rest : List ℕ) (v : V) → Lacks 10 bytes → says bytes ≡ Some v →
-      line_by expected says (line bytes ++ rest) ≡ Ok (v, rest)
-  line_back bytes rest v whole said =
-      let left = bytes ++ 10 ∷ rest in
-      ap (line_by expected says) (append_assoc bytes (10 ∷ []) rest)
-      ∙ ap (λ o. option_map_or (λ (cut : List ℕ × List ℕ).
-      option_map_or (λ (w : V). Ok (w, cut.1)) (says cut.0) (missing expected left)) o (missing expected left))
-      (cut_front 10 bytes rest whole)
-      ∙ ap (λ o. option_map_or (λ (w : V). Ok (w, rest)) o (missing expected left)) said
-
-  pub line_only : (left rest : List ℕ) (v : V) → line_by expected says left ≡ Ok (v, rest) →
-      (bytes : List ℕ) × (says bytes ≡ Some v) × (left ≡ line bytes ++ rest)
-  line_only left rest v is =
-      let stop = Missing (length left) expected in
-      let cut = or_err (λ (parts : List ℕ × List ℕ).
-      option_map_or (λ (w : V). let r : Reads V = Ok (w, parts.1) in r) (says parts.0) (missing expected left))
-      (cut_at 10 left) stop
-      (v, rest) is in
-      let found = or_err (λ (w : V). let r : Reads V = Ok (w, cut.0.1) in r) (says cut.0.0) stop (v, rest) cut.2 in
-      let same = ok_same {A = V × List ℕ} {E = Stop} (found.0, cut.0.1) (v, rest) found.2 in (
-        cut.0.0,
-        found.1 ∙ ap (λ (p : V × List ℕ). Some p.0) same,
-        cut_only 10 left cut.0.0 cut.0.1 cut.1
-            ∙ ap (λ (p : V × List ℕ). cut.0.0 ++ 10 ∷ p.1) same
-            ∙ sym (append_assoc cut.0.0 (10 ∷ []) rest),
-      )
-
-  -- lines whose bytes are read as they are printed, and as nothing else
-  pub of_line : (Is : V → Type 0) (bytes : V → List ℕ) → ((v : V) → Is v → Lacks 10 (bytes v)) →
-      ((v : V) → Is v → says (bytes v) ≡ Some v) →
-      ((line : List ℕ) (v : V) → says line ≡ Some v → Is v × (line ≡ bytes v)) →
-      IsSpelled (line_by expected says) Is (λ v. line (bytes v))
-  of_line Is bytes whole back only =
-      record {
-        back = λ v rest is. line_back (bytes v) rest v (whole v is) (back v is);
-        only = λ v left rest is.
-            let told = line_only left rest v is in
-            let words = only told.0 v told.1 in
-            (words.0, told.2 ∙ ap (λ b. line b ++ rest) words.1);
-      }
+-- lines whose bytes are read as they are printed, and as nothing else
+pub line_spelled : {V : Type 0} (expected : Expected) (said : List ℕ → Option V) (Is : V → Type 0)
+    (bytes : V → List ℕ) → ((v : V) → Is v → Lacks 10 (bytes v)) →
+    ((l : List ℕ) → IsFound (said l) (λ v. Is v × (l ≡ bytes v))) →
+    IsSpelled (line_by expected said) (λ v rest. Is v) (λ v. line (bytes v))
+line_spelled expected said Is bytes whole of_line left =
+    read_as (there _ _ (cut_at 10 left) (cut_found 10 left) (λ cut. there _ _ (said cut.0) (of_line cut.0) (λ v.
+    gives (v, cut.1))))
+    (λ r (cut, (lacks, parts), (v, (is, same), end)).
+    subst (λ q. Is q.0 × (left ≡ line (bytes q.0) ++ q.1)) end
+    (is, parts ∙ ap (λ b. b ++ 10 ∷ cut.1) same ∙ sym (append_assoc (bytes v) (10 ∷ []) cut.1)))
+    (λ r (is, parts).
+    ((bytes r.0, r.1), (whole r.0 is, parts ∙ append_assoc (bytes r.0) (10 ∷ []) r.1), (r.0, (is, refl), refl)))
 
 -- lines that pass a test
 pub passing_spelled : (expected : Expected) (test : List ℕ → Bool) →
     ((bytes : List ℕ) → test bytes ≡ true → Lacks 10 bytes) →
-    IsSpelled (line_by expected (passing test)) (λ bytes. test bytes ≡ true) line
+    IsSpelled (line_by expected (passing test)) (λ bytes rest. test bytes ≡ true) line
 passing_spelled expected test whole =
-    of_line expected (passing test) (λ bytes. test bytes ≡ true) (λ bytes. bytes) whole
-    (λ bytes is i. if is i then Some bytes else None)
-    (λ bytes v said.
-    let found = tested (test bytes) bytes v said in
-    (sym (ap test found.1) ∙ found.0, found.1))
+    line_spelled expected (passing test) (λ bytes. test bytes ≡ true) (λ bytes. bytes) whole (λ l.
+    said_as (only_if (test l) (λ is. is, λ is. is) (found l))
+    (λ bytes (is, same). (sym (ap test same) ∙ is, same)) (λ bytes (is, same). (ap test same ∙ is, same)))

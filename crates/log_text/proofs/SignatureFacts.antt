@@ -1,137 +1,100 @@
 -- Extension lines and signatures.
-use Rattle.std.proofs.Common.{◌≡◌, ◌≤◌, ◌+◌, ◌==◌, Bool, true, false, ℕ, suc, List, [], ◌∷◌, ◌++◌, length, Ok, refl}
-use Rattle.std.proofs.Common.{sym, ap, ◌∙◌, subst, arith, inl, inr, append_assoc, append-nil, length-append}
-use Rattle.std.specs.Prelude.{◌||◌, flat_map}
-use Rattle.std.proofs.lemmas.Bool.{cases_lt, false≢true}
-use Rattle.std.proofs.lemmas.Bool.Decides.{Decides-eqb}
+use Rattle.std.proofs.Common.{◌≡◌, ◌<◌, ◌≤◌, true, false, ℕ, List, [], ◌∷◌, ◌++◌, length, refl, ap}
+use Rattle.std.proofs.Common.{◌∙◌, subst, arith, inl, inr, append_assoc, length-append}
+use Rattle.std.specs.Prelude.{flat_map}
+use Rattle.std.proofs.lemmas.Bool.{eqb-true, ne_eqb, or_from, or_right}
 use Rattle.std.proofs.lemmas.List.{nil_from_length}
 use Rattle.std.proofs.lemmas.List.Elements.{All-cons, All-head, All-nil, All-tail}
-use Rattle.log_text.specs.Lines.{is_line}
-use Rattle.log_text.specs.Reading.{at_end, at_text_end, extensions_by, line_that, many, signatures_by}
-use Rattle.log_text.specs.Reading.{then_read, Reads}
+use Rattle.log_text.specs.Reading.{at_end, at_text_end, extensions_by, line_that, signatures_by}
 use Rattle.log_text.specs.Texts.{line, signature_lines, AreLines}
-use Rattle.log_text.specs.declared.error.Expected.TheVariants.{Extension, Signature}
-use Rattle.log_text.specs.declared.error.Stop.{Stop}
-use Rattle.log_text.proofs.LineFacts.{extension_text, signature_text, that_spelled, IsPlain}
-use Rattle.log_text.proofs.ManyFacts.{many_back, many_only}
-use Rattle.log_text.proofs.ReadFacts.{ahead, next_is, ok_same}
-use Rattle.log_text.proofs.TestFacts.{differs, or_true}
-
--- ---- stops
-
-pub feed_stops : (left : List ℕ) → at_text_end (10 ∷ left) ≡ true
-feed_stops left = or_true (at_end (10 ∷ left))
-
-pub lines_long : (ls : List (List ℕ)) → length ls ≤ length (flat_map line ls)
-lines_long [] = omega arith
-lines_long (l ∷ ls) =
-    omega (arith, lines_long ls, length-append (line l) (flat_map line ls), length-append l (10 ∷ []))
+use Rattle.log_text.specs.declared.error.Expected.TheVariants.{Blank, Extension, Signature}
+use Rattle.log_text.proofs.LineFacts.{blank_decided, is_solid, that_spelled, Fits, IsPlain}
+use Rattle.log_text.proofs.ManyFacts.{many_spelled}
+use Rattle.log_text.proofs.ReadFacts.{either, gives, in_turn, read_as, turn, IsRead, IsSpelled}
 
 -- a line that is plain and not blank is no stop
 goes_on : (l left : List ℕ) → (1 ≤ length l) × IsPlain l → at_text_end (line l ++ left) ≡ false
 goes_on [] left is = absurd (omega (arith, is.0))
 goes_on (b ∷ bs) left is =
     let high : 32 ≤ b = All-head (λ c. 32 ≤ c) b bs is.1 in
-    let some = length-append (line (b ∷ bs)) left in
-    let end = differs (length (line (b ∷ bs) ++ left)) 0 (λ none. omega (arith, none, some)) in
-    let blank = differs b 10 (λ feed. omega (arith, feed, high)) in
-    λ i. end i || blank i
+    or_from _ _ (ne_eqb (length (line (b ∷ bs) ++ left)) 0 (λ none. omega (arith, none)))
+    (ne_eqb b 10 (λ feed. omega (arith, feed, high)))
 
 -- ---- extension lines
 
-pub extensions_back : (extensions : List (List ℕ)) (rest : List ℕ) → AreLines Extension extensions →
-    at_text_end rest ≡ true → extensions_by (flat_map line extensions ++ rest) ≡ Ok (extensions, rest)
-unfolding extensions_by
-extensions_back extensions rest are stop =
-    let lines = flat_map line extensions in
-    many_back at_text_end (line_that Extension) (λ l. is_line Extension l ≡ true) line (that_spelled Extension)
-    (length (lines ++ rest)) extensions rest are (omega (arith, lines_long extensions, length-append lines rest))
-    (λ l left is. goes_on l left (extension_text l is)) (λ less. stop)
+lines_long : (ls : List (List ℕ)) → length ls ≤ length (flat_map line ls)
+lines_long [] = omega arith
+lines_long (l ∷ ls) =
+    omega (arith, lines_long ls, length-append (line l) (flat_map line ls), length-append l (10 ∷ []))
 
-pub extensions_only : (extensions : List (List ℕ)) (left rest : List ℕ) → extensions_by left ≡ Ok (extensions, rest) →
-    AreLines Extension extensions × (left ≡ flat_map line extensions ++ rest) × (at_text_end rest ≡ true)
+pub extensions_read : (left : List ℕ) → IsRead (extensions_by left) (λ r. (AreLines Extension r.0
+    × (length r.0 < length left → at_text_end r.1 ≡ true)) × (left ≡ flat_map line r.0 ++ r.1))
 unfolding extensions_by
-extensions_only extensions left rest is =
-    let found = many_only at_text_end (line_that Extension) (λ l. is_line Extension l ≡ true) line
-    (that_spelled Extension) (length left) extensions left rest is in
-    let lines = flat_map line extensions in
-    let stop : at_text_end rest ≡ true =
-    elim (cases_lt (length extensions) (length left)) [
-      | inl fewer ↦ found.3 fewer
-      | inr as_many ↦
-          let len : length left ≡ length lines + length rest = ap length found.2 ∙ length-append lines rest in
-          let none : rest ≡ [] = nil_from_length rest (omega (arith, as_many, len, lines_long extensions)) in
-          ap at_text_end none
-    ] in
-    (found.1, found.2, stop)
+extensions_read left =
+    read_as (many_spelled at_text_end (line_that Extension) (Fits Extension) line (that_spelled
+    Extension) (λ l rest is. goes_on l rest (is_solid Extension (inl refl) l is)) (length left) left)
+    (λ r ((are, few, stop), parts). ((are, stop), parts))
+    (λ r ((are, stop), parts).
+    ((are, omega (arith, ap length parts, length-append (flat_map line r.0) r.1, lines_long r.0), stop), parts))
 
 -- ---- signatures
 
 pub signatures_stop : (signatures : List (List ℕ)) → at_text_end (signature_lines signatures) ≡ true
 signatures_stop [] = refl
-signatures_stop (s ∷ ss) = feed_stops (flat_map line (s ∷ ss))
+signatures_stop (s ∷ ss) = or_right (at_end (signature_lines (s ∷ ss))) true refl
 
-feed_is : (feed : ℕ) (left : List ℕ) → at_text_end (feed ∷ left) ≡ true → feed ≡ 10
-feed_is feed left stop =
-    by_tests (at_end (feed ∷ left)) (feed == 10) (differs (length (feed ∷ left)) 0 (λ none. omega (arith, none))) refl
-    stop
+-- signatures, if there are any, ahead of what may follow them
+abbrev pub AreSigned : List (List ℕ) → List ℕ → Type 0
+AreSigned ss rest =
+    AreLines Signature ss × (length ss ≤ 100) × (length ss < 100 → at_text_end rest ≡ true)
+    × (length ss ≡ 0 → rest ≡ [])
+
+pub signatures_spelled : IsSpelled signatures_by AreSigned signature_lines
+unfolding signatures_by
+signatures_spelled left =
+    either (at_end left)
+    (λ end.
+    let none = nil_from_length left (eqb-true (length left) 0 end) in
+    read_as (gives ([], left))
+    (λ r same. subst (λ (q : List (List ℕ) × List ℕ). AreSigned q.0 q.1 × (left ≡ signature_lines q.0 ++ q.1)) same
+    ((All-nil (Fits Signature), omega arith, λ few. ap at_text_end none, λ _. none), refl))
+    (λ r said. only_none r.0 r.1 none said))
+    (λ some.
+    read_as (in_turn _ _ (that_spelled Blank left) (λ blank left. in_turn _ _ (that_spelled Signature left)
+    (λ s left. in_turn _ _ (many_spelled at_text_end (line_that Signature) (Fits Signature) line
+    (that_spelled Signature) (λ l rest is. goes_on l rest (is_solid Signature (inr refl) l is)) 99 left)
+    (λ ss end. gives (s ∷ ss, end)))))
+    (λ r (blank, l1, (none, t1), (s, l2, (is, t2), (ss, end, ((are, few, stop), t3), same))).
+    let t4 = (blank_decided blank).0 none in
+    let all = append_assoc (line s) (flat_map line ss) end in
+    subst (λ (q : List (List ℕ) × List ℕ). AreSigned q.0 q.1 × (left ≡ signature_lines q.0 ++ q.1)) same (
+      (
+        All-cons (Fits Signature) s ss is are,
+        omega (arith, few),
+        λ less. stop (omega (arith, less)),
+        λ nil. absurd (omega (arith, nil)),
+      ),
+      cc,
+    ))
+    (λ r said. some_read r.0 r.1 some said))
   where
-    by_tests : (e b : Bool) → e ≡ false → (feed == 10) ≡ b → (e || b) ≡ true → feed ≡ 10
-    by_tests true b more is stops = cc
-    by_tests false true more is stops = (Decides-eqb feed 10).0 is
-    by_tests false false more is stops = absurd (false≢true stops)
+    some_read : (ss : List (List ℕ)) (end : List ℕ) → at_end left ≡ false →
+        AreSigned ss end × (left ≡ signature_lines ss ++ end) → (blank l1 : List ℕ)
+        × (Fits Blank blank × (left ≡ line blank ++ l1)) × ((s l2 : List ℕ)
+        × (Fits Signature s × (l1 ≡ line s ++ l2)) × ((more : List (List ℕ)) × (l3 : List ℕ)
+        × (((AreLines Signature more) × (length more ≤ 99) × (length more < 99 → at_text_end l3 ≡ true))
+        × (l2 ≡ flat_map line more ++ l3)) × (◌≡◌ {A = List (List ℕ) × List ℕ} (s ∷ more, l3) (ss, end))))
+    some_read [] end some ((are, few, stop, none), parts) =
+        let nil = ap at_end (parts ∙ none refl) in absurd cc
+    some_read (s ∷ ss) end some ((are, few, stop, none), parts) =
+        let first = All-head (Fits Signature) s ss are in
+        let more = All-tail (Fits Signature) s ss are in
+        turn [] (flat_map line (s ∷ ss) ++ end) ((blank_decided []).1 refl, parts) (turn s (flat_map line ss ++ end)
+        (first, append_assoc (line s) (flat_map line ss) end) (turn ss end
+        ((more, omega (arith, few), λ less. stop (omega (arith, less))), refl) refl))
 
--- signatures after the first
-abbrev more_by : List ℕ → List ℕ → Reads (List (List ℕ))
-more_by s left = then_read (many at_text_end (line_that Signature) 99 left) (λ ss end. Ok (s ∷ ss, end))
-
-pub signatures_back : (signatures : List (List ℕ)) → AreLines Signature signatures → length signatures ≤ 100 →
-    signatures_by (signature_lines signatures) ≡ Ok (signatures, [])
-unfolding signatures_by
-signatures_back [] are few = refl
-signatures_back (s ∷ ss) are few =
-    let left = flat_map line ss in
-    let more : many at_text_end (line_that Signature) 99 left ≡ Ok (ss, []) =
-    ap (many at_text_end (line_that Signature) 99) (sym (append-nil left))
-    ∙ many_back at_text_end (line_that Signature) (λ t. is_line Signature t ≡ true) line (that_spelled Signature) 99 ss
-    []
-    (All-tail (λ t. is_line Signature t ≡ true) s ss are) (omega (arith, few))
-    (λ t rest is. goes_on t rest (signature_text t is)) (λ less. refl) in
-    next_is (line_that Signature (line s ++ left)) more_by s left
-    ((that_spelled Signature).back s left (All-head (λ t. is_line Signature t ≡ true) s ss are))
-    ∙ next_is (many at_text_end (line_that Signature) 99 left) (λ ts end. Ok (s ∷ ts, end)) ss [] more
-
-pub signatures_only : (signatures : List (List ℕ)) (left rest : List ℕ) → at_text_end left ≡ true →
-    signatures_by left ≡ Ok (signatures, rest) →
-    AreLines Signature signatures × (length signatures ≤ 100) × (left ≡ signature_lines signatures ++ rest)
-unfolding signatures_by
-signatures_only signatures [] rest stop is =
-    let same = ok_same {A = List (List ℕ) × List ℕ} {E = Stop} ([], []) (signatures, rest) is in
-    let none : [] ≡ signatures = ap (λ (p : List (List ℕ) × List ℕ). p.0) same in
-    let end : [] ≡ rest = ap (λ (p : List (List ℕ) × List ℕ). p.1) same in
-    let len : length signatures ≡ 0 = ap length (sym none) in (
-      subst (AreLines Signature) none (All-nil (λ s. is_line Signature s ≡ true)),
-      omega (arith, len),
-      λ i. signature_lines (none i) ++ end i,
-    )
-signatures_only signatures (feed ∷ left) rest stop is =
-    let first = ahead (line_that Signature left) more_by (signatures, rest) is in
-    let more = ahead (many at_text_end (line_that Signature) 99 first.1) (λ (ss : List (List ℕ)) (end : List ℕ).
-    Ok (first.0 ∷ ss, end)) (signatures, rest) first.3 in
-    let same = ok_same {A = List (List ℕ) × List ℕ} {E = Stop} (first.0 ∷ more.0, more.1) (signatures, rest) more.3 in
-    let all : first.0 ∷ more.0 ≡ signatures = ap (λ (p : List (List ℕ) × List ℕ). p.0) same in
-    let end : more.1 ≡ rest = ap (λ (p : List (List ℕ) × List ℕ). p.1) same in
-    let head = (that_spelled Signature).only first.0 left first.1 first.2 in
-    let tail = many_only at_text_end (line_that Signature) (λ s. is_line Signature s ≡ true) line (that_spelled
-    Signature) 99 more.0 first.1
-    more.1 more.2 in
-    let ss = first.0 ∷ more.0 in
-    let len : length signatures ≡ suc (length more.0) = ap length (sym all) in
-    let text : feed ∷ left ≡ signature_lines ss ++ more.1 =
-    (λ i. feed_is feed left stop i ∷ (head.1
-    ∙ ap (λ t. line first.0 ++ t) tail.2
-    ∙ sym (append_assoc (line first.0) (flat_map line more.0) more.1)) i) in (
-      subst (AreLines Signature) all (All-cons (λ s. is_line Signature s ≡ true) first.0 more.0 head.0 tail.1),
-      omega (arith, len, tail.0),
-      text ∙ (λ i. signature_lines (all i) ++ end i),
-    )
+    only_none : (ss : List (List ℕ)) (rest : List ℕ) → left ≡ [] →
+        AreSigned ss rest × (left ≡ signature_lines ss ++ rest) →
+        ◌≡◌ {A = List (List ℕ) × List ℕ} ([], left) (ss, rest)
+    only_none [] rest none said = ap (λ t. ([], t)) said.1
+    only_none (s ∷ ss) rest none said = absurd cc

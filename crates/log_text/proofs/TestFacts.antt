@@ -1,32 +1,20 @@
 -- What tests tell, and what a value that is there came from.
-use Rattle.std.proofs.Common.{◌≡◌, ◌≤◌, ◌==◌, Bool, true, false, Decides, ℕ, List, Option, Some, None}
-use Rattle.std.proofs.Common.{refl, sym, ◌∙◌, arith, inl, inr}
-use Rattle.std.specs.Prelude.{◌&&◌, ◌||◌, if◌then◌else◌, nat_eq, nat_le, All}
+use Rattle.std.proofs.Common.{◌≡◌, ◌≤◌, Bool, true, false, Decides, ℕ, List, Option, Some, refl, sym, ap, ◌∙◌}
+use Rattle.std.specs.Prelude.{if◌then◌else◌, nat_eq, nat_le, option_map, All, None}
 use Rattle.std.specs.Cmp.Lexicographic.{pointwise, bytes_decides}
 use Rattle.std.specs.List.{list_all}
-use Rattle.std.specs.Option.{option_and_then, option_map_or}
-use Rattle.std.proofs.lemmas.Bool.{false≢true}
-use Rattle.std.proofs.lemmas.Bool.Decides.{leb_tells, Decides-by_and, Decides-eqb}
+use Rattle.std.specs.Option.{option_and_then}
+use Rattle.std.proofs.lemmas.Bool.{false_from_ne_true, le-leb, leb-true}
+use Rattle.std.proofs.lemmas.Bool.Decides.{Decides-by_and}
 
 -- ---- tests
 
 pub le_decided : (a b : ℕ) → Decides (nat_le a b) (a ≤ b)
-le_decided a b =
-    elim (leb_tells a b) [
-      | inl holds ↦ (λ t. holds.1, λ le. holds.0)
-      | inr fails ↦ (λ t. absurd (false≢true (sym fails.0 ∙ t)), λ le. absurd (omega (arith, fails.1, le)))
-    ]
+le_decided a b = (leb-true a b, le-leb a b)
 
 -- a test of what does not hold fails
 pub fails : {P : Type 0} (t : Bool) → Decides t P → (P → ⊥) → t ≡ false
-fails true decided never = absurd (never (decided.0 refl))
-fails false decided never = refl
-
-pub differs : (a b : ℕ) → (a ≡ b → ⊥) → (a == b) ≡ false
-differs a b differ = fails (a == b) (Decides-eqb a b) differ
-
-pub same_bytes : (bytes : List ℕ) → pointwise nat_eq bytes bytes ≡ true
-same_bytes bytes = (bytes_decides bytes bytes).1 refl
+fails t decided never = false_from_ne_true t (λ is. never (decided.0 is))
 
 pub other_bytes : (a b : List ℕ) → (a ≡ b → ⊥) → pointwise nat_eq a b ≡ false
 other_bytes a b differ = fails (pointwise nat_eq a b) (bytes_decides a b) differ
@@ -36,36 +24,64 @@ pub each_decided : (p : ℕ → Bool) (P : ℕ → Type 0) → ((x : ℕ) → De
     Decides (list_all p xs) (All P xs)
 each_decided p P each xs = Decides-by_and p P (list_all p) each refl (λ y ys. refl) xs
 
--- the parts of two tests
-pub both : (a b : Bool) → (a && b) ≡ true → (a ≡ true) × (b ≡ true)
-both true b is = (refl, is)
-both false b is = cc
-
-pub or_true : (b : Bool) → (b || true) ≡ true
-or_true true = refl
-or_true false = refl
-
 -- ---- values
 
-pub and_then_some : {A B : Type 0} (f : A → Option B) (o : Option A) (y : B) → option_and_then f o ≡ Some y →
-    (x : A) × (o ≡ Some x) × (f x ≡ Some y)
-and_then_some f None y is = cc
-and_then_some f (Some x) y is = (x, refl, is)
+-- the value that is there if any is: just this is said of it
+pub record IsFound {A : Type 0} (o : Option A) (Says : A → Type 0) : Type 0 where
+  pub back : (x : A) → Says x → o ≡ Some x
+  pub only : (x : A) → o ≡ Some x → Says x
 
--- a value that passed a test, and one that did not fail it
-pub tested : {A : Type 0} (t : Bool) (x y : A) → (if t then Some x else None) ≡ Some y → (t ≡ true) × (x ≡ y)
-tested true x y is = (refl, cc)
-tested false x y is = cc
+pub itself : {A : Type 0} (o : Option A) → IsFound o (λ x. o ≡ Some x)
+itself o = record { back = λ x is. is; only = λ x is. is }
 
-pub untested : {A : Type 0} (t : Bool) (x y : A) → (if t then None else Some x) ≡ Some y → (t ≡ false) × (x ≡ y)
-untested true x y is = cc
-untested false x y is = (refl, cc)
+pub found : {A : Type 0} (x : A) → IsFound (Some x) (λ y. x ≡ y)
+found x = record { back = λ y is. ap Some is; only = λ y is. cc }
 
--- what a test on a value tells
-pub or_false : {A : Type 0} (f : A → Bool) (o : Option A) → option_map_or f o false ≡ true →
-    (x : A) × (o ≡ Some x) × (f x ≡ true)
-or_false f None is = cc
-or_false f (Some x) is = (x, refl, is)
+pub mapped : {A B : Type 0} {P : A → Type 0} (f : A → B) (o : Option A) → IsFound o P →
+    IsFound (option_map f o) (λ y. (x : A) × P x × (f x ≡ y))
+mapped f None here = record { back = λ y (x, is, same). let none = here.back x is in cc; only = λ y is. cc }
+mapped f (Some z) here =
+    record {
+      back = λ y (x, is, same). ap (option_map f) (here.back x is) ∙ ap Some same;
+      only = λ y is. (z, here.only z refl, cc);
+    }
 
-pub none_some : {A : Type 0} {x : A} → None ≡ Some x → ⊥
-none_some is = cc
+pub and_then : {A B : Type 0} {P : A → Type 0} {Q : A → B → Type 0} (f : A → Option B) (o : Option A) → IsFound o P →
+    ((x : A) → IsFound (f x) (Q x)) → IsFound (option_and_then f o) (λ y. (x : A) × P x × Q x y)
+and_then f None here after =
+    record { back = λ y (x, is, says). let none = here.back x is in cc; only = λ y is. cc }
+and_then f (Some z) here after =
+    record {
+      back = λ y (x, is, says). ap (option_and_then f) (here.back x is) ∙ (after x).back y says;
+      only = λ y is. (z, here.only z refl, (after z).only y is);
+    }
+
+-- a value that passes a test, or fails it
+pub only_if : {A P : Type 0} {Says : A → Type 0} {o : Option A} (t : Bool) → Decides t P → IsFound o Says →
+    IsFound (if t then o else None) (λ x. P × Says x)
+only_if true decided here =
+    record { back = λ x (is, says). here.back x says; only = λ x is. (decided.0 refl, here.only x is) }
+only_if false decided here =
+    record { back = λ x (is, says). let passes = decided.1 is in cc; only = λ x is. cc }
+
+pub unless : {A P : Type 0} {Says : A → Type 0} {o : Option A} (t : Bool) → Decides t P → IsFound o Says →
+    IsFound (if t then None else o) (λ x. (P → ⊥) × Says x)
+unless true decided here =
+    record { back = λ x (never, says). absurd (never (decided.0 refl)); only = λ x is. cc }
+unless false decided here =
+    record {
+      back = λ x (never, says). here.back x says;
+      only = λ x is. (λ holds. let passes = decided.1 holds in cc, here.only x is);
+    }
+
+pub said_as : {A : Type 0} {P Q : A → Type 0} {o : Option A} → IsFound o P → ((x : A) → P x → Q x) →
+    ((x : A) → Q x → P x) → IsFound o Q
+said_as here to from = record { back = λ x is. here.back x (from x is); only = λ x is. to x (here.only x is) }
+
+pub no_found : {A : Type 0} {P : A → Type 0} (o : Option A) → IsFound o P → ((x : A) → P x → ⊥) → None ≡ o
+no_found None here never = refl
+no_found (Some x) here never = absurd (never x (here.only x refl))
+
+pub same_found : {A : Type 0} {P : A → Type 0} (o q : Option A) → IsFound o P → IsFound q P → o ≡ q
+same_found None q none here = no_found q here (λ x is. let some = none.back x is in cc)
+same_found (Some x) q some here = sym (here.back x (some.only x refl))

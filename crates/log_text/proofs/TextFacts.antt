@@ -1,15 +1,14 @@
 -- Text: UTF-8, origins and names.
 use Rattle.std.proofs.Common.{◌≡◌, ◌≤◌, ◌-◌, ◌==◌, Bool, true, false, ℕ, List, length, Some, None, Result, Ok, Err}
-use Rattle.std.proofs.Common.{refl, sym, ap, ◌∙◌, arith, inl, inr}
+use Rattle.std.proofs.Common.{sym, ap, arith}
 use Rattle.std.specs.Prelude.{◌&&◌, if◌then◌else◌, not, nat_le, slice_index, MatchResult}
 use Rattle.std.specs.List.{list_all}
 use Rattle.std.specs.Result.{is_ok, result_ok}
 use Rattle.std.specs.Str.{chars, is_utf8, IsUtf8}
-use Rattle.std.proofs.lemmas.Bool.{cases_lt, false≢true}
-use Rattle.std.proofs.lemmas.Bool.Decides.{Decides-eqb}
+use Rattle.std.proofs.lemmas.Bool.{eqb-false, le-leb, ne_eqb}
 use Rattle.std.proofs.lemmas.Str.{is_utf8-from_IsUtf8, IsUtf8-from_is_utf8}
 use Rattle.log_text.specs.Lines.{is_origin, passing}
-use Rattle.log_text.proofs.TestFacts.{differs, fails, le_decided}
+use Rattle.log_text.proofs.TestFacts.{fails}
 
 -- what a call that reads UTF-8 tells
 pub utf8_tells : {S E : Type 0} (Y : S → Type 0) (N : E → Type 0) (r : Result S E) (bytes : List ℕ) →
@@ -37,10 +36,10 @@ pub origin_tests : (text : List ℕ) (few : Bool) → IsUtf8 text → 1 ≤ leng
 unfolding is_origin
 origin_tests text few utf8 some first last few_is =
     let a = is_utf8-from_IsUtf8 text utf8 in
-    let b = (le_decided 1 (length text)).1 some in
-    let d : not (slice_index text 0 == 32) ≡ true = ap not (differs (slice_index text 0) 32 first) in
+    let b = le-leb 1 (length text) some in
+    let d : not (slice_index text 0 == 32) ≡ true = ap not (ne_eqb (slice_index text 0) 32 first) in
     let e : not (slice_index text (length text - 1) == 32) ≡ true =
-    ap not (differs (slice_index text (length text - 1)) 32 last) in
+    ap not (ne_eqb (slice_index text (length text - 1)) 32 last) in
     λ i. sym a i && (sym b i && (sym d i && (sym e i && (sym few_is i && plain text))))
 
 pub no_utf8 : (text : List ℕ) → (IsUtf8 text → ⊥) → is_origin text ≡ false
@@ -57,11 +56,4 @@ no_origin Y N (Ok s) bytes none said = absurd cc
 no_origin Y N (Err e) bytes none said = λ i. if sym (no_utf8 bytes said.0) i then Some bytes else None
 
 pub some_tested : (bytes : List ℕ) → (length bytes == 0) ≡ false → nat_le 1 (length bytes) ≡ true
-some_tested bytes some =
-    (le_decided 1 (length bytes)).1
-    (elim (cases_lt 0 (length bytes)) [
-      | inl more ↦ omega (arith, more)
-      | inr none ↦
-          let zero_is : length bytes ≡ 0 = omega (arith, none) in
-          absurd (false≢true (sym some ∙ (Decides-eqb (length bytes) 0).1 zero_is))
-    ])
+some_tested bytes some = le-leb 1 (length bytes) (omega (arith, eqb-false (length bytes) 0 some))

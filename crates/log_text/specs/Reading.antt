@@ -92,12 +92,12 @@ part_origin_by left = line_that PartOrigin left
 unfoldable pub extensions_by : List ℕ → Reads (List (List ℕ))
 extensions_by left = many at_text_end (line_that Extension) (length left) left
 
--- 1 to 100 signatures after a line feed, or nothing
+-- a blank line and 1 to 100 signatures, or nothing
 unfoldable pub signatures_by : List ℕ → Reads (List (List ℕ))
-signatures_by [] = Ok ([], [])
-signatures_by (feed ∷ left) =
-    then_read (line_that Signature left) (λ s rest.
-    then_read (many at_text_end (line_that Signature) 99 rest) (λ ss end. Ok (s ∷ ss, end)))
+signatures_by left =
+    if at_end left then Ok ([], left)
+    else then_read (line_that Blank left) (λ blank left. then_read (line_that Signature left) (λ s left.
+    then_read (many at_text_end (line_that Signature) 99 left) (λ ss end. Ok (s ∷ ss, end))))
 
 -- a size and a root, extension lines and signatures after an origin
 unfoldable pub after_origin : List ℕ → List ℕ → Result CheckpointFields Stop

@@ -3,9 +3,9 @@
 ghost use Rattle.std.specs.Prelude.{◌≡◌, IfOk, option_map};
 ghost use Rattle.std.specs.Result.{result_map_both};
 ghost use Rattle.log_text.specs.Lines.{is_key_name, is_origin, passing};
-ghost use Rattle.log_text.specs.Reading.{after_origin, checkpoint_in, extensions_by, log_origin_by, note_by, part_in};
-ghost use Rattle.log_text.specs.Inner.Rests.{rest_of};
+ghost use Rattle.log_text.specs.Reading.{after_origin, checkpoint_in, log_origin_by, note_by, part_in};
 ghost use Rattle.log_text.specs.Reading.{part_origin_by, signatures_by};
+ghost use Rattle.log_text.specs.Inner.Rests.{rest_of};
 ghost use Rattle.log_text.specs.Texts.{checkpoint_fields, checkpoint_text};
 
 use crate::error::{Expected, Stop, TextError, error_of, missing};
@@ -42,10 +42,7 @@ impl<'a> Checkpoint<'a> {
     pub fn parse(note: &'a [u8]) -> Result<Checkpoint<'a>, TextError>
         ensures { result_map_both checkpoint_fields (λ error. error) result ≡ checkpoint_in note.now }
     {
-        match log_by(note) {
-            Ok(checkpoint) => Ok(checkpoint),
-            Err(stop) => Err(error_of(note, stop)),
-        }
+        log_by(note).map_err(|stop| error_of(note, stop))
     }
 
     /// Reads a part: a text of the same form with the origin `PART_ORIGIN`.
@@ -56,10 +53,7 @@ impl<'a> Checkpoint<'a> {
     pub fn parse_part(text: &'a [u8]) -> Result<Checkpoint<'a>, TextError>
         ensures { result_map_both checkpoint_fields (λ error. error) result ≡ part_in text.now }
     {
-        match part_by(text) {
-            Ok(part) => Ok(part),
-            Err(stop) => Err(error_of(text, stop)),
-        }
+        part_by(text).map_err(|stop| error_of(text, stop))
     }
 
     /// Prints the origin, the size and the root. It is read again if the origin is one, and the size at most 2^62.
@@ -105,25 +99,10 @@ fn origin_of(line: &[u8]) -> Option<&str>
     ensures { option_map (λ origin. origin.now) result ≡ passing is_origin line.now }
 {
     let text = str::from_utf8(line).ok()?;
-    if is_origin(text) { Some(text) } else { None }
+    is_origin(text).then_some(text)
 }
 
-/// Reads the origin of a log.
-#[tactic(auto, unfolding(crate::specs::Reading::log_origin_by))]
-fn log_origin_by(left: &[u8]) -> Result<(&str, &[u8]), Stop>
-    ensures { result_map_both (λ (origin, rest). (origin.now, rest.now)) (λ stop. stop) result
-        ≡ log_origin_by left.now }
-{
-    let stop = missing(left, Expected::Origin);
-    let (line, rest) = cut_at(b'\n', left).ok_or(stop)?;
-    let origin = origin_of(line).ok_or(stop)?;
-    if origin == PART_ORIGIN {
-        return Err(missing(left, Expected::NotPart));
-    }
-    Ok((origin, rest))
-}
-
-/// Reads past a line feed and 1 to 100 signatures, if anything is left.
+/// Reads past a blank line and 1 to 100 signatures, if anything is left.
 #[tactic(auto, unfolding(crate::specs::Reading::signatures_by))]
 fn skip_signatures(left: &[u8]) -> Result<&[u8], Stop>
     ensures { result_map_both (λ rest. rest.now) (λ stop. stop) result ≡ rest_of (signatures_by left.now) }
@@ -131,8 +110,9 @@ fn skip_signatures(left: &[u8]) -> Result<&[u8], Stop>
     if left.is_empty() {
         return Ok(left);
     }
-    let rest = skip_line(&left[1..], Expected::Signature)?;
-    skip_lines(rest, Expected::Signature, 99)
+    let left = skip_line(left, Expected::Blank)?;
+    let left = skip_line(left, Expected::Signature)?;
+    skip_lines(left, Expected::Signature, 99)
 }
 
 /// Reads what stands after an origin.
@@ -149,13 +129,19 @@ fn after_origin<'a>(origin: &'a str, left: &[u8]) -> Result<Checkpoint<'a>, Stop
 }
 
 /// Reads the checkpoint of a log.
+#[tactic(auto, unfolding(crate::specs::Reading::log_origin_by))]
 fn log_by(note: &[u8]) -> Result<Checkpoint<'_>, Stop>
     ensures { result_map_both checkpoint_fields (λ stop. stop) result ≡ note_by log_origin_by note.now }
 {
     if note.len() > MAX_BYTES {
         return Err(missing(note, Expected::ShortNote));
     }
-    let (origin, left) = log_origin_by(note)?;
+    let stop = missing(note, Expected::Origin);
+    let (line, left) = cut_at(b'\n', note).ok_or(stop)?;
+    let origin = origin_of(line).ok_or(stop)?;
+    if origin == PART_ORIGIN {
+        return Err(missing(note, Expected::NotPart));
+    }
     after_origin(origin, left)
 }
 

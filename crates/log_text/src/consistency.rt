@@ -34,10 +34,7 @@ impl<'a> ConsistencyProof<'a> {
         ensures read { IfOk result (λ proof. consistency_in text.now ≡ Ok (consistency_fields proof)) }
         ensures error { IfErr result (λ error. (error ≡ OutOfMemory) ⊎ (consistency_in text.now ≡ Err error)) }
     {
-        match consistency_by(alloc, text) {
-            Ok(proof) => Ok(proof),
-            Err(stop) => Err(error_of(text, stop)),
-        }
+        consistency_by(alloc, text).map_err(|stop| error_of(text, stop))
     }
 
     /// Prints the proof. It is read again if the old size is at most 2^62, and there are at most 63 digests.

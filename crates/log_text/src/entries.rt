@@ -1,11 +1,9 @@
 //! Proofs of entries.
 
 ghost use Rattle.std.specs.Prelude.{◌≡◌, ◌⊎◌, ◌++◌, Err, IfErr, IfOk, Ok, OnOk, flat_map, map};
-ghost use Rattle.std.specs.Result.{result_map_both};
 ghost use Rattle.log_text.specs.Lines.{head_of};
-ghost use Rattle.log_text.specs.Reading.{bytes_by, entries_by, entries_in, entry_by, line_by, many, never};
+ghost use Rattle.log_text.specs.Reading.{entries_by, entries_in, entry_by, many, never};
 ghost use Rattle.log_text.specs.Texts.{entries_fields, entries_text, entry_fields, entry_lines};
-ghost use Rattle.log_text.specs.declared.error.Expected.TheVariants.{EntryHead};
 ghost use Rattle.log_text.specs.declared.error.Stop.TheVariants.{Memory};
 ghost use Rattle.log_text.specs.declared.error.TextError.TheVariants.{OutOfMemory};
 
@@ -42,10 +40,7 @@ impl EntriesProof {
         ensures read { IfOk result (λ proof. entries_in text.now ≡ Ok (entries_fields proof)) }
         ensures error { IfErr result (λ error. (error ≡ OutOfMemory) ⊎ (entries_in text.now ≡ Err error)) }
     {
-        match entries_by(alloc, text) {
-            Ok(proof) => Ok(proof),
-            Err(stop) => Err(error_of(text, stop)),
-        }
+        entries_by(alloc, text).map_err(|stop| error_of(text, stop))
     }
 
     /// Prints the proof. It is read again if its numbers, lengths and counts are at most 2^62, and the numbers from 1
@@ -85,47 +80,23 @@ fn head_of(line: &[u8]) -> Option<(usize, usize)>
 {
     let (number, len) = cut_at(b' ', line.strip_prefix(b"entry ")?)?;
     let (number, len) = (number_of(number)?, number_of(len)?);
-    if number == 0 {
-        None
-    } else {
-        Some((number, len))
-    }
-}
-
-/// Reads the number of an entry and its length.
-fn head_by(left: &[u8]) -> Result<(usize, usize, &[u8]), Stop>
-    ensures { result_map_both (λ (number, len, rest). ((number, len), rest.now)) (λ stop. stop) result
-        ≡ line_by EntryHead head_of left.now }
-{
-    let stop = missing(left, Expected::EntryHead);
-    let (line, rest) = cut_at(b'\n', left).ok_or(stop)?;
-    let (number, len) = head_of(line).ok_or(stop)?;
-    Ok((number, len, rest))
-}
-
-/// Reads so many bytes and a line feed.
-#[tactic(auto, unfolding(crate::specs::Reading::bytes_by))]
-fn bytes_by(count: usize, left: &[u8]) -> Result<(&[u8], &[u8]), Stop>
-    ensures { result_map_both (λ (bytes, rest). (bytes.now, rest.now)) (λ stop. stop) result
-        ≡ bytes_by count left.now }
-{
-    if count < left.len() && left[count] == b'\n' {
-        Ok((&left[..count], &left[count + 1..]))
-    } else {
-        Err(missing(left, Expected::EntryBytes(count)))
-    }
+    (number != 0).then_some((number, len))
 }
 
 /// Reads an entry.
-#[tactic(auto, unfolding(crate::specs::Reading::entry_by))]
+#[tactic(auto, unfolding(crate::specs::Reading::entry_by, crate::specs::Reading::bytes_by))]
 fn entry_by(alloc: Global, left: &[u8]) -> Result<(Entry, &[u8]), Stop>
     ensures read { IfOk result (λ (entry, rest). entry_by left.now ≡ Ok (entry_fields entry, rest.now)) }
     ensures stop { IfErr result (λ stop. (stop ≡ Memory) ⊎ (entry_by left.now ≡ Err stop)) }
 {
-    let (number, len, left) = head_by(left)?;
-    let (bytes, left) = bytes_by(len, left)?;
-    let bytes = Vec::from_slice(alloc, bytes)?;
-    Ok((Entry { number, bytes }, left))
+    let stop = missing(left, Expected::EntryHead);
+    let (line, left) = cut_at(b'\n', left).ok_or(stop)?;
+    let (number, len) = head_of(line).ok_or(stop)?;
+    if len >= left.len() || left[len] != b'\n' {
+        return Err(missing(left, Expected::EntryBytes(len)));
+    }
+    let bytes = Vec::from_slice(alloc, &left[..len])?;
+    Ok((Entry { number, bytes }, &left[len + 1..]))
 }
 
 /// Reads so many entries.

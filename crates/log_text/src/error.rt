@@ -26,55 +26,40 @@ pub enum TextError {
 /// What is expected of a line.
 #[derive(Clone, Copy, Debug, Error)]
 pub enum Expected {
-    /// A note that is not too long.
     #[error("a text of at most 1000000 bytes")]
     ShortNote,
-    /// The origin of a log.
     #[error("1 to 100 characters, no control character, and no space first or last")]
     Origin,
     /// The origin of a log, where that of a part is.
     #[error("the origin of a log, not that of a part, which only `join` takes")]
     NotPart,
-    /// The origin of a part.
     #[error("`fohlazu part 1`")]
     PartOrigin,
-    /// The size of a log.
     #[error("a number up to 2^62")]
     Size,
-    /// A digest.
     #[error("the base64 of 32 bytes")]
     Digest,
     /// An extension line, or what may follow instead.
     #[error("text without control characters, a blank line or the end")]
     Extension,
-    /// A signature.
     #[error("`— NAME BASE64`")]
     Signature,
-    /// The first line of a proof of entries.
     #[error("`fohlazu proof 1`")]
     ProofVersion,
-    /// The number of entries of a proof.
     #[error("`entries COUNT`")]
     EntryCount,
-    /// The number and the length of an entry.
     #[error("`entry NUMBER LENGTH`")]
     EntryHead,
-    /// The bytes of an entry.
     #[error("{0} bytes and a line feed")]
     EntryBytes(usize),
-    /// The number of digests of a proof.
     #[error("`digests COUNT`")]
     DigestCount,
-    /// The old size of a consistency proof.
     #[error("`old SIZE`")]
     OldSize,
-    /// A digest, or the end of the digests.
     #[error("the base64 of 32 bytes, or a blank line")]
     DigestOrBlank,
-    /// The end of the digests.
     #[error("a blank line")]
     Blank,
-    /// The end of the text.
     #[error("the end")]
     End,
 }

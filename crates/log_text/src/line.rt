@@ -34,8 +34,7 @@ fn parse_number(digits: &[u8]) -> Option<usize>
     if digits.first() == Some(&b'+') {
         return None;
     }
-    let text = str::from_utf8(digits).ok()?;
-    text.parse().ok()
+    str::from_utf8(digits).ok()?.parse().ok()
 }
 
 /// The number up to 2^62 whose decimal digits these are.
@@ -46,18 +45,7 @@ pub(crate) fn number_of(digits: &[u8]) -> Option<usize>
         return None;
     }
     let number = parse_number(digits)?;
-    if number <= 1 << 62 {
-        Some(number)
-    } else {
-        None
-    }
-}
-
-/// A number after a word.
-fn number_after(word: &[u8], line: &[u8]) -> Option<usize>
-    ensures { result ≡ number_after word.now line.now }
-{
-    number_of(line.strip_prefix(word)?)
+    (number <= 1 << 62).then_some(number)
 }
 
 /// Decodes base64, and returns how many bytes it is of.
@@ -189,7 +177,8 @@ pub(crate) fn number_by<'a>(
 {
     let stop = missing(left, expected);
     let (line, rest) = cut_at(b'\n', left).ok_or(stop)?;
-    let number = number_after(word, line).ok_or(stop)?;
+    let digits = line.strip_prefix(word).ok_or(stop)?;
+    let number = number_of(digits).ok_or(stop)?;
     Ok((number, rest))
 }
 

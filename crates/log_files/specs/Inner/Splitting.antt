@@ -1,5 +1,5 @@
 -- A file whose bytes come piece by piece: entries that have ended, and one that is open.
-use Rattle.std.specs.Prelude.{◌≡◌, ℕ, ◌-◌, ◌^◌, ◌<◌, ◌≤◌, ◌==◌, min, false, List, [], ◌∷◌, ◌++◌, length, map, take}
+use Rattle.std.specs.Prelude.{◌≡◌, ◌⊎◌, ℕ, ◌-◌, ◌^◌, ◌<◌, ◌≤◌, ◌==◌, min, false, List, [], ◌∷◌, ◌++◌, length, map, take}
 use Rattle.std.specs.Prelude.{All, Option, Some}
 use Rattle.std.specs.Io.KnownBytes.{Consumes}
 use Rattle.sha2.specs.Hashers.{Holds256}
@@ -110,14 +110,18 @@ pub record ReadsTooMany (cut : Cut) (limit : ℕ) (before after : Option (List �
 
 -- ---- the tree
 
--- a splitter has come to these bytes of a file, and this is the tree of the entries that have ended. Where as many have
--- ended as are read, the others are left out.
+-- a splitter has read these bytes of a file, and this is the tree of the entries that have ended
 pub record HasBuilt (nodes : List (ℕ × ℕ)) (wanted : List ℕ) (s : Splitter) (tree : TreeBuilder) (front : List ℕ)
     : Type 0 where
   pub ended : List (List ℕ)
-  pub read : List ℕ
-  pub left_out : List ℕ
-  pub parts : front ≡ read ++ left_out
-  pub at : IsAt wanted s read ended
+  pub at : IsAt wanted s front ended
   pub built : IsBuilderOf (map (leaf_hash sha256) ended) nodes tree
-  pub all_read : length ended < s.limit → left_out ≡ []
+
+-- it has read on into these bytes, and leaves some only where as many entries have ended as are read
+pub record HasGrown (nodes : List (ℕ × ℕ)) (wanted : List ℕ) (s : Splitter) (tree : TreeBuilder)
+    (front bytes : List ℕ) : Type 0 where
+  pub read : List ℕ
+  pub left : List ℕ
+  pub parts : bytes ≡ read ++ left
+  pub built : HasBuilt nodes wanted s tree (front ++ read)
+  pub all_read : (left ≡ []) ⊎ (s.limit ≤ s.count)

@@ -1,11 +1,11 @@
 -- One step after another, until nothing is left or enough entries have ended.
 use Rattle.std.proofs.Common.{◌≡◌, ◌+◌, ℕ, List, nat_lt, true, length, ◌∙◌, ◌++◌, [], ap, append-nil, append_assoc}
-use Rattle.std.proofs.Common.{leb-false, refl, subst, sym}
+use Rattle.std.proofs.Common.{inl, inr, leb-true, refl, subst, sym}
 use Rattle.std.proofs.lemmas.Result.{err_from_is_err_and}
 use Rattle.tlog_tree.specs.Builders.{IsBuilderOf}
 use Rattle.tlog.specs.Verdicts.{size_limit}
 use Rattle.log_files.specs.Inner.Splitting.{AreTooMany, HasBuilt}
-use Rattle.log_files.proofs.BuiltFacts.{built_full, built_more, many_built, refused_by}
+use Rattle.log_files.proofs.BuiltFacts.{built_more, many_built, refused_by}
 use Rattle.log_files.proofs.SplitterFacts.{none_of}
 use Rattle.log_files.proofs.reading.push.Goals as goal
 use Rattle.log_files.proofs.reading.push.Goals.{then-entries-test+else-not-is_full, else-entries-test}
@@ -28,14 +28,13 @@ entries-preserved c =
     let left = c.entries.left.now in
     let rest = c.in_ok-hashes.rest.now in
     let hashes = c.deref.result.now in
-    let room = leb-false s.limit s.count (sym c.is_full.ensures ∙ c.if-not-is_full.true) in
     record {
       ready = c.in_ok-hashes.ensures.ready;
       same = (same.0 ∙ c.entries.invariant.same.0, same.1 ∙ c.entries.invariant.same.1);
       built = λ nodes wanted front b.
           let (taken, parts, now) = c.entries.invariant.built nodes wanted front b in
           let (more, left_is, next) = built_more nodes wanted s t c.entries.tree c.in_ok-tree.tree (front ++ taken) left
-          rest c.in_ok-hashes.hashes.items now room (c.in_ok-hashes.ensures.read wanted)
+          rest c.in_ok-hashes.hashes.items now (c.in_ok-hashes.ensures.read wanted)
           (λ before is. subst (λ xs. IsBuilderOf (before ++ xs) nodes c.in_ok-tree.tree) c.deref.ensures.value
           (c.in_ok-tree.ensures.built before nodes is)) in (
             taken ++ more,
@@ -51,16 +50,17 @@ returns-clause-built c =
     let left = c.entries.left.now in
     λ nodes wanted front b.
     let (taken, parts, now) = c.entries.invariant.built nodes wanted front b in
-    let all : HasBuilt nodes wanted s tree ((front ++ taken) ++ left) =
-    elim c.entries-test.branch [
-      | then-entries-test+else-not-is_full w ↦
-          built_full nodes wanted s tree (front ++ taken) left (sym w.is_full.ensures ∙ w.if-not-is_full.false) now
-      | else-entries-test w ↦
-          subst (λ xs. HasBuilt nodes wanted s tree ((front ++ taken) ++ xs))
-          (sym (none_of left (sym c.is_empty.ensures ∙ w.entries-test.false)))
-          (subst (HasBuilt nodes wanted s tree) (sym (append-nil (front ++ taken))) now)
-    ] in
-    subst (HasBuilt nodes wanted s tree) (append_assoc front taken left ∙ ap (λ xs. front ++ xs) (sym parts)) all
+    record {
+      read = taken;
+      left = left;
+      parts = parts;
+      built = now;
+      all_read = elim c.entries-test.branch [
+        | then-entries-test+else-not-is_full w ↦
+            inr (leb-true s.limit s.count (sym w.is_full.ensures ∙ w.if-not-is_full.false))
+        | else-entries-test w ↦ inl (none_of left (sym c.is_empty.ensures ∙ w.entries-test.false))
+      ];
+    }
 
 pub returns-in_err-tree-clause-refused : goal.returns-in_err-tree-clause-refused
 returns-in_err-tree-clause-refused c =
@@ -70,7 +70,6 @@ returns-in_err-tree-clause-refused c =
     let begun = c.entries.invariant.same in
     let left = c.entries.left.now in
     let hashes = c.in_ok-hashes.hashes.items in
-    let room = leb-false s.limit s.count (sym c.is_full.ensures ∙ c.if-not-is_full.true) in
     let p = err_from_is_err_and c.from_residual-in_err-tree.result c.from_residual-in_err-tree.ensures.1 in
     let cut = c.args.splitter.now.cut in
     let limit = c.args.splitter.now.limit in
@@ -80,7 +79,7 @@ returns-in_err-tree-clause-refused c =
     ∙ ap (λ xs. front ++ xs) (sym (append_assoc taken left more) ∙ ap (λ xs. xs ++ more) (sym parts)) in
     let many = λ (test : nat_lt size_limit (c.entries.tree.frontier.size + length c.deref.result.now) ≡ true).
     let here = many_built nodes wanted s t c.entries.tree (front ++ taken) left c.in_ok-hashes.rest.now more hashes now
-    room (c.in_ok-hashes.ensures.read wanted) same.0 same.1
+    (c.in_ok-hashes.ensures.read wanted) same.0 same.1
     (subst (λ (xs : List (List ℕ)). nat_lt size_limit (c.entries.tree.frontier.size + length xs) ≡ true)
     c.deref.ensures.value test) in
     subst (λ bytes. AreTooMany cut limit bytes) moved

@@ -3,10 +3,11 @@ use Rattle.std.proofs.Common.{◌⊎◌, ℕ, List, ◌≡◌, ◌++◌, ◌∙�
 use Rattle.std.proofs.Common.{take}
 use Rattle.std.proofs.lemmas.Result.{err_from_is_err_and}
 use Rattle.std.specs.Io.KnownBytes.{Consumes, ReadConsumes}
-use Rattle.log_files.specs.Inner.Splitting.{AreTooMany, HasBuilt, IsReady}
+use Rattle.log_files.specs.Inner.Splitting.{AreTooMany, IsReady}
 use Rattle.log_files.specs.declared.cut.Cut.{Cut}
 use Rattle.log_files.specs.declared.error.ReadError.{ReadError}
 use Rattle.log_files.specs.declared.error.ReadError.TheVariants.{OutOfMemory, TooManyEntries}
+use Rattle.log_files.proofs.BuiltFacts.{grown_on, whole_read}
 use Rattle.log_files.proofs.ReaderFacts.{consumes_kept, consumes_more, consumes_none, refused_reading}
 use Rattle.log_files.proofs.reading.read_through.Goals as goal
 use Rattle.log_files.proofs.reading.read_through.Goals.{in-Ok+in_ok-tree-in-Ok, in-Err}
@@ -16,7 +17,11 @@ loop-turn-init g c = record {
   wide = c.as_mut_slice-window.ensures.len ∙ c.in_ok-buffer.ensures.len;
   ready = c.requires;
   same = (refl, refl);
-  built = λ nodes wanted b. ([], consumes_none (g.Src.Read.remaining c.args.file.now), b);
+  built = λ nodes wanted b. (
+    [],
+    consumes_none (g.Src.Read.remaining c.args.file.now),
+    record { read = []; left = []; parts = refl; built = b; all_read = inl refl },
+  );
 }
 
 pub returns-then-is_full : goal.returns-then-is_full
@@ -26,8 +31,8 @@ returns-then-is_full g c =
       ready = c.loop-turn.invariant.ready;
       same = c.loop-turn.invariant.same;
       built = λ nodes wanted b.
-          let (front, consumed, now) = c.loop-turn.invariant.built nodes wanted b in
-          (front, consumed, now, inr (leb-true s.limit s.count (sym c.is_full.ensures ∙ c.if-is_full.true)));
+          let (bytes, consumed, now) = c.loop-turn.invariant.built nodes wanted b in
+          (bytes, consumed, now, inr (leb-true s.limit s.count (sym c.is_full.ensures ∙ c.if-is_full.true)));
       refused = λ nodes wanted b. tt;
     }
 
@@ -43,9 +48,9 @@ returns-in-Ok-eq0 g c =
       ready = c.loop-turn.invariant.ready;
       same = c.loop-turn.invariant.same;
       built = λ nodes wanted b.
-          let (front, consumed, now) = c.loop-turn.invariant.built nodes wanted b in (
-            front,
-            subst (Consumes begun after) (append-nil front) (consumes_more begun before after front [] consumed none),
+          let (bytes, consumed, now) = c.loop-turn.invariant.built nodes wanted b in (
+            bytes,
+            subst (Consumes begun after) (append-nil bytes) (consumes_more begun before after bytes [] consumed none),
             now,
             inl at_end,
           );
@@ -69,13 +74,13 @@ loop-turn-preserved g c =
             same = subst (λ s. (s.cut ≡ first.cut) × (s.limit ≡ first.limit)) (sym w.splitter-is)
                 (pushed.same.0 ∙ before_same.0, pushed.same.1 ∙ before_same.1);
             built = λ nodes wanted b.
-                let (front, consumed, now) = c.loop-turn.invariant.built nodes wanted b in
+                let (bytes, consumed, now) = c.loop-turn.invariant.built nodes wanted b in
                 let more = take w.in-Ok.count c.read.new.buf in (
-                  front ++ more,
-                  consumes_more begun before after front more consumed w.in-Ok.ensures.bytes.0,
-                  subst (λ s. HasBuilt nodes wanted s tree (front ++ more)) (sym w.splitter-is)
-                      (subst (λ t. HasBuilt nodes wanted w.push.new.splitter t (front ++ more)) (sym w.tree-is)
-                      (pushed.built nodes wanted front now)),
+                  bytes ++ more,
+                  consumes_more begun before after bytes more consumed w.in-Ok.ensures.bytes.0,
+                  rw (w.splitter-is, w.tree-is) (grown_on nodes wanted c.loop-turn.splitter w.push.new.splitter
+                      c.loop-turn.tree _ bytes more (sym c.is_full.ensures ∙ c.if-is_full.false) now
+                      (pushed.built nodes wanted now.read now.built)),
                 );
           }
       | in-Err w ↦
@@ -84,11 +89,10 @@ loop-turn-preserved g c =
             ready = subst IsReady (sym w.splitter-is) c.loop-turn.invariant.ready;
             same = subst (λ s. (s.cut ≡ first.cut) × (s.limit ≡ first.limit)) (sym w.splitter-is) before_same;
             built = λ nodes wanted b.
-                let (front, consumed, now) = c.loop-turn.invariant.built nodes wanted b in (
-                  front,
-                  consumes_kept begun before after front consumed w.in-Err.ensures.bytes,
-                  subst (λ s. HasBuilt nodes wanted s tree front) (sym w.splitter-is)
-                      (subst (λ t. HasBuilt nodes wanted c.loop-turn.splitter t front) (sym w.tree-is) now),
+                let (bytes, consumed, now) = c.loop-turn.invariant.built nodes wanted b in (
+                  bytes,
+                  consumes_kept begun before after bytes consumed w.in-Err.ensures.bytes,
+                  rw (w.splitter-is, w.tree-is) now,
                 );
           }
     ]
@@ -107,9 +111,11 @@ returns-in_err-tree-in-Ok-clause-refused g c =
     let more = take c.in-Ok.count c.read.new.buf in
     let p = err_from_is_err_and c.from_residual-in_err-tree-in-Ok.result c.from_residual-in_err-tree-in-Ok.ensures.1 in
     λ nodes wanted b.
-    let (front, consumed, now) = c.loop-turn.invariant.built nodes wanted b in
-    rw (p.1, p.2) (refused_reading c.in_err-tree-in-Ok.field-0.0 first.cut first.limit begun after front more
-    (consumes_more begun before after front more consumed c.in-Ok.ensures.bytes.0)
-    (λ rest. subst (λ k. IsRefused c.in_err-tree-in-Ok.field-0.0 k first.limit (front ++ (more ++ rest))) same.0
-    (subst (λ n. IsRefused c.in_err-tree-in-Ok.field-0.0 s.cut n (front ++ (more ++ rest))) same.1
-    (c.in_err-tree-in-Ok.ensures.refused nodes wanted front rest now))))
+    let (bytes, consumed, now) = c.loop-turn.invariant.built nodes wanted b in
+    let whole = whole_read nodes wanted s c.loop-turn.tree [] bytes (sym c.is_full.ensures ∙ c.if-is_full.false) now in
+    rw (p.1, p.2) (refused_reading c.in_err-tree-in-Ok.field-0.0 first.cut first.limit begun after now.read more
+    (subst (λ xs. Consumes begun after (xs ++ more)) whole
+    (consumes_more begun before after bytes more consumed c.in-Ok.ensures.bytes.0))
+    (λ rest. subst (λ k. IsRefused c.in_err-tree-in-Ok.field-0.0 k first.limit (now.read ++ (more ++ rest))) same.0
+    (subst (λ n. IsRefused c.in_err-tree-in-Ok.field-0.0 s.cut n (now.read ++ (more ++ rest))) same.1
+    (c.in_err-tree-in-Ok.ensures.refused nodes wanted now.read rest now.built))))

@@ -1,6 +1,6 @@
 use Rattle.std.proofs.Common.{◌≡◌, ℕ, List, [], length}
 use Rattle.std.specs.Io.KnownBytes.{Consumes}
-use Rattle.log_files.specs.Inner.Splitting.{HasBuilt, IsReady}
+use Rattle.log_files.specs.Inner.Splitting.{HasBuilt, HasGrown, IsReady}
 use Rattle.log_files.proofs.reading.read_through.Given as goal
 
 abbrev pub invariant-loop-turn : goal.invariant-loop-turn
@@ -9,6 +9,6 @@ invariant-loop-turn g l = record {
   ready : IsReady l.splitter;
   same : (l.splitter.cut ≡ l.fn.splitter.cut) × (l.splitter.limit ≡ l.fn.splitter.limit);
   built : (nodes : List (ℕ × ℕ)) (wanted : List ℕ) → HasBuilt nodes wanted l.fn.splitter l.fn.tree [] →
-      (front : List ℕ) × Consumes (g.Src.Read.remaining l.fn.file) (g.Src.Read.remaining l.file) front
-      × HasBuilt nodes wanted l.splitter l.tree front;
+      (bytes : List ℕ) × Consumes (g.Src.Read.remaining l.fn.file) (g.Src.Read.remaining l.file) bytes
+      × HasGrown nodes wanted l.splitter l.tree [] bytes;
 }

@@ -1,35 +1,38 @@
-use Rattle.std.proofs.Common.{◌+◌, ap, sym, ◌∙◌, arith}
+use Rattle.std.proofs.Common.{◌≡◌, ◌+◌, ap, sym, ◌∙◌, arith}
 use Rattle.std.specs.Prelude.{option_map}
-use Rattle.log_text.proofs.Base64Facts.{len_begins, len_more, len_refused}
+use Rattle.log_text.proofs.Base64Facts.{len_begins, len_more, len_of, len_refused, len_step, with_group}
 use Rattle.log_text.proofs.line.base64_len.Goals as goal
+use Rattle.log_text.proofs.line.base64_len.Goals.{After-decode}
 
 pub loop-rest-init : goal.loop-rest-init
 loop-rest-init c = record { within = omega arith; same = len_begins c.args.text.now }
 
+-- by the group and the rest
+step : (c : After-decode) → len_of c.args.text.now
+    ≡ option_map (λ k. c.loop-rest.len + k) (with_group c.decode.result (len_of c.split_at.result.1.now))
+step c =
+    len_step c.args.text.now c.loop-rest.rest.now c.split_at.result.0.now c.split_at.result.1.now c.loop-rest.len
+    c.split_at.ensures.by_index.0 c.split_at.ensures.front_len c.loop-rest-test.true c.loop-rest.invariant.same
+    ∙ ap (λ o. option_map (λ k. c.loop-rest.len + k) (with_group o (len_of c.split_at.result.1.now)))
+    (sym c.decode.ensures.len)
+
 pub loop-rest-preserved : goal.loop-rest-preserved
 loop-rest-preserved c =
-    let split = c.split_at.ensures.by_index.0 in
     record {
       within = omega (arith, c.loop-rest.invariant.within, c.split_at.ensures.back_len);
-      same = len_more c.args.text.now c.loop-rest.rest.now c.split_at.result.0.now c.split_at.result.1.now
-          c.loop-rest.len
-          c.decode.result c.in_ok-decode.field-0 split c.split_at.ensures.front_len c.loop-rest-test.true
-          c.decode.ensures.len c.in_ok-decode.was c.if-branch-ne3.false c.loop-rest.invariant.same;
+      same = step (goal.at.loop-rest-preserved c).After-decode
+          ∙ len_more c.loop-rest.len _ _ _ c.in_ok-decode.was c.if-branch-ne3.false;
     }
 
 pub returns-in_err-decode : goal.returns-in_err-decode
 returns-in_err-decode c =
-    rw c.from_residual.ensures
-    (len_refused c.args.text.now c.loop-rest.rest.now c.split_at.result.0.now c.split_at.result.1.now c.loop-rest.len
-    c.decode.result c.split_at.ensures.by_index.0 c.split_at.ensures.front_len c.loop-rest-test.true
-    c.decode.ensures.len (λ n some three. let none = c.in_err-decode.was in cc) c.loop-rest.invariant.same)
+    rw c.from_residual.ensures (sym (step (goal.at.returns-in_err-decode c).After-decode
+    ∙ len_refused c.loop-rest.len c.decode.result _ (λ n some three. let none = c.in_err-decode.was in cc)))
 
 pub returns-then-branch-ne3 : goal.returns-then-branch-ne3
 returns-then-branch-ne3 c =
-    len_refused c.args.text.now c.loop-rest.rest.now c.split_at.result.0.now c.split_at.result.1.now c.loop-rest.len
-    c.decode.result c.split_at.ensures.by_index.0 c.split_at.ensures.front_len c.loop-rest-test.true
-    c.decode.ensures.len (λ n some three. let was = c.in_ok-decode.was in c.if-branch-ne3.true (cc))
-    c.loop-rest.invariant.same
+    sym (step (goal.at.returns-then-branch-ne3 c).After-decode
+    ∙ len_refused c.loop-rest.len c.decode.result _ (λ n some three. let was = c.in_ok-decode.was in c.if-branch-ne3.true cc))
 
 pub returns : goal.returns
 returns c =

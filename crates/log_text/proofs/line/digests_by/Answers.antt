@@ -1,10 +1,11 @@
 use Rattle.std.proofs.Common.{◌≡◌, ◌+◌, ◌-◌, Bool, false, List, ℕ, ap, inr, sym, ◌∙◌}
 use Rattle.std.specs.Prelude.{◌&&◌}
+use Rattle.std.proofs.lemmas.Bool.{and_left, and_right}
 use Rattle.std.proofs.lemmas.Result.{err_from_is_err_and}
 use Rattle.log_text.specs.Reading.{at_blank, digest_by, digests_by, many}
 use Rattle.log_text.proofs.ManyFacts.{many_ended, many_more, many_refused, many_start, many_stopped, onto}
 use Rattle.log_text.proofs.line.digests_by.Goals as goal
-use Rattle.log_text.proofs.line.digests_by.Goals.{else-blank_stops-via-else-blank_stops}
+use Rattle.log_text.proofs.line.digests_by.Goals.{else-blank_stops-via-else-blank_stops, Joined-else-blank_stops}
 use Rattle.log_text.proofs.line.digests_by.Goals.{else-blank_stops-via-then-blank_stops+else-at_blank}
 
 abbrev stops : Bool → List ℕ → Bool
@@ -23,39 +24,32 @@ returns-then-at_blank-clause-read c =
     ∙ many_stopped (stops c.args.blank_stops) (digest_by c.args.blank_stops) c.args.count c.loop-digest._digest
     c.loop-digest.digests.items c.loop-digest.rest.now (λ i. c.if-blank_stops.true i && blank i)
 
-pub returns-in_err-digest-clause-stop : goal.returns-in_err-digest-clause-stop
-returns-in_err-digest-clause-stop c =
-    let rest = c.loop-digest.rest.now in
-    let on : stops c.args.blank_stops rest ≡ false =
+on : (c : Joined-else-blank_stops) → stops c.args.blank_stops c.loop-digest.rest.now ≡ false
+on c =
     elim c.else-blank_stops.branch [
       | else-blank_stops-via-then-blank_stops+else-at_blank w ↦
-          λ i. w.if-blank_stops.true i && (sym w.at_blank.ensures ∙ w.if-at_blank.false) i
-      | else-blank_stops-via-else-blank_stops w ↦ λ i. w.if-blank_stops.false i && at_blank rest
-    ] in
+          and_right c.args.blank_stops _ (sym w.at_blank.ensures ∙ w.if-at_blank.false)
+      | else-blank_stops-via-else-blank_stops w ↦ and_left c.args.blank_stops _ w.if-blank_stops.false
+    ]
+
+pub returns-in_err-digest-clause-stop : goal.returns-in_err-digest-clause-stop
+returns-in_err-digest-clause-stop c =
     let left = err_from_is_err_and c.from_residual.result c.from_residual.ensures.1 in
     rw (left.1, left.2)
     (inr (c.loop-digest.invariant
     ∙ many_refused (stops c.args.blank_stops) (digest_by c.args.blank_stops) c.args.count c.loop-digest._digest
-    c.loop-digest.digests.items rest c.in_err-digest.field-0.0 c.loop-digest-test.true on
-    (sym c.in_err-digest.ensures)))
+    c.loop-digest.digests.items c.loop-digest.rest.now c.in_err-digest.field-0.0 c.loop-digest-test.true
+    (on (goal.at.returns-in_err-digest-clause-stop c).Joined-else-blank_stops) (sym c.in_err-digest.ensures)))
 
 pub loop-digest-preserved : goal.loop-digest-preserved
 loop-digest-preserved c =
-    let done = c.loop-digest.digests.items in
-    let i = c.loop-digest._digest in
-    let rest = c.loop-digest.rest.now in
     let b = c.args.blank_stops in
-    let on : stops b rest ≡ false =
-    elim c.else-blank_stops.branch [
-      | else-blank_stops-via-then-blank_stops+else-at_blank w ↦
-          λ j. w.if-blank_stops.true j && (sym w.at_blank.ensures ∙ w.if-at_blank.false) j
-      | else-blank_stops-via-else-blank_stops w ↦ λ j. w.if-blank_stops.false j && at_blank rest
-    ] in
     c.loop-digest.invariant
-    ∙ many_more (stops b) (digest_by b) c.args.count i done rest c.in_ok-digest.digest c.in_ok-digest.below.now
-    c.loop-digest-test.true on (sym c.in_ok-digest.ensures)
-    ∙ ap (λ ds. onto ds (many (stops b) (digest_by b) (c.args.count - (i + 1)) c.in_ok-digest.below.now))
-    (sym c.in_ok-push.ensures.items)
+    ∙ many_more (stops b) (digest_by b) c.args.count c.loop-digest._digest c.loop-digest.digests.items
+    c.loop-digest.rest.now c.in_ok-digest.digest c.in_ok-digest.below.now c.loop-digest-test.true
+    (on (goal.at.loop-digest-preserved c).Joined-else-blank_stops) (sym c.in_ok-digest.ensures)
+    ∙ ap (λ ds. onto ds (many (stops b) (digest_by b) (c.args.count - (c.loop-digest._digest + 1))
+    c.in_ok-digest.below.now)) (sym c.in_ok-push.ensures.items)
 
 pub returns-clause-read : goal.returns-clause-read
 returns-clause-read c =

@@ -1,5 +1,5 @@
-use Rattle.std.proofs.Common.{◌≡◌, ◌<◌, length, get_or, arith}
-use Rattle.log_text.proofs.NumberFacts.{leading_zero, not_parsed, parsed, too_large}
+use Rattle.std.proofs.Common.{◌≡◌, ◌<◌, ◌∙◌, length, get_or, arith}
+use Rattle.log_text.proofs.NumberFacts.{leading_zero, not_parsed, parsed}
 use Rattle.log_text.proofs.line.number_of.Goals as goal
 use Rattle.log_text.proofs.line.number_of.Goals.{else-digits-gt1-via-else-digits-gt1}
 use Rattle.log_text.proofs.line.number_of.Goals.{else-digits-gt1-via-then-digits-gt1+else-digits-eq48}
@@ -13,19 +13,13 @@ returns-in_err-number c =
     rw c.from_residual.ensures
     (not_parsed c.args.digits.now c.parse_number.result c.parse_number.ensures c.in_err-number.was)
 
-pub returns-then-number : goal.returns-then-number
-returns-then-number c =
-    let digits = c.args.digits.now in
-    let free : 1 < length digits → get_or digits 0 0 ≡ 48 → _ =
+pub returns : goal.returns
+returns c =
+    let free : 1 < length c.args.digits.now → get_or c.args.digits.now 0 0 ≡ 48 → _ =
     elim c.else-digits-gt1.branch [
       | else-digits-gt1-via-then-digits-gt1+else-digits-eq48 w ↦ λ long first. w.if-digits-eq48.false first
       | else-digits-gt1-via-else-digits-gt1 w ↦
           λ long first. absurd (omega (arith, long, w.if-digits-gt1.false))
     ] in
-    parsed digits c.parse_number.result c.in_ok-number.number c.parse_number.ensures c.in_ok-number.was free
-    (omega arith)
-
-pub returns-else-number : goal.returns-else-number
-returns-else-number c =
-    too_large c.args.digits.now c.parse_number.result c.in_ok-number.number c.parse_number.ensures c.in_ok-number.was
-    (omega arith)
+    c.then_some.ensures
+    ∙ parsed c.args.digits.now c.parse_number.result c.in_ok-number.number c.parse_number.ensures c.in_ok-number.was free

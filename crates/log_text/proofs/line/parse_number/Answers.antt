@@ -3,8 +3,8 @@ use Rattle.log_text.proofs.NumberFacts.{no_text}
 use Rattle.log_text.proofs.line.parse_number.Goals as goal
 
 -- digits are text
-pub returns-in_err-text : goal.returns-in_err-text
-returns-in_err-text c =
+pub returns-in_err-ok : goal.returns-in_err-ok
+returns-in_err-ok c =
     rw c.from_residual.ensures
-    (no_text _ _ c.args.digits.now c.from_utf8.result (sym c.ok.ensures.value ∙ c.in_err-text.was)
+    (no_text _ _ c.args.digits.now c.from_utf8.result (sym c.ok.ensures.value ∙ c.in_err-ok.was)
     c.from_utf8.ensures.cases)

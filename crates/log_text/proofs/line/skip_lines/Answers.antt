@@ -1,47 +1,59 @@
-use Rattle.std.proofs.Common.{◌≡◌, false, sym, ◌∙◌}
-use Rattle.std.specs.Prelude.{◌||◌, slice_index}
-use Rattle.std.proofs.lemmas.Bool.Decides.{Decides-eqb}
+use Rattle.std.proofs.Common.{◌∷◌, ◌++◌, [], refl, sym, ap, ◌∙◌}
+use Rattle.std.specs.Prelude.{slice_index}
+use Rattle.std.proofs.lemmas.Bool.{eq-eqb, ne_eqb, or_from, or_left, or_right}
 use Rattle.std.proofs.lemmas.Result.{err_from_is_err_and}
+use Rattle.log_text.specs.Inner.Rests.{rest_of}
 use Rattle.log_text.specs.Reading.{at_blank, at_end, at_text_end, line_that}
-use Rattle.log_text.proofs.ManyFacts.{past_all, past_one, past_refused, past_stop}
-use Rattle.log_text.proofs.TestFacts.{differs, or_true}
+use Rattle.log_text.proofs.ManyFacts.{many_ended, many_more, many_refused, many_start, many_stopped, rest_err, rest_ok}
 use Rattle.log_text.proofs.line.skip_lines.Goals as goal
 use Rattle.log_text.proofs.line.skip_lines.Goals.{then-is_empty-via-then-is_empty}
 use Rattle.log_text.proofs.line.skip_lines.Goals.{then-is_empty-via-else-is_empty+then-rest-eq10}
 
+pub loop-line-init : goal.loop-line-init
+loop-line-init c =
+    ([], many_start at_text_end (line_that c.args.expected) c.args.limit [] c.args.left.now refl)
+
 pub returns-then-is_empty : goal.returns-then-is_empty
 returns-then-is_empty c =
     let rest = c.loop-line.rest.now in
-    sym (c.loop-line.invariant
-    ∙ past_stop at_text_end (line_that c.args.expected) c.args.limit c.loop-line._line rest
+    let (done, so_far) = c.loop-line.invariant in
+    sym (ap rest_of (so_far
+    ∙ many_stopped at_text_end (line_that c.args.expected) c.args.limit c.loop-line._line done rest
     (elim c.then-is_empty.branch [
-      | then-is_empty-via-then-is_empty w ↦ λ i. (sym c.is_empty.ensures ∙ w.if-is_empty.true) i || at_blank rest
+      | then-is_empty-via-then-is_empty w ↦ or_left (at_end rest) (at_blank rest) (sym c.is_empty.ensures ∙ w.if-is_empty.true)
       | then-is_empty-via-else-is_empty+then-rest-eq10 w ↦
-          (λ i. at_end rest || (Decides-eqb (slice_index rest 0) 10).1 w.if-rest-eq10.true i) ∙ or_true (at_end rest)
-    ]))
+          or_right (at_end rest) (at_blank rest) (eq-eqb (slice_index rest 0) 10 w.if-rest-eq10.true)
+    ])))
 
 pub returns-in_err-rest : goal.returns-in_err-rest
 returns-in_err-rest c =
     let rest = c.loop-line.rest.now in
-    let end : at_end rest ≡ false = sym c.is_empty.ensures ∙ c.if-is_empty.false in
-    let blank : at_blank rest ≡ false = differs (slice_index rest 0) 10 c.if-rest-eq10.false in
+    let (done, so_far) = c.loop-line.invariant in
     let left = err_from_is_err_and c.from_residual.result c.from_residual.ensures.1 in
     rw (left.1, left.2)
-    (sym (c.loop-line.invariant
-    ∙ past_refused at_text_end (line_that c.args.expected) c.args.limit c.loop-line._line rest c.in_err-rest.field-0.0
-    c.loop-line-test.true (λ i. end i || blank i) (sym c.in_err-rest.ensures)))
+    (sym (ap rest_of (so_far
+    ∙ many_refused at_text_end (line_that c.args.expected) c.args.limit c.loop-line._line done rest
+    c.in_err-rest.field-0.0 c.loop-line-test.true
+    (or_from (at_end rest) (at_blank rest) (sym c.is_empty.ensures ∙ c.if-is_empty.false)
+    (ne_eqb (slice_index rest 0) 10 c.if-rest-eq10.false))
+    (rest_err (line_that c.args.expected rest) _ (sym c.in_err-rest.ensures)))))
 
 pub loop-line-preserved : goal.loop-line-preserved
 loop-line-preserved c =
     let rest = c.loop-line.rest.now in
-    let end : at_end rest ≡ false = sym c.is_empty.ensures ∙ c.if-is_empty.false in
-    let blank : at_blank rest ≡ false = differs (slice_index rest 0) 10 c.if-rest-eq10.false in
-    c.loop-line.invariant
-    ∙ past_one at_text_end (line_that c.args.expected) c.args.limit c.loop-line._line rest c.in_ok-rest.rest.now
-    c.loop-line-test.true (λ i. end i || blank i) (sym c.in_ok-rest.ensures)
+    let (done, so_far) = c.loop-line.invariant in
+    let (line, read) = rest_ok (line_that c.args.expected rest) c.in_ok-rest.rest.now (sym c.in_ok-rest.ensures) in (
+      done ++ line ∷ [],
+      so_far
+          ∙ many_more at_text_end (line_that c.args.expected) c.args.limit c.loop-line._line done rest line
+          c.in_ok-rest.rest.now c.loop-line-test.true
+          (or_from (at_end rest) (at_blank rest) (sym c.is_empty.ensures ∙ c.if-is_empty.false)
+          (ne_eqb (slice_index rest 0) 10 c.if-rest-eq10.false)) read,
+    )
 
 pub returns : goal.returns
 returns c =
-    sym (c.loop-line.invariant
-    ∙ past_all at_text_end (line_that c.args.expected) c.args.limit c.loop-line._line c.loop-line.rest.now
-    c.loop-line-test.false)
+    let (done, so_far) = c.loop-line.invariant in
+    sym (ap rest_of (so_far
+    ∙ many_ended at_text_end (line_that c.args.expected) c.args.limit c.loop-line._line done c.loop-line.rest.now
+    c.loop-line-test.false))

@@ -1,68 +1,123 @@
--- Whole entries are read, where none is open and there are any.
-use Rattle.std.proofs.Common.{◌∙◌, ap, arith, eqb-true, length, subst, sym}
+-- Whole entries are read, where none is open and there are any, else bytes of the open one.
+use Rattle.std.proofs.Common.{◌≡◌, ◌+◌, ◌-◌, ◌∙◌, ◌∷◌, ◌++◌, [], List, ℕ, Bor, ap, arith, drop, length, length-append}
+use Rattle.std.proofs.Common.{map, refl, subst, sym, take}
 use Rattle.std.proofs.lemmas.Bool.{eqb-false}
-use Rattle.std.proofs.lemmas.List.{length-map}
-use Rattle.std.proofs.lemmas.Result.{on_ok_weaker}
+use Rattle.std.proofs.lemmas.List.{length-map, nil_from_length}
+use Rattle.std.proofs.lemmas.Simd.{map-map}
 use Rattle.sha2.specs.Sha256.{sha256}
 use Rattle.tlog.specs.Rfc9162.{leaf_hash}
-use Rattle.log_files.specs.Inner.Splitting.{Holds}
-use Rattle.log_files.proofs.SplitterFacts.{fewer_after_whole, none_of, none_read, ready_after, still_ready, whole_read}
+use Rattle.log_files.specs.Inner.Splitting.{HasRead, HoldsOpen}
+use Rattle.log_files.specs.Inner.Wanted.{HoldsWanted}
+use Rattle.log_files.specs.declared.splitter.Splitter.{Splitter}
+use Rattle.log_files.proofs.CutFacts.{fewer_left}
+use Rattle.log_files.proofs.SplitterFacts.{fewer_after_whole, open_ended, open_grown, ready_after, whole_read}
 use Rattle.log_files.proofs.splitter.Splitter.read.Goals as goal
 
-pub read_open-requires-then-is_empty-clause-ready : goal.read_open-requires-then-is_empty-clause-ready
-read_open-requires-then-is_empty-clause-ready c =
-    let s = c.args.self.now in
-    let hashes = c.in_ok-hashes.hashes in
-    let (entries, head, hashed, keeps) = c.in_ok-hashes.ensures.read in
-    let empty = sym hashes.ok.0 ∙ eqb-true hashes.len 0 (sym c.is_empty-2.ensures ∙ c.if-is_empty.true) in
-    still_ready s c.read_whole.new.self c.requires.ready c.in_ok-hashes.ensures.same.0 c.in_ok-hashes.ensures.places
-    (λ wanted front ended b.
-    let none = none_of b.open_bytes
-    (sym (c.is_empty.ensures b.open_bytes b.holds.opened) ∙ c.if-not-is_empty.false) in
-    none_read wanted s c.read_whole.new.self front ended entries hashes.items c.in_ok-hashes.ensures.same.0 b none
-    hashed empty (keeps wanted ended (subst (Holds wanted s ended) none b.holds)))
+abbrev bytes_of : Bor (List ℕ) → List ℕ
+bytes_of entry = entry.now
 
-pub returns-then-is_empty-clause-same : goal.returns-then-is_empty-clause-same
-returns-then-is_empty-clause-same c =
-    let same = c.in_ok-hashes.ensures.same in
-    on_ok_weaker c.read_open-then-is_empty.result (λ further. (further.0 ∙ same.0, further.1 ∙ same.1))
-    c.read_open-then-is_empty.ensures.same
-
-pub returns-then-is_empty-clause-read : goal.returns-then-is_empty-clause-read
-returns-then-is_empty-clause-read c =
+pub returns-then-not-is_empty-clause-read : goal.returns-then-not-is_empty-clause-read
+returns-then-not-is_empty-clause-read c =
     let s = c.args.self.now in
-    let hashes = c.in_ok-hashes.hashes in
-    let (entries, head, hashed, keeps) = c.in_ok-hashes.ensures.read in
-    let empty = sym hashes.ok.0 ∙ eqb-true hashes.len 0 (sym c.is_empty-2.ensures ∙ c.if-is_empty.true) in
+    let found = c.in_ok-entries.entries.items in
+    let entries = map bytes_of found in
+    let (few, head) = c.in_ok-entries.ensures in
+    let many : c.len.result ≡ length entries =
+    c.len.ensures ∙ c.in_ok-entries.entries.ok.0 ∙ sym (length-map found bytes_of) in
+    let hashed = c.in_ok-leaf_hashes.ensures
+    ∙ ap (map (λ (e : Bor (List ℕ)). leaf_hash sha256 e.now)) c.deref-then-not-is_empty.ensures.value
+    ∙ sym (map-map (leaf_hash sha256) bytes_of found) in
     λ wanted front ended b.
-    let none = none_of b.open_bytes
-    (sym (c.is_empty.ensures b.open_bytes b.holds.opened) ∙ c.if-not-is_empty.false) in
-    c.read_open-then-is_empty.ensures.read wanted front ended
-    (none_read wanted s c.read_whole.new.self front ended entries hashes.items c.in_ok-hashes.ensures.same.0 b none
-    hashed empty (keeps wanted ended (subst (Holds wanted s ended) none b.holds)))
+    let none = nil_from_length b.open_bytes (omega (arith, c.if-self-eq0.true, b.holds.opened.counted)) in
+    let t : Splitter = record s { count = s.count + c.len.result; wanted = c.copy.new.self } in
+    whole_read wanted s t front c.args.bytes.now c.in_ok-entries.rest.now ended entries _ c.requires.ready.cut refl b none
+    head hashed (record {
+      counted = omega (arith, b.holds.counted, many, length-append ended entries);
+      within = omega (
+        arith,
+        b.holds.counted,
+        b.holds.within,
+        few,
+        c.saturating_sub-most.ensures,
+        many,
+        length-map found bytes_of,
+        length-append ended entries,
+      );
+      opened = subst (HoldsOpen s.open_entry) none b.holds.opened;
+      kept = subst (λ xs. HoldsWanted c.copy.new.self wanted (ended ++ map bytes_of xs) []) c.deref.ensures.value
+          (c.in_ok-copy.ensures.holds wanted ended b.holds.counted
+          (subst (HoldsWanted s.wanted wanted ended) none b.holds.kept));
+    })
 
-pub returns-clause-read : goal.returns-clause-read
-returns-clause-read c =
+pub returns-then-not-is_empty-clause-ready : goal.returns-then-not-is_empty-clause-ready
+returns-then-not-is_empty-clause-ready c =
+    ready_after c.args.self.now _ c.args.bytes.now c.in_ok-entries.rest.now _ c.requires.ready refl
+    c.in_ok-copy.ensures.places (returns-then-not-is_empty-clause-read c)
+
+pub returns-then-not-is_empty-clause-fewer : goal.returns-then-not-is_empty-clause-fewer
+returns-then-not-is_empty-clause-fewer c =
+    let found = c.in_ok-entries.entries in
+    let some = eqb-false found.len 0 (sym c.is_empty.ensures ∙ c.if-not-is_empty.true) in
+    fewer_after_whole c.args.self.now.cut c.args.bytes.now c.in_ok-entries.rest.now (map bytes_of found.items)
+    c.requires.ready.cut c.in_ok-entries.ensures.1
+    (omega (arith, some, found.ok.0, length-map found.items bytes_of))
+
+pub returns-in_ok-vec-in-Some-clause-read : goal.returns-in_ok-vec-in-Some-clause-read
+returns-in_ok-vec-in-Some-clause-read c =
     let s = c.args.self.now in
-    let (entries, head, hashed, keeps) = c.in_ok-hashes.ensures.read in
+    let t = c.end.new.self in
+    let bytes = c.args.bytes.now in
+    let more = c.in-Some.more.now in
+    let rest = c.in-Some.rest.now in
     λ wanted front ended b.
-    let none = none_of b.open_bytes
-    (sym (c.is_empty.ensures b.open_bytes b.holds.opened) ∙ c.if-not-is_empty.false) in
-    whole_read wanted s c.read_whole.new.self front c.args.bytes.now c.in_ok-hashes.rest.now ended entries
-    c.in_ok-hashes.hashes.items c.requires.ready.cut c.in_ok-hashes.ensures.same.0 b none head hashed
-    (keeps wanted ended (subst (Holds wanted s ended) none b.holds))
+    let parts = c.in-Some.ensures b.open_bytes b.holds.opened.counted b.at.opens in
+    let with_end = c.in_ok-hash-in-Some.ensures.holds wanted ended (b.open_bytes ++ more) (record {
+      counted = b.holds.counted;
+      within = b.holds.within;
+      opened = c.push.ensures b.open_bytes b.holds.opened;
+      kept = c.in_ok-push-in-Some.ensures.holds wanted ended b.open_bytes b.holds.counted b.holds.kept;
+    }) in
+    subst (HasRead wanted t front ended bytes rest)
+    (sym (c.in_ok-vec-in-Some.ensures.items ∙ ap (λ d. d ∷ []) with_end.1))
+    (open_ended wanted s t front bytes more rest ended c.requires.ready.cut c.in_ok-hash-in-Some.ensures.same.0 b parts.0
+    parts.1 with_end.0)
 
-pub returns-clause-ready : goal.returns-clause-ready
-returns-clause-ready c =
-    ready_after c.args.self.now c.read_whole.new.self c.args.bytes.now c.in_ok-hashes.rest.now
-    c.in_ok-hashes.hashes.items c.requires.ready c.in_ok-hashes.ensures.same.0 c.in_ok-hashes.ensures.places
-    (returns-clause-read c)
+pub returns-in_ok-vec-in-Some-clause-ready : goal.returns-in_ok-vec-in-Some-clause-ready
+returns-in_ok-vec-in-Some-clause-ready c =
+    ready_after c.args.self.now c.end.new.self c.args.bytes.now c.in-Some.rest.now _ c.requires.ready
+    c.in_ok-hash-in-Some.ensures.same.0 c.in_ok-hash-in-Some.ensures.places (returns-in_ok-vec-in-Some-clause-read c)
 
-pub returns-clause-fewer : goal.returns-clause-fewer
-returns-clause-fewer c =
-    let hashes = c.in_ok-hashes.hashes in
-    let (entries, head, hashed, keeps) = c.in_ok-hashes.ensures.read in
-    let some = eqb-false hashes.len 0 (sym c.is_empty-2.ensures ∙ c.if-is_empty.false) in
-    let count = ap length hashed ∙ length-map entries (leaf_hash sha256) in
-    fewer_after_whole c.args.self.now.cut c.args.bytes.now c.in_ok-hashes.rest.now entries c.requires.ready.cut head
-    (omega (arith, some, count, hashes.ok.0))
+pub returns-in_ok-vec-in-Some-clause-fewer : goal.returns-in_ok-vec-in-Some-clause-fewer
+returns-in_ok-vec-in-Some-clause-fewer c =
+    let (wanted, front, ended, b) = c.requires.ready.stands in
+    let parts = c.in-Some.ensures b.open_bytes b.holds.opened.counted b.at.opens in
+    fewer_left c.args.self.now.cut b.open_bytes c.in-Some.more.now c.in-Some.rest.now c.args.bytes.now b.at.opens
+    parts.1 parts.0
+
+nothing_left : (bytes : List ℕ) → take (length bytes - length bytes) (drop (length bytes) bytes) ≡ []
+nothing_left bytes =
+    let none : length bytes - length bytes ≡ 0 = omega arith in
+    ap (λ n. take n (drop (length bytes) bytes)) none
+
+pub returns-in_ok-push-in-None-clause-read : goal.returns-in_ok-push-in-None-clause-read
+returns-in_ok-push-in-None-clause-read c =
+    let s = c.args.self.now in
+    let bytes = c.args.bytes.now in
+    λ wanted front ended b.
+    rw c.new.ensures.items
+    (open_grown wanted s _ front bytes _ ended refl b (nothing_left bytes)
+    (c.in-None.ensures b.open_bytes b.holds.opened.counted b.at.opens) (record {
+      counted = b.holds.counted;
+      within = b.holds.within;
+      opened = c.push-in-None.ensures b.open_bytes b.holds.opened;
+      kept = c.in_ok-push-in-None.ensures.holds wanted ended b.open_bytes b.holds.counted b.holds.kept;
+    }))
+
+pub returns-in_ok-push-in-None-clause-ready : goal.returns-in_ok-push-in-None-clause-ready
+returns-in_ok-push-in-None-clause-ready c =
+    ready_after c.args.self.now _ c.args.bytes.now _ _ c.requires.ready refl c.in_ok-push-in-None.ensures.places
+    (returns-in_ok-push-in-None-clause-read c)
+
+pub returns-in_ok-push-in-None-clause-fewer : goal.returns-in_ok-push-in-None-clause-fewer
+returns-in_ok-push-in-None-clause-fewer c =
+    omega (arith, c.requires.some, ap length (nothing_left c.args.bytes.now))

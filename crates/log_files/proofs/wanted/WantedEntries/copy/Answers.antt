@@ -1,9 +1,10 @@
 -- The next wanted entry is copied to its place.
 use Rattle.std.proofs.Common.{◌≡◌, ℕ, ◌-◌, ◌<◌, ◌++◌, List, [], ◌∙◌, All, Bor, ap, arith, drop, get_or, length, map}
-use Rattle.std.proofs.Common.{length-append, length-drop, refl, set, subst, sym, take_all}
-use Rattle.std.proofs.lemmas.List.{get_or-map, length-map, length-set, map-set}
+use Rattle.std.proofs.Common.{length-append, length-drop, set, subst, sym, take, take_all}
+use Rattle.std.proofs.lemmas.List.{get_or-append_right, get_or-map, length-map, length-set, map-set}
 use Rattle.std.proofs.lemmas.List.Elements.{All-drop, All-weaker}
-use Rattle.log_files.proofs.WantedFacts.{entry_among, one_copied, some_held}
+use Rattle.log_files.proofs.WantedFacts.{ascends_lower, kept_copy, kept_longer, next_left, none_begun}
+use Rattle.log_files.specs.Inner.Wanted.{is_next, IsAscending, IsKept}
 use Rattle.log_files.proofs.wanted.WantedEntries.copy.Goals as goal
 
 abbrev bytes_of : Bor (List ℕ) → List ℕ
@@ -13,7 +14,11 @@ pub wanted-init : goal.wanted-init
 wanted-init c = record {
   places = c.requires;
   holds = λ wanted ended is holds.
-      some_held c.args.self.now wanted c.args.first ended (map bytes_of c.args.entries.now) is holds;
+      record {
+        kept = kept_longer wanted ended (map bytes_of c.args.entries.now) _ c.args.self.now.left.now holds.kept;
+        ascending = subst (λ n. IsAscending n c.args.self.now.left.now) (sym is) holds.ascending;
+        begun = holds.begun ∙ none_begun (is_next (length ended) c.args.self.now.left.now);
+      };
 }
 
 pub wanted-preserved : goal.wanted-preserved
@@ -25,6 +30,7 @@ wanted-preserved c =
     let E = map bytes_of entries in
     let at = c.saturating_sub-at.result in
     let copy = c.in_ok-self.field-0 in
+    let rest = take (length left - 1) (drop 1 left) in
     let follow = take_all (length left - 1) (drop 1 left) (omega (arith, length-drop 1 left)) in
     let inside : at < length entries = omega (arith, c.if-at-entries.false) in
     let far : at ≡ p.0 - c.args.first = c.saturating_sub-at.ensures in
@@ -39,9 +45,15 @@ wanted-preserved c =
           omega (arith, far, inside, is, length-append ended E, length-map entries bytes_of) in
           let read = c.in_ok-self.ensures.items ∙ sym (get_or-map bytes_of entries at _ [] inside)
           ∙ ap (λ n. get_or E n []) far in
-          one_copied w _ wanted c.args.first (ended ++ E) p copy.items c.in-Some.ensures.value follow
-          (map-set (λ e. e.items) w.entries.items p.1 copy) refl within
-          (λ low. entry_among ended E c.args.first p.0 copy.items is low
-          (omega (arith, far, inside, length-map entries bytes_of)) read)
-          (c.wanted.invariant.holds wanted ended is holds);
+          let some = c.wanted.invariant.holds wanted ended is holds in
+          let parts = next_left left rest p c.in-Some.ensures.value follow in
+          let up = subst (IsAscending c.args.first) parts some.ascending in
+          let copied = read ∙ sym (get_or-append_right ended E c.args.first p.0 [] (sym is) up.0) in
+          record {
+            kept = subst (λ xs. IsKept wanted (ended ++ E) xs rest) (sym (map-set (λ e. e.items) w.entries.items p.1 copy))
+                (kept_copy wanted (ended ++ E) _ p rest copy.items within copied (subst (IsKept wanted (ended ++ E) _) parts
+                some.kept));
+            ascending = ascends_lower c.args.first p.0 rest up.0 up.1;
+            begun = some.begun;
+          };
     }

@@ -1,7 +1,7 @@
 -- The open entry is copied where it is wanted.
-use Rattle.std.proofs.Common.{◌∙◌, ◌∷◌, ◌++◌, [], ap, if◌then◌else◌, subst, sym}
+use Rattle.std.proofs.Common.{◌∙◌, ◌∷◌, ◌++◌, [], length, ap, if◌then◌else◌, subst, sym}
 use Rattle.log_files.specs.Inner.Wanted.{is_next, HoldsWanted}
-use Rattle.log_files.proofs.WantedFacts.{emptied, ends_unwanted}
+use Rattle.log_files.proofs.WantedFacts.{ends_unwanted, none_begun}
 use Rattle.log_files.proofs.wanted.WantedEntries.end.Goals as goal
 
 pub returns-else-is_next-clause-holds : goal.returns-else-is_next-clause-holds
@@ -20,4 +20,8 @@ returns-in_ok-copy-clause-holds c =
     let none = ap (λ v. v.items) c.replace-bytes.ensures.after ∙ c.new.ensures.items in
     let copied = c.deref.ensures.value ∙ ap (λ v. v.items) c.replace-bytes.ensures.value ∙ begun in
     subst (λ entry. HoldsWanted c.copy.new.self wanted (ended ++ entry ∷ []) []) copied
-    (c.in_ok-copy.ensures.holds wanted ended is (emptied w c.replace-bytes.new.dest wanted ended bytes none holds))
+    (c.in_ok-copy.ensures.holds wanted ended is (record {
+      kept = holds.kept;
+      ascending = holds.ascending;
+      begun = none ∙ sym (none_begun (is_next (length ended) w.left.now));
+    }))

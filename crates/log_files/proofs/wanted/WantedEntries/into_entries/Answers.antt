@@ -14,5 +14,5 @@ returns-else-is_empty c =
     let w = c.args.self in
     λ wanted ended bytes holds.
     ap (map (λ entry. entry.items)) c.new.ensures.items
-    ∙ sym (one_missing w wanted ended bytes
-    (eqb-false (length w.left.now) 0 (sym c.is_empty.ensures ∙ c.if-is_empty.false)) holds)
+    ∙ sym (one_missing ended wanted _ w.left.now
+    (eqb-false (length w.left.now) 0 (sym c.is_empty.ensures ∙ c.if-is_empty.false)) holds.kept holds.ascending)

@@ -1,18 +1,23 @@
-use Rattle.std.proofs.Common.{◌≡◌, length, arith}
-use Rattle.log_files.specs.declared.wanted.WantedEntries.{WantedEntries}
-use Rattle.log_files.proofs.WantedFacts.{holds_none, room_for_all}
+use Rattle.std.proofs.Common.{ℕ, ◌<◌, ◌∙◌, length, arith, sym}
+use Rattle.std.proofs.lemmas.List.{length-map}
+use Rattle.std.proofs.lemmas.List.Elements.{All-weaker}
+use Rattle.log_files.specs.Inner.Wanted.{is_next, IsOwn}
+use Rattle.log_files.proofs.WantedFacts.{kept_at_start, none_begun}
 use Rattle.log_files.proofs.wanted.WantedEntries.new.Goals as goal
 
 pub returns-clause-holds : goal.returns-clause-holds
 returns-clause-holds c =
-    let w : WantedEntries = record { left = c.args.places; entries = c.loop.entries; begun = c.new-2.result } in
-    let long : length w.entries.items ≡ length w.left.now =
-    omega (arith, c.loop.invariant, c.loop-test.false, c.loop.auto.counter-end) in
-    λ wanted moved. holds_none w wanted moved c.requires long c.new-2.ensures.items
+    let left = c.args.places.now in
+    λ wanted moved. record {
+      kept = kept_at_start wanted _ left moved (length-map c.loop.entries.items (λ entry. entry.items)
+          ∙ omega (arith, c.loop.invariant, c.loop-test.false, c.loop.auto.counter-end));
+      ascending = c.requires;
+      begun = c.new-2.ensures.items ∙ sym (none_begun (is_next 0 left));
+    }
 
 pub returns-clause-places : goal.returns-clause-places
 returns-clause-places c =
-    let w : WantedEntries = record { left = c.args.places; entries = c.loop.entries; begun = c.new-2.result } in
-    let long : length w.entries.items ≡ length w.left.now =
-    omega (arith, c.loop.invariant, c.loop-test.false, c.loop.auto.counter-end) in
-    λ wanted moved. room_for_all w wanted moved long
+    λ wanted moved.
+    let kept = (returns-clause-holds c wanted moved).kept in
+    let count = length-map c.loop.entries.items (λ entry. entry.items) in
+    All-weaker (IsOwn wanted) (λ (p : ℕ × ℕ). p.1 < length c.loop.entries.items) (λ p own. omega (arith, own.0, count, kept.long)) c.args.places.now kept.own
