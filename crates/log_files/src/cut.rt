@@ -7,7 +7,7 @@ use memchr::memchr;
 use std::alloc::{AllocError, Global};
 
 /// How many entries are taken from the head of some bytes at once.
-const TOGETHER: usize = 4096;
+const TOGETHER: usize = 1024;
 
 /// How a file is cut into entries. It belongs to a question about a file: a log's tree does not have it.
 #[derive(Clone, Copy, Debug, PartialEq, Eq)]

@@ -30,6 +30,12 @@ piece n (x ∷ xs) each (suc j) below =
     ∙ ap (take n) (drop-append-add x (flat_map (λ y. y) xs) (j * n))
     ∙ piece n xs (λ k h. each (suc k) (omega arith)) j (omega arith)
 
+pub message_is : (n : ℕ) (xs : List (List ℕ)) → ((k : ℕ) → k < length xs → length (get_or xs k []) ≡ n) → (j : ℕ) →
+    j < length xs → message n (flat_map (λ x. x) xs) j ≡ get_or xs j []
+message_is n xs each j below =
+    let span : (j + 1) * n - j * n ≡ n = omega (arith, add-mul j 1 n, one-mul n) in
+    ap (λ (m : ℕ). take m (drop (j * n) (flat_map (λ x. x) xs))) span ∙ piece n xs each j below
+
 -- so many pieces are so long
 pub length-pieces : (n : ℕ) (xs : List (List ℕ)) → ((k : ℕ) → k < length xs → length (get_or xs k []) ≡ n) →
     length (flat_map (λ x. x) xs) ≡ n * length xs
@@ -47,10 +53,8 @@ pub hashed_pieces : (n : ℕ) (hash : Hash) (xs : List (List ℕ)) →
 hashed_pieces n hash xs each =
     let of = λ (k : ℕ). hash (message n (flat_map (λ x. x) xs) k) in
     map-map hash (message n (flat_map (λ x. x) xs)) (range_with_len 0 (length xs))
-    ∙ sym (fill_by_all of (map hash xs) (length xs) [] (length-map xs hash) (λ k h.
-    let span : (k + 1) * n - k * n ≡ n = omega (arith, add-mul k 1 n, one-mul n) in
-    get_or-map hash xs k [] [] h ∙ ap hash (sym (ap (λ (m : ℕ). take m (drop (k * n) (flat_map (λ x. x) xs))) span
-    ∙ piece n xs each k h))))
+    ∙ sym (fill_by_all of (map hash xs) (length xs) [] (length-map xs hash)
+    (λ k h. get_or-map hash xs k [] [] h ∙ ap hash (sym (message_is n xs each k h))))
 
 -- the inputs of the hashes of a layer's parents
 abbrev pub node_inputs : List (List ℕ) → List (List ℕ)

@@ -1,17 +1,19 @@
--- Entries that are hashed together with others of their length.
-use Rattle.std.proofs.Common.{◌≡◌, ℕ, suc, ◌+◌, ◌*◌, ◌<◌, List, [], ◌∷◌, ◌++◌, All, length, map, get_or, set, sym, ap}
+-- Entries that are hashed together with others.
+use Rattle.std.proofs.Common.{◌≡◌, ℕ, suc, ◌+◌, ◌*◌, ◌<◌, ◌≤◌, List, [], ◌∷◌, ◌++◌, All, length, map, get_or, set, take, sym, ap}
 use Rattle.std.proofs.Common.{◌∙◌, arith, refl, subst, inl, inr}
 use Rattle.std.proofs.lemmas.Bool.{cases_eq}
-use Rattle.std.proofs.lemmas.List.{ext_get_or, get_or-map, get_or-set_other, get_or-set_same, length-map}
+use Rattle.std.proofs.lemmas.List.{ext_get_or, get_or-map, get_or-set_other, get_or-set_same, get_or-take, length-map}
+use Rattle.std.proofs.lemmas.List.{length-take-le}
 use Rattle.std.proofs.lemmas.List.FromFn.{get_or-map-range_with_len, length-map-range_with_len, map-range_with_len_more}
 use Rattle.std.proofs.lemmas.List.Sorted.{All-permutation, Contains-permutation}
 use Rattle.std.specs.List.{flat_map, range_with_len}
 use Rattle.std.specs.List.Sorted.{IsPermutation}
-use Rattle.sha2.specs.Sha256.{sha256}
+use Rattle.sha2.specs.Sha256.{padded_message, sha256}
 use Rattle.tlog.specs.Rfc9162.{leaf_hash}
-use Rattle.p3_support.specs.Lists.{messages}
-use Rattle.tlog_tree.specs.Inner.Leaves.{IsHashed, IsOfLength}
-use Rattle.tlog_tree.proofs.Inputs.{hashed_pieces, length-pieces}
+use Rattle.p3_hashes.proofs.Padding.{length-padded_message}
+use Rattle.p3_support.specs.Lists.{message, messages}
+use Rattle.tlog_tree.specs.Inner.Leaves.{AreHashes, Fills, IsHashed, IsOfLength, IsPlaceOf}
+use Rattle.tlog_tree.proofs.Inputs.{hashed_pieces, length-pieces, message_is}
 
 -- ---- places of entries
 
@@ -63,6 +65,17 @@ all_hashed E hashes sorted moved room hashed =
     subst (λ (place : ℕ × ℕ). IsHashed E hashes place.1) at (hashed k (place_of E i) within)
     ∙ sym (get_or-map (leaf_hash sha256) E i [] [] inside))
 
+-- the first places have the length of the first one
+pub alike_places : (E : List (List ℕ)) (places : List (ℕ × ℕ)) (n : ℕ) → n ≤ length places →
+    All (IsPlaceOf E) places →
+    ((k : ℕ) (d : ℕ × ℕ) → k < n → (get_or places k d).0 ≡ (get_or places 0 (0, 0)).0) →
+    All (IsOfLength E (get_or places 0 (0, 0)).0) (take n places)
+alike_places E places n within own alike k d h =
+    let below : k < n = omega (arith, length-take-le n places within) in
+    let place = own k d (omega arith) in
+    let is = alike k d below in
+    rw (get_or-take n places k d below) (record { is = is; within = place.within; own = place.own ∙ is })
+
 -- ---- a batch
 
 -- the input of the leaf hash of the entry at a place
@@ -85,16 +98,49 @@ length-batch E len n batch flat alike is many =
 -- its hashes
 pub hashed_batch : (E : List (List ℕ)) (len n : ℕ) (batch : List (ℕ × ℕ)) (flat : List ℕ) (values : List (List ℕ)) →
     All (IsOfLength E len) batch → flat ≡ flat_map (λ x. x) (map (leaf_input E) batch) → n ≡ length batch →
-    values ≡ map sha256 (messages (suc len) n flat) → (k : ℕ) (d : List ℕ) → k < length batch →
-    get_or values k d ≡ leaf_hash sha256 (get_or E (get_or batch k (0, 0)).1 [])
+    values ≡ map sha256 (messages (suc len) n flat) → AreHashes E batch values
 hashed_batch E len n batch flat values alike is many are k d h =
     let inputs = map (leaf_input E) batch in
     let same : n ≡ length inputs = many ∙ sym (length-map batch (leaf_input E)) in
     let inside : k < length inputs = omega (arith, length-map batch (leaf_input E)) in
     let all : values ≡ map sha256 inputs =
     are ∙ rw (is, same) (hashed_pieces (suc len) sha256 inputs (each_input E len batch alike)) in
-    ap (λ (vs : List (List ℕ)). get_or vs k d) all ∙ get_or-map sha256 inputs k [] d inside
-    ∙ ap sha256 (get_or-map (leaf_input E) batch k (0, 0) [] h)
+    ap (λ (vs : List (List ℕ)). get_or vs k []) all ∙ get_or-map sha256 inputs k [] [] inside
+    ∙ ap sha256 (get_or-map (leaf_input E) batch k d [] h)
+
+-- ---- eight
+
+-- the input with its padding
+abbrev pub padded_input : List (List ℕ) → ℕ × ℕ → List ℕ
+padded_input E place = padded_message (leaf_input E place)
+
+each_padded : (E : List (List ℕ)) (count : ℕ) (eight : List (ℕ × ℕ)) → All (IsPlaceOf E) eight →
+    All (Fills count) eight → (k : ℕ) → k < length (map (padded_input E) eight) →
+    length (get_or (map (padded_input E) eight) k []) ≡ 64 * count
+each_padded E count eight own fill k h =
+    let inside : k < length eight = omega (arith, length-map eight (padded_input E)) in
+    let place = get_or eight k (0, 0) in
+    ap length (get_or-map (padded_input E) eight k (0, 0) [] inside)
+    ∙ length-padded_message (leaf_input E place)
+    ∙ omega (arith, (own k (0, 0) inside).own, fill k (0, 0) inside)
+
+pub length-eight : (E : List (List ℕ)) (count : ℕ) (eight : List (ℕ × ℕ)) (flat : List ℕ) → length eight ≡ 8 →
+    All (IsPlaceOf E) eight → All (Fills count) eight → flat ≡ flat_map (λ x. x) (map (padded_input E) eight) →
+    length flat ≡ 8 * (64 * count)
+length-eight E count eight flat eights own fill is =
+    ap length is ∙ length-pieces (64 * count) (map (padded_input E) eight) (each_padded E count eight own fill)
+    ∙ ap (λ (m : ℕ). 64 * count * m) (length-map eight (padded_input E) ∙ eights)
+    ∙ omega arith
+
+-- each lies among the others
+pub padded_at : (E : List (List ℕ)) (count : ℕ) (eight : List (ℕ × ℕ)) (flat : List ℕ) → All (IsPlaceOf E) eight →
+    All (Fills count) eight → flat ≡ flat_map (λ x. x) (map (padded_input E) eight) → (k : ℕ) (d : ℕ × ℕ) →
+    k < length eight → message (64 * count) flat k ≡ padded_input E (get_or eight k d)
+padded_at E count eight flat own fill is k d h =
+    let inside : k < length (map (padded_input E) eight) = omega (arith, length-map eight (padded_input E)) in
+    ap (λ (xs : List ℕ). message (64 * count) xs k) is
+    ∙ message_is (64 * count) (map (padded_input E) eight) (each_padded E count eight own fill) k inside
+    ∙ get_or-map (padded_input E) eight k d [] h
 
 -- ---- a hash is written
 

@@ -1,18 +1,19 @@
-//! The leaf hashes of entries, eight of one length at a time.
-ghost use Rattle.std.specs.Prelude.{◌≡◌, ℕ, ◌<◌, ◌≤◌, IfOk, OnOk, All, length, map, slice_index_or};
+//! The leaf hashes of entries, eight at a time.
+ghost use Rattle.std.specs.Prelude.{◌≡◌, ℕ, ◌<◌, ◌≤◌, IfOk, OnOk, All, Decides, List, length, map, slice_index_or, take};
 ghost use Rattle.sha2.specs.Sha256.{sha256};
 ghost use Rattle.tlog.specs.Rfc9162.{leaf_hash};
-ghost use Rattle.tlog_tree.specs.Inner.Leaves.{IsHashed, IsOfLength};
+ghost use Rattle.tlog_tree.specs.Inner.Leaves.{block_count, AreHashes, Fills, IsHashed, IsOfLength, IsPlaceOf};
 
+use p3_hashes::padded::{hash_padded_eight, push_padded};
 use p3_hashes::sha_eights::Sha256RowsInEights;
 use p3_support::hasher::CryptographicHasher;
 use std::alloc::{AllocError, Global};
 
-/// So many bytes of inputs are hashed together at most, unless eight have more.
+/// So many bytes of inputs of one length are hashed together at most, unless eight have more.
 const BATCH_BYTES: usize = 1 << 16;
 
-/// The leaf hashes of entries, in their order (RFC 9162, 2.1.1). Entries of one length are hashed eight at a time,
-/// wherever they stand.
+/// The leaf hashes of entries, in their order (RFC 9162, 2.1.1). Entries that fill one number of blocks of SHA-256 are
+/// hashed eight at a time, wherever they stand.
 ///
 /// # Errors
 ///
@@ -29,56 +30,135 @@ pub fn leaf_hashes(alloc: Global, entries: &[&[u8]]) -> Result<Vec<[u8; 32]>, Al
     let mut hashes = vec![in alloc; [0; 32]; entries.len()]?;
     let mut rest = by_length.as_slice();
     while !rest.is_empty() {
-        let (batch, longer) = rest.split_at(batch_len(rest));
-        hash_batch(alloc, entries, batch, &mut hashes)?;
-        rest = longer;
+        let count = hash_first(alloc, entries, rest, &mut hashes)?;
+        rest = &rest[count..];
     }
     Ok(hashes)
 }
 
-/// How many of the first entries, by their length and index, are hashed together: those of the first one's length, up
-/// to a limit.
-fn batch_len(by_length: &[(usize, usize)]) -> usize
-    requires { 0 < length by_length.now }
-    ensures some { 0 < result }
-    ensures within { result ≤ length by_length.now }
-    ensures alike { (k : ℕ) (d : ℕ × ℕ) → k < result →
-        (slice_index_or by_length.now k d).0 ≡ (slice_index_or by_length.now 0 (0, 0)).0 }
-{
-    let length = by_length[0].0;
-    let most = (BATCH_BYTES / length.saturating_add(1)).max(8);
-    for (k, entry) in by_length.iter().enumerate() {
-        if k == most || entry.0 != length {
-            return k;
-        }
-    }
-    by_length.len()
-}
-
-/// Writes the leaf hashes of entries of one length, which have these lengths and indices.
-fn hash_batch(
+/// Writes the leaf hashes of the first entries, by their length and index, and returns how many these are: those of one
+/// length, or if these are fewer than eight, eight that fill one number of blocks.
+fn hash_first(
     alloc: Global,
     entries: &[&[u8]],
-    batch: &[(usize, usize)],
+    places: &[(usize, usize)],
     hashes: &mut [[u8; 32]],
-) -> Result<(), AllocError>
-    requires alike { (length : ℕ) × All (IsOfLength (map (λ entry. entry.now) entries.now) length) batch.now }
+) -> Result<usize, AllocError>
+    requires some { 0 < length places.now }
+    requires own { All (IsPlaceOf (map (λ entry. entry.now) entries.now)) places.now }
     requires room { length hashes.old ≡ length entries.now }
-    ensures hashed { OnOk result
-        (All (λ entry. IsHashed (map (λ e. e.now) entries.now) hashes.new entry.1) batch.now) }
+    ensures some { IfOk result (λ count. 0 < count) }
+    ensures within { IfOk result (λ count. count ≤ length places.now) }
+    ensures hashed { IfOk result (λ count. All (λ (place : ℕ × ℕ).
+        IsHashed (map (λ entry. entry.now) entries.now) hashes.new place.1) (take count places.now)) }
     ensures kept { OnOk result ((index : ℕ) → IsHashed (map (λ entry. entry.now) entries.now) hashes.old index →
         IsHashed (map (λ entry. entry.now) entries.now) hashes.new index) }
 {
+    let alike = alike_len(places);
+    let count = block_count(places[0].0);
+    if alike < 8 && places.len() >= 8 && all_fill(&places[..8], count) {
+        let eight = &places[..8];
+        write(eight, &hash_eight(alloc, entries, eight, count)?, hashes);
+        return Ok(8);
+    }
+    let batch = &places[..alike];
+    write(batch, &hash_alike(alloc, entries, batch)?, hashes);
+    Ok(alike)
+}
+
+/// How many of the first entries, by their length and index, have the first one's length, up to a limit: eights of
+/// them, if there are as many.
+fn alike_len(places: &[(usize, usize)]) -> usize
+    requires { 0 < length places.now }
+    ensures some { 0 < result }
+    ensures within { result ≤ length places.now }
+    ensures alike { (k : ℕ) (d : ℕ × ℕ) → k < result →
+        (slice_index_or places.now k d).0 ≡ (slice_index_or places.now 0 (0, 0)).0 }
+{
+    let length = places[0].0;
+    let most = (BATCH_BYTES / length.saturating_add(1)).max(8);
+    for (k, place) in places.iter().enumerate() {
+        if k == most || place.0 != length {
+            return whole_eights(k);
+        }
+    }
+    whole_eights(places.len())
+}
+
+/// The greatest multiple of eight up to a count, or the count itself if it is less than eight.
+fn whole_eights(count: usize) -> usize
+    ensures some { 0 < count → 0 < result }
+    ensures within { result ≤ count }
+{
+    if count < 8 { count } else { count / 8 * 8 }
+}
+
+/// Whether entries of these lengths and indices fill so many blocks each.
+fn all_fill(places: &[(usize, usize)], count: usize) -> bool
+    ensures { Decides result (All (Fills count) places.now) }
+{
+    places.iter().all(|place| block_count(place.0) == count)
+}
+
+/// How many blocks of SHA-256 the input of the leaf hash of an entry of this length fills.
+fn block_count(length: usize) -> usize
+    ensures { result ≡ block_count length }
+{
+    // A byte goes ahead of the entry, nine bytes of padding at least follow it.
+    length / 64 + (length % 64 + 73) / 64
+}
+
+/// The leaf hashes of entries of one length.
+fn hash_alike(
+    alloc: Global,
+    entries: &[&[u8]],
+    places: &[(usize, usize)],
+) -> Result<Vec<[u8; 32]>, AllocError>
+    requires { (length : ℕ) × All (IsOfLength (map (λ entry. entry.now) entries.now) length) places.now }
+    ensures hashes { IfOk result (λ values.
+        AreHashes (map (λ entry. entry.now) entries.now) places.now values.items) }
+    ensures each { IfOk result (λ values. length values.items ≡ length places.now) }
+{
     // The inputs of the hashes, each a byte 0 and the entry, one after another.
     let mut inputs = Vec::with_capacity(alloc, BATCH_BYTES)?;
-    for (_, index) in batch {
+    for (_, index) in places {
         inputs.push(0)?;
         inputs.extend_from_slice(entries[*index])?;
     }
-    let mut values = vec![in alloc; [0; 32]; batch.len()]?;
+    let mut values = vec![in alloc; [0; 32]; places.len()]?;
     Sha256RowsInEights.hash_many(&inputs, &mut values);
-    for (k, (_, index)) in batch.iter().enumerate() {
+    Ok(values)
+}
+
+/// The leaf hashes of eight entries that fill `count` blocks each.
+fn hash_eight(
+    alloc: Global,
+    entries: &[&[u8]],
+    places: &[(usize, usize)],
+    count: usize,
+) -> Result<[[u8; 32]; 8], AllocError>
+    requires eight { length places.now ≡ 8 }
+    requires own { All (IsPlaceOf (map (λ entry. entry.now) entries.now)) places.now }
+    requires alike { All (Fills count) places.now }
+    ensures { IfOk result (λ values. AreHashes (map (λ entry. entry.now) entries.now) places.now values) }
+{
+    let mut blocks = Vec::with_capacity(alloc, count.saturating_mul(512))?;
+    for (_, index) in places {
+        push_padded(&mut blocks, 0, entries[*index])?;
+    }
+    Ok(hash_padded_eight(&blocks, count))
+}
+
+/// Writes hashes at the indices of entries.
+fn write(places: &[(usize, usize)], values: &[[u8; 32]], hashes: &mut [[u8; 32]])
+    requires inside { All (λ (place : ℕ × ℕ). place.1 < length hashes.old) places.now }
+    requires each { length values.now ≡ length places.now }
+    ensures hashed { (entries : List (List ℕ)) → AreHashes entries places.now values.now →
+        All (λ (place : ℕ × ℕ). IsHashed entries hashes.new place.1) places.now }
+    ensures kept { (entries : List (List ℕ)) → AreHashes entries places.now values.now → (index : ℕ) →
+        IsHashed entries hashes.old index → IsHashed entries hashes.new index }
+{
+    for (k, (_, index)) in places.iter().enumerate() {
         hashes[*index] = values[k];
     }
-    Ok(())
 }

@@ -1,12 +1,12 @@
 use Rattle.std.proofs.Common.{◌≡◌, ◌++◌, [], ℕ, ◌<◌, ◌∙◌, All, List, Bor, ap, append_assoc, append-nil, arith}
-use Rattle.std.proofs.Common.{drop, get_or, length, map, refl, subst, sym}
-use Rattle.std.proofs.lemmas.List.{get_or-map, length-map, nil_from_length, take_at}
+use Rattle.std.proofs.Common.{drop, get_or, length, map, refl, subst, sym, take}
+use Rattle.std.proofs.lemmas.List.{get_or-map, length-map, nil_from_length, take-append-drop, take_at, take_rest}
 use Rattle.std.proofs.lemmas.List.Elements.{All-append, All-drop, All-nil}
 use Rattle.std.proofs.lemmas.Bool.Decides.{nat_tests}
 use Rattle.std.proofs.lemmas.Simd.{map-map}
 use Rattle.sha2.specs.Sha256.{sha256}
 use Rattle.tlog.specs.Rfc9162.{leaf_hash}
-use Rattle.tlog_tree.specs.Inner.Leaves.{IsHashed, IsOfLength}
+use Rattle.tlog_tree.specs.Inner.Leaves.{IsHashed, IsPlaceOf}
 use Rattle.tlog_tree.proofs.Leaves.{all_hashed, moved_places, one_more_place, own_places}
 use Rattle.tlog_tree.proofs.leaf.leaf_hashes.Goals as goal
 
@@ -36,47 +36,28 @@ loop-rest-init c =
       hashed = ([], refl, All-nil (λ (place : ℕ × ℕ). IsHashed E c.in_ok-hashes.hashes.items place.1));
     }
 
-pub hash_batch-requires : goal.hash_batch-requires
-hash_batch-requires c =
-    let rest = c.loop-rest.rest.now in
-    let batch = c.split_at.result.0.now in
-    record {
-      alike = (
-        (get_or rest 0 (0, 0)).0,
-        λ k d h.
-            let below : k < c.batch_len.result = omega (arith, c.split_at.ensures.front_len) in
-            let at = c.split_at.ensures.by_index.1 k d below in
-            let own = c.loop-rest.invariant.own k d (omega (arith, c.batch_len.ensures.within)) in
-            let is = c.batch_len.ensures.alike k d below in
-            rw at (record { is = is; within = own.within; own = own.own ∙ is }),
-      );
-      room = ap length c.deref_mut.ensures.value ∙ c.loop-rest.invariant.room;
-    }
-
 pub loop-rest-preserved : goal.loop-rest-preserved
 loop-rest-preserved c =
     let E = map bytes_of c.args.entries.now in
-    let after = c.hash_batch.new.hashes in
+    let after = c.hash_first.new.hashes in
     let before = c.loop-rest.hashes in
     let (done, front, hashed) = c.loop-rest.invariant.hashed in
-    let batch = c.split_at.result.0.now in
-    let longer = c.split_at.result.1.now in
+    let rest = c.loop-rest.rest.now in
     let size : length after ≡ length before.items =
-    c.hash_batch.auto.hashes ∙ ap length c.deref_mut.ensures.value in
+    c.hash_first.auto.hashes ∙ ap length c.deref_mut.ensures.value in
     let same = take_at after (drop (length after) before.items) before.len (size ∙ sym before.ok.0) in
-    let Own = λ (place : ℕ × ℕ). IsOfLength E place.0 place in
     let Hashed = λ (place : ℕ × ℕ). IsHashed E after place.1 in
-    rw same (record {
+    rw (same, take_rest rest c.in_ok-count.count) (record {
       room = size ∙ c.loop-rest.invariant.room;
-      own = rw c.split_at.ensures.back (All-drop Own c.batch_len.result c.loop-rest.rest.now c.loop-rest.invariant.own);
+      own = All-drop (IsPlaceOf E) c.in_ok-count.count rest c.loop-rest.invariant.own;
       hashed = (
-        done ++ batch,
-        front ∙ ap (λ (places : List (ℕ × ℕ)). done ++ places) c.split_at.ensures.by_index.0
-            ∙ sym (append_assoc done batch longer),
-        All-append Hashed done batch
-            (λ k d h. c.in_ok-hash_batch.ensures.kept (get_or done k d).1
+        done ++ take c.in_ok-count.count rest,
+        front ∙ ap (λ (places : List (ℕ × ℕ)). done ++ places) (sym (take-append-drop c.in_ok-count.count rest))
+            ∙ sym (append_assoc done (take c.in_ok-count.count rest) (drop c.in_ok-count.count rest)),
+        All-append Hashed done (take c.in_ok-count.count rest)
+            (λ k d h. c.in_ok-count.ensures.kept (get_or done k d).1
             (rw c.deref_mut.ensures.value (hashed k d h)))
-            c.in_ok-hash_batch.ensures.hashed,
+            c.in_ok-count.ensures.hashed,
       );
     })
 

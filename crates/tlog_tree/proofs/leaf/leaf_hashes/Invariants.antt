@@ -1,6 +1,6 @@
 use Rattle.std.proofs.Common.{◌≡◌, ℕ, List, ◌++◌, All, length, map}
 use Rattle.std.specs.List.{range_with_len}
-use Rattle.tlog_tree.specs.Inner.Leaves.{IsHashed, IsOfLength}
+use Rattle.tlog_tree.specs.Inner.Leaves.{IsHashed, IsPlaceOf}
 use Rattle.tlog_tree.proofs.Leaves.{place_of}
 use Rattle.tlog_tree.proofs.leaf.leaf_hashes.Given as goal
 
@@ -11,7 +11,7 @@ invariant-loop-index l =
 abbrev pub invariant-loop-rest : goal.invariant-loop-rest
 invariant-loop-rest l = record {
   room : length l.hashes.items ≡ length l.entries;
-  own : All (λ (place : ℕ × ℕ). IsOfLength (map (λ entry. entry.now) l.entries) place.0 place) l.rest;
+  own : All (IsPlaceOf (map (λ entry. entry.now) l.entries)) l.rest;
   hashed : (done : List (ℕ × ℕ)) × (l.initial.rest ≡ done ++ l.rest)
       × All (λ (place : ℕ × ℕ). IsHashed (map (λ entry. entry.now) l.entries) l.hashes.items place.1) done;
 }
