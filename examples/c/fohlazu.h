@@ -1,5 +1,5 @@
-/* Verifiers of logs as RFC 9162 has them, as Go's checksum database, Sigstore and Sigsum keep them. They take no memory
- * and keep nothing, so any threads may call them at once. */
+/* Verifiers of logs as RFC 9162 has them, as Go's checksum database, Sigstore and Sigsum keep them; and of openings of
+ * matrices. They keep nothing, so any threads may call them at once, and those of logs take no memory. */
 #ifndef FOHLAZU_H
 #define FOHLAZU_H
 
@@ -19,7 +19,13 @@ enum {
   FOHLAZU_TOO_FEW_DIGESTS = 4,   /* the proof ends before it leads to a root */
   FOHLAZU_TOO_MANY_DIGESTS = 5,  /* the proof leads to a root before it ends */
   FOHLAZU_OLD_ROOT_MISMATCH = 6, /* the proof leads to another old root */
-  FOHLAZU_ROOT_MISMATCH = 7      /* the proof leads to another root, in a proof of consistency another new one */
+  FOHLAZU_ROOT_MISMATCH = 7,     /* the proof leads to another root, in a proof of consistency another new one */
+  /* of openings alone, where 1 is of a height, 4 and 5 are of siblings, and 7 of the cap */
+  FOHLAZU_NO_SUCH_TREE = 8,     /* the arity or the rule is none */
+  FOHLAZU_NO_ROWS = 9,          /* no matrix has a row */
+  FOHLAZU_WRONG_HEIGHTS = 10,   /* no tree is over these heights */
+  FOHLAZU_WRONG_ROWS = 11,      /* the rows have more or fewer bytes than their widths */
+  FOHLAZU_OUT_OF_MEMORY = 12    /* memory ran out */
 };
 
 /* A digest has 32 bytes, and proof_length counts digests. No pointer may be null, also where a length is 0. What a
@@ -34,6 +40,29 @@ int fohlazu_verify_inclusion(uint64_t index, uint64_t size, const uint8_t leaf[3
  * 2.1.4.2). From size 0, whose root is SHA-256 of nothing, and between equal sizes there are no digests. */
 int fohlazu_verify_consistency(uint64_t old_size, uint64_t new_size, const uint8_t (*proof)[32], size_t proof_length,
                                const uint8_t old_root[32], const uint8_t new_root[32]);
+
+/* What a tree over matrices of bytes was built with, under SHA-256. */
+struct fohlazu_tree {
+  size_t cap_height; /* how far below the root the cap is, in levels */
+  uint8_t arity;     /* how many children a node has at most: 2, 4 or 8 */
+  uint8_t cap_rule;  /* FOHLAZU_LOWERED, or FOHLAZU_FIXED, whose cap may leave whole matrices unhashed */
+};
+
+enum { FOHLAZU_LOWERED = 0, FOHLAZU_FIXED = 1 };
+
+/* The dimensions of a matrix: rows, and bytes of a row. */
+struct fohlazu_size {
+  size_t height;
+  size_t width;
+};
+
+/* Verifies that the matrices of these sizes, whose tree has a cap of these roots, have the rows that belong to index,
+ * which counts rows of the tallest from 0. rows has the row of each matrix, in their order, one after another; siblings
+ * are the digests on the path to the cap. Tree, roots, sizes and index are the caller's own knowledge. It takes memory,
+ * and gives all of it back. */
+int fohlazu_verify_opening(const struct fohlazu_tree *tree, const uint8_t (*roots)[32], size_t roots_length,
+                           const struct fohlazu_size *sizes, size_t sizes_length, size_t index, const uint8_t *rows,
+                           size_t rows_length, const uint8_t (*siblings)[32], size_t siblings_length);
 
 /* Writes the leaf hash of an entry: SHA-256 of a byte 0 and the entry (RFC 9162, 2.1.1). leaf may not overlap it. */
 void fohlazu_leaf_hash(const uint8_t *entry, size_t length, uint8_t leaf[32]);

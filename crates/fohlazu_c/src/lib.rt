@@ -1,6 +1,10 @@
-//! The verifiers of logs (RFC 9162) as a library for C, on plain bytes: `examples/c/fohlazu.h` declares its calls. They
-//! take no memory, and keep nothing.
+//! The verifiers of logs (RFC 9162), and of openings of matrices, as a library for C, on plain bytes:
+//! `examples/c/fohlazu.h` declares its calls. They keep nothing, and those of logs take no memory.
 #![tactic(auto)]
+
+pub mod opening;
+pub mod setting;
+mod verdict;
 
 ghost use Rattle.std.specs.Prelude.{◌≡◌, ◌↔◌, ◌≤◌, pos};
 ghost use Rattle.std.specs.Result.{result_err};

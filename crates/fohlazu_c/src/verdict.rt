@@ -1,0 +1,127 @@
+//! The verdict on an opening of matrices of bytes, under SHA-256.
+
+ghost use Rattle.std.specs.Prelude.{◌≡◌, ◌⊎◌, map, Err, IfOk, IsOk, IsTrue};
+ghost use Rattle.std.specs.Result.{result_err};
+ghost use Rattle.p3_support.specs.Batches.{widths_of};
+ghost use Rattle.p3_support.specs.Shown.{row_lists};
+ghost use Rattle.p3_merkle_core.specs.Checks.{IsAccepted};
+ghost use Rattle.p3_merkle_core.specs.Refusals.{ok_unless};
+ghost use Rattle.p3_merkle_core.specs.declared.error.MerkleTreeError.TheVariants.{OutOfMemory};
+ghost use Rattle.fohlazu_c.specs.Openings.{cut_rows, is_arity_taken, opening_status, params_at, presented_opening};
+ghost use Rattle.fohlazu_c.specs.Openings.{refusal_at, size_shown};
+
+use crate::setting::MatrixSize;
+use p3_hashes::sha::{Sha256Nodes, Sha256Rows};
+use p3_merkle_core::cap::CapRule;
+use p3_merkle_core::error::MerkleTreeError;
+use p3_merkle_mmcs::mmcs::MerkleTreeMmcs;
+use p3_support::matrix::Dimensions;
+use p3_support::opening::{BatchOpeningRef, MerkleCap};
+use std::alloc::{AllocError, Global};
+
+/// What is claimed: the cap, the dimensions of the matrices, the index, their rows one after another, and the siblings.
+#[derive(Clone, Copy)]
+pub struct Claim<'a> {
+    pub roots: &'a [[u8; 32]],
+    pub sizes: &'a [MatrixSize],
+    pub index: usize,
+    pub rows: &'a [u8],
+    pub siblings: &'a [[u8; 32]],
+}
+
+/// The verdict on a claim under an arity.
+///
+/// # Errors
+///
+/// Those of `verify_batch`, or `OutOfMemory`.
+pub fn verdict<const N: usize>(
+    alloc: Global,
+    cap_height: usize,
+    rule: CapRule,
+    claim: Claim<'_>,
+) -> Result<(), MerkleTreeError>
+    requires { IsTrue (is_arity_taken N) }
+    ensures answer { let dimensions = map size_shown claim.entry.sizes.now in
+        (result ≡ Err OutOfMemory) ⊎ (result
+        ≡ ok_unless (refusal_at (params_at N cap_height rule dimensions) claim.entry.roots.now
+        (presented_opening dimensions claim.entry.index claim.entry.rows.now claim.entry.siblings.now)) tt) }
+    ensures accepted { let dimensions = map size_shown claim.entry.sizes.now in
+        IsOk result → IsAccepted (params_at N cap_height rule dimensions) claim.entry.roots.now
+        (presented_opening dimensions claim.entry.index claim.entry.rows.now claim.entry.siblings.now) }
+{
+    let dimensions = dimensions(alloc, claim.sizes)?;
+    let rows = cut(alloc, claim.sizes, claim.rows)?;
+    let siblings = Vec::from_slice(alloc, claim.siblings)?;
+    let cap = MerkleCap::new(Vec::from_slice(alloc, claim.roots)?);
+    let scheme = MerkleTreeMmcs::<u8, u8, Sha256Rows, Sha256Nodes<N>, N, 32>::new_with_rule(
+        Sha256Rows,
+        Sha256Nodes::<N>,
+        cap_height,
+        rule,
+    );
+    let opening = BatchOpeningRef::new(&rows, &siblings);
+    scheme.verify_batch(&cap, &dimensions, claim.index, opening)
+}
+
+/// The dimensions of matrices of these sizes.
+///
+/// # Errors
+///
+/// `AllocError` if memory runs out.
+fn dimensions(alloc: Global, sizes: &[MatrixSize]) -> Result<Vec<Dimensions>, AllocError>
+    ensures { IfOk result (λ dimensions. dimensions.items ≡ map size_shown sizes.now) }
+{
+    let mut dimensions = Vec::with_capacity(alloc, sizes.len())?;
+    for size in sizes {
+        dimensions.push(Dimensions {
+            width: size.width,
+            height: size.height,
+        })?;
+    }
+    Ok(dimensions)
+}
+
+/// Rows that lie one after another, cut by their widths: a row is short where the bytes end, and bytes that are left
+/// are a row too many.
+///
+/// # Errors
+///
+/// `AllocError` if memory runs out.
+fn cut(alloc: Global, sizes: &[MatrixSize], rows: &[u8]) -> Result<Vec<Vec<u8>>, AllocError>
+    ensures { IfOk result (λ cut. row_lists cut.items ≡ cut_rows (widths_of (map size_shown sizes.now)) rows.now) }
+{
+    let mut cut = Vec::new(alloc);
+    let mut left = rows;
+    for size in sizes {
+        let (row, rest) = left.split_at(size.width.min(left.len()));
+        cut.push(Vec::from_slice(alloc, row)?)?;
+        left = rest;
+    }
+    if !left.is_empty() {
+        cut.push(Vec::from_slice(alloc, left)?)?;
+    }
+    Ok(cut)
+}
+
+/// The status of a verdict.
+pub fn status(verdict: Result<(), MerkleTreeError>) -> i32
+    ensures { result ≡ opening_status (result_err verdict) }
+{
+    match verdict {
+        Ok(()) => 0,
+        Err(MerkleTreeError::TooLarge { .. }) => 1,
+        Err(MerkleTreeError::IndexOutOfBounds { .. }) => 2,
+        Err(
+            MerkleTreeError::WrongHeight {
+                expected_proof_len: expected,
+                num_siblings: got,
+            },
+        ) if got < expected => 4,
+        Err(MerkleTreeError::WrongHeight { .. }) => 5,
+        Err(MerkleTreeError::CapMismatch | MerkleTreeError::MalformedPrunedProof(_)) => 7,
+        Err(MerkleTreeError::EmptyBatch) => 9,
+        Err(MerkleTreeError::IncompatibleHeights { .. }) => 10,
+        Err(MerkleTreeError::WrongBatchSize { .. } | MerkleTreeError::WrongWidth { .. }) => 11,
+        Err(MerkleTreeError::OutOfMemory) => 12,
+    }
+}
