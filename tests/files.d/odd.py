@@ -107,6 +107,20 @@ def words_of_all_kinds(program):
     yield "--version", helped(program.run(["--version"]), b"fohlazu ")
 
 
+def wrong_words(program):
+    """Words that are no command, or leave open what is wanted; the model refuses them as well."""
+    wrong = ["", "bogus", "seal", "seal file file", "seal --arity 2 file", "seal --blocks 0 file"]
+    wrong += ["seal --blocks x file", "seal --part --origin a file", "seal --partial --whole-lines file"]
+    wrong += ["seal --blocks 1 --partial file", "prove new file", "prove new file 0"]
+    wrong += ["prove new file -1", "prove new file 18446744073709551616"]
+    wrong += ["verify - -", "verify --raw new proof", "verify --raw new proof 2 4", "verify --blocks 3 new proof"]
+    wrong += ["verify --raw --blocks 3 new proof 2", "verify-consistency old", "join part0 part1", "join --origin a"]
+    for words in wrong:
+        ran, answer = program.run(words.split(), CONTENTS), log_commands.answer(words.split(), CONTENTS.get)
+        is_right = ran.status == answer.status == 2 and answer.refused.name is None and not ran.printed and ran.said
+        yield f"fohlazu {words}", [] if is_right else [f"{ran}, {answer}"]
+
+
 def helped(ran, word):
     if ran.status != 0 or word not in ran.printed or ran.said:
         yield f"{ran}"
@@ -232,6 +246,6 @@ CHANGES = {"shrinks": shrink, "grows": grow, "changes": flip}
 
 def tests(program):
     """Each test with its faults."""
-    for each in (unread, unread_input, unwritten, words_of_all_kinds, streamed, changing, shrinking,
+    for each in (unread, unread_input, unwritten, words_of_all_kinds, wrong_words, streamed, changing, shrinking,
                  answers_of_rfc_6962):
         yield from each(program)
