@@ -138,7 +138,7 @@ def in_pieces(program, words, pieces):
 
 
 def streamed(program):
-    """Files that come byte by byte, that never end, and that are seals themselves."""
+    """Files that come byte by byte, and that never end; a number past the end leaves a file unread."""
     found = in_pieces(program, ["seal", "--origin", "odd", "-"], [DATA[at : at + 1] for at in range(len(DATA))])
     yield "a file that comes byte by byte", [] if found[:3] == (0, NEW, b"") else [f"{found}"]
     program.run(COMMANDS["prove"], CONTENTS)

@@ -108,10 +108,8 @@ pub(crate) fn parse_args<'a>(
 /// Why a command is not run.
 fn refusal_of(command: &Command<Input<'_>>) -> &'static str {
     match command {
-        Command::Verify { .. } =>
-            "--raw prints one entry, and --blocks those whose numbers are given",
-        _ =>
-            "an origin has 1 to 100 characters, no control character, and no space first or last: say --origin",
+        Command::Verify { .. } => "--raw prints one entry, and --blocks entries by their numbers",
+        _ => "--origin takes 1 to 100 characters, no control character, no space first or last",
     }
 }
 
@@ -126,7 +124,8 @@ impl<'a> Args<'a> {
             Source::File => ("FILE", 0),
             Source::Proof => ("PROOF", 0),
         };
-        self.texts(id).get(k).copied().unwrap_or("")
+        let names = self.found.get_strs(id);
+        names.and_then(|names| names.get(k).copied()).unwrap_or("")
     }
 
     /// The command of this name.
@@ -170,15 +169,10 @@ impl<'a> Args<'a> {
     fn stdin_count(&self) -> usize {
         let mut count: usize = 0;
         for id in ["CHECKPOINT", "OLD", "NEW", "FILE", "PROOF", "PART"] {
-            let names = self.texts(id).iter();
-            count = count.saturating_add(names.filter(|name| **name == "-").count());
+            let names = self.found.get_strs(id).unwrap_or(&[]);
+            count = count.saturating_add(names.iter().filter(|name| **name == "-").count());
         }
         count
-    }
-
-    /// The values of an argument.
-    fn texts(&self, id: &str) -> &[&'a str] {
-        self.found.get_strs(id).unwrap_or(&[])
     }
 
     /// An input that is required.
@@ -199,7 +193,7 @@ impl<'a> Args<'a> {
     /// The parts.
     fn parts(&self, alloc: Global) -> Result<Vec<Input<'a>>, AllocError> {
         let mut parts = Vec::new(alloc);
-        for name in self.texts("PART") {
+        for name in self.found.get_strs("PART").unwrap_or(&[]) {
             parts.push(self.input_of(name))?;
         }
         Ok(parts)
@@ -271,25 +265,18 @@ fn program<'a>(alloc: Global) -> Result<Syntax<'a>, AllocError> {
 
 /// An argument.
 fn argument<'a>(alloc: Global, id: &str) -> Result<Arg<'a>, AllocError> {
-    let bytes = value_parser!(usize).range(1..=1073741824);
     let number = value_parser!(usize).range(1..);
     Ok(match id {
         "origin" => arg!(in alloc; --origin <ORIGIN> "The log's name, if not `localhost/FILE`"),
         "origin!" => arg!(in alloc; --origin <ORIGIN> "The log's name").required(true),
         "part" => arg!(in alloc; --part "Print a part, for `join`").conflicts_with("origin")?,
         "blocks" =>
-            arg!(in alloc; --blocks <BYTES> "Take blocks of 1 to 1073741824 bytes as entries, not lines").value_parser(
-                bytes,
-            ),
-        "whole-lines" =>
-            arg!(in alloc; --"whole-lines" "Leave out a last line without a line feed").conflicts_with(
-                "blocks",
-            )?,
-        "partial" =>
-            arg!(in alloc; --partial "Take a last line without a line feed as an entry").conflicts_with_all(
-                &["blocks", "whole-lines"],
-            )?,
-        "raw" => arg!(in alloc; --raw "Print one entry byte for byte").conflicts_with("blocks")?,
+            arg!(in alloc; --blocks <BYTES> "Take blocks of 1 to 1073741824 bytes as entries")
+                .value_parser(value_parser!(usize).range(1..=1073741824))
+                .group("cut")?,
+        "whole-lines" => arg!(in alloc; --"whole-lines" "Leave out a partial line").group("cut")?,
+        "partial" => arg!(in alloc; --partial "Take a partial line as an entry").group("cut")?,
+        "raw" => arg!(in alloc; --raw "Print one entry byte for byte").group("cut")?,
         "CHECKPOINT" => arg!(in alloc; <CHECKPOINT> "The checkpoint"),
         "OLD" => arg!(in alloc; <OLD> "The old checkpoint"),
         "NEW" => arg!(in alloc; <NEW> "The new checkpoint"),

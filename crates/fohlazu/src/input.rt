@@ -1,5 +1,8 @@
 //! Inputs by their names.
 
+ghost use Rattle.std.specs.Counts.{IsPrefixLen};
+ghost use Rattle.std.specs.Prelude.{IfOk};
+
 use std::cell::Cell;
 use std::fs::File;
 use std::io;
@@ -19,13 +22,18 @@ pub(crate) struct Input<'a> {
 
 impl<'a> Input<'a> {
     /// Reads the next bytes.
-    fn read_next(&mut self, buf: &mut [u8]) -> io::Result<usize> {
+    fn read_next(&mut self, buf: &mut [u8]) -> io::Result<usize>
+        ensures { IfOk result (λ count. IsPrefixLen count buf.new) }
+    {
         if self.name == "-" {
             return self.rt.stdin().read(buf);
         }
-        let (file, left) = self
-            .file
-            .get_or_try_insert_with(|| open(self.rt, self.name))?;
+        if self.file.is_none() {
+            self.file = Some(open(self.rt, self.name)?);
+        }
+        let Some((file, left)) = &mut self.file else {
+            return Ok(0);
+        };
         let count = file.read(buf)?;
         if count == 0 && *left > 0 {
             return Err(Error::new(ErrorKind::UnexpectedEof, "it shrank while it was read"));
@@ -49,10 +57,8 @@ fn open(rt: &HostRuntime, name: &str) -> io::Result<(File, u64)> {
 
 impl<'a> Read for Input<'a> {
     fn read(&mut self, buf: &mut [u8]) -> io::Result<usize> {
-        let result = self.read_next(buf);
-        if let Err(error) = &result {
-            self.failure.set(Some(*error));
-        }
-        result
+        let failure = self.failure;
+        self.read_next(buf)
+            .inspect_err(|error| failure.set(Some(*error)))
     }
 }
