@@ -1,18 +1,12 @@
 """Files that can't be read or written, files that change, and words that ask for help."""
 
-import json
 import os
 import random
-import shutil
 import signal
 import subprocess
 import threading
-from base64 import b64encode
-from pathlib import Path
 
 import log_commands
-import logs
-from log_texts import checkpoint_text
 from running import Ran, is_line
 
 DATA = b"one\ntwo\n\nfour\n"
@@ -194,29 +188,6 @@ def shrinking(program):
         yield "a file that shrinks", refused(program.run(["seal", path]), 2, f"{path}: it shrank while it was read")
 
 
-def answers_of_rfc_6962(program):
-    """Answers of a log by RFC 6962, by the lines of docs/FILES.md; its entries have line feeds inside."""
-    if shutil.which("jq") is None:
-        return
-    page = (Path(__file__).resolve().parents[2] / "docs" / "FILES.md").read_text()
-    lines = page[page.index("    jq -r") :].partition("\n\n")[0]
-    log = logs.Log([b"%d\n\0" % number for number in range(1, 12)])
-    root, *growth = (b64encode(digest).decode() for digest in (log.root(0, 11), *log.subproof(3, 0, 11, True)))
-    leaf, *path = (b64encode(data).decode() for data in (b"5\n\0", *log.path(4, 0, 11)))
-    answers = {"sth": {"tree_size": 11, "sha256_root_hash": root}, "growth": {"consistency": growth}}
-    answers["entry"] = {"leaf_input": leaf, "audit_path": path}
-    for name, answer in answers.items():
-        program.write(f"{name}.json", json.dumps(answer).encode())
-    (program.folder / "fohlazu").symlink_to(program.path)
-    path = f"{program.folder}:{os.environ['PATH']}"
-    ran = subprocess.run(["sh", "-ec", lines], cwd=program.folder, env={"PATH": path}, capture_output=True)
-    yield "answers of RFC 6962", [] if ran.returncode == 0 and not ran.stdout + ran.stderr else [f"{ran}"]
-    old = checkpoint_text(b"log.example", 3, log.root(0, 3))
-    found = program.run(["verify-consistency", "old", "growth"], {"old": old})
-    new = (0, checkpoint_text(b"log.example", 11, log.root(0, 11)), b"")
-    yield "growth by RFC 6962", [] if found[:3] == new else [f"{found}"]
-
-
 def right_or_refused(proof, ran):
     """What is wrong about an answer that may be the proof of the file as it was, or a refusal."""
     if ran.status == 0:
@@ -246,6 +217,5 @@ CHANGES = {"shrinks": shrink, "grows": grow, "changes": flip}
 
 def tests(program):
     """Each test with its faults."""
-    for each in (unread, unread_input, unwritten, words_of_all_kinds, wrong_words, streamed, changing, shrinking,
-                 answers_of_rfc_6962):
+    for each in (unread, unread_input, unwritten, words_of_all_kinds, wrong_words, streamed, changing, shrinking):
         yield from each(program)

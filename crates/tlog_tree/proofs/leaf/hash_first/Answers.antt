@@ -1,4 +1,4 @@
-use Rattle.std.proofs.Common.{◌≡◌, ℕ, ◌<◌, List, Bor, arith, get_or, length, map}
+use Rattle.std.proofs.Common.{ℕ, List, Bor, arith, get_or, map}
 use Rattle.std.proofs.lemmas.List.{length-map}
 use Rattle.std.proofs.lemmas.List.Elements.{All-take}
 use Rattle.tlog_tree.specs.Inner.Leaves.{IsPlaceOf}

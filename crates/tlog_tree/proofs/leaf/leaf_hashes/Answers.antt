@@ -1,4 +1,4 @@
-use Rattle.std.proofs.Common.{◌≡◌, ◌++◌, [], ℕ, ◌<◌, ◌∙◌, All, List, Bor, ap, append_assoc, append-nil, arith}
+use Rattle.std.proofs.Common.{◌≡◌, ◌++◌, [], ℕ, ◌∙◌, All, List, Bor, ap, append_assoc, append-nil, arith}
 use Rattle.std.proofs.Common.{drop, get_or, length, map, refl, subst, sym, take}
 use Rattle.std.proofs.lemmas.List.{get_or-map, length-map, nil_from_length, take-append-drop, take_at, take_rest}
 use Rattle.std.proofs.lemmas.List.Elements.{All-append, All-drop, All-nil}

@@ -1,4 +1,4 @@
-use Rattle.std.proofs.Common.{ℕ, ◌<◌, List, [], arith, below_more, get_or, length, set, subst}
+use Rattle.std.proofs.Common.{ℕ, ◌<◌, [], arith, below_more, get_or, length, set, subst}
 use Rattle.std.proofs.lemmas.List.{get_or_default}
 use Rattle.tlog_tree.specs.Inner.Leaves.{IsHashed}
 use Rattle.tlog_tree.proofs.Leaves.{hashed_there, stays_hashed}
