@@ -1,8 +1,7 @@
 -- The tree of the entries that have ended, as bytes of a file come.
-use Rattle.std.proofs.Common.{◌≡◌, ◌⊎◌, ◌∙◌, ◌++◌, ◌+◌, ◌-◌, ◌^◌, ◌<◌, ◌≤◌, [], ℕ, List, Bool, true, false}
-use Rattle.std.proofs.Common.{if◌then◌else◌, ap, append-nil, append_assoc, arith, inl, inr, leb-false, length}
-use Rattle.std.proofs.Common.{length-append, length-take, map, nat_le, nat_lt, refl, subst, sym, take, Option, None}
-use Rattle.std.proofs.Common.{Some}
+use Rattle.std.proofs.Common.{if◌then◌else◌, length-append, append_assoc, length-take, append-nil, leb-false, length, ℕ}
+use Rattle.std.proofs.Common.{nat_le, nat_lt, Option, false, arith, subst, ◌++◌, List, Bool, true, refl, take, None, []}
+use Rattle.std.proofs.Common.{Some, ◌≡◌, ◌⊎◌, ◌∙◌, ◌+◌, ◌-◌, ◌^◌, ◌<◌, ◌≤◌, inl, inr, map, sym, ap}
 use Rattle.std.specs.Prelude.{unwrap_or}
 use Rattle.std.proofs.lemmas.Bool.{le-leb, lt-leb, ltb-true}
 use Rattle.std.proofs.lemmas.List.{length-map, map-append}

@@ -1,5 +1,5 @@
 -- Where a file is cut, as its bytes come.
-use Rattle.std.proofs.Common.{◌≡◌, ℕ, ◌<◌, List, [], ◌∷◌, ◌++◌, All, length, sym, ap, ◌∙◌, arith, subst, refl}
+use Rattle.std.proofs.Common.{◌≡◌, ℕ, ◌<◌, List, [], ◌∷◌, ◌++◌, All, length, sym, ap, ◌∙◌, arith, refl}
 use Rattle.std.proofs.Common.{append_assoc, append-nil, length-append}
 use Rattle.std.proofs.lemmas.List.Elements.{All-append, All-cons, All-head, All-nil, All-tail}
 use Rattle.log_files.specs.Entries.{rest_of, whole_entries, IsCut}
@@ -19,10 +19,8 @@ pub cut_more : (cut : Cut) (front more : List ℕ) (ended : List (List ℕ)) (op
 cut_more cut front more ended open_bytes at opens =
     record {
       opens = opens;
-      whole = λ rest. ap (whole_entries cut) (append_assoc front more rest) ∙ at.whole (more ++ rest)
-          ∙ ap (λ xs. ended ++ whole_entries cut xs) (sym (append_assoc open_bytes more rest));
-      rest = λ rest. ap (rest_of cut) (append_assoc front more rest) ∙ at.rest (more ++ rest)
-          ∙ ap (rest_of cut) (sym (append_assoc open_bytes more rest));
+      whole = λ rest. rw (append_assoc front more rest, append_assoc open_bytes more rest) (at.whole (more ++ rest));
+      rest = λ rest. rw (append_assoc front more rest, append_assoc open_bytes more rest) (at.rest (more ++ rest));
     }
 
 -- the open entry ends
@@ -49,43 +47,28 @@ pub cut_whole : (cut : Cut) (front : List ℕ) (ended entries : List (List ℕ))
     IsCutAt cut front ended [] → All (IsWhole cut) entries →
     IsCutAt cut (front ++ joined cut entries) (ended ++ entries) []
 cut_whole cut front ended [] is at whole =
-    subst (λ xs. IsCutAt cut xs (ended ++ []) []) (sym (append-nil front))
-    (subst (λ xs. IsCutAt cut front xs []) (sym (append-nil ended)) at)
+    rw (append-nil front, append-nil ended) (at)
 cut_whole cut front ended (entry ∷ entries) is at whole =
     let first = cut_end cut front entry ended [] is at (All-head (IsWhole cut) entry entries whole) in
-    let all = cut_whole cut (front ++ (entry ++ ending cut)) (ended ++ entry ∷ []) entries is first
-    (All-tail (IsWhole cut) entry entries whole) in
-    subst (λ xs. IsCutAt cut xs (ended ++ entry ∷ entries) [])
-    (append_assoc front (entry ++ ending cut) (joined cut entries)
-    ∙ ap (λ xs. front ++ xs) (append_assoc entry (ending cut) (joined cut entries)))
-    (subst (λ xs. IsCutAt cut ((front ++ (entry ++ ending cut)) ++ joined cut entries) xs [])
-    (append_assoc ended (entry ∷ []) entries) all)
+    simp append_assoc at (cut_whole cut (front ++ (entry ++ ending cut)) (ended ++ entry ∷ []) entries is first
+    (All-tail (IsWhole cut) entry entries whole))
 
 -- after an entry's end fewer bytes are left
 pub fewer_left : (cut : Cut) (open_bytes more rest left : List ℕ) → IsOpen cut open_bytes →
     IsWhole cut (open_bytes ++ more) → left ≡ more ++ (ending cut ++ rest) → length rest < length left
 fewer_left (Lines partial) open_bytes more rest left opens whole parts =
-    let all = ap length parts ∙ length-append more (10 ∷ rest) in omega (arith, all)
+    omega (arith, ap length parts, length-append {A = ℕ})
 fewer_left (Blocks size) open_bytes more rest left opens whole parts =
-    let all = ap length parts ∙ length-append more rest in
-    let long = length-append open_bytes more in
-    omega (arith, all, long, whole, opens)
+    omega (arith, ap length parts, length-append {A = ℕ}, whole, opens)
 
 -- ---- whole entries at the head of bytes
 
 pub none_at_head : (cut : Cut) (bytes : List ℕ) → AreAtHead cut bytes bytes []
 none_at_head cut bytes = record { parts = refl; whole = All-nil (IsWhole cut) }
 
-joined_more : (cut : Cut) (entry : List ℕ) (entries : List (List ℕ)) (rest : List ℕ) →
-    joined cut (entry ∷ entries) ++ rest ≡ entry ++ (ending cut ++ (joined cut entries ++ rest))
-joined_more cut entry entries rest =
-    append_assoc entry (ending cut ++ joined cut entries) rest
-    ∙ ap (λ xs. entry ++ xs) (append_assoc (ending cut) (joined cut entries) rest)
-
 joined_append : (cut : Cut) (xs ys : List (List ℕ)) → joined cut (xs ++ ys) ≡ joined cut xs ++ joined cut ys
 joined_append cut [] ys = refl
-joined_append cut (x ∷ xs) ys =
-    ap (λ zs. x ++ (ending cut ++ zs)) (joined_append cut xs ys) ∙ sym (joined_more cut x xs (joined cut ys))
+joined_append cut (x ∷ xs) ys = rw (joined_append cut xs ys) (sym (simp append_assoc))
 
 -- one more
 pub more_at_head : (cut : Cut) (bytes left rest entry : List ℕ) (entries : List (List ℕ)) →
@@ -93,12 +76,8 @@ pub more_at_head : (cut : Cut) (bytes left rest entry : List ℕ) (entries : Lis
     AreAtHead cut bytes rest (entries ++ entry ∷ [])
 more_at_head cut bytes left rest entry entries at_head parts whole =
     record {
-      parts = at_head.parts
-          ∙ ap (λ xs. joined cut entries ++ xs)
-          (parts ∙ ap (λ xs. entry ++ xs) (ap (λ xs. xs ++ rest) (sym (append-nil (ending cut))))
-          ∙ sym (append_assoc entry (ending cut ++ []) rest))
-          ∙ sym (append_assoc (joined cut entries) (joined cut (entry ∷ [])) rest)
-          ∙ ap (λ xs. xs ++ rest) (sym (joined_append cut entries (entry ∷ [])));
+      parts = at_head.parts ∙ ap (λ xs. joined cut entries ++ xs) parts
+          ∙ sym (rw (joined_append cut entries (entry ∷ [])) (simp (append_assoc, append-nil)));
       whole = All-append (IsWhole cut) entries (entry ∷ []) at_head.whole
           (All-cons (IsWhole cut) entry [] whole (All-nil (IsWhole cut)));
     }

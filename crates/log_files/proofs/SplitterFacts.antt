@@ -31,7 +31,7 @@ whole_read wanted s t front bytes rest ended entries hashes is same b none head 
       at = record {
         open_bytes = [];
         holds = holds;
-        at = subst (λ k. IsCutAt k (front ++ joined s.cut entries) (ended ++ entries) []) (sym same) at;
+        at = rw same at;
       };
       hashed = hashed;
     }
@@ -60,8 +60,7 @@ open_ended wanted s t front bytes more rest ended is same b parts whole holds =
       at = record {
         open_bytes = [];
         holds = holds;
-        at = subst (λ k. IsCutAt k (front ++ (more ++ ending s.cut)) (ended ++ entry ∷ []) []) (sym same)
-            (cut_end s.cut front more ended b.open_bytes is b.at whole);
+        at = rw same (cut_end s.cut front more ended b.open_bytes is b.at whole);
       };
       hashed = refl;
     }
@@ -79,8 +78,7 @@ open_grown wanted s t front bytes rest ended same b none opens holds =
       at = subst (IsAt wanted t (front ++ bytes)) (sym (append-nil ended)) (record {
         open_bytes = grown;
         holds = holds;
-        at = subst (λ k. IsCutAt k (front ++ bytes) ended grown) (sym same)
-            (cut_more s.cut front bytes ended b.open_bytes b.at opens);
+        at = rw same (cut_more s.cut front bytes ended b.open_bytes b.at opens);
       });
       hashed = refl;
     }
@@ -93,7 +91,7 @@ ready_after s t bytes rest hashes ready same places step =
     let (wanted, front, ended, b) = ready.stands in
     let read = step wanted front ended b in
     record {
-      cut = subst IsCut (sym same) ready.cut;
+      cut = rw same ready.cut;
       places = places;
       stands = (wanted, front ++ read.read, ended ++ read.more, read.at);
     }

@@ -4,23 +4,20 @@ ghost use Rattle.std.specs.Prelude.{◌≡◌};
 ghost use Rattle.log_files.specs.Errors.{read_error_of};
 ghost use Rattle.log_files.specs.declared.error.ReadError.TheVariants.{OutOfMemory};
 
-use std::alloc::{AllocError, AllocFailed};
+use std::alloc::AllocError;
 use thiserror::Error;
 use tlog_tree::TreeError;
 
 /// Why the entries of a file are not read. It prints as one line.
 #[derive(Clone, Copy, Debug, PartialEq, Eq, Error)]
 pub enum ReadError {
-    /// A read failed.
     #[error("cannot be read")]
     Read,
-    /// The file has more than 2^62 entries.
     #[error("has more than 2^62 entries")]
     TooManyEntries,
     /// The file ends inside a line, and a partial line is refused.
     #[error("ends inside a line")]
     EndsInsideLine,
-    /// Memory ran out.
     #[error("out of memory")]
     OutOfMemory,
 }
@@ -29,14 +26,6 @@ impl From<AllocError> for ReadError {
     ghost from_gives = { λ _ e. e ≡ OutOfMemory };
 
     fn from(_error: AllocError) -> ReadError {
-        ReadError::OutOfMemory
-    }
-}
-
-impl<T: Drop> From<AllocFailed<T>> for ReadError {
-    ghost from_gives = { λ _ e. e ≡ OutOfMemory };
-
-    fn from(_error: AllocFailed<T>) -> ReadError {
         ReadError::OutOfMemory
     }
 }

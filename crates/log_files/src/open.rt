@@ -1,8 +1,6 @@
 //! The entry of a file that has begun and not ended.
 
 ghost use Rattle.std.specs.Prelude.{◌≡◌, ℕ, List, [], ◌++◌};
-ghost use Rattle.sha2.specs.Sha256.{sha256};
-ghost use Rattle.tlog.specs.Rfc9162.{leaf_hash};
 ghost use Rattle.log_files.specs.Inner.Splitting.{HoldsOpen};
 
 use sha2::{Digest, Sha256};
@@ -11,7 +9,7 @@ use sha2::{Digest, Sha256};
 #[derive(Drop)]
 pub(crate) struct OpenEntry {
     /// Has read a byte 0 and the bytes so far.
-    hasher: Sha256,
+    pub(crate) hasher: Sha256,
     /// How many bytes there are so far, up to `usize::MAX`.
     pub(crate) len: usize,
 }
@@ -32,12 +30,5 @@ impl OpenEntry {
     {
         self.hasher.update(more);
         self.len = self.len.saturating_add(more.len());
-    }
-
-    /// Its leaf hash, once it has ended.
-    pub(crate) fn leaf_hash(self) -> [u8; 32]
-        ensures { (bytes : List ℕ) → HoldsOpen self bytes → result ≡ leaf_hash sha256 bytes }
-    {
-        self.hasher.finalize()
     }
 }

@@ -13,6 +13,7 @@ use crate::cut::{Cut, PartialLine};
 use crate::error::ReadError;
 use crate::open::OpenEntry;
 use crate::wanted::WantedEntries;
+use sha2::Digest;
 use std::alloc::{AllocError, Global};
 use std::mem;
 use tlog_tree::leaf_hashes;
@@ -86,8 +87,7 @@ impl<'a> Splitter<'a> {
             Some((more, rest)) => {
                 self.open_entry.push(more);
                 self.wanted.push(self.count, more)?;
-                let hash = self.end(alloc)?;
-                Ok((vec![in alloc; hash]?, rest))
+                Ok((self.end(alloc)?, rest))
             }
             None => {
                 self.open_entry.push(bytes);
@@ -97,21 +97,21 @@ impl<'a> Splitter<'a> {
         }
     }
 
-    /// Ends the open entry, and returns its leaf hash.
-    fn end(&mut self, alloc: Global) -> Result<[u8; 32], AllocError>
+    /// Ends the open entry, and returns its leaf hash alone.
+    fn end(&mut self, alloc: Global) -> Result<Vec<[u8; 32]>, AllocError>
         requires places { HasPlaces self.old.wanted }
         requires room { self.old.count < self.old.limit }
         ensures places { OnOk result (HasPlaces self.new.wanted) }
         ensures same { OnOk result ((self.new.cut ≡ self.old.cut) × (self.new.limit ≡ self.old.limit)) }
         ensures holds { (wanted : List ℕ) (ended : List (List ℕ)) (bytes : List ℕ) →
             Holds wanted self.old ended bytes →
-            IfOk result (λ hash. Holds wanted self.new (ended ++ bytes ∷ []) []
-            × (hash ≡ leaf_hash sha256 bytes)) }
+            IfOk result (λ hashes. Holds wanted self.new (ended ++ bytes ∷ []) []
+            × (hashes.items ≡ leaf_hash sha256 bytes ∷ [])) }
     {
         let entry = mem::replace(&mut self.open_entry, OpenEntry::new());
         self.wanted.end(alloc, self.count)?;
         self.count += 1;
-        Ok(entry.leaf_hash())
+        Ok(vec![in alloc; entry.hasher.finalize()]?)
     }
 
     /// Ends the file, or what is read of it. Returns the leaf hash of a last entry that ends with the file.
@@ -133,10 +133,7 @@ impl<'a> Splitter<'a> {
         match self.cut.partial() {
             PartialLine::Refuse => Err(ReadError::EndsInsideLine),
             PartialLine::LeaveOut => Ok(Vec::new(alloc)),
-            PartialLine::Include => {
-                let hash = self.end(alloc)?;
-                Ok(vec![in alloc; hash]?)
-            }
+            PartialLine::Include => Ok(self.end(alloc)?),
         }
     }
 }

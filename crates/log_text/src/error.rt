@@ -18,7 +18,6 @@ pub enum TextError {
         /// What is expected there.
         expected: Expected,
     },
-    /// Memory ran out.
     #[error("out of memory")]
     OutOfMemory,
 }

@@ -1,14 +1,7 @@
 //! What follows from the definitions, as the contracts of calls that do nothing.
 
-ghost use Rattle.log_text.specs.Laws.{
-  CheckpointsAreReadAgain,
-  ConsistencyProofsAreSpelled,
-  EntriesProofsAreSpelled,
-  NotesAreSpelled,
-  PartsAreSpelled,
-  SignaturesChangeNothing,
-  ThreeLinesAreSpelled,
-};
+ghost use Rattle.log_text.specs.Laws.{CheckpointsAreReadAgain, ConsistencyProofsAreSpelled, EntriesProofsAreSpelled};
+ghost use Rattle.log_text.specs.Laws.{NotesAreSpelled, PartsAreSpelled, SignaturesChangeNothing, ThreeLinesAreSpelled};
 
 /// A note is read as a checkpoint exactly if it is that checkpoint's text with any extension lines and signatures, and
 /// the checkpoint is no part.

@@ -1,4 +1,4 @@
-use Rattle.std.proofs.Common.{[], ◌∷◌, arith, length-append, subst, sym}
+use Rattle.std.proofs.Common.{[], ◌∷◌, ◌∙◌, ap, arith, length-append, subst, sym}
 use Rattle.log_files.specs.Inner.Splitting.{HoldsOpen}
 use Rattle.log_files.proofs.splitter.Splitter.end.Goals as goal
 
@@ -12,5 +12,5 @@ returns-clause-holds c =
         opened = subst (λ o. HoldsOpen o []) (sym c.replace-entry.ensures.after) c.new.ensures;
         kept = c.in_ok-end.ensures.holds wanted ended bytes holds.counted holds.kept;
       },
-      c.leaf_hash.ensures bytes entry,
+      c.in_ok-vec.ensures.items ∙ ap (λ d. d ∷ []) (c.finalize.ensures (0 ∷ bytes) entry.hashed),
     )

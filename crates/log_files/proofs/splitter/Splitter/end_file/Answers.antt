@@ -1,8 +1,7 @@
 -- The open entry is the last, or is left out, or the file is refused.
-use Rattle.std.proofs.Common.{◌≡◌, ◌⊎◌, ◌≤◌, ◌∙◌, ◌∷◌, ◌++◌, [], ℕ, List, ap, arith, false, inl, inr, leb-false}
-use Rattle.std.proofs.Common.{leb-true, nat_le, refl, subst, sym}
+use Rattle.std.proofs.Common.{◌≡◌, ◌⊎◌, ◌≤◌, ◌∙◌, [], ℕ, List, arith, false, inl, inr, leb-false}
+use Rattle.std.proofs.Common.{leb-true, nat_le, refl, sym}
 use Rattle.std.proofs.lemmas.List.{nil_from_length}
-use Rattle.log_files.specs.Inner.Splitting.{AreAll}
 use Rattle.log_files.proofs.EndFacts.{all_when_closed, all_when_full, all_when_included, all_when_left_out}
 use Rattle.log_files.proofs.EndFacts.{refused_when_open}
 use Rattle.log_files.proofs.splitter.Splitter.end_file.Goals as goal
@@ -17,7 +16,7 @@ pub returns-then-is_full-clause-all : goal.returns-then-is_full-clause-all
 returns-then-is_full-clause-all c =
     let s = c.args.self.now in
     λ wanted front rest ended b end.
-    subst (AreAll wanted s.wanted s.cut s.limit ended (front ++ rest)) (sym c.new.ensures.items)
+    rw c.new.ensures.items
     (elim c.then-is_full.branch [
       | then-is_full-via-then-is_full w ↦
           all_when_full wanted s front rest ended b
@@ -42,20 +41,19 @@ pub returns-in-LeaveOut-clause-all : goal.returns-in-LeaveOut-clause-all
 returns-in-LeaveOut-clause-all c =
     let s = c.args.self.now in
     λ wanted front rest ended b end.
-    subst (AreAll wanted s.wanted s.cut s.limit ended (front ++ rest)) (sym c.new-in-LeaveOut.ensures.items)
+    rw c.new-in-LeaveOut.ensures.items
     (all_when_left_out wanted s front rest ended b
     (no_rest rest s.limit s.count (sym c.is_full.ensures ∙ c.if-is_full.false) end)
     (sym c.partial.ensures ∙ c.in-LeaveOut.is))
 
-pub returns-in_ok-vec-in-Include-clause-all : goal.returns-in_ok-vec-in-Include-clause-all
-returns-in_ok-vec-in-Include-clause-all c =
+pub returns-in_ok-end-in-Include-clause-all : goal.returns-in_ok-end-in-Include-clause-all
+returns-in_ok-end-in-Include-clause-all c =
     let s = c.args.self.now in
     let w = c.end.new.self.wanted in
     let room = sym c.is_full.ensures ∙ c.if-is_full.false in
     λ wanted front rest ended b end.
-    let with_end = c.in_ok-hash-in-Include.ensures.holds wanted ended b.open_bytes b.holds in
-    subst (AreAll wanted w s.cut s.limit ended (front ++ rest))
-    (sym (c.in_ok-vec-in-Include.ensures.items ∙ ap (λ d. d ∷ []) with_end.1))
+    let with_end = c.in_ok-end-in-Include.ensures.holds wanted ended b.open_bytes b.holds in
+    rw with_end.1
     (all_when_included wanted s front rest ended b w (no_rest rest s.limit s.count room end)
     (sym c.partial.ensures ∙ c.in-Include.is) (leb-false s.limit s.count room)
     (λ none. c.if-self-eq0.false (omega (arith, none, b.holds.opened.counted))) with_end.0.kept)

@@ -1,12 +1,12 @@
 -- Whole entries are read, where none is open and there are any, else bytes of the open one.
-use Rattle.std.proofs.Common.{◌≡◌, ◌+◌, ◌-◌, ◌∙◌, ◌∷◌, ◌++◌, [], List, ℕ, Bor, ap, arith, drop, length, length-append}
+use Rattle.std.proofs.Common.{◌≡◌, ◌+◌, ◌-◌, ◌∙◌, ◌++◌, [], List, ℕ, Bor, ap, arith, drop, length, length-append}
 use Rattle.std.proofs.Common.{map, refl, subst, sym, take}
 use Rattle.std.proofs.lemmas.Bool.{eqb-false}
 use Rattle.std.proofs.lemmas.List.{length-map, nil_from_length}
 use Rattle.std.proofs.lemmas.Simd.{map-map}
 use Rattle.sha2.specs.Sha256.{sha256}
 use Rattle.tlog.specs.Rfc9162.{leaf_hash}
-use Rattle.log_files.specs.Inner.Splitting.{HasRead, HoldsOpen}
+use Rattle.log_files.specs.Inner.Splitting.{HoldsOpen}
 use Rattle.log_files.specs.Inner.Wanted.{HoldsWanted}
 use Rattle.log_files.specs.declared.splitter.Splitter.{Splitter}
 use Rattle.log_files.proofs.CutFacts.{fewer_left}
@@ -62,8 +62,8 @@ returns-then-not-is_empty-clause-fewer c =
     c.requires.ready.cut c.in_ok-entries.ensures.1
     (omega (arith, some, found.ok.0, length-map found.items bytes_of))
 
-pub returns-in_ok-vec-in-Some-clause-read : goal.returns-in_ok-vec-in-Some-clause-read
-returns-in_ok-vec-in-Some-clause-read c =
+pub returns-in_ok-end-in-Some-clause-read : goal.returns-in_ok-end-in-Some-clause-read
+returns-in_ok-end-in-Some-clause-read c =
     let s = c.args.self.now in
     let t = c.end.new.self in
     let bytes = c.args.bytes.now in
@@ -71,24 +71,23 @@ returns-in_ok-vec-in-Some-clause-read c =
     let rest = c.in-Some.rest.now in
     λ wanted front ended b.
     let parts = c.in-Some.ensures b.open_bytes b.holds.opened.counted b.at.opens in
-    let with_end = c.in_ok-hash-in-Some.ensures.holds wanted ended (b.open_bytes ++ more) (record {
+    let with_end = c.in_ok-end-in-Some.ensures.holds wanted ended (b.open_bytes ++ more) (record {
       counted = b.holds.counted;
       within = b.holds.within;
       opened = c.push.ensures b.open_bytes b.holds.opened;
       kept = c.in_ok-push-in-Some.ensures.holds wanted ended b.open_bytes b.holds.counted b.holds.kept;
     }) in
-    subst (HasRead wanted t front ended bytes rest)
-    (sym (c.in_ok-vec-in-Some.ensures.items ∙ ap (λ d. d ∷ []) with_end.1))
-    (open_ended wanted s t front bytes more rest ended c.requires.ready.cut c.in_ok-hash-in-Some.ensures.same.0 b parts.0
+    rw with_end.1
+    (open_ended wanted s t front bytes more rest ended c.requires.ready.cut c.in_ok-end-in-Some.ensures.same.0 b parts.0
     parts.1 with_end.0)
 
-pub returns-in_ok-vec-in-Some-clause-ready : goal.returns-in_ok-vec-in-Some-clause-ready
-returns-in_ok-vec-in-Some-clause-ready c =
+pub returns-in_ok-end-in-Some-clause-ready : goal.returns-in_ok-end-in-Some-clause-ready
+returns-in_ok-end-in-Some-clause-ready c =
     ready_after c.args.self.now c.end.new.self c.args.bytes.now c.in-Some.rest.now _ c.requires.ready
-    c.in_ok-hash-in-Some.ensures.same.0 c.in_ok-hash-in-Some.ensures.places (returns-in_ok-vec-in-Some-clause-read c)
+    c.in_ok-end-in-Some.ensures.same.0 c.in_ok-end-in-Some.ensures.places (returns-in_ok-end-in-Some-clause-read c)
 
-pub returns-in_ok-vec-in-Some-clause-fewer : goal.returns-in_ok-vec-in-Some-clause-fewer
-returns-in_ok-vec-in-Some-clause-fewer c =
+pub returns-in_ok-end-in-Some-clause-fewer : goal.returns-in_ok-end-in-Some-clause-fewer
+returns-in_ok-end-in-Some-clause-fewer c =
     let (wanted, front, ended, b) = c.requires.ready.stands in
     let parts = c.in-Some.ensures b.open_bytes b.holds.opened.counted b.at.opens in
     fewer_left c.args.self.now.cut b.open_bytes c.in-Some.more.now c.in-Some.rest.now c.args.bytes.now b.at.opens
