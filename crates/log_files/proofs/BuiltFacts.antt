@@ -15,7 +15,7 @@ use Rattle.tlog_tree.specs.declared.error.TreeError.TheVariants.{SizeTooLarge, O
 use Rattle.log_files.specs.Entries.{entries_in, is_refused, read_refusal, wanted_of}
 use Rattle.log_files.specs.Errors.{read_error_of}
 use Rattle.log_files.specs.Logs.{IsLogOf}
-use Rattle.log_files.specs.Inner.Splitting.{AreAll, AreTooMany, HasBuilt, HasGrown, HasRead, IsAt}
+use Rattle.log_files.specs.Inner.Splitting.{AreAll, AreTooMany, HasBuilt, HasGrown}
 use Rattle.log_files.specs.Inner.Wanted.{HoldsWanted}
 use Rattle.log_files.specs.declared.cut.Cut.{Cut}
 use Rattle.log_files.specs.declared.error.ReadError.{ReadError}
@@ -23,7 +23,6 @@ use Rattle.log_files.specs.declared.error.ReadError.TheVariants.{EndsInsideLine,
 use Rattle.log_files.specs.declared.reading.ReadLog.{ReadLog}
 use Rattle.log_files.specs.declared.splitter.Splitter.{Splitter}
 use Rattle.log_files.specs.declared.wanted.WantedEntries.{WantedEntries}
-use Rattle.log_files.proofs.EndFacts.{many_at}
 
 -- why a file is not read, by two tests
 abbrev pub refusal_of : Bool → Bool → Option ReadError
@@ -31,26 +30,6 @@ refusal_of few refused = if few then (if refused then Some EndsInsideLine else N
 
 abbrev pub leaves : List (List ℕ) → List (List ℕ)
 leaves entries = map (leaf_hash sha256) entries
-
--- more entries have ended
-pub built_more : (nodes : List (ℕ × ℕ)) (wanted : List ℕ) (s t : Splitter) (tree grown : TreeBuilder)
-    (front left rest : List ℕ) (hashes : List (List ℕ)) → HasBuilt nodes wanted s tree front →
-    ((at : List ℕ) (ended : List (List ℕ)) → IsAt wanted s at ended →
-    HasRead wanted t at ended left rest hashes) →
-    ((before : List (List ℕ)) → IsBuilderOf before nodes tree → IsBuilderOf (before ++ hashes) nodes grown) →
-    (taken : List ℕ) × (left ≡ taken ++ rest) × HasBuilt nodes wanted t grown (front ++ taken)
-built_more nodes wanted s t tree grown front left rest hashes b reads grows =
-    let step = reads front b.ended b.at in (
-      step.read,
-      step.parts,
-      record {
-        ended = b.ended ++ step.more;
-        at = step.at;
-        built = subst (λ xs. IsBuilderOf xs nodes grown)
-            (ap (λ xs. leaves b.ended ++ xs) step.hashed ∙ sym (map-append (leaf_hash sha256) b.ended step.more))
-            (grows (leaves b.ended) b.built);
-      },
-    )
 
 -- ---- all that is read
 
@@ -101,30 +80,9 @@ refused_by e why true Many is said many = inr (is ∙ ap read_error_of said, man
 refused_by e why false Many is said many = inl (is ∙ ap read_error_of said)
 
 -- the size of a tree
-size_of : (entries : List (List ℕ)) (nodes : List (ℕ × ℕ)) (tree : TreeBuilder) →
+pub size_of : (entries : List (List ℕ)) (nodes : List (ℕ × ℕ)) (tree : TreeBuilder) →
     IsBuilderOf (leaves entries) nodes tree → tree.frontier.size ≡ length entries
 size_of entries nodes tree built = built.frontier.size ∙ length-map entries (leaf_hash sha256)
-
-pub many_built : (nodes : List (ℕ × ℕ)) (wanted : List ℕ) (s t : Splitter) (tree : TreeBuilder)
-    (front left rest more : List ℕ) (hashes : List (List ℕ)) → HasBuilt nodes wanted s tree front →
-    ((at : List ℕ) (ended : List (List ℕ)) → IsAt wanted s at ended →
-    HasRead wanted t at ended left rest hashes) → t.cut ≡ s.cut → t.limit ≡ s.limit →
-    nat_lt size_limit (tree.frontier.size + length hashes) ≡ true → AreTooMany s.cut s.limit (front ++ (left ++ more))
-many_built nodes wanted s t tree front left rest more hashes b reads same_cut same_limit many =
-    let step = reads front b.ended b.at in
-    let count = ap length step.hashed ∙ length-map step.more (leaf_hash sha256) in
-    let all : 2 ^ 62 < length (b.ended ++ step.more) = omega (
-      arith,
-      ltb-true size_limit (tree.frontier.size + length hashes) many,
-      size_of b.ended nodes tree b.built,
-      count,
-      length-append b.ended step.more,
-    ) in
-    let moved : (front ++ step.read) ++ (rest ++ more) ≡ front ++ (left ++ more) =
-    append_assoc front step.read (rest ++ more)
-    ∙ ap (λ xs. front ++ xs) (sym (append_assoc step.read rest more) ∙ ap (λ xs. xs ++ more) (sym step.parts)) in
-    rw (← same_cut, ← same_limit, ← moved)
-    (many_at wanted t (front ++ step.read) (rest ++ more) (b.ended ++ step.more) step.at all)
 
 -- ---- why a file is not read
 

@@ -79,10 +79,6 @@ abbrev pub onto : {V : Type 0} → List V → Reads (List V) → Reads (List V)
 onto done (Ok read) = Ok (done ++ read.0, read.1)
 onto done (Err halt) = Err halt
 
-pub onto_none : {V : Type 0} (o : Reads (List V)) → o ≡ onto [] o
-onto_none (Ok read) = refl
-onto_none (Err halt) = refl
-
 module _ {V : Type 0} (stops : List ℕ → Bool) (read : List ℕ → Reads V) (count i : ℕ) (done : List V)
     (left : List ℕ) where
   -- what is read after a value
@@ -133,6 +129,9 @@ rest_err (Err other) halt is = let same : other ≡ halt = cc in ap Err same
 
 pub many_start : {V : Type 0} (stops : List ℕ → Bool) (read : List ℕ → Reads V) (count : ℕ) (none : List V)
     (left : List ℕ) → none ≡ [] → many stops read count left ≡ onto none (many stops read (count - 0) left)
-many_start stops read count none left is =
-    let all : count - 0 ≡ count = omega arith in
-    onto_none (many stops read count left) ∙ (λ i. onto (sym is i) (many stops read (sym all i) left))
+many_start {V = V} stops read count none left is =
+    let all : count - 0 ≡ count = omega arith in rw (is, all) (by_outcome (many stops read count left))
+  where
+    by_outcome : (o : Reads (List V)) → o ≡ onto [] o
+    by_outcome (Ok found) = refl
+    by_outcome (Err halt) = refl

@@ -1,7 +1,6 @@
 -- What tests tell, and what a value that is there came from.
 use Rattle.std.proofs.Common.{◌≡◌, ◌≤◌, Bool, true, false, Decides, ℕ, List, Option, Some, refl, sym, ap, ◌∙◌}
-use Rattle.std.specs.Prelude.{if◌then◌else◌, nat_eq, nat_le, option_map, All, None}
-use Rattle.std.specs.Cmp.Lexicographic.{pointwise, bytes_decides}
+use Rattle.std.specs.Prelude.{if◌then◌else◌, nat_le, option_map, All, None}
 use Rattle.std.specs.List.{list_all}
 use Rattle.std.specs.Option.{option_and_then}
 use Rattle.std.proofs.lemmas.Bool.{false_from_ne_true, le-leb, leb-true}
@@ -15,9 +14,6 @@ le_decided a b = (leb-true a b, le-leb a b)
 -- a test of what does not hold fails
 pub fails : {P : Type 0} (t : Bool) → Decides t P → (P → ⊥) → t ≡ false
 fails t decided never = false_from_ne_true t (λ is. never (decided.0 is))
-
-pub other_bytes : (a b : List ℕ) → (a ≡ b → ⊥) → pointwise nat_eq a b ≡ false
-other_bytes a b differ = fails (pointwise nat_eq a b) (bytes_decides a b) differ
 
 -- each of a list passes a test
 pub each_decided : (p : ℕ → Bool) (P : ℕ → Type 0) → ((x : ℕ) → Decides (p x) (P x)) → (xs : List ℕ) →

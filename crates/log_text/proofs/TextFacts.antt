@@ -5,7 +5,7 @@ use Rattle.std.specs.Prelude.{◌&&◌, if◌then◌else◌, not, nat_le, slice_
 use Rattle.std.specs.List.{list_all}
 use Rattle.std.specs.Result.{is_ok, result_ok}
 use Rattle.std.specs.Str.{chars, is_utf8, IsUtf8}
-use Rattle.std.proofs.lemmas.Bool.{eqb-false, le-leb, ne_eqb}
+use Rattle.std.proofs.lemmas.Bool.{and_left, eqb-false, le-leb, ne_eqb}
 use Rattle.std.proofs.lemmas.Str.{is_utf8-from_IsUtf8, IsUtf8-from_is_utf8}
 use Rattle.log_text.specs.Lines.{is_origin, passing}
 use Rattle.log_text.proofs.TestFacts.{fails}
@@ -21,15 +21,6 @@ utf8_tells Y N (Err e) bytes said =
 abbrev pub plain : List ℕ → Bool
 plain text = list_all (λ b. nat_le 32 b && not (b == 127)) text
 
-abbrev counted : List ℕ → Bool
-counted text = nat_le (length (chars text)) 100 && plain text
-
-abbrev ends : List ℕ → Bool
-ends text = not (slice_index text (length text - 1) == 32) && counted text
-
-abbrev starts : List ℕ → Bool
-starts text = not (slice_index text 0 == 32) && ends text
-
 pub origin_tests : (text : List ℕ) (few : Bool) → IsUtf8 text → 1 ≤ length text → (slice_index text 0 ≡ 32 → ⊥) →
     (slice_index text (length text - 1) ≡ 32 → ⊥) → nat_le (length (chars text)) 100 ≡ few →
     (few && plain text) ≡ is_origin text
@@ -42,18 +33,15 @@ origin_tests text few utf8 some first last few_is =
     ap not (ne_eqb (slice_index text (length text - 1)) 32 last) in
     λ i. sym a i && (sym b i && (sym d i && (sym e i && (sym few_is i && plain text))))
 
-pub no_utf8 : (text : List ℕ) → (IsUtf8 text → ⊥) → is_origin text ≡ false
-unfolding is_origin
-no_utf8 text never =
-    let not_text = fails (is_utf8 text) (IsUtf8-from_is_utf8 text, is_utf8-from_IsUtf8 text) never in
-    λ i. not_text i && (nat_le 1 (length text) && starts text)
-
 -- bytes that are no text are no origin
 pub no_origin : {S E : Type 0} (Y : S → Type 0) (N : E → Type 0) (r : Result S E) (bytes : List ℕ) →
     result_ok r ≡ None → MatchResult r (λ s. Y s × IsUtf8 bytes) (λ e. (IsUtf8 bytes → ⊥) × N e) →
     None ≡ passing is_origin bytes
+unfolding is_origin
 no_origin Y N (Ok s) bytes none said = absurd cc
-no_origin Y N (Err e) bytes none said = λ i. if sym (no_utf8 bytes said.0) i then Some bytes else None
+no_origin Y N (Err e) bytes none said =
+    let other = and_left (is_utf8 bytes) _ (sym (utf8_tells Y N (Err e) bytes said)) in
+    λ i. if sym other i then Some bytes else None
 
 pub some_tested : (bytes : List ℕ) → (length bytes == 0) ≡ false → nat_le 1 (length bytes) ≡ true
 some_tested bytes some = le-leb 1 (length bytes) (omega (arith, eqb-false (length bytes) 0 some))

@@ -1,11 +1,16 @@
 -- One step after another, until nothing is left or enough entries have ended.
-use Rattle.std.proofs.Common.{◌≡◌, ◌+◌, ℕ, List, nat_lt, true, length, ◌∙◌, ◌++◌, [], ap, append-nil, append_assoc}
-use Rattle.std.proofs.Common.{inl, inr, leb-true, refl, subst, sym}
+use Rattle.std.proofs.Common.{length-append, ◌<◌, ◌^◌, ◌≡◌, ◌+◌, ℕ, List, nat_lt, true, length, ◌∙◌, ◌++◌, [], ap, append-nil, append_assoc}
+use Rattle.std.proofs.Common.{arith, inl, inr, leb-true, refl, subst, sym}
 use Rattle.std.proofs.lemmas.Result.{err_from_is_err_and}
 use Rattle.tlog_tree.specs.Builders.{IsBuilderOf}
 use Rattle.tlog.specs.Verdicts.{size_limit}
 use Rattle.log_files.specs.Inner.Splitting.{AreTooMany, HasBuilt}
-use Rattle.log_files.proofs.BuiltFacts.{built_more, many_built, refused_by}
+use Rattle.log_files.proofs.BuiltFacts.{leaves, refused_by, size_of}
+use Rattle.log_files.proofs.EndFacts.{many_at}
+use Rattle.std.proofs.lemmas.Bool.{ltb-true}
+use Rattle.std.proofs.lemmas.List.{length-map, map-append}
+use Rattle.sha2.specs.Sha256.{sha256}
+use Rattle.tlog.specs.Rfc9162.{leaf_hash}
 use Rattle.log_files.proofs.SplitterFacts.{none_of}
 use Rattle.log_files.proofs.reading.push.Goals as goal
 use Rattle.log_files.proofs.reading.push.Goals.{then-entries-test+else-not-is_full, else-entries-test}
@@ -27,19 +32,22 @@ entries-preserved c =
     let same = c.in_ok-hashes.ensures.same in
     let left = c.entries.left.now in
     let rest = c.in_ok-hashes.rest.now in
-    let hashes = c.deref.result.now in
     record {
       ready = c.in_ok-hashes.ensures.ready;
       same = (same.0 ∙ c.entries.invariant.same.0, same.1 ∙ c.entries.invariant.same.1);
       built = λ nodes wanted front b.
           let (taken, parts, now) = c.entries.invariant.built nodes wanted front b in
-          let (more, left_is, next) = built_more nodes wanted s t c.entries.tree c.in_ok-tree.tree (front ++ taken) left
-          rest c.in_ok-hashes.hashes.items now (c.in_ok-hashes.ensures.read wanted)
-          (λ before is. subst (λ xs. IsBuilderOf (before ++ xs) nodes c.in_ok-tree.tree) c.deref.ensures.value
-          (c.in_ok-tree.ensures.built before nodes is)) in (
-            taken ++ more,
-            parts ∙ ap (λ xs. taken ++ xs) left_is ∙ sym (append_assoc taken more rest),
-            subst (HasBuilt nodes wanted t c.in_ok-tree.tree) (append_assoc front taken more) next,
+          let step = c.in_ok-hashes.ensures.read wanted (front ++ taken) now.ended now.at in (
+            taken ++ step.read,
+            parts ∙ ap (λ xs. taken ++ xs) step.parts ∙ sym (append_assoc taken step.read rest),
+            subst (HasBuilt nodes wanted t c.in_ok-tree.tree) (append_assoc front taken step.read) (record {
+              ended = now.ended ++ step.more;
+              at = step.at;
+              built = subst (λ xs. IsBuilderOf xs nodes c.in_ok-tree.tree)
+                  (ap (λ xs. leaves now.ended ++ xs) (c.deref.ensures.value ∙ step.hashed)
+                  ∙ sym (map-append (leaf_hash sha256) now.ended step.more))
+                  (c.in_ok-tree.ensures.built (leaves now.ended) nodes now.built);
+            }),
           );
     }
 
@@ -68,22 +76,25 @@ returns-in_err-tree-clause-refused c =
     let t = c.read.new.self in
     let same = c.in_ok-hashes.ensures.same in
     let begun = c.entries.invariant.same in
-    let left = c.entries.left.now in
-    let hashes = c.in_ok-hashes.hashes.items in
     let p = err_from_is_err_and c.from_residual-in_err-tree.result c.from_residual-in_err-tree.ensures.1 in
-    let cut = c.args.splitter.now.cut in
-    let limit = c.args.splitter.now.limit in
     λ nodes wanted front more b.
     let (taken, parts, now) = c.entries.invariant.built nodes wanted front b in
-    let moved = append_assoc front taken (left ++ more)
-    ∙ ap (λ xs. front ++ xs) (sym (append_assoc taken left more) ∙ ap (λ xs. xs ++ more) (sym parts)) in
-    let many = λ (test : nat_lt size_limit (c.entries.tree.frontier.size + length c.deref.result.now) ≡ true).
-    let here = many_built nodes wanted s t c.entries.tree (front ++ taken) left c.in_ok-hashes.rest.now more hashes now
-    (c.in_ok-hashes.ensures.read wanted) same.0 same.1
-    (subst (λ (xs : List (List ℕ)). nat_lt size_limit (c.entries.tree.frontier.size + length xs) ≡ true)
-    c.deref.ensures.value test) in
-    subst (λ bytes. AreTooMany cut limit bytes) moved
-    (subst (λ k. AreTooMany k limit ((front ++ taken) ++ (left ++ more))) begun.0
-    (subst (λ n. AreTooMany s.cut n ((front ++ taken) ++ (left ++ more))) begun.1 here)) in
-    rw p.1 (refused_by p.0 c.in_err-tree.field-0.0 _ (AreTooMany cut limit (front ++ (c.args.bytes.now ++ more))) p.2
-    c.in_err-tree.ensures.refused many)
+    let step = c.in_ok-hashes.ensures.read wanted (front ++ taken) now.ended now.at in
+    let rest = c.in_ok-hashes.rest.now in
+    let tree = c.entries.tree in
+    let bytes = front ++ (c.args.bytes.now ++ more) in
+    let moved : ((front ++ taken) ++ step.read) ++ (rest ++ more) ≡ bytes =
+    rw (parts, step.parts) (simp append_assoc) in
+    let Many = AreTooMany c.args.splitter.now.cut c.args.splitter.now.limit bytes in
+    let many : nat_lt size_limit (tree.frontier.size + length c.deref.result.now) ≡ true → Many = λ test.
+    let count = ap length (c.deref.ensures.value ∙ step.hashed) ∙ length-map step.more (leaf_hash sha256) in
+    let all : 2 ^ 62 < length (now.ended ++ step.more) = omega (
+      arith,
+      ltb-true size_limit _ test,
+      count,
+      size_of now.ended nodes tree now.built,
+      length-append {A = List ℕ},
+    ) in
+    rw (← begun.0, ← begun.1, ← same.0, ← same.1, ← moved)
+    (many_at wanted t ((front ++ taken) ++ step.read) (rest ++ more) (now.ended ++ step.more) step.at all) in
+    rw p.1 (refused_by p.0 c.in_err-tree.field-0.0 _ Many p.2 c.in_err-tree.ensures.refused many)
