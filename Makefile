@@ -13,10 +13,9 @@ LOGIC := dac8208d650f15bf
 KIT_CHECK := yes
 
 VERSION := $(shell sed -n 's/^const VERSION.*"\(.*\)";/\1/p' crates/fohlazu/src/args.rt)
-PROGRAMS := fohlazu mmcs mmcs-verify
-WITH_PROGRAMS := $(PROGRAMS) libmmcs_verify.a
-LOGS := libfohlazu.a libfohlazu.so
-FILES := $(WITH_PROGRAMS) $(LOGS)
+PROGRAMS := fohlazu mmcs
+LIBRARY_FOR_C := libfohlazu.a libfohlazu.so
+FILES := $(PROGRAMS) $(LIBRARY_FOR_C)
 CPUS := x86-64-v2 x86-64-v3
 QUICK := $(PROGRAMS:%=build/quick/%)
 LIBRARIES := build/libraries.tar.zst
@@ -33,10 +32,9 @@ TO = $(DESTDIR)$(PREFIX)
 # Where the programs come from that are installed: build, build/quick, or build/CPU.
 FROM := build
 INSTALLED := $(PROGRAMS:%=bin/%) $(PROGRAMS:%=share/man/man1/%.1)
-INSTALLED += $(PROGRAMS:%=share/bash-completion/completions/%) $(addprefix share/zsh/site-functions/_,fohlazu mmcs)
-INSTALLED_LIBRARY := $(addprefix lib/,libmmcs_verify.a $(LOGS))
-INSTALLED_LIBRARY += $(foreach name,mmcs_verify fohlazu,lib/pkgconfig/$(name).pc include/$(name).h)
-LIBRARY := $(foreach folder,$(filter-out build/quick,$(FROM)),$(addprefix $(folder)/,libmmcs_verify.a $(LOGS)))
+INSTALLED += $(PROGRAMS:%=share/bash-completion/completions/%) $(PROGRAMS:%=share/zsh/site-functions/_%)
+INSTALLED_LIBRARY := $(LIBRARY_FOR_C:%=lib/%) lib/pkgconfig/fohlazu.pc include/fohlazu.h
+LIBRARY := $(foreach folder,$(filter-out build/quick,$(FROM)),$(LIBRARY_FOR_C:%=$(folder)/%))
 
 # What crates are built from, with those that they stand on: a folder is newer where a file went.
 sources_of = crates.txt $(shell find $(patsubst %,crates/%,$(shell sh tests/crates $(1))) -name out -prune -o $(2) -print)
@@ -68,18 +66,17 @@ libraries: $(LIBRARIES)
 dist: $(LIBRARIES) $(foreach cpu,$(CPUS),$(FILES:%=build/$(cpu)/%))
 	@$(ALONE) bash tools/build dist $(VERSION) $(LOGIC)
 
-$(QUICK) &: tools/quick $(call sources_of,fohlazu mmcs mmcs_verify,$(CODE))
+$(QUICK) &: tools/quick $(call sources_of,$(PROGRAMS),$(CODE))
 	$(kit)
 	@bash tools/quick build/quick $(PROGRAMS)
 
-$(addprefix build/x86-64-%/,$(WITH_PROGRAMS)): tools/build \
-    $(call sources_of,fohlazu mmcs mmcs_verify mmcs_verify_c,$(ALL))
+$(addprefix build/x86-64-%/,$(PROGRAMS)): tools/build $(call sources_of,$(PROGRAMS),$(ALL))
 	$(kit)
 	@bash tools/build programs x86-64-$*
 
-$(addprefix build/x86-64-%/,$(LOGS)): tools/build $(call sources_of,fohlazu_c,$(ALL))
+$(addprefix build/x86-64-%/,$(LIBRARY_FOR_C)): tools/build $(call sources_of,fohlazu_c,$(ALL))
 	$(kit)
-	@bash tools/build logs x86-64-$*
+	@bash tools/build library x86-64-$*
 
 $(FILES:%=build/%): build/%: build/$(CPU)/% build/cpu
 	@cp $< build/partial && mv -f build/partial $@
@@ -112,16 +109,14 @@ check: toolchain documents
 install: $(PROGRAMS:%=$(FROM)/%) $(LIBRARY)
 	@for name in $(PROGRAMS); do \
 	  install -D "$(FROM)/$$name" "$(TO)/bin/$$name"; \
-	  install -Dm 644 "share/$${name%-verify}.bash" "$(TO)/share/bash-completion/completions/$$name"; \
+	  install -Dm 644 "share/$$name.bash" "$(TO)/share/bash-completion/completions/$$name"; \
+	  install -Dm 644 "share/$$name.zsh" "$(TO)/share/zsh/site-functions/_$$name"; \
 	  install -Dm 644 <(sed 's/@VERSION@/$(VERSION)/' "share/$$name.1") "$(TO)/share/man/man1/$$name.1"; \
 	done
-	@for name in fohlazu mmcs; do install -Dm 644 "share/$$name.zsh" "$(TO)/share/zsh/site-functions/_$$name"; done
 ifdef LIBRARY
 	@install -Dm 644 -t "$(TO)/lib" $(LIBRARY)
-	@for name in mmcs_verify fohlazu; do \
-	  install -Dm 644 -t "$(TO)/include" "examples/c/$$name.h"; \
-	  install -Dm 644 <(sed 's/@VERSION@/$(VERSION)/' "share/$$name.pc") "$(TO)/lib/pkgconfig/$$name.pc"; \
-	done
+	@install -Dm 644 -t "$(TO)/include" examples/c/fohlazu.h
+	@install -Dm 644 <(sed 's/@VERSION@/$(VERSION)/' share/fohlazu.pc) "$(TO)/lib/pkgconfig/fohlazu.pc"
 endif
 	@printf '%s\n' $(patsubst %,"$(TO)/%",$(INSTALLED) $(if $(LIBRARY),$(INSTALLED_LIBRARY)))
 
@@ -142,7 +137,7 @@ help:
 #:                   processor time the first time. CPU=x86-64-v2 or CPU=x86-64-v3 names another processor.
 #:                   `make build/libfohlazu.a` proves the verifiers of logs alone, in minutes
 #: make quick        the programs with no proof, in build/quick/: two minutes
-#: make check-quick  what can be tried with no proof: documents, tests, stored runs, exchanges; 15 minutes
+#: make check-quick  what can be tried with no proof: documents, tests, stored runs, random commands; 15 minutes
 #: make check        the gate: documents, then every proof, test and refused edit; 80 to 170 processor minutes
 #: make libraries    the proved libraries, for share/rattle-with: a crate over them is checked in a minute
 #: make dist         archives of the programs and of the libraries, with their checksums, in build/dist/

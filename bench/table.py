@@ -26,17 +26,16 @@ def time_a_word(row):
 
 
 # What work is set beside another kind of work.
-BESIDE = {"raw": "commit", "draw": "commit", "prove": "open", "check": "verify", "extract": "verify"}
+BESIDE = {"raw": "commit", "draw": "commit"}
 
 
 def compared_with(row):
-    """What a row's time is set beside: the scalar commit for other builders and raw hashes, the plain scheme's work, an
-    opening or a verification in the same tree for a proof of growth, its check or an extraction."""
+    """What a row's time is set beside: the scalar commit for other builders and raw hashes, or the plain scheme's
+    work."""
     form = "plain" if row["form"] in ("plain", "salted") else "scalar"
     work = BESIDE.get(row["work"], row["work"])
-    same = ("part", "functions", "arity", "digest_words", "rows", "width", "matrices")
-    queries = None if row["part"] == "consistency" else row["queries"]
-    return work, form, queries, *(row[name] for name in same)
+    same = ("part", "functions", "arity", "digest_words", "rows", "width", "matrices", "queries")
+    return work, form, *(row[name] for name in same)
 
 
 def ratios(rows):
@@ -48,7 +47,7 @@ def ratios(rows):
             first[key] = float(row["least_us"])
     for row in rows:
         base = first.get(compared_with(row))
-        beside = row["work"] in ("commit", "raw", "prove", "check", "extract") or row["form"] == "salted"
+        beside = row["work"] in ("commit", "raw") or row["form"] == "salted"
         yield f"{float(row['least_us']) / base:.2f}" if beside and base else ""
 
 

@@ -16,10 +16,82 @@ TABLES = [
     for arity in ("2", "4", "8")
     for action in (["commit"], ["open", "3", "0", "3"], ["check", "3", "0", "3"])
 ]
-# Short lines, an empty one, one of two blocks of SHA-256 and a last one of a byte; and blocks.
-FILES = {"lines": b"one\ntwo\n\n" + 100 * b"x" + b"\nl\n", "blocks": bytes(range(37))}
-# Their first four entries, two in each of two parts.
-PARTS = {"lines": [b"one\ntwo\n", b"\n" + 100 * b"x" + b"\n"], "blocks": [bytes(range(16)), bytes(range(16, 32))]}
+# Five lines, one of them empty and one of two blocks of SHA-256: all, with the last partial, other ones, and in parts;
+# seventeen blocks, all and in parts.
+LINES = b"one\ntwo\n\n" + 100 * b"x" + b"\nlast\n"
+BLOCKS = bytes(range(133))
+FILES = {
+    "lines": LINES,
+    "partial": LINES[:-1],
+    "others": LINES[:-1].upper(),
+    "none": b"",
+    **{"lines.1": LINES[:8], "lines.2": LINES[8:110], "lines.3": LINES[110:]},
+    "blocks": BLOCKS,
+    **{"blocks.1": BLOCKS[:64], "blocks.2": BLOCKS[64:128], "blocks.3": BLOCKS[128:]},
+}
+# Commands of logs: the exit status, the arguments, and after `>` the file of what is printed, for later commands.
+LOGS = """
+0 --version
+0 seal --help
+2
+2 seal --blocks 0 lines
+2 verify --raw lines lines
+2 seal missing
+1 seal partial
+0 seal -
+0 seal none > none.new
+0 seal --origin a lines > new
+0 seal --origin a --whole-lines partial > old
+0 seal --partial partial > named
+0 seal --origin a --partial others > others.new
+0 seal --origin a --whole-lines others > others.old
+0 seal --part lines.1 > part.1
+0 seal --part lines.2 > part.2
+0 seal --part lines.3 > part.3
+0 join --origin a part.1 part.2 part.3
+1 join --origin a part.1 part.3 part.2
+2 join --origin a new
+0 prove new lines 4 > one
+0 prove --partial new partial 4 1 4 > several
+1 prove new lines 1 6
+1 prove new lines.1 1
+1 prove --partial new others 1
+1 prove new partial 1
+2 prove lines lines 1
+0 verify new one 4
+0 verify --raw new one 4
+0 verify new several 4 1 4
+0 verify new several
+1 verify new several 4 1
+1 verify others.new several
+1 verify new lines
+0 prove-consistency old new lines > growth
+0 prove-consistency new new lines > same
+1 prove-consistency new old lines
+1 prove-consistency others.new new lines
+1 prove-consistency named new lines
+1 prove-consistency others.old new lines
+1 prove-consistency --partial old new others
+0 verify-consistency old growth
+0 verify-consistency new same
+1 verify-consistency new growth
+1 verify-consistency others.old growth
+1 verify-consistency others.new same
+1 verify-consistency named same
+1 verify-consistency old lines
+0 seal --origin a --blocks 8 blocks > blocks.new
+0 seal --origin a --blocks 8 blocks.1 > blocks.old
+0 prove --blocks 8 blocks.new blocks 17 2 > blocks.proof
+0 verify --blocks 8 blocks.new blocks.proof 17 2
+1 verify --blocks 7 blocks.new blocks.proof 17 2
+1 verify blocks.new blocks.proof
+0 prove-consistency --blocks 8 blocks.old blocks.new blocks > blocks.growth
+0 verify-consistency blocks.old blocks.growth
+0 seal --part --blocks 8 blocks.1 > blocks.part.1
+0 seal --part --blocks 8 blocks.2 > blocks.part.2
+0 seal --part --blocks 8 blocks.3 > blocks.part.3
+0 join --origin a blocks.part.1 blocks.part.2 blocks.part.3
+"""
 # Questions about logs, which are answered by recursion, by a tree that grows and by composed proofs; and about proofs
 # of several entries, which are made, accepted, refused for two leaf hashes of one entry or for another root, or show a
 # collision.
@@ -34,7 +106,6 @@ QUESTIONS = {
         "weak 8 5,3,5 59,68,59 6,132,207,159",
     ),
 }
-CUTS = {"lines": [], "blocks": ["--blocks", "8"]}
 # What a run says that has no memory, and its status.
 OUT_OF_MEMORY = {
     "mmcs": [(1, b"", b"out of memory\n")],
@@ -59,10 +130,6 @@ class Trials:
         with open(os.path.join(self.folder, name), "wb") as file:
             file.write(data)
 
-    def answer(self, words):
-        """What a run prints that nothing is refused."""
-        return subprocess.run([self.program, *words], cwd=self.folder, capture_output=True, check=True).stdout
-
     def run(self, words, mode, number):
         """Status, output and error of a run, and how many requests it made and how many were refused."""
         with tempfile.TemporaryFile() as report:
@@ -81,15 +148,15 @@ class Trials:
             requests, refused = map(int, report.read().split())
         return (done.returncode, done.stdout, done.stderr), requests, refused
 
-    def attempt(self, words, mode):
+    def attempt(self, words, status, mode):
         """How many runs were made and how many of them answered, and what is wrong, if anything is."""
-        ample = self.run(words, mode, MOST)
-        if ample[0][0] != 0 or not ample[0][1] or ample[0][2]:
-            return 0, 0, f"with ample memory it ends with {ample[0]}"
+        ample = self.run(words, mode, MOST)[0]
+        if ample[0] != status or bool(ample[1]) != (status == 0) or bool(ample[2]) == (status == 0):
+            return 0, 0, f"with ample memory it ends with {ample}"
         answered = 0
         for number in range(1, MOST):
             outcome, _, refused = self.run(words, mode, number)
-            if outcome == ample[0]:
+            if outcome == ample:
                 answered += 1
             elif not refused or outcome not in OUT_OF_MEMORY[self.name]:
                 return number, answered, f"{mode}={number}: {outcome}"
@@ -98,54 +165,44 @@ class Trials:
         return MOST, answered, f"{mode}: it makes too many requests"
 
 
-def files_of(trials):
-    """The commands of files, once these and what the commands read are written."""
-    for kind, cut in CUTS.items():
-        names = [f"{name}-{kind}" for name in ("file", "old", "new", "proof", "growth", "part0", "part1")]
-        file, old, new, proof, growth, *parts = names
-        trials.write(file, FILES[kind])
-        for name, data in [(old, b"".join(PARTS[kind])), *zip(parts, PARTS[kind])]:
-            trials.write("begun", data)
-            trials.write(name, trials.answer(["seal", *cut, "--part" if name in parts else "--origin=a", "begun"]))
-        seal, prove = ["seal", "--origin", "a", *cut, file], ["prove", *cut, new, file, "4", "1", "4"]
-        trials.write(new, trials.answer(seal))
-        trials.write(proof, trials.answer(prove))
-        trials.write(growth, trials.answer(["prove-consistency", *cut, old, new, file]))
-        yield seal
-        yield prove
-        yield ["verify", *cut, new, proof, "4", "1", "4"]
-        yield ["prove-consistency", *cut, old, new, file]
-        yield ["verify-consistency", old, growth]
-        yield ["join", "--origin", "a", *parts]
-    yield ["seal", "file-lines"]
-    yield ["verify", "new-lines", "proof-lines"]
-
-
 def try_all(trials, commands):
     """How many runs were made, and how many of them went wrong."""
     total = wrong = 0
-    for words in commands:
+    for status, words, kept in commands:
         counts = []
         for mode in ("REFUSE_ONCE", "REFUSE_FROM"):
-            runs, answered, fault = trials.attempt(words, mode)
+            runs, answered, fault = trials.attempt(words, status, mode)
             total += runs
             wrong += fault is not None
             # The last run met no refusal.
             counts.append((runs - 1, answered - 1))
             if fault:
                 print(f"{trials.name} {' '.join(words)}: wrong: {fault}")
+        if kept:
+            trials.write(kept, trials.run(words, "REFUSE_ONCE", MOST)[0][1])
         (requests, once), (_, since) = counts
         told = f"{requests:5} requests, answered all the same {once} and {since} times"
         print(f"{trials.name} {' '.join(words):<24} {told}")
     return total, wrong
 
 
+def commands_of(name):
+    """The commands of a program: the exit status, the arguments, and the file that keeps what is printed, if any."""
+    if name == "mmcs":
+        return [(0, words, "") for words in TABLES]
+    if name in QUESTIONS:
+        return [(0, text.split(), "") for text in QUESTIONS[name]]
+    lines = [line.partition(" > ") for line in LOGS.split("\n")[1:-1]]
+    return [(int(words.split()[0]), words.split()[1:], kept) for words, _, kept in lines]
+
+
 def main():
     name, program, library = sys.argv[1:]
     with tempfile.TemporaryDirectory() as folder:
         trials = Trials(name, program, library, folder)
-        questions = [text.split() for text in QUESTIONS.get(name, ())]
-        total, wrong = try_all(trials, questions or (TABLES if name == "mmcs" else files_of(trials)))
+        for file, data in FILES.items():
+            trials.write(file, data)
+        total, wrong = try_all(trials, commands_of(name))
     print(f"{total} runs of {name}, {wrong} wrong")
     return 1 if wrong else 0
 

@@ -1,14 +1,11 @@
 """What the definitions answer to a case: a line of fields with | between them, of which the first is the kind."""
 
-import consistency
 import geometry
-import inconsistency
 import notation
 import sha256
 import texts
 from extraction import extract, extract_pruned, restored_checks
 from nodes import Fold
-from parts import Whole, refusal_of
 from pruned import boundary_len, suffices
 from refusals import (
     PRUNED, REPLAY, RESTORED, SALTED, SALTED_PRUNED, SINGLE, Claim, highest_index, refusal, width_fault,
@@ -181,11 +178,6 @@ def shape(fields):
 def schedule(fields):
     scheme, heights = fields.scheme(), fields.numbers()
     return scheme.height_refusal(heights) or notation.print_numbers(scheme.shape(heights).proof_steps)
-
-
-def parts(fields):
-    scheme, heights, caps = fields.scheme(), fields.numbers(), notation.rows(fields.take())
-    return refusal_of(scheme, heights, caps) or notation.print_numbers(Whole(scheme, heights, caps).cap())
 
 
 def replay(fields):
@@ -466,51 +458,12 @@ def salted_sweep(fields):
     return notation.print_numbers(counted_sweep(scheme, fields))
 
 
-def consistency_len(fields):
-    scheme, old, new = fields.scheme(), fields.number(), fields.number()
-    refused = consistency.height_refusal(old, new)
-    return refused or str(len(consistency.Growth(scheme.arity, scheme.cap_height, old, new).sent()))
-
-
-def prove_consistency(fields):
-    scheme, old, matrices = fields.scheme(), fields.number(), notation.matrices(fields.take())
-    new = len(matrices[0])
-    refused = consistency.differing(list(map(len, matrices))) or consistency.height_refusal(old, new)
-    growth = refused or consistency.Growth(scheme.arity, scheme.cap_height, old, new)
-    return refused or notation.print_numbers(consistency.proof(growth, matrices))
-
-
-def verify_consistency(fields):
-    scheme = fields.scheme()
-    old, old_cap = fields.number(), fields.numbers()
-    new, new_cap, digests = fields.number(), fields.numbers(), fields.numbers()
-    refused = consistency.height_refusal(old, new)
-    growth = refused or consistency.Growth(scheme.arity, scheme.cap_height, old, new)
-    return verdict(refused or growth.refusal(old_cap, new_cap, digests))
-
-
-def extract_inconsistency(fields):
-    scheme = fields.scheme()
-    statements = [(fields.numbers(), notation.dimensions(fields.take())) for _ in range(2)]
-    digests, index = fields.numbers(), fields.number()
-    claims = [Claim(scheme, cap, dimensions, index, notation.rows(fields.take()), fields.numbers())
-              for cap, dimensions in statements]
-    text, found = inconsistency.extract(*claims, digests)
-    return text or (f"{found[0]} | {notation.print_collision(found[1])}" if found else "none")
-
-
-def consistency_sweep(fields):
-    scheme = fields.scheme()
-    return notation.print_numbers(consistency.swept(scheme.arity, scheme.cap_height, fields.number()))
-
-
 KINDS = {
     "hash": hash_of, "compress": compress, "sha256": sha256_message, "sha256_rows": sha256_rows,
     "sha256_groups": sha256_groups, "sha256_commit": sha256_commit, "sha256_open": sha256_open,
     "sha256_pruned": sha256_pruned, "exponent": exponent, "halving": halving, "padding": padding, "step": step,
     "steps": steps, "positions": positions, "siblings": siblings, "widths": widths, "heights": heights,
     "layers": layers, "builders": builders, "commit": commit, "shape": shape, "schedule": schedule, "replay": replay,
-    "parts": parts,
     "authenticated": authenticated, "pruned_len": pruned_len, "open": open_leaf, "pruned": open_pruned,
     "salted_open": salted_open, "salted_pruned": salted_pruned, "salted_commits": salted_commits,
     "salted_fork": salted_fork, "leaves": leaves, "kept": kept,
@@ -518,9 +471,7 @@ KINDS = {
     "salted_verify_pruned": salted_verify_pruned, "restore": restore, "extract": extract_leaf,
     "extract_pruned": extract_leaves, "salted_extract": salted_extract,
     "salted_extract_pruned": salted_extract_pruned, "known": known, "sweep": sweep,
-    "salted_sweep": salted_sweep, "sha256_sweep": sha256_sweep, "consistency_len": consistency_len,
-    "prove_consistency": prove_consistency, "verify_consistency": verify_consistency,
-    "extract_inconsistency": extract_inconsistency, "consistency_sweep": consistency_sweep,
+    "salted_sweep": salted_sweep, "sha256_sweep": sha256_sweep,
 }
 
 

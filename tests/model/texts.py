@@ -1,8 +1,6 @@
 """The texts of the errors."""
 
 EMPTY_BATCH = "empty batch: attempted to open an empty batch with no committed matrices"
-NO_PARTS = "no parts: there is nothing to commit to"
-PARTS_TOO_LARGE = "too many rows in all parts: more than 2^62"
 CAP_MISMATCH = "cap mismatch: computed digest does not match any entry in the Merkle cap"
 
 
@@ -46,15 +44,3 @@ def shared(slot, matrix):
         f"malformed pruned proof: unique path slot {slot} disagrees with its group's lead on "
         f"matrix {matrix}'s opened row"
     )
-
-
-def cap_count(expected, got):
-    return f"wrong cap count: expected {expected} caps, one for each height, got {got}"
-
-
-def part_height(part):
-    return f"part {part} has a height that does not fit the others"
-
-
-def cap_too_short(part):
-    return f"the cap of part {part} is too short for its height"

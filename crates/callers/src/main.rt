@@ -5,8 +5,6 @@
 // The other callers of docs/CALLING.md, and that of README.md.
 mod coins;
 mod conflict;
-mod growing;
-mod in_parts;
 mod messages;
 mod readme;
 mod rules;
@@ -68,8 +66,6 @@ fn main(rt: HostRuntime) -> Result<()> {
     several_rows::run(&rt)?;
     rules::run(&rt)?;
     salted::run(&rt)?;
-    in_parts::run(&rt)?;
-    growing::run(&rt)?;
     coins::run(&rt)?;
     let alloc = rt.alloc();
     let scheme = Sha::new(Sha256RowsInEights, Sha256NodesInEights::<2>, 0);

@@ -1,4 +1,5 @@
 pub mod Errors
 pub mod Outcomes
 pub mod Commands
+pub mod Laws
 pub mod Inner

@@ -5,6 +5,7 @@ pub mod command;
 pub mod error;
 mod files;
 pub mod join;
+pub mod laws;
 pub mod prove;
 pub mod prove_consistency;
 pub mod seal;

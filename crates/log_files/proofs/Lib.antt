@@ -1,4 +1,4 @@
-mod EntryFacts
+pub mod EntryFacts
 mod CutFacts
 mod WantedFacts
 mod SplitterFacts

@@ -2,7 +2,7 @@
 
 use crate::reader::Reader;
 use crate::scheme::Cap;
-use p3_merkle_tree::{CapRule, ConsistencyError, MerkleTreeError};
+use p3_merkle_tree::{CapRule, MerkleTreeError};
 use p3_support::matrix::{Dimensions, RowMajorMatrix};
 use std::alloc::{AllocError, Global};
 
@@ -11,8 +11,6 @@ use std::alloc::{AllocError, Global};
 pub enum Fault {
     /// A call refuses what it is handed, which is an answer, too.
     Refused(MerkleTreeError),
-    /// A call refuses heights or a proof of consistency.
-    Inconsistent(ConsistencyError),
     /// What is answered is not as it should be, in this way.
     Wrong(&'static str),
     /// The line can't be read, for this reason.
@@ -22,12 +20,6 @@ pub enum Fault {
 impl From<MerkleTreeError> for Fault {
     fn from(error: MerkleTreeError) -> Fault {
         Fault::Refused(error)
-    }
-}
-
-impl From<ConsistencyError> for Fault {
-    fn from(error: ConsistencyError) -> Fault {
-        Fault::Inconsistent(error)
     }
 }
 

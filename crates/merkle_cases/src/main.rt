@@ -15,7 +15,6 @@ mod batches;
 mod builders;
 mod case;
 mod committed;
-mod consistency;
 mod extract;
 mod fields;
 mod geometry;
@@ -25,7 +24,6 @@ mod known;
 mod layers;
 mod open;
 mod openings;
-mod parts;
 mod plain;
 mod pruned;
 mod queries;
@@ -77,7 +75,6 @@ fn answer_without_sha256<const N: usize>(case: &mut Case<'_>, keyword: &str) -> 
         "siblings" => geometry::siblings::<N>(case),
         "authenticated" => authenticated::authenticated::<N>(case),
         "schedule" => replay::schedule::<N>(case),
-        "parts" => parts::parts::<N>(case),
         "replay" => replay::replay::<N>(case),
         _ => answer_of_tree::<N>(case, keyword),
     }
@@ -94,11 +91,6 @@ fn answer_of_tree<const N: usize>(case: &mut Case<'_>, keyword: &str) -> Result<
         "builders" => builders::builders::<N>(case),
         "pruned_len" => pruned::pruned_len::<N>(case),
         "restore" => pruned::restore::<N>(case),
-        "consistency_len" => consistency::len::<N>(case),
-        "prove_consistency" => consistency::prove::<N>(case),
-        "verify_consistency" => consistency::verify::<N>(case),
-        "extract_inconsistency" => consistency::extract::<N>(case),
-        "consistency_sweep" => consistency::sweep::<N>(case),
         _ => answer_of_scheme::<N>(case, keyword),
     }
 }
@@ -167,7 +159,6 @@ fn answer_or_refuse(case: &mut Case<'_>) -> Result<(), &'static str> {
         case.answer = Answer::new(case.alloc);
         match &fault {
             Fault::Refused(error) => case.answer.error(error),
-            Fault::Inconsistent(error) => case.answer.error(error),
             Fault::Wrong(way) => case.answer.push(way),
             Fault::Unreadable(reason) => return Err(reason),
         }

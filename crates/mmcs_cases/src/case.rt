@@ -1,14 +1,9 @@
 //! One case.
 
-use crate::entries::entries_told;
 use crate::failing::{FailingInput, FailingOutput};
 use anyhow::Error;
-use fohlazu_text::consistency::Consistency;
-use fohlazu_text::proof::Proof;
-use fohlazu_text::seal::Seal;
 use mmcs_engine::engine::run;
 use mmcs_engine::process::ProgramError;
-use mmcs_verify_engine::engine::run as verify;
 use std::alloc::{AllocError, Global};
 
 /// What is wrong with a line, if it is no case, or is not answered as it is written.
@@ -123,65 +118,32 @@ fn words_of(alloc: Global, text: &str) -> Result<Vec<String>, AllocError> {
     Ok(words)
 }
 
-/// What the output holds once an engine has answered, and behind it the line and the status of a fault.
+/// What the output holds once the engine has answered, and behind it the line and the status of a fault.
 fn answer_to(alloc: Global, words: &str, input: &[u8]) -> Result<String, Error> {
-    if let Some(words) = words.strip_prefix("verify ") {
-        return verified(alloc, words, input);
-    }
     if let Some(words) = words.strip_prefix("unread ") {
         return unread(alloc, words, input);
     }
     if let Some(words) = words.strip_prefix("unwritten ") {
         return unwritten(alloc, words, input);
     }
-    if let Some(kind) = words.strip_prefix("fohlazu ") {
-        return read_again(alloc, kind.trim(), input);
-    }
-    if let Some(words) = words.strip_prefix("entries ") {
-        return entries_told(alloc, &words_of(alloc, words)?, input);
-    }
     let mut output = Vec::new(alloc);
     let outcome = run(alloc, &words_of(alloc, words)?, &mut &*input, &mut output);
     told(alloc, &output, outcome)
 }
 
-/// The answer of the engine of `mmcs_verify`.
-fn verified(alloc: Global, words: &str, mut input: &[u8]) -> Result<String, Error> {
-    let mut output = Vec::new(alloc);
-    let outcome = verify(alloc, &words_of(alloc, words)?, &mut input, &mut output);
-    told(alloc, &output, outcome)
-}
-
-/// The answer of the engine of `mmcs` to an input that fails where its bytes end.
+/// The answer of the engine to an input that fails where its bytes end.
 fn unread(alloc: Global, words: &str, rest: &[u8]) -> Result<String, Error> {
     let (mut input, mut output) = (FailingInput { rest }, Vec::new(alloc));
     let outcome = run(alloc, &words_of(alloc, words)?, &mut input, &mut output);
     told(alloc, &output, outcome)
 }
 
-/// The answer of the engine of `mmcs` where its output fails after as many calls as the first word says.
+/// The answer of the engine where its output fails after as many calls as the first word says.
 fn unwritten(alloc: Global, words: &str, mut input: &[u8]) -> Result<String, Error> {
     let (calls, words) = words.split_once(' ').unwrap_or(("0", words));
     let mut output = FailingOutput::new(alloc, calls.parse()?);
     let outcome = run(alloc, &words_of(alloc, words)?, &mut input, &mut output);
     told(alloc, &output.taken, outcome)
-}
-
-/// Whether a text is a seal, a proof or a consistency proof, and the same when it is printed again; or why it is none.
-fn read_again(alloc: Global, kind: &str, text: &[u8]) -> Result<String, Error> {
-    let read = match kind {
-        "seal" => Seal::from_text(alloc, text).map(|seal| seal.to_text(alloc)),
-        "consistency" => Consistency::from_text(alloc, text).map(|proof| proof.to_text(alloc)),
-        _ => Proof::from_text(alloc, text).map(|proof| proof.to_text(alloc)),
-    };
-    match read {
-        Ok(printed) => {
-            let is_same = printed?.as_slice() == text;
-            let answer = if is_same { "same" } else { "another text" };
-            Ok(String::from_str(alloc, answer)?)
-        }
-        Err(fault) => Ok(format!(in alloc; "{fault}")?),
-    }
 }
 
 /// An output as text, and behind it the line and the status of a fault.

@@ -1,4 +1,4 @@
-//! Inputs that fail or are slow, and an output that fails.
+//! An input that fails, and an output that fails.
 
 use std::alloc::Global;
 use std::io;
@@ -14,28 +14,6 @@ impl Read for FailingInput<'_> {
     fn read(&mut self, buf: &mut [u8]) -> io::Result<usize> {
         let (Some((byte, rest)), Some(place)) = (self.rest.split_first(), buf.first_mut()) else {
             return Err(Error::from(ErrorKind::ConnectionReset));
-        };
-        *place = *byte;
-        self.rest = rest;
-        Ok(1)
-    }
-}
-
-/// Gives its bytes one by one, and is interrupted before each.
-#[derive(Drop)]
-pub struct SlowInput<'a> {
-    pub rest: &'a [u8],
-    pub is_interrupted: bool,
-}
-
-impl Read for SlowInput<'_> {
-    fn read(&mut self, buf: &mut [u8]) -> io::Result<usize> {
-        self.is_interrupted = !self.is_interrupted;
-        if self.is_interrupted {
-            return Err(Error::from(ErrorKind::Interrupted));
-        }
-        let (Some((byte, rest)), Some(place)) = (self.rest.split_first(), buf.first_mut()) else {
-            return Ok(0);
         };
         *place = *byte;
         self.rest = rest;

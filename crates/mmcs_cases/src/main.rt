@@ -1,17 +1,14 @@
-//! Runs the engines of `mmcs` and `mmcs_verify` on cases, one a line of standard input, and names each that is not
-//! answered as it is written, or is no case. Where there is such a line, it ends with status 1.
+//! Runs the engine of `mmcs` on cases, one a line of standard input, and names each that is not answered as it is
+//! written, or is no case. Where there is such a line, it ends with status 1.
 //!
 //! A case is `WORDS | "INPUT" | ANSWER`: the words after the program's name, where `""` is an empty word; the input;
-//! and what is printed, with the line and the status of a fault. In front of the words stands `verify` where they are
-//! those of `mmcs_verify`, `unread` where the input fails at its end, and `unwritten N` where the output takes a byte
-//! at each call and fails after `N` calls. Behind `fohlazu` the input is a text of a seal, of a proof or of a
-//! consistency proof, and behind `entries` it is a file whose entries are read. In the input and the answer `\n`, `\r`,
-//! `\t`, `\0` and `\xHH` are the bytes that they are in Rust's byte strings. Blank lines, and lines that begin with
-//! `#`, are no cases.
+//! and what is printed, with the line and the status of a fault. In front of the words stands `unread` where the input
+//! fails at its end, and `unwritten N` where the output takes a byte at each call and fails after `N` calls. In the
+//! input and the answer `\n`, `\r`, `\t`, `\0` and `\xHH` are the bytes that they are in Rust's byte strings. Blank
+//! lines, and lines that begin with `#`, are no cases.
 #![tactic(auto)]
 
 mod case;
-mod entries;
 mod failing;
 
 use crate::case::mistake;

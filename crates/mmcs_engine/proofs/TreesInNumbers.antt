@@ -1,7 +1,6 @@
 -- A tree over words is the tree over their numbers.
-use Rattle.std.proofs.Common.{◌≡◌, ℕ, Bool, true, false, Decides, List, [], ◌∷◌, ◌++◌, map, refl, sym, ap, ◌∙◌}
-use Rattle.std.specs.Prelude.{flat_map, nat_eq, IfOk, Result}
-use Rattle.std.specs.Cmp.{unsigned_Decides}
+use Rattle.std.proofs.Common.{◌≡◌, ℕ, List, [], ◌∷◌, ◌++◌, map, refl, sym, ap, ◌∙◌}
+use Rattle.std.specs.Prelude.{flat_map, IfOk, Result}
 use Rattle.std.proofs.lemmas.List.{map-id}
 use Rattle.std.proofs.lemmas.Result.{IfOk-weaker}
 use Rattle.p3_support.specs.Batches.{dimensions_in}
@@ -10,12 +9,10 @@ use Rattle.p3_support.specs.declared.matrix.Dimensions.{Dimensions}
 use Rattle.p3_support.specs.declared.matrix.RowMajorMatrix.{RowMajorMatrix}
 use Rattle.p3_merkle_core.specs.Caps.{cap_layer}
 use Rattle.p3_merkle_core.specs.declared.cap.CapRule.{CapRule}
-use Rattle.p3_merkle_core.specs.Checks.{params}
-use Rattle.p3_merkle_core.specs.Geometry.{shape_of, Shape}
+use Rattle.p3_merkle_core.specs.Geometry.{shape_of}
 use Rattle.p3_merkle_core.specs.Nodes.{layer, layers, shape, Batch, Functions, Matrix}
 use Rattle.p3_merkle_core.specs.Openings.{honest_rows, node_in}
-use Rattle.p3_merkle_core.specs.Pruning.{boundary_by, pruned_len, pruned_of, PrunedOpening}
-use Rattle.p3_merkle_core.specs.Refusals.{pruned_refusal_under, IsEquality}
+use Rattle.p3_merkle_core.specs.Pruning.{boundary_by, pruned_len}
 use Rattle.mmcs_engine.specs.declared.command.Action.{Action}
 use Rattle.mmcs_engine.specs.declared.command.Action.TheVariants.{Commit, Open, Check}
 use Rattle.mmcs_engine.specs.declared.command.CapChoice.{CapChoice}
@@ -26,7 +23,7 @@ use Rattle.mmcs_engine.specs.Text.{digest_lines, hex_lines, ok_line, query_lines
 use Rattle.mmcs_engine.proofs.ByNumber.{by_number}
 use Rattle.mmcs_engine.proofs.MatrixFacts.{digests_plain, stored_dimensions, stored_plain}
 use Rattle.mmcs_engine.specs.Program.{functions_of_hash, hex_digits, layer_of_cap, text_of}
-use Rattle.mmcs_engine.specs.Inner.Alike.{batch_in_numbers, matrix_in_numbers, opened_text, pruned_in_numbers}
+use Rattle.mmcs_engine.specs.Inner.Alike.{batch_in_numbers, matrix_in_numbers, opened_text}
 use Rattle.mmcs_engine.specs.Inner.Alike.{ComputeAlike, IsSchemeOf}
 
 -- ---- numbers stand for themselves
@@ -58,23 +55,6 @@ alike_plain f g alike = λ i. record {
   default_digest = (sym (map-id f.default_digest) ∙ alike.default_digest) i;
 }
 
-sets_plain : (sets : List (List (List ℕ))) → map (map (map (λ n. n))) sets ≡ sets
-sets_plain [] = refl
-sets_plain (rows ∷ sets) = λ i. digests_plain rows i ∷ sets_plain sets i
-
-pub pruned_plain : (p : PrunedOpening ℕ ℕ) → pruned_in_numbers (λ n. n) p ≡ p
-pruned_plain p = λ i. pruned_of p.indices (sets_plain p.rows i) (digests_plain p.digests i)
-
--- a test that decides equality of numbers is the one of numbers
-test_is : (a b : Bool) {P : Type 0} → Decides a P → Decides b P → a ≡ b
-test_is true true one other = refl
-test_is true false one other = sym (other.1 (one.0 refl))
-test_is false true one other = one.1 (other.0 refl)
-test_is false false one other = refl
-
-pub equality_plain : (eq : ℕ → ℕ → Bool) → IsEquality eq → eq ≡ nat_eq
-equality_plain eq decides = λ i m n. test_is (eq m n) (nat_eq m n) (decides m n) (unsigned_Decides m n) i
-
 -- ---- what is said of words is said of their numbers
 
 -- what `open` prints of a batch of numbers, whose layers functions of numbers make
@@ -93,10 +73,6 @@ record InNumbers {T : Type 0} (value : T → ℕ) : Type 0 where
   pub opened_is : (f : Functions T T) (g : Functions ℕ ℕ) → ComputeAlike value f g → (b : Batch T) (digits : ℕ)
       (indices : List ℕ) (t : ℕ) → opened_text value digits b (layers f b) indices t
       ≡ printed digits g (batch_in_numbers value b) indices t
-  pub refusal_is : (f : Functions T T) (g : Functions ℕ ℕ) → ComputeAlike value f g → (eq : T → T → Bool) →
-      IsEquality eq → (s : Shape) (t : ℕ) (roots : List (List T)) (p : PrunedOpening T T) →
-      pruned_refusal_under eq eq (params f s t) roots p
-      ≡ pruned_refusal_under nat_eq nat_eq (params g s t) (map (map value) roots) (pruned_in_numbers value p)
 
 -- this holds of numbers
 plain : InNumbers (λ n. n)
@@ -110,9 +86,6 @@ plain = record {
       (λ i. flat_map (λ k. query_lines k (digests_plain (honest_rows b k) i)) indices
       ++ digest_lines digits (digests_plain (boundary_by (node_in [] (layers f b)) (shape b) indices t) i))
       ∙ (λ i. printed digits (alike_plain f g alike i) (sym (batch_plain b) i) indices t);
-  refusal_is = λ f g alike eq decides s t roots p i. pruned_refusal_under (equality_plain eq decides i)
-      (equality_plain eq decides i) (params (alike_plain f g alike i) s t) (sym (digests_plain roots) i)
-      (sym (pruned_plain p) i);
 }
 
 module _ {T : Type 0} (value : T → ℕ) (some_word : (n : ℕ) → (w : T) × (value w ≡ n))
@@ -126,13 +99,6 @@ module _ {T : Type 0} (value : T → ℕ) (some_word : (n : ℕ) → (w : T) × 
       map (stored_matrix (map value)) ms ≡ map matrix_of_rows matrices →
       batch_in_numbers value (stored_batch arity ms) ≡ batch_of_rows arity matrices
   stored_in_numbers = in_numbers.stored
-
-  -- why an opening is refused
-  pub refusal_in_numbers : (f : Functions T T) (g : Functions ℕ ℕ) → ComputeAlike value f g → (eq : T → T → Bool) →
-      IsEquality eq → (s : Shape) (t : ℕ) (roots : List (List T)) (p : PrunedOpening T T) →
-      pruned_refusal_under eq eq (params f s t) roots p
-      ≡ pruned_refusal_under nat_eq nat_eq (params g s t) (map (map value) roots) (pruned_in_numbers value p)
-  refusal_in_numbers = in_numbers.refusal_is
 
   -- the shape of a batch
   pub shape_in_numbers : (b : Batch T) → shape b ≡ shape (batch_in_numbers value b)

@@ -13,6 +13,3 @@ pub mod schemes;
 pub mod streams;
 pub mod text;
 pub mod word;
-
-/// The version of the programs and of the library. The Makefile reads it here.
-pub const VERSION: &str = "0.1.0";

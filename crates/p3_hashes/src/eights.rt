@@ -1,4 +1,5 @@
-//! The fold functions of many messages and of many groups, eight at a time, each in a lane of its own.
+//! The fold functions of many messages and of many groups, eight at a time, each in a lane of its own. `messages` has
+//! messages of `width` words, one after another; column `c` is word `c` of each. A group is `N` digests, its children.
 ghost use Rattle.std.specs.Prelude.{◌≡◌, ℕ, ◌+◌, ◌*◌, ◌/◌, ◌^◌, ◌<◌, ◌≤◌, [], length, map, slice_index_or, slice_range};
 ghost use Rattle.std.specs.Prelude.{take};
 ghost use Rattle.p3_support.specs.Lists.{lane_of, message as message_of};
@@ -167,8 +168,7 @@ fn hash_eight<const D: usize>(messages: &[u32], width: usize, first: usize) -> [
     state
 }
 
-/// Writes the digest of message `i` into `out[i]`, eight at a time. The messages after the last whole eight are left
-/// out.
+/// Writes the digest of message `i` into `out[i]`, eight at a time, up to the last whole eight.
 fn hash_eights<const D: usize>(messages: &[u32], width: usize, out: &mut [[u32; D]])
     requires { length messages.now ≡ length out.old * width }
     ensures long { length out.new ≡ length out.old }
@@ -196,8 +196,7 @@ fn hash_rest<const D: usize>(messages: &[u32], width: usize, from: usize, out: &
     }
 }
 
-/// Writes the digest of message `i` into `out[i]`. The messages lie one after another, of `width` words each, as many
-/// as `out` has places.
+/// Writes the digest of message `i` into `out[i]`, for as many messages as `out` has places.
 pub(crate) fn hash_all<const D: usize>(messages: &[u32], width: usize, out: &mut [[u32; D]])
     requires { length messages.now ≡ length out.old * width }
     ensures long { length out.new ≡ length out.old }
@@ -285,7 +284,7 @@ fn pack_groups<P: FoldLane, const N: usize, const D: usize>(
     )
 }
 
-/// Writes the digest of group `i` into `out[i]`, eight at a time. The groups after the last whole eight are left out.
+/// Writes the digest of group `i` into `out[i]`, eight at a time, up to the last whole eight.
 fn compress_eights<const N: usize, const D: usize>(groups: &[[[u32; D]; N]], out: &mut [[u32; D]])
     requires { length groups.now ≡ length out.old }
     ensures long { length out.new ≡ length out.old }

@@ -1,5 +1,4 @@
-//! The fold functions: a hash and a compression by sums modulo 2^32, for tests of trees and of lanes. They are not
-//! secure.
+//! The fold functions: a hash and a compression by sums modulo 2^32, for tests of trees. They are not secure.
 ghost use Rattle.std.specs.Prelude.{◌≡◌, ℕ, ◌+◌, ◌%◌, ◌^◌, ◌<◌, List, [], length, map, slice_index_or};
 ghost use Rattle.std.specs.Iterator.{IsFinite};
 ghost use Rattle.std.specs.Iterator.Runs.{WholeRun};
@@ -46,7 +45,7 @@ fn low_bits(index: usize) -> u32
     (index % 4_294_967_296) as u32
 }
 
-/// The state ahead of the first word, in each lane: element `e` is `1 + e`, modulo 2^32.
+/// The state before the first word, in each lane: element `e` is `1 + e`, modulo 2^32.
 pub(crate) fn initial_state<P: FoldLane, const D: usize>() -> [P; D]
     ensures { (k : ℕ) → k < P.WIDTH → lane_of P.lanes P.default_value k result ≡ fold_hash D [] }
 {
@@ -79,7 +78,7 @@ fn absorb_slice<const D: usize>(state: &mut [u32; D], words: &[u32])
     }
 }
 
-/// The digests of `P::WIDTH` messages: lane `k` of the items has the words of message `k`.
+/// The digests of `P::WIDTH` messages: lane `k` of the items is message `k`, and lane `k` of the result its digest.
 fn hash_lanes<P: FoldLane, I: Iterator<Item = P>, const D: usize>(input: I) -> [P; D]
     requires can { I.can_next input }
     requires ends { IsFinite (I.remaining input) }
@@ -162,7 +161,7 @@ fn mix<P: FoldLane, const D: usize>(digest: &mut [P; D], child: &[P; D], place: 
     }
 }
 
-/// The digests of `P::WIDTH` groups: lane `k` of the children has the children of group `k`.
+/// The digests of `P::WIDTH` groups: lane `k` of `children` is group `k`, and lane `k` of the result its digest.
 pub(crate) fn compress_lanes<P: FoldLane, const N: usize, const D: usize>(
     children: &[[P; D]; N],
 ) -> [P; D]
@@ -177,7 +176,7 @@ pub(crate) fn compress_lanes<P: FoldLane, const N: usize, const D: usize>(
     digest
 }
 
-/// The digest of one group.
+/// The digest of a group of `N` digests.
 pub(crate) fn compress_group<const N: usize, const D: usize>(children: &[[u32; D]; N]) -> [u32; D]
     ensures { result ≡ fold_compress D children.now }
 {

@@ -34,8 +34,8 @@ fn lemma_digests<const N: usize, const D: usize>(groups: &[[[u8; D]; N]])
     }
 }
 
-/// Writes into `out[i]` the digest of the `N` digests of `groups[i]`, of `D` bytes each, one after another. `out` must
-/// be as long as `groups`.
+/// Writes into `out[i]` the digest of the `N` digests of `groups[i]`, one after another. `out` must be as long as
+/// `groups`.
 pub fn hash_groups<const N: usize, const D: usize>(groups: &[[[u8; D]; N]], out: &mut [[u8; D]])
 where
     Sha256: DigestSize<D>,

@@ -1,6 +1,7 @@
-//! SHA-256 of messages of one length, which lie one after another: eight at a time, one message a lane, and what is
-//! left one by one. A padded message is one followed by its padding (FIPS 180-4, 5.1.1). The padding is the same for
-//! all, since it depends on the length alone.
+//! SHA-256 of messages of `width` bytes, which lie one after another: eight at a time, one message a lane, and what is
+//! left one by one. A padded message is one followed by its padding (FIPS 180-4, 5.1.1): a byte 0x80, zeros, and the
+//! length in eight bytes, up to a whole block of 64 bytes. Padding depends on the length alone, so it is the same for
+//! all. A word is four bytes, high byte first.
 ghost use Rattle.std.specs.Prelude.{◌≡◌, List, ℕ, [], ◌+◌, ◌*◌, ◌/◌, ◌^◌, ◌<◌, ◌≤◌, length, slice_index};
 ghost use Rattle.std.specs.Prelude.{slice_index_or};
 ghost use Rattle.sha2.specs.Sha256.{digest_bytes, final_hash, initial_hash_256, padded_message, sha256, word_at};
@@ -42,7 +43,7 @@ pub(crate) fn words(messages: &[u8], width: usize, at: usize) -> u32x8
     ])
 }
 
-/// Byte `at` of padded message `j`, ahead of the eight bytes of the length.
+/// Byte `at` of padded message `j` of eight. The length must lie after it.
 #[inline(always)]
 fn padded_byte(messages: &[u8], width: usize, j: usize, at: usize) -> u8
     requires full { length messages.now ≡ 8 * width }
@@ -59,8 +60,7 @@ fn padded_byte(messages: &[u8], width: usize, j: usize, at: usize) -> u8
     }
 }
 
-/// The word at byte `at` of padded message `j`, ahead of the eight bytes of the length. The message may end within the
-/// word.
+/// The word at byte `at` of padded message `j` of eight. The message may end within it; the length must lie after it.
 #[inline(always)]
 fn mixed_word(messages: &[u8], width: usize, j: usize, at: usize) -> u32
     requires full { length messages.now ≡ 8 * width }
@@ -77,8 +77,8 @@ fn mixed_word(messages: &[u8], width: usize, j: usize, at: usize) -> u32
     ])
 }
 
-/// The words at byte `at` of the eight padded messages, ahead of the eight bytes of the length. The messages end within
-/// these words.
+/// The words at byte `at` of the eight padded messages: lane `j` is from message `j`, which may end within its word.
+/// The length must lie after these words.
 fn mixed_words(messages: &[u8], width: usize, at: usize) -> u32x8
     requires full { length messages.now ≡ 8 * width }
     requires before { at + 12 ≤ 64 * ((width + 72) / 64) }
@@ -189,8 +189,7 @@ fn filled_count(width: usize) -> usize
 }
 
 /// The inputs of the rounds over the last block of messages of `width` bytes, if that block is padding alone. It is the
-/// same for all of them, so its schedule is computed once. If it has bytes of the messages, these are zeros that
-/// nothing reads.
+/// same for all of them, so its schedule is computed once. Otherwise the result is zeros, which nothing reads.
 fn padding_inputs(width: usize) -> [u32x8; 64]
     requires { width + 72 < 2 ^ 64 }
     ensures { IsPadding width result }
@@ -228,7 +227,7 @@ fn hash_states(messages: &[u8], width: usize, padding: &[u32x8; 64]) -> [u32x8; 
     state
 }
 
-/// The digest of a hash value: its words as bytes, high byte first.
+/// The digest of a hash value: the bytes of its words, high byte first.
 pub(crate) fn digest_of(words: [u32; 8]) -> [u8; 32]
     ensures { result ≡ digest_bytes words 8 }
 {
@@ -239,7 +238,7 @@ pub(crate) fn digest_of(words: [u32; 8]) -> [u8; 32]
     digest
 }
 
-/// The hash value of message `j`: lane `j` of each vector.
+/// The hash value of message `j`: lane `j` of each vector of `state`.
 #[inline(always)]
 pub(crate) fn lane_words(state: &[u32x8; 8], j: usize) -> [u32; 8]
     requires { j < 8 }
@@ -284,8 +283,7 @@ where
     }
 }
 
-/// Writes the digest of message `i` into `out[i]`, eight at a time. The messages after the last whole eight are left
-/// out.
+/// Writes the digest of message `i` into `out[i]`, eight at a time, up to the last whole eight.
 fn hash_eights<const D: usize>(messages: &[u8], width: usize, out: &mut [[u8; D]])
 where
     Sha256: DigestSize<D>,
@@ -320,8 +318,7 @@ where
     }
 }
 
-/// Writes the digest of message `i` into `out[i]`. The messages lie one after another, of `width` bytes each, as many
-/// as `out` has places.
+/// Writes the digest of message `i` into `out[i]`, for as many messages as `out` has places.
 pub(crate) fn hash_all<const D: usize>(messages: &[u8], width: usize, out: &mut [[u8; D]])
 where
     Sha256: DigestSize<D>,

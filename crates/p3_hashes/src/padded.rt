@@ -12,7 +12,7 @@ use crate::messages::{digest_of, lane_words, words};
 use std::alloc::AllocError;
 use std::simd::prelude::*;
 
-/// Block `t` of each of eight messages of `width` bytes, one message a lane.
+/// Block `t` of each of eight messages of `width` bytes, one message a lane. The messages must have the whole block.
 fn whole_block(messages: &[u8], width: usize, t: usize) -> [u32x8; 16]
     requires full { length messages.now ≡ 8 * width }
     requires inside { 64 * t + 64 ≤ width }
@@ -63,7 +63,7 @@ pub fn hash_padded_eight(blocks: &[u8], count: usize) -> [[u8; 32]; 8]
     digests
 }
 
-/// Puts a message behind other bytes, a byte and the rest of it, and its padding.
+/// Appends a message and its padding to `blocks`. The message is the byte `first`, then the bytes of `rest`.
 ///
 /// # Errors
 ///

@@ -81,7 +81,7 @@ impl CryptographicHasher<u8, u8, 32> for Sha256Rows {
     }
 }
 
-/// The digest of a group: that of its digests, one after another.
+/// The digest of a group of `N` digests: SHA-256 of their bytes, one digest after another.
 fn hash_group<const N: usize, const D: usize>(digests: &[[u8; D]; N]) -> [u8; 32]
     ensures { result ≡ sha256_nodes digests.now }
 {

@@ -1,6 +1,7 @@
 -- The check of an opening: its inputs, what it reaches, and when it is accepted.
 pub mod InputFacts
 pub mod PathFacts
+pub mod OneHeightFacts
 pub mod CheckFacts
 pub mod PlaceFacts
 pub mod Completeness

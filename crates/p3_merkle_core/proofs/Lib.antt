@@ -4,5 +4,3 @@ pub mod Checks
 pub mod Covered
 pub mod Pruned
 pub mod Collisions
-pub mod InParts
-pub mod Growths

@@ -6,5 +6,3 @@ pub mod GroupFacts
 pub mod FirstPairs
 pub mod ViewFacts
 pub mod SameRows
-pub mod RunFacts
-pub mod MixedGroups

@@ -6,5 +6,3 @@ pub mod Steps
 pub mod Levels
 pub mod Shapes
 pub mod Covered
-pub mod Growths
-pub mod Settings

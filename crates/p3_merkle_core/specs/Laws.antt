@@ -1,15 +1,14 @@
 -- What holds of the definitions, whatever the hash, the compression, the batch, the openings and the cap.
-use Rattle.std.specs.Prelude.{◌≡◌, ◌≢◌, ◌↔◌, ◌⊎◌, ℕ, suc, ◌+◌, ◌-◌, ◌*◌, ◌<◌, ◌≤◌, true, Bool, IsTrue, List, [], ◌∷◌}
+use Rattle.std.specs.Prelude.{◌≡◌, ◌≢◌, ◌↔◌, ◌⊎◌, ℕ, suc, ◌+◌, ◌*◌, ◌<◌, ◌≤◌, true, Bool, IsTrue, List, [], ◌∷◌}
 use Rattle.std.specs.Prelude.{◌++◌, None, Ok, Err, length, take, slice_index, All, map}
-use Rattle.std.specs.List.{count_by, flat_map, range_with_len}
+use Rattle.std.specs.List.{count_by, range_with_len}
 use Rattle.p3_merkle_core.specs.Geometry.{Shape, heights, levels, layer_exponent, exponent, layer_of, layer_len}
 use Rattle.p3_merkle_core.specs.Geometry.{halved_index, step, ancestor, arity_schedule, schedule_below}
 use Rattle.p3_merkle_core.specs.Geometry.{layer_below_root, raw_len, is_arity, IsArity, IsLawful}
 use Rattle.p3_support.specs.Batches.{dimensions_in, greatest}
 use Rattle.p3_merkle_core.specs.Caps.{cap_layer}
-use Rattle.p3_merkle_core.specs.Nodes.{Functions, Batch, HasFullRows, joined_rows, padded, shape, node, layer, layers}
+use Rattle.p3_merkle_core.specs.Nodes.{Functions, Batch, HasFullRows, joined_rows, shape, node, layer, layers}
 use Rattle.p3_merkle_core.specs.OneHeight.{HasHeight, cap_layer_of_height, levels_of_height, nodes_of_height}
-use Rattle.p3_merkle_core.specs.Parts.{AreHeights, AreParts, HasNodes, lifted, part_nodes, root}
 use Rattle.p3_merkle_core.specs.Openings.{Opening, honest, siblings_by, opening_in_layers}
 use Rattle.p3_merkle_core.specs.Checks.{Input, AgreeWhereShared, HasDigests, IsAccepted, IsAtOnePlace, IsLastShared}
 use Rattle.p3_merkle_core.specs.Checks.{inputs, is_authenticated, opened_row, path_digest, input_digest, check_digest}
@@ -160,30 +159,6 @@ module _ (T W : Type 0) where
       ((l j : ℕ) → l < levels (shape b) → j < nodes_of_height b.arity h (suc l) →
       node f b (suc l) j
       ≡ f.compression (map (λ i. node f b l (b.arity * j + i)) (range_with_len 0 b.arity)))
-
-  -- a layer of a batch, as a cap, has the batch's nodes
-  abbrev pub LayerHasNodes : Type 0
-  LayerHasNodes = (f : Functions T W) (b : Batch T) (t : ℕ) → IsArity b.arity → HasNodes f b t (layer f b t)
-
-  -- a layer that is not above the first part's root is what the parts have in it, one after another, and padding
-  abbrev pub PartsMakeLayers : Type 0
-  PartsMakeLayers =
-      (f : Functions T W) (b : Batch T) (heights : List ℕ) (part : ℕ → Batch T) (l : ℕ) → IsArity b.arity →
-      AreHeights b.arity heights → AreParts b heights part →
-      l ≤ levels_of_height b.arity (slice_index heights 0) →
-      layer f b l ≡ padded (layer_len (shape b) l) f.default_digest
-      (flat_map (λ k. part_nodes f l (part k)) (range_with_len 0 (length heights)))
-
-  -- the layer of the first part's root is the parts' roots, the last one lifted by the levels that it lacks, and
-  -- padding
-  abbrev pub PartsMakeRoots : Type 0
-  PartsMakeRoots =
-      (f : Functions T W) (b : Batch T) (heights : List ℕ) (part : ℕ → Batch T) → IsArity b.arity →
-      AreHeights b.arity heights → AreParts b heights part →
-      let s = levels_of_height b.arity (slice_index heights 0) in
-      layer f b s ≡ padded (layer_len (shape b) s) f.default_digest
-      (map (λ k. lifted f b.arity (s - levels (shape (part k))) (root f (part k)))
-      (range_with_len 0 (length heights)))
 
   -- ---- honest openings
 

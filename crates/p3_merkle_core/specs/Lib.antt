@@ -8,15 +8,9 @@ pub mod Openings
 pub mod Checks
 pub mod Pruning
 pub mod Refusals
-pub mod Raised
-pub mod Parts
-pub mod Consistency
-pub mod ConsistencyRefusals
 pub mod Presented
 pub mod Extraction
 pub mod Views
-pub mod Inconsistency
-pub mod ConsistencyLaws
 pub mod Commitments
 pub mod Opened
 pub mod Laws
@@ -26,6 +20,4 @@ pub mod NodeExamples
 pub mod OpeningExamples
 pub mod PruningExamples
 pub mod PrunedCallExamples
-pub mod ConsistencyExamples
-pub mod InconsistencyExamples
 pub mod Inner

@@ -1,5 +1,4 @@
--- Trees over matrices of one height h, as over a list that grows: each step is the arity n, and the leaves alone have
--- rows.
+-- Trees over matrices of one height h: each step is the arity n, and the leaves alone have rows.
 use Rattle.std.specs.Prelude.{◌≡◌, ℕ, ◌-◌, ◌^◌, ◌<◌, nat_le, length, All}
 use Rattle.std.specs.Int.{div_ceil}
 use Rattle.p3_merkle_core.specs.Geometry.{Shape, least}

@@ -9,10 +9,10 @@ pub enum Place {
     Leaf,
     /// The digests compressed on this level: the path's own among its siblings, then default digests.
     Group(usize),
-    /// The words hashed for the matrices injected above this level.
+    /// The words hashed for the matrices that belong to the layer above this level.
     Rows(usize),
-    /// The digests compressed when rows are injected above this level: that of the group, that of the rows, then
-    /// default digests.
+    /// The digests compressed if matrices belong to the layer above this level: the group's, the rows', then default
+    /// digests.
     Pair(usize),
 }
 
@@ -41,24 +41,3 @@ pub enum InputPair<T, X> {
 
 /// Two different inputs with one digest, at one place of two checks: of words `T`, or of digests of `D` words `W`.
 pub type Collision<T, W, const D: usize> = InputPair<T, [W; D]>;
-
-/// Which checks an inconsistency is between, where a list of rows grows.
-#[derive(Debug, PartialEq, Eq, Drop)]
-pub enum Between {
-    /// The checks of the old opening and of the proof of consistency, in the old tree.
-    OldTree,
-    /// The checks of the new opening and of the proof of consistency, in the new tree.
-    NewTree,
-    /// The checks of both openings, below the highest old node above their leaf.
-    Openings,
-}
-
-/// What two openings of one index lead to, if they differ under an old cap and a new one: two different inputs with one
-/// digest, of words `T` or of digests `X`.
-#[derive(Debug, PartialEq, Eq, Drop)]
-pub struct Inconsistency<T, X> {
-    /// Which checks the inputs are of.
-    pub between: Between,
-    /// The inputs: the first of an opening's check, the second of the proof's check or of the new opening's.
-    pub inputs: InputPair<T, X>,
-}

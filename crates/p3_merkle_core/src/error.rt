@@ -2,7 +2,6 @@
 
 ghost use Rattle.std.specs.Prelude.{◌≡◌};
 ghost use Rattle.p3_merkle_core.specs.declared.error.MerkleTreeError.TheVariants.{MalformedPrunedProof, OutOfMemory};
-ghost use Rattle.p3_merkle_core.specs.declared.error.PartsError.TheVariants.{OutOfMemory as PartsOutOfMemory};
 
 use std::alloc::{AllocError, AllocFailed};
 use thiserror::Error;
@@ -24,7 +23,7 @@ pub enum PrunedProofError {
         /// The position of the index, from 0, among the distinct queried indices, ascending.
         slot: usize,
     },
-    /// Two queries under one node have different rows of a matrix that is injected there.
+    /// Two queries under one node have different rows of a matrix that belongs to the node's layer.
     #[error("unique path slot {slot} disagrees with its group's lead on matrix {matrix}'s opened row")]
     InconsistentGroupOpening {
         /// The position, from 0, among the distinct queried indices, ascending, of the index whose row differs from
@@ -94,8 +93,7 @@ pub enum MerkleTreeError {
     /// The pruned proof does not fit its queries and rows.
     #[error("malformed pruned proof: {0}")]
     MalformedPrunedProof(PrunedProofError),
-    /// A height is above 2^62, the greatest one allowed; or, in the salted scheme, a width with its salts does not fit
-    /// `usize`.
+    /// A height is above 2^62, the greatest one allowed; or, with salts, a width does not fit `usize`.
     #[error("matrix {matrix}: size {size} is too large")]
     TooLarge {
         /// The position of the matrix in input order, from 0.
@@ -106,86 +104,6 @@ pub enum MerkleTreeError {
     /// Memory ran out.
     #[error("out of memory")]
     OutOfMemory,
-}
-
-/// Why heights, openings or a proof of consistency are refused, where a list of rows grows.
-///
-/// A call answers the first of these that applies, in this order; `OutOfMemory` may come at any time where the call
-/// allocates.
-#[derive(Debug, PartialEq, Eq, Drop, Error)]
-pub enum ConsistencyError {
-    /// The matrices of a batch have not all one height.
-    #[error("heights differ: matrix {matrix} has another height than matrix 0")]
-    HeightsDiffer {
-        /// The place in input order of the first matrix that has not the height of the first one.
-        matrix: usize,
-    },
-    /// The old matrices and the new ones are not as many, or have not the same widths.
-    #[error("widths differ: matrix {matrix} has not one width before and after")]
-    WidthsDiffer {
-        /// The place in input order of the first matrix that has another width, or that one of both lists lacks.
-        matrix: usize,
-    },
-    /// The opening under the old cap is refused.
-    #[error("old opening: {0}")]
-    OldOpening(MerkleTreeError),
-    /// The opening under the new cap is refused.
-    #[error("new opening: {0}")]
-    NewOpening(MerkleTreeError),
-    /// The old height or the new one is 0.
-    #[error("empty batch: a height is 0")]
-    EmptyBatch,
-    /// A height is above 2^62, the greatest one allowed: the old one, else the new one.
-    #[error("height {height} is too large")]
-    TooLarge {
-        /// The height, in rows.
-        height: usize,
-    },
-    /// The new height is below the old one.
-    #[error("shrunk: old height {old}, new height {new}")]
-    Shrunk {
-        /// The old height, in rows.
-        old: usize,
-        /// The new height, in rows.
-        new: usize,
-    },
-    /// The number of digests is not what the heights require.
-    #[error("wrong digest count: expected {expected}, got {got}")]
-    WrongDigestCount {
-        /// How many digests the heights require.
-        expected: usize,
-        /// How many digests the proof has.
-        got: usize,
-    },
-    /// An entry of the old cap that is read is missing, or is another digest than the one computed.
-    #[error("old cap mismatch: an entry is missing or is another digest than the one computed")]
-    OldCapMismatch,
-    /// An entry of the new cap that is read is missing, or is another digest than the one computed.
-    #[error("new cap mismatch: an entry is missing or is another digest than the one computed")]
-    NewCapMismatch,
-    /// Memory ran out.
-    #[error("out of memory")]
-    OutOfMemory,
-}
-
-impl From<AllocError> for ConsistencyError {
-    ghost use Rattle.p3_merkle_core.specs.declared.error.ConsistencyError.TheVariants.{OutOfMemory};
-
-    ghost from_gives = { λ _ e. e ≡ OutOfMemory };
-
-    fn from(_error: AllocError) -> ConsistencyError {
-        ConsistencyError::OutOfMemory
-    }
-}
-
-impl<T: Drop> From<AllocFailed<T>> for ConsistencyError {
-    ghost use Rattle.p3_merkle_core.specs.declared.error.ConsistencyError.TheVariants.{OutOfMemory};
-
-    ghost from_gives = { λ _ e. e ≡ OutOfMemory };
-
-    fn from(_error: AllocFailed<T>) -> ConsistencyError {
-        ConsistencyError::OutOfMemory
-    }
 }
 
 impl From<PrunedProofError> for MerkleTreeError {
@@ -209,57 +127,5 @@ impl<T: Drop> From<AllocFailed<T>> for MerkleTreeError {
 
     fn from(_error: AllocFailed<T>) -> MerkleTreeError {
         MerkleTreeError::OutOfMemory
-    }
-}
-
-/// Why the caps of the parts of a list cannot be joined into the cap of the whole. A call returns the first of these
-/// that applies, in this order; `OutOfMemory` may come at any time.
-#[derive(Debug, PartialEq, Eq, Drop, Error)]
-pub enum PartsError {
-    /// There are no heights.
-    #[error("no parts: there is nothing to commit to")]
-    NoParts,
-    /// There are more or fewer caps than heights.
-    #[error("wrong cap count: expected {expected} caps, one for each height, got {got}")]
-    WrongCapCount {
-        /// How many heights there are.
-        expected: usize,
-        /// How many caps there are.
-        got: usize,
-    },
-    /// The height of a part is not allowed. All parts but the last have one height, a power of the arity; the last part
-    /// has at least one row, and no more than the first.
-    #[error("part {part} has a height that does not fit the others")]
-    PartHeight {
-        /// The position of the first such part, from 0.
-        part: usize,
-    },
-    /// The heights add up to more than 2^62 rows.
-    #[error("too many rows in all parts: more than 2^62")]
-    TooLarge,
-    /// A cap has fewer digests than its layer has nodes.
-    #[error("the cap of part {part} is too short for its height")]
-    CapTooShort {
-        /// The position of the first such part, from 0.
-        part: usize,
-    },
-    /// Memory ran out.
-    #[error("out of memory")]
-    OutOfMemory,
-}
-
-impl From<AllocError> for PartsError {
-    ghost from_gives = { λ _ e. e ≡ PartsOutOfMemory };
-
-    fn from(_error: AllocError) -> PartsError {
-        PartsError::OutOfMemory
-    }
-}
-
-impl<T: Drop> From<AllocFailed<T>> for PartsError {
-    ghost from_gives = { λ _ e. e ≡ PartsOutOfMemory };
-
-    fn from(_error: AllocFailed<T>) -> PartsError {
-        PartsError::OutOfMemory
     }
 }

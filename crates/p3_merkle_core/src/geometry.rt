@@ -1,4 +1,7 @@
 //! Heights, widths and lengths of layers, computed from the dimensions of matrices. Nothing here allocates.
+//!
+//! Heights are lawful if each is the tallest one halved, and each time rounded up, some number of times. The slots of a
+//! layer are its nodes, then default digests as padding.
 
 ghost use Rattle.std.specs.Prelude.{◌≡◌, ◌/◌, ◌%◌, ◌^◌, ◌<◌, ◌≤◌, Some, None, MatchResult, map};
 ghost use Rattle.p3_support.specs.Batches.{heights_of, greatest};
@@ -57,7 +60,7 @@ pub fn bits_reduced_of(max_height: usize, height: usize) -> usize
 
 /// The lawful height with this exponent, where `max_height` is the tallest: `max_height` halved, and each time rounded
 /// up, until it has the exponent. Where the exponent of `max_height` is not above `exponent`, it is `max_height`
-/// itself, but 1 for 0. `max_height` must be at most [`MAX_HEIGHT`].
+/// itself, or 1 if that is 0. `max_height` must be at most [`MAX_HEIGHT`].
 pub fn height_of_exponent(max_height: usize, exponent: usize) -> usize
     requires { max_height ≤ height_limit }
     ensures { result ≡ height_at max_height exponent }
@@ -127,7 +130,7 @@ pub fn padded_len(len: usize, arity: usize) -> usize
     }
 }
 
-/// The parent of a node. `step` is the number of a parent's children, and must be at least 1.
+/// The parent of a node, both by their numbers in their layers. `step` is how many children a parent has, at least 1.
 pub fn parent_of(node: usize, step: usize) -> usize
     requires { 0 < step }
     ensures { result ≡ node / step }
@@ -141,8 +144,8 @@ pub fn parent_of(node: usize, step: usize) -> usize
     }
 }
 
-/// The position of a node among its parent's children, from 0. `step` is the number of a parent's children, and must be
-/// at least 1.
+/// The position of a node among its parent's children, from 0. `node` is its number in its layer, and `step` how many
+/// children a parent has, at least 1.
 pub fn position_of(node: usize, step: usize) -> usize
     requires { 0 < step }
     ensures { result ≡ node % step }

@@ -1,6 +1,18 @@
 //! Laws of the definitions, each as the contract of a function that does nothing; and functions whose contracts say
 //! that `==` on errors, openings, proofs, paths and collisions is equality of values. The laws hold for every hash,
 //! every compression, every batch and every opening. The contracts of the crates above cite the same definitions.
+//!
+//! - The exponent of a height is its log2, rounded up. Heights are lawful if each is the tallest one halved, and each
+//!   time rounded up, some number of times.
+//! - Layer 0 is the leaves. A matrix belongs to the layer of its exponent; the cap is one layer, and authenticates the
+//!   matrices of its own layer and of those below it.
+//! - The honest opening of an index has the rows and siblings that the batch's own tree has.
+//! - A node is covered if it is a queried leaf or above one. The boundary is the children of covered nodes that are not
+//!   covered themselves: a pruned opening has their digests. It restores if its form is right and its rows agree: then
+//!   it gives the digest of each covered node, and the path of each query.
+//! - The check of an opening has an input at each place of its path: the words hashed at the leaf; on each level the
+//!   digests of a group and, if matrices belong to the layer above, their words and the digests of a pair. Two checks
+//!   share a place if they reach one node there.
 
 ghost use Rattle.std.specs.Prelude.{◌≡◌, ◌↔◌, IsTrue};
 ghost use Rattle.p3_merkle_core.specs.Refusals.{IsEquality};
@@ -15,15 +27,12 @@ ghost use Rattle.p3_merkle_core.specs.Laws.{LastDifferenceCollides, LastInputIsR
 ghost use Rattle.p3_merkle_core.specs.Laws.{MatricesHaveLayers, OkIsAccepted, OkIsCapped, OkIsEachAccepted};
 ghost use Rattle.p3_merkle_core.specs.Laws.{OkIsRestorable, OkOrCapMismatch, OneIndexIsBound, OwnOpeningIsHonest};
 ghost use Rattle.p3_merkle_core.specs.Laws.{OwnPrunedOpeningIsHonest, PrunedAnswerIsExtraction, RefusedUnderEachCap};
-ghost use Rattle.p3_merkle_core.specs.Laws.{LayerHasNodes, OneHeightIsEnough, OneHeightNodesAreChildren};
-ghost use Rattle.p3_merkle_core.specs.Laws.{PartsMakeLayers, PartsMakeRoots};
+ghost use Rattle.p3_merkle_core.specs.Laws.{OneHeightIsEnough, OneHeightNodesAreChildren};
 ghost use Rattle.p3_merkle_core.specs.Laws.{RootIsAlone, RowsAreAncestors, RowsAreBound, RulesAgree};
 ghost use Rattle.p3_merkle_core.specs.Laws.{ScheduleStopsAtCap, TestedIsArity, UnrefusedIsLawful, WalkEnds};
-ghost use Rattle.p3_merkle_core.specs.ConsistencyLaws.{HonestIsConsistent, OldNodesStay, ProofsAreShort};
-ghost use Rattle.p3_merkle_core.specs.ConsistencyLaws.{FoundIsInconsistency, RowsStay, UnrefusedIsConsistent};
 
 use crate::collision::{Collision, InputPair, Place};
-use crate::error::{MerkleTreeError, PartsError, PrunedProofError};
+use crate::error::{MerkleTreeError, PrunedProofError};
 use crate::pruning::{MerkleAuthPath, PrunedBatchOpening, PrunedMerklePaths};
 use p3_support::matrix::Matrix;
 use p3_support::opening::BatchOpening;
@@ -38,13 +47,6 @@ pub fn error_eq(a: &MerkleTreeError, b: &MerkleTreeError) -> bool
 
 /// `==` holds of two errors of pruned proofs exactly if they are the same value.
 pub fn pruned_proof_error_eq(a: &PrunedProofError, b: &PrunedProofError) -> bool
-    ensures { IsTrue result ↔ (a.now ≡ b.now) }
-{
-    *a == *b
-}
-
-/// `==` holds of two errors of parts exactly if they are the same value.
-pub fn parts_error_eq(a: &PartsError, b: &PartsError) -> bool
     ensures { IsTrue result ↔ (a.now ≡ b.now) }
 {
     *a == *b
@@ -118,11 +120,11 @@ pub fn collision_eq<P: PackedValue, PW: PackedValue, const D: usize>(
 /// What holds of the shape of every tree, by clause:
 ///
 /// - `arities`: the test of arities accepts exactly the powers of two from 2 to 2^62;
-/// - `ends`: the steps from the leaves to the root end, for all heights;
+/// - `ends`: the steps from the leaves lead to the root, for all heights;
 /// - `root`: the root is one node, unless no matrix has a row;
 /// - `schedule`: the steps below a cap are the first of all steps;
 /// - `layers`: each matrix has a layer of its exponent;
-/// - `rows`: for lawful heights the row of an index in a matrix is the index's ancestor in that layer;
+/// - `rows`: for lawful heights the row of an index in a matrix has the number of the index's ancestor in that layer;
 /// - `gate`: [`check_heights`](crate::steps::check_heights) accepts exactly the lawful heights.
 pub fn shape()
     ensures arities { TestedIsArity }
@@ -134,55 +136,49 @@ pub fn shape()
     ensures gate { UnrefusedIsLawful }
 {}
 
-/// The dimensions that [`dimensions_of`](p3_support::matrix::dimensions_of) returns of matrices are those in the shape
-/// of their batch, under which their openings are accepted.
+/// The dimensions that [`dimensions_of`](p3_support::matrix::dimensions_of) returns of matrices are those for which the
+/// definitions accept the matrices' own openings.
 pub fn dimensions<T, M: Matrix<T>, const N: usize>()
     ensures { BatchHasDimensions M.height_of M.width_of M.row_of N }
 {}
 
-/// Under the rule `Lowered` a cap authenticates every matrix. If a cap of the rule `Fixed` does so too, both rules give
-/// the same cap. Under `Fixed` the cap is the layer `cap_height` levels below the root, or the leaves if there are
-/// fewer levels.
+/// What holds of caps by the rules of [`CapRule`](crate::cap::CapRule), by clause:
+///
+/// - `lowered`: under the rule `Lowered` a cap authenticates every matrix;
+/// - `agree`: if a cap of the rule `Fixed` does so too, both rules give the same cap;
+/// - `fixed`: under `Fixed` the cap is the layer `cap_height` levels below the root, or the leaves if there are fewer.
 pub fn caps()
     ensures lowered { LoweredLeavesNoneOut }
     ensures agree { RulesAgree }
     ensures fixed { FixedIsBelowRoot }
 {}
 
-/// Over matrices of one height each step is the arity, the levels, the nodes of each layer and the cap's layer follow
-/// from the height, and each node above the leaves is the compression of its children.
+/// What holds of matrices of one height, by clause:
+///
+/// - `shape`: each step is the arity; levels, nodes of each layer and the cap's layer follow from the height;
+/// - `nodes`: a leaf is the hash of its rows, and each node above the leaves the compression of its children.
 pub fn one_height<T, W>()
     ensures shape { OneHeightIsEnough }
     ensures nodes { OneHeightNodesAreChildren T W }
 {}
 
-/// A list is cut into parts, all but the last of one height, which is a power of the arity. By clause:
+/// What is accepted under a layer of the batch's own tree as the cap, by clause:
 ///
-/// - `caps`: a cap that is a layer of its batch has the batch's nodes;
-/// - `layers`: up to the first part's root, a layer of the list is the parts' layers, one after another, then default
-///   digests;
-/// - `roots`: the layer of the first part's root is the list of the parts' roots, then default digests. The last part's
-///   root is first compressed with default digests, once for each level that it lacks.
-pub fn parts<T, W>()
-    ensures caps { LayerHasNodes T W }
-    ensures layers { PartsMakeLayers T W }
-    ensures roots { PartsMakeRoots T W }
-{}
-
-/// The honest opening of each index is accepted, and the honest pruned opening of each list of indices.
+/// - `single`: the honest opening of each index;
+/// - `pruned`: the honest pruned opening of each list of indices.
 pub fn completeness<T, W>()
     ensures single { HonestIsAccepted T W }
     ensures pruned { HonestQueryIsAccepted T W }
 {}
 
-/// What an honest pruned opening restores, and what is read from a tree's own layers, by clause:
+/// What an honest pruned opening restores, and what is read from the layers of the batch's own tree, by clause:
 ///
 /// - `nodes`: each covered node, up to the cap's layer, is restored as the tree's own node;
 /// - `paths`: the restored path of each query has the siblings of the honest opening of its index;
 /// - `in_order`: the restored paths are in query order;
-/// - `opening`, `pruned_opening`: the opening that is read from the layers of a batch's own tree is the honest one, for
-///   one index and for several;
-/// - `capped`: the tree's own layer, taken as the cap, has the restored digest of each covered node of that layer.
+/// - `opening`: the opening of an index that is read from the tree's layers is the honest one;
+/// - `pruned_opening`: so is the pruned opening of several;
+/// - `capped`: the tree's own layer, as the cap, has the restored digest of each covered node of that layer.
 pub fn restoration<T, W>()
     ensures nodes { HonestNodesAreRestored T W }
     ensures paths { HonestPathsAreRestored T W }
@@ -195,14 +191,13 @@ pub fn restoration<T, W>()
 /// What a verifier's answer means, by clause:
 ///
 /// - `single`: a single opening is answered `Ok` exactly if it is accepted;
-/// - `pruned`: a pruned opening is answered `Ok`, whatever the cap, exactly if it restores;
-/// - `under_cap`: it is answered `Ok` under a cap exactly if it restores and the cap has each covered node of its
-///   layer;
-/// - `each_path`: it is so exactly if it restores and each query is accepted with its restored path;
-/// - `restored`: of an opening that restores, the two last conditions are one;
+/// - `pruned`: without a cap, a pruned opening is answered `Ok` exactly if it restores;
+/// - `under_cap`: under a cap it is so exactly if it restores and the cap has each covered node of its layer;
+/// - `each_path`: under a cap it is so exactly if it restores and each query is accepted with its restored path;
+/// - `restored`: of an opening that restores, the two conditions under a cap are one;
 /// - `refused`: an opening that does not restore is refused with the same error under each cap;
 /// - `answered`: one that restores is answered `Ok` under a cap exactly if each query is, with its restored path;
-/// - `mismatch`: one that restores is answered `Ok` or `CapMismatch`.
+/// - `mismatch`: one that restores is answered `Ok` or `CapMismatch` under each cap.
 pub fn answers<T, W>()
     ensures single { OkIsAccepted T W }
     ensures pruned { OkIsRestorable T W }
@@ -217,12 +212,11 @@ pub fn answers<T, W>()
 /// What two accepted openings of one cap fix, by clause:
 ///
 /// - `collision`: if they differ at a shared place, the last such place has two different inputs with one digest;
-/// - `single`, `pruned`: the result that the definitions give for two openings has all properties of `IsExtraction`;
-/// - `rows`: if they agree at each shared place, every row of an authenticated matrix that both open has the same
-///   words;
-/// - `one_index`: two of one index agree exactly if they have the same siblings, and the same row of each authenticated
-///   matrix;
-/// - `full`: each group that a check compresses has as many digests as the arity;
+/// - `single`, `pruned`: the result that the definitions give for two openings is the first refusal; else `None` if all
+///   checks agree where they share a place; else the collision of the first two queries whose checks differ;
+/// - `rows`: if they agree at each shared place, each row of an authenticated matrix that both open is the same;
+/// - `one_index`: two of one index agree exactly if they have the same siblings, and the same authenticated rows;
+/// - `full`: each group or pair that a check compresses has as many digests as the arity;
 /// - `last`: the digest of a check's last input is the one that is compared with the cap.
 pub fn extraction<T, W>()
     ensures collision { LastDifferenceCollides T W }
@@ -234,12 +228,15 @@ pub fn extraction<T, W>()
     ensures last { LastInputIsReached T W }
 {}
 
-/// Why a pruned proof has the digests of the boundary, by clause:
+/// Why a pruned proof has the digests of the boundary, by clause. A list of nodes suffices if the digests of these and
+/// the queried leaves are enough to compute each covered node of the cap's layer.
 ///
-/// - `suffices`: boundary nodes and queried leaves are enough to compute each covered node of the cap's layer;
-/// - `smallest`, `alone`, `least`: no other set of uncovered nodes that suffices is as small as the boundary;
+/// - `suffices`: the boundary suffices;
+/// - `smallest`: no list of uncovered nodes that suffices is shorter than the boundary;
+/// - `alone`: one that is as short has the boundary's nodes;
+/// - `least`: the boundary suffices, and every other list of uncovered nodes that suffices is longer;
 /// - `apart`: no node is under two boundary nodes;
-/// - `held`: a set of uncovered nodes that suffices has each boundary node, or two different nodes under it.
+/// - `held`: a list of uncovered nodes that suffices has each boundary node, or two different nodes under it.
 pub fn boundary()
     ensures suffices { BoundarySuffices }
     ensures smallest { BoundaryIsSmallest }
@@ -247,25 +244,4 @@ pub fn boundary()
     ensures least { BoundaryIsLeast }
     ensures apart { BoundaryNodesAreApart }
     ensures held { BoundaryNodesAreHeld }
-{}
-
-/// What holds of proofs of consistency, by clause:
-///
-/// - `short`: a proof has at most `N - 1` digests for each layer below the new cap, and one more;
-/// - `one_value`: if a new batch begins with the rows of an old one, each old node has one value in both trees;
-/// - `honest`: then the proof that is read from the new tree is accepted under both caps;
-/// - `unrefused`: a proof that is not refused is one that is accepted.
-pub fn consistency<T, W>()
-    ensures short { ProofsAreShort }
-    ensures one_value { OldNodesStay T W }
-    ensures honest { HonestIsConsistent T W }
-    ensures unrefused { UnrefusedIsConsistent T W }
-{}
-
-/// Two openings of one index that are accepted under the old cap and the new one of a list that grows, where a proof of
-/// consistency is accepted between both: what is found is two different inputs with one digest, and where nothing is
-/// found, their rows are the same.
-pub fn append_only<T, W>()
-    ensures found { FoundIsInconsistency T W }
-    ensures rows { RowsStay T W }
 {}

@@ -1,4 +1,4 @@
-//! What is known of a layer before it is built: how many nodes and slots it has, and which rows are injected there.
+//! What is known of a layer before it is built: how many nodes and slots it has, and which rows belong to it.
 
 /// A level of a tree whose upper layer is not built yet: the step from the layer `below`, and the shape of the layer
 /// above it, to which the other fields belong.

@@ -5,12 +5,10 @@
 
 pub mod cap;
 pub mod collision;
-pub mod consistency;
 pub mod error;
 pub mod geometry;
 pub mod group;
 pub mod laws;
 pub mod levels;
-pub mod parts;
 pub mod pruning;
 pub mod steps;

@@ -1,6 +1,12 @@
 //! Pruned openings: their form, whether their rows agree, the nodes that they cover, and the paths that are read from
-//! their layers. Nothing here needs a cap or a hash. Rows agree if queries of one index have one row set, and queries
-//! under one node have the same rows of the matrices of the node's layer.
+//! their layers. Nothing here needs a cap or a hash.
+//!
+//! - A query is the index of a leaf. Its row set has one row of each matrix. The slot of an index is its position among
+//!   the distinct indices, ascending.
+//! - A node is covered if it is a queried leaf or above one. The boundary is the children of covered nodes that are not
+//!   covered themselves: a proof has their digests.
+//! - The exponent of a height is its log2, rounded up. A matrix belongs to the layer of its exponent.
+//! - Rows agree if queries of one index have one row set, and queries under a node one row of each matrix of its layer.
 
 ghost use Rattle.std.specs.Prelude.{◌≡◌, ℕ, ◌+◌, ◌-◌, ◌*◌, ◌/◌, ◌%◌, ◌^◌, ◌<◌, ◌≤◌, ◌⊎◌, ◌++◌, Some, None, List};
 ghost use Rattle.std.specs.Prelude.{[], All, IfOk, MatchResult, length, map, remove, slice_index, slice_index_or, true};
@@ -25,21 +31,17 @@ use crate::steps::{Covered, Steps, check_heights};
 use p3_support::matrix::Dimensions;
 use std::alloc::{AllocError, Global};
 
-/// The digests of a pruned proof, which opens several leaves at once. [`PrunedMerklePaths`] is this proof at digests of
-/// words.
+/// The digests of a pruned proof, which opens several leaves at once. [`PrunedMerklePaths`] has digests of words.
 #[derive(Debug, Clone, PartialEq, Eq, Drop)]
 pub struct PrunedProof<X> {
-    /// The digests of the boundary in wire order: level by level from the leaves up, ascending on each level. A node is
-    /// covered if it is a queried leaf or above one; the boundary is the children of covered nodes that are not covered
-    /// themselves.
+    /// The digests of the boundary in wire order: level by level from the leaves up, ascending on each level.
     pub sibling_hashes: Vec<X>,
 }
 
 /// The digests of a pruned proof, of `D` words each (`PrunedMerklePaths` in the Rust crate).
 pub type PrunedMerklePaths<W, const D: usize> = PrunedProof<[W; D]>;
 
-/// The rows of several leaves, and one proof for all of them. [`PrunedBatchOpening`] is this opening at digests of
-/// words.
+/// The rows of several leaves, and one proof for all of them. [`PrunedBatchOpening`] has digests of words.
 #[derive(Debug, Clone, PartialEq, Eq, Drop)]
 pub struct PrunedRows<T, X> {
     /// For each query, in query order, one row of each matrix, in input order.
@@ -52,8 +54,7 @@ pub struct PrunedRows<T, X> {
 /// Rust crate).
 pub type PrunedBatchOpening<T, W, const D: usize> = PrunedRows<T, [W; D]>;
 
-/// A leaf and the siblings on its path, as a pruned proof restores them. [`MerkleAuthPath`] is this path at digests of
-/// words.
+/// A leaf and the siblings on its path, as a pruned proof restores them. [`MerkleAuthPath`] has digests of words.
 #[derive(Debug, Clone, PartialEq, Eq, Drop)]
 pub struct AuthPath<X> {
     /// The index of the leaf, from 0.
@@ -93,8 +94,8 @@ pub struct DistinctQueries {
 ///
 /// # Errors
 ///
-/// `IndexOutOfBounds` with the highest index, if that is not below `max_height`; with the index 0, if there are no
-/// indices and `max_height` is 0.
+/// `IndexOutOfBounds` with the highest index if that is not below `max_height`, or with 0 if `max_height` is 0 and
+/// there is no index.
 pub fn check_indices(max_height: usize, indices: &[usize]) -> Result<(), MerkleTreeError>
     ensures answer { MatchResult result (λ ok. queries_refusal max_height indices.now ≡ None)
         (λ e. queries_refusal max_height indices.now ≡ Some e) }
@@ -114,8 +115,8 @@ pub fn check_indices(max_height: usize, indices: &[usize]) -> Result<(), MerkleT
     }
 }
 
-/// The distinct indices, ascending, and the slot of each query's index, in query order. `sorted` has each query as its
-/// index and its position, ascending.
+/// The distinct indices, ascending, and the slot of each query, in query order. `indices` has the index of each query,
+/// and `sorted` has each query as its index and its position, ascending.
 fn distinct_slots(
     alloc: Global,
     sorted: &[(usize, usize)],
@@ -161,7 +162,8 @@ fn distinct_queries_of(alloc: Global, queries: &[usize]) -> Result<DistinctQueri
     })
 }
 
-/// Checks that each query has the row set of the first query of its index.
+/// Checks that each query has the row set of the first query of its index, else `InconsistentDuplicateOpenings`. `rows`
+/// has the row set of each of `indices`, and `queried` their slots.
 fn check_repeats<T: Eq>(
     indices: &[usize],
     rows: &[Vec<Vec<T>>],
@@ -211,9 +213,10 @@ fn check_same_rows<T: Eq>(
     Ok(())
 }
 
-/// Checks that slots under one node of a layer have the same rows of the layer's matrices, which are given by their
-/// positions. Each slot is compared with the first one under its node. A node's number is an index without its lowest
-/// `bits` bits; the indices ascend.
+/// Checks that slots under one node of a layer have the same rows of `matrices`, the positions of the layer's matrices,
+/// else `InconsistentGroupOpening`. Each slot is compared with the first one under its node. `indices` are distinct and
+/// ascending; `first_queries` has the first query of each, whose row set in `rows` is compared. A node's number is an
+/// index without its lowest `bits` bits.
 fn check_rows_under_nodes<T: Eq>(
     matrices: &[usize],
     indices: &[usize],
@@ -261,8 +264,8 @@ fn list_matrices(
     Ok(())
 }
 
-/// Checks that slots under one node have the same rows of the matrices of its layer, layer by layer up to the cap's.
-/// The row set of each slot has a row for each matrix.
+/// Checks that slots under one node have the same rows of the matrices of its layer, layer by layer up to layer
+/// `cap_layer`, else `InconsistentGroupOpening`. `rows` has the row set of each query, with a row for each matrix.
 fn check_shared_rows<T: Eq>(
     alloc: Global,
     steps: &Steps<'_>,
@@ -305,12 +308,13 @@ fn check_shared_rows<T: Eq>(
     Ok(())
 }
 
-/// Checks everything about a pruned opening that does not depend on the cap's digests: whether its paths can be
-/// restored up to layer `cap_layer`. Returns its distinct indices, with their queries. `cap_layer` must be at most the
-/// number of levels, and the arity a power of two from 2 to 2^62.
+/// Checks everything about a pruned opening that does not depend on the cap's digests: whether the siblings of its
+/// queries can be computed up to layer `cap_layer`. Returns its distinct indices, with their queries. `rows` has the
+/// row set of each index, and the proof has `num_digests` digests. `cap_layer` must be at most the number of levels,
+/// and the arity a power of two from 2 to 2^62.
 ///
 /// It sorts the indices once, and allocates at most five numbers for each index at a time, and one for each matrix of a
-/// layer above the leaves. The number of allocations doesn't depend on the indices.
+/// layer above the leaves.
 ///
 /// # Errors
 ///
@@ -322,10 +326,9 @@ fn check_shared_rows<T: Eq>(
 /// - `IndexOutOfBounds`: the highest index is not below the tallest height;
 /// - `InconsistentDuplicateOpenings`: the row set of a query is not that of the first query of its index;
 /// - `SiblingCountMismatch`: the number of digests is not that of the boundary nodes;
-/// - `WrongBatchSize`, `WrongWidth`: by ascending indices, the error of [`check_widths`] for the first query of the
-///   index;
-/// - `InconsistentGroupOpening`: layer by layer, by ascending indices and in input order of the matrices, a row is
-///   not that of the lowest index under the same node.
+/// - `WrongBatchSize`, `WrongWidth`: by ascending indices, the error of [`check_widths`] for the first query of each;
+/// - `InconsistentGroupOpening`: layer by layer, by ascending indices and in input order of the matrices, a row is not
+///   that of the lowest index under the same node.
 pub fn check_pruned<T: Eq>(
     alloc: Global,
     steps: &Steps<'_>,
@@ -354,8 +357,8 @@ pub fn check_pruned<T: Eq>(
     Ok(queried)
 }
 
-/// Checks heights, the number of row sets, that there is no digest where there is no index, and that each index is
-/// below the tallest height, in this order. It does not allocate.
+/// Checks, in this order: the heights; that there is a row set for each index; that there is no digest where there is
+/// no index; and that each index is below the tallest height. It does not allocate.
 fn check_queries(
     steps: &Steps<'_>,
     indices: &[usize],
@@ -380,7 +383,7 @@ fn check_queries(
     check_indices(steps.max_height, indices)
 }
 
-/// Checks that a proof has as many digests as it should have.
+/// Checks that a proof has `expected` digests, where it has `got`, else `SiblingCountMismatch`.
 fn check_digest_count(expected: usize, got: usize) -> Result<(), MerkleTreeError>
     ensures { MatchResult result (λ ok. digest_count_refusal expected got ≡ None)
         (λ e. digest_count_refusal expected got ≡ Some e) }
@@ -442,8 +445,8 @@ pub fn children_of<X: Copy>(
     Ok(children)
 }
 
-/// The place of a node among ascending nodes. The search begins at `start`, if the node isn't before it, and takes a
-/// step for each node that it passes.
+/// The place of `node` among ascending nodes, of which it must be one. The search begins at the place `start`, or at 0
+/// if the node is before it, and takes a step for each node that it passes.
 fn place_of(nodes: &[usize], start: usize, node: usize) -> usize
     requires ascending { IsStrictlyIncreasing nodes.now }
     requires among { is_among nodes.now node ≡ true }
@@ -460,11 +463,13 @@ fn place_of(nodes: &[usize], start: usize, node: usize) -> usize
     place
 }
 
-/// The siblings on the path of a covered leaf, read from the layers of a pruned opening, which begin with the leaves:
-/// on each layer above them the digests of the children of the path's node, without the path's own, ascending.
-/// `capacity` is the expected number of siblings. `places` has for each layer where the last path went: the search for
-/// the path's node begins there, and leaves the node's own place. So the searches of ascending leaves pass each node
-/// once. The path does not depend on these numbers.
+/// The siblings on the path of the covered leaf `index`, from the leaves up: on each layer above them the digests of
+/// the children of the path's node, without the path's own, ascending. `layers` are those of a pruned opening, the
+/// leaves first, and `capacity` is the expected number of siblings.
+///
+/// `places` has a number for each layer: the search for the path's node begins at that place among the covered nodes,
+/// and leaves the node's own there. So the searches of ascending leaves pass each node once. The path does not depend
+/// on these numbers.
 ///
 /// # Errors
 ///

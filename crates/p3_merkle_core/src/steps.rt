@@ -1,5 +1,11 @@
 //! The steps of a tree, from the leaves to the root, and the covered nodes of its layers. The steps are computed once
 //! and stored; all other code reads them. Only the two `clone`s and the two calls that return a list allocate.
+//!
+//! - Layer 0 is the leaves; level `l` leads from layer `l` to layer `l + 1`. The step of a level is how many children
+//!   each node above it has: the arity, or 2 if a step of the arity would pass over a matrix's layer (a bridge step).
+//! - The exponent of a height is its log2, rounded up. That of layer 0 is the tallest height's, and each step takes its
+//!   own log2 from it, down to the root's 0. A matrix belongs to the layer of its exponent.
+//! - Heights are lawful if each is the tallest one halved, and each time rounded up, some number of times.
 
 ghost use Rattle.std.specs.Prelude.{◌≡◌, suc, ◌-◌, ◌/◌, ◌<◌, ◌≤◌, ◌==◌, ◌↔◌, if◌then◌else◌, length, map, All, take};
 ghost use Rattle.std.specs.Prelude.{IfOk, IsOk, MatchResult, None, Some};
@@ -31,7 +37,7 @@ use std::alloc::{AllocError, Global};
 /// How many levels a tree has at most: each halves the heights, which are below 2^64, at least.
 const MAX_LEVELS: usize = 64;
 
-/// The exponent of a layer, and the end of the matrices' lower exponents: the steps above the layer depend on these.
+/// What the steps above a layer depend on: its exponent, and the end of the matrices' exponents that are lower.
 #[derive(Clone, Copy)]
 struct Exponents {
     /// The exponent of the layer.
@@ -51,8 +57,9 @@ struct MatrixExponents<'a> {
 }
 
 impl<'a> MatrixExponents<'a> {
-    /// The exponent of a layer, at most 64, with the end of the lower exponents that matrices have.
-    fn at(&self, layer: usize) -> Exponents
+    /// The exponents on which the steps above a layer depend: the layer's own, `layer`, which must be at most 64, and
+    /// the end of the matrices' lower ones.
+    fn exponents_at(&self, layer: usize) -> Exponents
         requires { layer ≤ 64 }
         ensures layer { result.layer ≡ layer }
         ensures next { AreExponents (heights_of self.now.dimensions.now) result }
@@ -78,8 +85,8 @@ struct LevelStep {
     pub has_rows: bool,
 }
 
-/// The step from a layer below the root, whether matrices belong to the next layer, and the exponents there. The arity
-/// must be at least 2, and the layer's exponent at most 64.
+/// The step above a layer, with whether matrices belong to the layer that it leads to, and the exponents there. The
+/// layer is below the root, and has these `exponents`, of at most 64. The arity must be at least 2.
 fn next_step(
     matrices: &MatrixExponents<'_>,
     arity: usize,
@@ -108,7 +115,7 @@ fn next_step(
     // No matrix's exponent lies between those of the two layers, so all lower ones are at most the upper layer's.
     let has_rows = exponents.lower_end > layer;
     let above = if has_rows {
-        matrices.at(layer)
+        matrices.exponents_at(layer)
     } else {
         Exponents {
             layer,
@@ -169,7 +176,7 @@ pub fn steps_of(dimensions: &[Dimensions], arity: usize) -> Steps<'_>
         }
     }
     let matrices = MatrixExponents { dimensions, bits };
-    let mut exponents = matrices.at(exponent);
+    let mut exponents = matrices.exponents_at(exponent);
     let none = LevelStep {
         is_bridge: false,
         has_rows: false,
@@ -238,8 +245,7 @@ pub fn check_heights(dimensions: &[Dimensions]) -> Result<(), MerkleTreeError>
     Ok(())
 }
 
-/// The steps of a tree, with its own copy of the dimensions. A tree stores them, so that no opening computes them
-/// again.
+/// The steps of a tree, with its own copy of the dimensions. A tree stores them for its openings.
 #[derive(Debug, Drop)]
 pub struct OwnedSteps {
     /// The dimensions of all matrices.
@@ -256,8 +262,7 @@ pub struct OwnedSteps {
 }
 
 impl OwnedSteps {
-    /// Computes the steps of the tree over matrices of these dimensions, which it owns: see [`steps_of`]. The arity
-    /// must be at least 2.
+    /// Computes the steps of the tree over matrices of these dimensions by [`steps_of`]. The arity must be at least 2.
     pub fn new(dimensions: Vec<Dimensions>, arity: usize) -> OwnedSteps
         requires { 2 ≤ arity }
         ensures dimensions { result.dimensions.items ≡ dimensions.items }
@@ -320,8 +325,8 @@ impl OwnedSteps {
 }
 
 impl<'a> Steps<'a> {
-    /// The layer, counted from the leaves, that is the cap of this height by this rule. The arity must be a power of
-    /// two from 2 to 2^62. It does not allocate.
+    /// The layer, counted from the leaves, that is the cap of a height by a rule. `cap_height` counts levels below the
+    /// root. The arity must be a power of two from 2 to 2^62. It does not allocate.
     pub fn cap_layer(&self, rule: CapRule, cap_height: usize) -> usize
         requires { IsArity self.now.arity }
         ensures { result ≡ cap_layer (shape_of self.now.arity self.now.dimensions.now) rule cap_height }
@@ -347,10 +352,9 @@ impl<'a> Steps<'a> {
         }
     }
 
-    /// The step of a level, the exponent of the layer above it, and whether matrices belong to that layer. `exponent`
-    /// must be that of the layer below, so that a caller that goes up level by level does not compute it again. `arity`
-    /// must be that of the steps: a caller that has it as a constant then divides by a constant. The level must be
-    /// below the root.
+    /// The step of a level, the exponent of the layer above it, and whether matrices belong to that layer. The level
+    /// must be below the root. `exponent` must be that of the layer below: a caller that goes up level by level has it.
+    /// `arity` must be that of the steps: a caller that has it as a constant divides by a constant.
     pub fn step_up(&self, arity: usize, level: usize, exponent: usize) -> StepUp
         requires arity { arity ≡ self.now.arity }
         requires level { level < self.now.num_levels }
@@ -378,8 +382,8 @@ impl<'a> Steps<'a> {
         }
     }
 
-    /// The layer above the layer `below`, which must be below the root and have `len` nodes and this exponent. The
-    /// arity must be a power of two from 2 to 2^62, and [`check_heights`] must accept the heights.
+    /// The shape of the layer above the layer `below`, which must be below the root, and have `len` nodes and this
+    /// exponent. The arity must be a power of two from 2 to 2^62, and [`check_heights`] must accept the heights.
     pub fn level_from(&self, below: usize, exponent: usize, len: usize) -> Level
         requires { IsBelowTop (shape_of self.now.arity self.now.dimensions.now) below exponent len }
         ensures level { IsLevel (shape_of self.now.arity self.now.dimensions.now) result }
@@ -456,8 +460,9 @@ impl<'a> Steps<'a> {
         Ok(schedule)
     }
 
-    /// The place of the index's ancestor among the children of its parent, for each level below a layer, from the
-    /// leaves up. The layer must be at most the number of levels. It allocates a list of one number for each level.
+    /// For each level below a layer, from the leaves up, the position of the index's ancestor there among its parent's
+    /// children, from 0. The layer must be at most the number of levels. It allocates a list of one number for each
+    /// level.
     ///
     /// # Errors
     ///
@@ -505,9 +510,8 @@ pub struct Covered<'a> {
 }
 
 impl<'a> Covered<'a> {
-    /// The covered leaves of some indices, as [`distinct_indices`](crate::pruning::distinct_indices) lists them. The
-    /// indices must be below the tallest height, the arity a power of two from 2 to 2^62, and no height above
-    /// [`MAX_HEIGHT`].
+    /// The covered leaves: `nodes` must be the distinct `indices`, ascending. The indices must be below the tallest
+    /// height, the arity a power of two from 2 to 2^62, and no height above [`MAX_HEIGHT`].
     pub fn new(steps: &'a Steps<'a>, indices: &'a [usize], nodes: Vec<usize>) -> Covered<'a>
         requires arity { IsArity steps.now.arity }
         requires low { greatest (heights_of steps.now.dimensions.now) ≤ height_limit }
@@ -586,8 +590,7 @@ impl<'a> Covered<'a> {
     }
 }
 
-/// Replaces ascending nodes of a layer by their parents, each once, ascending. `step` is the number of a parent's
-/// children.
+/// Replaces ascending nodes of a layer by their parents, each once, ascending. A parent has `step` children.
 fn replace_by_parents(covered: &mut Vec<usize>, step: usize)
     requires { 0 < step }
     ensures { IsAscending covered.old.items → covered.new.items ≡ distinct (map (λ j. j / step) covered.old.items) }

@@ -1,3 +1,2 @@
 pub mod LaneFacts
 pub mod StageFacts
-pub mod RaisedFacts

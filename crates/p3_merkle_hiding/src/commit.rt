@@ -88,8 +88,8 @@ where
     }
 }
 
-/// Checks the heights of matrices, and that each width fits `usize` with `salt_elems` more columns. Returns their
-/// dimensions with these columns.
+/// Checks that a tree can be built over matrices of these heights, and that each width fits `usize` with `salt_elems`
+/// more columns. Returns the dimensions of the matrices with these columns.
 fn salted_dimensions<T, M: Matrix<T>>(
     alloc: Global,
     matrices: &[M],
@@ -108,7 +108,7 @@ fn salted_dimensions<T, M: Matrix<T>>(
 }
 
 /// Draws `salt_elems` salts for each row of the matrices, and returns each matrix beside its salts. Each salt takes one
-/// call of `next_u64`: matrix by matrix in input order, row by row. `dimensions` are those of the pairs.
+/// call of `next_u64`: matrix by matrix in input order, row by row. `dimensions` are those with salts.
 fn salted_pairs<T: SaltWord, M: Matrix<T> + Drop, R: Rng>(
     alloc: Global,
     rng: &mut R,

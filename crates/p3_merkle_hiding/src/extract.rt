@@ -1,4 +1,5 @@
-//! Extraction of collisions from two salted openings of one cap.
+//! Extraction of collisions from two salted openings of one cap. A matrix is authenticated if the cap's digests are
+//! computed from its rows. Openings conflict in a row if both have it, with other words or salts.
 
 ghost use Rattle.p3_merkle_mmcs.specs.Schemes.{cap_rule_of};
 ghost use Rattle.p3_support.specs.Shown.{roots_of};
@@ -33,13 +34,12 @@ impl<
     /// It is the plain scheme's [`extract_collision`](p3_merkle_mmcs::mmcs::Scheme::extract_collision) of the rows
     /// followed by their salts. Both openings are verified as by [`verify_batch`](Self::verify_batch). Two openings of
     /// one index give a collision exactly if they differ in a sibling, or in a row or the salts of an authenticated
-    /// matrix. Openings of any two indices give one if they conflict in a row of such a matrix, or in its salts. Under
-    /// the rule `Lowered` every matrix is authenticated.
+    /// matrix. Openings of any two indices give one if they conflict in a row of such a matrix. Under the rule
+    /// `Lowered` every matrix is authenticated.
     ///
     /// # Errors
     ///
-    /// The error of `verify_batch` for the first opening, else that for the second; `OutOfMemory` may come at any
-    /// time.
+    /// The error of `verify_batch` for the first opening, else that for the second; `OutOfMemory` may come at any time.
     pub fn extract_collision(
         &self,
         alloc: Global,
@@ -83,20 +83,18 @@ impl<
 
     /// Extracts a collision from two accepted pruned openings of one cap: the first pair of queries that gives a
     /// collision, in the order of the first list, then of the second. Returns the position of each query in its list,
-    /// from 0, and two different inputs of the hasher or of the compression with one digest; or `None` if all queries
-    /// agree.
+    /// from 0, and two different inputs of the hasher or of the compression with one digest; or `None` if all agree.
     ///
-    /// The first opening is `indices1`, `rows1` and `proof1`, the second `indices2`, `rows2` and `proof2`, each as
-    /// [`verify_multi_batch`](Self::verify_multi_batch) takes it: a row set for each index, and a proof with a salt set
-    /// for each. Both are verified so. The call is the plain scheme's
+    /// The first opening is `indices1`, `rows1` and `proof1`, the second `indices2`, `rows2` and `proof2`: a row set
+    /// for each index, and a proof with a salt set for each. Both are verified as by
+    /// [`verify_multi_batch`](Self::verify_multi_batch). The call is the plain scheme's
     /// [`extract_collision_multi`](p3_merkle_mmcs::mmcs::Scheme::extract_collision_multi) of the rows followed by their
-    /// salts. It finds a collision wherever a query of the one and a query of the other conflict in a row of an
-    /// authenticated matrix, or in the salts of that row. Under the rule `Lowered` every matrix is authenticated.
+    /// salts. It finds a collision wherever two queries conflict in a row of an authenticated matrix. Under the rule
+    /// `Lowered` every matrix is authenticated.
     ///
     /// # Errors
     ///
-    /// The error of `verify_multi_batch` for the first opening, else that for the second; `OutOfMemory` may come at any
-    /// time.
+    /// The error of `verify_multi_batch` for the first opening, else for the second. `OutOfMemory` may come any time.
     pub fn extract_collision_multi(
         &self,
         alloc: Global,

@@ -112,8 +112,7 @@ impl<
 
     /// The salted scheme of a hasher and a compression. Its cap is the layer `cap_height` levels below the root, or the
     /// highest layer to which a matrix belongs if that is nearer to the root. This is the rule [`CapRule::Lowered`],
-    /// under which a cap binds every row and salt of every matrix. `SALT_ELEMS` salts for each row are drawn from
-    /// `rng`.
+    /// under which a cap binds every row and salt of every matrix. `SALT_ELEMS` salts a row are drawn from `rng`.
     ///
     /// `SALT_ELEMS` must be at least 1, `N` a power of two from 2 to 2^62, and both packings must have equally many
     /// lanes, at least one. It does not allocate.

@@ -1,4 +1,5 @@
-//! Rows joined with their salts: rows and salts are checked, and each row is followed by its salts.
+//! Rows joined with their salts: rows and salts are checked, and each row is followed by its salts. A row set has one
+//! row of each matrix, a salt set one list of salts for each row.
 
 ghost use Rattle.std.specs.Prelude.{◌≡◌, IfOk, MatchResult, None, Some};
 ghost use Rattle.p3_merkle_core.specs.Refusals.{AnswersUnlessMemory};
@@ -21,14 +22,15 @@ pub struct Salted<Rows> {
     pub rows: Rows,
 }
 
-/// Checks and joins the rows and the salts of one index, of matrices of these dimensions, with `salt_elems` salts per
-/// row.
+/// Checks the rows and the salts of one index, and joins each row with its salts. `rows` is the row set, `salts` the
+/// salt set. `dimensions` are those of the matrices without salts; in the result each has `salt_elems` more columns.
+/// How many salts a row has is not checked here.
 ///
 /// # Errors
 ///
 /// The error of [`check_widths`] for the rows; else `WrongBatchSize` if there are not as many lists of salts as rows;
 /// else `TooLarge` for the first matrix whose width with the salts does not fit `usize`. `OutOfMemory` may come at any
-/// time. How many salts each row has is not checked here.
+/// time.
 pub fn salted_rows<T: Copy>(
     alloc: Global,
     dimensions: &[Dimensions],
@@ -89,8 +91,8 @@ pub fn salted_sets<T: Copy>(
     })
 }
 
-/// Checks that there is one row for each matrix, of the matrix's width without salts, as [`check_widths`] does; and
-/// then that there is one list of salts for each row, else `WrongBatchSize`.
+/// Checks by [`check_widths`] that there is one row for each matrix, of the matrix's width without salts; and then that
+/// there is one list of salts for each row, else `WrongBatchSize`.
 fn check_rows_and_salts<T>(
     dimensions: &[Dimensions],
     rows: &[Vec<T>],
@@ -171,8 +173,7 @@ fn joined_rows<T: Copy>(
     Ok(joined)
 }
 
-/// Each row of several queries followed by its salts, as [`joined_rows`] pairs them. Each query has a row set and a
-/// salt set.
+/// Each row of several queries followed by its salts, as [`joined_rows`] pairs them, row set by row set.
 fn joined_row_sets<T: Copy>(
     alloc: Global,
     sets: &[Vec<Vec<T>>],

@@ -1,4 +1,5 @@
-//! Salted openings: those of the plain scheme, with each row split into the matrix's own words and its salts.
+//! Salted openings: those of the plain scheme, with each row split into the matrix's own words and its salts. A row set
+//! has one row of each matrix, a salt set one list of salts for each row.
 
 ghost use Rattle.std.specs.Prelude.{◌≡◌, ◌<◌, All, IfOk, None, map};
 ghost use Rattle.p3_merkle_core.specs.Geometry.{heights};
@@ -40,8 +41,8 @@ fn left_matrices<'a, F, X, G, A: Matrix<F>, B: Matrix<F>, const N: usize>(
     Ok(matrices)
 }
 
-/// Splits each row of one index into the matrix's own words and its salts. `pairs` has the matrix of each row beside
-/// its salts. The own words stay in the row's memory, and the salts are copied.
+/// Splits each row of one index into the matrix's own words and its salts, and returns the row set and the salt set.
+/// `pairs` has the matrix of each row beside its salts. Only the salts are copied.
 fn split_rows<F: Copy, A: Matrix<F>, B: Matrix<F>>(
     alloc: Global,
     pairs: &[&HorizontalPair<F, A, B>],

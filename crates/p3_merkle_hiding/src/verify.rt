@@ -24,13 +24,12 @@ impl<
     const SALT_ELEMS: usize,
 > MerkleTreeHidingMmcs<P, PW, H, C, R, N, D, SALT_ELEMS> {
     /// Verifies an opening of the leaf `index` with its salts against a cap: the plain scheme's verification of each
-    /// row followed by its salts, under dimensions with `SALT_ELEMS` more columns. A cap binds the salts as it binds
-    /// the rows.
+    /// row followed by its salts, under dimensions with `SALT_ELEMS` more columns. A cap binds salts as it binds rows.
     ///
     /// An accepted opening has one row for each of `dimensions`, of that width, and `SALT_ELEMS` salts for each row.
-    /// For each level below the cap it has the digests of the path's group but the path's own. `dimensions` are those
-    /// of the matrices without salts, in input order; they must come from the verifier, never from the proof. The call
-    /// allocates the joined rows.
+    /// For each level below the cap it has the siblings of the path's node. `dimensions` are those of the matrices
+    /// without salts, in input order; they must come from the verifier, never from the proof. The call allocates the
+    /// joined rows.
     ///
     /// # Errors
     ///
@@ -63,8 +62,8 @@ impl<
     /// of each row followed by its salts, under dimensions with `SALT_ELEMS` more columns.
     ///
     /// An accepted opening has a row set and a salt set for each index: one row for each of `dimensions`, of that
-    /// width, and `SALT_ELEMS` salts for each row. Queries of one index have the same rows and salts. Queries under
-    /// one node have the same rows and salts of the matrices that are injected there. `dimensions` are those of the
+    /// width, and `SALT_ELEMS` salts for each row. Queries of one index have the same rows and salts. Queries under one
+    /// node have the same rows and salts of the matrices that belong to the node's layer. `dimensions` are those of the
     /// matrices without salts, in input order; they must come from the verifier, never from the proof. The call
     /// allocates the joined rows.
     ///

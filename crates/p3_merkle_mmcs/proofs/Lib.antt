@@ -4,7 +4,3 @@ pub mod CapFacts
 pub mod AuthenticFacts
 pub mod CheckFacts
 pub mod CommitmentFacts
-pub mod PartFacts
-mod ConsistencyFacts
-pub mod OwnGrowth
-mod GrownFacts

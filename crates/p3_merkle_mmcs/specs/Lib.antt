@@ -1,4 +1,3 @@
 pub mod Schemes
 pub mod Committed
-pub mod Grown
 pub mod Inner

@@ -1,5 +1,5 @@
 -- The fields of a scheme, what it computes, and the parameters of its checks.
-use Rattle.std.specs.Prelude.{◌≡◌, ℕ, List, replicate}
+use Rattle.std.specs.Prelude.{◌≡◌, ℕ, replicate}
 use Rattle.std.specs.declared.default.Default as default
 use Rattle.std.specs.declared.cmp.PartialEq as equality
 use Rattle.p3_support.specs.declared.compress.PseudoCompressionFunction as compressor
@@ -10,7 +10,6 @@ use Rattle.p3_merkle_core.specs.Checks.{Params, params}
 use Rattle.p3_merkle_core.specs.Geometry.{Shape}
 use Rattle.p3_merkle_core.specs.Nodes.{Functions}
 use Rattle.p3_merkle_core.specs.declared.cap.CapRule.{CapRule}
-use Rattle.p3_merkle_core.specs.declared.consistency.Growth.{Growth}
 use Rattle.p3_merkle_mmcs.specs.declared.mmcs.Scheme.{Scheme}
 
 module _ {P PW H C X G V W : Type 0} {N D : ℕ} {p : packed.Ghosts P V} {pd : default.Ghosts V} {pe : equality.Ghosts V}
@@ -48,11 +47,6 @@ module _ {P PW H C X G V W : Type 0} {N D : ℕ} {p : packed.Ghosts P V} {pd : d
   -- the parameters of the scheme's checks over a tree of this shape
   abbrev pub params_of : Scheme P PW H C X G N D V W p pd pe q qd qe h c → Shape → Params V W
   params_of scheme s = params (functions_of scheme) s (cap_layer_of scheme s)
-
-  -- a list that grows between these heights, under the scheme's arity and cap height
-  abbrev pub growth_of : Scheme P PW H C X G N D V W p pd pe q qd qe h c → ℕ → ℕ → Growth
-  growth_of scheme old_height new_height =
-      record { arity = N; cap_height = scheme.cap_height; old_height = old_height; new_height = new_height }
 
 -- two schemes have one hasher, one compression, one cap height and one rule
 pub record IsSameScheme {P PW H C X G V W : Type 0} {N D : ℕ} {p : packed.Ghosts P V} {pd : default.Ghosts V}

@@ -1,4 +1,6 @@
-//! Extraction of collisions from two openings of one cap, single or pruned.
+//! Extraction of collisions from two openings of one cap, single or pruned. A check goes from the leaf up, level by
+//! level, and has an input of the hash or of the compression at each place. Openings conflict in a row if both have it
+//! and its words differ.
 
 ghost use Rattle.std.specs.Prelude.{◌≡◌, ◌<◌, IfOk, IsTrue, MatchResult, None, Some, length};
 ghost use Rattle.p3_merkle_core.specs.Checks.{is_authenticated as authenticates};
@@ -75,10 +77,11 @@ impl<
     /// Extracts a collision from two accepted openings of one cap: two different inputs of the hasher or of the
     /// compression with one digest, or `None` if the openings agree.
     ///
-    /// Both openings are verified as by [`verify_batch`](Self::verify_batch). A check hashes the leaf, then on each
-    /// level compresses a group and, where matrices are injected above it, hashes their rows and compresses a pair (see
-    /// [`Place`](p3_merkle_core::collision::Place)). Checks of one index share all these places. Checks of two indices
-    /// share them from the level where their paths meet. The collision is at the last shared place where the inputs
+    /// Both openings are verified as by [`verify_batch`](Self::verify_batch). A check hashes the leaf's rows. On each
+    /// level it compresses a group: a node with its siblings. Where matrices belong to the layer above, it hashes their
+    /// rows, and compresses a pair: both digests. These inputs are at different
+    /// [`Place`](p3_merkle_core::collision::Place)s. Checks of one index share all places, those of two indices the
+    /// places from the level on where their paths meet. The collision is at the last shared place where the inputs
     /// differ: it has the input of the first opening and that of the second. The call allocates only at shared places.
     ///
     /// Two openings of one index give a collision exactly if they differ in a sibling, or in a row of an
@@ -88,8 +91,7 @@ impl<
     ///
     /// # Errors
     ///
-    /// The error of `verify_batch` for the first opening, else that for the second; `OutOfMemory` may come at any
-    /// time.
+    /// The error of `verify_batch` for the first opening, else that for the second; `OutOfMemory` may come at any time.
     pub fn extract_collision(
         &self,
         alloc: Global,
@@ -116,19 +118,17 @@ impl<
     /// Extracts a collision from two accepted pruned openings of one cap: two different inputs of the hasher or of the
     /// compression with one digest, with the queries that lead to it, or `None` if all queries agree.
     ///
-    /// The first opening is `indices1`, `rows1` and `proof1`, the second `indices2`, `rows2` and `proof2`, each as
-    /// [`verify_batch_pruned`](Self::verify_batch_pruned) takes it: a row set for each index, and one proof. Both are
-    /// verified so, and the path of each query is restored. Then each query of the first opening is compared with each
-    /// of the second as [`extract_collision`](Self::extract_collision) compares two openings. Returns the first pair
-    /// that gives a collision, in the order of the first list, then of the second: the position of each query in its
-    /// list, from 0, and the collision. Beside both verifications the call takes the time of four checks for each query
-    /// of the first opening and of two for each query of the second, and memory for the restored paths and for what two
-    /// checks share.
+    /// The first opening is `indices1`, `rows1` and `proof1`, the second `indices2`, `rows2` and `proof2`: a row set
+    /// for each index, and one proof. Both are verified as by [`verify_batch_pruned`](Self::verify_batch_pruned), and
+    /// the siblings of each query are computed. Then each query of the first opening is compared with each of the
+    /// second as [`extract_collision`](Self::extract_collision) compares two openings. Returns the first pair that
+    /// gives a collision, in the order of the first list, then of the second: the position of each query in its list,
+    /// from 0, and the collision. Beside both verifications the call takes the time of four checks for each query of
+    /// the first opening and of two for each query of the second.
     ///
     /// # Errors
     ///
-    /// The error of `verify_batch_pruned` for the first opening, else that for the second; `OutOfMemory` may come at
-    /// any time.
+    /// The error of `verify_batch_pruned` for the first opening, else for the second. `OutOfMemory` may come any time.
     pub fn extract_collision_multi(
         &self,
         alloc: Global,

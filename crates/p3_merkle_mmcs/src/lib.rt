@@ -2,11 +2,8 @@
 //! extracts collisions from them.
 #![tactic(auto)]
 
-mod consistency;
 mod extract;
-mod inconsistency;
 pub mod mmcs;
-mod parts;
 mod pruned;
 mod schedule;
 mod scheme_trait;

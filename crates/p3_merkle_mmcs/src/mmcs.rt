@@ -1,4 +1,5 @@
-//! The scheme: it commits to matrices, opens their rows, and verifies openings.
+//! The scheme: it commits to matrices, opens their rows, and verifies openings. A cap is a layer of the tree; a level
+//! leads from a layer to the next above it; a cap height counts levels below the root.
 
 ghost use Rattle.std.specs.Prelude.{◌≡◌, ◌<◌, ◌≤◌, IfOk, IsTrue, None};
 ghost use Rattle.p3_merkle_core.specs.Computed.{Computes};
@@ -9,7 +10,7 @@ use p3_merkle_core::cap::CapRule;
 use p3_merkle_core::error::MerkleTreeError;
 use p3_merkle_core::steps::steps_of;
 use p3_merkle_prover::checked::{CheckedMatrices, checked_matrices, tree_over};
-use p3_merkle_prover::opener::{cap_at, rows_of_index, siblings_of_index, steps_in};
+use p3_merkle_prover::opener::{cap_at, rows_of_index, siblings_of_index, tree_steps};
 use p3_merkle_prover::tree::MerkleTree;
 use p3_merkle_verifier::checker::Checker;
 use p3_merkle_verifier::openings::OpeningRef;
@@ -228,7 +229,7 @@ impl<
         self.commit_checked(alloc, checked_matrices(alloc, matrices)?)
     }
 
-    /// Commits to matrices whose heights are checked already, as [`commit`](Self::commit) does.
+    /// Commits to matrices whose heights are checked already, `leaves`, as [`commit`](Self::commit) does.
     ///
     /// # Errors
     ///
@@ -250,7 +251,7 @@ impl<
     {
         lemma_arity::<N>();
         let tree = tree_over::<P, PW, H, C, M, N, D>(alloc, &self.hash, &self.compress, leaves)?;
-        let cap_layer = steps_in(&tree).cap_layer(self.cap_rule, self.cap_height);
+        let cap_layer = tree_steps(&tree).cap_layer(self.cap_rule, self.cap_height);
         let cap = cap_at(alloc, &tree, cap_layer)?;
         Ok((cap, tree))
     }
@@ -260,8 +261,8 @@ impl<
     ///
     /// The index counts rows of the tallest matrix and must be below its height. A matrix whose height is the tallest
     /// one halved `k` times (rounded up each time) opens its row `index >> k`. The siblings come level by level, from
-    /// the leaves to the cap: all digests of the group but the path's own, in order. They are read from the tree. The
-    /// opening is accepted under the cap of the tree if the tree was built with this scheme's hasher and compression.
+    /// the leaves to the cap: the other children of the parent of the path's node, ascending. The opening is accepted
+    /// under the cap of the tree if the tree was built with this scheme's hasher and compression.
     ///
     /// # Errors
     ///
@@ -276,7 +277,7 @@ impl<
         ensures opened { IfOk result (λ o. Opens self.now tree.now (opening_made index o)) }
         ensures memory { AnswersUnlessMemory result None }
     {
-        let steps = steps_in(tree);
+        let steps = tree_steps(tree);
         let cap_layer = steps.cap_layer(self.cap_rule, self.cap_height);
         let opened_values = rows_of_index(alloc, tree, index)?;
         let opening_proof = siblings_of_index(alloc, tree, &steps, index, cap_layer)?;
@@ -290,10 +291,9 @@ impl<
     /// level by level, and compares the last digest with the cap's entry above the leaf. It does not allocate.
     ///
     /// An accepted opening has one row for each of `dimensions`, of that width. For each level below the cap it has the
-    /// digests of the path's group but the path's own. `dimensions` are those of the matrices, in input order. They
-    /// must come from the verifier, never from the proof: a cap does not bind them. Under the rule `Fixed` the rows of
-    /// a matrix above the cap's layer are never hashed, and only their width is checked; under `Lowered` there is no
-    /// such matrix.
+    /// siblings of the path's node. `dimensions` are those of the matrices, in input order. They must come from the
+    /// verifier, never from the proof: a cap does not bind them. Under the rule `Fixed` the rows of a matrix above the
+    /// cap's layer are never hashed, and only their width is checked; under `Lowered` there is no such matrix.
     ///
     /// # Errors
     ///
@@ -322,7 +322,7 @@ impl<
     }
 }
 
-/// States that an arity passes the test of arities.
+/// States that an arity, a power of two from 2 to 2^62, passes the test of arities.
 fn lemma_arity<const N: usize>()
     requires { IsArity N }
     ensures { IsTrue (is_arity N) }

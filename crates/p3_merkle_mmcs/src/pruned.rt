@@ -1,4 +1,5 @@
-//! Pruned openings: the rows of several leaves by one proof, with no digest that the rows give already.
+//! Pruned openings: the rows of several leaves by one proof. A query is one index of a list, and its row set has one
+//! row of each matrix. Its restored path is its siblings, each from the proof or computed.
 
 ghost use Rattle.std.specs.Prelude.{◌≡◌, ◌<◌, All, IfOk, None};
 ghost use Rattle.p3_merkle_core.specs.Geometry.{heights, shape_of};
@@ -19,7 +20,7 @@ use p3_merkle_core::pruning::{
     distinct_indices,
 };
 use p3_merkle_core::steps::{Covered, check_heights, steps_of};
-use p3_merkle_prover::opener::steps_in;
+use p3_merkle_prover::opener::tree_steps;
 use p3_merkle_prover::pruned_opener::{boundary_digests, rows_of_indices};
 use p3_merkle_prover::tree::MerkleTree;
 use p3_merkle_verifier::openings::PrunedOpeningRef;
@@ -85,7 +86,7 @@ impl<
     ///
     /// The indices count rows of the tallest matrix and must be below its height, in any order; repeats are allowed.
     /// The digests are read from the tree. If the tree was built with this scheme's hasher and compression, the opening
-    /// is accepted under its cap, and restores to the siblings that [`open_batch`](Self::open_batch) opens.
+    /// is accepted under its cap, and its restored paths are those that [`open_batch`](Self::open_batch) opens.
     ///
     /// # Errors
     ///
@@ -100,7 +101,7 @@ impl<
         ensures opened { IfOk result (λ o. OpensPruned self.now tree.now (pruned_made indices.now o)) }
         ensures memory { AnswersUnlessMemory result None }
     {
-        let cap_layer = steps_in(tree).cap_layer(self.cap_rule, self.cap_height);
+        let cap_layer = tree_steps(tree).cap_layer(self.cap_rule, self.cap_height);
         let opened_values = rows_of_indices(alloc, tree, indices)?;
         let sibling_hashes = boundary_digests(alloc, tree, indices, cap_layer)?;
         Ok(PrunedRows {
@@ -137,9 +138,9 @@ impl<
     /// accepted, [`verify_batch`](Self::verify_batch) accepts each query with its restored path.
     ///
     /// An accepted opening has a row set for each index: one row for each of `dimensions`, of that width. Queries of
-    /// one index have the same rows. Queries under one node have the same rows of the matrices that are injected there.
-    /// `dimensions` are those of the matrices, in input order. They must come from the verifier, never from the proof:
-    /// a cap does not bind them.
+    /// one index have the same rows. Queries under one node have the same rows of the matrices that belong to the
+    /// node's layer. `dimensions` are those of the matrices, in input order. They must come from the verifier, never
+    /// from the proof: a cap does not bind them.
     ///
     /// # Errors
     ///
@@ -197,31 +198,16 @@ impl<
 
     /// Restores the path of each query, in query order, with its index: the siblings that
     /// [`open_batch`](Self::open_batch) would open. They are computed from the rows of all queries and the digests of a
-    /// pruned proof.
+    /// pruned proof. The parameters are as in [`verify_batch_pruned`](Self::verify_batch_pruned), and an opening whose
+    /// paths are restored has the form of an accepted one.
     ///
-    /// No cap is compared, so a restored path proves nothing by itself.
-    /// [`verify_batch_pruned`](Self::verify_batch_pruned) accepts an opening under a cap exactly if it restores and
-    /// [`verify_batch`](Self::verify_batch) accepts each query with its rows and its path.
-    ///
-    /// An opening that restores has the form of an accepted one: see `verify_batch_pruned`. `dimensions` must come from
-    /// the verifier, never from the proof.
+    /// No cap is compared, so a restored path proves nothing by itself. `verify_batch_pruned` accepts an opening under
+    /// a cap exactly if its paths are restored and [`verify_batch`](Self::verify_batch) accepts each query with its
+    /// rows and its path. `dimensions` must come from the verifier, never from the proof.
     ///
     /// # Errors
     ///
-    /// The first of these that applies, where `OutOfMemory` may come at any time:
-    ///
-    /// - `EmptyBatch`, `TooLarge` or `IncompatibleHeights`: [`commit`](Self::commit) refuses such heights;
-    /// - `WrongBatchSize`: the number of row sets is not that of the indices;
-    /// - `SiblingCountMismatch`: the proof has digests, and there are no indices;
-    /// - `IndexOutOfBounds`, for the highest index: it is not below the tallest height;
-    /// - `InconsistentDuplicateOpenings`: the rows of a query are not those of the first query of its index;
-    /// - `SiblingCountMismatch`: the number of digests is not [`pruned_len`](Self::pruned_len);
-    /// - in ascending order of the indices, for each row set: `WrongBatchSize` if the number of rows is not that of the
-    ///   dimensions, `WrongWidth` for the first row whose length is not the width of its matrix;
-    /// - `InconsistentGroupOpening`, layer by layer, then in ascending order of the indices: a row is not that of the
-    ///   lowest index under the same node.
-    ///
-    /// `SiblingCountMismatch` and the two `Inconsistent` errors come within `MalformedPrunedProof`.
+    /// Those of `verify_batch_pruned`, in the same order, but for `CapMismatch`.
     pub fn restore_and_recompute_paths(
         &self,
         alloc: Global,

@@ -1,4 +1,5 @@
-//! The steps and positions on paths, level by level; and the matrices of a tree.
+//! The steps and positions on paths, level by level; and the matrices of a tree. A level's step is how many children a
+//! node above it has.
 
 ghost use Rattle.std.specs.Prelude.{◌≡◌, ◌≤◌, IfErr, IfOk, map, take, vec_len, None};
 ghost use Rattle.p3_support.specs.Batches.{heights_of};
@@ -61,8 +62,8 @@ impl<
     }
 
     /// The path of the leaf `index` to the cap, for a proof of `num_siblings` digests: the steps of
-    /// [`proof_arity_schedule`](Self::proof_arity_schedule), and on each level the position of the leaf's ancestor in
-    /// its group.
+    /// [`proof_arity_schedule`](Self::proof_arity_schedule), and for each level the position, from 0, of the leaf's
+    /// ancestor there among the children of its parent.
     ///
     /// # Errors
     ///

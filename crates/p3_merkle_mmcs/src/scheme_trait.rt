@@ -213,7 +213,7 @@ impl<
         (λ c. IsPrunedAccepted c (roots_of cap) (pruned_of indices sets proof.sibling_hashes.items)) };
 }
 
-/// States that an index below the tallest matrix's height is below the tallest height in the tree's shape.
+/// States that an index below the tallest matrix's height is below the tallest height of the tree's shape.
 fn lemma_index<F, X, G, M: Matrix<F>, const N: usize>(tree: &Tree<F, X, G, M, N>, index: usize)
     requires { index < greatest (map M.height_of (matrices_of tree.now)) }
     ensures { index < greatest (heights (shape (tree_batch tree.now))) }

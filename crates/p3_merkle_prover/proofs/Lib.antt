@@ -5,4 +5,3 @@ pub mod BoundaryFacts
 pub mod LayerFacts
 pub mod BuildFacts
 pub mod NodeFacts
-pub mod GrowthFacts

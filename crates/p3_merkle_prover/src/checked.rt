@@ -1,4 +1,5 @@
-//! Matrices that a tree can be built over, and the tree over them.
+//! Matrices that a tree can be built over, and the tree over them. Their heights are lawful: each is the tallest one
+//! halved, and each time rounded up, some number of times.
 
 ghost use Rattle.std.specs.Prelude.{◌≡◌, ◌≤◌, IfOk, IsTrue, replicate};
 ghost use Rattle.p3_support.specs.Batches.{dimensions_in, heights_of};
@@ -33,7 +34,7 @@ pub struct CheckedMatrices<T, M: Matrix<T>> {
     ghost lawful: { IsLawful (heights_of dimensions.items) },
 }
 
-/// Checks the heights of matrices, and returns the matrices with their dimensions.
+/// Checks that heights of matrices are lawful, and returns the matrices with their dimensions.
 ///
 /// # Errors
 ///
@@ -55,8 +56,9 @@ pub fn checked_matrices<T, M: Matrix<T> + Drop>(
     })
 }
 
-/// Builds the tree over matrices whose heights are checked: computes its steps, then its layers. `N` must be a power of
-/// two from 2 to 2^62, and both packings must have equally many lanes, at least one.
+/// Builds the tree over matrices whose heights are checked, `leaves`: computes how many children the nodes of each
+/// layer have, then the layers. `N` must be a power of two from 2 to 2^62, and both packings must have equally many
+/// lanes, at least one.
 ///
 /// # Errors
 ///

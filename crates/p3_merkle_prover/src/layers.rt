@@ -1,6 +1,7 @@
-//! The layers of a tree, one above the other.
+//! The layers of a tree, one above the other, from the leaves to the root.
 //!
-//! The matrices that belong to a layer are picked once, and its rows are read from those alone.
+//! Each matrix belongs to one layer by its height, the tallest to the leaves. The matrices of a layer are picked once,
+//! and its rows are read from those alone.
 
 ghost use Rattle.std.specs.Prelude.{◌≡◌, All, IfOk, map, filter, length, replicate, ◌==◌};
 ghost use Rattle.p3_merkle_core.specs.Computed.{Computes};
@@ -67,7 +68,7 @@ pub(crate) type TreeBuilder<
     const D: usize,
 > = TreeOver<'a, P, PW, H, C, M, [[PW::Value; D]; N], N, D>;
 
-/// Replaces the contents of `picked` by the matrices of a height, in input order.
+/// Replaces the contents of `picked` by the matrices that have `height` rows, in input order.
 fn pick_matrices<'a, T, M: Matrix<T>>(
     picked: &mut Vec<&'a M>,
     matrices: &'a [M],
@@ -93,7 +94,7 @@ fn default_digests<PW: PackedValue, const D: usize>(
     Ok(digests)
 }
 
-/// States that a layer, padding included, has the children of each node of the layer above it.
+/// States that a layer `below`, padding included, has the children of each node of the layer above, `level`.
 fn lemma_children<X>(steps: &Steps<'_>, level: &Level, below: &[X])
     requires level { IsLevel (shape_of steps.now.arity steps.now.dimensions.now) level.now }
     requires slots { length below.now ≡ layer_len (shape_of steps.now.arity steps.now.dimensions.now) level.now.below }
@@ -135,8 +136,7 @@ impl<
         Ok(leaves)
     }
 
-    /// The layer above `below`, with the shape that `level` gives. `picked` and `buffers` are scratch memory that all
-    /// layers share.
+    /// The layer above `below`, of the shape `level`. `picked` and `buffers` are scratch memory that all layers share.
     fn next_layer(
         &self,
         alloc: Global,

@@ -3,7 +3,6 @@
 #![tactic(auto)]
 
 pub mod checked;
-pub mod consistency;
 mod layer;
 mod layers;
 pub mod opener;

@@ -1,4 +1,5 @@
-//! What is read from a tree: its cap, and for one leaf a row of each matrix and the siblings on the leaf's path.
+//! What is read from a tree: its cap, and for one leaf a row of each matrix and the siblings on the leaf's path. Layer
+//! 0 is the leaves. Level `l` leads to layer `l + 1`; its step is how many children a node of that layer has.
 
 ghost use Rattle.std.specs.Prelude.{◌≡◌, ◌<◌, ◌≤◌, ◌++◌, length, map, slice_get, IfOk, None, Some};
 ghost use Rattle.std.specs.List.{remove};
@@ -20,8 +21,8 @@ use p3_support::matrix::Matrix;
 use p3_support::opening::MerkleCap;
 use std::alloc::{AllocError, Global};
 
-/// The steps of a tree, from the leaves to the root. They are stored in the tree, and borrow its dimensions.
-pub fn steps_in<F, X, G, M: Matrix<F>, const N: usize>(tree: &Tree<F, X, G, M, N>) -> Steps<'_>
+/// The steps of a tree, from the leaves to the root, which it stores.
+pub fn tree_steps<F, X, G, M: Matrix<F>, const N: usize>(tree: &Tree<F, X, G, M, N>) -> Steps<'_>
     ensures { shape_of result.arity result.dimensions.now ≡ shape (tree_batch tree.now) }
 {
     tree.steps.steps()
@@ -34,8 +35,7 @@ pub fn max_height<F, X, G, M: Matrix<F>, const N: usize>(tree: &Tree<F, X, G, M,
     tree.steps.max_height
 }
 
-/// The cap that is layer `layer` of a tree, padding included. `layer` counts from the leaves, and must be at most the
-/// number of levels.
+/// The cap that is layer `layer` of a tree, padding included. `layer` must be at most the number of levels.
 ///
 /// # Errors
 ///
@@ -51,7 +51,8 @@ pub fn cap_at<F, W: Copy, M: Matrix<F>, const N: usize, const D: usize>(
     Ok(MerkleCap::new(Vec::from_slice(alloc, &tree.layers[layer])?))
 }
 
-/// The row of each matrix that belongs to leaf `index`, in input order. The index must be below [`max_height`].
+/// The row of each matrix that belongs to leaf `index`, in input order: row `index >> k` of a matrix whose height is
+/// the tallest one halved `k` times. The index must be below [`max_height`].
 ///
 /// # Errors
 ///
@@ -94,9 +95,9 @@ pub fn matrix_refs<'a, F, X, G, M: Matrix<F>, const N: usize>(
     Ok(matrices)
 }
 
-/// The siblings on the path of leaf `index` up to a layer, level by level from the leaves up: on each level all digests
-/// of the path's group except the path's own, ascending. `steps` must be those of the tree, the index below
-/// [`max_height`], and the layer at most the number of levels.
+/// The siblings on the path of leaf `index` up to layer `layer`, level by level from the leaves up: the other children
+/// of the parent of the path's node, ascending. `steps` must be those of the tree, the index below [`max_height`], and
+/// the layer at most the number of levels.
 ///
 /// # Errors
 ///
@@ -129,7 +130,7 @@ pub fn siblings_of_index<F, X: Copy, G, M: Matrix<F>, const N: usize>(
     Ok(siblings)
 }
 
-/// The words of row `row` of a matrix, which must have the row.
+/// The words of row `row` of a matrix. The row must be below the height.
 // Inlined: for a row of few words the call takes as long as the copy.
 #[inline(always)]
 fn words_of_row<F: Copy, M: Matrix<F>>(

@@ -1,5 +1,6 @@
 //! What is read from a tree for several leaves at once: their rows, and the digests that a verifier cannot compute from
-//! these rows.
+//! these rows. A node is covered if it is one of these leaves or above one. The boundary is the children of covered
+//! nodes that are not covered themselves.
 
 ghost use Rattle.std.specs.Prelude.{◌≡◌, ◌+◌, ◌-◌, ◌%◌, ◌^◌, ◌<◌, ◌≤◌, ◌++◌, length, map, All, IfOk, None};
 ghost use Rattle.std.specs.List.Sorted.{IsStrictlyIncreasing};
@@ -14,7 +15,7 @@ ghost use Rattle.p3_merkle_prover.specs.Parts.{layers_of, tree_batch};
 ghost use Rattle.p3_merkle_core.specs.Pruning.{boundary_by};
 ghost use Rattle.p3_merkle_core.specs.Refusals.{AnswersUnlessMemory};
 
-use crate::opener::{rows_of_index, steps_in};
+use crate::opener::{rows_of_index, tree_steps};
 use crate::tree::Tree;
 use p3_merkle_core::error::MerkleTreeError;
 use p3_merkle_core::geometry::position_of;
@@ -46,11 +47,9 @@ pub fn rows_of_indices<F: Copy, X, G, M: Matrix<F>, const N: usize>(
     Ok(rows)
 }
 
-/// The digests of a pruned proof of some leaves, in wire order: level by level below the cap's layer, ascending, those
-/// of the children of covered nodes that are not covered themselves. Each index must be below
-/// [`max_height`](crate::opener::max_height), and `cap_layer` at most the number of levels. It sorts a copy of the
-/// indices, copies the distinct ones once more, and allocates the digests once, at their number. It takes one step for
-/// each index and level.
+/// The digests of a pruned proof of some leaves: those of the boundary below layer `cap_layer`, level by level from the
+/// leaves up, ascending. Each index must be below [`max_height`](crate::opener::max_height), and `cap_layer` at most
+/// the number of levels. It sorts a copy of the indices, and allocates the digests once, at their number.
 ///
 /// # Errors
 ///
@@ -68,7 +67,7 @@ pub fn boundary_digests<F, X: Copy, G, M: Matrix<F>, const N: usize>(
         IfOk result (λ digests. digests.items ≡ own) }
     ensures memory { AnswersUnlessMemory result None }
 {
-    let steps = steps_in(tree);
+    let steps = tree_steps(tree);
     let mut covered = Covered::new(&steps, indices, distinct_indices(alloc, indices)?);
     let len = covered.clone(alloc)?.boundary_len(cap_layer);
     let mut digests = Vec::with_capacity(alloc, len)?;
@@ -80,8 +79,8 @@ pub fn boundary_digests<F, X: Copy, G, M: Matrix<F>, const N: usize>(
     Ok(digests)
 }
 
-/// Appends the boundary's digests of one layer, ascending: of each group of `step` that has a covered node, those of
-/// the nodes that are not covered. The covered nodes ascend, and are gone through once.
+/// Appends the boundary's digests of one layer, ascending: of each group of `step` nodes that has a covered one, those
+/// of the nodes that are not covered. `covered` has the covered nodes, ascending, and is gone through once.
 fn extend_with_boundary<X: Copy>(
     digests: &mut Vec<X>,
     layer: &[X],

@@ -57,19 +57,17 @@ impl<F: Copy, W: Copy, M: Matrix<F> + Drop, const N: usize, const D: usize> Merk
     ghost use Rattle.p3_merkle_prover.specs.Parts.{layers_of, matrices_of, tree_batch};
 
     /// Builds the tree over matrices, which it owns from then on, in input order. Leaf `i` is the digest of the rows
-    /// `i` of the tallest matrices, one after another. A node compresses its children; where matrices are injected at
-    /// its layer, the result is compressed with the digest of their rows. Default digests stand for missing children,
-    /// for rows past the end of a matrix, and in the slots that pad a layer.
+    /// `i` of the tallest matrices, one after another. A node above is the compression of its children. Each other
+    /// matrix belongs to a layer by its height: there a node's digest is compressed once more, with that of its rows.
+    /// Default digests stand for missing children, for rows past the end of a matrix, and as padding.
     ///
-    /// `N` must be a power of two from 2 to 2^62, and both packings must have equally many lanes, at least one. Each
-    /// layer is allocated once.
+    /// `N` must be a power of two from 2 to 2^62, and both packings must have equally many lanes, at least one.
     ///
     /// `LANES` and the packings decide which calls fill a layer, and the tree does not depend on them:
     ///
     /// - The leaves are hashed in batches (`hash_many`) if the hasher's `LANES` are above 1.
-    /// - A layer above them is compressed in batches (`compress_many`) if the compression's `LANES` are above 1 and it
-    ///   has no matrices. With matrices the hasher's `LANES` must be above 1, too, and their rows are hashed in
-    ///   batches.
+    /// - A layer above them is compressed in batches (`compress_many`) if the compression's `LANES` are above 1; if
+    ///   matrices belong to it, the hasher's must be, too, and their rows are hashed in batches.
     /// - Every other layer is filled lane by lane (`hash_packed`, `compress_packed`), `WIDTH` digests a call, as far as
     ///   they fill all lanes, and then in batches; if `WIDTH` is 1 in batches alone.
     ///

@@ -9,9 +9,8 @@
 #![tactic(auto)]
 
 pub use p3_merkle_core::cap::CapRule;
-pub use p3_merkle_core::collision::{Between, Collision, Inconsistency, InputPair, Place};
-pub use p3_merkle_core::consistency::ConsistencyProof;
-pub use p3_merkle_core::error::{ConsistencyError, MerkleTreeError, PartsError, PrunedProofError};
+pub use p3_merkle_core::collision::{Collision, InputPair, Place};
+pub use p3_merkle_core::error::{MerkleTreeError, PrunedProofError};
 pub use p3_merkle_core::geometry::{ArityAndPositions, MAX_HEIGHT};
 pub use p3_merkle_core::laws;
 pub use p3_merkle_core::pruning::{

@@ -14,7 +14,7 @@ use Rattle.p3_merkle_core.proofs.Covered.ClimbFacts.{covered_here}
 use Rattle.p3_merkle_core.specs.Pruning.{restored_node, value_of, words_under}
 use Rattle.p3_merkle_core.proofs.Covered.Equivalence.{restored_leaf, restored_next, rows_agree}
 use Rattle.p3_merkle_core.proofs.Checks.PathFacts.{group_values}
-use Rattle.p3_merkle_core.proofs.Growths.ValueFacts.{map_shift}
+use Rattle.p3_merkle_core.proofs.Lists.ListFacts.{map_shift}
 use Rattle.p3_merkle_core.proofs.Shapes.StepFacts.{step_above_1}
 use Rattle.p3_merkle_core.proofs.Covered.ValueFacts.{IsWalkedLevel, children_are, map_agree}
 use Rattle.p3_merkle_verifier.proofs.ChildFacts.{map_on}

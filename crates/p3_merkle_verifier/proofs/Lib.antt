@@ -18,6 +18,3 @@ mod AgreeFacts
 mod NeighbourFacts
 mod EqualRuns
 mod RefusalFacts
-mod ConsistencyFacts
-mod EntryFacts
-mod InconsistencyFacts

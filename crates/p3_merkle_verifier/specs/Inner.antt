@@ -7,5 +7,3 @@ pub mod OpenedMatrices
 pub mod OpenedRows
 pub mod RestoredLevels
 pub mod QueryPairs
-pub mod Consistency
-pub mod Inconsistency

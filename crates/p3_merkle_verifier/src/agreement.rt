@@ -1,4 +1,6 @@
-//! Whether the checks of two openings agree at every place that both share. Nothing is allocated.
+//! Whether the checks of two openings agree at every place that both share. Nothing is allocated. A check has inputs at
+//! the leaf and on each level, which leads to the next node of its path. Two checks share the leaf or a level if they
+//! reach one node there.
 
 ghost use Rattle.std.specs.Prelude.{◌≡◌, IsTrue, length, replicate};
 ghost use Rattle.p3_merkle_core.specs.Geometry.{shape_of};
@@ -16,8 +18,8 @@ use p3_support::compress::PseudoCompressionFunction;
 use p3_support::hasher::CryptographicHasher;
 use p3_support::packed::PackedValue;
 
-/// Whether two checks have the same inputs on a level, or do not share the node above it. `rows` are the rows of both
-/// openings at the layer above.
+/// Whether two checks have the same inputs on a level, or do not share the node above it. `first` and `second` are that
+/// level of each check, and `rows` the rows of both openings of the matrices of the layer above.
 fn levels_agree<T: Eq, W: Copy + Eq, const N: usize, const D: usize>(
     rows: &RowPair<'_, T>,
     first: &ComputedLevel<[W; D], [[W; D]; N]>,
@@ -41,8 +43,8 @@ impl<
     const N: usize,
     const D: usize,
 > Checker<'a, P, PW, H, C, [[PW::Value; D]; N], N, D> {
-    /// Whether the checks of two openings have the same inputs at every place that both share. Both openings must have
-    /// their siblings up to the cap.
+    /// Whether the checks of two openings, up to layer `cap_layer`, have the same inputs at every place that both
+    /// share. Both openings must have their siblings up to the cap, and `N` must be the arity of `steps`.
     pub(crate) fn agree(
         &self,
         steps: &Steps<'_>,

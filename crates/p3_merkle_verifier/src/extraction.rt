@@ -1,5 +1,9 @@
 //! Extraction of a collision from two openings of one cap: both checks are walked side by side, to the last place at
 //! which their inputs differ.
+//!
+//! A check has an input of the hash at the leaf, the words of its rows. On each level it has the digests of a group, a
+//! node and its siblings; and where matrices belong to the layer above, the words of their rows, and a pair of both
+//! digests. Matrices belong to a layer by the exponents of their heights: log2, rounded up.
 
 ghost use Rattle.std.specs.Prelude.{◌≡◌, zip, IfOk, length, replicate};
 ghost use Rattle.std.specs.Cmp.Lexicographic.{pointwise};
@@ -42,7 +46,7 @@ pub(crate) struct RowPair<'a, T> {
 }
 
 impl<'a, T: Eq> RowPair<'a, T> {
-    /// Whether both openings have the same rows of these matrices. Nothing is copied.
+    /// Whether both openings have the same rows of the matrices of the exponent. Nothing is copied.
     pub(crate) fn agree(&self) -> bool
         ensures { result ≡ pointwise (pointwise T.eq) (first_rows self.now) (second_rows self.now) }
     {
@@ -59,7 +63,7 @@ impl<'a, T: Eq> RowPair<'a, T> {
     }
 }
 
-/// The digests that two checks compress at a place, if they differ.
+/// The digests `first` and `second` that two checks compress at `place`, if they differ.
 pub(crate) fn differing_digests<T, W: Copy + Eq, const D: usize>(
     alloc: Global,
     place: Place,
@@ -79,7 +83,7 @@ pub(crate) fn differing_digests<T, W: Copy + Eq, const D: usize>(
     }))
 }
 
-/// The words of the rows of the matrices of one exponent, one row after another.
+/// The words of the rows of the matrices of one exponent, one after another. `rows` has a row for each of `dimensions`.
 fn opened_words<T: Copy + Drop>(
     alloc: Global,
     dimensions: &[Dimensions],
@@ -101,7 +105,7 @@ fn opened_words<T: Copy + Drop>(
     Ok(words)
 }
 
-/// The words that two checks hash at a place, if they differ.
+/// The words of rows that two checks hash at `place`, if they differ.
 fn differing_words<T: Copy + Eq + Drop, W, const D: usize>(
     alloc: Global,
     place: Place,
@@ -147,8 +151,8 @@ fn leaf_difference<T: Copy + Eq + Drop, W: Copy + Eq, const D: usize>(
     differing_words(alloc, Place::Leaf, &rows)
 }
 
-/// The pairs of a level in two checks if these differ, else the rows if those do. `None` where both agree, or no matrix
-/// is injected above the level. `rows` are the rows of both openings at the layer above.
+/// The pairs of a level in two checks if these differ, else the words of the rows if those do. `None` where both agree,
+/// or no matrix belongs to the layer above the level. `rows` are the rows of both openings there.
 fn differing_above<T: Copy + Eq + Drop, W: Copy + Eq, const N: usize, const D: usize>(
     alloc: Global,
     rows: &RowPair<'_, T>,
@@ -170,7 +174,7 @@ fn differing_above<T: Copy + Eq + Drop, W: Copy + Eq, const N: usize, const D: u
 
 /// The inputs of two checks at the last place of a level where these differ: the pair, else the words of the rows, else
 /// the group. `None` if the inputs of the level are the same, or if the checks do not share the node above it. `first`
-/// and `second` are one level of both checks; `rows` are the rows of both openings at the layer above it.
+/// and `second` are that level of each check; `rows` are the rows of both openings at the layer above it.
 fn level_difference<T: Copy + Eq + Drop, W: Copy + Eq, const N: usize, const D: usize>(
     alloc: Global,
     rows: &RowPair<'_, T>,
@@ -204,9 +208,9 @@ impl<
     const N: usize,
     const D: usize,
 > Checker<'a, P, PW, H, C, [[PW::Value; D]; N], N, D> {
-    /// The last place that the checks of two openings share and at which they differ, with both inputs. Both openings
-    /// must have their siblings up to the cap. It allocates at shared places alone: the rows there, and the inputs that
-    /// differ.
+    /// The last place that the checks of two openings share up to layer `cap_layer` and at which they differ, with both
+    /// inputs. `None` if they agree. Both openings must have their siblings up to the cap. It allocates at shared
+    /// places alone: the rows there, and the inputs that differ.
     pub(crate) fn last_difference(
         &self,
         alloc: Global,
@@ -246,8 +250,7 @@ impl<
     /// Extracts a collision from two openings under the roots of a cap: the inputs at the last place that both checks
     /// share and at which they differ, or `None` if the checks agree.
     ///
-    /// `N` must be a power of two from 2 to 2^62 and the arity of `steps`; `cap_layer` must be at most the number of
-    /// levels.
+    /// `N` must be a power of two from 2 to 2^62 and the arity of `steps`; `cap_layer` at most the number of levels.
     ///
     /// # Errors
     ///

@@ -7,9 +7,7 @@
 
 mod agreement;
 pub mod checker;
-pub mod consistency;
 mod extraction;
-pub mod inconsistency;
 pub mod openings;
 pub mod path;
 mod pruned_check;

@@ -1,4 +1,5 @@
-//! Openings as a check reads them: a single one with its index, a pruned one, and the rows of both.
+//! Openings as a check reads them: a single one with its index, a pruned one, and the rows of both. The exponent of a
+//! matrix is log2 of its height, rounded up. A query is one index of a pruned opening; a row set is its rows.
 
 ghost use Rattle.std.specs.Prelude.{◌≡◌, ◌<◌, ◌≤◌, All, length, map, zip};
 ghost use Rattle.std.specs.Iterator.{YieldsFirstBy, item_count};
@@ -31,7 +32,7 @@ impl<'a, T, W, const D: usize> OpeningRef<'a, T, [W; D]> {
     ghost use Rattle.p3_merkle_core.specs.Views.{opening_borrowed};
     ghost use Rattle.p3_merkle_verifier.specs.Inner.Checks.{opening_in};
 
-    /// The opening of the leaf `index` by these rows and siblings.
+    /// The opening of the leaf `index` that has the rows and siblings of `opening`.
     pub fn new(
         index: usize,
         opening: BatchOpeningRef<'a, T, Vec<[W; D]>>,
@@ -97,8 +98,8 @@ pub struct OpenedMatrix<'a, T> {
 }
 
 impl<'a, T> OpenedMatrix<'a, T> {
-    /// The row of query `queries[row]`.
-    fn words(&self, row: usize) -> &[T]
+    /// Row `row` of the matrix: that of query `queries[row]`.
+    fn row_words(&self, row: usize) -> &[T]
         requires { row < length self.now.queries.now }
         ensures { result.now ≡ opened_row (row_sets self.now.sets.now) self.now.queries.now self.now.place row }
     {
@@ -126,11 +127,11 @@ impl<'a, T: Copy> Matrix<T> for OpenedMatrix<'a, T> {
     }
 
     fn get(&self, row: usize, column: usize) -> T {
-        self.words(row)[column]
+        self.row_words(row)[column]
     }
 
     fn piece(&self, row: usize, column: usize) -> &[T] {
-        &self.words(row)[column..]
+        &self.row_words(row)[column..]
     }
 
     ghost length_row_of = { λ m r h. length-opened_row (row_sets m.sets.now) m.queries.now m.place m.width

@@ -1,4 +1,7 @@
 //! The check of one opening: its form, then the digests on its path, then the cap's entry. It does not allocate.
+//!
+//! Layer 0 is the leaves; level `l` leads from layer `l` to layer `l + 1`, and its step is how many children a node
+//! above it has. A matrix belongs to the layer whose exponent is log2 of its height, rounded up.
 
 ghost use Rattle.std.specs.Prelude.{insert, suc, ◌≡◌, ◌==◌, ◌+◌, ◌-◌, ◌%◌, ◌<◌, length, replicate, slice_get, zip};
 ghost use Rattle.std.specs.Prelude.{false, unwrap_or, IfOk, MatchResult, None, Some};
@@ -39,8 +42,8 @@ pub struct Progress<X> {
 }
 
 impl<W: Copy, const D: usize> Progress<[W; D]> {
-    /// The group that the next step compresses: the siblings with this node's digest at its position, then default
-    /// digests. `siblings` are all of the path.
+    /// The group that is compressed to this node's parent: the node's siblings with its own digest at its position,
+    /// then default digests. `step` is how many children the parent has, and `siblings` are those of the whole path.
     fn group<const N: usize>(
         &self,
         default_digest: [W; D],
@@ -65,13 +68,14 @@ pub struct ComputedLevel<X, G> {
     pub level: usize,
     /// The siblings with the node's digest at its position, then default digests.
     pub group: G,
-    /// The digests of the group and of the rows, if matrices are injected at the layer above.
+    /// The digests of the group and of the rows, if matrices belong to the layer above.
     pub pair: Option<G>,
     /// The node above the level.
     pub above: Progress<X>,
 }
 
-/// States that an opening with all siblings up to the cap has those of each level below the cap.
+/// States that `siblings`, those of an opening up to layer `cap_layer`, have the `step - 1` ones of level `level` after
+/// the `used` ones of the levels below it.
 fn lemma_step<X>(
     steps: &Steps<'_>,
     cap_layer: usize,
@@ -89,7 +93,7 @@ fn lemma_step<X>(
 
 /// Checks the form of an opening of the leaf `index`, before anything is hashed: one row for each matrix, of its width;
 /// heights that a tree can have; as many siblings as the levels below the cap need; and an index below the tallest
-/// height.
+/// height. The errors are those of [`check_opening`](Checker::check_opening) but `CapMismatch`.
 ///
 /// The arity must be a power of two from 2 to 2^62, and `cap_layer` at most the number of levels.
 fn check_form<T>(
@@ -139,7 +143,7 @@ impl<
     const N: usize,
     const D: usize,
 > Checker<'a, P, PW, H, C, [[PW::Value; D]; N], N, D> {
-    /// The digest of the rows of the matrices of one exponent, hashed one after another as one message.
+    /// The digest of the rows of the matrices of one exponent, as one message. `rows` has one for each of `dimensions`.
     fn row_digest(
         &self,
         dimensions: &[Dimensions],
@@ -156,7 +160,7 @@ impl<
         })
     }
 
-    /// The start of the check of an opening: the leaf, with the digest of its rows.
+    /// The start of the check of an opening: the leaf, with the digest of its rows. `steps` are those of the tree.
     pub(crate) fn start(
         &self,
         steps: &Steps<'_>,
@@ -175,8 +179,8 @@ impl<
         }
     }
 
-    /// Computes one level of the check of an opening, from the node that it has reached to the node's parent. The
-    /// opening must have all siblings up to the cap.
+    /// Computes level `level` of the check of an opening, which must be below layer `cap_layer`: from the node of
+    /// `progress`, which the check has reached, to its parent. The opening must have all siblings up to the cap.
     // A call that is not inlined writes the whole level to memory, and a verification needs only `above`.
     #[inline(always)]
     pub(crate) fn compute_level(
@@ -235,11 +239,9 @@ impl<
         }
     }
 
-    /// Checks an opening against the roots of a cap: its form, and that its path leads to the root above the leaf. It
-    /// does not allocate.
+    /// Checks an opening against the roots of a cap: its form, and that its path leads to the root above the leaf.
     ///
-    /// `N` must be a power of two from 2 to 2^62 and the arity of `steps`; `cap_layer` must be at most the number of
-    /// levels.
+    /// `N` must be a power of two from 2 to 2^62 and the arity of `steps`; `cap_layer` at most the number of levels.
     ///
     /// # Errors
     ///

@@ -1,5 +1,9 @@
 //! Pruned openings: their check, and the restored path of each query. Both compute the digests of the covered nodes,
 //! layer by layer up to the cap's.
+//!
+//! A query is one index, and its row set has one row of each matrix. A node is covered if it is a queried leaf or above
+//! one; a proof has the digests of the other children of covered nodes. A matrix belongs to the layer whose exponent is
+//! log2 of its height, rounded up. A restored path has the siblings of a query, computed or from the proof.
 
 ghost use Rattle.std.specs.Prelude.{◌≡◌, ◌/◌, ◌<◌, ◌≤◌, ℕ, [], All, IfOk, length, map, replicate, slice_index};
 ghost use Rattle.std.specs.Prelude.{slice_index_or, zip};
@@ -57,8 +61,8 @@ impl<'a, T, W: Copy, const D: usize> PrunedOpeningRef<'a, T, [W; D]> {
     }
 }
 
-/// Checks the form of a pruned opening and that its rows agree, and returns it with its covered leaves. The error is
-/// that of `check_pruned`.
+/// Checks by [`check_pruned`], with its errors, the form of a pruned opening, and that its rows agree wherever queries
+/// share a node. Returns the opening and its covered leaves.
 fn check_restorable<'a, P: PackedValue, X>(
     alloc: Global,
     steps: &'a Steps<'a>,
@@ -98,7 +102,7 @@ fn check_restorable<'a, P: PackedValue, X>(
 }
 
 /// The layer above `below`, which must be layer `level` and below the cap's layer. `digests` has the digest of each
-/// covered node of `below`; the other children have the next digests of the proof.
+/// covered node of `below`; the other children of the layer above have the next digests of the proof.
 fn layer_above<'a, T, X: Copy>(
     alloc: Global,
     restorable: &RestorableOpening<'_, T, X>,
@@ -131,8 +135,8 @@ fn layer_above<'a, T, X: Copy>(
     })
 }
 
-/// The first query under each covered node of the layer of this exponent, by ascending nodes. A node's number is that
-/// of a leaf under it without its lowest bits.
+/// For each covered node of the layer of this exponent, ascending, the position of a query under it: the first one of
+/// its lowest leaf.
 fn queries_at<T, X>(
     alloc: Global,
     restorable: &RestorableOpening<'_, T, X>,
@@ -157,7 +161,7 @@ fn queries_at<T, X>(
     Ok(queries)
 }
 
-/// The rows that some queries opened of the matrices of this exponent, in input order.
+/// The matrices of this exponent, in input order, each with the rows that `queries` opened of it.
 fn opened_matrices<'a, T, X>(
     alloc: Global,
     restorable: &'a RestorableOpening<'_, T, X>,
@@ -186,8 +190,8 @@ fn opened_matrices<'a, T, X>(
     Ok(matrices)
 }
 
-/// The path of each query of an opening, out of its layers: on each layer below the cap's all digests of the path's
-/// group except its own, ascending.
+/// The path of each query of an opening, in query order, out of `layers`, its layers from the leaves to the cap's: the
+/// other children of the parent of each node on the path, ascending.
 fn paths_of<T, W: Copy, const D: usize>(
     alloc: Global,
     restorable: &RestorableOpening<'_, T, [W; D]>,
@@ -228,7 +232,7 @@ fn paths_of<T, W: Copy, const D: usize>(
     Ok(paths)
 }
 
-/// Whether the roots have this digest at `node`.
+/// Whether the roots of a cap have `digest` at the position `node`.
 pub(crate) fn is_entry<X: PartialEq>(roots: &[X], node: usize, digest: &X) -> bool
     ensures { result ≡ is_entry_of X.eq roots.now node digest.now }
 {
@@ -238,7 +242,7 @@ pub(crate) fn is_entry<X: PartialEq>(roots: &[X], node: usize, digest: &X) -> bo
     }
 }
 
-/// Whether the roots have each node's digest at its place. `digests[k]` is the digest of `nodes[k]`.
+/// Whether the roots of a cap have the digest of each node at its position. `digests[k]` is the digest of `nodes[k]`.
 fn are_entries<X: PartialEq>(roots: &[X], nodes: &[usize], digests: &[X]) -> bool
     ensures { result ≡ list_all (λ (node, digest). is_entry_of X.eq roots.now node digest) (zip nodes.now digests.now) }
 {
@@ -257,7 +261,8 @@ impl<
     const N: usize,
     const D: usize,
 > Checker<'a, P, PW, H, C, [[PW::Value; D]; N], N, D> {
-    /// The digests of the rows that were opened under the covered nodes of the layer with this exponent, in order.
+    /// For each covered node of the layer with this exponent, ascending, the digest of the rows that the queries under
+    /// it opened of the layer's matrices.
     fn row_digests(
         &self,
         alloc: Global,
@@ -282,7 +287,7 @@ impl<
         Ok(digests)
     }
 
-    /// The digests of groups of `step` children, at least one and at most `N`, one group after another.
+    /// The digests of the parents of `children`, parent by parent. Each parent has `step` children, from 1 to `N`.
     pub(crate) fn group_digests(
         &self,
         alloc: Global,
@@ -303,9 +308,9 @@ impl<
         Ok(digests)
     }
 
-    /// The digests of the covered nodes of a layer, in order. A leaf's is that of the rows of its first query. Any
-    /// other node's is the compression of its children; where matrices belong to the layer, it is compressed once more
-    /// with the digest of their rows, from the first query under the node.
+    /// The digests of the covered nodes of layer `layer`, which is `here`, ascending. A leaf's is that of the rows of
+    /// its first query. Any other node's is the compression of its children; where matrices belong to the layer, it is
+    /// compressed once more with the digest of their rows, which the queries under the node share.
     pub(crate) fn node_digests(
         &self,
         alloc: Global,
@@ -335,7 +340,7 @@ impl<
         Ok(digests)
     }
 
-    /// Checks that the roots have the digest of each covered node of the cap's layer, else `CapMismatch`.
+    /// Checks that the roots of a cap have the digest of each covered node of its layer, `here`, else `CapMismatch`.
     fn check_roots(
         &self,
         alloc: Global,
@@ -357,8 +362,7 @@ impl<
         Ok(())
     }
 
-    /// The cap's layer of a pruned opening, computed up from the covered leaves. The children of one layer are stored
-    /// at a time.
+    /// The cap's layer of a pruned opening, computed up from its covered leaves. Only one layer's children are stored.
     fn top_layer<'b>(
         &self,
         alloc: Global,
@@ -381,7 +385,7 @@ impl<
         Ok(layer)
     }
 
-    /// All layers of a pruned opening, from the covered leaves up to the cap's layer, with the digests of the covered
+    /// All layers of a pruned opening, from its covered leaves up to the cap's layer, with the digests of the covered
     /// nodes' children: each is computed from the layer below, or is a digest of the proof.
     fn restored_layers<'b>(
         &self,
@@ -410,12 +414,11 @@ impl<
     /// Checks a pruned opening against the roots of a cap: checks its form, computes the digest of each covered node of
     /// the cap's layer from the rows and the proof's digests, and compares it with the root at that node.
     ///
-    /// `N` is a power of two from 2 to 2^62 and the arity of `steps`; the cap's layer is at most the number of levels.
+    /// `N` must be a power of two from 2 to 2^62 and the arity of `steps`; `cap_layer` at most the number of levels.
     ///
     /// # Errors
     ///
-    /// The error of `check_pruned`; else `CapMismatch` where a root is another, or is not there. `OutOfMemory` may come
-    /// at any time.
+    /// The error of [`check_pruned`], else `CapMismatch` if a root is wrong or missing; `OutOfMemory` at any time.
     pub fn check_pruned_opening(
         &self,
         alloc: Global,
@@ -438,8 +441,8 @@ impl<
         self.check_roots(alloc, &restorable, &top, roots)
     }
 
-    /// The leaves of a pruned opening that is checked as [`check_pruned_opening`](Self::check_pruned_opening)
-    /// does, and the path of each query, as [`restored_paths`](Self::restored_paths) restores it.
+    /// Checks a pruned opening as [`check_pruned_opening`](Self::check_pruned_opening) does, with its errors. Returns
+    /// its distinct leaves, and the restored path of each query, in query order.
     pub(crate) fn checked_paths(
         &self,
         alloc: Global,
@@ -471,11 +474,11 @@ impl<
     /// Restores the path of each query up to the cap's layer, in query order, from a pruned opening: each sibling is a
     /// digest of the proof, or is computed from the rows and these digests. No cap is compared.
     ///
-    /// `N` is a power of two from 2 to 2^62 and the arity of `steps`; the cap's layer is at most the number of levels.
+    /// `N` must be a power of two from 2 to 2^62 and the arity of `steps`; `cap_layer` at most the number of levels.
     ///
     /// # Errors
     ///
-    /// The error of `check_pruned`. `OutOfMemory` may come at any time.
+    /// The error of [`check_pruned`]. `OutOfMemory` may come at any time.
     pub fn restored_paths(
         &self,
         alloc: Global,

@@ -1,4 +1,5 @@
-//! Extraction from two pruned openings under one cap: the first pair of queries whose checks differ.
+//! Extraction from two pruned openings under one cap: the first pair of queries whose checks differ. The check of a
+//! query goes from its leaf up its restored path; two checks share the leaf or a level if they reach one node there.
 
 ghost use Rattle.std.specs.Prelude.{◌≡◌, ◌⊎◌, ℕ, ◌<◌, IfOk, IsTrue, length, replicate};
 ghost use Rattle.std.specs.Option.{option_or};
@@ -82,7 +83,8 @@ impl<
     const N: usize,
     const D: usize,
 > Checker<'a, P, PW, H, C, [[PW::Value; D]; N], N, D> {
-    /// Checks a pruned opening against the roots of a cap, and returns its queries, each with its restored path.
+    /// Checks a pruned opening against the roots of a cap, with the errors of
+    /// [`check_pruned_opening`](Self::check_pruned_opening), and returns its queries, each with its restored path.
     fn checked_queries<'b>(
         &self,
         alloc: Global,
@@ -115,7 +117,7 @@ impl<
         })
     }
 
-    /// Whether the check of an opening agrees with that of the query at position `place`, wherever both share a place.
+    /// Whether the check of the opening `first` agrees with that of query `place`, wherever both share a place.
     fn agrees_with(
         &self,
         steps: &Steps<'_>,
@@ -137,9 +139,9 @@ impl<
         self.agree(steps, cap_layer, first, second)
     }
 
-    /// Whether the check of an opening agrees with that of each query, wherever both share a place. Only the queries of
-    /// the nearest indices below and above are compared: the opening's path shares with one of them each node that it
-    /// shares with any query, and the checks of the queries agree among themselves.
+    /// Whether the check of the opening `first` agrees with that of each query, wherever both share a place. Only the
+    /// queries of the nearest indices below and above are compared: the opening's path shares with one of them each
+    /// node that it shares with any query, and the checks of the queries agree among themselves.
     fn agrees_with_all(
         &self,
         steps: &Steps<'_>,
@@ -168,8 +170,8 @@ impl<
         above == below || self.agrees_with(steps, cap_layer, first, queries, above)
     }
 
-    /// The first query whose check differs from that of an opening: its position among the queries, and both inputs at
-    /// the last place that both checks share and at which they differ.
+    /// The first query whose check differs from that of the opening `first`: its position among the queries, and both
+    /// inputs at the last place that both checks share and at which they differ. `None` if there is no such query.
     fn differing_query(
         &self,
         alloc: Global,
@@ -206,8 +208,8 @@ impl<
         Ok(None)
     }
 
-    /// The first pair of queries whose checks differ, in the order of the first list, then of the second: the position
-    /// of each query in its list, and both inputs at the last place that both checks share and at which they differ.
+    /// The first pair of queries whose checks differ, in the order of `first`, then of `second`: the position of each
+    /// query in its list, and both inputs at the last place that both checks share and at which they differ.
     fn differing_pair(
         &self,
         alloc: Global,

@@ -14,9 +14,8 @@ pub trait CryptographicHasher<P: PackedValue, PW: PackedValue, const D: usize> {
     /// How many messages `hash_many` hashes side by side. It is fastest for a multiple of this many.
     const LANES: usize;
 
-    /// Whether a message in several pieces is hashed faster when it is copied into one slice first. No builder here
-    /// reads it: batches copy the rows of several matrices together for every hasher, and a row that is hashed alone is
-    /// handed on piece by piece or word by word.
+    /// Whether a message in several pieces is hashed faster when it is copied into one slice first. No builder reads
+    /// it.
     const PREFER_CONTIGUOUS_INPUT: bool;
 
     // The digest of a list of words.

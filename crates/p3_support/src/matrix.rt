@@ -25,8 +25,8 @@ pub struct Dimensions {
     pub height: usize,
 }
 
-/// A matrix of elements `T`, with `height` rows of `width` elements each. Every call returns the same for the same
-/// matrix.
+/// A matrix of elements `T`, with `height` rows of `width` elements each. On one matrix each call always returns the
+/// same.
 pub trait Matrix<T> {
     // The number of rows.
     ghost height_of: { Self → ℕ };
@@ -45,16 +45,15 @@ pub trait Matrix<T> {
     fn width(&self) -> usize
         ensures { result ≡ width_of self.now };
 
-    /// The element in a row and a column, both counted from 0. The row must be below the height, the column below the
-    /// width.
+    /// The element in a row and a column, both from 0. The row must be below the height, the column below the width.
     fn get(&self, row: usize, column: usize) -> T
         requires row_in { row < height_of self.now }
         requires column_in { column < width_of self.now }
         ensures { slice_get (row_of self.now row) column ≡ Some result };
 
     /// A slice of elements that the matrix stores one after another, from `column` of `row` on. It may end anywhere,
-    /// run on into the next rows, or be empty, as it is for a matrix that stores no elements. The caller reads by
-    /// [`get`](Self::get) what it lacks. The row must be below the height, and the column at most the width.
+    /// run on into the next rows, or be empty: the caller reads the elements that it lacks by [`get`](Self::get). The
+    /// row must be below the height, and the column at most the width.
     fn piece(&self, row: usize, column: usize) -> &[T]
         requires row_in { row < height_of self.now }
         requires column_in { column ≤ width_of self.now }

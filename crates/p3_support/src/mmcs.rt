@@ -70,13 +70,14 @@ pub trait Mmcs<T, M: Matrix<T>> {
     ghost refusal_of_all: { Self → Self.Commitment → List Dimensions → List ℕ → List (List (List T)) →
         Self.MultiProof → Option Self.Error };
 
-    /// Commits to matrices. It changes the scheme only in its random generator, so earlier commitments stay valid.
+    /// Commits to matrices. Returns the commitment, for verifiers, and the prover's data, from which rows are opened.
+    /// Only the scheme's random generator changes, so earlier commitments stay valid.
     ///
     /// # Errors
     ///
     /// The scheme's reason for refusing the matrices, which leaves the scheme and its generator unchanged. Matrices
-    /// that the scheme can commit to fail only if memory runs out. That may be reported at any time, and the generator
-    /// may have drawn by then.
+    /// that the scheme can commit to fail only if memory runs out. That may come at any time, and the generator may
+    /// have drawn by then.
     fn commit(
         &mut self,
         alloc: Global,
@@ -90,8 +91,8 @@ pub trait Mmcs<T, M: Matrix<T>> {
         ensures untouched { IfErr result (λ e. is_out_of_memory e ⊎ (self.new ≡ self.old)) }
         ensures memory { can_commit matrices.items → IfErr result is_out_of_memory };
 
-    /// Opens an index, which must be below the tallest height. The opening has one row of each matrix, in input order,
-    /// and a proof of them. It is accepted under the commitment.
+    /// Opens an index of the matrices that `prover_data` has. The index must be below their tallest height. The opening
+    /// has one row of each matrix, in input order, and a proof of them. It is accepted under the commitment.
     ///
     /// # Errors
     ///

@@ -32,7 +32,7 @@ impl<'a, F, X> From<&'a X> for DigestRef<'a, F, X> {
 impl<'a, F, X> DigestRef<'a, F, X> {
     ghost use Rattle.p3_support.specs.Shown.{digest_of_ref};
 
-    /// The digest that it refers to.
+    /// The borrowed digest.
     pub fn value(&self) -> &'a X
         ensures { result.now ≡ digest_of_ref self.now }
     {

@@ -141,7 +141,7 @@ pub fn lemma_rows<T, const D: usize>(rows: &[[T; D]])
     }
 }
 
-/// Unpacks one packed value: lane `k` becomes element `e` of row `k`.
+/// Unpacks one packed value: lane `k` becomes element `e` of row `k`, where `e < D`. There are `PW::WIDTH` rows.
 fn unpack_value<PW: PackedValue, const D: usize>(value: PW, e: usize, rows: &mut [[PW::Value; D]])
     requires inside { e < D }
     requires rows { length rows.old ≡ PW.WIDTH }
@@ -184,7 +184,7 @@ pub fn unpack_at<PW: PackedValue, const D: usize>(
     unpack_into(packed, &mut rows[first..first + PW::WIDTH]);
 }
 
-/// Writes a column into lane `k`: element `e` of `packed` gets `column[e]`. The other lanes stay as they are.
+/// Writes a column of `D` values into lane `k`: element `e` of `packed` gets `column[e]`. Other lanes stay.
 fn set_lane<PW: PackedValue, const D: usize>(packed: &mut [PW; D], k: usize, column: &[PW::Value])
     requires lane { k < PW.WIDTH }
     requires long { length column.now ≡ D }

@@ -17,7 +17,7 @@ pub struct HorizontalPair<T, A: Matrix<T>, B: Matrix<T>> {
 impl<T, A: Matrix<T>, B: Matrix<T>> HorizontalPair<T, A, B> {
     ghost use Rattle.p3_support.specs.Pairs.{left_of, right_of};
 
-    /// The matrices `left` and `right`, side by side. Their heights must be equal, and the sum of their widths must fit
+    /// The matrices `left` and `right`, side by side. Their heights must be equal, and both widths together fit
     /// `usize`.
     pub fn new(left: A, right: B) -> HorizontalPair<T, A, B>
         requires one_height { A.height_of left ≡ B.height_of right }

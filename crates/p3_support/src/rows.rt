@@ -88,8 +88,7 @@ impl<'a, T, P: PackedValue<Value = T>, M: Matrix<T>> Model for PackedRows<'a, T,
 }
 
 /// `P::WIDTH` rows from `row` on of each of the `matrices`, packed column by column, one matrix after another: lane `k`
-/// of an item is an element of row `row + k`. `row + P::WIDTH` must be at most the height of each. The call does not
-/// allocate.
+/// of an item is an element of row `row + k`. `row + P::WIDTH` must be at most the height of each.
 pub fn packed_rows_of<'a, T, P: PackedValue<Value = T>, M: Matrix<T>>(
     matrices: &'a [M],
     row: usize,

@@ -10,7 +10,7 @@ use Rattle.p3_merkle_core.specs.Commitments.{cap_over}
 use Rattle.p3_merkle_core.specs.Nodes.{node}
 use Rattle.p3_merkle_core.proofs.Shapes.RootFacts.{root_alone}
 use Rattle.std.specs.List.{range_with_len}
-use Rattle.p3_merkle_core.proofs.Growths.HonestFacts.{leaf_of, next_of, padding_of}
+use Rattle.p3_merkle_core.proofs.Checks.OneHeightFacts.{leaf_of, next_of, padding_of}
 use Rattle.tlog.specs.Rfc9162.{Hash as HashFunction, mth, mth_within}
 use Rattle.tlog.proofs.Layers.{above, above-both, above-drop, above-only, above-take, itself, length-above, mth_above}
 use Rattle.tlog_entries.specs.Nodes.{parent_digest}

@@ -17,7 +17,7 @@ use Rattle.p3_merkle_core.specs.Pruning.{restored_node, restored_path, sent_dige
 use Rattle.p3_merkle_core.proofs.Checks.PathFacts.{group_values, path_length}
 use Rattle.p3_merkle_core.proofs.Covered.Equivalence.{query_covered, restored_leaf, restored_next, rows_under_is}
 use Rattle.p3_merkle_core.proofs.Covered.Sufficient.{child_listed}
-use Rattle.p3_merkle_core.proofs.Growths.LevelFacts.{leaf_words}
+use Rattle.p3_merkle_core.proofs.Checks.OneHeightFacts.{leaf_words}
 use Rattle.p3_merkle_core.proofs.Shapes.OneHeight.{full_group, no_rows_above}
 use Rattle.tlog.specs.Rfc9162.{Hash as HashFunction, node_hash}
 use Rattle.tlog.specs.Verdicts.{IsIncluded, size_limit}

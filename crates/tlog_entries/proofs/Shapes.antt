@@ -17,8 +17,7 @@ use Rattle.p3_merkle_core.specs.Openings.{Opening, level_siblings}
 use Rattle.p3_merkle_core.specs.Checks.{group_at, layer_words, path_digest, siblings_at, siblings_below}
 use Rattle.p3_merkle_core.proofs.Shapes.OneHeight.{full_group, greatest_is, levels_are, levels_cover, no_rows_above}
 use Rattle.p3_merkle_core.proofs.Shapes.OneHeight.{step_is_arity}
-use Rattle.p3_merkle_core.proofs.Growths.HeightFacts.{power_below}
-use Rattle.p3_merkle_core.proofs.Growths.LevelFacts.{ancestor_is, leaf_words, siblings_are}
+use Rattle.p3_merkle_core.proofs.Checks.OneHeightFacts.{ancestor_is, leaf_words, power_below, siblings_are}
 use Rattle.p3_merkle_core.specs.Pruning.{is_covered}
 use Rattle.p3_merkle_core.proofs.Covered.Sufficient.{covered_query}
 use Rattle.p3_merkle_core.proofs.Checks.Completeness.{reached_leaf, reached_next}

@@ -1,11 +1,13 @@
--- The nodes of a proof of entries suffice where padding is known, and no fewer nodes do.
+-- The nodes of a proof of entries suffice where padding is known, no fewer nodes do, and they are no more than entries.
 use Rattle.std.proofs.Common.{◌≡◌, ℕ, zero, suc, ◌+◌, ◌*◌, ◌/◌, ◌^◌, ◌<◌, ◌≤◌, Bool, true, false, not, eqb, nat_lt}
 use Rattle.std.proofs.Common.{◌&&◌}
-use Rattle.std.proofs.Common.{List, [], ◌∷◌, ◌++◌, length, filter, refl, sym, ◌∙◌, arith, inl, inr, All, eq-eqb}
+use Rattle.std.proofs.Common.{List, [], ◌∷◌, ◌++◌, length, filter, map, refl, sym, ◌∙◌, arith, inl, inr, All, eq-eqb}
 use Rattle.std.specs.Prelude.{◌||◌}
-use Rattle.std.proofs.lemmas.Bool.{and_from, and_parts, both_ways, cases_Bool, false_from_ne_true, eqb-true}
+use Rattle.std.specs.List.{range_with_len}
+use Rattle.std.proofs.lemmas.Bool.{and_from, and_parts, both_ways, cases_Bool, cases_eq, false_from_ne_true, eqb-true}
 use Rattle.std.proofs.lemmas.Bool.{ltb-false, ltb-true, not-true, or_cases, or_left, or_right, true≢false}
 use Rattle.std.proofs.lemmas.List.Folds.{list_any-append}
+use Rattle.std.proofs.lemmas.List.FromFn.{length-map-range_with_len}
 use Rattle.p3_merkle_core.specs.Geometry.{Shape, levels, step}
 use Rattle.p3_merkle_core.specs.Pruning.{IsKnown, IsUncovered, Suffices, boundary, is_covered, is_in, is_under}
 use Rattle.p3_merkle_core.proofs.Covered.Minimal.{above, boundary_known, boundary_one, in_boundary}
@@ -152,6 +154,54 @@ module _ (size : ℕ) (indices : List ℕ) (below : All (λ i. i < size) indices
         (boundary_suffices s indices (levels s) (log_query size indices below) j c),
   )
 
+  -- a slot is under one node of the proof at most
+  one_above : (x : ℕ × ℕ) → tally (above s x) (proof_nodes size indices) ≤ 1
+  one_above (m, k) =
+      let one : tally (above s (m, k)) slots ≤ 1 = elim (boundary_one s indices m k (levels s)) [
+        | inl none ↦ omega arith
+        | inr one ↦ let is = one.0 in omega arith
+      ] in
+      omega (arith, one, tally_filter (above s (m, k)) (is_node size) slots)
+
+  -- each node has an entry under it
+  abbrev leaves_from : ℕ → ℕ → List (ℕ × ℕ)
+  leaves_from a n = map (λ k. (0, k)) (range_with_len a n)
+
+  leaf_listed : (j a n : ℕ) → a ≤ j → j < a + n → is_in (leaves_from a n) 0 j ≡ true
+  leaf_listed j a zero from to = absurd (omega arith)
+  leaf_listed j a (suc n) from to =
+      elim (cases_eq a j) [
+        | inl same ↦
+            or_left (eqb 0 0 && eqb a j) (is_in (leaves_from (a + 1) n) 0 j)
+            (and_from (eqb 0 0) (eqb a j) refl (eq-eqb a j same))
+        | inr other ↦
+            or_right (eqb 0 0 && eqb a j) (is_in (leaves_from (a + 1) n) 0 j)
+            (leaf_listed j (a + 1) n (omega arith) (omega arith))
+      ]
+
+  leaf_under : (l j : ℕ) → j * 2 ^ l < size → 1 ≤ tally (is_under s l j) (leaves_from 0 size)
+  leaf_under zero j real = member_counts s (leaves_from 0 size) 0 j (leaf_listed j 0 size (omega arith) (omega arith))
+  leaf_under (suc l) j real =
+      let n = step s l in
+      let two = step_of_two size l in
+      let first = n * j + 0 in
+      let up : first / n ≡ j = child_parent s l j 0 (omega arith) in
+      let inside : first * 2 ^ l < size = rw (two, double_slot j l) real in
+      let below_it = leaf_under l first inside in
+      let more = tally_le (is_under s l first) (is_under s (suc l) j) (under_parent s l j first up) (leaves_from 0 size)
+      in
+      omega arith
+
+  pub nodes_within : length (proof_nodes size indices) ≤ size
+  nodes_within =
+      let least : length (proof_nodes size indices) ≤ under_all s (proof_nodes size indices) (leaves_from 0 size) =
+      at_least s (is_node size) slots (leaves_from 0 size)
+      (λ l j h node. leaf_under l j (ltb-true (j * 2 ^ l) size node)) in
+      let most : under_all s (proof_nodes size indices) (leaves_from 0 size) ≤ length (leaves_from 0 size) =
+      at_most s (proof_nodes size indices) (leaves_from 0 size) one_above in
+      let count : length (leaves_from 0 size) ≡ size = length-map-range_with_len (λ k. (0, k)) 0 size in
+      omega arith
+
   module _ (given padding : List (ℕ × ℕ)) (absent : ArePadding size padding)
       (bare : IsUncovered s indices (levels s) given)
       (enough : Suffices s indices (levels s) (given ++ padding)) where
@@ -203,10 +253,5 @@ module _ (size : ℕ) (indices : List ℕ) (below : All (λ i. i < size) indices
     pub fewest_nodes : length (proof_nodes size indices) ≤ length given
     fewest_nodes =
         let least = at_least s (is_node size) slots given boundary_holds in
-        let most = at_most s (proof_nodes size indices) given (λ (m, k).
-        let one : tally (above s (m, k)) slots ≤ 1 = elim (boundary_one s indices m k (levels s)) [
-          | inl none ↦ omega arith
-          | inr one ↦ let is = one.0 in omega arith
-        ] in
-        omega (arith, one, tally_filter (above s (m, k)) (is_node size) slots)) in
+        let most = at_most s (proof_nodes size indices) given one_above in
         omega arith

@@ -2,7 +2,7 @@
 use Rattle.std.specs.Prelude.{◌≡◌, ℕ, ◌==◌, ◌||◌, Bool, List, [], ◌++◌, flat_map, map}
 use Rattle.p3_merkle_core.specs.Nodes.{shape, Batch, Functions, Matrix}
 use Rattle.p3_merkle_core.specs.Openings.{honest_rows, node_in}
-use Rattle.p3_merkle_core.specs.Pruning.{boundary_by, pruned_of, PrunedOpening}
+use Rattle.p3_merkle_core.specs.Pruning.{boundary_by}
 use Rattle.p3_merkle_core.specs.declared.cap.CapRule.{CapRule}
 use Rattle.mmcs_engine.specs.declared.command.CapChoice.{CapChoice}
 use Rattle.mmcs_engine.specs.declared.command.HashName.{HashName}
@@ -21,10 +21,6 @@ matrix_in_numbers value m = record { height = m.height; width = m.width; row = �
 -- a batch, with the numbers of its words in their place
 abbrev pub batch_in_numbers : {T : Type 0} → (T → ℕ) → Batch T → Batch ℕ
 batch_in_numbers value b = record { arity = b.arity; matrices = map (matrix_in_numbers value) b.matrices }
-
--- a pruned opening, with the numbers of its words in their place
-abbrev pub pruned_in_numbers : {T : Type 0} → (T → ℕ) → PrunedOpening T T → PrunedOpening ℕ ℕ
-pruned_in_numbers value p = pruned_of p.indices (map (map (map value)) p.rows) (map (map value) p.digests)
 
 -- functions of words give words of the numbers that functions of numbers give
 pub record ComputeAlike {T : Type 0} (value : T → ℕ) (f : Functions T T) (g : Functions ℕ ℕ) : Type 0 where

@@ -2,15 +2,14 @@
 use Rattle.std.proofs.Common.{◌≡◌, ℕ, zero, suc, ◌+◌, ◌/◌, ◌<◌, ◌≤◌, Bool, true, false, eqb, List, [], ◌∷◌, map, refl}
 use Rattle.std.proofs.Common.{ap, sym, ◌∙◌, arith, inl, inr, length, filter, get_or, set, drop, eq-eqb, All, zip}
 use Rattle.std.proofs.Common.{replicate, ◌≢◌, drop-cons, add-one, Option, Some, not, Vec}
-use Rattle.std.specs.Prelude.{Ok, Err}
 use Rattle.std.specs.Ordering.{is_lt, nat_cmp, ordering_then}
 use Rattle.std.specs.declared.cmp.Ordering.{Ordering}
 use Rattle.std.specs.declared.cmp.Ordering.TheVariants.{Less, Equal, Greater}
 use Rattle.std.specs.Cmp.{both_ways, IsEquivalence}
 use Rattle.std.proofs.lemmas.Cmp.{lists_equiv}
 use Rattle.std.proofs.lemmas.List.Sorted.{IsNonDecreasingBy-from_sort, IsPermutation-map}
-use Rattle.std.proofs.lemmas.List.Sorted.{list_any-IsPermutation, searched}
-use Rattle.std.specs.List.Sorted.{IsBinarySearchResult, IsPermutation, IsSorted}
+use Rattle.std.proofs.lemmas.List.Sorted.{list_any-IsPermutation}
+use Rattle.std.specs.List.Sorted.{IsPermutation, IsSorted}
 use Rattle.std.specs.List.{dedup, range_with_len}
 use Rattle.std.specs.Option.{option_or}
 use Rattle.std.specs.Cmp.Lexicographic.{pointwise}
@@ -215,17 +214,6 @@ some_place indices i c =
     listed_place (distinct indices) i
     (listed_there (is_among indices) 0 (suc (greatest indices)) i c (omega arith) (omega (arith, highest indices i c)))
 
--- a search that finds nothing is of no queried index
-pub never_missed : (indices : List ℕ) (i k : ℕ) → ((j : ℕ) → j < k → get_or (distinct indices) j 0 < i) →
-    ((j : ℕ) → k ≤ j → j < length (distinct indices) → i < get_or (distinct indices) j 0) →
-    is_among indices i ≡ true → IsSlot indices i k
-never_missed indices i k low high c =
-    let p = some_place indices i c in
-    elim (cases_lt p.0 k) [
-      | inl h ↦ absurd (omega (arith, low p.0 h, p.2))
-      | inr h ↦ absurd (omega (arith, high p.0 h p.1, p.2))
-    ]
-
 pub ascending_from : (xs : List ℕ) → IsRising 0 xs → IsAscending xs
 ascending_from xs up i j h l =
     elim (cases_lt i j) [
@@ -235,19 +223,6 @@ ascending_from xs up i j h l =
 
 pub rising_either : (indices : List ℕ) → IsAscending (distinct indices)
 rising_either indices = ascending_from (distinct indices) (distinct_rising indices)
-
--- a binary search among the distinct indices finds the slot of each queried index
-pub search_hits : (indices : List ℕ) (i k : ℕ) → IsBinarySearchResult (λ y. nat_cmp y i) (distinct indices) (Ok k) →
-    IsSlot indices i k
-search_hits indices i k h =
-    let found = searched (distinct indices) i (Ok k) h (rising_either indices) in
-    found_at indices i k found.0 found.1
-
-pub search_misses : (indices : List ℕ) (i k : ℕ) → IsBinarySearchResult (λ y. nat_cmp y i) (distinct indices) (Err k) →
-    is_among indices i ≡ true → IsSlot indices i k
-search_misses indices i k h c =
-    let missed = searched (distinct indices) i (Err k) h (rising_either indices) in
-    never_missed indices i k missed.1 missed.2 c
 
 pub queried_at : (indices : List ℕ) (k : ℕ) → k < length indices → is_among indices (get_or indices k 0) ≡ true
 queried_at indices k h = listed_at indices k 0 h

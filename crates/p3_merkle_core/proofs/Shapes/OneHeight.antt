@@ -23,7 +23,7 @@ use Rattle.p3_merkle_core.specs.declared.cap.CapRule.TheVariants.{Lowered, Fixed
 use Rattle.p3_merkle_core.proofs.Shapes.CapFacts.{levels_from, no_bridge_from, no_rows_below, whole_steps}
 use Rattle.p3_merkle_core.proofs.Shapes.FallFacts.{falls_above}
 use Rattle.p3_merkle_core.proofs.Shapes.LeastFacts.{below_exponent, exponent_covers, exponent_le, least_is}
-use Rattle.p3_merkle_core.proofs.Shapes.LeastFacts.{least_bound, least_le, least_passes, n_below_pow}
+use Rattle.p3_merkle_core.proofs.Shapes.LeastFacts.{least_le, least_passes, n_below_pow}
 use Rattle.p3_merkle_core.proofs.Shapes.QuotientFacts.{ceil_below, ceil_ceil, ceil_covers, ceil_is, ceil_le, ceil-one}
 use Rattle.p3_merkle_core.proofs.Shapes.RawFacts.{above_1, filled, least_multiple, padded_long, padded_short}
 use Rattle.p3_merkle_core.proofs.Shapes.RawFacts.{positive_below, raw_next}
@@ -113,12 +113,6 @@ levels_cover n w h =
           rw (is, arity_power n w h)
           (omega (arith, n_below_pow h, pow_mono {i = h} {j = h * exponent n} up))
     ]
-
--- and a greater height has no fewer
-pub levels_mono : (n : ℕ) → IsArity n → (h m : ℕ) → h ≤ m → levels_of_height n h ≤ levels_of_height n m
-levels_mono n w h m le =
-    least_bound (λ k. nat_le h (n ^ k)) h (levels_of_height n m)
-    (le-leb h (n ^ levels_of_height n m) (omega (arith, levels_cover n w m)))
 
 -- ---- shapes
 

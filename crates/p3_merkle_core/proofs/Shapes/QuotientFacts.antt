@@ -40,9 +40,6 @@ ceil_le x a k some enough =
       | inr le ↦ le
     ]
 
-pub ceil_mono : (x y a : ℕ) → 0 < a → x ≤ y → div_ceil x a ≤ div_ceil y a
-ceil_mono x y a some le = ceil_le x a (div_ceil y a) some (omega (arith, ceil_covers y a some))
-
 -- it is not above the number
 pub ceil_le_self : (x a : ℕ) → 0 < a → div_ceil x a ≤ x
 ceil_le_self x a some = ceil_le x a x some (let more : x * 1 ≤ x * a = mul-le-mul_left x some in omega arith)

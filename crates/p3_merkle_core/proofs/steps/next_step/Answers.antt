@@ -22,14 +22,14 @@ returns-then-has_rows c =
     let up = step_found c.args.arity x c.exponent_of.result target c.args.exponents.lower_end y r hs
     c.requires.arity c.requires.below c.exponent_of.ensures
     c.saturating_sub-target.ensures c.requires.next.next_is c.saturating_sub-is_bridge.ensures is_y in
-    let above = c.at-above.ensures in
+    let above = c.exponents_at-above.ensures in
     let n = c.args.exponents.lower_end in
     let next = c.if-has_rows.true in
     record {
       bridge = up.bridge;
       layer = above.layer ∙ up.layer ∙ ap (λ b. cond b (x - 1) (x - exponent c.args.arity)) up.bridge;
       rows = lt-ltb y n next
-          ∙ sym (next_had x c.at-above.result.layer hs (omega (arith, above.layer, up.down))
+          ∙ sym (next_had x c.exponents_at-above.result.layer hs (omega (arith, above.layer, up.down))
           (omega (arith, above.layer, next, up.between, c.requires.next.next_is)));
       next = above.next;
     }

@@ -43,16 +43,16 @@ loop-matrix-preserved c = λ x small.
     (digits (c.if-bit.bits % 2 ^ x)) (next_below x (heights_of c.args.dimensions.now))
     c.loop-matrix-test.true c.exponent_of-bit.ensures reached (c.loop-matrix.invariant x small)
 
-pub at-exponents-requires : goal.at-exponents-requires
-at-exponents-requires c =
+pub exponents_at-exponents-requires : goal.exponents_at-exponents-requires
+exponents_at-exponents-requires c =
     omega (arith, c.exponent_of-exponent.ensures, exponent_le c.extremes_of-max_height.result.0 64 (omega arith))
 
 pub loop-exponents-init : goal.loop-exponents-init
 loop-exponents-init c = (
-  at_start (shape_of c.args.arity c.args.dimensions.now) c.at-exponents.result.layer
-      (c.at-exponents.ensures.layer ∙ c.exponent_of-exponent.ensures
+  at_start (shape_of c.args.arity c.args.dimensions.now) c.exponents_at-exponents.result.layer
+      (c.exponents_at-exponents.ensures.layer ∙ c.exponent_of-exponent.ensures
       ∙ ap exponent c.extremes_of-max_height.ensures.greatest),
-  c.at-exponents.ensures.next,
+  c.exponents_at-exponents.ensures.next,
   refl,
   refl,
   λ n above below. get_or-replicate 64 n none none (omega (arith, below)),

@@ -12,6 +12,6 @@ returns g c =
     let long = length-opened_row (row_sets m.sets.now) m.queries.now m.place m.width m.among m.fit c.args.row
     c.requires.row_in in
     let column = c.args.column in
-    let x = c.index-words-column.result in
+    let x = c.index-row_words-column.result in
     slice_get_read (row_in m c.args.row) m.width column x (sym long) c.requires.column_in
-    (c.index-words-column.is ∙ ap (λ row. get_or row column x) c.words.ensures)
+    (c.index-row_words-column.is ∙ ap (λ row. get_or row column x) c.row_words.ensures)

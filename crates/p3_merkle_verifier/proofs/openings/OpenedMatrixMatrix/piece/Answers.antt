@@ -14,7 +14,7 @@ returns g c =
     let row = row_in m c.args.row in
     let each = length-opened_row (row_sets m.sets.now) m.queries.now m.place m.width m.among m.fit in
     let n = length row - column in
-    rw c.words.ensures (piece_made (row_in m) m.width (length m.queries.now) c.args.row column n
+    rw c.row_words.ensures (piece_made (row_in m) m.width (length m.queries.now) c.args.row column n
     (take n (drop column row)) each c.requires.row_in
     (omega (arith, each c.args.row c.requires.row_in, c.requires.column_in))
     (length-take-le n (drop column row) (omega (arith, length-drop column row))) refl)

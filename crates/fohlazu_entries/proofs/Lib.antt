@@ -1,9 +1,0 @@
-pub mod EntryFacts
-pub mod VerdictFacts
-pub mod PieceFacts
-pub mod AskedFacts
-pub mod SplitterFacts
-pub mod WholeFacts
-pub mod LineFacts
-pub mod ReaderFacts
-pub mod NumberFacts

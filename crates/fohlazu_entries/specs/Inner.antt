@@ -1,3 +1,0 @@
--- Definitions that only proofs and internal calls use.
-pub mod Splitting
-pub mod Whole

@@ -1,0 +1,5 @@
+use Rattle.log_commands.proofs.FileLaws.{files_grow}
+use Rattle.log_commands.proofs.laws.files_grow.Goals as goal
+
+pub returns : goal.returns
+returns c = files_grow

@@ -1,0 +1,5 @@
+use Rattle.log_commands.proofs.PartLaws.{parts_join}
+use Rattle.log_commands.proofs.laws.parts_join.Goals as goal
+
+pub returns : goal.returns
+returns c = parts_join

@@ -1,4 +1,0 @@
--- Definitions that only proofs, and calls that no public contract mentions, use.
-pub mod Left
-pub mod Typed
-pub mod Sizes

@@ -1,9 +1,0 @@
--- Exit statuses.
-use Rattle.std.specs.Prelude.{ℕ}
-use Rattle.mmcs_text.specs.declared.opening_fault.Fault.{Fault}
-use Rattle.mmcs_text.specs.declared.opening_fault.Fault.TheVariants.{Usage}
-
--- 2 for words that are no command, else 1
-abbrev pub status_of : Fault → ℕ
-status_of Usage = 2
-status_of fault = 1

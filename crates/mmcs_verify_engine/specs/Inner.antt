@@ -1,3 +1,0 @@
--- Words that proofs and internal calls use.
-pub mod Answers
-pub mod TypedCollisions

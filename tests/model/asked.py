@@ -1,0 +1,66 @@
+"""Random commands of `mmcs`: matrices and words, whole and damaged."""
+
+from trials import heights_of
+
+CAPS = ["0", "0", "0", "1", "2", "1f", "3f", "9"]
+BYTES = b"\n\n \t\r0123456789abcdefABFgx-+"
+
+
+class Asked:
+    """The hash, the arity and the cap, the matrices as the program reads them, and indices."""
+
+    def __init__(self, random, size):
+        hash_name = random.choice(["fold", "fold", "sha256"])
+        self.words = [hash_name, random.choice("248"), random.choice(CAPS)]
+        limit = random.choice([10, 256 if hash_name == "sha256" else 1 << 32])
+        heights = heights_of(random, random.randrange(1, size + 1))
+        matrices = [[[random.randrange(limit) for _ in range(width)] for _ in range(height)]
+                    for height, width in ((height, random.randrange(1, 4)) for height in heights)]
+        self.input = "\n".join("".join(" ".join(map(str, row)) + "\n" for row in rows) for rows in matrices).encode()
+        self.tallest = max(heights)
+        self.indices = [str(random.randrange(self.tallest)) for _ in range(random.choice([0, 1, 1, 2, 3, 5]))]
+
+    def commands(self):
+        """The words of the commands."""
+        return [[*self.words, *asked] for asked in (["commit"], ["open", *self.indices], ["check", *self.indices])]
+
+
+def damaged(random, text):
+    """A text with one byte dropped, replaced or put in."""
+    place = random.randrange(len(text))
+    added = bytes([random.choice([random.randrange(256), *BYTES])])
+    return text[:place] + random.choice([b"", added, added, added + text[place : place + 1]]) + text[place + 1 :]
+
+
+def other_words(random, words):
+    """Words that tell another hash, arity, cap, action or index."""
+    words = list(words)
+    place = random.randrange(len(words))
+    choices = [["fold", "sha256"], ["2", "4", "8", "3"], CAPS + ["f", "x"]]
+    others = ["commit", "open", "check", "4x1", "0", "1", "18446744073709551616"]
+    words[place] = random.choice(choices[place] if place < len(choices) else others)
+    return words
+
+
+def runs(random, size):
+    """Words and inputs, each with what it is counted as: whole, damaged at a byte, other words, and an index past the
+    end."""
+    asked = Asked(random, size)
+    for words in asked.commands():
+        yield words, asked.input, "whole"
+        yield words, damaged(random, asked.input), "damaged"
+        yield other_words(random, words), asked.input, "other words"
+    past = asked.tallest + random.choice([0, 1, 1 << 40])
+    yield [*asked.words, random.choice(["open", "check"]), "0", str(past)], asked.input, "an index past the end"
+
+
+# what an answer begins with, and what it is counted as
+BEGINNINGS = {"ok": "checked", "line": "a faulty line", "usage": "no command"}
+
+
+def counted(kind, answer):
+    """What an answer is counted as."""
+    for beginning, told in BEGINNINGS.items():
+        if answer.startswith(beginning):
+            return f"{kind}: {told}"
+    return f"{kind}: {'refused' if answer.endswith(')') else 'printed'}"
