@@ -34,11 +34,10 @@ use Rattle.log_commands.specs.Outcomes.{numbers_refusal, printed, proof_over, pr
 use Rattle.log_commands.specs.Outcomes.{is_printable, said_by}
 use Rattle.log_commands.specs.declared.error.Source.TheVariants.{Checkpoint, Proof}
 use Rattle.log_commands.specs.declared.verify.Print.{Print}
-use Rattle.log_commands.proofs.DigestFacts.{digest_is, root_is}
-use Rattle.log_commands.proofs.LawFacts.{said, stepped, unrefused}
-use Rattle.log_commands.proofs.PrintFacts.{prints}
+use Rattle.log_commands.proofs.FileLaws.{prints}
+use Rattle.log_commands.proofs.LawFacts.{are_under, digest_is, first_under, root_is, said, stepped, under_first}
+use Rattle.log_commands.proofs.LawFacts.{unrefused}
 use Rattle.log_commands.proofs.ProveFacts.{numbers_inside, within_size}
-use Rattle.log_commands.proofs.UnderFacts.{are_under, first_under, under_first}
 
 -- nothing is refused of each
 none_of : {X E : Type 0} (h : X → Option E) (xs : List X) → All (λ x. h x ≡ None) xs → first_of h xs ≡ None

@@ -14,6 +14,7 @@ use Rattle.tlog.specs.Verdicts.{consistency_refusal, is_same, size_limit, IsCons
 use Rattle.tlog.specs.declared.error.ProofError.{ProofError}
 use Rattle.tlog.proofs.Accepted.{consistency_accepted}
 use Rattle.tlog.proofs.Honest.{honest_grown, root_of_none}
+use Rattle.tlog.proofs.Roots.{proof_few, AreFew}
 use Rattle.log_text.specs.Reading.{checkpoint_in, consistency_in}
 use Rattle.log_text.specs.Texts.{consistency_text, CheckpointFields, ConsistencyFields, IsConsistencyProof, IsDigest}
 use Rattle.log_text.proofs.ConsistencyFacts.{consistency_proofs}
@@ -26,10 +27,9 @@ use Rattle.log_commands.specs.declared.error.Error.TheVariants.{Refused}
 use Rattle.log_commands.specs.declared.error.Refusal.TheVariants.{Consistency, OtherOldEntries, OtherOldSize}
 use Rattle.log_commands.specs.declared.error.Source.{Source}
 use Rattle.log_commands.specs.declared.error.Source.TheVariants.{File, New, Old, Proof}
-use Rattle.log_commands.proofs.DigestFacts.{proof_digests, AreDigests}
 use Rattle.log_commands.proofs.GrowthFacts.{some_are, zero_none}
-use Rattle.log_commands.proofs.LawFacts.{holds, or_none, said, stepped, unmapped, unrefused}
-use Rattle.log_commands.proofs.UnderFacts.{first_under, are_under}
+use Rattle.log_commands.proofs.LawFacts.{are_under, entries_root, first_under, holds, or_none, said, stepped, unmapped}
+use Rattle.log_commands.proofs.LawFacts.{unrefused}
 
 -- ---- two checkpoints
 
@@ -76,15 +76,15 @@ size_of text c is = let found = (notes text c).0 is in found.2.checkpoint.size
 
 -- the digests that are sent
 sent : (old_size : ℕ) (entries : List (List ℕ)) → old_size ≤ length entries → length entries ≤ size_limit →
-    AreDigests 63 (growth_digests old_size entries)
+    AreFew IsDigest 63 (growth_digests old_size entries)
 sent old_size entries inside small =
     elim (cases_eq old_size 0) [
       | inl none ↦
-          subst (AreDigests 63) (sym (ap (λ n. growth_digests n entries) none ∙ zero_none entries))
+          subst (AreFew IsDigest 63) (sym (ap (λ n. growth_digests n entries) none ∙ zero_none entries))
           (record { few = omega arith; each = All-nil IsDigest })
       | inr some ↦
           let more : 0 < old_size = omega arith in
-          subst (AreDigests 63) (sym (some_are old_size entries more)) (proof_digests old_size entries more inside small)
+          subst (AreFew IsDigest 63) (sym (some_are old_size entries more)) (proof_few IsDigest sha256 entries_root old_size entries more inside small)
     ]
 
 -- a proof that is read, between checkpoints that fit

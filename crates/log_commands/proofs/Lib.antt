@@ -1,4 +1,3 @@
-pub mod DigestFacts
 pub mod EntryLaws
 pub mod FileFacts
 pub mod FileLaws
@@ -8,11 +7,7 @@ pub mod InputFacts
 pub mod JoinFacts
 pub mod LawFacts
 pub mod LoopFacts
-pub mod PartFacts
-pub mod PartLaws
-pub mod PrintFacts
 pub mod ProveFacts
 pub mod SealLaws
-pub mod UnderFacts
 pub mod VerdictFacts
 pub mod WriteFacts

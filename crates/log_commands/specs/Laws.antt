@@ -2,6 +2,7 @@
 use Rattle.std.specs.Prelude.{◌≡◌, ◌≢◌, ◌↔◌, ℕ, ◌-◌, ◌^◌, ◌≤◌, Bool, true, is_some, All, List, [], ◌∷◌, ◌++◌, length}
 use Rattle.std.specs.Prelude.{flat_map, map, Option, None, Some, Ok}
 use Rattle.std.specs.List.{concat}
+use Rattle.tlog_tree.specs.Parts.{HaveSize}
 use Rattle.log_text.specs.Lines.{is_origin, part_origin}
 use Rattle.log_text.specs.Reading.{checkpoint_in, part_in}
 use Rattle.log_text.specs.Texts.{CheckpointFields}
@@ -65,12 +66,6 @@ abbrev pub EndWithEntries : Cut → List (List ℕ) → Type 0
 EndWithEntries cut [] = Unit {0}
 EndWithEntries cut (file ∷ []) = Unit {0}
 EndWithEntries cut (file ∷ next ∷ files) = EndsWithEntry cut file × EndWithEntries cut (next ∷ files)
-
--- each of some parts but the last has this size, and the last has 1 entry to as many
-abbrev pub HaveSize : ℕ → List ℕ → Type 0
-HaveSize size [] = Unit {0}
-HaveSize size (last ∷ []) = (1 ≤ last) × (last ≤ size)
-HaveSize size (part ∷ next ∷ parts) = (part ≡ size) × HaveSize size (next ∷ parts)
 
 -- the parts of a file, each cut off where an entry ends, are joined exactly if their size is a power of two, and to what
 -- seal prints of the whole file

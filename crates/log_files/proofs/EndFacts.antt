@@ -18,7 +18,7 @@ use Rattle.log_files.proofs.EntryFacts.{all_rest, no_entry}
 
 -- ---- tests
 
-no_short : (a b : Bool) → (a && (b && false)) ≡ false
+pub no_short : (a b : Bool) → (a && (b && false)) ≡ false
 no_short true true = refl
 no_short true false = refl
 no_short false true = refl
@@ -28,7 +28,7 @@ no_rest : (a b : Bool) → (a && (not true && b)) ≡ false
 no_rest true b = refl
 no_rest false b = refl
 
-no_last : (partial : PartialLine) → last_entry partial [] ≡ []
+pub no_last : (partial : PartialLine) → last_entry partial [] ≡ []
 no_last Refuse = refl
 no_last LeaveOut = refl
 no_last Include = refl
@@ -39,7 +39,7 @@ none_of (b ∷ bytes) none = absurd (omega (arith, eqb-true (length (b ∷ bytes
 
 -- ---- as many entries have ended as are read
 
-split : (cut : Cut) (front rest : List ℕ) (ended : List (List ℕ)) (open_bytes : List ℕ) →
+pub split : (cut : Cut) (front rest : List ℕ) (ended : List (List ℕ)) (open_bytes : List ℕ) →
     IsCutAt cut front ended open_bytes → entries_in cut (front ++ rest)
     ≡ ended ++ (whole_entries cut (open_bytes ++ rest) ++ last_entry (partial_of cut) (rest_of cut (front ++ rest)))
 split cut front rest ended open_bytes at =

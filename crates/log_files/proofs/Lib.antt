@@ -1,7 +1,7 @@
 pub mod EntryFacts
-mod CutFacts
+pub mod CutFacts
 mod WantedFacts
 mod SplitterFacts
-mod EndFacts
+pub mod EndFacts
 mod BuiltFacts
 mod ReaderFacts
