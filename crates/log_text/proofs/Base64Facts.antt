@@ -165,29 +165,6 @@ not_44 line other = by_outcome (digest_of line) refl
         let found = digest_only line digest is in
         absurd (other (ap length found.1 ∙ length-base64 digest ∙ ap (λ n. unpadded_len n + padding_len n) found.0.0))
 
--- what decoding tells of a digest
-pub not_digest : (line : List ℕ) (o : Option ℕ) → o ≡ len_of line → ((n : ℕ) → o ≡ Some n → n ≡ 32 → ⊥) →
-    None ≡ digest_of line
-not_digest line o is never = by_outcome (digest_of line) refl
-  where
-    by_outcome : (d : Option (List ℕ)) → digest_of line ≡ d → None ≡ digest_of line
-    by_outcome None read = sym read
-    by_outcome (Some digest) read =
-        let found = and_then_some (λ (bytes : List ℕ). if length bytes == 32 then Some bytes else None)
-        (base64_bytes line) digest read in
-        let long = (Decides-eqb (length found.0) 32).0 (tested (length found.0 == 32) found.0 digest found.2).0 in
-        absurd (never (length found.0) (is ∙ ap (option_map length) found.1) long)
-
-pub is_digest : (line bytes digest : List ℕ) (n : ℕ) → base64_bytes line ≡ Some (take n bytes) → n ≡ 32 →
-    length bytes ≡ 33 → digest ≡ take 32 bytes → Some digest ≡ digest_of line
-is_digest line bytes digest n is all len same =
-    let long : length (take 32 bytes) ≡ 32 = omega (arith, length-take 32 bytes, len) in
-    let fits = (Decides-eqb (length (take 32 bytes)) 32).1 long in
-    ap Some same
-    ∙ sym (ap (option_and_then (λ (bs : List ℕ). if length bs == 32 then Some bs else None))
-    (is ∙ ap (λ k. Some (take k bytes)) all)
-    ∙ (λ i. if fits i then Some (take 32 bytes) else None))
-
 -- ---- a group of four symbols ahead of others
 
 front_bytes : (a b : List ℕ) → IsBytes (a ++ b) → IsBytes a
@@ -300,13 +277,6 @@ len_of_group group rest four more =
         ∙ (λ i. if other i then Some (3 + length back) else None))
 
 -- how many bytes there are, group by group
-pub len_begins : (text : List ℕ) → len_of text ≡ option_map (λ n. 0 + n) (len_of text)
-len_begins text = by_outcome (len_of text)
-  where
-    by_outcome : (o : Option ℕ) → o ≡ option_map (λ n. 0 + n) o
-    by_outcome None = refl
-    by_outcome (Some n) = ap Some (sym (zero-add n))
-
 module _ (text rest group below : List ℕ) (len : ℕ) (o : Option ℕ) where
   pub len_more : (n : ℕ) → rest ≡ group ++ below → length group ≡ 4 → 4 < length rest → o ≡ len_of group →
       o ≡ Some n → n ≡ 3 → len_of text ≡ option_map (λ k. len + k) (len_of rest) →

@@ -1,10 +1,6 @@
-use Rattle.std.proofs.Common.{◌+◌, ap, sym, ◌∙◌, arith}
-use Rattle.std.specs.Prelude.{option_map}
-use Rattle.log_text.proofs.Base64Facts.{len_begins, len_more, len_refused}
+use Rattle.std.proofs.Common.{arith}
+use Rattle.log_text.proofs.Base64Facts.{len_more, len_refused}
 use Rattle.log_text.proofs.line.base64_len.Goals as goal
-
-pub loop-rest-init : goal.loop-rest-init
-loop-rest-init c = record { within = omega arith; same = len_begins c.args.text.now }
 
 pub loop-rest-preserved : goal.loop-rest-preserved
 loop-rest-preserved c =
@@ -30,8 +26,3 @@ returns-then-branch-ne3 c =
     c.decode.result c.split_at.ensures.by_index.0 c.split_at.ensures.front_len c.loop-rest-test.true
     c.decode.ensures.len (λ n some three. let was = c.in_ok-decode.was in c.if-branch-ne3.true (cc))
     c.loop-rest.invariant.same
-
-pub returns : goal.returns
-returns c =
-    sym (c.loop-rest.invariant.same
-    ∙ ap (option_map (λ n. c.loop-rest.len + n)) (sym c.decode-2.ensures.len ∙ c.in_ok-decode-2.was))
