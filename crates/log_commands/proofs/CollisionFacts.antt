@@ -1,19 +1,17 @@
 -- What accepted texts show of files.
-use Rattle.std.proofs.Common.{◌≡◌, ◌≤◌, ◌<◌, ◌-◌, ◌+◌, ◌==◌, ◌∙◌, ℕ, zero, suc, List, [], ◌∷◌, ap, arith, length, map}
-use Rattle.std.proofs.Common.{get_or, refl, subst, sym, take, Option, None, Some, Result, Ok, Err}
-use Rattle.std.specs.Prelude.{◌↔◌, ◌&&◌, All, Bool, IsNone, IsOk, false, flat_map, is_some, nat_lt, not, true}
-use Rattle.std.specs.Cmp.Lexicographic.{bytes_decides}
+use Rattle.std.proofs.Common.{◌≡◌, ◌≤◌, ◌<◌, ◌-◌, ◌+◌, ◌∙◌, ℕ, zero, suc, List, [], ◌∷◌, ap, arith, length, map}
+use Rattle.std.proofs.Common.{get_or, refl, subst, sym, take, Option, None, Result, Ok, Err}
+use Rattle.std.specs.Prelude.{◌↔◌, All, IsNone, IsOk, flat_map, is_some, nat_lt, true}
 use Rattle.std.specs.List.{list_all, range_with_len}
-use Rattle.std.proofs.lemmas.Bool.{eq-eqb, eqb-true, lt-ltb}
-use Rattle.std.proofs.lemmas.Bool.Decides.{nat_tests}
+use Rattle.std.proofs.lemmas.Bool.{lt-ltb}
 use Rattle.std.proofs.lemmas.List.{get_or-map, length-map, length-take, take_min}
 use Rattle.std.proofs.lemmas.List.Elements.{All-weaker}
 use Rattle.std.proofs.lemmas.List.FromFn.{fill_by_all}
 use Rattle.sha2.specs.Sha256.{sha256}
-use Rattle.p3_merkle_core.specs.Refusals.{first_of, first_some, ok_unless, unless}
-use Rattle.p3_merkle_core.proofs.Pruned.NoneFacts.{map_none, none_of_both, none_parts, none_unless, unless_none}
+use Rattle.p3_merkle_core.specs.Refusals.{first_of, first_some, ok_unless}
+use Rattle.p3_merkle_core.proofs.Pruned.NoneFacts.{map_none, none_parts}
 use Rattle.tlog.specs.Rfc9162.{leaf_hash, root_of}
-use Rattle.tlog.specs.Verdicts.{IsConsistent, consistency_refusal, is_same, size_limit}
+use Rattle.tlog.specs.Verdicts.{IsConsistent, consistency_refusal, size_limit}
 use Rattle.tlog.proofs.Accepted.{consistency_accepted}
 use Rattle.tlog.specs.declared.error.ProofError.{ProofError}
 use Rattle.tlog.specs.Collisions.{entries_of}
@@ -27,39 +25,27 @@ use Rattle.log_text.specs.Texts.{CheckpointFields, ConsistencyFields, EntriesFie
 use Rattle.log_text.specs.declared.error.TextError.{TextError}
 use Rattle.log_text.proofs.EntriesFacts.{entries_proofs}
 use Rattle.log_text.proofs.NoteLaws.{notes}
-use Rattle.log_files.specs.Entries.{entries_in, entry_at, is_refused, partial_of, refuses, rest_of, wanted_of}
+use Rattle.log_files.specs.Entries.{entries_in, entry_at, wanted_of}
 use Rattle.log_files.specs.declared.cut.Cut.{Cut}
 use Rattle.log_files.specs.declared.reading.ReadLog.{ReadLog}
 use Rattle.log_commands.specs.Collisions.{AreEntriesOfFile, BeginsWithOldFile, IsCheckpointOf, IsCheckpointOfFile}
 use Rattle.log_commands.specs.Collisions.{IsEntryOf}
 use Rattle.log_commands.specs.Inner.{AreProved, HasLeafIn, ReadsAs, entries_by}
 use Rattle.log_commands.specs.Errors.{entries_error}
-use Rattle.log_commands.specs.Outcomes.{and_then, checkpoint_of, consistency_refused, cut_refusal, entries_read}
+use Rattle.log_commands.specs.Outcomes.{and_then, checkpoint_of, consistency_refused}
 use Rattle.log_commands.specs.Outcomes.{entries_under, entry_refusal, growth_refusal, numbers_refusal, old_size_refusal}
-use Rattle.log_commands.specs.Outcomes.{printed, proof_refusal, said_by, said_inside, tree_refusal}
+use Rattle.log_commands.specs.Outcomes.{printed, proof_refusal, said_by, said_inside}
 use Rattle.log_commands.specs.Outcomes.{verify_consistency_outcome, verify_outcome}
 use Rattle.log_commands.specs.declared.error.Error.{Error}
 use Rattle.log_commands.specs.declared.error.Error.TheVariants.{Refused}
-use Rattle.log_commands.specs.declared.error.Refusal.TheVariants.{Consistency, OtherEntries, TooFewEntries}
+use Rattle.log_commands.specs.declared.error.Refusal.TheVariants.{Consistency}
 use Rattle.log_commands.specs.declared.error.Source.{Source}
-use Rattle.log_commands.specs.declared.error.Source.TheVariants.{Checkpoint, File, Old, Proof}
+use Rattle.log_commands.specs.declared.error.Source.TheVariants.{Checkpoint, Old, Proof}
 use Rattle.log_commands.specs.declared.verify.Print.{Print}
 use Rattle.log_commands.specs.declared.verify.Print.TheVariants.{Raw}
-use Rattle.log_commands.proofs.FileFacts.{read_ok}
-use Rattle.log_commands.proofs.ProveFacts.{ok_none, said_ok}
+use Rattle.log_commands.proofs.LawFacts.{are_under, ok_none, said_ok, stepped, under_first}
 
 -- ---- results
-
--- a step that went on, and what followed
-pub record WentOn {V W : Type 0} (r : Result V Error) (next : V → Result W Error) (w : W) : Type 0 where
-  pub value : V
-  pub is : r ≡ Ok value
-  pub after : next value ≡ Ok w
-
-pub went_on : {V W : Type 0} (r : Result V Error) (next : V → Result W Error) (w : W) → and_then r next ≡ Ok w →
-    WentOn r next w
-went_on (Ok v) next w is = record { value = v; is = refl; after = is }
-went_on (Err e) next w is = absurd cc
 
 pub same_ok : {V E : Type 0} (r : Result V E) (v w : V) → r ≡ Ok v → r ≡ Ok w → v ≡ w
 same_ok {V = V} {E = E} r v w a b = let both : ◌≡◌ {A = Result V E} (Ok v) (Ok w) = sym a ∙ b in cc
@@ -69,38 +55,13 @@ not_both {V = V} {E = E} r v e a b = let both : ◌≡◌ {A = Result V E} (Ok v
 
 -- ---- the entries under a checkpoint
 
-abbrev checked : CheckpointFields → List (List ℕ) → Result (List (List ℕ)) Error
-checked c first = ok_unless (tree_refusal c (length first) (root_of sha256 first)) first
-
-same_tree : (c : CheckpointFields) (first : List (List ℕ)) →
-    tree_refusal c (length first) (root_of sha256 first) ≡ None → c ≡ checkpoint_of c.origin first
-same_tree c first none =
-    let alike = is_same (root_of sha256 first) c.root in
-    let both = none_parts (unless (length first == c.size) (Refused File (TooFewEntries (length first) c.size)))
-    (first_some (unless alike (Refused File OtherEntries) ∷ [])) none in
-    let rest = none_parts (unless alike (Refused File OtherEntries)) None both.1 in
-    let size_is = eqb-true (length first) c.size
-    (unless_none (length first == c.size) (Refused File (TooFewEntries (length first) c.size)) both.0) in
-    let root_is = (bytes_decides (root_of sha256 first) c.root).0
-    (unless_none alike (Refused File OtherEntries) rest.0) in
-    λ i. record { origin = c.origin; size = sym size_is i; root = sym root_is i }
-
 -- they are the first of the file, and the checkpoint is theirs
 pub under_are : (cut : Cut) (c : CheckpointFields) (bytes : List ℕ) (entries : List (List ℕ)) →
     entries_under cut c bytes ≡ Ok entries →
     (entries ≡ take c.size (entries_in cut bytes)) × (c ≡ checkpoint_of c.origin entries)
 under_are cut c bytes entries is =
-    let read = went_on (entries_read cut (Some c.size) bytes) (checked c) entries is in
-    let first = ok_none (cut_refusal cut (Some c.size) bytes) (take c.size (entries_in cut bytes)) read.value read.is in
-    let tree = ok_none (tree_refusal c (length read.value) (root_of sha256 read.value)) read.value entries read.after in (
-      sym (first.1 ∙ tree.1),
-      subst (λ (es : List (List ℕ)). c ≡ checkpoint_of c.origin es) tree.1 (same_tree c read.value tree.0),
-    )
-
-no_short : (a b : Bool) → (a && (b && false)) ≡ false
-no_short true true = refl
-no_short true false = refl
-no_short false b = refl
+    let u = are_under cut c bytes entries is in
+    (sym u.first, λ i. record { origin = c.origin; size = sym u.size i; root = sym u.root i })
 
 -- first entries of a file, where the checkpoint is theirs
 pub under_of : (cut : Cut) (c : CheckpointFields) (bytes : List ℕ) (n : ℕ) →
@@ -108,26 +69,11 @@ pub under_of : (cut : Cut) (c : CheckpointFields) (bytes : List ℕ) (n : ℕ) �
     entries_under cut c bytes ≡ Ok (take n (entries_in cut bytes))
 under_of cut c bytes n is small =
     let all = entries_in cut bytes in
-    let own = take n all in
-    let size_is : c.size ≡ length own = ap (λ (x : CheckpointFields). x.size) is in
-    let root_is : c.root ≡ root_of sha256 own = ap (λ (x : CheckpointFields). x.root) is in
-    let first_is : take c.size all ≡ own = ap (λ k. take k all) (size_is ∙ length-take n all) ∙ take_min n all in
-    let few : length (take c.size all) ≤ size_limit = omega (arith, ap length first_is) in
-    let room : c.size ≤ length all = omega (arith, length-take n all) in
-    let enough : nat_lt (length all) c.size ≡ false = grind (arith, nat_tests) in
-    let whole : is_refused cut (Some c.size) bytes ≡ false =
-    ap (λ t. refuses (partial_of cut) && (not (length (rest_of cut bytes) == 0) && t)) enough
-    ∙ no_short (refuses (partial_of cut)) (not (length (rest_of cut bytes) == 0)) in
-    let tree : tree_refusal c (length own) (root_of sha256 own) ≡ None =
-    none_of_both (unless (length own == c.size) (Refused File (TooFewEntries (length own) c.size)))
-    (first_some (unless (is_same (root_of sha256 own) c.root) (Refused File OtherEntries) ∷ []))
-    (none_unless (length own == c.size) (Refused File (TooFewEntries (length own) c.size))
-    (eq-eqb (length own) c.size (sym size_is)))
-    (none_of_both (unless (is_same (root_of sha256 own) c.root) (Refused File OtherEntries)) None
-    (none_unless (is_same (root_of sha256 own) c.root) (Refused File OtherEntries)
-    ((bytes_decides (root_of sha256 own) c.root).1 (sym root_is))) refl) in
-    ap (λ r. and_then r (checked c)) (read_ok cut (Some c.size) bytes few whole)
-    ∙ ap (checked c) first_is ∙ ap (λ r. ok_unless r own) tree
+    let size_is : c.size ≡ length (take n all) = ap (λ (x : CheckpointFields). x.size) is in
+    let first_is : take c.size all ≡ take n all = ap (λ k. take k all) (size_is ∙ length-take n all) ∙ take_min n all in
+    under_first cut c bytes small (omega (arith, size_is, length-take n all))
+    (ap (root_of sha256) first_is ∙ sym (ap (λ (x : CheckpointFields). x.root) is))
+    ∙ ap Ok first_is
 
 -- the same by the text of the checkpoint
 pub record ByText (cut : Cut) (text file : List ℕ) (entries : List (List ℕ)) : Type 0 where
@@ -140,10 +86,10 @@ pub record ByText (cut : Cut) (text file : List ℕ) (entries : List (List ℕ))
 pub by_text : (source : Source) (cut : Cut) (text file : List ℕ) (entries : List (List ℕ)) →
     entries_by source cut text file ≡ Ok entries → ByText cut text file entries
 by_text source cut text file entries is =
-    let found = went_on (said_by source (checkpoint_in text)) (λ c. entries_under cut c file) entries is in
-    let c = found.value in
-    let says = said_ok source (checkpoint_in text) c found.is in
-    let are = under_are cut c file entries found.after in
+    let found = stepped (said_by source (checkpoint_in text)) (λ c. entries_under cut c file) entries is in
+    let c = found.0 in
+    let says = said_ok source (checkpoint_in text) c found.1 in
+    let are = under_are cut c file entries found.2 in
     let limit = ((notes text c).0 says).2.checkpoint.size in
     record {
       c = c;
@@ -221,20 +167,20 @@ module _ (print : Print) (checkpoint proof : List ℕ) (numbers : Option (List �
   pub verified : (text : List ℕ) → verify_outcome print checkpoint proof numbers ≡ Ok text →
       Verified print checkpoint proof numbers text
   verified text is =
-      let one = went_on (said_by Checkpoint (checkpoint_in checkpoint))
+      let one = stepped (said_by Checkpoint (checkpoint_in checkpoint))
       (λ c. and_then (said_by Proof (proof_in proof)) (text_of c)) text is in
-      let two = went_on (said_by Proof (proof_in proof)) (text_of one.value) text one.after in
-      let c = one.value in
-      let p = two.value in
-      let none = ok_none (refused c p) (flat_map (printed print (is_some numbers)) p.entries) text two.after in
+      let two = stepped (said_by Proof (proof_in proof)) (text_of one.0) text one.2 in
+      let c = one.0 in
+      let p = two.0 in
+      let none = ok_none (refused c p) (flat_map (printed print (is_some numbers)) p.entries) text two.2 in
       let behind = none_parts (numbers_refusal numbers p.entries)
       (first_some (first_of (entry_refusal print c.size) p.entries ∷ proof_refusal c p ∷ [])) none.0 in
       let last = none_parts (first_of (entry_refusal print c.size) p.entries) (first_some (proof_refusal c p ∷ [])) behind.1 in
       record {
         c = c;
         p = p;
-        says = said_ok Checkpoint (checkpoint_in checkpoint) c one.is;
-        shows = said_ok Proof (proof_in proof) p two.is;
+        says = said_ok Checkpoint (checkpoint_in checkpoint) c one.1;
+        shows = said_ok Proof (proof_in proof) p two.1;
         accepted = (none_parts (proof_refusal c p) None last.1).0;
         prints = sym none.1;
       }
@@ -369,23 +315,23 @@ module _ (old proof : List ℕ) where
 
   pub grown : (new : List ℕ) → verify_consistency_outcome old proof ≡ Ok new → Grown old proof new
   grown new is =
-      let one = went_on (said_by Old (checkpoint_in old))
+      let one = stepped (said_by Old (checkpoint_in old))
       (λ o. and_then (said_by Proof (consistency_in proof)) (with_proof o)) new is in
-      let o = one.value in
-      let two = went_on (said_by Proof (consistency_in proof)) (with_proof o) new one.after in
-      let p = two.value in
-      let three = went_on (ok_unless (old_size_refusal o p) (tt {0})) (with_size o p) new two.after in
-      let four = went_on (said_inside (checkpoint_in p.checkpoint)) (with_new o p) new three.after in
-      let n = four.value in
-      let last = ok_none (refused_new o p n) p.checkpoint new four.after in
+      let o = one.0 in
+      let two = stepped (said_by Proof (consistency_in proof)) (with_proof o) new one.2 in
+      let p = two.0 in
+      let three = stepped (ok_unless (old_size_refusal o p) (tt {0})) (with_size o p) new two.2 in
+      let four = stepped (said_inside (checkpoint_in p.checkpoint)) (with_new o p) new three.2 in
+      let n = four.0 in
+      let last = ok_none (refused_new o p n) p.checkpoint new four.2 in
       let both = none_parts (growth_refusal Proof o n) (first_some (consistency_refused o n p.digests ∷ [])) last.0 in
       record {
         o = o;
         p = p;
         n = n;
-        o_says = said_ok Old (checkpoint_in old) o one.is;
-        shows = said_ok Proof (consistency_in proof) p two.is;
-        n_says = subst (λ (t : List ℕ). checkpoint_in t ≡ Ok n) last.1 (inside_ok (checkpoint_in p.checkpoint) n four.is);
+        o_says = said_ok Old (checkpoint_in old) o one.1;
+        shows = said_ok Proof (consistency_in proof) p two.1;
+        n_says = subst (λ (t : List ℕ). checkpoint_in t ≡ Ok n) last.1 (inside_ok (checkpoint_in p.checkpoint) n four.1);
         accepted = map_none (λ e. Refused Proof (Consistency e))
             (consistency_refusal sha256 o.size n.size p.digests o.root n.root)
             (none_parts (consistency_refused o n p.digests) None both.1).0;

@@ -34,17 +34,9 @@ use Rattle.log_commands.specs.Outcomes.{numbers_refusal, printed, proof_over, pr
 use Rattle.log_commands.specs.Outcomes.{is_printable, said_by}
 use Rattle.log_commands.specs.declared.error.Source.TheVariants.{Checkpoint, Proof}
 use Rattle.log_commands.specs.declared.verify.Print.{Print}
-use Rattle.log_commands.proofs.DigestFacts.{digest_is, root_is}
-use Rattle.log_commands.proofs.LawFacts.{said, stepped, unrefused}
-use Rattle.log_commands.proofs.PrintFacts.{prints}
+use Rattle.log_commands.proofs.FileLaws.{prints}
 use Rattle.log_commands.proofs.ProveFacts.{numbers_inside, within_size}
-use Rattle.log_commands.proofs.UnderFacts.{are_under, first_under, under_first}
-
--- nothing is refused of each
-none_of : {X E : Type 0} (h : X → Option E) (xs : List X) → All (λ x. h x ≡ None) xs → first_of h xs ≡ None
-none_of h [] each = refl
-none_of h (x ∷ xs) each =
-    rw (All-head (λ x. h x ≡ None) x xs each) (none_of h xs (All-tail (λ x. h x ≡ None) x xs each))
+use Rattle.log_commands.proofs.LawFacts.{are_under, digest_is, first_under, none_of, ok_none, root_is, said_ok, stepped, under_first}
 
 numbers_pass : (size : ℕ) (numbers : List ℕ) → All (λ n. n ≤ size) numbers →
     first_of (number_refusal size) numbers ≡ None
@@ -69,14 +61,14 @@ is_proved cut checkpoint file numbers proof is =
     let c = first.0 in
     let text = stepped (said_by Checkpoint (checkpoint_in checkpoint))
     (λ a. ok_unless (first_of (number_refusal a.size) numbers) a) c first.1 in
-    let inside = unrefused (first_of (number_refusal text.0.size) numbers) text.0 c text.2 in
+    let inside = ok_none (first_of (number_refusal text.0.size) numbers) text.0 c text.2 in
     let last = stepped (entries_under cut c file) (λ entries. Ok (entries_text (proof_over entries numbers))) proof
     first.2 in
     let same : entries_text (proof_over last.0 numbers) ≡ proof = cc in (
       c,
       last.0,
       record {
-        said_is = said Checkpoint (checkpoint_in checkpoint) text.0 text.1 ∙ ap Ok inside.1;
+        said_is = said_ok Checkpoint (checkpoint_in checkpoint) text.0 text.1 ∙ ap Ok inside.1;
         inside = ap (λ (a : CheckpointFields). first_of (number_refusal a.size) numbers) (sym inside.1) ∙ inside.0;
         read = last.1;
         text_is = same;

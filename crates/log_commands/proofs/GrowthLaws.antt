@@ -1,35 +1,71 @@
 -- Growth is proved, and its proofs are accepted.
-use Rattle.std.proofs.Common.{◌≡◌, ◌≤◌, ◌<◌, ◌==◌, ◌∙◌, ℕ, List, [], ◌∷◌, ◌++◌, ap, arith, eq-eqb, inl}
-use Rattle.std.proofs.Common.{inr, length, length-append, refl, sym, subst, take, None, Some, Ok, Err, Option}
+use Rattle.std.proofs.Common.{◌≡◌, ◌≤◌, ◌<◌, ◌==◌, ◌∙◌, ℕ, List, [], ◌∷◌, ◌++◌, ap, arith, eq-eqb, inl, inr, length}
+use Rattle.std.proofs.Common.{length-append, refl, sym, subst, take, None, Some, Ok, Err, Option}
+use Rattle.std.proofs.Common.{map}
 use Rattle.std.specs.Prelude.{◌||◌, not, true, nat_le}
 use Rattle.std.specs.Cmp.Lexicographic.{bytes_decides}
 use Rattle.std.specs.Option.{option_map}
 use Rattle.std.proofs.lemmas.Bool.{cases_eq, le-leb, leb-true, ne_eqb, true≢false}
-use Rattle.std.proofs.lemmas.List.{append-nil, nil_from_length, take_at}
+use Rattle.std.proofs.lemmas.List.{append-nil, nil_from_length, take_at, length-map}
 use Rattle.std.proofs.lemmas.List.Elements.{All-nil}
 use Rattle.p3_merkle_core.specs.Refusals.{first_some, ok_unless, unless}
+use Rattle.p3_merkle_core.proofs.Pruned.NoneFacts.{map_none, none_parts, unless_none}
 use Rattle.sha2.specs.Sha256.{sha256}
-use Rattle.tlog.specs.Rfc9162.{leaf_hash, proof_of, root_of}
+use Rattle.tlog.specs.Rfc9162.{leaf_hash, proof_of, root_of, Hash, consistency_proof, subproof_within}
 use Rattle.tlog.specs.Verdicts.{consistency_refusal, is_same, size_limit, IsConsistent}
 use Rattle.tlog.specs.declared.error.ProofError.{ProofError}
 use Rattle.tlog.proofs.Accepted.{consistency_accepted}
-use Rattle.tlog.proofs.Honest.{honest_grown, root_of_none}
+use Rattle.tlog.proofs.Honest.{honest_grown, root_of_none, sub_whole}
+use Rattle.tlog.proofs.Roots.{proof_few, AreFew}
 use Rattle.log_text.specs.Reading.{checkpoint_in, consistency_in}
 use Rattle.log_text.specs.Texts.{consistency_text, CheckpointFields, ConsistencyFields, IsConsistencyProof, IsDigest}
 use Rattle.log_text.proofs.ConsistencyFacts.{consistency_proofs}
 use Rattle.log_text.proofs.NoteLaws.{notes}
 use Rattle.log_commands.specs.Laws.{GrowthIsAccepted, GrowthIsProved}
-use Rattle.log_commands.specs.Outcomes.{and_then, checkpoint_of, compared, consistency_refused}
-use Rattle.log_commands.specs.Outcomes.{entries_under, growth_digests, growth_refusal, growth_text, old_size_refusal}
-use Rattle.log_commands.specs.Outcomes.{prove_growth, said_by, said_inside, verify_consistency_outcome}
+use Rattle.log_commands.specs.Outcomes.{and_then, checkpoint_of, compared, consistency_refused, entries_under}
+use Rattle.log_commands.specs.Outcomes.{growth_digests, growth_refusal, growth_text, old_size_refusal, prove_growth}
+use Rattle.log_commands.specs.Outcomes.{said_by, said_inside, verify_consistency_outcome}
 use Rattle.log_commands.specs.declared.error.Error.TheVariants.{Refused}
 use Rattle.log_commands.specs.declared.error.Refusal.TheVariants.{Consistency, OtherOldEntries, OtherOldSize}
 use Rattle.log_commands.specs.declared.error.Source.{Source}
 use Rattle.log_commands.specs.declared.error.Source.TheVariants.{File, New, Old, Proof}
-use Rattle.log_commands.proofs.DigestFacts.{proof_digests, AreDigests}
-use Rattle.log_commands.proofs.GrowthFacts.{some_are, zero_none}
-use Rattle.log_commands.proofs.LawFacts.{holds, or_none, said, stepped, unmapped, unrefused}
-use Rattle.log_commands.proofs.UnderFacts.{first_under, are_under}
+use Rattle.log_commands.proofs.LawFacts.{are_under, entries_root, first_under, ok_none, said_ok, stepped}
+use Rattle.tlog.proofs.Layers.{itself}
+use Rattle.tlog_tree.specs.Trees.{all_there, values_at}
+use Rattle.tlog_entries.proofs.Subproofs.{subproof_map}
+
+-- from size 0 there are no digests
+pub zero_none : (entries : List (List ℕ)) → growth_digests 0 entries ≡ []
+zero_none entries = refl
+
+-- from more they are PROOF
+pub some_are : (old : ℕ) (entries : List (List ℕ)) → 0 < old → growth_digests old entries ≡ proof_of sha256 old entries
+some_are old entries some =
+    let other : old ≡ 0 → ⊥ = λ is. absurd (omega arith) in rw (ne_eqb old 0 other) refl
+
+-- between equal sizes there are none
+pub equal_places : (old new : ℕ) (entries : List (List ℕ)) (places : List (ℕ × ℕ)) → 0 < old → old ≡ new →
+    length entries ≡ new → places ≡ [] →
+    values_at sha256 (map (leaf_hash sha256) entries) places ≡ all_there (growth_digests old entries)
+equal_places old new entries places some same len none =
+    let at : old ≡ length entries = same ∙ sym len in
+    let known : proof_of sha256 old entries ≡ [] =
+    ap (λ m. proof_of sha256 m entries) at ∙ sub_whole sha256 (leaf_hash sha256) entries true (omega arith) in
+    ap (values_at sha256 (map (leaf_hash sha256) entries)) none
+    ∙ sym (ap all_there (some_are old entries some ∙ known))
+
+-- between others they are the values of nodes
+pub other_places : (old new : ℕ) (entries : List (List ℕ)) (places : List (ℕ × ℕ)) → 0 < old →
+    length entries ≡ new →
+    ((hash : Hash) (leaves : List (List ℕ)) → length leaves ≡ new →
+    values_at hash leaves places ≡ all_there (consistency_proof hash itself old leaves)) →
+    values_at sha256 (map (leaf_hash sha256) entries) places ≡ all_there (growth_digests old entries)
+other_places old new entries places some len each =
+    each sha256 (map (leaf_hash sha256) entries) (length-map entries (leaf_hash sha256) ∙ len)
+    ∙ ap all_there
+    (ap (λ n. subproof_within n sha256 itself old (map (leaf_hash sha256) entries) true)
+    (length-map entries (leaf_hash sha256))
+    ∙ subproof_map sha256 (leaf_hash sha256) (length entries) old entries true ∙ sym (some_are old entries some))
 
 -- ---- two checkpoints
 
@@ -37,12 +73,12 @@ use Rattle.log_commands.proofs.UnderFacts.{first_under, are_under}
 other_source : (a b : Source) (old new : CheckpointFields) → growth_refusal a old new ≡ None →
     growth_refusal b old new ≡ None
 other_source a b old new none =
-    let origin = or_none (unless (is_same old.origin new.origin) _) _ none in
-    let size = or_none (unless (nat_le old.size new.size) _) _ origin.1 in
-    let root = or_none (unless (not (old.size == new.size) || is_same old.root new.root) _) None size.1 in
-    let origin_is = holds (is_same old.origin new.origin) _ origin.0 in
-    let size_is = holds (nat_le old.size new.size) _ size.0 in
-    let root_is = holds (not (old.size == new.size) || is_same old.root new.root) _ root.0 in
+    let origin = none_parts (unless (is_same old.origin new.origin) _) _ none in
+    let size = none_parts (unless (nat_le old.size new.size) _) _ origin.1 in
+    let root = none_parts (unless (not (old.size == new.size) || is_same old.root new.root) _) None size.1 in
+    let origin_is = unless_none (is_same old.origin new.origin) _ origin.0 in
+    let size_is = unless_none (nat_le old.size new.size) _ size.0 in
+    let root_is = unless_none (not (old.size == new.size) || is_same old.root new.root) _ root.0 in
     rw (origin_is, size_is, root_is) refl
 
 -- two checkpoints that texts say, the new one of which may follow the old one
@@ -57,12 +93,12 @@ are_compared old new o n is =
     ok_unless (growth_refusal New a b) (a, b))) (o, n) is in
     let other = stepped (said_by New (checkpoint_in new)) (λ b. ok_unless (growth_refusal New one.0 b) (one.0, b))
     (o, n) one.2 in
-    let found = unrefused (growth_refusal New one.0 other.0) (one.0, other.0) (o, n) other.2 in
+    let found = ok_none (growth_refusal New one.0 other.0) (one.0, other.0) (o, n) other.2 in
     let old_same : one.0 ≡ o = ap (λ (p : CheckpointFields × CheckpointFields). p.0) found.1 in
     let new_same : other.0 ≡ n = ap (λ (p : CheckpointFields × CheckpointFields). p.1) found.1 in
     record {
-      old_is = said Old (checkpoint_in old) one.0 one.1 ∙ ap Ok old_same;
-      new_is = said New (checkpoint_in new) other.0 other.1 ∙ ap Ok new_same;
+      old_is = said_ok Old (checkpoint_in old) one.0 one.1 ∙ ap Ok old_same;
+      new_is = said_ok New (checkpoint_in new) other.0 other.1 ∙ ap Ok new_same;
       follows = (λ i. growth_refusal New (sym old_same i) (sym new_same i)) ∙ found.0;
     }
 
@@ -76,15 +112,15 @@ size_of text c is = let found = (notes text c).0 is in found.2.checkpoint.size
 
 -- the digests that are sent
 sent : (old_size : ℕ) (entries : List (List ℕ)) → old_size ≤ length entries → length entries ≤ size_limit →
-    AreDigests 63 (growth_digests old_size entries)
+    AreFew IsDigest 63 (growth_digests old_size entries)
 sent old_size entries inside small =
     elim (cases_eq old_size 0) [
       | inl none ↦
-          subst (AreDigests 63) (sym (ap (λ n. growth_digests n entries) none ∙ zero_none entries))
+          subst (AreFew IsDigest 63) (sym (ap (λ n. growth_digests n entries) none ∙ zero_none entries))
           (record { few = omega arith; each = All-nil IsDigest })
       | inr some ↦
           let more : 0 < old_size = omega arith in
-          subst (AreDigests 63) (sym (some_are old_size entries more)) (proof_digests old_size entries more inside small)
+          subst (AreFew IsDigest 63) (sym (some_are old_size entries more)) (proof_few IsDigest sha256 entries_root old_size entries more inside small)
     ]
 
 -- a proof that is read, between checkpoints that fit
@@ -122,14 +158,14 @@ growth_is_accepted cut old new file proof is =
     let under = are_under cut n file entries read.1 in
     let digests = growth_digests o.size entries in
     let p : ConsistencyFields = record { old_size = o.size; digests = digests; checkpoint = new } in
-    let found = unrefused (option_map (λ e. Refused File OtherOldEntries)
+    let found = ok_none (option_map (λ e. Refused File OtherOldEntries)
     (consistency_refusal sha256 o.size n.size digests o.root n.root)) (consistency_text p) proof read.2 in
-    let accepted = unmapped (λ (e : ProofError). Refused File OtherOldEntries)
+    let accepted = map_none (λ (e : ProofError). Refused File OtherOldEntries)
     (consistency_refusal sha256 o.size n.size digests o.root n.root) found.0 in
     let ordered : o.size ≤ n.size =
-    let size = or_none (unless (nat_le o.size n.size) _) _
-    (or_none (unless (is_same o.origin n.origin) _) _ both.follows).1 in
-    leb-true o.size n.size (holds (nat_le o.size n.size) _ size.0) in
+    let size = none_parts (unless (nat_le o.size n.size) _) _
+    (none_parts (unless (is_same o.origin n.origin) _) _ both.follows).1 in
+    leb-true o.size n.size (unless_none (nat_le o.size n.size) _ size.0) in
     let are = sent o.size entries (omega (arith, under.size)) (omega (arith, under.size, size_of new n both.new_is)) in
     let fields : IsConsistencyProof p =
     record { old_size = size_of old o both.old_is; digests = are.each; few_digests = are.few } in

@@ -1,16 +1,16 @@
 -- Proofs of entries of a file.
-use Rattle.std.proofs.Common.{◌≡◌, ◌≤◌, ◌<◌, ◌-◌, ◌*◌, ◌^◌, ◌==◌, ◌∙◌, ℕ}
+use Rattle.std.proofs.Common.{◌≡◌, ◌≤◌, ◌<◌, ◌-◌, ◌*◌, ◌^◌, ◌∙◌, ℕ}
 use Rattle.std.proofs.Common.{List, [], ◌∷◌, ap, arith, inl, inr, length, map}
 use Rattle.std.proofs.Common.{get_or, refl, subst, sym, zip, Option, None, Some, Result, Ok, Err, Vec, Global, ⊎_elim}
-use Rattle.std.specs.Prelude.{Bool, true, false, All, filter, nat_le, nat_lt}
+use Rattle.std.specs.Prelude.{true, false, All, filter, nat_le, nat_lt}
 use Rattle.std.specs.List.{list_all}
-use Rattle.std.specs.Option.{option_or}
-use Rattle.std.proofs.lemmas.Bool.{cases_Bool, eqb-true, leb-true, lt-ltb}
+use Rattle.std.proofs.lemmas.Bool.{cases_Bool, leb-true, lt-ltb}
 use Rattle.std.proofs.lemmas.List.{get_or-map, length-map}
-use Rattle.std.proofs.lemmas.List.Elements.{All-cons, All-head, All-nil, All-tail}
-use Rattle.p3_merkle_core.specs.Refusals.{first_of, ok_unless, unless}
+use Rattle.std.proofs.lemmas.List.Elements.{All-head, All-tail}
+use Rattle.p3_merkle_core.specs.Refusals.{first_of}
+use Rattle.p3_merkle_core.proofs.Pruned.NoneFacts.{each_none, unless_none}
 use Rattle.sha2.specs.Sha256.{sha256}
-use Rattle.tlog.specs.Rfc9162.{Hash, leaf_hash, root_of}
+use Rattle.tlog.specs.Rfc9162.{Hash, leaf_hash}
 use Rattle.tlog.specs.Verdicts.{size_limit}
 use Rattle.tlog_tree.specs.Trees.{all_there, node_at, values_at}
 use Rattle.p3_merkle_core.specs.Geometry.{levels}
@@ -22,53 +22,31 @@ use Rattle.log_files.specs.Entries.{entry_at, wanted_of}
 use Rattle.log_files.specs.declared.cut.Cut.{Cut}
 use Rattle.log_text.proofs.NoteLaws.{notes}
 use Rattle.log_text.specs.Reading.{checkpoint_in}
-use Rattle.log_text.specs.declared.error.TextError.{TextError}
 use Rattle.log_files.specs.declared.reading.ReadLog.{ReadLog}
 use Rattle.log_commands.specs.Commands.{HoldsOfInput}
 use Rattle.log_commands.specs.Inner.{entry_of, HasEntries, ReadsAs}
 use Rattle.log_commands.specs.Outcomes.{bytes_in, Gives}
-use Rattle.log_commands.specs.Outcomes.{and_then, bytes_from, entries_read}
-use Rattle.log_commands.specs.Outcomes.{entries_under, number_refusal, said_by, tree_refusal}
+use Rattle.log_commands.specs.Outcomes.{and_then, bytes_from}
+use Rattle.log_commands.specs.Outcomes.{entries_under, number_refusal, said_by}
 use Rattle.log_commands.specs.declared.error.Error.{Error}
-use Rattle.log_commands.specs.declared.error.Error.TheVariants.{OutOfMemory}
 use Rattle.log_commands.specs.declared.error.Source.{Source}
 use Rattle.log_commands.specs.declared.error.Source.TheVariants.{File}
+use Rattle.log_commands.proofs.LawFacts.{are_under, said_ok, stepped}
 
 -- ---- entries under a checkpoint are as many as it has
 
-pub ok_none : {V E : Type 0} (r : Option E) (v w : V) → ok_unless r v ≡ Ok w → (r ≡ None) × (v ≡ w)
-ok_none None v w is = (refl, cc)
-ok_none (Some e) v w is = cc
-
-pub none_first : {E : Type 0} (b : Bool) (e : E) (rest : Option E) → option_or (unless b e) rest ≡ None → b ≡ true
-none_first true e rest is = refl
-none_first false e rest is = cc
-
-by_read : (c : CheckpointFields) (r : Result (List (List ℕ)) Error) (entries : List (List ℕ)) →
-    and_then r (λ first. ok_unless (tree_refusal c (length first) (root_of sha256 first)) first) ≡ Ok entries →
-    length entries ≡ c.size
-by_read c (Err e) entries is = cc
-by_read c (Ok first) entries is =
-    let found = ok_none (tree_refusal c (length first) (root_of sha256 first)) first entries is in
-    ap length (sym found.1)
-    ∙ eqb-true (length first) c.size (none_first (length first == c.size) _ _ found.0)
-
 pub under_size : (cut : Cut) (c : CheckpointFields) (input : Option (List ℕ)) (entries : List (List ℕ)) →
     and_then (bytes_from File input) (entries_under cut c) ≡ Ok entries → length entries ≡ c.size
-under_size cut c None entries is = cc
-under_size cut c (Some bytes) entries is = by_read c (entries_read cut (Some c.size) bytes) entries is
-
-pub none_rest : {E : Type 0} (b : Bool) (e : E) (rest : Option E) → option_or (unless b e) rest ≡ None → rest ≡ None
-none_rest true e rest is = is
-none_rest false e rest is = cc
+under_size cut c input entries is =
+    let read = stepped (bytes_from File input) (entries_under cut c) entries is in
+    (are_under cut c read.0 entries read.2).size
 
 -- numbers that are not refused
 pub numbers_inside : (size : ℕ) (numbers : List ℕ) → first_of (number_refusal size) numbers ≡ None →
     All (λ n. n ≤ size) numbers
-numbers_inside size [] none = All-nil (λ n. n ≤ size)
-numbers_inside size (n ∷ ns) none =
-    All-cons (λ n. n ≤ size) n ns (leb-true n size (none_first (nat_le n size) _ _ none))
-    (numbers_inside size ns (none_rest (nat_le n size) _ _ none))
+numbers_inside size numbers none k d within =
+    let n = get_or numbers k d in
+    leb-true n size (unless_none (nat_le n size) _ (each_none (number_refusal size) numbers k d none within))
 
 -- ---- digests
 
@@ -161,17 +139,7 @@ module _ {W : Type 0} (read : List ℕ → Result (List (List ℕ)) Error) (next
 pub gives_text : (text : Vec ℕ Global) (own : List ℕ) → text.items ≡ own → Gives bytes_in (Ok text) (Ok own)
 gives_text text own is = ap Ok (sym is)
 
--- memory that ran out
-pub no_memory : {V W : Type 0} (view : V → W) (known : Option (List ℕ)) (F : Option (List ℕ) → Result W Error)
-    (result : Result V Error) (e : Error) → result ≡ Err e → e ≡ OutOfMemory →
-    HoldsOfInput known (λ input. Gives view result (F input))
-no_memory view known F result e is memory = rw is (None, tt, inl memory)
-
 -- ---- the size of a checkpoint
-
-pub said_ok : {V : Type 0} (source : Source) (r : Result V TextError) (v : V) → said_by source r ≡ Ok v → r ≡ Ok v
-said_ok source (Ok w) v is = let same : w ≡ v = cc in ap Ok same
-said_ok source (Err e) v is = cc
 
 pub limit_of : (source : Source) (text : List ℕ) (c : CheckpointFields) → said_by source (checkpoint_in text) ≡ Ok c →
     c.size ≤ size_limit

@@ -1,24 +1,40 @@
--- What seal and join print is read again.
-use Rattle.std.proofs.Common.{◌≡◌, ◌≤◌, ◌∙◌, ◌+◌, ℕ, List, [], ◌∷◌, ap, length, map, subst, sym, None, Ok}
-use Rattle.std.specs.Prelude.{false, nat_le, All}
-use Rattle.std.specs.List.{sum}
-use Rattle.std.proofs.lemmas.Bool.{leb-true}
+-- What seal and join print is read again, and parts are joined to what seal prints of the whole file.
+use Rattle.std.proofs.Common.{◌≡◌, ◌≤◌, ◌<◌, ◌+◌, ◌^◌, ◌==◌, ◌∙◌, ℕ, zero, suc, List, [], ◌∷◌, ◌++◌, ap, arith, eq-eqb}
+use Rattle.std.proofs.Common.{get_or, inl, inr, length, length-append, map, refl, subst, sym, append-nil, None, Ok}
+use Rattle.std.specs.Prelude.{All, true, false, nat_le}
+use Rattle.std.specs.Int.{is_power_of_two}
+use Rattle.std.specs.List.{concat, flat_map, range_with_len, sum}
+use Rattle.std.proofs.lemmas.Bool.{and_from, and_parts, cases_eq, eqb-true, le-leb, leb-true, ne_eqb}
+use Rattle.std.proofs.lemmas.Bool.Decides.{eqb_tells}
+use Rattle.std.proofs.lemmas.List.{length-map, map-append}
 use Rattle.std.proofs.lemmas.List.Elements.{All-cons, All-map, All-nil}
+use Rattle.std.proofs.lemmas.List.FromFn.{get_or-range_with_len, length-range_with_len}
+use Rattle.std.proofs.lemmas.List.Sums.{sum_by-cons}
 use Rattle.p3_merkle_core.specs.Refusals.{ok_unless, unless}
+use Rattle.p3_merkle_core.proofs.Shapes.LeastFacts.{n_below_pow}
+use Rattle.p3_merkle_core.proofs.Pruned.NoneFacts.{none_parts, range_none, unless_none}
 use Rattle.sha2.specs.Sha256.{sha256}
+use Rattle.tlog.specs.Rfc9162.{leaf_hash, root_of}
 use Rattle.tlog.specs.Verdicts.{size_limit}
+use Rattle.tlog.proofs.Powers.{power_is, power_only}
+use Rattle.tlog_tree.specs.Parts.{HaveSize}
 use Rattle.tlog_tree.specs.Trees.{leaves_root}
+use Rattle.tlog_tree.proofs.Parts.{root_is_of_parts}
+use Rattle.tlog_entries.proofs.Leaves.{mth_map}
+use Rattle.log_text.specs.Lines.{part_origin}
 use Rattle.log_text.specs.Reading.{part_in}
 use Rattle.log_text.specs.Texts.{checkpoint_text, IsDigest}
+use Rattle.log_text.proofs.LineFacts.{part_is_origin}
 use Rattle.log_text.proofs.NoteLaws.{parts, read_again}
-use Rattle.log_files.specs.Entries.{entries_in, is_refused}
+use Rattle.log_files.specs.Entries.{entries_in, is_refused, IsCut}
 use Rattle.log_files.specs.declared.cut.Cut.{Cut}
-use Rattle.log_commands.specs.Laws.{JoinsAreReadAgain, Says, SealsAreReadAgain}
-use Rattle.log_commands.specs.Outcomes.{and_then, checkpoint_of, entries_read, join_outcome, join_refusal, joined}
-use Rattle.log_commands.specs.Outcomes.{parts_in, said_by, seal_outcome, sizes_refusal}
+use Rattle.log_commands.specs.Laws.{AreSealed, EndWithEntries, JoinsAreReadAgain, PartsJoin, Says, SealsAreReadAgain}
+use Rattle.log_commands.specs.Outcomes.{and_then, checkpoint_of, entries_read, is_part_size, join_outcome, join_refusal}
+use Rattle.log_commands.specs.Outcomes.{joined, part_refusal, parts_in, said_by, seal_outcome, sizes_refusal}
 use Rattle.log_commands.specs.declared.error.Source.TheVariants.{Part}
-use Rattle.log_commands.proofs.DigestFacts.{entries_root, root_is}
-use Rattle.log_commands.proofs.LawFacts.{holds, is_read, or_none, said, stepped, unrefused}
+use Rattle.log_commands.proofs.FileFacts.{read_ok}
+use Rattle.log_commands.proofs.FileLaws.{entries_of_all, none_refused, refused_as}
+use Rattle.log_commands.proofs.LawFacts.{entries_root, is_read, none_of, ok_none, root_is, said_ok, stepped}
 
 -- ---- seal
 
@@ -65,14 +81,14 @@ is_joined origin texts text is =
     (λ fields. ok_unless (join_refusal (map (λ p. p.0) fields)) (checkpoint_text (joined origin fields))) text is in
     let fields = found.0 in
     let sizes = map (λ (p : ℕ × List ℕ). p.0) fields in
-    let unrefused_is = unrefused (join_refusal sizes) (checkpoint_text (joined origin fields)) text found.2 in
-    let fit = or_none (sizes_refusal sizes) _ unrefused_is.0 in
-    let few = or_none (unless (nat_le (sum sizes) size_limit) _) None fit.1 in (
+    let unrefused_is = ok_none (join_refusal sizes) (checkpoint_text (joined origin fields)) text found.2 in
+    let fit = none_parts (sizes_refusal sizes) _ unrefused_is.0 in
+    let few = none_parts (unless (nat_le (sum sizes) size_limit) _) None fit.1 in (
       fields,
       record {
         fields_are = found.1;
         sizes_fit = fit.0;
-        few = leb-true (sum sizes) size_limit (holds (nat_le (sum sizes) size_limit) _ few.0);
+        few = leb-true (sum sizes) size_limit (unless_none (nat_le (sum sizes) size_limit) _ few.0);
         text_is = sym unrefused_is.1;
       },
     )
@@ -88,7 +104,7 @@ parts_roots k (text ∷ texts) fields is =
     let c = part.0 in
     let more = stepped (parts_in (k + 1) texts) (λ ps. Ok ((c.size, c.root) ∷ ps)) fields part.2 in
     let same : (c.size, c.root) ∷ more.0 ≡ fields = cc in
-    let note = (parts text c).0 (said (Part k) (part_in text) c part.1) in
+    let note = (parts text c).0 (said_ok (Part k) (part_in text) c part.1) in
     subst (All (λ (p : ℕ × List ℕ). IsDigest p.1)) same
     (All-cons (λ (p : ℕ × List ℕ). IsDigest p.1) (c.size, c.root) more.0 note.2.checkpoint.root
     (parts_roots (k + 1) texts more.0 more.1))
@@ -107,3 +123,237 @@ joins_read origin texts text is done =
       subst (λ t. Says t (joined origin fields)) (sym j.text_is)
           (read_again (joined origin fields) (record { origin = is; size = j.few; root = root })),
     )
+
+-- ---- sizes
+
+-- part k of some has the size of all, or as the last one 1 to as many
+record IsPart (size : ℕ) (sizes : List ℕ) (k : ℕ) : Type 0 where
+  last : k + 1 ≡ length sizes → (1 ≤ get_or sizes k 0) × (get_or sizes k 0 ≤ size)
+  other : k + 1 < length sizes → get_or sizes k 0 ≡ size
+
+have_size : (size : ℕ) (sizes : List ℕ) → ((k : ℕ) → k < length sizes → IsPart size sizes k) → HaveSize size sizes
+have_size size [] each = tt
+have_size size (x ∷ []) each = let part = each 0 (omega arith) in part.last refl
+have_size size (x ∷ y ∷ sizes) each = (
+  (let part = each 0 (omega arith) in part.other (omega arith)),
+  have_size size (y ∷ sizes) (λ k within.
+      let part = each (suc k) (omega arith) in
+      record { last = λ is. part.last (omega arith); other = λ is. part.other (omega arith) }),
+)
+
+parts_have : (size : ℕ) (sizes : List ℕ) (k : ℕ) → HaveSize size sizes → k < length sizes → IsPart size sizes k
+parts_have size [] k have within = absurd (omega arith)
+parts_have size (x ∷ []) zero have within = record { last = λ is. have; other = λ is. absurd (omega arith) }
+parts_have size (x ∷ []) (suc k) have within = absurd (omega arith)
+parts_have size (x ∷ y ∷ sizes) zero have within =
+    record { last = λ is. absurd (omega arith); other = λ is. have.0 }
+parts_have size (x ∷ y ∷ sizes) (suc k) have within =
+    let part = parts_have size (y ∷ sizes) k have.1 (omega arith) in
+    record { last = λ is. part.last (omega arith); other = λ is. part.other (omega arith) }
+
+-- what the tests of one part say
+test_from : (sizes : List ℕ) (k : ℕ) → is_part_size sizes k ≡ true → IsPart (get_or sizes 0 0) sizes k
+test_from sizes k is =
+    let first = get_or sizes 0 0 in
+    let size = get_or sizes k 0 in
+    elim (eqb_tells (k + 1) (length sizes)) [
+      | inl (t, end) ↦
+          let both = and_parts (nat_le 1 size) (nat_le size first) (rw t at is) in
+          record {
+            last = λ e. (leb-true 1 size both.0, leb-true size first both.1);
+            other = λ e. absurd (omega arith);
+          }
+      | inr (f, more) ↦
+          let both = and_parts (size == first) (is_power_of_two first) (rw f at is) in
+          record { last = λ e. absurd (more e); other = λ e. eqb-true size first both.0 }
+    ]
+
+first_power : (sizes : List ℕ) → 1 < length sizes → is_part_size sizes 0 ≡ true →
+    is_power_of_two (get_or sizes 0 0) ≡ true
+first_power sizes more is =
+    let first = get_or sizes 0 0 in
+    let other : 0 + 1 ≡ length sizes → ⊥ = λ e. absurd (omega arith) in
+    (and_parts (first == first) (is_power_of_two first) (rw (ne_eqb (0 + 1) (length sizes) other) at is)).1
+
+test_to : (size : ℕ) (sizes : List ℕ) (k : ℕ) → k < length sizes → is_power_of_two size ≡ true →
+    IsPart size sizes k → IsPart size sizes 0 → is_part_size sizes k ≡ true
+test_to size sizes k within power part front =
+    let first = get_or sizes 0 0 in
+    let own = get_or sizes k 0 in
+    elim (eqb_tells (k + 1) (length sizes)) [
+      | inl (t, end) ↦
+          let last = part.last end in
+          let low : 1 ≤ own = last.0 in
+          let high : own ≤ first = elim (cases_eq k 0) [
+            | inl none ↦ let same : own ≡ first = ap (λ j. get_or sizes j 0) none in omega arith
+            | inr some ↦ let all : first ≡ size = front.other (omega arith) in omega (arith, last.1, all)
+          ] in
+          rw t (and_from (nat_le 1 own) (nat_le own first) (le-leb 1 own low) (le-leb own first high))
+      | inr (f, more) ↦
+          let here : own ≡ size = part.other (omega arith) in
+          let all : first ≡ size = front.other (omega arith) in
+          rw f (and_from (own == first) (is_power_of_two first) (eq-eqb own first (here ∙ sym all))
+          (ap is_power_of_two all ∙ power))
+    ]
+
+pub sizes_from : (sizes : List ℕ) → sizes_refusal sizes ≡ None → (power : ℕ) × HaveSize (2 ^ power) sizes
+sizes_from [] none = (0, tt)
+sizes_from (x ∷ []) none =
+    let test = unless_none (is_part_size (x ∷ []) 0) _ (range_none (part_refusal (x ∷ [])) 0 1 0 none (omega arith) (omega arith)) in
+    let last = (test_from (x ∷ []) 0 test).last refl in
+    (x, (last.0, omega (arith, n_below_pow x)))
+sizes_from (x ∷ y ∷ rest) none =
+    let sizes = x ∷ y ∷ rest in
+    let each = λ (k : ℕ) (within : k < length sizes).
+    unless_none (is_part_size sizes k) _
+    (range_none (part_refusal sizes) 0 (length sizes) k none (omega arith) (omega arith)) in
+    let p = power_only x (first_power sizes (omega arith) (each 0 (omega arith))) in
+    let have = have_size x sizes (λ k within. test_from sizes k (each k within)) in
+    (p.0, subst (λ n. HaveSize n sizes) p.1 have)
+
+pub sizes_to : (power : ℕ) (sizes : List ℕ) → HaveSize (2 ^ power) sizes → sizes_refusal sizes ≡ None
+sizes_to power sizes have =
+    none_of (part_refusal sizes) (range_with_len 0 (length sizes)) (λ k d within.
+    let room : k < length sizes = omega (arith, length-range_with_len 0 (length sizes)) in
+    let at : get_or (range_with_len 0 (length sizes)) k d ≡ k =
+    get_or-range_with_len 0 (length sizes) k d room ∙ omega arith in
+    let test : is_part_size sizes k ≡ true =
+    test_to (2 ^ power) sizes k room (power_is power) (parts_have (2 ^ power) sizes k have room)
+    (parts_have (2 ^ power) sizes 0 have (omega arith)) in
+    ap (part_refusal sizes) at ∙ rw test refl)
+
+-- ---- parts
+
+-- the size and the root of a file
+abbrev fields_of : Cut → List ℕ → ℕ × List ℕ
+fields_of cut file = (length (entries_in cut file), root_of sha256 (entries_in cut file))
+
+abbrev sizes_of : Cut → List (List ℕ) → List ℕ
+sizes_of cut files = map (λ file. length (entries_in cut file)) files
+
+-- the leaf hashes of each file
+abbrev leaves_of : Cut → List (List ℕ) → List (List (List ℕ))
+leaves_of cut files = map (λ file. map (leaf_hash sha256) (entries_in cut file)) files
+
+module _ (cut : Cut) (is : IsCut cut) where
+  -- what the parts say
+  parts_say : (k : ℕ) (files texts : List (List ℕ)) → AreSealed cut files texts →
+      parts_in k texts ≡ Ok (map (fields_of cut) files)
+  parts_say k [] [] are = refl
+  parts_say k [] (text ∷ texts) are = absurd are
+  parts_say k (file ∷ files) [] are = absurd are
+  parts_say k (file ∷ files) (text ∷ texts) are =
+      let read : part_in text ≡ Ok (checkpoint_of part_origin (entries_in cut file)) =
+      (seals_read part_origin cut file text part_is_origin are.0).1 refl in
+      ap (λ r. and_then (said_by (Part k) r) (λ c. and_then (parts_in (k + 1) texts)
+      (λ fields. Ok ((c.size, c.root) ∷ fields)))) read
+      ∙ ap (λ r. and_then r (λ fields. Ok (fields_of cut file ∷ fields))) (parts_say (k + 1) files texts are.1)
+
+  -- the whole file is read if its parts are
+  whole : (files texts : List (List ℕ)) → AreSealed cut files texts → EndWithEntries cut files →
+      is_refused cut None (concat files) ≡ false
+  whole [] texts are end = none_refused cut is
+  whole (file ∷ files) [] are end = absurd are
+  whole (file ∷ []) (text ∷ texts) are end =
+      ap (is_refused cut None) (append-nil file) ∙ (is_sealed part_origin cut file text are.0).whole
+  whole (file ∷ next ∷ files) (text ∷ texts) are end =
+      refused_as cut file (concat (next ∷ files)) is end.0 ∙ whole (next ∷ files) texts are.1 end.1
+
+  sizes_say : (files : List (List ℕ)) → map (λ (p : ℕ × List ℕ). p.0) (map (fields_of cut) files) ≡ sizes_of cut files
+  sizes_say [] = refl
+  sizes_say (file ∷ files) = ap (λ sizes. length (entries_in cut file) ∷ sizes) (sizes_say files)
+
+  roots_say : (files : List (List ℕ)) →
+      map (λ (p : ℕ × List ℕ). p.1) (map (fields_of cut) files)
+      ≡ map (leaves_root sha256) (leaves_of cut files)
+  roots_say [] = refl
+  roots_say (file ∷ files) =
+      let own = sym (mth_map sha256 (leaf_hash sha256) (entries_in cut file)) in
+      let more = roots_say files in
+      (λ i. own i ∷ more i)
+
+  lengths_are : (files : List (List ℕ)) → map (λ (part : List (List ℕ)). length part) (leaves_of cut files) ≡ sizes_of cut files
+  lengths_are [] = refl
+  lengths_are (file ∷ files) =
+      let own = length-map (entries_in cut file) (leaf_hash sha256) in
+      let more = lengths_are files in
+      (λ i. own i ∷ more i)
+
+  leaves_are : (files : List (List ℕ)) →
+      flat_map (λ (part : List (List ℕ)). part) (leaves_of cut files)
+      ≡ map (leaf_hash sha256) (flat_map (entries_in cut) files)
+  leaves_are [] = refl
+  leaves_are (file ∷ files) =
+      ap (λ leaves. map (leaf_hash sha256) (entries_in cut file) ++ leaves) (leaves_are files)
+      ∙ sym (map-append (leaf_hash sha256) (entries_in cut file) (flat_map (entries_in cut) files))
+
+  total : (files : List (List ℕ)) → sum (sizes_of cut files) ≡ length (flat_map (entries_in cut) files)
+  total [] = refl
+  total (file ∷ files) =
+      let own = length (entries_in cut file) in
+      let more : sum (sizes_of cut files) ≡ length (flat_map (entries_in cut) files) = total files in
+      let here : sum (own ∷ sizes_of cut files) ≡ own + sum (sizes_of cut files) =
+      sum_by-cons (λ (x : ℕ). x) own (sizes_of cut files) in
+      omega (arith, here, more, length-append (entries_in cut file) (flat_map (entries_in cut) files))
+
+  module _ (files : List (List ℕ)) (end : EndWithEntries cut files) where
+    abbrev entries : List (List ℕ)
+    entries = entries_in cut (concat files)
+
+    all_are : entries ≡ flat_map (entries_in cut) files
+    all_are = entries_of_all cut files is end
+
+    size_is : sum (map (λ (p : ℕ × List ℕ). p.0) (map (fields_of cut) files)) ≡ length entries
+    size_is = ap sum (sizes_say files) ∙ total files ∙ ap length (sym all_are)
+
+    whole_root : (power : ℕ) → HaveSize (2 ^ power) (sizes_of cut files) →
+        leaves_root sha256 (map (λ (p : ℕ × List ℕ). p.1) (map (fields_of cut) files)) ≡ root_of sha256 entries
+    whole_root power have =
+        ap (leaves_root sha256) (roots_say files)
+        ∙ root_is_of_parts sha256 power (leaves_of cut files)
+        (subst (λ sizes. HaveSize (2 ^ power) sizes) (sym (lengths_are files)) have)
+        ∙ ap (leaves_root sha256) (leaves_are files)
+        ∙ mth_map sha256 (leaf_hash sha256) (flat_map (entries_in cut) files)
+        ∙ ap (root_of sha256) (sym all_are)
+
+    -- both texts are one
+    text_is : (origin : List ℕ) (power : ℕ) → HaveSize (2 ^ power) (sizes_of cut files) →
+        checkpoint_text (joined origin (map (fields_of cut) files)) ≡ checkpoint_text (checkpoint_of origin entries)
+    text_is origin power have =
+        let root = whole_root power have in
+        (λ i. checkpoint_text (record { origin = origin; size = size_is i; root = root i }))
+
+pub parts_join : PartsJoin
+parts_join origin cut files texts text is are end = (
+  λ done.
+      let found = is_joined origin texts text done in
+      let j = found.1 in
+      let same : found.0 ≡ map (fields_of cut) files =
+      let e = sym j.fields_are ∙ parts_say cut is 0 files texts are in cc in
+      let sizes = sizes_from (map (λ (p : ℕ × List ℕ). p.0) found.0) j.sizes_fit in
+      let have : HaveSize (2 ^ sizes.0) (sizes_of cut files) =
+      subst (λ ns. HaveSize (2 ^ sizes.0) ns)
+      (ap (λ fields. map (λ (p : ℕ × List ℕ). p.0) fields) same ∙ sizes_say cut is files) sizes.1 in
+      let few : length (entries_in cut (concat files)) ≤ size_limit =
+      subst (λ n. n ≤ size_limit)
+      (ap (λ fields. sum (map (λ (p : ℕ × List ℕ). p.0) fields)) same ∙ size_is cut is files end) j.few in (
+        (sizes.0, have),
+        ap (λ r. and_then r (λ entries. Ok (checkpoint_text (checkpoint_of origin entries))))
+            (read_ok cut None (concat files) few (whole cut is files texts are end))
+            ∙ ap Ok (sym (text_is cut is files end origin sizes.0 have))
+            ∙ ap (λ fields. Ok (checkpoint_text (joined origin fields))) (sym same) ∙ ap Ok (sym j.text_is),
+      ),
+  λ both.
+      let have = both.0.1 in
+      let s = is_sealed origin cut (concat files) text both.1 in
+      let sizes = map (λ (p : ℕ × List ℕ). p.0) (map (fields_of cut) files) in
+      let fit : sizes_refusal sizes ≡ None =
+      sizes_to both.0.0 sizes (subst (λ ns. HaveSize (2 ^ both.0.0) ns) (sym (sizes_say cut is files)) have) in
+      let few : nat_le (sum sizes) size_limit ≡ true =
+      le-leb (sum sizes) size_limit (omega (arith, size_is cut is files end, s.few)) in
+      let joins : join_refusal sizes ≡ None = rw (fit, few) refl in
+      ap (λ r. and_then r (λ fields. ok_unless (join_refusal (map (λ (p : ℕ × List ℕ). p.0) fields))
+      (checkpoint_text (joined origin fields)))) (parts_say cut is 0 files texts are)
+      ∙ ap (λ r. ok_unless r (checkpoint_text (joined origin (map (fields_of cut) files)))) joins
+      ∙ ap Ok (text_is cut is files end origin both.0.0 have ∙ sym s.text_is),
+)

@@ -1,19 +1,14 @@
 -- A text that is written piece by piece.
-use Rattle.std.proofs.Common.{◌≡◌, ◌∙◌, ℕ, List, [], ◌++◌, Option, Ok}
-use Rattle.std.proofs.Common.{Err, ap, append-nil, append_assoc, drop, inr, refl, subst}
+use Rattle.std.proofs.Common.{◌≡◌, ◌∙◌, ℕ, List, ◌++◌, Option, Ok}
+use Rattle.std.proofs.Common.{Err, ap, append_assoc, drop, subst}
 use Rattle.std.proofs.Common.{◌-◌, Result, arith, length, sym, take, take-append-drop}
 use Rattle.std.proofs.lemmas.List.{length-drop, take_all}
 use Rattle.std.specs.Io.KnownBytes.{Appends, Keeps, WriteAppends}
-use Rattle.std.proofs.KnownBytes.{Appends-kept, Appends-nil, Appends-trans, Keeps-refl}
-use Rattle.log_commands.specs.Commands.{EndsIn}
-use Rattle.log_commands.specs.declared.error.Error.TheVariants.{Write}
+use Rattle.std.proofs.KnownBytes.{Appends-kept, Appends-trans}
 
 -- the output has the text up to what is left
 abbrev pub Wrote : Option (List ℕ) → Option (List ℕ) → List ℕ → List ℕ → Type 0
 Wrote old new text rest = (front : List ℕ) × (text ≡ front ++ rest) × Appends old new front
-
-pub wrote_none : (old : Option (List ℕ)) (text rest : List ℕ) → text ≡ rest → Wrote old old text rest
-wrote_none old text rest is = ([], is, Appends-nil old)
 
 -- nothing more
 pub wrote_same : (old now new : Option (List ℕ)) (text rest : List ℕ) → Wrote old now text rest → Keeps now new →
@@ -31,19 +26,6 @@ wrote_more old now new text rest after n wrote more after_is = (
   Appends-trans old now new wrote.0 (take n rest) wrote.2 more,
 )
 
--- all
-pub wrote_all : (old now new : Option (List ℕ)) (text rest : List ℕ) → Wrote old now text rest → rest ≡ [] →
-    Keeps now new → Appends old new text
-wrote_all old now new text rest wrote none keeps =
-    subst (Appends old new) (sym (wrote.1 ∙ ap (λ r. wrote.0 ++ r) none ∙ append-nil wrote.0))
-    (Appends-kept old now new wrote.0 wrote.2 keeps)
-
--- or not
-pub wrote_part : (V : Type 0) (old now new : Option (List ℕ)) (text rest : List ℕ) → Wrote old now text rest →
-    Keeps now new → EndsIn {V = V} old new (Ok text) (Err Write)
-wrote_part V old now new text rest wrote keeps =
-    inr (refl, (wrote.0, rest, wrote.1, Appends-kept old now new wrote.0 wrote.2 keeps))
-
 -- ---- by what a write returns
 
 drop_rest : (xs : List ℕ) (n : ℕ) → take (length xs - n) (drop n xs) ≡ drop n xs
@@ -59,12 +41,3 @@ module _ {E : Type 0} (old now new : Option (List ℕ)) (text rest : List ℕ) (
 
   pub step_err : (e : E) → r ≡ Err e → Keeps now new
   step_err e is = subst (λ (x : Result ℕ E). WriteAppends now new x rest) is bytes
-
-  pub ends_ok : (V : Type 0) (n : ℕ) → r ≡ Ok n → EndsIn {V = V} old new (Ok text) (Err Write)
-  ends_ok V n is =
-      wrote_part V old new new text (drop n rest)
-      (wrote_more old now new text rest (drop n rest) n wrote
-      (subst (λ (x : Result ℕ E). WriteAppends now new x rest) is bytes) refl) (Keeps-refl new)
-
-  pub ends_err : (V : Type 0) (e : E) → r ≡ Err e → EndsIn {V = V} old new (Ok text) (Err Write)
-  ends_err V e is = wrote_part V old now new text rest wrote (step_err e is)

@@ -2,6 +2,7 @@
 use Rattle.std.specs.Prelude.{◌≡◌, ◌≢◌, ◌↔◌, ℕ, ◌-◌, ◌^◌, ◌≤◌, Bool, true, is_some, All, List, [], ◌∷◌, ◌++◌, length}
 use Rattle.std.specs.Prelude.{flat_map, map, Option, None, Some, Ok}
 use Rattle.std.specs.List.{concat}
+use Rattle.tlog_tree.specs.Parts.{HaveSize}
 use Rattle.log_text.specs.Lines.{is_origin, part_origin}
 use Rattle.log_text.specs.Reading.{checkpoint_in, part_in}
 use Rattle.log_text.specs.Texts.{CheckpointFields}
@@ -25,8 +26,8 @@ abbrev pub BeginsWith : Cut → List ℕ → List (List ℕ) → Type 0
 BeginsWith cut file first = (more : List (List ℕ)) × (entries_in cut file ≡ first ++ more)
 
 -- a text is a checkpoint of these entries under this origin
-abbrev pub IsCheckpointOf : (text origin : List ℕ) → List (List ℕ) → Type 0
-IsCheckpointOf text origin entries = checkpoint_in text ≡ Ok (checkpoint_of origin entries)
+abbrev pub IsCheckpointUnder : (origin text : List ℕ) → List (List ℕ) → Type 0
+IsCheckpointUnder origin text entries = checkpoint_in text ≡ Ok (checkpoint_of origin entries)
 
 -- bytes behind the end of an entry are further entries
 abbrev pub FilesGrow : Type 0
@@ -66,12 +67,6 @@ EndWithEntries cut [] = Unit {0}
 EndWithEntries cut (file ∷ []) = Unit {0}
 EndWithEntries cut (file ∷ next ∷ files) = EndsWithEntry cut file × EndWithEntries cut (next ∷ files)
 
--- each of some parts but the last has this size, and the last has 1 entry to as many
-abbrev pub HaveSize : ℕ → List ℕ → Type 0
-HaveSize size [] = Unit {0}
-HaveSize size (last ∷ []) = (1 ≤ last) × (last ≤ size)
-HaveSize size (part ∷ next ∷ parts) = (part ≡ size) × HaveSize size (next ∷ parts)
-
 -- the parts of a file, each cut off where an entry ends, are joined exactly if their size is a power of two, and to what
 -- seal prints of the whole file
 abbrev pub PartsJoin : Type 0
@@ -94,8 +89,8 @@ GrowthIsAccepted =
 -- between checkpoints of first entries of a file it prints a proof
 abbrev pub GrowthIsProved : Type 0
 GrowthIsProved =
-    (cut : Cut) (origin old new file : List ℕ) (first more : List (List ℕ)) → IsCheckpointOf old origin first →
-    IsCheckpointOf new origin (first ++ more) → BeginsWith cut file (first ++ more) →
+    (cut : Cut) (origin old new file : List ℕ) (first more : List (List ℕ)) → IsCheckpointUnder origin old first →
+    IsCheckpointUnder origin new (first ++ more) → BeginsWith cut file (first ++ more) →
     (proof : List ℕ) × (prove_file_growth cut (Some old) (Some new) (Some file) ≡ Ok proof)
 
 -- ---- entries
@@ -135,7 +130,7 @@ ProofsAreAccepted =
 abbrev pub ProofsAreProved : Type 0
 ProofsAreProved =
     (cut : Cut) (origin checkpoint file : List ℕ) (first : List (List ℕ)) (numbers : List ℕ) →
-    IsCheckpointOf checkpoint origin first → BeginsWith cut file first → All (λ n. n ≤ length first) numbers →
+    IsCheckpointUnder origin checkpoint first → BeginsWith cut file first → All (λ n. n ≤ length first) numbers →
     (proof : List ℕ) × (prove_file cut (Some checkpoint) (Some file) numbers ≡ Ok proof)
 
 -- further entries change no proof

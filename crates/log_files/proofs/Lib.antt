@@ -5,3 +5,4 @@ mod SplitterFacts
 mod EndFacts
 mod BuiltFacts
 mod ReaderFacts
+pub mod CutFiles

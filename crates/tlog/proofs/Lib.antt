@@ -7,3 +7,5 @@ pub mod Climbs
 pub mod Honest
 pub mod Entries
 pub mod Begun
+pub mod Roots
+pub mod Powers

@@ -4,6 +4,7 @@ pub mod Included
 pub mod Restored
 pub mod Nodes
 pub mod Leaves
+pub mod Subproofs
 pub mod Honest
 pub mod ShapeFacts
 pub mod BoundaryFacts

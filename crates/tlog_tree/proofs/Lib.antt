@@ -3,3 +3,4 @@ pub mod Inputs
 pub mod Leaves
 pub mod Kept
 pub mod Paths
+pub mod Parts

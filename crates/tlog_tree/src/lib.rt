@@ -5,6 +5,7 @@ mod builder;
 mod error;
 mod frontier;
 mod layer;
+pub mod laws;
 mod leaf;
 mod places;
 mod wanted;

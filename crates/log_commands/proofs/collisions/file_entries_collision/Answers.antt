@@ -6,7 +6,7 @@ use Rattle.log_text.specs.Reading.{entries_in as proof_in}
 use Rattle.log_text.specs.Texts.{entries_fields}
 use Rattle.log_commands.specs.declared.error.Source.TheVariants.{Checkpoint, Proof}
 use Rattle.log_commands.proofs.CollisionFacts.{by_text, not_of_file, proved, shown}
-use Rattle.log_commands.proofs.ProveFacts.{said_ok}
+use Rattle.log_commands.proofs.LawFacts.{said_ok}
 use Rattle.log_commands.proofs.collisions.file_entries_collision.Goals as goal
 
 pub returns-in_err-entries-clause-refused : goal.returns-in_err-entries-clause-refused

@@ -8,7 +8,7 @@ use Rattle.log_commands.specs.Collisions.{IsCheckpointOfFile}
 use Rattle.log_commands.specs.Outcomes.{verify_consistency_outcome}
 use Rattle.log_commands.specs.declared.error.Source.TheVariants.{Old, Proof}
 use Rattle.log_commands.proofs.CollisionFacts.{begins, by_text, not_of_file, same_ok}
-use Rattle.log_commands.proofs.ProveFacts.{said_ok}
+use Rattle.log_commands.proofs.LawFacts.{said_ok}
 use Rattle.log_commands.proofs.collisions.file_prefix_collision.Goals as goal
 
 pub returns-in_err-old_entries-clause-refused : goal.returns-in_err-old_entries-clause-refused

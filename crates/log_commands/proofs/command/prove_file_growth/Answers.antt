@@ -2,15 +2,9 @@
 use Rattle.std.proofs.Common.{None, Some}
 use Rattle.std.proofs.lemmas.Result.{err_from_is_err_and}
 use Rattle.log_commands.specs.Outcomes.{bytes_in}
-use Rattle.log_commands.specs.declared.error.Source.TheVariants.{New, Old}
+use Rattle.log_commands.specs.declared.error.Source.TheVariants.{New}
 use Rattle.log_commands.proofs.InputFacts.{unread_gives}
 use Rattle.log_commands.proofs.command.prove_file_growth.Goals as goal
-
-pub returns-in_err-one : goal.returns-in_err-one
-returns-in_err-one g c =
-    let left = err_from_is_err_and c.from_residual.result c.from_residual.ensures.1 in
-    rw (left.1, left.2)
-    (None, tt, (None, tt, (None, tt, unread_gives bytes_in Old _ c.in_err-one.ensures.failed)))
 
 pub returns-in_err-other : goal.returns-in_err-other
 returns-in_err-other g c =

@@ -8,19 +8,8 @@ use Rattle.log_commands.specs.declared.error.Error.TheVariants.{Read}
 use Rattle.log_commands.specs.declared.error.Source.TheVariants.{Part}
 use Rattle.std.specs.Vec.Iter.{into_iter_items}
 use Rattle.std.proofs.lemmas.List.{length-map, nil_from_length}
-use Rattle.log_commands.proofs.InputFacts.{all_read, makes_more, makes_none, read_up_to, stops_at, unread}
+use Rattle.log_commands.proofs.InputFacts.{all_read, read_up_to, stops_at, unread}
 use Rattle.log_commands.proofs.command.read_parts.Goals as goal
-
-pub loop-part-init : goal.loop-part-init
-loop-part-init g c =
-    makes_none g.Src.Read.remaining _ c.args.parts.items c.new-texts.result.items
-    c.into_iter-part-iterator.ensures.into_iter_gives.0 c.new-texts.ensures.items
-
-pub loop-part-preserved : goal.loop-part-preserved
-loop-part-preserved g c =
-    makes_more g.Src.Read.remaining (into_iter_items c.loop-part.part-iterator) (into_iter_items c.next.new.self)
-    c.in-Some.part c.args.parts.items c.loop-part.texts.items c.push.new.self.items c.in_ok-read_text.field-0
-    c.in-Some.ensures.steps.0 c.in_ok-read_text.ensures.bytes c.in_ok-push.ensures.items c.loop-part.invariant
 
 pub returns-in_err-read_text : goal.returns-in_err-read_text
 returns-in_err-read_text g c =

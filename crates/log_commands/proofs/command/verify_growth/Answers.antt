@@ -2,14 +2,9 @@
 use Rattle.std.proofs.Common.{None, Some}
 use Rattle.std.proofs.lemmas.Result.{err_from_is_err_and}
 use Rattle.log_commands.specs.Outcomes.{bytes_in}
-use Rattle.log_commands.specs.declared.error.Source.TheVariants.{Old, Proof}
+use Rattle.log_commands.specs.declared.error.Source.TheVariants.{Proof}
 use Rattle.log_commands.proofs.InputFacts.{unread_gives}
 use Rattle.log_commands.proofs.command.verify_growth.Goals as goal
-
-pub returns-in_err-one : goal.returns-in_err-one
-returns-in_err-one g c =
-    let left = err_from_is_err_and c.from_residual.result c.from_residual.ensures.1 in
-    rw (left.1, left.2) (None, tt, (None, tt, unread_gives bytes_in Old _ c.in_err-one.ensures.failed))
 
 pub returns-in_err-shown : goal.returns-in_err-shown
 returns-in_err-shown g c =

@@ -3,14 +3,9 @@ use Rattle.std.proofs.Common.{Global, None, Option, Some, Vec, option_map, subst
 use Rattle.std.proofs.lemmas.Result.{err_from_is_err_and}
 use Rattle.log_commands.specs.Commands.{verify_proof}
 use Rattle.log_commands.specs.Outcomes.{bytes_in, Gives}
-use Rattle.log_commands.specs.declared.error.Source.TheVariants.{Checkpoint, Proof}
+use Rattle.log_commands.specs.declared.error.Source.TheVariants.{Proof}
 use Rattle.log_commands.proofs.InputFacts.{unread_gives}
 use Rattle.log_commands.proofs.command.verify_proof.Goals as goal
-
-pub returns-in_err-text : goal.returns-in_err-text
-returns-in_err-text g c =
-    let left = err_from_is_err_and c.from_residual.result c.from_residual.ensures.1 in
-    rw (left.1, left.2) (None, tt, (None, tt, unread_gives bytes_in Checkpoint _ c.in_err-text.ensures.failed))
 
 pub returns-in_err-shown : goal.returns-in_err-shown
 returns-in_err-shown g c =

@@ -1,8 +1,12 @@
-use Rattle.std.proofs.Common.{◌≡◌, drop, map}
-use Rattle.log_commands.specs.Outcomes.{bytes_in}
-use Rattle.log_commands.specs.Outcomes.{parts_in}
-use Rattle.log_commands.proofs.JoinFacts.{onto}
+use Rattle.std.proofs.Common.{◌≡◌, ◌++◌, drop, map, Err, List, Ok, Result, ℕ}
+use Rattle.log_commands.specs.Outcomes.{bytes_in, parts_in}
+use Rattle.log_commands.specs.declared.error.Error.{Error}
 use Rattle.log_commands.proofs.join.read_parts.Given as goal
+
+-- the parts after some that were read
+abbrev pub onto : List (ℕ × List ℕ) → Result (List (ℕ × List ℕ)) Error → Result (List (ℕ × List ℕ)) Error
+onto done (Ok ps) = Ok (done ++ ps)
+onto done (Err error) = Err error
 
 -- what follows is read after the parts so far
 abbrev pub invariant-loop-k : goal.invariant-loop-k

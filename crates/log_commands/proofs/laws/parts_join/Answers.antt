@@ -1,4 +1,4 @@
-use Rattle.log_commands.proofs.PartLaws.{parts_join}
+use Rattle.log_commands.proofs.SealLaws.{parts_join}
 use Rattle.log_commands.proofs.laws.parts_join.Goals as goal
 
 pub returns : goal.returns

@@ -1,5 +1,5 @@
 -- The entries of the checkpoint are read, and those of the numbers are proved.
-use Rattle.std.proofs.Common.{◌≡◌, ◌≤◌, ◌<◌, ◌-◌, ◌∙◌, Err, Ok, List, ℕ, ap, arith, get_or, length, map, subst, sym}
+use Rattle.std.proofs.Common.{◌≡◌, ◌<◌, ◌-◌, ◌∙◌, Err, Ok, List, ℕ, ap, length, map, subst, sym}
 use Rattle.std.proofs.lemmas.Result.{err_from_is_err_and}
 use Rattle.std.specs.Prelude.{All}
 use Rattle.tlog_entries.specs.Entries.{proof_nodes}
@@ -7,32 +7,15 @@ use Rattle.log_text.specs.Texts.{checkpoint_fields, entries_text}
 use Rattle.log_commands.specs.Inner.{HasEntries}
 use Rattle.log_commands.specs.Outcomes.{bytes_in}
 use Rattle.log_commands.specs.Outcomes.{entries_under, proof_over}
-use Rattle.log_commands.proofs.ProveFacts.{gives_text, no_memory, under_size}
+use Rattle.log_commands.proofs.ProveFacts.{gives_text, under_size}
 use Rattle.log_commands.proofs.ProveFacts.{wanted_is, whole_goes, whole_stops, within_size}
 use Rattle.log_commands.proofs.prove.prove_under.Goals as goal
-
-pub entry_places-requires-clause-some : goal.entry_places-requires-clause-some
-entry_places-requires-clause-some g c =
-    let numbers = c.args.numbers.now in
-    let first : 1 ≤ get_or numbers 0 0 = c.requires.numbers.1 0 0 c.requires.numbers.0 in
-    let last : get_or numbers 0 0 ≤ c.args.checkpoint.now.size = c.requires.inside 0 0 c.requires.numbers.0 in
-    omega arith
 
 pub entry_places-requires-clause-within : goal.entry_places-requires-clause-within
 entry_places-requires-clause-within g c =
     subst (λ (indices : List ℕ). All (λ index. index < c.args.checkpoint.now.size) indices)
     (sym (c.deref.ensures.value ∙ c.in_ok-indices.ensures))
     (within_size c.args.checkpoint.now.size c.args.numbers.now c.requires.numbers.1 c.requires.inside)
-
-pub returns-in_err-indices : goal.returns-in_err-indices
-returns-in_err-indices g c =
-    let left = err_from_is_err_and c.from_residual.result c.from_residual.ensures.1 in
-    no_memory bytes_in (g.Src.Read.remaining c.args.file.now) _ c.from_residual.result _ left.1 left.2
-
-pub returns-in_err-places : goal.returns-in_err-places
-returns-in_err-places g c =
-    let left = err_from_is_err_and c.from_residual-in_err-places.result c.from_residual-in_err-places.ensures.1 in
-    no_memory bytes_in (g.Src.Read.remaining c.args.file.now) _ c.from_residual-in_err-places.result _ left.1 left.2
 
 pub returns-in_err-log : goal.returns-in_err-log
 returns-in_err-log g c =
@@ -41,11 +24,6 @@ returns-in_err-log g c =
     (λ entries. Ok (entries_text (proof_over entries c.args.numbers.now))) bytes_in
     (g.Src.Read.remaining c.args.file.now) c.deref-2.result.now c.deref-3.result.now c.from_residual-in_err-log.result _ (left.1 ∙ ap Err left.2)
     c.in_err-log.ensures
-
-pub returns-in_err-text_of : goal.returns-in_err-text_of
-returns-in_err-text_of g c =
-    let left = err_from_is_err_and c.from_residual-in_err-text_of.result c.from_residual-in_err-text_of.ensures.1 in
-    no_memory bytes_in (g.Src.Read.remaining c.args.file.now) _ c.from_residual-in_err-text_of.result _ left.1 left.2
 
 pub returns : goal.returns
 returns g c =

@@ -5,12 +5,8 @@ use Rattle.sha2.specs.Sha256.{sha256}
 use Rattle.tlog.specs.Rfc9162.{Hash, consistency_proof, leaf_hash}
 use Rattle.tlog_tree.specs.Trees.{all_there, values_at}
 use Rattle.log_commands.specs.Outcomes.{growth_digests}
-use Rattle.log_commands.proofs.GrowthFacts.{equal_places, other_places, zero_places}
+use Rattle.log_commands.proofs.GrowthLaws.{equal_places, other_places}
 use Rattle.log_commands.proofs.prove_consistency.growth_places.Goals as goal
-
-pub returns-then-old_size-eq0 : goal.returns-then-old_size-eq0
-returns-then-old_size-eq0 c entries len =
-    zero_places c.args.old_size entries c.new.result.items c.if-old_size-eq0.true c.new.ensures.items
 
 pub returns-then-old_size-new_size : goal.returns-then-old_size-new_size
 returns-then-old_size-new_size c entries len =

@@ -7,13 +7,8 @@ use Rattle.tlog_tree.specs.Trees.{values_at}
 use Rattle.log_text.specs.Texts.{checkpoint_fields}
 use Rattle.log_commands.specs.Outcomes.{bytes_in}
 use Rattle.log_commands.specs.Outcomes.{entries_under, growth_text}
-use Rattle.log_commands.proofs.ProveFacts.{no_memory, under_size, whole_goes, whole_stops}
+use Rattle.log_commands.proofs.ProveFacts.{under_size, whole_goes, whole_stops}
 use Rattle.log_commands.proofs.prove_consistency.prove_growth.Goals as goal
-
-pub returns-in_err-places : goal.returns-in_err-places
-returns-in_err-places g c =
-    let left = err_from_is_err_and c.from_residual.result c.from_residual.ensures.1 in
-    no_memory bytes_in (g.Src.Read.remaining c.args.file.now) _ c.from_residual.result _ left.1 left.2
 
 pub returns-in_err-log : goal.returns-in_err-log
 returns-in_err-log g c =
