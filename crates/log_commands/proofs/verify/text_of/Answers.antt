@@ -12,12 +12,12 @@ loop-entry-init c = c.new-text.ensures.items
 
 pub loop-entry-preserved : goal.loop-entry-preserved
 loop-entry-preserved c =
-    text_more (printed c.args.print c.args.is_requested) entry_fields c.args.entries.now c.loop-entry.entry-index
+    text_more (printed c.args.print c.args.bare) entry_fields c.args.shown.now c.loop-entry.entry-index
     c.entry-item.result c.loop-entry.text.items _ c.loop-entry-test.true c.entry-item.is c.loop-entry.invariant
     c.in_ok-push_entry.ensures
 
 pub returns : goal.returns
 returns c =
     c.loop-entry.invariant
-    ∙ ap (λ entries. flat_map (printed c.args.print c.args.is_requested) (map entry_fields entries))
-    (take_all c.loop-entry.entry-index c.args.entries.now c.loop-entry-test.false)
+    ∙ ap (λ entries. flat_map (printed c.args.print c.args.bare) (map entry_fields entries))
+    (take_all c.loop-entry.entry-index c.args.shown.now c.loop-entry-test.false)
