@@ -1,11 +1,9 @@
 //! Runs commands.
 
-ghost use Rattle.std.specs.Prelude.{◌≡◌, ◌⊎◌, ◌≤◌, ◌^◌, Decides, Err, List, OnErr, Option, Result, map, option_map, ℕ};
-ghost use Rattle.std.specs.Prelude.{string_bytes};
+ghost use Rattle.std.specs.Prelude.{◌≡◌, ◌⊎◌, Decides, Err, List, OnErr, Result, map, option_map, ℕ};
 ghost use Rattle.log_files.specs.Entries.{IsCut};
-ghost use Rattle.log_commands.specs.Commands.{AreNumbers, bytes_of_parts, join_parts, prove_file, prove_file_growth};
-ghost use Rattle.log_commands.specs.Commands.{verify_growth, verify_proof, EndsIn, HasOutcome, HoldsOfInput};
-ghost use Rattle.log_commands.specs.Commands.{HoldsOfInputs, IsLawful, IsPrint};
+ghost use Rattle.log_commands.specs.Commands.{AreNumbers, EndsIn, HasOutcome, HoldsOfInputs, IsLawful, IsPrint};
+ghost use Rattle.log_commands.specs.Commands.{bytes_of_parts};
 ghost use Rattle.log_commands.specs.Outcomes.{bytes_in, Gives};
 ghost use Rattle.log_commands.specs.declared.error.Error.{Error};
 ghost use Rattle.log_commands.specs.declared.error.Error.TheVariants.{Write as FailedWrite};
@@ -102,20 +100,13 @@ impl<Src> Command<Src> {
     }
 }
 
-/// Whether a block may have so many bytes.
-fn is_block(size: usize) -> bool
-    ensures { Decides result ((1 ≤ size) × (size ≤ 2 ^ 30)) }
-{
-    1 <= size && size <= 1 << 30
-}
-
 /// Whether a file may be cut so.
 fn is_cut(cut: Cut) -> bool
     ensures { Decides result (IsCut cut) }
 {
     match cut {
         Cut::Lines(_) => true,
-        Cut::Blocks(size) => is_block(size),
+        Cut::Blocks(size) => 1 <= size && size <= 1 << 30,
     }
 }
 
@@ -135,7 +126,7 @@ fn is_print(print: Print, numbers: &Option<Vec<usize>>) -> bool
     };
     let fits = match print {
         Print::Lines => true,
-        Print::Blocks(size) => is_block(size),
+        Print::Blocks(size) => is_cut(Cut::Blocks(size)),
         Print::Raw => numbers.len() == 1,
     };
     are_numbers(numbers) && fits
@@ -178,101 +169,37 @@ fn answer<Src: Read + Drop>(alloc: Global, command: Command<Src>) -> Result<Vec<
             mut checkpoint,
             mut file,
             numbers,
-        } => { prove_file(alloc, cut, &mut checkpoint, &mut file, &numbers) }
+        } => {
+            let checkpoint = read_text(alloc, Source::Checkpoint, &mut checkpoint)?;
+            prove(alloc, cut, &checkpoint, &numbers, &mut file)
+        }
         Command::Verify {
             print,
             mut checkpoint,
             mut proof,
             numbers,
-        } => { verify_proof(alloc, print, &mut checkpoint, &mut proof, &numbers) }
+        } => {
+            let checkpoint = read_text(alloc, Source::Checkpoint, &mut checkpoint)?;
+            let proof = read_text(alloc, Source::Proof, &mut proof)?;
+            verify(alloc, print, &checkpoint, &proof, numbers.as_deref())
+        }
         Command::ProveConsistency {
             cut,
             mut old,
             mut new,
             mut file,
-        } => { prove_file_growth(alloc, cut, &mut old, &mut new, &mut file) }
-        Command::VerifyConsistency { mut old, mut proof } => {
-            verify_growth(alloc, &mut old, &mut proof)
+        } => {
+            let old = read_text(alloc, Source::Old, &mut old)?;
+            let new = read_text(alloc, Source::New, &mut new)?;
+            prove_consistency(alloc, cut, &old, &new, &mut file)
         }
-        Command::Join { origin, parts } => join_parts(alloc, &origin, parts),
+        Command::VerifyConsistency { mut old, mut proof } => {
+            let old = read_text(alloc, Source::Old, &mut old)?;
+            let proof = read_text(alloc, Source::Proof, &mut proof)?;
+            verify_consistency(alloc, &old, &proof)
+        }
+        Command::Join { origin, parts } => join(alloc, &origin, &read_parts(alloc, parts)?),
     }
-}
-
-/// Reads the checkpoint, then the file.
-fn prove_file<Src: Read>(
-    alloc: Global,
-    cut: Cut,
-    checkpoint: &mut Src,
-    file: &mut Src,
-    numbers: &[usize],
-) -> Result<Vec<u8>, Error>
-    requires cut { IsCut cut }
-    requires numbers { AreNumbers numbers.now }
-    ensures { HoldsOfInput (Src.remaining checkpoint.old) (λ text. HoldsOfInput (Src.remaining file.old) (λ bytes.
-        Gives bytes_in result (prove_file cut text bytes numbers.now))) }
-{
-    let text = read_text(alloc, Source::Checkpoint, checkpoint)?;
-    prove(alloc, cut, &text, numbers, file)
-}
-
-/// Reads the checkpoint, then the proof.
-fn verify_proof<Src: Read>(
-    alloc: Global,
-    print: Print,
-    checkpoint: &mut Src,
-    proof: &mut Src,
-    numbers: &Option<Vec<usize>>,
-) -> Result<Vec<u8>, Error>
-    ensures { HoldsOfInput (Src.remaining checkpoint.old) (λ text. HoldsOfInput (Src.remaining proof.old) (λ shown.
-        Gives bytes_in result (verify_proof print text shown (option_map (λ ns. ns.items) numbers.now)))) }
-{
-    let text = read_text(alloc, Source::Checkpoint, checkpoint)?;
-    let shown = read_text(alloc, Source::Proof, proof)?;
-    match numbers {
-        Some(numbers) => verify(alloc, print, &text, &shown, Some(numbers)),
-        None => verify(alloc, print, &text, &shown, None),
-    }
-}
-
-/// Reads the checkpoints, then the file.
-fn prove_file_growth<Src: Read>(
-    alloc: Global,
-    cut: Cut,
-    old: &mut Src,
-    new: &mut Src,
-    file: &mut Src,
-) -> Result<Vec<u8>, Error>
-    requires { IsCut cut }
-    ensures { HoldsOfInput (Src.remaining old.old) (λ one. HoldsOfInput (Src.remaining new.old) (λ other.
-        HoldsOfInput (Src.remaining file.old) (λ bytes.
-        Gives bytes_in result (prove_file_growth cut one other bytes)))) }
-{
-    let one = read_text(alloc, Source::Old, old)?;
-    let other = read_text(alloc, Source::New, new)?;
-    prove_consistency(alloc, cut, &one, &other, file)
-}
-
-/// Reads the old checkpoint, then the proof.
-fn verify_growth<Src: Read>(alloc: Global, old: &mut Src, proof: &mut Src) -> Result<Vec<u8>, Error>
-    ensures { HoldsOfInput (Src.remaining old.old) (λ one. HoldsOfInput (Src.remaining proof.old) (λ shown.
-        Gives bytes_in result (verify_growth one shown))) }
-{
-    let one = read_text(alloc, Source::Old, old)?;
-    let shown = read_text(alloc, Source::Proof, proof)?;
-    verify_consistency(alloc, &one, &shown)
-}
-
-/// Reads the parts.
-fn join_parts<Src: Read + Drop>(
-    alloc: Global,
-    origin: &str,
-    parts: Vec<Src>,
-) -> Result<Vec<u8>, Error>
-    ensures { HoldsOfInputs (map Src.remaining parts.items)
-        (λ texts. Gives bytes_in result (join_parts origin.now texts)) }
-{
-    let texts = read_parts(alloc, parts)?;
-    join(alloc, origin, &texts)
 }
 
 /// All bytes of the parts.

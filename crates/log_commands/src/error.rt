@@ -155,10 +155,8 @@ impl Error {
         ensures { result ≡ status_of self.now }
     {
         match self {
-            Error::Refused(Source::Checkpoint, Refusal::Line { .. }) => 2,
-            Error::Refused(Source::Old, Refusal::Line { .. }) => 2,
-            Error::Refused(Source::New, Refusal::Line { .. }) => 2,
-            Error::Refused(Source::Part(_), Refusal::Line { .. }) => 2,
+            Error::Refused(Source::File | Source::Proof, _) => 1,
+            Error::Refused(_, Refusal::Line { .. }) => 2,
             Error::Refused(_, _) => 1,
             _ => 2,
         }
@@ -181,6 +179,30 @@ impl<T: Drop> From<AllocFailed<T>> for Error {
     }
 }
 
+impl From<EntriesError> for Error {
+    ghost from_gives = { λ error e. e ≡ entries_error error };
+
+    fn from(error: EntriesError) -> Error {
+        match error {
+            EntriesError::OutOfMemory => Error::OutOfMemory,
+            error => Error::Refused(Source::Proof, Refusal::Entries(error)),
+        }
+    }
+}
+
+impl From<ReadError> for Error {
+    ghost from_gives = { λ error e. e ≡ read_error error };
+
+    fn from(error: ReadError) -> Error {
+        match error {
+            ReadError::Read => Error::Read(Source::File),
+            ReadError::TooManyEntries => Error::Refused(Source::File, Refusal::TooManyEntries),
+            ReadError::EndsInsideLine => Error::Refused(Source::File, Refusal::EndsInsideLine),
+            ReadError::OutOfMemory => Error::OutOfMemory,
+        }
+    }
+}
+
 /// The error of an input whose text is wrong.
 pub(crate) fn text_error(source: Source, error: TextError) -> Error
     ensures { result ≡ text_error source error }
@@ -190,27 +212,5 @@ pub(crate) fn text_error(source: Source, error: TextError) -> Error
             Error::Refused(source, Refusal::Line { line, expected })
         }
         TextError::OutOfMemory => Error::OutOfMemory,
-    }
-}
-
-/// The error of a proof whose entries the verifier refuses.
-pub(crate) fn entries_error(error: EntriesError) -> Error
-    ensures { result ≡ entries_error error }
-{
-    match error {
-        EntriesError::OutOfMemory => Error::OutOfMemory,
-        error => Error::Refused(Source::Proof, Refusal::Entries(error)),
-    }
-}
-
-/// The error of a file that is not read.
-pub(crate) fn read_error(error: ReadError) -> Error
-    ensures { result ≡ read_error error }
-{
-    match error {
-        ReadError::Read => Error::Read(Source::File),
-        ReadError::TooManyEntries => Error::Refused(Source::File, Refusal::TooManyEntries),
-        ReadError::EndsInsideLine => Error::Refused(Source::File, Refusal::EndsInsideLine),
-        ReadError::OutOfMemory => Error::OutOfMemory,
     }
 }

@@ -11,7 +11,7 @@ ghost use Rattle.log_commands.specs.Inner.{HasEntries, ReadsAs};
 ghost use Rattle.log_commands.specs.Outcomes.{and_then, bytes_from, entries_read, entries_under, tree_refusal};
 ghost use Rattle.log_commands.specs.declared.error.Source.TheVariants.{File};
 
-use crate::error::{Error, Refusal, Source, read_error};
+use crate::error::{Error, Refusal, Source};
 use log_files::{Cut, ReadLog, read_log};
 use log_text::Checkpoint;
 use std::alloc::{AllocError, Global};
@@ -30,10 +30,7 @@ pub(crate) fn read_file<Src: Read>(
     ensures { HoldsOfInput (Src.remaining file.old) (λ input.
         ReadsAs nodes.now wanted.now result (and_then (bytes_from File input) (entries_read cut limit))) }
 {
-    match read_log(alloc, cut, limit, nodes, wanted, file) {
-        Ok(log) => Ok(log),
-        Err(error) => Err(read_error(error)),
-    }
+    Ok(read_log(alloc, cut, limit, nodes, wanted, file)?)
 }
 
 /// Reads the entries of a checkpoint from its file.

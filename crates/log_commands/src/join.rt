@@ -59,10 +59,7 @@ fn check_sizes(alloc: Global, parts: &[(usize, [u8; 32])]) -> Result<usize, Erro
 {
     let sizes: Vec<usize> = parts.iter().map(|part| part.0).collect(alloc)?;
     check_each(&sizes)?;
-    match total(&sizes) {
-        Some(size) => Ok(size),
-        None => Err(Error::Refused(Source::Part(0), Refusal::TooManyEntries)),
-    }
+    total(&sizes).ok_or(Error::Refused(Source::Part(0), Refusal::TooManyEntries))
 }
 
 /// Checks that each part has a size that fits.

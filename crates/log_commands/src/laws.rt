@@ -1,16 +1,7 @@
 //! What the outcomes say of files, as the contracts of calls that do nothing.
 
-ghost use Rattle.log_commands.specs.Laws.{
-  FilesGrow,
-  GrowthIsAccepted,
-  GrowthIsProved,
-  JoinsAreReadAgain,
-  PartsJoin,
-  ProofsAreAccepted,
-  ProofsAreProved,
-  ProofsStay,
-  SealsAreReadAgain,
-};
+ghost use Rattle.log_commands.specs.Laws.{FilesGrow, GrowthIsAccepted, GrowthIsProved, JoinsAreReadAgain, PartsJoin};
+ghost use Rattle.log_commands.specs.Laws.{ProofsAreAccepted, ProofsAreProved, ProofsStay, SealsAreReadAgain};
 
 /// What `seal` prints is read again, as the checkpoint of the file's entries or as that part of a file.
 pub fn seals_are_read_again()

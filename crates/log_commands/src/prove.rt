@@ -68,21 +68,12 @@ fn check_numbers(size: usize, numbers: &[usize]) -> Result<(), Error>
         MatchResult result (λ ok. refusal ≡ None) (λ error. refusal ≡ Some error) }
 {
     for number in numbers {
-        check_number(size, *number)?;
+        let number = *number;
+        if number > size {
+            return Err(Error::Refused(Source::Checkpoint, Refusal::NumberPastEnd { number, size }));
+        }
     }
     Ok(())
-}
-
-/// Checks that a log of so many entries has this one.
-fn check_number(size: usize, number: usize) -> Result<(), Error>
-    ensures { let refusal = number_refusal size number in
-        MatchResult result (λ ok. refusal ≡ None) (λ error. refusal ≡ Some error) }
-{
-    if number <= size {
-        Ok(())
-    } else {
-        Err(Error::Refused(Source::Checkpoint, Refusal::NumberPastEnd { number, size }))
-    }
 }
 
 /// The proof of entries under a checkpoint that has them.
@@ -124,27 +115,18 @@ fn text_of(alloc: Global, numbers: &[usize], log: ReadLog) -> Result<Vec<u8>, Al
 fn indices_of(alloc: Global, numbers: &[usize]) -> Result<Vec<usize>, AllocError>
     ensures { IfOk result (λ indices. indices.items ≡ map (λ n. n - 1) numbers.now) }
 {
-    numbers
-        .iter()
-        .map(|number| number.saturating_sub(1))
-        .collect(alloc)
+    numbers.iter().map(|n| n.saturating_sub(1)).collect(alloc)
 }
 
 /// Entries of these numbers and bytes.
-fn numbered(
-    alloc: Global,
-    numbers: &[usize],
-    entries: Vec<Vec<u8>>,
-) -> Result<Vec<Entry>, AllocError>
+fn numbered(alloc: Global, numbers: &[usize], bytes: Vec<Vec<u8>>) -> Result<Vec<Entry>, AllocError>
     ensures { IfOk result (λ numbered. map entry_fields numbered.items
-        ≡ map entry_of (zip numbers.now (map bytes_in entries.items))) }
+        ≡ map entry_of (zip numbers.now (map bytes_in bytes.items))) }
 {
     let mut numbered = Vec::with_capacity(alloc, numbers.len())?;
-    for (number, bytes) in numbers.iter().zip(entries) {
-        numbered.push(Entry {
-            number: *number,
-            bytes,
-        })?;
+    for (number, bytes) in numbers.iter().zip(bytes) {
+        let number = *number;
+        numbered.push(Entry { number, bytes })?;
     }
     Ok(numbered)
 }

@@ -1,6 +1,6 @@
 //! Proves that a log of a new checkpoint begins with the entries of an old one.
 
-ghost use Rattle.std.specs.Prelude.{◌≡◌, ℕ, ◌≤◌, List, [], Err, IfOk, None, Some, length, map};
+ghost use Rattle.std.specs.Prelude.{◌≡◌, ℕ, ◌≤◌, List, [], Err, IfOk, length, map};
 ghost use Rattle.sha2.specs.Sha256.{sha256};
 ghost use Rattle.tlog.specs.Rfc9162.{leaf_hash};
 ghost use Rattle.tlog_tree.specs.Trees.{all_there, values_at};
@@ -8,9 +8,8 @@ ghost use Rattle.log_files.specs.Entries.{IsCut};
 ghost use Rattle.log_text.specs.Texts.{checkpoint_fields};
 ghost use Rattle.log_commands.specs.Commands.{HoldsOfInput};
 ghost use Rattle.log_commands.specs.Inner.{HasEntries};
-ghost use Rattle.log_commands.specs.Outcomes.{bytes_in, Gives};
-ghost use Rattle.log_commands.specs.Outcomes.{and_then, bytes_from, compared, growth_digests, growth_text};
-ghost use Rattle.log_commands.specs.Outcomes.{prove_growth};
+ghost use Rattle.log_commands.specs.Outcomes.{and_then, bytes_from, bytes_in, compared, growth_digests};
+ghost use Rattle.log_commands.specs.Outcomes.{Gives, growth_text, prove_growth};
 ghost use Rattle.log_commands.specs.declared.error.Error.{Error};
 ghost use Rattle.log_commands.specs.declared.error.Source.TheVariants.{File};
 
@@ -115,21 +114,13 @@ fn text_of(
 }
 
 /// The nodes whose values are the digests of a proof between two sizes.
-fn growth_places(
-    alloc: Global,
-    old_size: usize,
-    new_size: usize,
-) -> Result<Vec<(usize, usize)>, AllocError>
-    requires { old_size ≤ new_size }
-    ensures { IfOk result (λ places. (entries : List (List ℕ)) → length entries ≡ new_size →
-        values_at sha256 (map (leaf_hash sha256) entries) places.items
-        ≡ all_there (growth_digests old_size entries)) }
+fn growth_places(alloc: Global, old: usize, new: usize) -> Result<Vec<(usize, usize)>, AllocError>
+    requires { old ≤ new }
+    ensures { IfOk result (λ places. (entries : List (List ℕ)) → length entries ≡ new →
+        values_at sha256 (map (leaf_hash sha256) entries) places.items ≡ all_there (growth_digests old entries)) }
 {
-    if old_size == 0 {
+    if old == 0 || old == new {
         return Ok(Vec::new(alloc));
     }
-    if old_size == new_size {
-        return Ok(Vec::new(alloc));
-    }
-    consistency_places(alloc, old_size, new_size)
+    consistency_places(alloc, old, new)
 }

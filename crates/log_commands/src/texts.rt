@@ -4,8 +4,7 @@ ghost use Rattle.std.specs.Prelude.{◌≡◌, ◌⊎◌, IfErr, IfOk, MatchResu
 ghost use Rattle.log_text.specs.Reading.{checkpoint_in, consistency_in, entries_in};
 ghost use Rattle.log_text.specs.Texts.{checkpoint_fields, consistency_fields, entries_fields};
 ghost use Rattle.log_commands.specs.Commands.{IsReadAs};
-ghost use Rattle.log_commands.specs.Outcomes.{Gives};
-ghost use Rattle.log_commands.specs.Outcomes.{growth_refusal, said_by};
+ghost use Rattle.log_commands.specs.Outcomes.{Gives, growth_refusal, said_by};
 ghost use Rattle.log_commands.specs.declared.error.Error.TheVariants.{OutOfMemory, Read as FailedRead};
 ghost use Rattle.log_commands.specs.declared.error.Source.TheVariants.{Proof};
 
@@ -35,30 +34,21 @@ pub(crate) fn read_text<Src: Read>(
 pub(crate) fn read_checkpoint(source: Source, text: &[u8]) -> Result<Checkpoint<'_>, Error>
     ensures { Gives checkpoint_fields result (said_by source (checkpoint_in text.now)) }
 {
-    match Checkpoint::parse(text) {
-        Ok(checkpoint) => Ok(checkpoint),
-        Err(error) => Err(text_error(source, error)),
-    }
+    Checkpoint::parse(text).map_err(|error| text_error(source, error))
 }
 
 /// The proof of entries that a text says.
 pub(crate) fn read_entries(alloc: Global, text: &[u8]) -> Result<EntriesProof, Error>
     ensures { Gives entries_fields result (said_by Proof (entries_in text.now)) }
 {
-    match EntriesProof::parse(alloc, text) {
-        Ok(proof) => Ok(proof),
-        Err(error) => Err(text_error(Source::Proof, error)),
-    }
+    EntriesProof::parse(alloc, text).map_err(|error| text_error(Source::Proof, error))
 }
 
 /// The consistency proof that a text says.
 pub(crate) fn read_consistency(alloc: Global, text: &[u8]) -> Result<ConsistencyProof<'_>, Error>
     ensures { Gives consistency_fields result (said_by Proof (consistency_in text.now)) }
 {
-    match ConsistencyProof::parse(alloc, text) {
-        Ok(proof) => Ok(proof),
-        Err(error) => Err(text_error(Source::Proof, error)),
-    }
+    ConsistencyProof::parse(alloc, text).map_err(|error| text_error(Source::Proof, error))
 }
 
 /// Checks that a new checkpoint may follow an old one.
@@ -73,17 +63,12 @@ pub(crate) fn check_growth(
     if old.origin != new.origin {
         return Err(Error::Refused(source, Refusal::OtherOrigin));
     }
-    let (old_size, new_size) = (old.size, new.size);
-    if old_size > new_size {
-        return Err(Error::Refused(
-            source,
-            Refusal::SmallerSize {
-                old: old_size,
-                new: new_size,
-            },
-        ));
+    let same_root = old.root == new.root;
+    let (old, new) = (old.size, new.size);
+    if old > new {
+        return Err(Error::Refused(source, Refusal::SmallerSize { old, new }));
     }
-    if old_size == new_size && old.root != new.root {
+    if old == new && !same_root {
         return Err(Error::Refused(source, Refusal::TwoHistories));
     }
     Ok(())

@@ -1,18 +1,15 @@
 //! Verifies proofs of entries.
 
-ghost use Rattle.std.specs.Prelude.{◌≡◌, ◌-◌, ◌++◌, ◌⊎◌, IfOk, OnOk};
-ghost use Rattle.std.specs.Prelude.{MatchResult, None, Some, flat_map, map, option_map};
+ghost use Rattle.std.specs.Prelude.{◌≡◌, ◌-◌, ◌++◌, ◌⊎◌, IfOk, MatchResult, None, OnOk, Some, flat_map, map, option_map};
 ghost use Rattle.sha2.specs.Sha256.{sha256};
 ghost use Rattle.p3_merkle_core.specs.Refusals.{first_of};
 ghost use Rattle.tlog.specs.Rfc9162.{leaf_hash as leaf_hash_by};
 ghost use Rattle.log_text.specs.Texts.{checkpoint_fields, entries_fields, entry_fields};
-ghost use Rattle.log_commands.specs.Inner.{IsMemory};
-ghost use Rattle.log_commands.specs.Outcomes.{bytes_in, Gives};
-ghost use Rattle.log_commands.specs.Outcomes.{entry_refusal, is_printable, numbers_refusal, printed, proof_refusal};
-ghost use Rattle.log_commands.specs.Outcomes.{verify_outcome};
+ghost use Rattle.log_commands.specs.Outcomes.{bytes_in, entry_refusal, Gives, is_printable, numbers_refusal};
+ghost use Rattle.log_commands.specs.Outcomes.{printed, proof_refusal, verify_outcome};
 ghost use Rattle.log_commands.specs.declared.error.Error.TheVariants.{OutOfMemory};
 
-use crate::error::{Error, Refusal, Source, entries_error};
+use crate::error::{Error, Refusal, Source};
 use crate::texts::{read_checkpoint, read_entries};
 use log_text::{Checkpoint, EntriesProof, Entry};
 use std::alloc::{AllocError, Global};
@@ -64,17 +61,9 @@ fn check_requested(alloc: Global, numbers: Option<&[usize]>, entries: &[Entry]) 
     ensures { let refusal = numbers_refusal (option_map (λ ns. ns.now) numbers.entry) (map entry_fields entries.now) in
         MatchResult result (λ ok. refusal ≡ None) (λ error. (error ≡ OutOfMemory) ⊎ (refusal ≡ Some error)) }
 {
-    match numbers {
-        Some(numbers) => check_numbers(alloc, numbers, entries),
-        None => Ok(()),
-    }
-}
-
-/// Checks that entries have these numbers, in this order.
-fn check_numbers(alloc: Global, numbers: &[usize], entries: &[Entry]) -> Result<(), Error>
-    ensures { let refusal = numbers_refusal (Some numbers.now) (map entry_fields entries.now) in
-        MatchResult result (λ ok. refusal ≡ None) (λ error. (error ≡ OutOfMemory) ⊎ (refusal ≡ Some error)) }
-{
+    let Some(numbers) = numbers else {
+        return Ok(());
+    };
     let proved = numbers_of(alloc, entries)?;
     if proved.as_slice() == numbers {
         Ok(())
@@ -118,26 +107,12 @@ fn check_entries(print: Print, size: usize, entries: &[Entry]) -> Result<(), Err
         MatchResult result (λ ok. refusal ≡ None) (λ error. refusal ≡ Some error) }
 {
     for entry in entries {
-        check_entry(print, size, entry)?;
+        if !is_printable(print, size, entry) {
+            let number = entry.number;
+            return Err(Error::Refused(Source::Proof, Refusal::NoSuchEntry { number }));
+        }
     }
     Ok(())
-}
-
-/// Checks that an entry can be printed.
-fn check_entry(print: Print, size: usize, entry: &Entry) -> Result<(), Error>
-    ensures { let refusal = entry_refusal print size (entry_fields entry.now) in
-        MatchResult result (λ ok. refusal ≡ None) (λ error. refusal ≡ Some error) }
-{
-    if is_printable(print, size, entry) {
-        Ok(())
-    } else {
-        Err(Error::Refused(
-            Source::Proof,
-            Refusal::NoSuchEntry {
-                number: entry.number,
-            },
-        ))
-    }
 }
 
 /// Whether an entry can be printed.
@@ -165,40 +140,31 @@ fn check_proof(
     let indices = indices_of(alloc, &proof.entries)?;
     let leaves = leaves_of(alloc, &proof.entries)?;
     let (size, root) = (checkpoint.size, &checkpoint.root);
-    match verify_entries(alloc, size, &indices, &leaves, &proof.digests, root) {
-        Ok(()) => Ok(()),
-        Err(error) => Err(entries_error(error)),
-    }
+    Ok(verify_entries(alloc, size, &indices, &leaves, &proof.digests, root)?)
 }
 
-/// What is printed of entries.
-fn text_of(
-    alloc: Global,
-    print: Print,
-    is_requested: bool,
-    entries: &[Entry],
-) -> Result<Vec<u8>, AllocError>
-    ensures { IfOk result
-        (λ text. text.items ≡ flat_map (printed print is_requested) (map entry_fields entries.now)) }
+/// What is printed of entries, lines without their numbers if bare.
+fn text_of(alloc: Global, print: Print, bare: bool, shown: &[Entry]) -> Result<Vec<u8>, AllocError>
+    ensures { IfOk result (λ text. text.items ≡ flat_map (printed print bare) (map entry_fields shown.now)) }
 {
     let mut text = Vec::new(alloc);
-    for entry in entries {
-        push_entry(alloc, &mut text, print, is_requested, entry)?;
+    for entry in shown {
+        push_entry(alloc, &mut text, print, bare, entry)?;
     }
     Ok(text)
 }
 
-/// Appends what is printed of an entry.
+/// Appends what is printed of an entry, a line without its number if bare.
 fn push_entry(
     alloc: Global,
     text: &mut Vec<u8>,
     print: Print,
-    is_requested: bool,
+    bare: bool,
     entry: &Entry,
 ) -> Result<(), AllocError>
-    ensures { OnOk result (text.new.items ≡ text.old.items ++ printed print is_requested (entry_fields entry.now)) }
+    ensures { OnOk result (text.new.items ≡ text.old.items ++ printed print bare (entry_fields entry.now)) }
 {
-    if print == Print::Lines && !is_requested {
+    if print == Print::Lines && !bare {
         let head = format!(in alloc; "{}\t", entry.number)?;
         text.extend_from_slice(head.as_bytes())?;
     }

@@ -2,9 +2,8 @@
 
 ghost use Rattle.std.specs.Prelude.{◌≡◌, None, Some, MatchResult};
 ghost use Rattle.log_text.specs.Reading.{checkpoint_in};
-ghost use Rattle.log_text.specs.Texts.{checkpoint_fields, consistency_fields};
-ghost use Rattle.log_commands.specs.Outcomes.{bytes_in, Gives};
-ghost use Rattle.log_commands.specs.Outcomes.{consistency_refused, growth_refusal, old_size_refusal, said_inside};
+ghost use Rattle.log_text.specs.Texts.{checkpoint_fields};
+ghost use Rattle.log_commands.specs.Outcomes.{bytes_in, consistency_refused, Gives, said_inside};
 ghost use Rattle.log_commands.specs.Outcomes.{verify_consistency_outcome};
 
 use crate::error::{Error, Refusal, Source};
@@ -30,24 +29,14 @@ pub fn verify_consistency(alloc: Global, old: &[u8], proof: &[u8]) -> Result<Vec
 {
     let old = read_checkpoint(Source::Old, old)?;
     let proof = read_consistency(alloc, proof)?;
-    check_old_size(&old, &proof)?;
+    let (got, expected) = (proof.old_size, old.size);
+    if got != expected {
+        return Err(Error::Refused(Source::Proof, Refusal::OtherOldSize { got, expected }));
+    }
     let new = read_new(&proof)?;
     check_growth(Source::Proof, &old, &new)?;
     check_digests(&old, &new, &proof)?;
     Ok(Vec::from_slice(alloc, proof.checkpoint)?)
-}
-
-/// Checks that a proof is from the size of the old checkpoint.
-fn check_old_size(old: &Checkpoint<'_>, proof: &ConsistencyProof<'_>) -> Result<(), Error>
-    ensures { let refusal = old_size_refusal (checkpoint_fields old.now) (consistency_fields proof.now) in
-        MatchResult result (λ ok. refusal ≡ None) (λ error. refusal ≡ Some error) }
-{
-    let (got, expected) = (proof.old_size, old.size);
-    if got == expected {
-        Ok(())
-    } else {
-        Err(Error::Refused(Source::Proof, Refusal::OtherOldSize { got, expected }))
-    }
 }
 
 /// The new checkpoint that a proof contains.
@@ -73,8 +62,8 @@ fn check_digests(
         proof.now.digests.items in
         MatchResult result (λ ok. refusal ≡ None) (λ error. refusal ≡ Some error) }
 {
-    match verify(old.size, new.size, &proof.digests, &old.root, &new.root) {
-        Ok(()) => Ok(()),
-        Err(error) => Err(Error::Refused(Source::Proof, Refusal::Consistency(error))),
-    }
+    verify(old.size, new.size, &proof.digests, &old.root, &new.root).map_err(|error| Error::Refused(
+        Source::Proof,
+        Refusal::Consistency(error),
+    ))
 }

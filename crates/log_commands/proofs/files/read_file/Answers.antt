@@ -1,6 +1,7 @@
 -- What is read is of the bytes of the file, or they are refused.
 use Rattle.std.proofs.Common.{◌≡◌, ◌∙◌, Err, None, Some, ap, arith, inl, inr, sym, ⊎_elim}
 use Rattle.std.proofs.lemmas.List.{length-map}
+use Rattle.std.proofs.lemmas.Result.{err_from_is_err_and}
 use Rattle.sha2.specs.Sha256.{sha256}
 use Rattle.tlog.specs.Rfc9162.{leaf_hash}
 use Rattle.log_files.specs.Entries.{entries_in, first_of as first_entries, read_refusal}
@@ -9,11 +10,11 @@ use Rattle.log_commands.specs.Inner.{read_error}
 use Rattle.log_commands.proofs.FileFacts.{file_known, read_err, read_ok}
 use Rattle.log_commands.proofs.files.read_file.Goals as goal
 
-pub returns-in-Ok : goal.returns-in-Ok
-returns-in-Ok g c =
-    let log = c.in-Ok.log in
+pub returns : goal.returns
+returns g c =
+    let log = c.in_ok-read_log.field-0 in
     let found = file_known (g.Src.Read.remaining c.args.file.now)
-    (IsLogOf log c.args.cut c.args.limit c.args.nodes.now c.args.wanted.now) c.in-Ok.ensures.read in
+    (IsLogOf log c.args.cut c.args.limit c.args.nodes.now c.args.wanted.now) c.in_ok-read_log.ensures.read in
     let entries = first_entries c.args.limit (entries_in c.args.cut found.0) in (
       Some found.0,
       found.1,
@@ -26,15 +27,17 @@ returns-in-Ok g c =
       ),
     )
 
-pub returns-in-Err : goal.returns-in-Err
-returns-in-Err g c =
-    let is = c.read_error.ensures in
-    ⊎_elim
+pub returns-in_err-read_log : goal.returns-in_err-read_log
+returns-in_err-read_log g c =
+    let left = err_from_is_err_and c.from_residual.result c.from_residual.ensures.1 in
+    let is = left.2 in
+    rw left.1
+    (⊎_elim
     (λ memory. (None, tt, inl (is ∙ ap read_error memory)))
     (λ other. ⊎_elim
     (λ failed. (None, tt, inr (ap Err (sym (is ∙ ap read_error failed)))))
     (λ refused.
     let found = file_known (g.Src.Read.remaining c.args.file.now)
-    (λ bytes. read_refusal c.args.cut c.args.limit bytes ≡ Some c.in-Err.error) refused in
-    (Some found.0, found.1, inr (read_err c.args.cut c.args.limit found.0 c.in-Err.error found.2 ∙ ap Err (sym is))))
-    other) c.in-Err.ensures.refused
+    (λ bytes. read_refusal c.args.cut c.args.limit bytes ≡ Some _) refused in
+    (Some found.0, found.1, inr (read_err c.args.cut c.args.limit found.0 _ found.2 ∙ ap Err (sym is))))
+    other) c.in_err-read_log.ensures.refused)

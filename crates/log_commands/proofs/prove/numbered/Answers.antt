@@ -22,4 +22,4 @@ returns c =
           inr (ap (map bytes_in) (nil_from_length entries_left (sym (zip_second it).rest.ok.0 ∙ second.1.0)))
     ] in
     pairs_end entry_fields entry_of c.loop-number.numbered.items numbers_left (map bytes_in entries_left)
-    (map entry_of (zip c.args.numbers.now (map bytes_in c.args.entries.items))) c.loop-number.invariant ended
+    (map entry_of (zip c.args.numbers.now (map bytes_in c.args.bytes.items))) c.loop-number.invariant ended

@@ -12,4 +12,4 @@ abbrev pub invariant-loop-number : goal.invariant-loop-number
 invariant-loop-number l =
     map entry_fields l.numbered.items ++ map entry_of (zip (iter_rest (zip_first l.number-iterator))
     (map bytes_in (into_iter_items (zip_second l.number-iterator))))
-    ≡ map entry_of (zip l.numbers (map bytes_in l.fn.entries.items))
+    ≡ map entry_of (zip l.numbers (map bytes_in l.fn.bytes.items))

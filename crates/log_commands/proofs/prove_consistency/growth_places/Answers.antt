@@ -7,20 +7,29 @@ use Rattle.tlog_tree.specs.Trees.{all_there, values_at}
 use Rattle.log_commands.specs.Outcomes.{growth_digests}
 use Rattle.log_commands.proofs.GrowthLaws.{equal_places, other_places}
 use Rattle.log_commands.proofs.prove_consistency.growth_places.Goals as goal
+use Rattle.log_commands.proofs.prove_consistency.growth_places.Goals.{
+  then-old-eq0-via-then-old-eq0,
+  then-old-eq0-via-else-old-eq0+then-old-new,
+}
 
-pub returns-then-old_size-new_size : goal.returns-then-old_size-new_size
-returns-then-old_size-new_size c entries len =
-    let some : 0 < c.args.old_size = omega arith in
-    equal_places c.args.old_size c.args.new_size entries _ some c.if-old_size-new_size.true len
-    c.new-then-old_size-new_size.ensures.items
+pub returns-then-old-eq0 : goal.returns-then-old-eq0
+returns-then-old-eq0 c entries len =
+    elim c.then-old-eq0.branch [
+      | then-old-eq0-via-then-old-eq0 w ↦
+          rw (w.if-old-eq0.true, c.new.ensures.items) refl
+      | then-old-eq0-via-else-old-eq0+then-old-new w ↦
+          let some : 0 < c.args.old = omega (arith, w.if-old-eq0.false) in
+          equal_places c.args.old c.args.new entries c.new.result.items some w.if-old-new.true len
+          c.new.ensures.items
+    ]
 
 pub returns : goal.returns
 returns c =
-    let some : 0 < c.args.old_size = omega arith in
+    let some : 0 < c.args.old = omega arith in
     IfOk-weaker c.consistency_places.result
-    (λ places. (hash : Hash) (leaves : List (List ℕ)) → length leaves ≡ c.args.new_size →
-    values_at hash leaves places.items ≡ all_there (consistency_proof hash (λ leaf. leaf) c.args.old_size leaves))
-    (λ places. (entries : List (List ℕ)) → length entries ≡ c.args.new_size →
-    values_at sha256 (map (leaf_hash sha256) entries) places.items ≡ all_there (growth_digests c.args.old_size entries))
-    (λ places each entries len. other_places c.args.old_size c.args.new_size entries places.items some len each)
+    (λ places. (hash : Hash) (leaves : List (List ℕ)) → length leaves ≡ c.args.new →
+    values_at hash leaves places.items ≡ all_there (consistency_proof hash (λ leaf. leaf) c.args.old leaves))
+    (λ places. (entries : List (List ℕ)) → length entries ≡ c.args.new →
+    values_at sha256 (map (leaf_hash sha256) entries) places.items ≡ all_there (growth_digests c.args.old entries))
+    (λ places each entries len. other_places c.args.old c.args.new entries places.items some len each)
     c.consistency_places.ensures

@@ -6,4 +6,4 @@ use Rattle.log_commands.proofs.verify.text_of.Given as goal
 
 abbrev pub invariant-loop-entry : goal.invariant-loop-entry
 invariant-loop-entry l =
-    l.text.items ≡ flat_map (printed l.print l.is_requested) (map entry_fields (take l.entry-index l.entries))
+    l.text.items ≡ flat_map (printed l.print l.bare) (map entry_fields (take l.entry-index l.shown))
