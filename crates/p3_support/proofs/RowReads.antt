@@ -1,16 +1,15 @@
 -- What is left of a row, of columns and of the rows of several matrices, once one more element is read.
 use Rattle.std.proofs.Common.{◌≡◌, ℕ, zero, suc, take, ◌+◌, ◌-◌, ◌*◌, ◌<◌, ◌≤◌, List, [], ◌∷◌, ◌++◌, length, drop, map}
 use Rattle.std.proofs.Common.{All, get_or, refl, sym, ap, ◌∙◌, arith, true, add-one}
-use Rattle.std.specs.Prelude.{Bool, false, cond, ◌==◌, slice_get, slice_index_or, slice_range, Some}
+use Rattle.std.specs.Prelude.{Bool, false, cond, ◌==◌, slice_get, slice_index_or, Some}
 use Rattle.std.specs.List.{flat_map, range_with_len}
-use Rattle.std.proofs.Math.Nat.{mul-le-mul_right}
 use Rattle.std.proofs.Math.Seq.{drop-append-add, drop-cons, take-append-add}
 use Rattle.std.proofs.lemmas.List.Folds.{drop_split}
 use Rattle.std.proofs.lemmas.Option.{slice_get_within, slice_get_read, get_or_from_slice_get}
 use Rattle.std.proofs.lemmas.List.Edits.{get_or-between}
 use Rattle.std.proofs.Math.ListN.{get_or-append}
 use Rattle.std.proofs.lemmas.List.{drop_all, drop-append-le, get_or-append_right, length-append, length-drop}
-use Rattle.std.proofs.lemmas.List.{get_or-drop, get_or-take, map-append, take-append-le, take-take}
+use Rattle.std.proofs.lemmas.List.{get_or-take, map-append, take-append-le, take-take}
 use Rattle.std.proofs.lemmas.List.FromFn.{fill_by_all, get_or-map-range_with_len, length-map-range_with_len}
 use Rattle.std.proofs.lemmas.Simd.{map-map}
 use Rattle.std.proofs.lemmas.Bool.{eqb-true}
@@ -77,15 +76,13 @@ module _ {A : Type 0} (row : ℕ → List A) (w : ℕ) where
       ∙ at_row (r + 1) n k c d (λ j h. long j (omega (arith, h))) (omega (arith, few)) inside
       ∙ ap (λ j. get_or (row j) c d) there
 
-  -- the same in a piece from column c of row r on, of h rows in all
+  -- the same in a piece from row r on, of h rows in all
   pub stored_at : (h r k c : ℕ) (d : A) (xs : List A) → ((j : ℕ) → j < h → length (row j) ≡ w) → r + k < h → c < w
-      → xs ≡ take (length xs) (drop c (flat_map row (range_with_len r (h - r)))) → k * w < length xs
-      → get_or xs (k * w) d ≡ get_or (row (r + k)) c d
+      → xs ≡ take (length xs) (drop 0 (flat_map row (range_with_len r (h - r)))) → k * w + c < length xs
+      → get_or xs (k * w + c) d ≡ get_or (row (r + k)) c d
   stored_at h r k c d xs long below inside is some =
       let all = flat_map row (range_with_len r (h - r)) in
-      let at : c + k * w ≡ k * w + c = omega arith in
-      ap (λ l. get_or l (k * w) d) is ∙ get_or-take (length xs) (drop c all) (k * w) d some
-      ∙ get_or-drop c all (k * w) d ∙ ap (λ i. get_or all i d) at
+      ap (λ l. get_or l (k * w + c) d) is ∙ get_or-take (length xs) all (k * w + c) d some
       ∙ at_row r (h - r) k c d (λ j b. long j (omega (arith, b, below))) (omega (arith, below)) inside
 
   -- the first n of the rows from r to h

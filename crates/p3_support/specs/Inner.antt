@@ -1,3 +1,4 @@
 -- Definitions that only proofs, and calls that no public contract mentions, use.
 pub mod RowLengths
 pub mod PairLengths
+pub mod Stored

@@ -1,7 +1,8 @@
 //! The rows of several matrices of one height, one after another.
-ghost use Rattle.std.specs.Prelude.{◌≡◌, ℕ, ◌+◌, ◌*◌, ◌^◌, ◌<◌, ◌≤◌, All, length, slice_index_or};
+ghost use Rattle.std.specs.Prelude.{◌≡◌, ℕ, ◌+◌, ◌*◌, ◌^◌, ◌<◌, ◌≤◌, All, IfSome, length, slice_index_or};
 ghost use Rattle.std.specs.Iterator.{YieldsFirst, YieldsFirstBy, item_count};
-ghost use Rattle.p3_support.specs.Lists.{column_of_rows, columns_over, rows_of_height};
+ghost use Rattle.p3_support.specs.Lists.{columns_over, rows_of_height};
+ghost use Rattle.p3_support.specs.Inner.Stored.{BeginsWith};
 
 use crate::matrix::{Matrix, packed_column};
 use crate::packed::PackedValue;
@@ -65,29 +66,45 @@ impl<'a, T, M: Matrix<T>> Iterator for Rows<'a, T, M> {
     }
 }
 
-/// What [`packed_column`] returns, read from one piece of the matrix where it stores the rows so: the places of all
-/// lanes then take one multiplication, not one each.
+/// The `P::WIDTH` rows from `row` on of the first of the `matrices`, where it stores them in one piece.
 #[inline(always)]
-fn stored_column<P: PackedValue, M: Matrix<P::Value>>(matrix: &M, row: usize, column: usize) -> P
-    requires rows { row + P.WIDTH ≤ M.height_of matrix.now }
-    requires column { column < M.width_of matrix.now }
-    ensures { P.lanes result
-        ≡ column_of_rows (M.row_of matrix.now) P.default_value row P.WIDTH column }
+fn stored_rows<P: PackedValue, M: Matrix<P::Value>>(
+    matrices: &[M],
+    row: usize,
+) -> Option<&[P::Value]>
+    requires { All (λ m. row + P.WIDTH ≤ M.height_of m) matrices.now }
+    ensures { IfSome result (λ piece. BeginsWith M.row_of M.width_of row P.WIDTH matrices.now piece.now) }
 {
-    if P::WIDTH > 0 {
-        let width = matrix.width();
-        let piece = matrix.piece(row, column);
-        if width <= piece.len() / P::WIDTH {
-            return P::from_fn(
-                |k| -> P::Value
-                    requires inside { k * width < length piece.now }
-                    requires fits { k * width < 2 ^ 64 }
-                    ensures { (d : _) → result ≡ slice_index_or piece.entry.now (k * width) d }
-                { piece[k * width] },
-            );
-        }
+    let first = matrices.first()?;
+    if P::WIDTH == 0 {
+        return None;
     }
-    packed_column(matrix, row, column)
+    let piece = first.piece(row, 0);
+    if first.width() > piece.len() / P::WIDTH {
+        return None;
+    }
+    Some(piece)
+}
+
+/// Packs one column of rows of `width` elements each, which lie one after another: lane `k` is from row `k`.
+#[inline(always)]
+fn stored_column<P: PackedValue>(rows: &[P::Value], width: usize, column: usize) -> P
+    requires first { column ≤ length rows.now }
+    requires inside { (k : ℕ) → k < P.WIDTH → k * width + column < length rows.now }
+    ensures { (k : ℕ) → k < P.WIDTH →
+        slice_index_or (P.lanes result) k P.default_value
+        ≡ slice_index_or rows.now (k * width + column) P.default_value }
+{
+    let lanes = &rows[column..];
+    // For the proof alone: the length fits `usize`, and so does the index of each lane.
+    let _len = lanes.len();
+    P::from_fn(
+        |k| -> P::Value
+            requires inside { k * width < length lanes.now }
+            requires fits { k * width < 2 ^ 64 }
+            ensures { (d : _) → result ≡ slice_index_or lanes.entry.now (k * width) d }
+        { lanes[k * width] },
+    )
 }
 
 /// An iterator over the columns of `P::WIDTH` rows of each of several matrices, one matrix after another, each column
@@ -95,13 +112,15 @@ fn stored_column<P: PackedValue, M: Matrix<P::Value>>(matrix: &M, row: usize, co
 #[derive(Drop)]
 pub struct PackedRows<'a, T, P: PackedValue<Value = T>, M: Matrix<T>> {
     matrices: &'a [M],
+    stored: Option<&'a [T]>,
     row: usize,
     next: usize,
     item: PhantomData<P>,
 }
 
 impl<'a, T, P: PackedValue<Value = T>, M: Matrix<T>> Model for PackedRows<'a, T, P, M> {
-    ghost use Rattle.std.specs.Prelude.{All, List, ◌+◌, ◌≤◌};
+    ghost use Rattle.std.specs.Prelude.{All, IfSome, List, ◌+◌, ◌≤◌};
+    ghost use Rattle.p3_support.specs.Inner.Stored.{BeginsWith};
     ghost use Rattle.p3_support.specs.Lists.{columns_left};
 
     ghost Value = { List (List T) };
@@ -109,7 +128,9 @@ impl<'a, T, P: PackedValue<Value = T>, M: Matrix<T>> Model for PackedRows<'a, T,
     ghost view = { λ s.
         columns_left M.row_of M.width_of P.default_value s.row P.WIDTH s.matrices.now s.next };
 
-    ghost invariant = { λ s. All (λ m. s.row + P.WIDTH ≤ M.height_of m) s.matrices.now };
+    // `stored` has the rows of the first matrix where that stores them in one piece.
+    ghost invariant = { λ s. All (λ m. s.row + P.WIDTH ≤ M.height_of m) s.matrices.now
+        × IfSome s.stored (λ piece. BeginsWith M.row_of M.width_of s.row P.WIDTH s.matrices.now piece.now) };
 }
 
 /// `P::WIDTH` rows from `row` on of each of the `matrices`, packed column by column, one matrix after another: lane `k`
@@ -123,6 +144,7 @@ pub fn packed_rows_of<'a, T, P: PackedValue<Value = T>, M: Matrix<T>>(
 {
     PackedRows {
         matrices,
+        stored: stored_rows::<P, M>(matrices, row),
         row,
         next: 0,
         item: PhantomData,
@@ -140,11 +162,16 @@ impl<'a, T, P: PackedValue<Value = T>, M: Matrix<T>> Iterator for PackedRows<'a,
     #[inline(always)]
     fn next(&mut self) -> Option<P> {
         while let Some((first, others)) = self.matrices.split_first() {
-            if self.next < first.width() {
-                let item = stored_column(first, self.row, self.next);
+            let width = first.width();
+            if self.next < width {
+                let item = match self.stored {
+                    Some(rows) => stored_column(rows, width, self.next),
+                    None => packed_column(first, self.row, self.next),
+                };
                 self.next += 1;
                 return Some(item);
             }
+            self.stored = stored_rows::<P, M>(others, self.row);
             self.matrices = others;
             self.next = 0;
         }
