@@ -16,7 +16,7 @@ use Rattle.sha2.specs.Sha256.{sha256}
 use Rattle.tlog.specs.Rfc9162.{root_of}
 use Rattle.log_text.specs.Texts.{CheckpointFields}
 use Rattle.log_commands.specs.Commands.{HoldsOfInput, IsReadAs}
-use Rattle.log_commands.specs.Inner.{read_error}
+use Rattle.log_commands.specs.Errors.{read_error}
 use Rattle.log_commands.specs.Inner.{HasEntries, ReadsAs}
 use Rattle.log_commands.specs.Outcomes.{and_then, bytes_from, entries_read, entries_under, tree_refusal}
 use Rattle.log_commands.specs.declared.error.Error.{Error}

@@ -1,14 +1,18 @@
 -- Errors and their exit statuses.
 use Rattle.std.specs.Prelude.{ℕ}
+use Rattle.log_files.specs.declared.error.ReadError.{ReadError}
+use Rattle.log_files.specs.declared.error.ReadError.TheVariants.{EndsInsideLine, OutOfMemory as NoFileMemory}
+use Rattle.log_files.specs.declared.error.ReadError.TheVariants.{Read as FailedRead, TooManyEntries}
 use Rattle.log_text.specs.declared.error.TextError.{TextError}
 use Rattle.log_text.specs.declared.error.TextError.TheVariants.{Line as WrongLine, OutOfMemory as NoTextMemory}
 use Rattle.tlog_entries.specs.declared.error.EntriesError.{EntriesError}
 use Rattle.tlog_entries.specs.declared.error.EntriesError.TheVariants.{OutOfMemory as NoEntriesMemory}
 use Rattle.log_commands.specs.declared.error.Error.{Error}
-use Rattle.log_commands.specs.declared.error.Error.TheVariants.{OutOfMemory, Refused}
-use Rattle.log_commands.specs.declared.error.Refusal.TheVariants.{CheckpointLine, Entries, Line}
+use Rattle.log_commands.specs.declared.error.Error.TheVariants.{OutOfMemory, Read, Refused}
+use Rattle.log_commands.specs.declared.error.Refusal.TheVariants.{CheckpointLine, EndsInsideLine as InsideLine, Entries}
+use Rattle.log_commands.specs.declared.error.Refusal.TheVariants.{Line, TooManyEntries as TooMany}
 use Rattle.log_commands.specs.declared.error.Source.{Source}
-use Rattle.log_commands.specs.declared.error.Source.TheVariants.{Checkpoint, New, Old, Part, Proof}
+use Rattle.log_commands.specs.declared.error.Source.TheVariants.{Checkpoint, File, New, Old, Part, Proof}
 
 -- 1 if a file or a proof is refused, 2 for a wrong line of a checkpoint and otherwise
 abbrev pub status_of : Error → ℕ
@@ -33,3 +37,10 @@ checkpoint_error NoTextMemory = OutOfMemory
 abbrev pub entries_error : EntriesError → Error
 entries_error NoEntriesMemory = OutOfMemory
 entries_error error = Refused Proof (Entries error)
+
+-- the error of a file that is not read
+abbrev pub read_error : ReadError → Error
+read_error FailedRead = Read File
+read_error TooManyEntries = Refused File TooMany
+read_error EndsInsideLine = Refused File InsideLine
+read_error NoFileMemory = OutOfMemory

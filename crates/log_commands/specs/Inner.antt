@@ -8,17 +8,11 @@ use Rattle.log_text.specs.Reading.{checkpoint_in}
 use Rattle.log_text.specs.Texts.{EntriesFields, EntryFields}
 use Rattle.log_files.specs.Entries.{entry_at, wanted_of}
 use Rattle.log_files.specs.declared.cut.Cut.{Cut}
-use Rattle.log_files.specs.declared.error.ReadError.{ReadError}
-use Rattle.log_files.specs.declared.error.ReadError.TheVariants.{EndsInsideLine, OutOfMemory as NoFileMemory}
-use Rattle.log_files.specs.declared.error.ReadError.TheVariants.{Read as FailedRead, TooManyEntries}
 use Rattle.log_files.specs.declared.reading.ReadLog.{ReadLog}
 use Rattle.log_commands.specs.Outcomes.{and_then, bytes_in, entries_under, said_by}
 use Rattle.log_commands.specs.declared.error.Error.{Error}
-use Rattle.log_commands.specs.declared.error.Error.TheVariants.{OutOfMemory, Read, Refused}
-use Rattle.log_commands.specs.declared.error.Refusal.TheVariants.{EndsInsideLine as InsideLine}
-use Rattle.log_commands.specs.declared.error.Refusal.TheVariants.{TooManyEntries as TooMany}
+use Rattle.log_commands.specs.declared.error.Error.TheVariants.{OutOfMemory}
 use Rattle.log_commands.specs.declared.error.Source.{Source}
-use Rattle.log_commands.specs.declared.error.Source.TheVariants.{File}
 
 -- an error says that memory ran out
 abbrev pub IsMemory : Error → Type 0
@@ -55,10 +49,3 @@ pub record HasLeafIn (entries : List (List ℕ)) (e : EntryFields) : Type 0 wher
 abbrev pub entries_by : Source → Cut → (checkpoint file : List ℕ) → Result (List (List ℕ)) Error
 entries_by source cut checkpoint file =
     and_then (said_by source (checkpoint_in checkpoint)) (λ c. entries_under cut c file)
-
--- the error of a file that is not read
-abbrev pub read_error : ReadError → Error
-read_error FailedRead = Read File
-read_error TooManyEntries = Refused File TooMany
-read_error EndsInsideLine = Refused File InsideLine
-read_error NoFileMemory = OutOfMemory

@@ -1,8 +1,7 @@
 //! Why a command stops.
 
 ghost use Rattle.std.specs.Prelude.{◌≡◌};
-ghost use Rattle.log_commands.specs.Errors.{entries_error, status_of, text_error};
-ghost use Rattle.log_commands.specs.Inner.{read_error};
+ghost use Rattle.log_commands.specs.Errors.{entries_error, read_error, status_of, text_error};
 ghost use Rattle.log_commands.specs.declared.error.Error.TheVariants.{OutOfMemory};
 
 use log_files::ReadError;

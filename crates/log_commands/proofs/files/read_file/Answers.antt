@@ -6,7 +6,7 @@ use Rattle.sha2.specs.Sha256.{sha256}
 use Rattle.tlog.specs.Rfc9162.{leaf_hash}
 use Rattle.log_files.specs.Entries.{entries_in, first_of as first_entries, read_refusal}
 use Rattle.log_files.specs.Logs.{IsLogOf}
-use Rattle.log_commands.specs.Inner.{read_error}
+use Rattle.log_commands.specs.Errors.{read_error}
 use Rattle.log_commands.proofs.FileFacts.{file_known, read_err, read_ok}
 use Rattle.log_commands.proofs.files.read_file.Goals as goal
 
