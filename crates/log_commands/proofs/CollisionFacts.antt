@@ -146,6 +146,12 @@ read_all source cut text file c indices log says reads all =
     ap (λ r. and_then r (λ x. entries_under cut x file)) says ∙ is
     ∙ ap Ok (sym (has.wanted_are ∙ ap (wanted_of entries) all ∙ all_wanted entries c.size len))
 
+abbrev pub indices_in : List EntryFields → List ℕ
+indices_in es = map (λ (e : EntryFields). e.number - 1) es
+
+abbrev pub leaves_in : List EntryFields → List (List ℕ)
+leaves_in es = map (λ (e : EntryFields). leaf_hash sha256 e.bytes) es
+
 -- what the verifier accepts under a checkpoint
 pub record Verified (print : Print) (checkpoint proof : List ℕ) (numbers : Option (List ℕ)) (text : List ℕ)
     : Type 0 where
@@ -185,52 +191,49 @@ module _ (print : Print) (checkpoint proof : List ℕ) (numbers : Option (List �
         prints = sym none.1;
       }
 
--- a proof is accepted under the root of the file's entries
-pub proved : (cut : Cut) (checkpoint proof file text : List ℕ) (entries : List (List ℕ)) (p : EntriesFields) →
-    verify_outcome Raw checkpoint proof None ≡ Ok text → ByText cut checkpoint file entries →
-    proof_in proof ≡ Ok p → AreProved entries p
-proved cut checkpoint proof file text entries p out by shows =
-    let v = verified Raw checkpoint proof None text out in
-    let p_is = same_ok (proof_in proof) v.p p v.shows shows in
-    let c_is = same_ok (checkpoint_in checkpoint) v.c by.c v.says by.says ∙ by.of in
-    record {
-      from_1 = All-weaker IsEntry (λ (e : EntryFields). 1 ≤ e.number) (λ e is. is.from_1) p.entries
-          ((entries_proofs proof p).0 shows).0.entries;
-      accepted = map_none entries_error (entries_refusal sha256 (length entries)
-          (map (λ (e : EntryFields). e.number - 1) p.entries)
-          (map (λ (e : EntryFields). leaf_hash sha256 e.bytes) p.entries) p.digests (root_of sha256 entries))
-          (subst (λ (x : CheckpointFields). proof_refusal x p ≡ None) c_is
-          (subst (λ (q : EntriesFields). proof_refusal v.c q ≡ None) p_is v.accepted));
-    }
+module _ (cut : Cut) (checkpoint proof file text : List ℕ) (entries : List (List ℕ)) (p : EntriesFields)
+    (out : verify_outcome Raw checkpoint proof None ≡ Ok text)
+    (is : entries_by Checkpoint cut checkpoint file ≡ Ok entries) (says : said_by Proof (proof_in proof) ≡ Ok p) where
+  by : ByText cut checkpoint file entries
+  by = by_text Checkpoint cut checkpoint file entries is
 
--- a collision is found unless the printed entries are the file's
-pub shown : (cut : Cut) (checkpoint proof file text : List ℕ) (entries : List (List ℕ)) (p : EntriesFields)
-    (found : Option Collision) → verify_outcome Raw checkpoint proof None ≡ Ok text →
-    ByText cut checkpoint file entries → entries_by Checkpoint cut checkpoint file ≡ Ok entries →
-    proof_in proof ≡ Ok p → (IsNone found ↔ All (IsEntryOf entries) p.entries) →
-    IsNone found ↔ AreEntriesOfFile cut file checkpoint proof
-shown cut checkpoint proof file text entries p found out by is shows iff = (
-  λ none n q print numbers other of other_shows accepted.
-      let same = same_ok (entries_by Checkpoint cut checkpoint file) entries (take n (entries_in cut file)) is
-      (of_text Checkpoint cut checkpoint file n of) in
-      let v = verified print checkpoint proof numbers other accepted in (
-        v.prints ∙ ap (λ (x : EntriesFields). flat_map (printed print (is_some numbers)) x.entries)
-            (same_ok (proof_in proof) v.p q v.shows other_shows),
-        subst (λ (es : List (List ℕ)). All (IsEntryOf es) q.entries) same
-            (subst (λ (x : EntriesFields). All (IsEntryOf entries) x.entries)
-            (same_ok (proof_in proof) p q shows other_shows) (iff.0 none)),
-      ),
-  λ own. iff.1 (subst (λ (es : List (List ℕ)). All (IsEntryOf es) p.entries) (sym by.are)
-      (own by.c.size p Raw None text (own_checkpoint cut checkpoint file entries by) shows out).1),
-)
+  shows : proof_in proof ≡ Ok p
+  shows = said_ok Proof (proof_in proof) p says
+
+  -- the proof is accepted under the root of the file's entries
+  pub proved : AreProved entries p
+  proved =
+      let v = verified Raw checkpoint proof None text out in
+      let c_is = same_ok (checkpoint_in checkpoint) v.c by.c v.says by.says ∙ by.of in
+      record {
+        from_1 = All-weaker IsEntry (λ (e : EntryFields). 1 ≤ e.number) (λ e is. is.from_1) p.entries
+            ((entries_proofs proof p).0 shows).0.entries;
+        accepted = map_none entries_error (entries_refusal sha256 (length entries) (indices_in p.entries)
+            (leaves_in p.entries) p.digests (root_of sha256 entries))
+            (subst (λ (x : CheckpointFields). proof_refusal x p ≡ None) c_is
+            (subst (λ (q : EntriesFields). proof_refusal v.c q ≡ None)
+            (same_ok (proof_in proof) v.p p v.shows shows) v.accepted));
+      }
+
+  -- a collision is found unless the printed entries are the file's
+  pub shown : (found : Option Collision) → (IsNone found ↔ All (IsEntryOf entries) p.entries) →
+      IsNone found ↔ AreEntriesOfFile cut file checkpoint proof
+  shown found iff = (
+    λ none n q print numbers other of other_shows accepted.
+        let same = same_ok (entries_by Checkpoint cut checkpoint file) entries (take n (entries_in cut file)) is
+        (of_text Checkpoint cut checkpoint file n of) in
+        let v = verified print checkpoint proof numbers other accepted in (
+          v.prints ∙ ap (λ (x : EntriesFields). flat_map (printed print (is_some numbers)) x.entries)
+              (same_ok (proof_in proof) v.p q v.shows other_shows),
+          subst (λ (es : List (List ℕ)). All (IsEntryOf es) q.entries) same
+              (subst (λ (x : EntriesFields). All (IsEntryOf entries) x.entries)
+              (same_ok (proof_in proof) p q shows other_shows) (iff.0 none)),
+        ),
+    λ own. iff.1 (subst (λ (es : List (List ℕ)). All (IsEntryOf es) p.entries) (sym by.are)
+        (own by.c.size p Raw None text (own_checkpoint cut checkpoint file entries by) shows out).1),
+  )
 
 -- ---- entries of an accepted proof
-
-abbrev pub indices_in : List EntryFields → List ℕ
-indices_in es = map (λ (e : EntryFields). e.number - 1) es
-
-abbrev pub leaves_in : List EntryFields → List (List ℕ)
-leaves_in es = map (λ (e : EntryFields). leaf_hash sha256 e.bytes) es
 
 module _ (entries : List (List ℕ)) (p : EntriesFields) where
   index_at : (k : ℕ) (d : EntryFields) → k < length p.entries →
@@ -278,7 +281,7 @@ pub fixed_of : (entries : List (List ℕ)) (p : EntriesFields) (found : Option C
 fixed_of entries p found indices leaves digests indices_are leaves_are digests_are iff =
     rw (indices_are, leaves_are, digests_are) at iff
 
--- a fact of each value, at one
+-- what holds of each value holds of the one at k
 pub mapped_at : {R V : Type 0} (P : V → Type 0) (f : R → V) (xs : List R) (k : ℕ) (x : R) → k < length xs →
     x ≡ get_or xs k x → All P (map f xs) → P (f x)
 mapped_at P f xs k x within is all =
@@ -339,13 +342,18 @@ module _ (old proof : List ℕ) where
 
 -- a collision is found unless the new file begins with the entries of the old one
 module _ (cut : Cut) (old proof old_file new_file new : List ℕ) (D E : List (List ℕ)) (p : ConsistencyFields)
-    (out : verify_consistency_outcome old proof ≡ Ok new) (old_by : ByText cut old old_file D)
-    (old_is : entries_by Old cut old old_file ≡ Ok D) (new_by : ByText cut new new_file E)
-    (new_is : entries_by Proof cut new new_file ≡ Ok E) (shows : consistency_in proof ≡ Ok p) where
+    (out : verify_consistency_outcome old proof ≡ Ok new) (old_is : entries_by Old cut old old_file ≡ Ok D)
+    (new_is : entries_by Proof cut new new_file ≡ Ok E) (says : said_by Proof (consistency_in proof) ≡ Ok p) where
+  old_by : ByText cut old old_file D
+  old_by = by_text Old cut old old_file D old_is
+
+  new_by : ByText cut new new_file E
+  new_by = by_text Proof cut new new_file E new_is
+
   consistent : IsConsistent sha256 (length D) (length E) p.digests (root_of sha256 D) (root_of sha256 E)
   consistent =
       let g = grown old proof new out in
-      let p_is = same_ok (consistency_in proof) g.p p g.shows shows in
+      let p_is = same_ok (consistency_in proof) g.p p g.shows (said_ok Proof (consistency_in proof) p says) in
       let o_is = same_ok (checkpoint_in old) g.o old_by.c g.o_says old_by.says ∙ old_by.of in
       let n_is = same_ok (checkpoint_in new) g.n new_by.c g.n_says new_by.says ∙ new_by.of in
       let none : consistency_refusal sha256 (length D) (length E) p.digests (root_of sha256 D) (root_of sha256 E) ≡ None =

@@ -27,7 +27,8 @@ abbrev pub AreEntriesOfFile : Cut → (file checkpoint proof : List ℕ) → Typ
 AreEntriesOfFile cut file checkpoint proof =
     (n : ℕ) (p : EntriesFields) (print : Print) (numbers : Option (List ℕ)) (text : List ℕ) →
     let entries = take n (entries_in cut file) in
-    IsCheckpointOf entries checkpoint → proof_in proof ≡ Ok p → verify_outcome print checkpoint proof numbers ≡ Ok text →
+    IsCheckpointOf entries checkpoint → proof_in proof ≡ Ok p →
+    verify_outcome print checkpoint proof numbers ≡ Ok text →
     (text ≡ flat_map (printed print (is_some numbers)) p.entries) × All (IsEntryOf entries) p.entries
 
 -- where `verify-consistency` prints a checkpoint of a new file, the file begins with the entries of the old checkpoint,

@@ -2,11 +2,9 @@
 use Rattle.std.proofs.Common.{inl, inr, ⊎_elim}
 use Rattle.std.proofs.lemmas.Result.{err_from_is_err_and}
 use Rattle.tlog.specs.Collisions.{entries_of}
-use Rattle.log_text.specs.Reading.{entries_in as proof_in}
 use Rattle.log_text.specs.Texts.{entries_fields}
-use Rattle.log_commands.specs.declared.error.Source.TheVariants.{Checkpoint, Proof}
-use Rattle.log_commands.proofs.CollisionFacts.{by_text, not_of_file, proved, shown}
-use Rattle.log_commands.proofs.LawFacts.{said_ok}
+use Rattle.log_commands.specs.declared.error.Source.TheVariants.{Checkpoint}
+use Rattle.log_commands.proofs.CollisionFacts.{not_of_file, proved, shown}
 use Rattle.log_commands.proofs.collisions.file_entries_collision.Goals as goal
 
 pub returns-in_err-entries-clause-refused : goal.returns-in_err-entries-clause-refused
@@ -18,20 +16,14 @@ returns-in_err-entries-clause-refused c =
 
 pub proved_collision-requires : goal.proved_collision-requires
 proved_collision-requires c =
-    let D = entries_of c.in_ok-entries.entries.items in
-    let p = entries_fields c.in_ok-proof.proof in
     rw c.deref.ensures.value
-    (proved c.args.cut c.args.checkpoint.now c.args.proof.now c.args.file.now c.in_ok-verify.field-0.items D p
-    c.in_ok-verify.ensures
-    (by_text Checkpoint c.args.cut c.args.checkpoint.now c.args.file.now D c.in_ok-entries.ensures)
-    (said_ok Proof (proof_in c.args.proof.now) p c.in_ok-proof.ensures))
+    (proved c.args.cut c.args.checkpoint.now c.args.proof.now c.args.file.now c.in_ok-verify.field-0.items
+    (entries_of c.in_ok-entries.entries.items) (entries_fields c.in_ok-proof.proof) c.in_ok-verify.ensures
+    c.in_ok-entries.ensures c.in_ok-proof.ensures)
 
 pub returns-clause-none : goal.returns-clause-none
 returns-clause-none c =
-    let D = entries_of c.in_ok-entries.entries.items in
-    let p = entries_fields c.in_ok-proof.proof in
-    shown c.args.cut c.args.checkpoint.now c.args.proof.now c.args.file.now c.in_ok-verify.field-0.items D p
-    c.in_ok-proved_collision.field-0 c.in_ok-verify.ensures
-    (by_text Checkpoint c.args.cut c.args.checkpoint.now c.args.file.now D c.in_ok-entries.ensures)
-    c.in_ok-entries.ensures (said_ok Proof (proof_in c.args.proof.now) p c.in_ok-proof.ensures)
+    shown c.args.cut c.args.checkpoint.now c.args.proof.now c.args.file.now c.in_ok-verify.field-0.items
+    (entries_of c.in_ok-entries.entries.items) (entries_fields c.in_ok-proof.proof) c.in_ok-verify.ensures
+    c.in_ok-entries.ensures c.in_ok-proof.ensures c.in_ok-proved_collision.field-0
     (rw c.deref.ensures.value at c.in_ok-proved_collision.ensures.none)

@@ -2,13 +2,11 @@
 use Rattle.std.proofs.Common.{◌∙◌, inl, inr, subst, sym, ⊎_elim}
 use Rattle.std.proofs.lemmas.Result.{err_from_is_err_and}
 use Rattle.tlog.specs.Collisions.{entries_of}
-use Rattle.log_text.specs.Reading.{consistency_in}
 use Rattle.log_text.specs.Texts.{consistency_fields}
 use Rattle.log_commands.specs.Collisions.{IsCheckpointOfFile}
 use Rattle.log_commands.specs.Outcomes.{verify_consistency_outcome}
 use Rattle.log_commands.specs.declared.error.Source.TheVariants.{Old, Proof}
-use Rattle.log_commands.proofs.CollisionFacts.{begins, by_text, not_of_file, same_ok}
-use Rattle.log_commands.proofs.LawFacts.{said_ok}
+use Rattle.log_commands.proofs.CollisionFacts.{begins, not_of_file, same_ok}
 use Rattle.log_commands.proofs.collisions.file_prefix_collision.Goals as goal
 
 pub returns-in_err-old_entries-clause-refused : goal.returns-in_err-old_entries-clause-refused
@@ -33,16 +31,9 @@ returns-in_err-new_entries-clause-refused c =
 
 pub returns-clause-none : goal.returns-clause-none
 returns-clause-none c =
-    let cut = c.args.cut in
-    let old = c.args.old.now in
-    let new = c.in_ok-new.new.items in
-    let D = entries_of c.in_ok-old_entries.old_entries.items in
-    let E = entries_of c.in_ok-new_entries.new_entries.items in
-    let p = consistency_fields c.in_ok-proof.proof in
-    let old_is = c.in_ok-old_entries.ensures in
-    let new_is = rw c.deref.ensures.value at c.in_ok-new_entries.ensures in
-    begins cut old c.args.proof.now c.args.old_file.now c.args.new_file.now new D E p c.in_ok-new.ensures
-    (by_text Old cut old c.args.old_file.now D old_is) old_is (by_text Proof cut new c.args.new_file.now E new_is) new_is
-    (said_ok Proof (consistency_in c.args.proof.now) p c.in_ok-proof.ensures) c.in_ok-prefix_collision.field-0
+    begins c.args.cut c.args.old.now c.args.proof.now c.args.old_file.now c.args.new_file.now c.in_ok-new.new.items
+    (entries_of c.in_ok-old_entries.old_entries.items) (entries_of c.in_ok-new_entries.new_entries.items)
+    (consistency_fields c.in_ok-proof.proof) c.in_ok-new.ensures c.in_ok-old_entries.ensures
+    (rw c.deref.ensures.value at c.in_ok-new_entries.ensures) c.in_ok-proof.ensures c.in_ok-prefix_collision.field-0
     (rw (c.deref-2.ensures.value, c.deref-3.ensures.value, c.deref-4.ensures.value)
     at c.in_ok-prefix_collision.ensures.none)
