@@ -209,6 +209,9 @@ class Source:
         if sign not in (":", "=") or self.texts[at + 3] != "{":
             self._unread(at)
         end = self._closing(at + 3)
+        # an invariant speaks of private fields, and promises a caller nothing
+        if name == "invariant":
+            return end
         block = self._block
         contract = self._contract(name, block.owner, block.is_open, at, end)
         if sign == "=":
