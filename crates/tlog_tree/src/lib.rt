@@ -4,8 +4,8 @@
 mod builder;
 mod error;
 mod frontier;
-mod layer;
 pub mod laws;
+mod layer;
 mod leaf;
 mod places;
 mod wanted;

@@ -263,7 +263,9 @@ static ROW_BY_ROW: [Run; 6] = [
 ];
 
 #[test]
-fn nodes_are_taken_together_and_rows_unless_the_hasher_takes_one(rt: HostRuntime) -> Result<(), Fail> {
+fn nodes_are_taken_together_and_rows_unless_the_hasher_takes_one(
+    rt: HostRuntime,
+) -> Result<(), Fail> {
     let alloc = rt.alloc();
     assert_noted::<u32, 8, 8>(&rt, alloc, &[(1, 17)], &LAYER_BY_LAYER)?;
     assert_noted::<u32, 8, 8>(&rt, alloc, &[(1, 17), (1, 9), (1, 3)], &WITH_ALL_ROWS)?;
