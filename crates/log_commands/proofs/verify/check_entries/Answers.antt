@@ -1,5 +1,5 @@
 -- Each turn checks one entry.
-use Rattle.std.proofs.Common.{◌∙◌, ◌+◌, ap, drop, map, sym}
+use Rattle.std.proofs.Common.{◌+◌, ap, drop, map, sym}
 use Rattle.p3_merkle_core.specs.Refusals.{first_of, unless}
 use Rattle.log_text.specs.Texts.{entry_fields}
 use Rattle.log_commands.specs.Outcomes.{entry_refusal}
