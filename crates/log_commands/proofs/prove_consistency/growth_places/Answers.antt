@@ -1,5 +1,5 @@
 -- From size 0 and between equal sizes there are no digests.
-use Rattle.std.proofs.Common.{◌≡◌, ◌<◌, List, ℕ, arith, length, map}
+use Rattle.std.proofs.Common.{◌≡◌, ◌<◌, List, ℕ, arith, length, map, refl}
 use Rattle.std.proofs.lemmas.Result.{IfOk-weaker}
 use Rattle.sha2.specs.Sha256.{sha256}
 use Rattle.tlog.specs.Rfc9162.{Hash, consistency_proof, leaf_hash}
