@@ -1,12 +1,35 @@
 -- Loops that check or collect one thing after another.
 use Rattle.std.proofs.Common.{◌≡◌, ◌⊎◌, ◌<◌, ◌+◌, ◌-◌, ap, ◌∙◌, List, []}
-use Rattle.std.proofs.Common.{◌∷◌, ◌++◌, ℕ, suc, Option, None, Some, map}
-use Rattle.std.proofs.Common.{refl, sym}
-use Rattle.std.proofs.Common.{arith, append-nil, ⊎_elim}
+use Rattle.std.proofs.Common.{◌∷◌, ◌++◌, length, ℕ, suc, Option, None, Some, map}
+use Rattle.std.proofs.Common.{drop, get_or, refl, sym}
+use Rattle.std.proofs.Common.{add-one, arith, append-nil, ⊎_elim}
 use Rattle.std.specs.Prelude.{zip}
 use Rattle.std.specs.List.{range_with_len}
 use Rattle.std.specs.Option.{option_or}
+use Rattle.std.proofs.Math.Seq.{drop-cons}
 use Rattle.p3_merkle_core.specs.Refusals.{first_of}
+
+-- the first refusal is this one, or a later one
+pub kept_or : {E : Type 0} (x y total : Option E) → option_or x y ≡ total → x ≡ None → y ≡ total
+kept_or x y total e n = rw n at e
+
+pub found_or : {E : Type 0} (x y total : Option E) (e : E) → option_or x y ≡ total → x ≡ Some e → total ≡ Some e
+found_or x y total e h s = sym (rw s at h)
+
+-- the refusal of the next value, else of those after it
+pub next_refusal : {R V E : Type 0} (h : V → Option E) (value : R → V) (xs : List R) (n : ℕ) (x : R)
+    (total : Option E) → n < length xs → x ≡ get_or xs n x → first_of h (map value (drop n xs)) ≡ total →
+    option_or (h (value x)) (first_of h (map value (drop (n + 1) xs))) ≡ total
+next_refusal h value xs n x total within x_is so_far =
+    ap (λ y. option_or (h (value y)) (first_of h (map value (drop (n + 1) xs)))) x_is
+    ∙ ap (λ k. option_or (h (value (get_or xs n x))) (first_of h (map value (drop k xs)))) (add-one n)
+    ∙ sym (ap (λ ys. first_of h (map value ys)) (drop-cons xs n x within)) ∙ so_far
+
+pub next_plain : {E : Type 0} (h : ℕ → Option E) (xs : List ℕ) (n : ℕ) (total : Option E) → n < length xs →
+    first_of h (drop n xs) ≡ total → option_or (h (get_or xs n 0)) (first_of h (drop (n + 1) xs)) ≡ total
+next_plain h xs n total within so_far =
+    ap (λ k. option_or (h (get_or xs n 0)) (first_of h (drop k xs))) (add-one n)
+    ∙ sym (ap (first_of h) (drop-cons xs n 0 within)) ∙ so_far
 
 -- the refusal of a place among so many, else of those after it
 module _ {E : Type 0} (h : ℕ → Option E) (k n : ℕ) (within : k < n) where

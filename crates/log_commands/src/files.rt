@@ -5,7 +5,8 @@ ghost use Rattle.sha2.specs.Sha256.{sha256};
 ghost use Rattle.tlog.specs.Rfc9162.{root_of};
 ghost use Rattle.log_files.specs.Entries.{IsCut};
 ghost use Rattle.log_text.specs.Texts.{checkpoint_fields};
-ghost use Rattle.tlog_tree.specs.Trees.{all_there};
+ghost use Rattle.tlog_tree.specs.Builders.{IsBuilderOf};
+ghost use Rattle.tlog_tree.specs.Trees.{all_there, values_at};
 ghost use Rattle.log_commands.specs.Commands.{HoldsOfInput};
 ghost use Rattle.log_commands.specs.Inner.{HasEntries, ReadsAs};
 ghost use Rattle.log_commands.specs.Outcomes.{and_then, bytes_from, entries_read, entries_under, tree_refusal};
@@ -16,6 +17,7 @@ use log_files::{Cut, ReadLog, read_log};
 use log_text::Checkpoint;
 use std::alloc::{AllocError, Global};
 use std::io::Read;
+use tlog_tree::TreeBuilder;
 
 /// Reads the first entries of a file, up to a limit, or all.
 pub(crate) fn read_file<Src: Read>(
@@ -76,18 +78,18 @@ fn check_tree(checkpoint: &Checkpoint<'_>, size: usize, root: &[u8; 32]) -> Resu
     Ok(())
 }
 
-/// The digests that are there.
-pub(crate) fn present(
-    alloc: Global,
-    digests: &[Option<[u8; 32]>],
-) -> Result<Vec<[u8; 32]>, AllocError>
-    ensures { IfOk result (λ present. (all : List (List ℕ)) → digests.now ≡ all_there all → present.items ≡ all) }
+/// The values of the wanted nodes of a tree that are there.
+pub(crate) fn digests_of(alloc: Global, tree: TreeBuilder) -> Result<Vec<[u8; 32]>, AllocError>
+    ensures { IfOk result (λ digests. (leaves : List (List ℕ)) (nodes : List (ℕ × ℕ)) (all : List (List ℕ)) →
+        IsBuilderOf leaves nodes tree → values_at sha256 leaves nodes ≡ all_there all → digests.items ≡ all) }
 {
-    let mut present = Vec::with_capacity(alloc, digests.len())?;
-    for digest in digests {
-        if let Some(digest) = digest {
-            present.push(*digest)?;
+    let values = tree.values(alloc)?;
+    drop(tree);
+    let mut digests = Vec::with_capacity(alloc, values.len())?;
+    for value in &values {
+        if let Some(digest) = value {
+            digests.push(*digest)?;
         }
     }
-    Ok(present)
+    Ok(digests)
 }

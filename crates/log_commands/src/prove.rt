@@ -14,7 +14,7 @@ ghost use Rattle.log_commands.specs.declared.error.Error.{Error};
 ghost use Rattle.log_commands.specs.declared.error.Source.TheVariants.{File};
 
 use crate::error::{Error, Refusal, Source};
-use crate::files::{present, read_under};
+use crate::files::{digests_of, read_under};
 use crate::texts::read_checkpoint;
 use log_files::{Cut, ReadLog};
 use log_text::{Checkpoint, EntriesProof, Entry};
@@ -94,6 +94,7 @@ fn prove_under<Src: Read>(
     let indices = indices_of(alloc, numbers)?;
     let places = entry_places(alloc, &indices, checkpoint.size)?;
     let log = read_under(alloc, cut, checkpoint, &places, &indices, file)?;
+    drop(places);
     Ok(text_of(alloc, numbers, log)?)
 }
 
@@ -105,8 +106,7 @@ fn text_of(alloc: Global, numbers: &[usize], log: ReadLog) -> Result<Vec<u8>, Al
         text.items ≡ entries_text (proof_over entries numbers.now)) }
 {
     let ReadLog { tree, entries } = log;
-    let values = tree.values(alloc)?;
-    let digests = present(alloc, &values)?;
+    let digests = digests_of(alloc, tree)?;
     let entries = numbered(alloc, numbers, entries)?;
     EntriesProof { entries, digests }.to_text(alloc)
 }

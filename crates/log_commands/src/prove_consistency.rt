@@ -14,7 +14,7 @@ ghost use Rattle.log_commands.specs.declared.error.Error.{Error};
 ghost use Rattle.log_commands.specs.declared.error.Source.TheVariants.{File};
 
 use crate::error::{Error, Refusal, Source};
-use crate::files::{present, read_under};
+use crate::files::{digests_of, read_under};
 use crate::texts::{check_growth, read_checkpoint};
 use log_files::{Cut, ReadLog};
 use log_text::{Checkpoint, ConsistencyProof};
@@ -82,7 +82,7 @@ fn prove_growth<Src: Read>(
 {
     let places = growth_places(alloc, old.size, new.size)?;
     let log = read_under(alloc, cut, new, &places, &[], file)?;
-    text_of(alloc, old, new, checkpoint, &log)
+    text_of(alloc, old, new, checkpoint, log)
 }
 
 /// The text of the proof between two checkpoints over the entries that were read.
@@ -91,15 +91,14 @@ fn text_of(
     old: &Checkpoint<'_>,
     new: &Checkpoint<'_>,
     checkpoint: &[u8],
-    log: &ReadLog,
+    log: ReadLog,
 ) -> Result<Vec<u8>, Error>
-    ensures { (places : List (ℕ × ℕ)) (entries : List (List ℕ)) → HasEntries places [] entries log.now →
+    ensures { (places : List (ℕ × ℕ)) (entries : List (List ℕ)) → HasEntries places [] entries log →
         values_at sha256 (map (leaf_hash sha256) entries) places ≡ all_there (growth_digests old.now.size entries) →
         Gives bytes_in result
         (growth_text (checkpoint_fields old.now) (checkpoint_fields new.now) checkpoint.now entries) }
 {
-    let values = log.tree.values(alloc)?;
-    let digests = present(alloc, &values)?;
+    let digests = digests_of(alloc, log.tree)?;
     match verify_consistency(old.size, new.size, &digests, &old.root, &new.root) {
         Ok(()) => {
             let proof = ConsistencyProof {

@@ -30,6 +30,5 @@ returns c =
     c.in_ok-entries.ensures ∙ ap (λ bytes. map entry_of (zip numbers bytes)) (has.wanted_are ∙ wanted)
     ∙ numbered_are entries numbers in
     let digests_are : c.in_ok-digests.digests.items ≡ (proof_over entries numbers).digests =
-    c.in_ok-digests.ensures (proof_over entries numbers).digests
-    (c.deref.ensures.value ∙ c.in_ok-values.ensures leaves nodes has.tree ∙ values_there entries indices) in
+    c.in_ok-digests.ensures leaves nodes (proof_over entries numbers).digests has.tree (values_there entries indices) in
     is ∙ (λ i. entries_text (record { entries = entries_are i; digests = digests_are i }))) c.to_text.ensures
