@@ -1,14 +1,12 @@
 -- Inputs that are read one after another.
 use Rattle.std.proofs.Common.{◌≡◌, ◌⊎◌, ◌∙◌, ◌+◌, List, [], ◌∷◌, ◌++◌}
 use Rattle.std.proofs.Common.{ℕ, Option, None, Some, Result, Ok, Err, Vec, Global}
-use Rattle.std.proofs.Common.{ap, append_assoc, arith, inl, inr, ⊎_elim, length, map, refl, subst, sym, add-zero}
-use Rattle.std.specs.Prelude.{IfErr, OnErr}
-use Rattle.std.proofs.lemmas.List.{map-append}
-use Rattle.log_commands.specs.Commands.{AreReadAs, EndsIn, HoldsOfInput, HoldsOfInputs, IsReadAs, bytes_of_parts}
+use Rattle.std.proofs.Common.{ap, arith, inl, inr, ⊎_elim, length, map, refl, subst, sym, add-zero}
+use Rattle.log_commands.specs.Commands.{AreReadAs, EndsIn, HoldsOfInput, HoldsOfInputs, bytes_of_parts}
 use Rattle.log_commands.specs.Outcomes.{bytes_in, Gives}
 use Rattle.log_commands.specs.Outcomes.{and_then}
 use Rattle.log_commands.specs.declared.error.Error.{Error}
-use Rattle.log_commands.specs.declared.error.Error.TheVariants.{OutOfMemory, Read, Write}
+use Rattle.log_commands.specs.declared.error.Error.TheVariants.{OutOfMemory, Read}
 use Rattle.log_commands.specs.declared.error.Source.{Source}
 use Rattle.log_commands.specs.declared.error.Source.TheVariants.{Part}
 
@@ -37,27 +35,6 @@ module _ {R : Type 0} (remaining : R → Option (List ℕ)) where
   MakesAll left all done =
       (more : List (Option (List ℕ))) → AreReadAs (map remaining left) more →
       AreReadAs (map remaining all) (map Some (map bytes_in done) ++ more)
-
-  pub makes_none : (left all : List R) (done : List (Vec ℕ Global)) → left ≡ all → done ≡ [] → MakesAll left all done
-  makes_none left all done left_is done_is = λ more are.
-      subst (λ (xs : List (Vec ℕ Global)). AreReadAs (map remaining all) (map Some (map bytes_in xs) ++ more)) (sym done_is)
-      (subst (λ (xs : List R). AreReadAs (map remaining xs) more) left_is are)
-
-  pub makes_more : (left rest : List R) (next : R) (all : List R) (done after : List (Vec ℕ Global)) (text : Vec ℕ Global) →
-      left ≡ next ∷ rest → IsReadAs (remaining next) (Some (bytes_in text)) → after ≡ done ++ text ∷ [] →
-      MakesAll left all done → MakesAll rest all after
-  makes_more left rest next all done after text left_is read after_is makes = λ more are.
-      subst (λ (texts : List (Option (List ℕ))). AreReadAs (map remaining all) texts) (sym (behind more))
-      (makes (Some (bytes_in text) ∷ more)
-      (subst (λ (xs : List R). AreReadAs (map remaining xs) (Some (bytes_in text) ∷ more)) (sym left_is) (read, are)))
-    where
-      behind : (more : List (Option (List ℕ))) →
-          map Some (map bytes_in after) ++ more ≡ map Some (map bytes_in done) ++ Some (bytes_in text) ∷ more
-      behind more =
-          ap (λ xs. map Some (map bytes_in xs) ++ more) after_is
-          ∙ ap (λ ys. map Some ys ++ more) (map-append bytes_in done (text ∷ []))
-          ∙ ap (λ ys. ys ++ more) (map-append Some (map bytes_in done) (bytes_in text ∷ []))
-          ∙ append_assoc (map Some (map bytes_in done)) (Some (bytes_in text) ∷ []) more
 
   -- the first input that cannot be read
   pub stops_at : (left rest : List R) (next : R) (all : List R) (done : List (Vec ℕ Global)) → left ≡ next ∷ rest →
@@ -111,9 +88,3 @@ ends_failed V old new (Ok text) e why = ⊎_elim inl (λ is. absurd (ok_err is))
     ok_err : {text : List ℕ} {e : Error} → ◌≡◌ {A = Result (List ℕ) Error} (Ok text) (Err e) → ⊥
     ok_err is = cc
 ends_failed V old new (Err wanted) e why = ⊎_elim inl (λ is. let same : e ≡ wanted = cc in inr same) why
-
--- a failed write is one
-pub failed_write : {V : Type 0} (r : Result V Error) (P : Type 0) → IfErr r (λ e. e ≡ Write) →
-    OnErr r ((r ≡ Err Write) ⊎ P)
-failed_write (Ok v) P is = tt
-failed_write (Err e) P is = inl (ap Err is)

@@ -2,12 +2,11 @@
 use Rattle.std.proofs.Common.{◌≡◌, ◌⊎◌, ◌<◌, ◌+◌, ◌-◌, ap, ◌∙◌, List, []}
 use Rattle.std.proofs.Common.{◌∷◌, ◌++◌, length, ℕ, suc, Option, None, Some, map}
 use Rattle.std.proofs.Common.{take, drop, get_or, refl, sym}
-use Rattle.std.proofs.Common.{add-one, arith, append_assoc, append-nil, take-append-drop, ⊎_elim}
+use Rattle.std.proofs.Common.{add-one, arith, append_assoc, append-nil, ⊎_elim}
 use Rattle.std.specs.Prelude.{flat_map, zip}
-use Rattle.std.specs.List.{range_with_len, sum}
+use Rattle.std.specs.List.{range_with_len}
 use Rattle.std.specs.Option.{option_or}
-use Rattle.std.proofs.lemmas.List.{map_more, map-append}
-use Rattle.std.proofs.lemmas.List.Sums.{sum_by-append, sum_by-cons}
+use Rattle.std.proofs.lemmas.List.{map_more}
 use Rattle.std.proofs.Math.Seq.{drop-cons}
 use Rattle.p3_merkle_core.specs.Refusals.{first_of}
 
@@ -67,55 +66,10 @@ text_more text value items i item before after within item_is before_is after_is
         append_nil_flat (y ∷ ys) = ap (λ zs. y ∷ zs) (append_nil_flat ys)
     flat_one text (y ∷ ys) x = append_assoc (text y) (flat_map text ys) (text x) ∙ ap (λ zs. text y ++ zs) (flat_one text ys x)
 
--- one value more
-pub value_more : {R V W : Type 0} (h : V → W) (value : R → V) (items : List R) (i : ℕ) (item : R)
-    (old new : List W) (made : W) → i < length items → item ≡ get_or items i item →
-    old ≡ map h (map value (take i items)) → new ≡ old ++ made ∷ [] → made ≡ h (value item) →
-    new ≡ map h (map value (take (i + 1) items))
-value_more h value items i item old new made within item_is old_is new_is made_is =
-    new_is ∙ ap (λ ws. ws ++ made ∷ []) old_is
-    ∙ ap (λ w. map h (map value (take i items)) ++ w ∷ []) made_is
-    ∙ sym (map-append h (map value (take i items)) (value item ∷ []))
-    ∙ ap (map h)
-    (sym (map_more value items i item within ∙ ap (λ r. map value (take i items) ++ value r ∷ []) (sym item_is)))
-
--- the sum of numbers by those up to one, that one, and those after it
-pub sum_all : (xs : List ℕ) (k : ℕ) → sum (take k xs) + sum (drop k xs) ≡ sum xs
-sum_all xs k = sym (sum_by-append (λ (x : ℕ). x) (take k xs) (drop k xs)) ∙ ap sum (take-append-drop k xs)
-
-pub sum_next : (xs : List ℕ) (k : ℕ) → k < length xs → sum (drop k xs) ≡ get_or xs k 0 + sum (drop (k + 1) xs)
-sum_next xs k within =
-    ap sum (drop-cons xs k 0 within) ∙ sum_by-cons (λ (x : ℕ). x) (get_or xs k 0) (drop (suc k) xs)
-    ∙ ap (λ j. get_or xs k 0 + sum (drop j xs)) (sym (add-one k))
-
-pub sum_more : (xs : List ℕ) (k : ℕ) → k < length xs → sum (take (k + 1) xs) ≡ sum (take k xs) + get_or xs k 0
-sum_more xs k within =
-    let all : sum (take k xs) + sum (drop k xs) ≡ sum xs = sum_all xs k in
-    let more : sum (take (k + 1) xs) + sum (drop (k + 1) xs) ≡ sum xs = sum_all xs (k + 1) in
-    let next : sum (drop k xs) ≡ get_or xs k 0 + sum (drop (k + 1) xs) = sum_next xs k within in
-    by (sum (take k xs)) (sum (drop k xs)) (sum xs) (sum (take (k + 1) xs)) (sum (drop (k + 1) xs)) (get_or xs k 0)
-    all more next
-  where
-    by : (a b s c d x : ℕ) → a + b ≡ s → c + d ≡ s → b ≡ x + d → c ≡ a + x
-    by a b s c d x p q r = omega arith
-
 -- ---- numbers beside entries
 
 module _ {R V N B : Type 0} (shown : R → V) (value : N × B → V) (old : List R) (ns : List N) (bs : List B)
     (total : List V) (so_far : map shown old ++ map value (zip ns bs) ≡ total) where
-  -- one pair more
-  pub pair_more : (new : List R) (made : R) (n : N) (b : B) (ns_left : List N) (bs_left : List B) →
-      ns ≡ n ∷ ns_left → bs ≡ b ∷ bs_left → new ≡ old ++ made ∷ [] → shown made ≡ value (n, b) →
-      map shown new ++ map value (zip ns_left bs_left) ≡ total
-  pair_more new made n b ns_left bs_left ns_are bs_are new_is made_is =
-      let left = map value (zip ns_left bs_left) in
-      ap (λ rs. map shown rs ++ left) new_is
-      ∙ ap (λ vs. vs ++ left) (map-append shown old (made ∷ []))
-      ∙ append_assoc (map shown old) (shown made ∷ []) left
-      ∙ ap (λ v. map shown old ++ v ∷ left) made_is
-      ∙ (λ i. map shown old ++ map value (zip (sym ns_are i) (sym bs_are i)))
-      ∙ so_far
-
   none_left : (ms : List N) (left : List B) → left ≡ [] → zip ms left ≡ []
   none_left [] left is = refl
   none_left (m ∷ ms) left is = ap (zip (m ∷ ms)) is
