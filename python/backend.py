@@ -1,0 +1,42 @@
+"""Builds the wheel of fohlazu.py by the standard library alone (PEP 517): `pip install --no-index python` calls it."""
+
+from __future__ import annotations
+
+import base64
+import hashlib
+import re
+import zipfile
+from pathlib import Path
+from typing import Any
+
+TOP = Path(__file__).resolve().parent
+MODULE = (TOP / "fohlazu.py").read_text(encoding="utf-8")
+VERSION = re.findall(r'^__version__ = "(.*)"$', MODULE, re.M)[0]
+NAME = f"fohlazu-{VERSION}"
+METADATA = f"""Metadata-Version: 2.1
+Name: fohlazu
+Version: {VERSION}
+Summary: Verifies proofs of logs by RFC 9162, as the proved program fohlazu does
+License: MIT OR Apache-2.0
+Requires-Python: >=3.9
+"""
+
+
+def build_wheel(wheel_directory: str, config_settings: Any = None, metadata_directory: Any = None) -> str:
+    """Writes the wheel, and returns its name. The same sources give the same bytes."""
+    files = {
+        "fohlazu.py": MODULE,
+        f"{NAME}.dist-info/METADATA": METADATA,
+        f"{NAME}.dist-info/WHEEL": "Wheel-Version: 1.0\nGenerator: fohlazu\nRoot-Is-Purelib: true\nTag: py3-none-any\n",
+        f"{NAME}.dist-info/entry_points.txt": "[console_scripts]\nfohlazu-verify = fohlazu:main\n",
+    }
+    rows = ""
+    for path, text in files.items():
+        digest = base64.urlsafe_b64encode(hashlib.sha256(text.encode()).digest()).decode().rstrip("=")
+        rows += f"{path},sha256={digest},{len(text.encode())}\n"
+    files[f"{NAME}.dist-info/RECORD"] = f"{rows}{NAME}.dist-info/RECORD,,\n"
+    name = f"{NAME}-py3-none-any.whl"
+    with zipfile.ZipFile(Path(wheel_directory) / name, "w") as wheel:
+        for path, text in files.items():
+            wheel.writestr(zipfile.ZipInfo(path), text)
+    return name
