@@ -3,10 +3,9 @@
     fohlazu.py verify [--blocks BYTES | --raw] CHECKPOINT PROOF [NUMBER..]
     fohlazu.py verify-consistency OLD PROOF
 
-The commands print, refuse and exit as those of the program fohlazu do, which is proved: docs/FILES.md has them, and the
-texts that they read. The calls of `Library` are proved, and this file is not: tests/python compares them. What is
-refused raises `Refused`. Entries are numbered from 1, indices count from 0, and digests have 32 bytes. What is accepted
-holds of a log only if the checkpoint is of one: signatures are not checked.
+The commands answer as those of the proved program fohlazu: docs/FILES.md has them, and the texts that they read. The
+calls of `Library` are proved, this file is not: tests/python compares them. What is refused raises `Refused`. Entries
+count from 1, indices from 0. What is accepted holds of a log only if the checkpoint is of one: no signature is checked.
 """
 from __future__ import annotations
 import argparse, base64, ctypes, enum, os, re, sys
@@ -133,7 +132,7 @@ OUT = "\0-\x1f\udc80-\udcff"  # what no text has: control characters, and bytes 
 ORIGIN = f"(?! )[^{OUT}\x7f]{{1,100}}(?<! )"
 NUMBER = "(0|[1-9][0-9]{0,18})"
 BASE64 = "(?:[A-Za-z0-9+/]{4})*(?:[A-Za-z0-9+/][AQgw]==|[A-Za-z0-9+/]{2}[AEIMQUYcgkosw048]=)?"
-DIGEST = f"(?=.{{43}}=$){BASE64}"
+DIGEST = "[A-Za-z0-9+/]{42}[AEIMQUYcgkosw048]="  # base64 of 32 bytes
 SIGNATURE = f"\u2014 [^{OUT} +]+ (?=.{{8}})(?!.{{6}}==$){BASE64}"  # base64 of at least 5 bytes
 
 Checkpoint = NamedTuple("Checkpoint", [("origin", str), ("size", int), ("root", bytes)])
@@ -170,10 +169,11 @@ def parse_checkpoint(note: bytes, where: str = "") -> Checkpoint:
     size, root = text.line("a number up to 2^62", NUMBER)[1][0], text.digest()
     while not text.stands(b"", b"\n"):
         text.line("text without control characters, a blank line or the end", f"[^{OUT}]+")
-    # A blank line and 1 to 100 signatures, or nothing.
-    for count in range(0 if text.stands(b"") else 101):
-        if count < 2 or not text.stands(b"", b"\n"):
-            text.line("`\u2014 NAME BASE64`" if count else "a blank line", SIGNATURE if count else "")
+    if not text.stands(b""):
+        text.line("a blank line", "")
+        text.line("`\u2014 NAME BASE64`", SIGNATURE)
+        for _ in range(99):
+            if not text.stands(b"", b"\n"): text.line("`\u2014 NAME BASE64`", SIGNATURE)
     text.refuse_if(not text.stands(b""), "the end")
     return Checkpoint(origin, size, root)
 
