@@ -1,4 +1,4 @@
-"""Builds the wheel of fohlazu.py by the standard library alone (PEP 517): `pip install --no-index python` calls it."""
+"""Builds the wheel of fohlazu.py by the standard library alone (PEP 517): `pip install ./python` calls it."""
 
 from __future__ import annotations
 
