@@ -149,19 +149,18 @@ fn padded_words(messages: &[u8], width: usize, n: usize) -> u32x8
     u32x8::splat(padding_word(width, n))
 }
 
-/// Block `t` of each of the eight padded messages, one message a lane.
-fn padded_block(messages: &[u8], width: usize, t: usize) -> [u32x8; 16]
+/// Loads block `t` of each of the eight padded messages into `block`, one message a lane.
+// A block that is returned is copied once more, which takes time.
+fn load_padded_block(block: &mut [u32x8; 16], messages: &[u8], width: usize, t: usize)
     requires full { length messages.now ≡ 8 * width }
     requires inside { t < (width + 72) / 64 }
     ensures { (j i : ℕ) → j < 8 → i < 16 →
-        slice_index (lane j result) i
+        slice_index (lane j block.new) i
         ≡ word_at (padded_message (message width messages.now j)) (4 * (16 * t + i)) }
 {
-    let mut block = [u32x8::splat(0); 16];
     for i in 0..16 {
         block[i] = padded_words(messages, width, 16 * t + i);
     }
-    block
 }
 
 /// Block `t` of a padded message of `width` bytes, where that block is padding alone: the same in each lane.
@@ -218,8 +217,10 @@ fn hash_states(messages: &[u8], width: usize, padding: &[u32x8; 64]) -> [u32x8; 
         u32x8::splat(INITIAL[6]),
         u32x8::splat(INITIAL[7]),
     ];
+    let mut block = [u32x8::splat(0); 16];
     for t in 0..filled_count(width) {
-        compress_eight(&mut state, &padded_block(messages, width, t));
+        load_padded_block(&mut block, messages, width, t);
+        compress_eight(&mut state, &block);
     }
     if filled_count(width) < block_count(width) {
         compress_prepared(&mut state, padding);
@@ -245,14 +246,14 @@ pub(crate) fn lane_words(state: &[u32x8; 8], j: usize) -> [u32; 8]
     ensures { result ≡ lane j state.now }
 {
     [
-        state[0].to_array()[j],
-        state[1].to_array()[j],
-        state[2].to_array()[j],
-        state[3].to_array()[j],
-        state[4].to_array()[j],
-        state[5].to_array()[j],
-        state[6].to_array()[j],
-        state[7].to_array()[j],
+        state[0].as_array()[j],
+        state[1].as_array()[j],
+        state[2].as_array()[j],
+        state[3].as_array()[j],
+        state[4].as_array()[j],
+        state[5].as_array()[j],
+        state[6].as_array()[j],
+        state[7].as_array()[j],
     ]
 }
 

@@ -12,18 +12,17 @@ use crate::messages::{digest_of, lane_words, words};
 use std::alloc::AllocError;
 use std::simd::prelude::*;
 
-/// Block `t` of each of eight messages of `width` bytes, one message a lane. The messages must have the whole block.
-fn whole_block(messages: &[u8], width: usize, t: usize) -> [u32x8; 16]
+/// Loads block `t` of each of eight messages of `width` bytes into `block`, one message a lane. The messages must have the
+/// whole block.
+fn load_block(block: &mut [u32x8; 16], messages: &[u8], width: usize, t: usize)
     requires full { length messages.now ≡ 8 * width }
     requires inside { 64 * t + 64 ≤ width }
     ensures { (j i : ℕ) → j < 8 → i < 16 →
-        slice_index (lane j result) i ≡ word_at (message width messages.now j) (4 * (16 * t + i)) }
+        slice_index (lane j block.new) i ≡ word_at (message width messages.now j) (4 * (16 * t + i)) }
 {
-    let mut block = [u32x8::splat(0); 16];
     for i in 0..16 {
         block[i] = words(messages, width, 64 * t + 4 * i);
     }
-    block
 }
 
 /// The hash values of eight messages of `count` blocks, one message a lane.
@@ -42,8 +41,10 @@ fn whole_states(messages: &[u8], count: usize) -> [u32x8; 8]
         u32x8::splat(INITIAL[6]),
         u32x8::splat(INITIAL[7]),
     ];
+    let mut block = [u32x8::splat(0); 16];
     for t in 0..count {
-        compress_eight(&mut state, &whole_block(messages, 64 * count, t));
+        load_block(&mut block, messages, 64 * count, t);
+        compress_eight(&mut state, &block);
     }
     state
 }

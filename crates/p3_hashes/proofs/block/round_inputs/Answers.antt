@@ -1,5 +1,5 @@
 -- Each word has its constant added to it.
-use Rattle.std.proofs.Common.{◌≡◌, ◌≢◌, ◌∙◌, ◌<◌, ℕ, [], ap, arith, get_or, length, slice_index, sym}
+use Rattle.std.proofs.Common.{◌≡◌, ◌≢◌, ◌∙◌, ◌<◌, ℕ, [], ap, arith, get_or, slice_index, sym}
 use Rattle.std.proofs.lemmas.List.{get_or-set_other, length-set}
 use Rattle.sha2.specs.Sha256.{add32, round_constants}
 use Rattle.p3_hashes.proofs.Lanewise.{filled_more, lane_word, splatted}

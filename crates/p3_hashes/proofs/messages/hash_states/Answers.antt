@@ -19,7 +19,7 @@ loop-t-preserved c = λ j below.
     let p = padded_message (message c.args.width c.args.messages.now j) in
     let t = c.loop-t.t in
     let block = take 64 (drop (t * 64) p) in
-    c.compress_eight.ensures j below block (λ i inside. c.padded_block.ensures j i below inside
+    c.compress_eight.ensures j below block (λ i inside. c.load_padded_block.ensures j i below inside
     ∙ sym (word_of_block p t i inside))
     ∙ ap (λ (s : List ℕ). compress s block) (c.loop-t.invariant j below) ∙ sym (hash_next initial_hash_256 p t)
 

@@ -4,7 +4,7 @@ use Rattle.sha2.specs.Sha256.{word_at}
 use Rattle.p3_support.specs.Lists.{message}
 use Rattle.p3_hashes.proofs.Lanewise.{filled_more, lane_word}
 use Rattle.p3_hashes.proofs.Padding.{byte_at, word_same}
-use Rattle.p3_hashes.proofs.padded.whole_block.Goals as goal
+use Rattle.p3_hashes.proofs.padded.load_block.Goals as goal
 
 -- a word of a message, among all of them
 word_among : (w : ℕ) (bytes : List ℕ) (j at : ℕ) → at + 4 ≤ w →

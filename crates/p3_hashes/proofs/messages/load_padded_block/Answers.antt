@@ -3,7 +3,7 @@ use Rattle.std.proofs.lemmas.List.{length-set}
 use Rattle.sha2.specs.Sha256.{padded_message, word_at}
 use Rattle.p3_support.specs.Lists.{message}
 use Rattle.p3_hashes.proofs.Lanewise.{filled_more, lane_word}
-use Rattle.p3_hashes.proofs.messages.padded_block.Goals as goal
+use Rattle.p3_hashes.proofs.messages.load_padded_block.Goals as goal
 
 pub loop-i-preserved : goal.loop-i-preserved
 loop-i-preserved c =
