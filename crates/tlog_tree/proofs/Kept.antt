@@ -12,9 +12,9 @@ use Rattle.std.specs.List.{All}
 use Rattle.std.proofs.Common.{subst}
 use Rattle.std.proofs.lemmas.List.Elements.{All-map, All-weaker}
 use Rattle.tlog.specs.Rfc9162.{Hash, mth_within}
-use Rattle.tlog_tree.specs.Builders.{place_of}
+use Rattle.tlog_tree.specs.Builders.{indexed_of}
 use Rattle.tlog_tree.specs.Inner.Layers.{parents_of, root_of_rest}
-use Rattle.tlog_tree.specs.Inner.Wanted.{is_new, kept_in, updated, with_value}
+use Rattle.tlog_tree.specs.Inner.Wanted.{HasValue, is_new, kept_in, updated, with_value}
 use Rattle.tlog_tree.specs.Trees.{leaves_root, node_at, value_at}
 use Rattle.tlog_tree.specs.declared.wanted.WantedNode.{WantedNode}
 use Rattle.tlog_tree.proofs.Whole.{length-parents, parents-drop, parents-take, root_of_parents}
@@ -207,7 +207,7 @@ wanted_none hash layer size L (w ∷ ws) h =
 
 -- ---- from piece to piece
 
-at_leaves : (hash : Hash) (size : ℕ) (L : List (List ℕ)) (w : WantedNode) → updated hash 0 size L w
+pub at_leaves : (hash : Hash) (size : ℕ) (L : List (List ℕ)) (w : WantedNode) → updated hash 0 size L w
     ≡ with_value (is_new size (length L) ((w.slot + 1) * 2 ^ w.layer)) (node_at hash L w.layer w.slot) w
 at_leaves hash size L w =
     let t : nat_le 0 w.layer ≡ true = grind (arith, nat_tests) in
@@ -220,8 +220,14 @@ new_at size count end h i = elim (new_tells size count end) [
   | inr (f, not) ↦ absurd (not h i)
 ]
 
-old_at : (size count end : ℕ) → end ≤ size → is_new size count end ≡ false
+pub old_at : (size count end : ℕ) → end ≤ size → is_new size count end ≡ false
 old_at size count end h = elim (new_tells size count end) [
+  | inl (t, j, k) ↦ absurd (omega arith)
+  | inr (f, not) ↦ f
+]
+
+pub late_at : (size count end : ℕ) → count < end → is_new size count end ≡ false
+late_at size count end h = elim (new_tells size count end) [
   | inl (t, j, k) ↦ absurd (omega arith)
   | inr (f, not) ↦ f
 ]
@@ -272,19 +278,15 @@ wanted_more hash size count A N all before kept after h long is first then =
 -- ---- what a builder keeps
 
 pub places_stay : (hash : Hash) (size : ℕ) (L : List (List ℕ)) (ws : List WantedNode) →
-    map place_of (map (updated hash 0 size L) ws) ≡ map place_of ws
+    map indexed_of (map (updated hash 0 size L) ws) ≡ map indexed_of ws
 places_stay hash size L [] = refl
 places_stay hash size L (w ∷ ws) =
-    ap (λ (p : ℕ × ℕ). p ∷ map place_of (map (updated hash 0 size L) ws)) (stays _ _ w)
-    ∙ ap (λ (ps : List (ℕ × ℕ)). place_of w ∷ ps) (places_stay hash size L ws)
+    ap (λ (p : ℕ × (ℕ × ℕ)). p ∷ map indexed_of (map (updated hash 0 size L) ws)) (stays _ _ w)
+    ∙ ap (λ (ps : List (ℕ × (ℕ × ℕ))). indexed_of w ∷ ps) (places_stay hash size L ws)
   where
-    stays : (b : Bool) (v : List ℕ) (u : WantedNode) → place_of (with_value b v u) ≡ place_of u
+    stays : (b : Bool) (v : List ℕ) (u : WantedNode) → indexed_of (with_value b v u) ≡ indexed_of u
     stays true v u = refl
     stays false v u = refl
-
--- a node has its value, if its leaves have all come
-abbrev pub HasValue : Hash → List (List ℕ) → WantedNode → Type 0
-HasValue hash L w = (w.slot + 1) * 2 ^ w.layer ≤ length L → w.value ≡ node_at hash L w.layer w.slot
 
 value_grows : (hash : Hash) (L X : List (List ℕ)) (w : WantedNode) → HasValue hash L w →
     HasValue hash (L ++ X) (updated hash 0 (length L) (L ++ X) w)

@@ -1,9 +1,10 @@
 -- What a builder stands for.
-use Rattle.std.specs.Prelude.{◌≡◌, ℕ, ◌+◌, ◌*◌, ◌^◌, ◌≤◌, List, length, map}
-use Rattle.std.specs.List.{All}
+use Rattle.std.specs.Prelude.{ℕ, List, length, map, slice_index_or}
+use Rattle.std.specs.List.{All, range_with_len}
+use Rattle.std.specs.List.Sorted.{IsNonDecreasingBy, IsPermutation}
 use Rattle.sha2.specs.Sha256.{sha256}
 use Rattle.tlog_tree.specs.Frontiers.{IsFrontierOf}
-use Rattle.tlog_tree.specs.Trees.{node_at}
+use Rattle.tlog_tree.specs.Inner.Wanted.{HasValue, end_of}
 use Rattle.tlog_tree.specs.declared.builder.TreeBuilder.{TreeBuilder}
 use Rattle.tlog_tree.specs.declared.wanted.WantedNode.{WantedNode}
 
@@ -11,9 +12,18 @@ use Rattle.tlog_tree.specs.declared.wanted.WantedNode.{WantedNode}
 abbrev pub place_of : WantedNode → ℕ × ℕ
 place_of node = (node.layer, node.slot)
 
--- the tree of these leaf hashes, and of the nodes at these places the values of those whose leaves have all come
+-- the same, with its index among the wanted nodes
+abbrev pub indexed_of : WantedNode → ℕ × (ℕ × ℕ)
+indexed_of node = (node.index, place_of node)
+
+-- places with their indices
+abbrev pub indexed : List (ℕ × ℕ) → List (ℕ × (ℕ × ℕ))
+indexed places = map (λ k. (k, slice_index_or places k (0, 0))) (range_with_len 0 (length places))
+
+-- the tree of these leaf hashes, and the nodes at these places, in the order of their ends, with the values of those
+-- whose leaves have all come
 pub record IsBuilderOf (leaves : List (List ℕ)) (places : List (ℕ × ℕ)) (builder : TreeBuilder) : Type 0 where
   pub frontier : IsFrontierOf leaves builder.frontier
-  pub at : map place_of builder.wanted.items ≡ places
-  pub values : All (λ (node : WantedNode). (node.slot + 1) * 2 ^ node.layer ≤ length leaves →
-      node.value ≡ node_at sha256 leaves node.layer node.slot) builder.wanted.items
+  pub at : IsPermutation (indexed places) (map indexed_of builder.wanted.items)
+  pub in_order : IsNonDecreasingBy end_of builder.wanted.items
+  pub values : All (HasValue sha256 leaves) builder.wanted.items

@@ -8,7 +8,7 @@ ghost use Rattle.tlog_tree.specs.declared.error.TreeError.TheVariants.{OutOfMemo
 
 use crate::error::TreeError;
 use crate::frontier::{Frontier, root_of_nodes};
-use crate::wanted::WantedNode;
+use crate::wanted::{WantedNode, whole_count};
 use std::alloc::{AllocError, Global};
 
 /// The tree of a log that is read once, from its first entry on, with the values of the nodes that were wanted when it
@@ -17,11 +17,14 @@ use std::alloc::{AllocError, Global};
 #[derive(Debug, Drop)]
 pub struct TreeBuilder {
     frontier: Frontier,
+    /// In the order of their ends, so that a push looks at those alone that end in it.
     wanted: Vec<WantedNode>,
 }
 
 impl TreeBuilder {
     ghost use Rattle.tlog_tree.specs.Builders.{IsBuilderOf};
+    ghost use Rattle.tlog_tree.specs.Frontiers.{IsFrontierOf};
+    ghost use Rattle.tlog_tree.specs.Inner.Wanted.{HasValue};
 
     /// The tree of no entries, where the nodes of these layers and slots are wanted.
     ///
@@ -32,13 +35,16 @@ impl TreeBuilder {
         ensures { IfOk result (IsBuilderOf [] places.now) }
     {
         let mut wanted = Vec::with_capacity(alloc, places.len())?;
-        for place in places {
+        for index in 0..places.len() {
+            let (layer, slot) = places[index];
             wanted.push(WantedNode {
-                layer: place.0,
-                slot: place.1,
+                layer,
+                slot,
+                index,
                 value: [0; 32],
             })?;
         }
+        wanted.sort_unstable_by_key(|node| node.end());
         Ok(TreeBuilder {
             frontier: Frontier::new(alloc),
             wanted,
@@ -78,20 +84,21 @@ impl TreeBuilder {
         ensures { IfOk result (λ values. (leaves : List (List ℕ)) (places : List (ℕ × ℕ)) →
             IsBuilderOf leaves places self.now → values.items ≡ values_at sha256 leaves places) }
     {
-        let mut values = Vec::with_capacity(alloc, self.wanted.len())?;
-        for k in 0..self.wanted.len() {
-            values.push(self.value(k))?;
+        let mut values = vec![in alloc; None; self.wanted.len()]?;
+        for node in &self.wanted {
+            // Each index is below the count, which only contracts say.
+            if node.index < values.len() {
+                values[node.index] = self.value(node);
+            }
         }
         Ok(values)
     }
 
-    /// The value of wanted node `k`.
-    fn value(&self, k: usize) -> Option<[u8; 32]>
-        requires { k < vec_len self.now.wanted }
-        ensures { (leaves : List (List ℕ)) (places : List (ℕ × ℕ)) → IsBuilderOf leaves places self.now →
-            let place = slice_index_or places k (0, 0) in result ≡ value_at sha256 leaves place.0 place.1 }
+    /// The value of a wanted node.
+    fn value(&self, node: &WantedNode) -> Option<[u8; 32]>
+        ensures { (leaves : List (List ℕ)) → IsFrontierOf leaves self.now.frontier →
+            HasValue sha256 leaves node.now → result ≡ value_at sha256 leaves node.now.layer node.now.slot }
     {
-        let node = &self.wanted[k];
         let whole = whole_count(self.frontier.size(), node.layer);
         if node.slot < whole {
             return Some(node.value);
@@ -101,12 +108,4 @@ impl TreeBuilder {
         }
         None
     }
-}
-
-/// How many nodes of a layer have all their leaves, in a log of `size` entries.
-fn whole_count(size: usize, layer: usize) -> usize
-    requires { size ≤ size_limit }
-    ensures { result ≡ size / 2 ^ layer }
-{
-    if layer < 64 { size >> layer } else { 0 }
 }

@@ -1,10 +1,11 @@
 //! The tree of a log that only grows, by its whole nodes.
 ghost use Rattle.std.specs.Prelude.{◌≡◌, ℕ, ◌<◌, ◌≤◌, ◌+◌, ◌*◌, ◌/◌, ◌^◌, ◌==◌, nat_lt, if◌then◌else◌, List, [], ◌++◌};
 ghost use Rattle.std.specs.Prelude.{IfOk, IfErr, OnOk, OnErr, length, map, drop, count_ones};
+ghost use Rattle.std.specs.List.Sorted.{IsNonDecreasingBy};
 ghost use Rattle.sha2.specs.Sha256.{sha256};
 ghost use Rattle.tlog.specs.Verdicts.{size_limit};
 ghost use Rattle.tlog_tree.specs.Inner.Layers.{joined, root_of_rest};
-ghost use Rattle.tlog_tree.specs.Inner.Wanted.{updated};
+ghost use Rattle.tlog_tree.specs.Inner.Wanted.{end_of, updated};
 ghost use Rattle.tlog_tree.specs.Trees.{leaves_root, whole_nodes};
 
 use crate::error::TreeError;
@@ -14,7 +15,7 @@ use std::alloc::{AllocError, Global};
 use tlog::{EMPTY_ROOT, node_hash};
 
 /// The greatest size.
-const SIZE_LIMIT: usize = 1 << 62;
+pub(crate) const SIZE_LIMIT: usize = 1 << 62;
 
 /// So many leaf hashes of a piece are taken at once: what is computed of these needs less than 1 MiB.
 const CHUNK: usize = 4096;
@@ -101,7 +102,8 @@ impl Frontier {
         self.push_kept(alloc, hashes, &mut [])
     }
 
-    /// The same, and wanted nodes get their values. After an error nothing is said of these.
+    /// The same, and wanted nodes get their values, if they are in the order of their ends. After an error nothing is
+    /// said of these.
     pub(crate) fn push_kept(
         &mut self,
         alloc: Global,
@@ -111,6 +113,7 @@ impl Frontier {
         ensures grown { OnOk result ((leaves : List (List ℕ)) → IsFrontierOf leaves self.old →
             IsFrontierOf (leaves ++ hashes.now) self.new) }
         ensures wanted { OnOk result ((leaves : List (List ℕ)) → IsFrontierOf leaves self.old →
+            IsNonDecreasingBy end_of wanted.old →
             wanted.new ≡ map (updated sha256 0 (length leaves) (leaves ++ hashes.now)) wanted.old) }
         ensures size { OnOk result (self.new.size ≡ self.old.size + length hashes.now) }
         ensures unchanged { OnErr result (self.new ≡ self.old) }
@@ -125,8 +128,12 @@ impl Frontier {
         let mut rest = hashes;
         while !rest.is_empty() {
             let (chunk, behind) = rest.split_at(rest.len().min(CHUNK));
-            nodes = grown(alloc, 0, size, &nodes, chunk, wanted)?;
-            size += chunk.len();
+            let count = size + chunk.len();
+            // No others get their values by this chunk.
+            let end = wanted.partition_point(|node| node.end() <= count);
+            let start = wanted[..end].partition_point(|node| node.end() <= size);
+            nodes = grown(alloc, 0, size, &nodes, chunk, &mut wanted[start..end])?;
+            size = count;
             rest = behind;
         }
         self.size = size;

@@ -1,6 +1,9 @@
 //! Nodes that are wanted, and what becomes of them as a log grows.
-ghost use Rattle.std.specs.Prelude.{◌≡◌, map};
-ghost use Rattle.tlog_tree.specs.Inner.Wanted.{kept_in};
+ghost use Rattle.std.specs.Prelude.{◌≡◌, ◌≤◌, ◌/◌, ◌^◌, map};
+ghost use Rattle.tlog.specs.Verdicts.{size_limit};
+ghost use Rattle.tlog_tree.specs.Inner.Wanted.{end_of, kept_in};
+
+use crate::frontier::SIZE_LIMIT;
 
 /// A node that is wanted.
 #[derive(Clone, Copy, Debug, PartialEq, Eq)]
@@ -9,11 +12,24 @@ pub struct WantedNode {
     pub layer: usize,
     /// Its place in the layer.
     pub slot: usize,
+    /// Its index among the wanted nodes, in the order of the call.
+    pub index: usize,
     /// Its value, once all leaves below it have come.
     pub value: [u8; 32],
 }
 
 impl WantedNode {
+    /// How many leaves there are when the last one below it comes, or one more than a log has at most.
+    pub(crate) fn end(&self) -> usize
+        ensures { result ≡ end_of self.now }
+    {
+        if self.slot < whole_count(SIZE_LIMIT, self.layer) {
+            (self.slot + 1) << self.layer
+        } else {
+            SIZE_LIMIT + 1
+        }
+    }
+
     /// The node with its value, if it is among the nodes from slot `first` of a layer on.
     fn kept(self, layer: usize, first: usize, nodes: &[[u8; 32]]) -> WantedNode
         ensures { result ≡ kept_in layer first nodes.now self }
@@ -35,4 +51,12 @@ pub(crate) fn keep(wanted: &mut [WantedNode], layer: usize, first: usize, nodes:
     for node in wanted.iter_mut() {
         *node = node.kept(layer, first, nodes);
     }
+}
+
+/// How many nodes of a layer have all their leaves, in a log of `size` entries.
+pub(crate) fn whole_count(size: usize, layer: usize) -> usize
+    requires { size ≤ size_limit }
+    ensures { result ≡ size / 2 ^ layer }
+{
+    if layer < 64 { size >> layer } else { 0 }
 }

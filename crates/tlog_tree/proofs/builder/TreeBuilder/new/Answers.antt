@@ -1,21 +1,36 @@
-use Rattle.std.proofs.Common.{arith, sym, ap, ◌∙◌, ◌++◌, ◌∷◌, [], List, ℕ, map, get_or}
-use Rattle.std.proofs.lemmas.List.{map_push, take_all, take_more}
+use Rattle.std.proofs.Common.{arith, sym, ap, ◌∙◌, ◌++◌, ◌∷◌, [], ◌≡◌, List, ℕ, length, map, get_or, rules, subst}
+use Rattle.std.specs.List.{range_with_len}
+use Rattle.std.specs.List.Sorted.{IsPermutation}
+use Rattle.std.proofs.lemmas.List.{map_push}
+use Rattle.std.proofs.lemmas.List.FromFn.{map-range_with_len_more}
+use Rattle.std.proofs.lemmas.List.Sorted.{IsNonDecreasingBy-from_sort_by_key, IsPermutation-map}
 use Rattle.sha2.specs.Sha256.{sha256}
-use Rattle.tlog_tree.specs.Builders.{place_of}
+use Rattle.tlog_tree.specs.Builders.{indexed_of}
+use Rattle.tlog_tree.specs.Inner.Wanted.{end_of}
 use Rattle.tlog_tree.proofs.Kept.{none_has_value}
 use Rattle.tlog_tree.proofs.builder.TreeBuilder.new.Goals as goal
 
-pub loop-place-preserved : goal.loop-place-preserved
-loop-place-preserved c =
-    ap (map place_of) c.in_ok-push.ensures.items
-    ∙ map_push place_of c.loop-place.wanted.items _
-    ∙ ap (λ (ps : List (ℕ × ℕ)). ps ++ get_or c.args.places.now c.loop-place.place-index (0, 0) ∷ [])
-    c.loop-place.invariant
-    ∙ sym (take_more c.args.places.now c.loop-place.place-index (0, 0) (omega arith))
+pub loop-index-preserved : goal.loop-index-preserved
+loop-index-preserved c =
+    let i = c.loop-index.index in
+    let number : ℕ → ℕ × (ℕ × ℕ) = λ k. (k, get_or c.args.places.now k (0, 0)) in
+    ap (map indexed_of) c.in_ok-push.ensures.items
+    ∙ map_push indexed_of c.loop-index.wanted.items _
+    ∙ ap (λ (ps : List (ℕ × (ℕ × ℕ))). ps ++ number i ∷ []) c.loop-index.invariant
+    ∙ sym (map-range_with_len_more number 0 i i (omega arith))
 
 pub returns : goal.returns
-returns c = record {
-  frontier = c.new.ensures;
-  at = c.loop-place.invariant ∙ take_all c.loop-place.place-index c.args.places.now (omega arith);
-  values = λ k d h. none_has_value sha256 _;
-}
+returns c =
+    let ws = c.loop-index.wanted.items in
+    let sorted = c.sort_unstable_by_key.new.self.items in
+    let number : ℕ → ℕ × (ℕ × ℕ) = λ k. (k, get_or c.args.places.now k (0, 0)) in
+    let end : c.loop-index.index ≡ length c.args.places.now = omega (arith, c.loop-index-test.false) in
+    record {
+      frontier = c.new.ensures;
+      at = subst (λ ps. IsPermutation ps (map indexed_of sorted))
+          (c.loop-index.invariant ∙ ap (λ n. map number (range_with_len 0 n)) end)
+          (IsPermutation-map indexed_of ws sorted c.sort_unstable_by_key.ensures.permutation);
+      in_order = IsNonDecreasingBy-from_sort_by_key end_of _ c.sort_unstable_by_key.ensures.sorted
+          (λ a r q k. search rules);
+      values = λ k d h. none_has_value sha256 (get_or sorted k d);
+    }

@@ -1,6 +1,8 @@
-use Rattle.std.proofs.Common.{◌≡◌, take, map}
-use Rattle.tlog_tree.specs.Builders.{place_of}
+use Rattle.std.proofs.Common.{◌≡◌, get_or, map}
+use Rattle.std.specs.List.{range_with_len}
+use Rattle.tlog_tree.specs.Builders.{indexed_of}
 use Rattle.tlog_tree.proofs.builder.TreeBuilder.new.Given as goal
 
-abbrev pub invariant-loop-place : goal.invariant-loop-place
-invariant-loop-place l = map place_of l.wanted.items ≡ take l.place-index l.places
+abbrev pub invariant-loop-index : goal.invariant-loop-index
+invariant-loop-index l =
+    map indexed_of l.wanted.items ≡ map (λ k. (k, get_or l.places k (0, 0))) (range_with_len 0 l.index)

@@ -1,31 +1,46 @@
-use Rattle.std.proofs.Common.{arith, length, take, get_or, sym, ap, ◌∙◌, ◌≡◌, ◌<◌, ◌≤◌, ◌++◌, ◌∷◌, List, ℕ, []}
-use Rattle.std.specs.Prelude.{Option}
-use Rattle.std.proofs.lemmas.List.{length-map, map-append, take_all, take_more}
+use Rattle.std.proofs.Common.{arith, length, ap, ◌∙◌, ◌<◌, []}
+use Rattle.std.proofs.lemmas.List.{length-set}
 use Rattle.sha2.specs.Sha256.{sha256}
-use Rattle.tlog_tree.specs.Builders.{IsBuilderOf, place_of}
-use Rattle.tlog_tree.specs.Trees.{value_at, values_at}
-use Rattle.tlog_tree.specs.declared.builder.TreeBuilder.{TreeBuilder}
+use Rattle.tlog_tree.specs.declared.wanted.WantedNode.{WantedNode}
+use Rattle.tlog_tree.proofs.Ordered.{all_answered, answered_more, index_within}
+use Rattle.tlog_tree.proofs.builder.TreeBuilder.values.Goals.{else-node-len, then-node-len}
 use Rattle.tlog_tree.proofs.builder.TreeBuilder.values.Goals as goal
 
--- there are as many places as wanted nodes
-many : (builder : TreeBuilder) (leaves : List (List ℕ)) (places : List (ℕ × ℕ)) → IsBuilderOf leaves places builder →
-    length places ≡ length builder.wanted.items
-many builder leaves places is = ap length (sym is.at) ∙ length-map builder.wanted.items place_of
+abbrev none : WantedNode
+none = record { layer = 0; slot = 0; index = 0; value = [] }
 
-pub loop-k-preserved : goal.loop-k-preserved
-loop-k-preserved c = λ leaves places is.
-    let b = c.args.self.now in
-    let k = c.loop-k.k in
-    let below : k < length places = omega (arith, many b leaves places is, b.wanted.ok, c.loop-k-test.true) in
-    let place = get_or places k (0, 0) in
-    c.in_ok-push.ensures.items
-    ∙ ap (λ (vs : List (Option (List ℕ))). vs ++ c.value.result ∷ []) (c.loop-k.invariant leaves places is)
-    ∙ ap (λ (v : Option (List ℕ)). values_at sha256 leaves (take k places) ++ v ∷ []) (c.value.ensures leaves places is)
-    ∙ sym (ap (values_at sha256 leaves) (take_more places k (0, 0) below)
-    ∙ map-append (λ (p : ℕ × ℕ). value_at sha256 leaves p.0 p.1) (take k places) (place ∷ []))
+pub loop-node-preserved : goal.loop-node-preserved
+loop-node-preserved c =
+    let ws = c.args.self.now.wanted.items in
+    let i = c.loop-node.node-index in
+    let items = c.deref-node-items.ensures.value in
+    let kept = c.loop-node.invariant in
+    let inside : i < length ws = omega (arith, c.loop-node-test.true, ap length items) in
+    elim c.if-node-len.branch [
+      | then-node-len w ↦ rw (w.values-is, items) (record {
+        room = length-set c.loop-node.values.items _ _ ∙ kept.room;
+        answered = λ leaves places is.
+            let value = rw items at (w.value.ensures leaves is.frontier) in
+            answered_more sha256 leaves places ws c.loop-node.values.items i none w.value.result is.at inside kept.room
+            (value (is.values i none inside)) (kept.answered leaves places is);
+      })
+      | else-node-len w ↦ rw w.values-is (record {
+        room = kept.room;
+        answered = λ leaves places is.
+            let place = rw items at w.if-node-len.false in
+            absurd (omega (
+              arith,
+              place,
+              index_within places ws is.at i none inside,
+              kept.room,
+              c.len-in-loop-node.ensures,
+              c.loop-node.values.ok,
+            ));
+      })
+    ]
 
 pub returns : goal.returns
 returns c = λ leaves places is.
-    let b = c.args.self.now in
-    let all : length places ≤ c.loop-k.k = omega (arith, many b leaves places is, b.wanted.ok, c.loop-k-test.false) in
-    c.loop-k.invariant leaves places is ∙ ap (values_at sha256 leaves) (take_all c.loop-k.k places all)
+    all_answered sha256 leaves places c.args.self.now.wanted.items c.loop-node.values.items is.at
+    c.loop-node.invariant.room
+    (λ k d h. c.loop-node.invariant.answered leaves places is k d (omega (arith, c.loop-node-test.false, c.deref-node-items.ensures.len)))

@@ -1,6 +1,6 @@
 use Rattle.std.proofs.Common.{arith, sym, ◌^◌, ◌<◌, ◌≤◌}
 use Rattle.std.proofs.Math.Nat.{div-eq_of_lt, pow-le-pow_right}
-use Rattle.tlog_tree.proofs.builder.whole_count.Goals as goal
+use Rattle.tlog_tree.proofs.wanted.whole_count.Goals as goal
 
 pub returns-else-layer-lt64 : goal.returns-else-layer-lt64
 returns-else-layer-lt64 c =

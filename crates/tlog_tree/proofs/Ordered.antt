@@ -1,0 +1,178 @@
+-- Wanted nodes in the order of their ends, and in that of the call.
+use Rattle.std.proofs.Common.{◌≡◌, ℕ, suc, ◌+◌, ◌-◌, ◌*◌, ◌^◌, ◌<◌, ◌≤◌, refl, sym, ap, ◌∙◌, arith, subst, min, inl, inr, leb, leb-true, leb-false}
+use Rattle.std.proofs.Common.{List, [], ◌∷◌, ◌++◌, length, length-drop, map, take, drop, get_or, set, All}
+use Rattle.std.specs.Prelude.{Bool, true, false, None, Option}
+use Rattle.std.specs.List.Sorted.{IsNonDecreasingBy, IsPartitionPoint, IsPermutation}
+use Rattle.std.proofs.lemmas.Bool.{cases_eq}
+use Rattle.std.proofs.lemmas.List.{ext_get_or, get_or-drop, get_or-map, get_or-set_other, get_or-set_same, get_or-take}
+use Rattle.std.proofs.lemmas.List.{get_or_default, length-map, length-take-le, map-append, take-append-drop}
+use Rattle.std.proofs.lemmas.List.Elements.{All-map}
+use Rattle.std.proofs.lemmas.List.FromFn.{get_or-map-range_with_len, length-map-range_with_len}
+use Rattle.std.proofs.lemmas.List.Sorted.{All-permutation, Contains-permutation, length_permutation}
+use borrow.Rule.Slice.PartMut.{mid_of, put_mid}
+use Rattle.tlog.specs.Rfc9162.{Hash}
+use Rattle.tlog.specs.Verdicts.{size_limit}
+use Rattle.tlog_tree.specs.Builders.{indexed, indexed_of}
+use Rattle.tlog_tree.specs.Inner.Wanted.{end_of, updated, with_value}
+use Rattle.tlog_tree.specs.Trees.{node_at, value_at, values_at}
+use Rattle.tlog_tree.specs.declared.wanted.WantedNode.{WantedNode}
+use Rattle.tlog_tree.proofs.Kept.{at_leaves, late_at, old_at}
+
+-- ---- a part of a list
+
+-- a function that changes nothing
+same_all : {X : Type 0} (u : X → X) (xs : List X) → All (λ x. u x ≡ x) xs → map u xs ≡ xs
+same_all u [] same = refl
+same_all u (x ∷ xs) same =
+    ap (λ y. y ∷ map u xs) (same 0 x (omega arith))
+    ∙ ap (λ ys. x ∷ ys) (same_all u xs (λ k d h. same (suc k) d (omega arith)))
+
+-- a function that changes only a part
+part_alone : {X : Type 0} (u : X → X) (xs : List X) (start end : ℕ) → start ≤ end → end ≤ length xs →
+    ((k : ℕ) (d : X) → k < start → u (get_or xs k d) ≡ get_or xs k d) →
+    ((k : ℕ) (d : X) → end ≤ k → k < length xs → u (get_or xs k d) ≡ get_or xs k d) →
+    put_mid start (end - start) xs (map u (mid_of start (end - start) xs)) ≡ map u xs
+part_alone u xs start end within inside before behind =
+    let n = end - start in
+    let rest = drop start xs in
+    let front : map u (take start xs) ≡ take start xs = same_all u (take start xs) (λ k d h.
+    let below : k < start = omega (arith, length-take-le start xs (omega arith)) in
+    rw (get_or-take start xs k d below) (before k d below)) in
+    let back : map u (drop n rest) ≡ drop n rest = same_all u (drop n rest) (λ k d h.
+    rw (get_or-drop n rest k d, get_or-drop start xs (n + k) d)
+    (behind (start + (n + k)) d (omega arith) (omega (arith, length-drop n rest, length-drop start xs)))) in
+    sym (ap (map u) (sym (take-append-drop start xs)
+    ∙ ap (λ ys. take start xs ++ ys) (sym (take-append-drop n rest)))
+    ∙ map-append u (take start xs) (take n rest ++ drop n rest)
+    ∙ ap (λ ys. ys ++ map u (take n rest ++ drop n rest)) front
+    ∙ ap (λ ys. take start xs ++ ys) (map-append u (take n rest) (drop n rest)
+    ∙ ap (λ ys. map u (take n rest) ++ ys) back))
+
+-- ---- in the order of their ends
+
+pub order_stays : {X : Type 0} (n : X → ℕ) (u : X → X) (xs ys : List X) → ((x : X) → n (u x) ≡ n x) →
+    IsNonDecreasingBy n xs → ys ≡ map u xs → IsNonDecreasingBy n ys
+order_stays n u xs ys same up is i j d h k =
+    let len : length ys ≡ length xs = ap length is ∙ length-map xs u in
+    let at : (m : ℕ) → m < length xs → n (get_or ys m d) ≡ n (get_or xs m d) =
+    λ m g. ap (λ zs. n (get_or zs m d)) is ∙ ap n (get_or-map u xs m d d g) ∙ same (get_or xs m d) in
+    omega (arith, at i (omega (arith, len)), at j (omega (arith, len)), up i j d h (omega (arith, len)))
+
+pub end_stays : (hash : Hash) (size : ℕ) (L : List (List ℕ)) (w : WantedNode) →
+    end_of (updated hash 0 size L w) ≡ end_of w
+end_stays hash size L w = stays _ _ w
+  where
+    stays : (b : Bool) (v : List ℕ) (u : WantedNode) → end_of (with_value b v u) ≡ end_of u
+    stays true v u = refl
+    stays false v u = refl
+
+under : (x size limit : ℕ) → min x (limit + 1) ≤ size → size ≤ limit → x ≤ size
+under x size limit h i = omega arith
+
+over : (x size limit : ℕ) → size < min x (limit + 1) → size < x
+over x size limit h = omega arith
+
+-- those that have ended stay, and those that end later
+pub ended : (hash : Hash) (size : ℕ) (L : List (List ℕ)) (w : WantedNode) → size ≤ size_limit → end_of w ≤ size →
+    updated hash 0 size L w ≡ w
+ended hash size L w fits h =
+    at_leaves hash size L w ∙ ap (λ b. with_value b (node_at hash L w.layer w.slot) w)
+    (old_at size (length L) _ (under ((w.slot + 1) * 2 ^ w.layer) size size_limit h fits))
+
+pub ends_later : (hash : Hash) (size : ℕ) (L : List (List ℕ)) (w : WantedNode) → length L < end_of w →
+    updated hash 0 size L w ≡ w
+ends_later hash size L w h =
+    at_leaves hash size L w ∙ ap (λ b. with_value b (node_at hash L w.layer w.slot) w)
+    (late_at size (length L) _ (over ((w.slot + 1) * 2 ^ w.layer) (length L) size_limit h))
+
+-- only those that end behind the first leaves, and within all, get their values
+pub due_alone : (hash : Hash) (size : ℕ) (L : List (List ℕ)) (ws after : List WantedNode) (start end : ℕ) →
+    size ≤ size_limit → start ≤ end → end ≤ length ws →
+    IsPartitionPoint (λ w. leb (end_of w) size ≡ true) (λ w. leb (end_of w) size ≡ false) (take end ws) start →
+    IsPartitionPoint (λ w. leb (end_of w) (length L) ≡ true) (λ w. leb (end_of w) (length L) ≡ false) ws end →
+    after ≡ map (updated hash 0 size L) (mid_of start (end - start) ws) →
+    put_mid start (end - start) ws after ≡ map (updated hash 0 size L) ws
+due_alone hash size L ws after start end fits within inside first last is =
+    ap (put_mid start (end - start) ws) is
+    ∙ part_alone (updated hash 0 size L) ws start end within inside
+    (λ k d h. ended hash size L (get_or ws k d) fits
+    (leb-true _ _ (subst (λ w. leb (end_of w) size ≡ true) (get_or-take end ws k d (omega arith))
+    (first.0 k d (omega arith) h))))
+    (λ k d h i. ends_later hash size L (get_or ws k d) (leb-false _ _ (last.1 k d h i)))
+
+-- ---- in the order of the call
+
+-- the value of a wanted node stands at its index
+abbrev pub IsAnswered : Hash → List (List ℕ) → List (ℕ × ℕ) → List (Option (List ℕ)) → ℕ → Type 0
+IsAnswered hash L places values k =
+    get_or values k None ≡ value_at hash L (get_or places k (0, 0)).0 (get_or places k (0, 0)).1
+
+index_at : (places : List (ℕ × ℕ)) (k : ℕ) (d : ℕ × (ℕ × ℕ)) → k < length places →
+    get_or (indexed places) k d ≡ (k, get_or places k (0, 0))
+index_at places k d h =
+    get_or-map-range_with_len (λ k. (k, get_or places k (0, 0))) 0 (length places) k k d h (omega arith)
+
+length-indexed : (places : List (ℕ × ℕ)) → length (indexed places) ≡ length places
+length-indexed places = length-map-range_with_len (λ k. (k, get_or places k (0, 0))) 0 (length places)
+
+abbrev IsOwn : List (ℕ × ℕ) → ℕ × (ℕ × ℕ) → Type 0
+IsOwn places p = (p.0 < length places) × (p.1 ≡ get_or places p.0 (0, 0))
+
+own_index : (places : List (ℕ × ℕ)) (ws : List WantedNode) → IsPermutation (indexed places) (map indexed_of ws) →
+    All (λ w. IsOwn places (indexed_of w)) ws
+own_index places ws moved k d h =
+    let all = All-permutation (IsOwn places) (indexed places) (map indexed_of ws) moved (λ i e g.
+    let inside : i < length places = omega (arith, length-indexed places) in
+    subst (IsOwn places) (sym (index_at places i e inside)) (inside, refl)) in
+    subst (IsOwn places) (get_or-map indexed_of ws k d (indexed_of d) h)
+    (all k (indexed_of d) (omega (arith, length-map ws indexed_of)))
+
+as_many : (places : List (ℕ × ℕ)) (ws : List WantedNode) → IsPermutation (indexed places) (map indexed_of ws) →
+    length ws ≡ length places
+as_many places ws moved =
+    sym (length-map ws indexed_of) ∙ length_permutation _ _ moved ∙ length-indexed places
+
+pub index_within : (places : List (ℕ × ℕ)) (ws : List WantedNode) →
+    IsPermutation (indexed places) (map indexed_of ws) → All (λ w. w.index < length ws) ws
+index_within places ws moved k d h = omega (arith, (own_index places ws moved k d h).0, as_many places ws moved)
+
+-- one more
+pub answered_more : (hash : Hash) (L : List (List ℕ)) (places : List (ℕ × ℕ)) (ws : List WantedNode)
+    (values : List (Option (List ℕ))) (i : ℕ) (e : WantedNode) (v : Option (List ℕ)) →
+    IsPermutation (indexed places) (map indexed_of ws) → i < length ws → length values ≡ length ws →
+    v ≡ value_at hash L (get_or ws i e).layer (get_or ws i e).slot →
+    ((k : ℕ) (d : WantedNode) → k < i → IsAnswered hash L places values (get_or ws k d).index) → (k : ℕ)
+    (d : WantedNode) → k < i + 1 → IsAnswered hash L places (set values (get_or ws i e).index v) (get_or ws k d).index
+answered_more hash L places ws values i e v moved inside room is so_far k d h =
+    let n = (get_or ws k d).index in
+    let m = (get_or ws i e).index in
+    elim (cases_eq n m) as (λ _. IsAnswered hash L places (set values m v) n) [
+      | inl same ↦
+          subst (λ m'. IsAnswered hash L places (set values m v) m') (sym same)
+          (get_or-set_same values m v None (omega (arith, room, index_within places ws moved i e inside)) ∙ is
+          ∙ ap (λ p. value_at hash L p.0 p.1) (own_index places ws moved i e inside).1)
+      | inr other ↦
+          let before : k < i = elim (cases_eq k i) as (λ _. k < i) [
+            | inl last ↦ absurd (other (ap (λ j. (get_or ws j d).index) last
+                ∙ ap (λ w. w.index) (get_or_default ws i d e inside)))
+            | inr early ↦ omega (arith, early, h)
+          ] in
+          get_or-set_other values m n v None other ∙ so_far k d before
+    ]
+
+pub all_answered : (hash : Hash) (L : List (List ℕ)) (places : List (ℕ × ℕ)) (ws : List WantedNode)
+    (values : List (Option (List ℕ))) → IsPermutation (indexed places) (map indexed_of ws) →
+    length values ≡ length ws → All (λ w. IsAnswered hash L places values w.index) ws →
+    values ≡ values_at hash L places
+all_answered hash L places ws values moved room done =
+    let many = as_many places ws moved in
+    let P : ℕ × (ℕ × ℕ) → Type 0 = λ p. IsAnswered hash L places values p.0 in
+    let all : All P (map indexed_of ws) = All-map P indexed_of ws done in
+    ext_get_or None values (values_at hash L places)
+    (room ∙ many ∙ sym (length-map places (λ (p : ℕ × ℕ). value_at hash L p.0 p.1))) (λ i h.
+    let inside : i < length places = omega (arith, room, many) in
+    let x : ℕ × (ℕ × ℕ) = (i, get_or places i (0, 0)) in
+    let (k, within, at) = Contains-permutation (indexed places) (map indexed_of ws) x moved
+    (i, omega (arith, length-indexed places), index_at places i x inside) in
+    subst P at (all k x within)
+    ∙ sym (get_or-map (λ (p : ℕ × ℕ). value_at hash L p.0 p.1) places i (0, 0) None inside))
