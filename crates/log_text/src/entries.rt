@@ -52,13 +52,22 @@ impl EntriesProof {
     pub fn to_text(&self, alloc: Global) -> Result<Vec<u8>, AllocError>
         ensures { IfOk result (λ text. text.items ≡ entries_text (entries_fields self.now)) }
     {
-        let mut text = Vec::new(alloc);
+        let mut text = Vec::with_capacity(alloc, self.room())?;
         push_line(&mut text, b"fohlazu proof 1")?;
         push_number(alloc, &mut text, "entries ", self.entries.len())?;
         push_entries(alloc, &mut text, &self.entries)?;
         push_number(alloc, &mut text, "digests ", self.digests.len())?;
         push_digests(alloc, &mut text, &self.digests)?;
         Ok(text)
+    }
+
+    /// How many bytes are printed at most.
+    fn room(&self) -> usize {
+        let mut room = self.digests.len().saturating_mul(45).saturating_add(80);
+        for entry in &self.entries {
+            room = room.saturating_add(entry.bytes.len()).saturating_add(50);
+        }
+        room
     }
 }
 

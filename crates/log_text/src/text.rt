@@ -49,7 +49,6 @@ pub(crate) fn push_digests(
 ) -> Result<(), AllocError>
     ensures { OnOk result (text.new.items ≡ text.old.items ++ flat_map digest_line digests.now) }
 {
-    text.reserve_exact(digests.len().saturating_mul(45))?;
     for digest in digests {
         push_digest(alloc, text, digest)?;
     }
