@@ -31,7 +31,12 @@ fn main(rt: HostRuntime) -> ExitCode {
 
 /// The words of the command line.
 fn read_words(rt: &HostRuntime) -> io::Result<Vec<String>> {
-    Ok(env::args(rt)?.collect(rt.alloc())?)
+    let mut words = Vec::new(rt.alloc());
+    // Each has room for more bytes than it has.
+    for word in env::args(rt)? {
+        words.push(word.clone()?)?;
+    }
+    Ok(words)
 }
 
 /// Prints why a command stops: what the input is called, and why it is refused or a read of it failed.
