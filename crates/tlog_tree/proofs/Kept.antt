@@ -65,7 +65,7 @@ node_stays hash L X e slot h =
 -- ---- what becomes of a wanted node
 
 -- what the test tells
-new_tells : (size count end : ℕ) → ((is_new size count end ≡ true) × (size < end) × (end ≤ count))
+pub new_tells : (size count end : ℕ) → ((is_new size count end ≡ true) × (size < end) × (end ≤ count))
     ⊎ ((is_new size count end ≡ false) × (size < end → end ≤ count → ⊥))
 new_tells size count end = elim (leb_tells (suc size) end) [
   | inr (f, g) ↦ inr (rw f, λ h i. omega arith)
@@ -220,14 +220,8 @@ new_at size count end h i = elim (new_tells size count end) [
   | inr (f, not) ↦ absurd (not h i)
 ]
 
-pub old_at : (size count end : ℕ) → end ≤ size → is_new size count end ≡ false
+old_at : (size count end : ℕ) → end ≤ size → is_new size count end ≡ false
 old_at size count end h = elim (new_tells size count end) [
-  | inl (t, j, k) ↦ absurd (omega arith)
-  | inr (f, not) ↦ f
-]
-
-pub late_at : (size count end : ℕ) → count < end → is_new size count end ≡ false
-late_at size count end h = elim (new_tells size count end) [
   | inl (t, j, k) ↦ absurd (omega arith)
   | inr (f, not) ↦ f
 ]

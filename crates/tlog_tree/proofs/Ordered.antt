@@ -1,5 +1,5 @@
 -- Wanted nodes in the order of their ends, and in that of the call.
-use Rattle.std.proofs.Common.{◌≡◌, ℕ, suc, ◌+◌, ◌-◌, ◌*◌, ◌^◌, ◌<◌, ◌≤◌, refl, sym, ap, ◌∙◌, arith, subst, min, inl, inr, leb, leb-true, leb-false}
+use Rattle.std.proofs.Common.{◌≡◌, ℕ, suc, ◌+◌, ◌-◌, ◌*◌, ◌^◌, ◌<◌, ◌≤◌, refl, sym, ap, ◌∙◌, arith, subst, inl, inr, leb, leb-true, leb-false}
 use Rattle.std.proofs.Common.{List, [], ◌∷◌, ◌++◌, length, length-drop, map, take, drop, get_or, set, All}
 use Rattle.std.specs.Prelude.{Bool, true, false, None, Option}
 use Rattle.std.specs.List.Sorted.{IsNonDecreasingBy, IsPartitionPoint, IsPermutation}
@@ -16,7 +16,7 @@ use Rattle.tlog_tree.specs.Builders.{indexed, indexed_of}
 use Rattle.tlog_tree.specs.Inner.Wanted.{end_of, updated, with_value}
 use Rattle.tlog_tree.specs.Trees.{node_at, value_at, values_at}
 use Rattle.tlog_tree.specs.declared.wanted.WantedNode.{WantedNode}
-use Rattle.tlog_tree.proofs.Kept.{at_leaves, late_at, old_at}
+use Rattle.tlog_tree.proofs.Kept.{at_leaves, new_tells}
 
 -- ---- a part of a list
 
@@ -66,39 +66,31 @@ end_stays hash size L w = stays _ _ w
     stays true v u = refl
     stays false v u = refl
 
-under : (x size limit : ℕ) → min x (limit + 1) ≤ size → size ≤ limit → x ≤ size
-under x size limit h i = omega arith
-
-over : (x size limit : ℕ) → size < min x (limit + 1) → size < x
-over x size limit h = omega arith
-
--- those that have ended stay, and those that end later
-pub ended : (hash : Hash) (size : ℕ) (L : List (List ℕ)) (w : WantedNode) → size ≤ size_limit → end_of w ≤ size →
-    updated hash 0 size L w ≡ w
-ended hash size L w fits h =
-    at_leaves hash size L w ∙ ap (λ b. with_value b (node_at hash L w.layer w.slot) w)
-    (old_at size (length L) _ (under ((w.slot + 1) * 2 ^ w.layer) size size_limit h fits))
-
-pub ends_later : (hash : Hash) (size : ℕ) (L : List (List ℕ)) (w : WantedNode) → length L < end_of w →
-    updated hash 0 size L w ≡ w
-ends_later hash size L w h =
-    at_leaves hash size L w ∙ ap (λ b. with_value b (node_at hash L w.layer w.slot) w)
-    (late_at size (length L) _ (over ((w.slot + 1) * 2 ^ w.layer) (length L) size_limit h))
-
 -- only those that end behind the first leaves, and within all, get their values
+unmoved : (hash : Hash) (size : ℕ) (L : List (List ℕ)) (w : WantedNode) → size ≤ size_limit → length L ≤ size_limit →
+    (size < end_of w → end_of w ≤ length L → ⊥) → updated hash 0 size L w ≡ w
+unmoved hash size L w fits all not_new =
+    at_leaves hash size L w
+    ∙ elim (new_tells size (length L) ((w.slot + 1) * 2 ^ w.layer)) [
+      | inl (t, i, j) ↦ absurd (not_new (omega (arith, fits, i)) (omega (arith, j)))
+      | inr (f, not) ↦ ap (λ b. with_value b (node_at hash L w.layer w.slot) w) f
+    ]
+
 pub due_alone : (hash : Hash) (size : ℕ) (L : List (List ℕ)) (ws after : List WantedNode) (start end : ℕ) →
-    size ≤ size_limit → start ≤ end → end ≤ length ws →
+    length L ≤ size_limit → size ≤ length L → start ≤ end → end ≤ length ws →
     IsPartitionPoint (λ w. leb (end_of w) size ≡ true) (λ w. leb (end_of w) size ≡ false) (take end ws) start →
     IsPartitionPoint (λ w. leb (end_of w) (length L) ≡ true) (λ w. leb (end_of w) (length L) ≡ false) ws end →
     after ≡ map (updated hash 0 size L) (mid_of start (end - start) ws) →
     put_mid start (end - start) ws after ≡ map (updated hash 0 size L) ws
-due_alone hash size L ws after start end fits within inside first last is =
+due_alone hash size L ws after start end fits grown within inside first last is =
     ap (put_mid start (end - start) ws) is
     ∙ part_alone (updated hash 0 size L) ws start end within inside
-    (λ k d h. ended hash size L (get_or ws k d) fits
-    (leb-true _ _ (subst (λ w. leb (end_of w) size ≡ true) (get_or-take end ws k d (omega arith))
-    (first.0 k d (omega arith) h))))
-    (λ k d h i. ends_later hash size L (get_or ws k d) (leb-false _ _ (last.1 k d h i)))
+    (λ k d h. unmoved hash size L (get_or ws k d) (omega arith) fits (λ i j.
+    let early : end_of (get_or ws k d) ≤ size =
+    leb-true _ _ (subst (λ w. leb (end_of w) size ≡ true) (get_or-take end ws k d (omega arith))
+    (first.0 k d (omega arith) h)) in omega (arith, early, i)))
+    (λ k d h i. unmoved hash size L (get_or ws k d) (omega arith) fits (λ _ j.
+    omega (arith, leb-false _ _ (last.1 k d h i), j)))
 
 -- ---- in the order of the call
 
