@@ -32,7 +32,7 @@ fn main(rt: HostRuntime) -> ExitCode {
 /// The words of the command line.
 fn read_words(rt: &HostRuntime) -> io::Result<Vec<String>> {
     let mut words = Vec::new(rt.alloc());
-    // Each has room for more bytes than it has.
+    // The words of `args` have spare room, and their copies have none.
     for word in env::args(rt)? {
         words.push(word.clone()?)?;
     }
