@@ -1,28 +1,19 @@
 -- The tree of the entries that have ended, as bytes of a file come.
 use Rattle.std.proofs.Common.{if◌then◌else◌, length-append, append_assoc, length-take, append-nil, leb-false, length, ℕ}
 use Rattle.std.proofs.Common.{nat_le, nat_lt, Option, false, arith, subst, ◌++◌, List, Bool, true, refl, take, None, []}
-use Rattle.std.proofs.Common.{Some, ◌≡◌, ◌⊎◌, ◌∙◌, ◌+◌, ◌-◌, ◌^◌, ◌<◌, ◌≤◌, inl, inr, map, sym, ap}
-use Rattle.std.specs.Prelude.{unwrap_or}
-use Rattle.std.proofs.lemmas.Bool.{le-leb, lt-leb, ltb-true}
-use Rattle.std.proofs.lemmas.List.{length-map, map-append}
+use Rattle.std.proofs.Common.{Some, ◌≡◌, ◌⊎◌, ◌∙◌, ◌+◌, ◌-◌, ◌^◌, ◌<◌, ◌≤◌, inl, inr, map, sym, ap, unwrap_or, le-leb}
+use Rattle.std.proofs.{Common.ltb-true, lemmas.Bool.lt-leb, lemmas.List.length-map, lemmas.List.map-append}
 use Rattle.sha2.specs.Sha256.{sha256}
-use Rattle.tlog.specs.Rfc9162.{leaf_hash}
-use Rattle.tlog.specs.Verdicts.{size_limit}
+use Rattle.tlog.specs.{Rfc9162.leaf_hash, Verdicts.size_limit}
 use Rattle.tlog_tree.specs.Builders.{IsBuilderOf}
-use Rattle.tlog_tree.specs.declared.builder.TreeBuilder.{TreeBuilder}
-use Rattle.tlog_tree.specs.declared.error.TreeError.{TreeError}
+use Rattle.tlog_tree.specs.declared.{builder.TreeBuilder.TreeBuilder, error.TreeError.TreeError}
 use Rattle.tlog_tree.specs.declared.error.TreeError.TheVariants.{SizeTooLarge, OutOfMemory as NoTreeMemory}
 use Rattle.log_files.specs.Entries.{entries_in, is_refused, read_refusal, wanted_of}
-use Rattle.log_files.specs.Errors.{read_error_of}
-use Rattle.log_files.specs.Logs.{IsLogOf}
+use Rattle.log_files.specs.{Errors.read_error_of, Logs.IsLogOf, Inner.Wanted.HoldsWanted}
 use Rattle.log_files.specs.Inner.Splitting.{AreAll, AreTooMany, HasBuilt, HasGrown}
-use Rattle.log_files.specs.Inner.Wanted.{HoldsWanted}
-use Rattle.log_files.specs.declared.cut.Cut.{Cut}
-use Rattle.log_files.specs.declared.error.ReadError.{ReadError}
+use Rattle.log_files.specs.declared.{cut.Cut.Cut, reading.ReadLog.ReadLog, wanted.WantedEntries.WantedEntries}
+use Rattle.log_files.specs.declared.{error.ReadError.ReadError, splitter.Splitter.Splitter}
 use Rattle.log_files.specs.declared.error.ReadError.TheVariants.{EndsInsideLine, OutOfMemory, TooManyEntries}
-use Rattle.log_files.specs.declared.reading.ReadLog.{ReadLog}
-use Rattle.log_files.specs.declared.splitter.Splitter.{Splitter}
-use Rattle.log_files.specs.declared.wanted.WantedEntries.{WantedEntries}
 
 -- why a file is not read, by two tests
 abbrev pub refusal_of : Bool → Bool → Option ReadError
@@ -115,14 +106,9 @@ pub many_at_end : (nodes : List (ℕ × ℕ)) (wanted : List ℕ) (s : Splitter)
     nat_lt size_limit (tree.frontier.size + length hashes) ≡ true → AreTooMany s.cut s.limit bytes
 many_at_end nodes wanted s tree front bytes b w hashes all many =
     let more = ap length all.hashed ∙ length-map all.more (leaf_hash sha256) in
-    omega (
-      arith,
-      ltb-true size_limit (tree.frontier.size + length hashes) many,
-      size_of b.ended nodes tree b.built,
-      more,
-      ap length all.all,
-      length-append b.ended all.more,
-    )
+    let far = ltb-true size_limit (tree.frontier.size + length hashes) many in
+    let size = size_of b.ended nodes tree b.built in
+    omega (arith, far, size, more, ap length all.all, length-append b.ended all.more)
 
 pub refused_far : (e : ReadError) (cut : Cut) (limit : ℕ) (bytes : List ℕ) →
     (e ≡ OutOfMemory) ⊎ ((e ≡ TooManyEntries) × AreTooMany cut limit bytes) →

@@ -1,12 +1,11 @@
 -- Where a file is cut, as its bytes come.
-use Rattle.std.proofs.Common.{◌≡◌, ℕ, ◌<◌, List, [], ◌∷◌, ◌++◌, All, length, sym, ap, ◌∙◌, arith, refl}
-use Rattle.std.proofs.Common.{append_assoc, append-nil, length-append}
+use Rattle.std.proofs.Common.{◌≡◌, ℕ, ◌<◌, List, [], ◌∷◌, ◌++◌, All, length, sym, ap, ◌∙◌, arith, refl, append_assoc}
+use Rattle.std.proofs.Common.{append-nil, length-append}
 use Rattle.std.proofs.lemmas.List.Elements.{All-append, All-cons, All-head, All-nil, All-tail}
-use Rattle.log_files.specs.Entries.{rest_of, whole_entries, IsCut}
+use Rattle.log_files.specs.Entries.{entries_in, last_entry, partial_of, rest_of, whole_entries, IsCut}
 use Rattle.log_files.specs.Inner.Splitting.{ending, joined, AreAtHead, IsCutAt, IsOpen, IsWhole}
-use Rattle.log_files.specs.declared.cut.Cut.{Cut}
-use Rattle.log_files.specs.declared.cut.Cut.TheVariants.{Lines, Blocks}
-use Rattle.log_files.proofs.EntryFacts.{first_entry, none_open, rest_after_entry}
+use Rattle.log_files.specs.declared.cut.Cut.{Cut, TheVariants.Lines, TheVariants.Blocks}
+use Rattle.log_files.proofs.EntryFacts.{all_rest, first_entry, no_entry, none_open, rest_after_entry}
 
 -- at the start
 pub cut_none : (cut : Cut) → IsCut cut → IsCutAt cut [] [] []
@@ -81,3 +80,21 @@ more_at_head cut bytes left rest entry entries at_head parts whole =
       whole = All-append (IsWhole cut) entries (entry ∷ []) at_head.whole
           (All-cons (IsWhole cut) entry [] whole (All-nil (IsWhole cut)));
     }
+
+-- ---- a file that ends
+
+module _ (cut : Cut) (file : List ℕ) (ended : List (List ℕ)) (open_bytes : List ℕ)
+    (at : IsCutAt cut file ended open_bytes) where
+  pub rest_is : rest_of cut file ≡ open_bytes
+  rest_is =
+      ap (rest_of cut) (sym (append-nil file)) ∙ at.rest [] ∙ ap (rest_of cut) (append-nil open_bytes)
+      ∙ all_rest cut open_bytes at.opens
+
+  whole_is : whole_entries cut file ≡ ended
+  whole_is =
+      ap (whole_entries cut) (sym (append-nil file)) ∙ at.whole []
+      ∙ ap (λ xs. ended ++ xs) (ap (whole_entries cut) (append-nil open_bytes) ∙ no_entry cut open_bytes at.opens)
+      ∙ append-nil ended
+
+  pub entries_are : entries_in cut file ≡ ended ++ last_entry (partial_of cut) open_bytes
+  entries_are = λ i. whole_is i ++ last_entry (partial_of cut) (rest_is i)

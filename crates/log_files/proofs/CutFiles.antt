@@ -1,20 +1,17 @@
 -- The entries of a file by its bytes: further bytes behind the end of an entry are further entries, lines have no LF, and
 -- blocks have their size.
-use Rattle.std.proofs.Common.{◌≡◌, ◌≤◌, ◌<◌, ◌+◌, ◌-◌, ◌==◌, ◌∙◌, ℕ, List, [], ◌∷◌, ◌++◌, ap, arith, eq-eqb, inl, inr, length}
-use Rattle.std.proofs.Common.{refl, sym, subst, append_assoc, append-nil, length-append}
-use Rattle.std.specs.Prelude.{false, All}
-use Rattle.std.proofs.lemmas.Bool.{cases_eq, cases_lt, ne_eqb}
-use Rattle.std.proofs.lemmas.Bool.Decides.{eqb_tells}
+use Rattle.std.proofs.Common.{◌≡◌, ◌≤◌, ◌<◌, ◌+◌, ◌-◌, ◌==◌, ◌∙◌, ℕ, List, [], ◌∷◌, ◌++◌, ap, arith, eq-eqb, inl, inr}
+use Rattle.std.proofs.Common.{length, refl, sym, subst, append_assoc, append-nil, length-append, false, All, ne_eqb}
+use Rattle.std.proofs.lemmas.Bool.{cases_eq, cases_lt, Decides.eqb_tells}
 use Rattle.std.proofs.lemmas.List.{get_or-append_right, get_or_append_left}
 use Rattle.std.proofs.lemmas.List.Elements.{All-append, All-cons, All-get_or, All-nil, All-push}
 use Rattle.log_files.specs.Entries.{entries_in, entry_at, last_entry, partial_of, rest_of, whole_entries, IsCut}
 use Rattle.log_files.specs.Inner.Splitting.{ending, IsCutAt, IsWhole, LacksFeed}
-use Rattle.log_files.specs.declared.cut.Cut.{Cut}
-use Rattle.log_files.specs.declared.cut.Cut.TheVariants.{Blocks as InBlocks, Lines as InLines}
+use Rattle.log_files.specs.declared.cut.Cut.{Cut, TheVariants.Blocks as InBlocks, TheVariants.Lines as InLines}
 use Rattle.log_files.specs.declared.cut.PartialLine.{PartialLine}
 use Rattle.log_files.specs.declared.cut.PartialLine.TheVariants.{Include, LeaveOut, Refuse}
-use Rattle.log_files.proofs.CutFacts.{cut_end, cut_more, cut_none}
-use Rattle.log_files.proofs.EntryFacts.{all_rest, no_entry, none_open}
+use Rattle.log_files.proofs.CutFacts.{cut_end, cut_more, cut_none, entries_are, rest_is}
+use Rattle.log_files.proofs.EntryFacts.{all_rest, no_entry, no_last, none_open}
 
 -- ---- a file, byte by byte
 
@@ -77,27 +74,7 @@ walk cut front (b ∷ rest) is s =
 splits : (cut : Cut) (file : List ℕ) → IsCut cut → Splits cut file
 splits cut file is = walk cut [] file is ([], [], record { at = cut_none cut is; whole = All-nil (IsWhole cut) })
 
-module _ (cut : Cut) (file : List ℕ) (s : Splits cut file) where
-  rest_is : rest_of cut file ≡ s.1
-  rest_is =
-      ap (rest_of cut) (sym (append-nil file)) ∙ s.2.at.rest [] ∙ ap (rest_of cut) (append-nil s.1)
-      ∙ all_rest cut s.1 s.2.at.opens
-
-  whole_is : whole_entries cut file ≡ s.0
-  whole_is =
-      ap (whole_entries cut) (sym (append-nil file)) ∙ s.2.at.whole []
-      ∙ ap (λ xs. s.0 ++ xs) (ap (whole_entries cut) (append-nil s.1) ∙ no_entry cut s.1 s.2.at.opens)
-      ∙ append-nil s.0
-
-  entries_are : entries_in cut file ≡ s.0 ++ last_entry (partial_of cut) s.1
-  entries_are = λ i. whole_is i ++ last_entry (partial_of cut) (rest_is i)
-
 -- ---- files that grow
-
-no_last : (partial : PartialLine) → last_entry partial [] ≡ []
-no_last Refuse = refl
-no_last LeaveOut = refl
-no_last Include = refl
 
 module _ (cut : Cut) (is : IsCut cut) where
   pub no_rest : rest_of cut [] ≡ []
@@ -109,7 +86,7 @@ module _ (cut : Cut) (is : IsCut cut) where
 
   module _ (file more : List ℕ) (end : rest_of cut file ≡ []) where
     none : (splits cut file is).1 ≡ []
-    none = sym (rest_is cut file (splits cut file is)) ∙ end
+    none = let s = splits cut file is in sym (rest_is cut file s.0 s.1 s.2.at) ∙ end
 
     pub rest_grows : rest_of cut (file ++ more) ≡ rest_of cut more
     rest_grows = (splits cut file is).2.at.rest more ∙ ap (λ xs. rest_of cut (xs ++ more)) none
@@ -123,7 +100,7 @@ module _ (cut : Cut) (is : IsCut cut) where
         (λ i. whole i ++ last_entry p (rest_grows i))
         ∙ append_assoc s.0 (whole_entries cut more) (last_entry p (rest_of cut more))
         ∙ ap (λ xs. xs ++ entries_in cut more)
-        (sym (entries_are cut file s ∙ ap (λ xs. s.0 ++ last_entry p xs) none ∙ ap (λ xs. s.0 ++ xs) (no_last p)
+        (sym (entries_are cut file s.0 s.1 s.2.at ∙ ap (λ xs. s.0 ++ last_entry p xs) none ∙ ap (λ xs. s.0 ++ xs) (no_last p)
         ∙ append-nil s.0))
 
 -- ---- lines and blocks
@@ -147,7 +124,7 @@ pub lines_lack : (partial : PartialLine) (file : List ℕ) → All LacksFeed (en
 lines_lack partial file =
     let cut = InLines partial in
     let s = splits cut file tt in
-    subst (All LacksFeed) (sym (entries_are cut file s))
+    subst (All LacksFeed) (sym (entries_are cut file s.0 s.1 s.2.at))
     (All-append LacksFeed s.0 (last_entry partial s.1) s.2.whole (no_feeds partial s.1 s.2.at.opens))
 
 -- block i of some has the size of all, or as the last one 1 byte to as many
@@ -190,6 +167,6 @@ pub block_is : (size : ℕ) (file : List ℕ) (i : ℕ) → IsCut (InBlocks size
 block_is size file i is within =
     let cut = InBlocks size in
     let s = splits cut file is in
-    let all = entries_are cut file s in
+    let all = entries_are cut file s.0 s.1 s.2.at in
     subst (λ blocks. IsBlock size blocks i) (sym all)
     (split_block size s.0 s.1 i is.0 s.2.whole s.2.at.opens (omega (arith, within, ap length all)))

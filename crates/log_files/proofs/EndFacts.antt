@@ -1,24 +1,15 @@
 -- The entries of a file once all that is read of it has come.
 use Rattle.std.proofs.Common.{length-take, ◌^◌, ◌≡◌, ℕ, ◌<◌, ◌≤◌, ◌==◌, true, false, not, if◌then◌else◌, List, [], ◌∷◌}
 use Rattle.std.proofs.Common.{◌++◌, length, take, refl, sym, ap, ◌∙◌, arith, Some, append_assoc, append-nil}
-use Rattle.std.proofs.Common.{length-append, take_all}
-use Rattle.std.proofs.lemmas.Bool.{and_from, and_left, and_right, le-ltb, lt-ltb, ne_eqb}
-use Rattle.std.proofs.lemmas.List.{take-append-le}
+use Rattle.std.proofs.Common.{length-append, take_all, le-ltb, lt-ltb, ne_eqb}
+use Rattle.std.proofs.lemmas.{Bool.and_from, Bool.and_left, Bool.and_right, List.take-append-le}
 use Rattle.sha2.specs.Sha256.{sha256}
 use Rattle.tlog.specs.Rfc9162.{leaf_hash}
 use Rattle.log_files.specs.Entries.{entries_in, is_refused, last_entry, partial_of, refuses, rest_of, whole_entries}
-use Rattle.log_files.specs.Inner.Splitting.{AreAll, AreTooMany, IsAt}
-use Rattle.log_files.specs.Inner.Wanted.{HoldsWanted}
-use Rattle.log_files.specs.declared.cut.PartialLine.{PartialLine}
-use Rattle.log_files.specs.declared.cut.PartialLine.TheVariants.{Refuse, LeaveOut, Include}
-use Rattle.log_files.specs.declared.splitter.Splitter.{Splitter}
-use Rattle.log_files.specs.declared.wanted.WantedEntries.{WantedEntries}
-use Rattle.log_files.proofs.EntryFacts.{all_rest, no_entry}
-
-no_last : (partial : PartialLine) → last_entry partial [] ≡ []
-no_last Refuse = refl
-no_last LeaveOut = refl
-no_last Include = refl
+use Rattle.log_files.specs.Inner.{Splitting.AreAll, Splitting.AreTooMany, Splitting.IsAt, Wanted.HoldsWanted}
+use Rattle.log_files.specs.declared.cut.PartialLine.TheVariants.{Include, LeaveOut, Refuse}
+use Rattle.log_files.specs.declared.{splitter.Splitter.Splitter, wanted.WantedEntries.WantedEntries}
+use Rattle.log_files.proofs.{CutFacts.entries_are, CutFacts.rest_is, EntryFacts.no_last}
 
 module _ (wanted : List ℕ) (s : Splitter) (front rest : List ℕ) (ended : List (List ℕ)) (at : IsAt wanted s front ended) where
   abbrev entries : List (List ℕ)
@@ -63,17 +54,14 @@ module _ (wanted : List ℕ) (s : Splitter) (front rest : List ℕ) (ended : Lis
 
   -- ---- the file has ended
 
+  whole_file : rest ≡ [] → front ++ rest ≡ front
+  whole_file none = ap (λ xs. front ++ xs) none ∙ append-nil front
+
   rest_at_end : rest ≡ [] → rest_of s.cut (front ++ rest) ≡ at.open_bytes
-  rest_at_end none =
-      at.at.rest rest
-      ∙ ap (rest_of s.cut) (ap (λ xs. at.open_bytes ++ xs) none ∙ append-nil at.open_bytes)
-      ∙ all_rest s.cut at.open_bytes at.at.opens
+  rest_at_end none = ap (rest_of s.cut) (whole_file none) ∙ rest_is s.cut front ended at.open_bytes at.at
 
   entries_at_end : rest ≡ [] → entries ≡ ended ++ last at.open_bytes
-  entries_at_end none =
-      let whole = ap (whole_entries s.cut) (ap (λ xs. at.open_bytes ++ xs) none ∙ append-nil at.open_bytes)
-      ∙ no_entry s.cut at.open_bytes at.at.opens in
-      split ∙ (λ i. ended ++ (whole i ++ last (rest_at_end none i)))
+  entries_at_end none = ap (entries_in s.cut) (whole_file none) ∙ entries_are s.cut front ended at.open_bytes at.at
 
   all_ended : rest ≡ [] → last at.open_bytes ≡ [] → entries ≡ ended
   all_ended none closed = entries_at_end none ∙ ap (λ xs. ended ++ xs) closed ∙ append-nil ended

@@ -1,15 +1,19 @@
 -- The first whole entry of a file, and a file without one.
 use Rattle.std.proofs.Common.{◌≡◌, ℕ, zero, suc, ◌+◌, ◌*◌, ◌/◌, ◌<◌, ◌==◌, List, [], ◌∷◌, ◌++◌, length, map, take, drop}
-use Rattle.std.proofs.Common.{refl, sym, ap, ◌∙◌, arith, length-append}
+use Rattle.std.proofs.Common.{refl, sym, ap, ◌∙◌, arith, length-append, Bor}
 use Rattle.std.specs.List.{range_with_len}
 use Rattle.std.proofs.lemmas.List.Splits.{length-slice_split, slice_split_at, slice_split_none}
-use Rattle.std.proofs.Math.Seq.{take-append_seam, drop-append-add}
-use Rattle.std.proofs.Math.Nat.{add-div_left, add-mul, zero-mul}
+use Rattle.std.proofs.Math.{Seq.take-append_seam, Seq.drop-append-add, Nat.add-div_left, Nat.add-mul, Nat.zero-mul}
 use Rattle.std.proofs.lemmas.Nat.{div-mul-add}
-use Rattle.log_files.specs.Entries.{all_but_last, block_of, last_of, pieces_of, rest_of, whole_entries, IsCut}
+use Rattle.log_files.specs.Entries.{all_but_last, block_of, last_entry, last_of, pieces_of, rest_of, whole_entries}
+use Rattle.log_files.specs.{Entries.IsCut, declared.cut.PartialLine.PartialLine}
+use Rattle.log_files.specs.declared.cut.PartialLine.TheVariants.{Include, LeaveOut, Refuse}
 use Rattle.log_files.specs.Inner.Splitting.{ending, IsOpen, IsWhole, LacksFeed}
-use Rattle.log_files.specs.declared.cut.Cut.{Cut}
-use Rattle.log_files.specs.declared.cut.Cut.TheVariants.{Lines, Blocks}
+use Rattle.log_files.specs.declared.cut.Cut.{Cut, TheVariants.Lines, TheVariants.Blocks}
+
+-- the bytes of an entry that stands in a buffer
+abbrev pub bytes_of : Bor (List ℕ) → List ℕ
+bytes_of entry = entry.now
 
 -- ---- lines
 
@@ -77,6 +81,12 @@ no_block size bytes short =
     ap (λ n. n / size) (omega arith) ∙ div-mul-add 0 size (length bytes) short
 
 -- ---- both
+
+-- no entry ends with an empty rest
+pub no_last : (partial : PartialLine) → last_entry partial [] ≡ []
+no_last Refuse = refl
+no_last LeaveOut = refl
+no_last Include = refl
 
 -- an entry may be empty so far
 pub none_open : (cut : Cut) → IsCut cut → IsOpen cut []

@@ -1,40 +1,17 @@
 -- What a reader gives, piece after piece, and what is read of it.
-use Rattle.std.proofs.Common.{⊎_elim, inr, nat_le, ◌≡◌, ◌≤◌, ◌⊎◌, ℕ, ◌-◌, ◌^◌, ◌==◌, ◌&&◌}
-use Rattle.std.proofs.Common.{not, nat_lt, List, [], ◌++◌, Option, None, Some, refl, sym, ap, ◌∙◌, append_assoc}
-use Rattle.std.proofs.Common.{append-nil, length, take, arith, subst, inl, length-take, take_all}
-use Rattle.std.specs.Io.KnownBytes.{Consumes, IsAtEnd, Keeps}
-use Rattle.std.specs.Prelude.{unwrap_or}
-use Rattle.std.proofs.lemmas.Bool.{cases_lt, lt-ltb}
-use Rattle.std.proofs.lemmas.List.{length-map}
+use Rattle.std.proofs.Common.{⊎_elim, inr, nat_le, ◌≡◌, ◌≤◌, ◌⊎◌, ℕ, ◌-◌, ◌^◌, ◌==◌, ◌&&◌, not, nat_lt, List, [], ◌++◌}
+use Rattle.std.proofs.Common.{Option, None, Some, refl, sym, ap, ◌∙◌, append_assoc, append-nil, length, take, arith}
+use Rattle.std.proofs.Common.{subst, inl, length-take, take_all, unwrap_or, lt-ltb}
+use Rattle.std.specs.Io.KnownBytes.{Consumes, IsAtEnd}
+use Rattle.std.proofs.lemmas.{Bool.cases_lt, List.length-map}
 use Rattle.sha2.specs.Sha256.{sha256}
 use Rattle.tlog.specs.Rfc9162.{leaf_hash}
-use Rattle.log_files.specs.Entries.{entries_in, first_of, is_short, partial_of, read_refusal, refuses, rest_of, wanted_of}
-use Rattle.log_files.specs.Entries.{HoldsOfFile}
+use Rattle.log_files.specs.Entries.{entries_in, first_of, is_short, partial_of, read_refusal, refuses, rest_of}
+use Rattle.log_files.specs.{Entries.wanted_of, Entries.HoldsOfFile, Logs.IsLogOf}
 use Rattle.log_files.specs.Inner.Splitting.{AreTooMany, ReadsTooMany}
-use Rattle.log_files.specs.Logs.{IsLogOf}
-use Rattle.log_files.specs.declared.cut.Cut.{Cut}
-use Rattle.log_files.specs.declared.error.ReadError.{ReadError}
+use Rattle.log_files.specs.declared.{cut.Cut.Cut, reading.ReadLog.ReadLog, error.ReadError.ReadError}
 use Rattle.log_files.specs.declared.error.ReadError.TheVariants.{OutOfMemory, Read as FailedRead, TooManyEntries}
 use Rattle.log_files.proofs.BuiltFacts.{refusal_of, refused_many}
-use Rattle.log_files.specs.declared.reading.ReadLog.{ReadLog}
-
-pub consumes_none : (known : Option (List ℕ)) → Consumes known known []
-consumes_none None = tt
-consumes_none (Some bytes) = refl
-
-pub consumes_more : (a b c : Option (List ℕ)) (front more : List ℕ) → Consumes a b front → Consumes b c more →
-    Consumes a c (front ++ more)
-consumes_more None b c front more h k = tt
-consumes_more (Some all) None c front more h k = absurd h
-consumes_more (Some all) (Some left) None front more h k = absurd k
-consumes_more (Some all) (Some left) (Some rest) front more h k =
-    h ∙ ap (λ xs. front ++ xs) k ∙ sym (append_assoc front more rest)
-
-pub consumes_kept : (a b c : Option (List ℕ)) (front : List ℕ) → Consumes a b front → Keeps b c → Consumes a c front
-consumes_kept None b c front h k = tt
-consumes_kept (Some all) None c front h k = absurd h
-consumes_kept (Some all) (Some left) None front h k = absurd k
-consumes_kept (Some all) (Some left) (Some rest) front h k = h ∙ ap (λ xs. front ++ xs) (sym k)
 
 -- what holds of a file that was read to its end, or far enough for whatever follows, where some that was read is left
 pub of_file : (before after : Option (List ℕ)) (front left : List ℕ) (Enough : Type 0) →

@@ -4,12 +4,9 @@ use Rattle.std.proofs.Common.{eqb-true, map, length-append, refl, subst, sym, tr
 use Rattle.std.proofs.lemmas.List.Elements.{All-head}
 use Rattle.sha2.specs.Sha256.{sha256}
 use Rattle.tlog.specs.Rfc9162.{leaf_hash}
-use Rattle.log_files.specs.Entries.{IsCut}
+use Rattle.log_files.specs.{Entries.IsCut, Inner.Splitting.IsWhole, Inner.Wanted.HasPlaces}
 use Rattle.log_files.specs.Inner.Splitting.{ending, joined, AreAtHead, HasRead, Holds, IsAt, IsCutAt, IsOpen, IsReady}
-use Rattle.log_files.specs.Inner.Splitting.{IsWhole}
-use Rattle.log_files.specs.Inner.Wanted.{HasPlaces}
-use Rattle.log_files.specs.declared.cut.Cut.{Cut}
-use Rattle.log_files.specs.declared.splitter.Splitter.{Splitter}
+use Rattle.log_files.specs.declared.{cut.Cut.Cut, splitter.Splitter.Splitter}
 use Rattle.log_files.proofs.CutFacts.{cut_end, cut_more, cut_whole, fewer_left}
 use Rattle.log_files.proofs.EntryFacts.{none_open}
 

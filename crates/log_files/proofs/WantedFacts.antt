@@ -1,24 +1,18 @@
 -- The wanted entries: those that have ended stand at their places, the others follow in the order of the file.
-use Rattle.std.proofs.Common.{◌≡◌, ℕ, zero, suc, ◌+◌, ◌<◌, ◌≤◌, Bool, true, false, if◌then◌else◌, List, [], ◌∷◌}
-use Rattle.std.proofs.Common.{◌++◌, length, map, drop, set, get_or, refl, sym, ap, ◌∙◌, arith}
-use Rattle.std.proofs.Common.{length-append, subst, inl, inr, nat_lt, slice_get, Some}
-use Rattle.std.specs.List.{list_all, range_with_len, Contains}
-use Rattle.std.specs.List.Sorted.{IsPermutation, IsSorted}
+use Rattle.std.proofs.Common.{◌≡◌, ℕ, zero, suc, ◌+◌, ◌<◌, ◌≤◌, Bool, true, false, if◌then◌else◌, List, [], ◌∷◌, ◌++◌}
+use Rattle.std.proofs.Common.{length, map, drop, set, get_or, refl, sym, ap, ◌∙◌, arith, length-append, subst, inl, inr}
+use Rattle.std.proofs.Common.{nat_lt, slice_get, Some, le-ltb, lt-ltb, ext_get_or, get_or-set_other, get_or-set_same}
+use Rattle.std.proofs.Common.{length-set}
+use Rattle.std.specs.List.{list_all, range_with_len, Contains, Sorted.IsPermutation, Sorted.IsSorted}
 use Rattle.std.specs.Ordering.{nat_cmp, is_lt, ordering_then}
-use Rattle.std.specs.declared.cmp.Ordering.{Ordering}
-use Rattle.std.specs.declared.cmp.Ordering.TheVariants.{Less, Equal, Greater}
-use Rattle.std.proofs.lemmas.Bool.{cases_eq, eqb-false, le-ltb, lt-ltb}
-use Rattle.std.proofs.lemmas.List.{ext_get_or, get_or-map, get_or-set_other, get_or-set_same}
-use Rattle.std.proofs.lemmas.List.{get_or_append_left, get_or_default, length-map, length-set}
-use Rattle.std.proofs.lemmas.List.Elements.{All-head, All-tail}
+use Rattle.std.specs.declared.cmp.Ordering.{Ordering, TheVariants.Less, TheVariants.Equal, TheVariants.Greater}
+use Rattle.std.proofs.lemmas.{Bool.cases_eq, Bool.eqb-false, List.Sorted.length_permutation, List.Folds.list_all_at}
+use Rattle.std.proofs.lemmas.List.{get_or-map, get_or_append_left, get_or_default, length-map}
+use Rattle.std.proofs.lemmas.List.{Elements.All-head, Elements.All-tail, Sums.list_all-from_AllPass}
 use Rattle.std.proofs.lemmas.List.FromFn.{get_or-map-range_with_len, length-map-range_with_len, map-range_with_len_more}
 use Rattle.std.proofs.lemmas.List.Sorted.{All-permutation, Contains-permutation, IsNonDecreasingBy-from_sort}
-use Rattle.std.proofs.lemmas.List.Sorted.{length_permutation}
-use Rattle.std.proofs.lemmas.List.Folds.{list_all_at}
-use Rattle.std.proofs.lemmas.List.Sums.{list_all-from_AllPass}
-use Rattle.log_files.specs.Entries.{entry_at, wanted_of}
+use Rattle.log_files.specs.{Entries.entry_at, Entries.wanted_of, Inner.Wanted.IsOwn}
 use Rattle.log_files.specs.Inner.Wanted.{is_next, place_of, places_of, HoldsWanted, IsAscending, IsCopied, IsKept}
-use Rattle.log_files.specs.Inner.Wanted.{IsOwn}
 use Rattle.log_files.specs.declared.wanted.WantedEntries.{WantedEntries}
 
 -- ---- sorted places
@@ -81,10 +75,6 @@ none_begun false = refl
 
 -- ---- more entries have ended
 
-entry_kept : (ended more : List (List ℕ)) (index : ℕ) → index < length ended →
-    entry_at (ended ++ more) index ≡ entry_at ended index
-entry_kept ended more index within = get_or_append_left ended more [] index within
-
 pub kept_longer : (wanted : List ℕ) (ended more entries : List (List ℕ)) (left : List (ℕ × ℕ)) →
     IsKept wanted ended entries left → IsKept wanted (ended ++ more) entries left
 kept_longer wanted ended more entries left kept =
@@ -95,7 +85,7 @@ kept_longer wanted ended more entries left kept =
         | inl waits ↦ inl waits
         | inr copied ↦ inr (record {
           within = omega (arith, copied.within, length-append ended more);
-          is = copied.is ∙ sym (entry_kept ended more (get_or wanted place 0) copied.within);
+          is = copied.is ∙ sym (get_or_append_left ended more [] (get_or wanted place 0) copied.within);
         })
       ];
     }

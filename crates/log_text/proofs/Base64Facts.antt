@@ -1,39 +1,38 @@
 -- Base64 is read as it is printed, and as nothing else; and group by group.
 use Rattle.std.proofs.Common.{◌≡◌, ◌<◌, ◌≤◌, ◌+◌, ◌*◌, ◌/◌, ◌%◌, ◌==◌, Decides, ℕ, suc, List, [], ◌∷◌, ◌++◌, length}
 use Rattle.std.proofs.Common.{get_or, take, drop, replicate, Option, Some, None, Result, Ok, Err, refl, sym, ap, ◌∙◌}
-use Rattle.std.proofs.Common.{subst, arith, inl, inr, add_assoc, length-append, length-take, zero-add}
-use Rattle.std.specs.Prelude.{◌&&◌, if◌then◌else◌, nat_eq, nat_lt, option_map, slice_index, All, IfErr, IfOk, IfSome}
+use Rattle.std.proofs.Common.{subst, arith, inl, inr, add_assoc, length-append, length-take, zero-add, ◌&&◌}
+use Rattle.std.proofs.Common.{if◌then◌else◌, nat_eq, nat_lt, option_map, slice_index, All, IfErr, IfOk, IfSome, ne_eqb}
+use Rattle.std.proofs.Common.{take-append-drop, take_at, drop_at, get_or-append-add}
 use Rattle.std.specs.Cmp.Lexicographic.{pointwise, bytes_decides}
-use Rattle.std.specs.Option.{option_and_then}
-use Rattle.std.specs.Result.{result_ok}
-use Rattle.std.proofs.lemmas.Bool.{cases_lt, ne_eqb}
+use Rattle.std.specs.{Option.option_and_then, Result.result_ok}
+use Rattle.std.proofs.lemmas.{Bool.cases_lt, List.get_or_past, List.length-replicate}
 use Rattle.std.proofs.lemmas.Bool.Decides.{Decides-and, Decides-eqb, Decides-like, Decides-ltb}
-use Rattle.std.proofs.lemmas.List.{get_or_past, length-replicate, take-append-drop, take_at, drop_at, get_or-append-add}
 use Rattle.std.proofs.lemmas.List.Elements.{All-append, All-cons, All-from_get_or, All-get_or, All-nil, All-replicate}
-use Rattle.base64.specs.Engines.{standard}
+use Rattle.base64.specs.{Engines.standard, Rfc4648.encode_symbols, Rfc4648.padding_len, Rfc4648.unpadded_len}
 use Rattle.base64.specs.GeneralPurpose.{IsBytes, IsDecodedInto, decode_of}
-use Rattle.base64.specs.Rfc4648.{encode_symbols, padding_len, unpadded_len}
-use Rattle.base64.specs.declared.decode.DecodeError.{DecodeError}
-use Rattle.base64.specs.declared.engine.general_purpose.GeneralPurpose.{GeneralPurpose}
+use Rattle.base64.specs.declared.{decode.DecodeError.DecodeError, engine.general_purpose.GeneralPurpose.GeneralPurpose}
 use Rattle.base64.proofs.EngineFacts.{decode_of-encode_of, decode_of_strict, encode_of-append, front_bytes}
 use Rattle.base64.proofs.RoundTrip.{length-encode_symbols}
 use Rattle.base64.proofs.Tables.{are_tables_alphabet, is_alphabet_printable, printable_range}
-use Rattle.log_text.specs.Lines.{are_bytes, base64, base64_bytes, digest_of}
-use Rattle.log_text.specs.Texts.{IsDigest}
+use Rattle.log_text.specs.{Lines.are_bytes, Lines.base64, Lines.base64_bytes, Lines.digest_of, Texts.IsDigest}
 use Rattle.log_text.proofs.TestFacts.{and_then, each_decided, found, itself, mapped, no_found, only_if, said_as}
 use Rattle.log_text.proofs.TestFacts.{same_found, IsFound}
 
 -- ---- bytes
 
+pub all_bytes : (bytes : List ℕ) → All (λ b. b < 256) bytes → IsBytes bytes
+all_bytes bytes all i = elim (cases_lt i (length bytes)) [
+  | inl within ↦ All-get_or (λ b. b < 256) bytes i 0 within all
+  | inr past ↦ let none : get_or bytes i 0 ≡ 0 = get_or_past bytes i 0 past in omega (arith, none)
+]
+
+bytes_all : (bytes : List ℕ) → IsBytes bytes → All (λ b. b < 256) bytes
+bytes_all bytes is = All-from_get_or (λ b. b < 256) bytes 0 (λ i within. is i)
+
 bytes_decided : (bytes : List ℕ) → Decides (are_bytes bytes) (IsBytes bytes)
 bytes_decided bytes =
-    Decides-like (are_bytes bytes)
-    (λ (all : All (λ b. b < 256) bytes) i.
-    elim (cases_lt i (length bytes)) [
-      | inl within ↦ All-get_or (λ b. b < 256) bytes i 0 within all
-      | inr past ↦ let none : get_or bytes i 0 ≡ 0 = get_or_past bytes i 0 past in omega (arith, none)
-    ])
-    (λ is. All-from_get_or (λ b. b < 256) bytes 0 (λ i within. is i))
+    Decides-like (are_bytes bytes) (all_bytes bytes) (bytes_all bytes)
     (each_decided (λ b. nat_lt b 256) (λ b. b < 256) (λ b. Decides-ltb b 256) bytes)
 
 -- ---- whole texts
@@ -155,10 +154,7 @@ back_bytes a b is i =
 
 joined_bytes : (a b : List ℕ) → IsBytes a → IsBytes b → IsBytes (a ++ b)
 joined_bytes a b a_is b_is =
-    (bytes_decided (a ++ b)).0
-    ((each_decided (λ x. nat_lt x 256) (λ x. x < 256) (λ x. Decides-ltb x 256) (a ++ b)).1
-    (All-append (λ x. x < 256) a b (All-from_get_or (λ x. x < 256) a 0 (λ i within. a_is i))
-    (All-from_get_or (λ x. x < 256) b 0 (λ i within. b_is i))))
+    all_bytes (a ++ b) (All-append (λ x. x < 256) a b (bytes_all a a_is) (bytes_all b b_is))
 
 -- three bytes ahead of others
 base64-append : (a b : List ℕ) → length a ≡ 3 → base64 (a ++ b) ≡ base64 a ++ base64 b

@@ -1,17 +1,14 @@
 -- A text is read as a consistency proof exactly if it is the text of that proof.
 use Rattle.std.proofs.Common.{◌≡◌, ◌≤◌, ◌+◌, true, false, ℕ, List, [], ◌∷◌, ◌++◌, length, refl, ap, ◌∙◌, subst, arith}
-use Rattle.std.specs.Prelude.{◌&&◌, codes, flat_map, All}
-use Rattle.std.proofs.lemmas.Bool.{ne_eqb}
+use Rattle.std.proofs.Common.{◌&&◌, codes, flat_map, All, ne_eqb}
 use Rattle.std.proofs.lemmas.List.Elements.{All-head}
 use Rattle.base64.specs.Rfc4648.{padding_len, unpadded_len}
-use Rattle.log_text.specs.Laws.{ConsistencyProofsAreSpelled}
-use Rattle.log_text.specs.Lines.{base64}
+use Rattle.log_text.specs.{Laws.ConsistencyProofsAreSpelled, Lines.base64}
 use Rattle.log_text.specs.Reading.{at_blank, consistency_by, digests_by, error_of}
 use Rattle.log_text.specs.Texts.{consistency_text, digest_line, line, IsConsistencyProof, IsDigest}
 use Rattle.log_text.specs.declared.error.Expected.TheVariants.{Blank, OldSize}
-use Rattle.log_text.proofs.Base64Facts.{base64_plain, length-base64}
+use Rattle.log_text.proofs.{Base64Facts.base64_plain, Base64Facts.length-base64, ManyFacts.many_spelled}
 use Rattle.log_text.proofs.LineFacts.{blank_decided, digest_spelled, number_spelled, that_spelled}
-use Rattle.log_text.proofs.ManyFacts.{many_spelled}
 use Rattle.log_text.proofs.ReadFacts.{gives, in_turn, says, turn}
 
 -- ---- digests up to a blank line

@@ -1,16 +1,13 @@
 -- Bytes are cut at the first byte of a kind, and a word is taken off that stands there.
 use Rattle.std.proofs.Common.{◌≡◌, ◌<◌, ◌≤◌, ◌+◌, ◌-◌, ◌==◌, Bool, true, false, ℕ, List, ◌∷◌, ◌++◌, length, get_or}
-use Rattle.std.proofs.Common.{take, drop, Option, Some, None, refl, sym, ap, ◌∙◌, arith, length-append, length-take, subst, add-one, drop-cons}
-use Rattle.std.specs.Prelude.{cond, nat_eq, nat_lt, option_map, position, All}
-use Rattle.std.specs.Cmp.Lexicographic.{pointwise, bytes_decides}
-use Rattle.std.specs.List.{position_or_len}
+use Rattle.std.proofs.Common.{take, drop, Option, Some, None, refl, sym, ap, ◌∙◌, arith, length-append, length-take}
+use Rattle.std.proofs.Common.{subst, add-one, drop-cons, cond, nat_eq, nat_lt, option_map, position, All, eq-eqb}
+use Rattle.std.proofs.Common.{eqb-true, ne_eqb, get_or-take, length-drop, take-append-drop, take_all}
+use Rattle.std.specs.{Cmp.Lexicographic.pointwise, Cmp.Lexicographic.bytes_decides, List.position_or_len}
 use Rattle.std.proofs.Math.Seq.{drop-append-add, drop-append_seam, get_or-append_seam, take-append_seam}
 use Rattle.std.proofs.lemmas.Bool.Decides.{Decides-ltb}
-use Rattle.std.proofs.lemmas.Bool.{eq-eqb, eqb-true, ne_eqb}
-use Rattle.std.proofs.lemmas.List.Quantifiers.{position-Some}
-use Rattle.std.proofs.lemmas.List.{get_or-take, get_or_append_left, length-drop, take-append-drop, take_all}
+use Rattle.std.proofs.lemmas.List.{Quantifiers.position-Some, get_or_append_left, Sums.position_or_len_is}
 use Rattle.std.proofs.lemmas.List.Elements.{All-from_get_or, All-get_or, All-weaker}
-use Rattle.std.proofs.lemmas.List.Sums.{position_or_len_is}
 use Rattle.log_text.specs.Lines.{after, cut_at}
 use Rattle.log_text.proofs.TestFacts.{found, itself, mapped, only_if, said_as, IsFound}
 
@@ -20,13 +17,8 @@ Lacks mark bytes = All (λ b. (b == mark) ≡ false) bytes
 
 pub lacks_below : (mark low : ℕ) (bytes : List ℕ) → mark < low → All (λ c. low ≤ c) bytes → Lacks mark bytes
 lacks_below mark low bytes less high =
-    All-weaker (λ c. low ≤ c) (λ b. (b == mark) ≡ false) (λ c above. ne_eqb c mark (λ is. omega (
-      arith,
-      above,
-      less,
-      is,
-    )))
-    bytes high
+    All-weaker (λ c. low ≤ c) (λ b. (b == mark) ≡ false)
+    (λ c above. ne_eqb c mark (λ is. omega (arith, above, less, is))) bytes high
 
 -- the bytes ahead of a place, and those after it
 abbrev parts_at : List ℕ → ℕ → List ℕ × List ℕ

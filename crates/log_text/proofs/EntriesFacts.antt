@@ -1,20 +1,16 @@
 -- A text is read as a proof of entries exactly if it is the text of that proof.
 use Rattle.std.proofs.Common.{◌≡◌, ◌<◌, ◌≤◌, ◌+◌, ◌==◌, true, false, ℕ, List, [], ◌∷◌, ◌++◌, length, get_or, take, drop}
 use Rattle.std.proofs.Common.{refl, sym, ap, ◌∙◌, subst, arith, append-nil, append_assoc, inl, inr, length-append}
-use Rattle.std.proofs.Common.{length-take, add-one, drop-cons}
-use Rattle.std.specs.Prelude.{◌&&◌, codes, decimal, flat_map, nat_lt, slice_index}
+use Rattle.std.proofs.Common.{length-take, add-one, drop-cons, ◌&&◌, codes, decimal, flat_map, nat_lt, slice_index}
+use Rattle.std.proofs.Common.{take-append-drop}
 use Rattle.std.proofs.Math.Seq.{drop-append-add, get_or-append_seam, take-append_seam}
-use Rattle.std.proofs.lemmas.Bool.{cases_lt}
-use Rattle.std.proofs.lemmas.Bool.Decides.{Decides-and, Decides-eqb, Decides-ltb}
-use Rattle.std.proofs.lemmas.List.{take-append-drop}
-use Rattle.log_text.specs.Laws.{EntriesProofsAreSpelled}
+use Rattle.std.proofs.lemmas.Bool.{cases_lt, Decides.Decides-and, Decides.Decides-eqb, Decides.Decides-ltb}
+use Rattle.log_text.specs.{Laws.EntriesProofsAreSpelled, Texts.IsEntry}
 use Rattle.log_text.specs.Reading.{bytes_by, digests_by, entries_by, entry_by, error_of, never}
-use Rattle.log_text.specs.Texts.{digest_line, entries_text, entry_lines, line, EntryFields, IsDigest}
-use Rattle.log_text.specs.Texts.{IsEntriesProof, IsEntry}
+use Rattle.log_text.specs.Texts.{digest_line, entries_text, entry_lines, line, EntryFields, IsDigest, IsEntriesProof}
 use Rattle.log_text.specs.declared.error.Expected.TheVariants.{DigestCount, EntryCount, ProofVersion}
 use Rattle.log_text.proofs.LineFacts.{digest_spelled, head_bytes, head_spelled, number_spelled, that_spelled}
-use Rattle.log_text.proofs.LineFacts.{version_decided}
-use Rattle.log_text.proofs.ManyFacts.{many_spelled}
+use Rattle.log_text.proofs.{LineFacts.version_decided, ManyFacts.many_spelled}
 use Rattle.log_text.proofs.ReadFacts.{ends, gives, holds, in_turn, read_as, says, turn, IsSpelled}
 
 -- ---- entries

@@ -1,22 +1,17 @@
 -- The lines of texts.
-use Rattle.std.proofs.Common.{◌≡◌, ◌≤◌, ◌^◌, ◌-◌, ◌==◌, Bool, true, false, Decides, ℕ, List, [], ◌∷◌, ◌++◌}
-use Rattle.std.proofs.Common.{length, Option, Some, None, refl, sym, ap, ◌∙◌, subst, arith, inl, inr}
-use Rattle.std.specs.Prelude.{◌⊎◌, if◌then◌else◌, not, codes, decimal, nat_eq, nat_le, slice_index, All}
+use Rattle.std.proofs.Common.{◌≡◌, ◌≤◌, ◌^◌, ◌-◌, ◌==◌, Bool, true, false, Decides, ℕ, List, [], ◌∷◌, ◌++◌, length}
+use Rattle.std.proofs.Common.{Option, Some, None, refl, sym, ap, ◌∙◌, subst, arith, inl, inr, ◌⊎◌, if◌then◌else◌, not}
+use Rattle.std.proofs.Common.{codes, decimal, nat_eq, nat_le, slice_index, All, eqb-true, leb-true}
 use Rattle.std.specs.Cmp.Lexicographic.{pointwise, bytes_decides}
-use Rattle.std.specs.List.{list_all}
-use Rattle.std.specs.Option.{option_map_or}
-use Rattle.std.specs.Str.{chars, is_utf8, IsUtf8}
-use Rattle.std.proofs.lemmas.Str.{IsUtf8-from_is_utf8}
-use Rattle.std.proofs.lemmas.Bool.{and_parts, eqb-true, leb-true}
-use Rattle.std.proofs.lemmas.Bool.Decides.{Decides-and, Decides-eqb, Decides-not}
-use Rattle.std.proofs.lemmas.List.{nil_from_length}
+use Rattle.std.specs.{List.list_all, Option.option_map_or, Str.chars, Str.is_utf8, Str.IsUtf8}
+use Rattle.std.proofs.lemmas.{Str.IsUtf8-from_is_utf8, List.nil_from_length}
+use Rattle.std.proofs.lemmas.Bool.{and_parts, Decides.Decides-and, Decides.Decides-eqb, Decides.Decides-not}
 use Rattle.std.proofs.lemmas.List.Elements.{All-append, All-cons, All-nil, All-weaker}
 use lib.Utf8.{encode}
 use Rattle.log_text.specs.Lines.{after, base64, base64_bytes, cut_at, dash, digest_of, head_of, is_key_name, is_line}
 use Rattle.log_text.specs.Lines.{is_origin, is_signature, is_signed, is_text, number_after, part_origin}
 use Rattle.log_text.specs.Reading.{digest_by, line_by, line_that, log_origin_by}
-use Rattle.log_text.specs.Texts.{digest_line, line, IsDigest}
-use Rattle.log_text.specs.declared.error.Expected.{Expected}
+use Rattle.log_text.specs.{Texts.digest_line, Texts.line, Texts.IsDigest, declared.error.Expected.Expected}
 use Rattle.log_text.specs.declared.error.Expected.TheVariants.{Blank, Digest, DigestOrBlank, EntryHead, Extension}
 use Rattle.log_text.specs.declared.error.Expected.TheVariants.{Origin, PartOrigin, ProofVersion, Signature}
 use Rattle.log_text.proofs.Base64Facts.{base64_found, base64_plain, digest_found}

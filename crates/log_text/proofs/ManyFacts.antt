@@ -1,11 +1,10 @@
 -- Values that are read one after another.
-use Rattle.std.proofs.Common.{◌≡◌, ◌<◌, ◌≤◌, ◌+◌, ◌-◌, Bool, true, false, ℕ, zero, suc, List, [], ◌∷◌, ◌++◌, length}
-use Rattle.std.proofs.Common.{Ok, Err, refl, sym, ap, ◌∙◌, subst, append_assoc, append-nil, arith}
-use Rattle.std.specs.Prelude.{flat_map, if◌then◌else◌, All}
+use Rattle.std.proofs.Common.{◌≡◌, ◌<◌, ◌≤◌, ◌+◌, ◌-◌, Bool, true, false, ℕ, zero, suc, List, [], ◌∷◌, ◌++◌, length, Ok}
+use Rattle.std.proofs.Common.{Err, refl, sym, ap, ◌∙◌, subst, append_assoc, append-nil, arith, flat_map, if◌then◌else◌}
+use Rattle.std.proofs.Common.{All}
 use Rattle.std.proofs.lemmas.List.Elements.{All-nil, All-cons, All-head, All-tail}
-use Rattle.log_text.specs.Inner.Rests.{rest_of}
+use Rattle.log_text.specs.{Inner.Rests.rest_of, declared.error.Stop.Stop}
 use Rattle.log_text.specs.Reading.{many, then_read, Reads}
-use Rattle.log_text.specs.declared.error.Stop.{Stop}
 use Rattle.log_text.proofs.ReadFacts.{either, gives, in_turn, read_as, turn, IsRead, IsSpelled}
 
 -- ---- lists are read as they are printed, and as nothing else

@@ -1,10 +1,8 @@
 -- Notes: checkpoints and parts, with extension lines and signatures.
-use Rattle.std.proofs.Common.{◌≡◌, true, false, ℕ, List, [], ◌++◌, length, append-nil, append_assoc, arith}
-use Rattle.std.proofs.Common.{Ok, Err, refl, sym, ◌∙◌, subst}
-use Rattle.std.specs.Prelude.{decimal, flat_map, nat_lt}
+use Rattle.std.proofs.Common.{◌≡◌, true, false, ℕ, List, [], ◌++◌, length, append-nil, append_assoc, arith, Ok, Err}
+use Rattle.std.proofs.Common.{refl, sym, ◌∙◌, subst, decimal, flat_map, nat_lt}
 use Rattle.std.proofs.lemmas.Bool.Decides.{Decides-ltb}
-use Rattle.log_text.specs.Lines.{is_origin, part_origin}
-use Rattle.log_text.specs.Inner.Rests.{rest_of}
+use Rattle.log_text.specs.{Lines.is_origin, Lines.part_origin, Inner.Rests.rest_of}
 use Rattle.log_text.specs.Reading.{after_origin, note_by, part_origin_by, then_read, Reads}
 use Rattle.log_text.specs.Texts.{checkpoint_text, digest_line, line, signature_lines, CheckpointFields, IsNote}
 use Rattle.log_text.specs.declared.error.Expected.TheVariants.{PartOrigin, Size}

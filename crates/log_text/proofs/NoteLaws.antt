@@ -1,25 +1,17 @@
 -- The laws of notes.
 use Rattle.std.proofs.Common.{◌≡◌, ◌≤◌, ◌+◌, ◌*◌, ◌==◌, true, ℕ, List, [], ◌∷◌, ◌++◌, length, Ok, sym, ap, ◌∙◌, arith}
-use Rattle.std.proofs.Common.{append_assoc, append-nil, length-append}
-use Rattle.std.specs.Prelude.{cond, count_by, decimal, flat_map}
-use Rattle.std.specs.List.{sum_by}
-use Rattle.std.specs.Str.{chars, encode_utf8_all}
-use Rattle.std.proofs.lemmas.Fmt.{length-decimal-le}
-use Rattle.std.proofs.lemmas.List.Elements.{All-nil}
-use Rattle.std.proofs.lemmas.List.Sums.{sum_by-append}
+use Rattle.std.proofs.Common.{append_assoc, append-nil, length-append, cond, count_by, decimal, flat_map}
+use Rattle.std.specs.{List.sum_by, Str.chars, Str.encode_utf8_all}
+use Rattle.std.proofs.lemmas.{Fmt.length-decimal-le, List.Elements.All-nil, List.Sums.sum_by-append}
 use Rattle.std.proofs.lemmas.Str.{encodes-chars, length-encode, len_utf8_bounds}
 use Rattle.base64.specs.Rfc4648.{padding_len, unpadded_len}
-use Rattle.log_text.specs.Lines.{base64, is_line, is_origin, part_origin}
+use Rattle.log_text.specs.{Lines.base64, Lines.is_line, Lines.is_origin, Lines.part_origin, Laws.ThreeLinesAreSpelled}
 use Rattle.log_text.specs.Laws.{CheckpointsAreReadAgain, NotesAreSpelled, PartsAreSpelled, SignaturesChangeNothing}
-use Rattle.log_text.specs.Laws.{ThreeLinesAreSpelled}
 use Rattle.log_text.specs.Reading.{checkpoint_in, error_of, log_origin_by, note_by, part_origin_by}
 use Rattle.log_text.specs.Texts.{checkpoint_text, line, signature_lines, CheckpointFields, IsCheckpoint, IsNote}
 use Rattle.log_text.specs.declared.error.Expected.TheVariants.{Extension, PartOrigin, Signature}
-use Rattle.log_text.proofs.Base64Facts.{length-base64}
+use Rattle.log_text.proofs.{Base64Facts.length-base64, LineFacts.IsLogOrigin, NoteFacts.note_read, ReadFacts.says}
 use Rattle.log_text.proofs.LineFacts.{log_origin_spelled, origin_parts, part_decided, part_is_origin, that_spelled}
-use Rattle.log_text.proofs.LineFacts.{IsLogOrigin}
-use Rattle.log_text.proofs.NoteFacts.{note_read}
-use Rattle.log_text.proofs.ReadFacts.{says}
 
 -- ---- notes
 

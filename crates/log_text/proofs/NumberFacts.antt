@@ -1,20 +1,14 @@
 -- Numbers are read as they are printed, and as nothing else.
-use Rattle.std.proofs.Common.{◌≡◌, ◌<◌, ◌≤◌, ◌^◌, Bool, true, false, ℕ, zero, suc, List, ◌++◌, length}
-use Rattle.std.proofs.Common.{get_or, Option, Some, None, Result, Ok, Err, refl, sym, ap, ◌∙◌, subst, arith, inl, inr}
-use Rattle.std.specs.Prelude.{◌&&◌, if◌then◌else◌, decimal, nat_eq, nat_le, All, MatchResult}
-use Rattle.std.specs.Bool.{then_some}
+use Rattle.std.proofs.Common.{◌≡◌, ◌<◌, ◌≤◌, ◌^◌, Bool, true, false, ℕ, zero, suc, List, ◌++◌, length, get_or, Option}
+use Rattle.std.proofs.Common.{Some, None, Result, Ok, Err, refl, sym, ap, ◌∙◌, subst, arith, inl, inr, ◌&&◌}
+use Rattle.std.proofs.Common.{if◌then◌else◌, decimal, nat_eq, nat_le, All, MatchResult}
+use Rattle.std.specs.{Bool.then_some, Option.SomeIff, Result.result_ok}
 use Rattle.std.specs.Cmp.Lexicographic.{pointwise, bytes_decides}
-use Rattle.std.specs.Option.{SomeIff}
-use Rattle.std.specs.Result.{result_ok}
-use Rattle.std.specs.Str.{IsUtf8}
-use Rattle.std.specs.Str.Parse.{digits_value, AllDigits, IsNumeral}
-use Rattle.std.proofs.lemmas.Bool.{cases_lt}
-use Rattle.std.proofs.lemmas.Bool.Decides.{Decides-and}
+use Rattle.std.specs.Str.{IsUtf8, Parse.digits_value, Parse.AllDigits, Parse.IsNumeral}
+use Rattle.std.proofs.lemmas.Bool.{cases_lt, Decides.Decides-and}
 use Rattle.std.proofs.lemmas.Fmt.{decimal-digits_value, decimal_digit, decimal_is_IsNumeral, first_decimal}
-use Rattle.std.proofs.lemmas.Fmt.{IsAscii-from_digits}
-use Rattle.std.proofs.lemmas.List.Elements.{All-from_get_or}
-use Rattle.std.proofs.lemmas.Str.{IsUtf8-from_ascii}
-use Rattle.std.proofs.lemmas.Str.Parse.{digit_at, IsNumeralModel}
+use Rattle.std.proofs.lemmas.{Fmt.IsAscii-from_digits, List.Elements.All-from_get_or}
+use Rattle.std.proofs.lemmas.Str.{IsUtf8-from_ascii, Parse.digit_at, Parse.IsNumeralModel}
 use Rattle.log_text.specs.Lines.{after, number_after, number_of}
 use Rattle.log_text.proofs.CutFacts.{after_found}
 use Rattle.log_text.proofs.TestFacts.{and_then, found, le_decided, no_found, only_if, said_as, same_found, IsFound}

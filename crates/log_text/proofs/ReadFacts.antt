@@ -1,15 +1,10 @@
 -- Parts of a text that are read as they are printed, and as nothing else.
-use Rattle.std.proofs.Common.{◌≡◌, Bool, true, false, Decides, ℕ, List, [], ◌∷◌, ◌++◌, Option, Some, None}
-use Rattle.std.proofs.Common.{Result, Ok, Err, refl, sym, ap, ◌∙◌, append_assoc, subst}
-use Rattle.std.specs.Prelude.{if◌then◌else◌, ◌↔◌}
-use Rattle.std.specs.Option.{option_map_or}
-use Rattle.std.specs.Result.{result_map_both}
-use Rattle.log_text.specs.Lines.{cut_at, passing}
+use Rattle.std.proofs.Common.{◌≡◌, Bool, true, false, Decides, ℕ, List, [], ◌∷◌, ◌++◌, Option, Some, None, Result, Ok}
+use Rattle.std.proofs.Common.{Err, refl, sym, ap, ◌∙◌, append_assoc, subst, if◌then◌else◌, ◌↔◌}
+use Rattle.std.specs.{Option.option_map_or, Result.result_map_both}
+use Rattle.log_text.specs.{Lines.cut_at, Lines.passing, Texts.line}
 use Rattle.log_text.specs.Reading.{ended, line_by, then_read, Reads}
-use Rattle.log_text.specs.Texts.{line}
-use Rattle.log_text.specs.declared.error.Expected.{Expected}
-use Rattle.log_text.specs.declared.error.Stop.{Stop}
-use Rattle.log_text.specs.declared.error.TextError.{TextError}
+use Rattle.log_text.specs.declared.error.{Expected.Expected, Stop.Stop, TextError.TextError}
 use Rattle.log_text.proofs.CutFacts.{cut_found, Lacks}
 use Rattle.log_text.proofs.TestFacts.{found, only_if, said_as, IsFound}
 

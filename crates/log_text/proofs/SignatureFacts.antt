@@ -1,9 +1,7 @@
 -- Extension lines and signatures.
-use Rattle.std.proofs.Common.{◌≡◌, ◌<◌, ◌≤◌, true, false, ℕ, List, [], ◌∷◌, ◌++◌, length, refl, ap}
-use Rattle.std.proofs.Common.{◌∙◌, subst, arith, inl, inr, append_assoc, length-append}
-use Rattle.std.specs.Prelude.{flat_map}
-use Rattle.std.proofs.lemmas.Bool.{eqb-true, ne_eqb, or_from, or_right}
-use Rattle.std.proofs.lemmas.List.{nil_from_length}
+use Rattle.std.proofs.Common.{◌≡◌, ◌<◌, ◌≤◌, true, false, ℕ, List, [], ◌∷◌, ◌++◌, length, refl, ap, ◌∙◌, subst, arith}
+use Rattle.std.proofs.Common.{inl, inr, append_assoc, length-append, flat_map, eqb-true, ne_eqb}
+use Rattle.std.proofs.lemmas.{Bool.or_from, Bool.or_right, List.nil_from_length}
 use Rattle.std.proofs.lemmas.List.Elements.{All-cons, All-head, All-nil, All-tail}
 use Rattle.log_text.specs.Reading.{at_end, at_text_end, extensions_by, line_that, signatures_by}
 use Rattle.log_text.specs.Texts.{line, signature_lines, AreLines}

@@ -1,10 +1,8 @@
 -- What tests tell, and what a value that is there came from.
 use Rattle.std.proofs.Common.{◌≡◌, ◌≤◌, Bool, true, false, Decides, ℕ, List, Option, Some, refl, sym, ap, ◌∙◌}
-use Rattle.std.specs.Prelude.{if◌then◌else◌, nat_le, option_map, All, None}
-use Rattle.std.specs.List.{list_all}
-use Rattle.std.specs.Option.{option_and_then}
-use Rattle.std.proofs.lemmas.Bool.{false_from_ne_true, le-leb, leb-true}
-use Rattle.std.proofs.lemmas.Bool.Decides.{Decides-by_and}
+use Rattle.std.proofs.Common.{if◌then◌else◌, nat_le, option_map, All, None, le-leb, leb-true}
+use Rattle.std.specs.{List.list_all, Option.option_and_then}
+use Rattle.std.proofs.lemmas.Bool.{false_from_ne_true, Decides.Decides-by_and}
 
 -- ---- tests
 

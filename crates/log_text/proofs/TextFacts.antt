@@ -1,12 +1,8 @@
 -- Text: UTF-8, origins and names.
-use Rattle.std.proofs.Common.{◌≡◌, ◌≤◌, ◌-◌, ◌==◌, Bool, true, false, ℕ, List, length, Some, None, Result, Ok, Err}
-use Rattle.std.proofs.Common.{sym, ap, arith}
-use Rattle.std.specs.Prelude.{◌&&◌, if◌then◌else◌, not, nat_le, slice_index, MatchResult}
-use Rattle.std.specs.List.{list_all}
-use Rattle.std.specs.Result.{is_ok, result_ok}
-use Rattle.std.specs.Str.{chars, is_utf8, IsUtf8}
-use Rattle.std.proofs.lemmas.Bool.{and_left, eqb-false, le-leb, ne_eqb}
-use Rattle.std.proofs.lemmas.Str.{is_utf8-from_IsUtf8, IsUtf8-from_is_utf8}
+use Rattle.std.proofs.Common.{◌≡◌, ◌≤◌, ◌-◌, ◌==◌, Bool, true, false, ℕ, List, length, Some, None, Result, Ok, Err, sym}
+use Rattle.std.proofs.Common.{ap, arith, ◌&&◌, if◌then◌else◌, not, nat_le, slice_index, MatchResult, le-leb, ne_eqb}
+use Rattle.std.specs.{List.list_all, Result.is_ok, Result.result_ok, Str.chars, Str.is_utf8, Str.IsUtf8}
+use Rattle.std.proofs.lemmas.{Bool.and_left, Bool.eqb-false, Str.is_utf8-from_IsUtf8, Str.IsUtf8-from_is_utf8}
 use Rattle.log_text.specs.Lines.{is_origin, passing}
 use Rattle.log_text.proofs.TestFacts.{fails}
 

@@ -21,11 +21,13 @@ pub fn checkpoints_are_read_again()
 
 /// A checkpoint of three lines, so without extension lines and signatures, has one spelling: it is printed as it was
 /// read.
+#[tactic(auto, using(crate::proofs::NoteLaws::three_lines))]
 pub fn three_lines_are_spelled()
     ensures { ThreeLinesAreSpelled }
 {}
 
 /// A note is read as its text is read without the signatures.
+#[tactic(auto, using(crate::proofs::NoteLaws::signed))]
 pub fn signatures_change_nothing()
     ensures { SignaturesChangeNothing }
 {}

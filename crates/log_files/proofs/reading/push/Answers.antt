@@ -1,19 +1,15 @@
 -- One step after another, until nothing is left or enough entries have ended.
-use Rattle.std.proofs.Common.{length-append, ◌<◌, ◌^◌, ◌≡◌, ◌+◌, ℕ, List, nat_lt, true, length, ◌∙◌, ◌++◌, [], ap, append-nil, append_assoc}
-use Rattle.std.proofs.Common.{arith, inl, inr, leb-true, refl, subst, sym}
-use Rattle.std.proofs.lemmas.Result.{err_from_is_err_and}
+use Rattle.std.proofs.Common.{length-append, ◌<◌, ◌^◌, ◌≡◌, ◌+◌, ℕ, List, nat_lt, true, length, ◌∙◌, ◌++◌, [], ap}
+use Rattle.std.proofs.Common.{append-nil, append_assoc, arith, inl, inr, leb-true, refl, subst, sym, ltb-true}
+use Rattle.std.proofs.lemmas.{Result.err_from_is_err_and, List.length-map, List.map-append}
 use Rattle.tlog_tree.specs.Builders.{IsBuilderOf}
-use Rattle.tlog.specs.Verdicts.{size_limit}
+use Rattle.tlog.specs.{Verdicts.size_limit, Rfc9162.leaf_hash}
 use Rattle.log_files.specs.Inner.Splitting.{AreTooMany, HasBuilt}
 use Rattle.log_files.proofs.BuiltFacts.{leaves, refused_by, size_of}
-use Rattle.log_files.proofs.EndFacts.{many_at}
-use Rattle.std.proofs.lemmas.Bool.{ltb-true}
-use Rattle.std.proofs.lemmas.List.{length-map, map-append}
+use Rattle.log_files.proofs.{EndFacts.many_at, SplitterFacts.none_of}
 use Rattle.sha2.specs.Sha256.{sha256}
-use Rattle.tlog.specs.Rfc9162.{leaf_hash}
-use Rattle.log_files.proofs.SplitterFacts.{none_of}
-use Rattle.log_files.proofs.reading.push.Goals as goal
 use Rattle.log_files.proofs.reading.push.Goals.{then-entries-test+else-not-is_full, else-entries-test}
+use Rattle.log_files.proofs.reading.push.Goals as goal
 
 pub entries-init : goal.entries-init
 entries-init c =
@@ -88,13 +84,9 @@ returns-in_err-tree-clause-refused c =
     let Many = AreTooMany c.args.splitter.now.cut c.args.splitter.now.limit bytes in
     let many : nat_lt size_limit (tree.frontier.size + length c.deref.result.now) ≡ true → Many = λ test.
     let count = ap length (c.deref.ensures.value ∙ step.hashed) ∙ length-map step.more (leaf_hash sha256) in
-    let all : 2 ^ 62 < length (now.ended ++ step.more) = omega (
-      arith,
-      ltb-true size_limit _ test,
-      count,
-      size_of now.ended nodes tree now.built,
-      length-append {A = List ℕ},
-    ) in
+    let far = ltb-true size_limit _ test in
+    let size = size_of now.ended nodes tree now.built in
+    let all : 2 ^ 62 < length (now.ended ++ step.more) = omega (arith, far, count, size, length-append {A = List ℕ}) in
     rw (← begun.0, ← begun.1, ← same.0, ← same.1, ← moved)
     (many_at wanted t ((front ++ taken) ++ step.read) (rest ++ more) (now.ended ++ step.more) step.at all) in
     rw p.1 (refused_by p.0 c.in_err-tree.field-0.0 _ Many p.2 c.in_err-tree.ensures.refused many)

@@ -1,16 +1,13 @@
 -- What was read so far has been built.
 use Rattle.std.proofs.Common.{◌⊎◌, ℕ, List, ◌≡◌, ◌++◌, ◌∙◌, [], append-nil, arith, inl, inr, leb-true, refl, subst, sym}
-use Rattle.std.proofs.Common.{take}
-use Rattle.std.proofs.lemmas.Result.{err_from_is_err_and}
+use Rattle.std.proofs.{Common.take, lemmas.Result.err_from_is_err_and}
 use Rattle.std.specs.Io.KnownBytes.{Consumes, ReadConsumes}
-use Rattle.log_files.specs.Inner.Splitting.{AreTooMany, IsReady}
-use Rattle.log_files.specs.declared.cut.Cut.{Cut}
-use Rattle.log_files.specs.declared.error.ReadError.{ReadError}
-use Rattle.log_files.specs.declared.error.ReadError.TheVariants.{OutOfMemory, TooManyEntries}
-use Rattle.log_files.proofs.BuiltFacts.{grown_on, whole_read}
-use Rattle.log_files.proofs.ReaderFacts.{consumes_kept, consumes_more, consumes_none, refused_reading}
-use Rattle.log_files.proofs.reading.read_through.Goals as goal
+use Rattle.log_files.specs.{Inner.Splitting.AreTooMany, Inner.Splitting.IsReady, declared.cut.Cut.Cut}
+use Rattle.log_files.specs.declared.error.ReadError.{ReadError, TheVariants.OutOfMemory, TheVariants.TooManyEntries}
+use Rattle.log_files.proofs.{BuiltFacts.grown_on, BuiltFacts.whole_read, ReaderFacts.refused_reading}
+use Rattle.std.proofs.KnownBytes.{Consumes-kept, Consumes-nil, Consumes-trans}
 use Rattle.log_files.proofs.reading.read_through.Goals.{in-Ok+in_ok-tree-in-Ok, in-Err}
+use Rattle.log_files.proofs.reading.read_through.Goals as goal
 
 pub loop-turn-init : goal.loop-turn-init
 loop-turn-init g c = record {
@@ -19,7 +16,7 @@ loop-turn-init g c = record {
   same = (refl, refl);
   built = λ nodes wanted b. (
     [],
-    consumes_none (g.Src.Read.remaining c.args.file.now),
+    Consumes-nil (g.Src.Read.remaining c.args.file.now),
     record { read = []; left = []; parts = refl; built = b; all_read = inl refl },
   );
 }
@@ -50,7 +47,7 @@ returns-in-Ok-eq0 g c =
       built = λ nodes wanted b.
           let (bytes, consumed, now) = c.loop-turn.invariant.built nodes wanted b in (
             bytes,
-            subst (Consumes begun after) (append-nil bytes) (consumes_more begun before after bytes [] consumed none),
+            subst (Consumes begun after) (append-nil bytes) (Consumes-trans begun before after bytes [] consumed none),
             now,
             inl at_end,
           );
@@ -77,7 +74,7 @@ loop-turn-preserved g c =
                 let (bytes, consumed, now) = c.loop-turn.invariant.built nodes wanted b in
                 let more = take w.in-Ok.count c.read.new.buf in (
                   bytes ++ more,
-                  consumes_more begun before after bytes more consumed w.in-Ok.ensures.bytes.0,
+                  Consumes-trans begun before after bytes more consumed w.in-Ok.ensures.bytes.0,
                   rw (w.splitter-is, w.tree-is) (grown_on nodes wanted c.loop-turn.splitter w.push.new.splitter
                       c.loop-turn.tree _ bytes more (sym c.is_full.ensures ∙ c.if-is_full.false) now
                       (pushed.built nodes wanted now.read now.built)),
@@ -91,7 +88,7 @@ loop-turn-preserved g c =
             built = λ nodes wanted b.
                 let (bytes, consumed, now) = c.loop-turn.invariant.built nodes wanted b in (
                   bytes,
-                  consumes_kept begun before after bytes consumed w.in-Err.ensures.bytes,
+                  Consumes-kept begun before after bytes consumed w.in-Err.ensures.bytes,
                   rw (w.splitter-is, w.tree-is) now,
                 );
           }
@@ -115,7 +112,7 @@ returns-in_err-tree-in-Ok-clause-refused g c =
     let whole = whole_read nodes wanted s c.loop-turn.tree [] bytes (sym c.is_full.ensures ∙ c.if-is_full.false) now in
     rw (p.1, p.2) (refused_reading c.in_err-tree-in-Ok.field-0.0 first.cut first.limit begun after now.read more
     (subst (λ xs. Consumes begun after (xs ++ more)) whole
-    (consumes_more begun before after bytes more consumed c.in-Ok.ensures.bytes.0))
+    (Consumes-trans begun before after bytes more consumed c.in-Ok.ensures.bytes.0))
     (λ rest. subst (λ k. IsRefused c.in_err-tree-in-Ok.field-0.0 k first.limit (now.read ++ (more ++ rest))) same.0
     (subst (λ n. IsRefused c.in_err-tree-in-Ok.field-0.0 s.cut n (now.read ++ (more ++ rest))) same.1
     (c.in_err-tree-in-Ok.ensures.refused nodes wanted now.read rest now.built))))

@@ -1,8 +1,7 @@
-use Rattle.std.proofs.Common.{◌≡◌, ◌+◌, ap, sym, ◌∙◌, arith}
-use Rattle.std.specs.Prelude.{option_map}
+use Rattle.std.proofs.Common.{◌≡◌, ◌+◌, ap, sym, ◌∙◌, arith, option_map}
 use Rattle.log_text.proofs.Base64Facts.{len_begins, len_more, len_of, len_refused, len_step, with_group}
-use Rattle.log_text.proofs.line.base64_len.Goals as goal
 use Rattle.log_text.proofs.line.base64_len.Goals.{After-decode}
+use Rattle.log_text.proofs.line.base64_len.Goals as goal
 
 pub loop-rest-init : goal.loop-rest-init
 loop-rest-init c = record { within = omega arith; same = len_begins c.args.text.now }

@@ -1,5 +1,4 @@
-use Rattle.std.proofs.Common.{◌≡◌, ◌≤◌, ◌+◌, ℕ, List, length}
-use Rattle.std.specs.Prelude.{option_map}
+use Rattle.std.proofs.Common.{◌≡◌, ◌≤◌, ◌+◌, ℕ, List, length, option_map}
 use Rattle.log_text.proofs.Base64Facts.{len_of}
 use Rattle.log_text.proofs.line.base64_len.Given as goal
 

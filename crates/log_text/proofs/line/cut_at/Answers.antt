@@ -1,10 +1,7 @@
-use Rattle.std.proofs.Common.{rules, ◌≡◌, ◌==◌}
-use Rattle.std.specs.Prelude.{position}
-use Rattle.std.proofs.lemmas.Iterator.{YieldsList-from_slice}
-use Rattle.std.proofs.lemmas.Iterator.Search.{position_from_yields_List}
-use Rattle.log_text.proofs.CutFacts.{cut_none, cut_some}
+use Rattle.std.proofs.Common.{rules, ◌≡◌, ◌==◌, position}
+use Rattle.std.proofs.lemmas.Iterator.{YieldsList-from_slice, Search.position_from_yields_List}
+use Rattle.log_text.proofs.{CutFacts.cut_none, CutFacts.cut_some, line.cut_at.Goals.After-position}
 use Rattle.log_text.proofs.line.cut_at.Goals as goal
-use Rattle.log_text.proofs.line.cut_at.Goals.{After-position}
 
 place : (c : After-position) → c.position.result ≡ position (λ b. b == c.args.mark) c.args.bytes.now
 place c =

@@ -1,13 +1,9 @@
 -- One more entry stands at the head of the bytes.
-use Rattle.std.proofs.Common.{◌∷◌, [], List, ℕ, Bor, map, ap, arith, sym, subst, length, length-append, ◌∙◌, refl}
+use Rattle.std.proofs.Common.{◌∷◌, [], map, ap, arith, sym, subst, length, length-append, ◌∙◌, refl}
 use Rattle.std.proofs.lemmas.List.{map-append}
 use Rattle.log_files.specs.Inner.Splitting.{AreAtHead}
-use Rattle.log_files.proofs.CutFacts.{more_at_head, none_at_head}
-use Rattle.log_files.proofs.EntryFacts.{none_open}
+use Rattle.log_files.proofs.{CutFacts.more_at_head, CutFacts.none_at_head, EntryFacts.bytes_of, EntryFacts.none_open}
 use Rattle.log_files.proofs.cut.Cut.entries_at_head.Goals as goal
-
-abbrev bytes_of : Bor (List ℕ) → List ℕ
-bytes_of entry = entry.now
 
 pub entries-init : goal.entries-init
 entries-init c =
@@ -26,15 +22,7 @@ entries-preserved c =
     let more = c.in_ok-push.ensures.items in
     let parts = c.in-Some.ensures [] refl (none_open cut c.requires) in
     record {
-      few = omega (
-        arith,
-        ap length more,
-        length-append entries (entry ∷ []),
-        c.entries-test.true,
-        c.min.ensures,
-        c.len.ensures,
-        c.entries.entries.ok.0,
-      );
+      few = omega (arith, ap length more, length-append entries (entry ∷ []), c.entries.entries.ok.0);
       at_head = subst (AreAtHead cut c.args.bytes.now c.in-Some.rest.now)
           (sym (ap (map bytes_of) more ∙ map-append bytes_of entries (entry ∷ [])))
           (more_at_head cut c.args.bytes.now c.entries.left.now c.in-Some.rest.now entry.now (map bytes_of entries)

@@ -1,20 +1,13 @@
 -- Whole entries are read, where none is open and there are any, else bytes of the open one.
-use Rattle.std.proofs.Common.{◌≡◌, ◌+◌, ◌-◌, ◌∙◌, ◌++◌, [], List, ℕ, Bor, ap, arith, drop, length, length-append}
-use Rattle.std.proofs.Common.{map, refl, subst, sym, take}
-use Rattle.std.proofs.lemmas.Bool.{eqb-false}
-use Rattle.std.proofs.lemmas.List.{length-map, nil_from_length}
-use Rattle.std.proofs.lemmas.Simd.{map-map}
+use Rattle.std.proofs.Common.{◌≡◌, ◌+◌, ◌-◌, ◌∙◌, ◌++◌, [], List, ℕ, Bor, ap, arith, drop, length, length-append, map}
+use Rattle.std.proofs.Common.{refl, subst, sym, take}
+use Rattle.std.proofs.lemmas.{Bool.eqb-false, Simd.map-map, List.length-map, List.nil_from_length}
 use Rattle.sha2.specs.Sha256.{sha256}
 use Rattle.tlog.specs.Rfc9162.{leaf_hash}
-use Rattle.log_files.specs.Inner.Splitting.{HoldsOpen}
-use Rattle.log_files.specs.Inner.Wanted.{HoldsWanted}
-use Rattle.log_files.specs.declared.splitter.Splitter.{Splitter}
-use Rattle.log_files.proofs.CutFacts.{fewer_left}
+use Rattle.log_files.specs.{Inner.Splitting.HoldsOpen, Inner.Wanted.HoldsWanted, declared.splitter.Splitter.Splitter}
+use Rattle.log_files.proofs.{EntryFacts.bytes_of, CutFacts.fewer_left}
 use Rattle.log_files.proofs.SplitterFacts.{fewer_after_whole, open_ended, open_grown, ready_after, whole_read}
 use Rattle.log_files.proofs.splitter.Splitter.read.Goals as goal
-
-abbrev bytes_of : Bor (List ℕ) → List ℕ
-bytes_of entry = entry.now
 
 pub returns-then-not-is_empty-clause-read : goal.returns-then-not-is_empty-clause-read
 returns-then-not-is_empty-clause-read c =
@@ -33,16 +26,7 @@ returns-then-not-is_empty-clause-read c =
     whole_read wanted s t front c.args.bytes.now c.in_ok-entries.rest.now ended entries _ c.requires.ready.cut refl b none
     head hashed (record {
       counted = omega (arith, b.holds.counted, many, length-append ended entries);
-      within = omega (
-        arith,
-        b.holds.counted,
-        b.holds.within,
-        few,
-        c.saturating_sub-most.ensures,
-        many,
-        length-map found bytes_of,
-        length-append ended entries,
-      );
+      within = omega (arith, b.holds.counted, b.holds.within, few, length-map found bytes_of, length-append ended entries);
       opened = subst (HoldsOpen s.open_entry) none b.holds.opened;
       kept = subst (λ xs. HoldsWanted c.copy.new.self wanted (ended ++ map bytes_of xs) []) c.deref.ensures.value
           (c.in_ok-copy.ensures.holds wanted ended b.holds.counted

@@ -1,14 +1,12 @@
 -- The next wanted entry is copied to its place.
-use Rattle.std.proofs.Common.{◌≡◌, ℕ, ◌-◌, ◌<◌, ◌++◌, List, [], ◌∙◌, All, Bor, ap, arith, drop, get_or, length, map}
+use Rattle.std.proofs.Common.{◌≡◌, ℕ, ◌-◌, ◌<◌, ◌++◌, [], ◌∙◌, All, ap, arith, drop, get_or, length, map}
 use Rattle.std.proofs.Common.{length-append, length-drop, set, subst, sym, take, take_all}
 use Rattle.std.proofs.lemmas.List.{get_or-append_right, get_or-map, length-map, length-set, map-set}
 use Rattle.std.proofs.lemmas.List.Elements.{All-drop, All-weaker}
+use Rattle.log_files.proofs.EntryFacts.{bytes_of}
 use Rattle.log_files.proofs.WantedFacts.{ascends_lower, kept_copy, kept_longer, next_left, none_begun}
 use Rattle.log_files.specs.Inner.Wanted.{is_next, IsAscending, IsKept}
 use Rattle.log_files.proofs.wanted.WantedEntries.copy.Goals as goal
-
-abbrev bytes_of : Bor (List ℕ) → List ℕ
-bytes_of entry = entry.now
 
 pub wanted-init : goal.wanted-init
 wanted-init c = record {
