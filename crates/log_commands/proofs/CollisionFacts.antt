@@ -1,48 +1,35 @@
 -- What accepted texts show of files.
-use Rattle.std.proofs.Common.{◌≡◌, ◌≤◌, ◌<◌, ◌-◌, ◌+◌, ◌∙◌, ℕ, zero, suc, List, [], ◌∷◌, ap, arith, length, map}
-use Rattle.std.proofs.Common.{get_or, refl, subst, sym, take, Option, None, Result, Ok, Err}
-use Rattle.std.specs.Prelude.{◌↔◌, All, IsNone, IsOk, flat_map, is_some, nat_lt, true}
-use Rattle.std.specs.List.{list_all, range_with_len}
-use Rattle.std.proofs.lemmas.Bool.{lt-ltb}
-use Rattle.std.proofs.lemmas.List.{get_or-map, length-map, length-take, take_min}
-use Rattle.std.proofs.lemmas.List.Elements.{All-weaker}
-use Rattle.std.proofs.lemmas.List.FromFn.{fill_by_all}
+use Rattle.std.proofs.Common.{◌≡◌, ◌≤◌, ◌<◌, ◌-◌, ◌∙◌, ℕ, List, [], ◌∷◌, ap, arith, length, map, get_or, refl, subst}
+use Rattle.std.proofs.Common.{sym, take, Option, None, Result, Ok, Err, ◌↔◌, All, IsNone, flat_map, is_some, nat_lt}
+use Rattle.std.proofs.Common.{lt-ltb, length-take}
+use Rattle.std.specs.List.{range_with_len}
+use Rattle.std.proofs.lemmas.List.{get_or-map, length-map, take_min, Elements.All-weaker, Sums.list_all-from_AllPass}
+use Rattle.std.proofs.lemmas.List.FromFn.{fill_by_all, get_or-range_with_len, length-range_with_len}
 use Rattle.sha2.specs.Sha256.{sha256}
 use Rattle.p3_merkle_core.specs.Refusals.{first_of, first_some, ok_unless}
 use Rattle.p3_merkle_core.proofs.Pruned.NoneFacts.{map_none, none_parts}
-use Rattle.tlog.specs.Rfc9162.{leaf_hash, root_of}
+use Rattle.tlog.specs.{Rfc9162.leaf_hash, Rfc9162.root_of, Collisions.entries_of}
 use Rattle.tlog.specs.Verdicts.{IsConsistent, consistency_refusal, size_limit}
 use Rattle.tlog.proofs.Accepted.{consistency_accepted}
-use Rattle.tlog.specs.declared.error.ProofError.{ProofError}
-use Rattle.tlog.specs.Collisions.{entries_of}
 use Rattle.tlog.specs.declared.collision.Collision.{Collision}
 use Rattle.tlog_collisions.specs.Fixed.{RootsFixPrefix}
-use Rattle.tlog_entries.specs.Entries.{entries_refusal}
-use Rattle.tlog_entries.specs.Fixed.{RootFixesLeaves}
+use Rattle.tlog_entries.specs.{Entries.entries_refusal, Fixed.RootFixesLeaves}
 use Rattle.tlog_entries.proofs.EntriesFacts.{unrefused}
 use Rattle.log_text.specs.Reading.{checkpoint_in, consistency_in, entries_in as proof_in}
 use Rattle.log_text.specs.Texts.{CheckpointFields, ConsistencyFields, EntriesFields, EntryFields, IsEntry}
 use Rattle.log_text.specs.declared.error.TextError.{TextError}
-use Rattle.log_text.proofs.EntriesFacts.{entries_proofs}
-use Rattle.log_text.proofs.NoteLaws.{notes}
+use Rattle.log_text.proofs.{EntriesFacts.entries_proofs, NoteLaws.notes}
 use Rattle.log_files.specs.Entries.{entries_in, entry_at, wanted_of}
-use Rattle.log_files.specs.declared.cut.Cut.{Cut}
-use Rattle.log_files.specs.declared.reading.ReadLog.{ReadLog}
+use Rattle.log_files.specs.declared.{cut.Cut.Cut, reading.ReadLog.ReadLog}
 use Rattle.log_commands.specs.Collisions.{AreEntriesOfFile, BeginsWithOldFile, IsCheckpointOf, IsCheckpointOfFile}
-use Rattle.log_commands.specs.Collisions.{IsEntryOf}
+use Rattle.log_commands.specs.{Collisions.IsEntryOf, Errors.entries_error}
 use Rattle.log_commands.specs.Inner.{AreProved, HasLeafIn, ReadsAs, entries_by}
-use Rattle.log_commands.specs.Errors.{entries_error}
-use Rattle.log_commands.specs.Outcomes.{and_then, checkpoint_of, consistency_refused}
-use Rattle.log_commands.specs.Outcomes.{entries_under, entry_refusal, growth_refusal, numbers_refusal, old_size_refusal}
-use Rattle.log_commands.specs.Outcomes.{printed, proof_refusal, said_by, said_inside}
-use Rattle.log_commands.specs.Outcomes.{verify_consistency_outcome, verify_outcome}
-use Rattle.log_commands.specs.declared.error.Error.{Error}
-use Rattle.log_commands.specs.declared.error.Error.TheVariants.{Refused}
-use Rattle.log_commands.specs.declared.error.Refusal.TheVariants.{Consistency}
-use Rattle.log_commands.specs.declared.error.Source.{Source}
-use Rattle.log_commands.specs.declared.error.Source.TheVariants.{Checkpoint, Old, Proof}
-use Rattle.log_commands.specs.declared.verify.Print.{Print}
-use Rattle.log_commands.specs.declared.verify.Print.TheVariants.{Raw}
+use Rattle.log_commands.specs.Outcomes.{and_then, checkpoint_of, consistency_refused, entries_under, entry_refusal}
+use Rattle.log_commands.specs.Outcomes.{growth_refusal, numbers_refusal, old_size_refusal, printed, proof_refusal}
+use Rattle.log_commands.specs.Outcomes.{said_by, said_inside, verify_consistency_outcome, verify_outcome}
+use Rattle.log_commands.specs.declared.error.{Error.Error, Error.TheVariants.Refused, Refusal.TheVariants.Consistency}
+use Rattle.log_commands.specs.declared.error.Source.{Source, TheVariants.Checkpoint, TheVariants.Old, TheVariants.Proof}
+use Rattle.log_commands.specs.declared.verify.Print.{Print, TheVariants.Raw}
 use Rattle.log_commands.proofs.LawFacts.{are_under, ok_none, said_ok, stepped, under_first}
 
 -- ---- results
@@ -54,14 +41,6 @@ pub not_both : {V E : Type 0} (r : Result V E) (v : V) (e : E) → r ≡ Ok v �
 not_both {V = V} {E = E} r v e a b = let both : ◌≡◌ {A = Result V E} (Ok v) (Err e) = sym a ∙ b in absurd cc
 
 -- ---- the entries under a checkpoint
-
--- they are the first of the file, and the checkpoint is theirs
-pub under_are : (cut : Cut) (c : CheckpointFields) (bytes : List ℕ) (entries : List (List ℕ)) →
-    entries_under cut c bytes ≡ Ok entries →
-    (entries ≡ take c.size (entries_in cut bytes)) × (c ≡ checkpoint_of c.origin entries)
-under_are cut c bytes entries is =
-    let u = are_under cut c bytes entries is in
-    (sym u.first, λ i. record { origin = c.origin; size = sym u.size i; root = sym u.root i })
 
 -- first entries of a file, where the checkpoint is theirs
 pub under_of : (cut : Cut) (c : CheckpointFields) (bytes : List ℕ) (n : ℕ) →
@@ -77,27 +56,21 @@ under_of cut c bytes n is small =
 
 -- the same by the text of the checkpoint
 pub record ByText (cut : Cut) (text file : List ℕ) (entries : List (List ℕ)) : Type 0 where
-  pub c : CheckpointFields
-  pub says : checkpoint_in text ≡ Ok c
-  pub are : entries ≡ take c.size (entries_in cut file)
-  pub of : c ≡ checkpoint_of c.origin entries
+  pub origin : List ℕ
+  pub n : ℕ
+  pub says : checkpoint_in text ≡ Ok (checkpoint_of origin entries)
+  pub are : take n (entries_in cut file) ≡ entries
   pub small : length entries ≤ size_limit
 
 pub by_text : (source : Source) (cut : Cut) (text file : List ℕ) (entries : List (List ℕ)) →
     entries_by source cut text file ≡ Ok entries → ByText cut text file entries
 by_text source cut text file entries is =
-    let found = stepped (said_by source (checkpoint_in text)) (λ c. entries_under cut c file) entries is in
-    let c = found.0 in
-    let says = said_ok source (checkpoint_in text) c found.1 in
-    let are = under_are cut c file entries found.2 in
-    let limit = ((notes text c).0 says).2.checkpoint.size in
-    record {
-      c = c;
-      says = says;
-      are = are.0;
-      of = are.1;
-      small = subst (λ (n : ℕ). n ≤ size_limit) (ap (λ (x : CheckpointFields). x.size) are.1) limit;
-    }
+    let (c, said, read) = stepped (said_by source (checkpoint_in text)) (λ c. entries_under cut c file) entries is in
+    let u = are_under cut c file entries read in
+    let says : checkpoint_in text ≡ Ok (checkpoint_of c.origin entries) = said_ok source (checkpoint_in text) c said
+    ∙ (λ i. Ok (record { origin = c.origin; size = sym u.size i; root = sym u.root i })) in
+    let small = ((notes text (checkpoint_of c.origin entries)).0 says).2.checkpoint.size in
+    record { origin = c.origin; n = c.size; says = says; are = u.first; small = small }
 
 pub of_text : (source : Source) (cut : Cut) (text file : List ℕ) (n : ℕ) →
     IsCheckpointOf (take n (entries_in cut file)) text →
@@ -116,9 +89,9 @@ not_of_file source cut text file e is of =
 
 -- the checkpoint of the entries that were read
 own_checkpoint : (cut : Cut) (text file : List ℕ) (entries : List (List ℕ)) (by : ByText cut text file entries) →
-    IsCheckpointOf (take by.c.size (entries_in cut file)) text
+    IsCheckpointOf (take by.n (entries_in cut file)) text
 own_checkpoint cut text file entries by =
-    (by.c.origin, by.says ∙ ap Ok (by.of ∙ ap (checkpoint_of by.c.origin) by.are))
+    subst (λ (es : List (List ℕ)). IsCheckpointOf es text) (sym by.are) (by.origin, by.says)
 
 -- ---- entries
 
@@ -126,14 +99,10 @@ own_checkpoint cut text file entries by =
 pub all_wanted : (entries : List (List ℕ)) (n : ℕ) → length entries ≡ n →
     wanted_of entries (range_with_len 0 n) ≡ entries
 all_wanted entries n is =
-    rw (all_below 0 n (length entries) (omega arith))
-    (sym (fill_by_all (entry_at entries) entries n [] is (λ k within. refl)))
-  where
-    all_below : (a n m : ℕ) → a + n ≤ m → list_all (λ i. nat_lt i m) (range_with_len a n) ≡ true
-    all_below a zero m room = refl
-    all_below a (suc n) m room =
-        let first : a < m = omega arith in
-        rw (lt-ltb a m first) (all_below (a + 1) n m (omega arith))
+    let all = list_all-from_AllPass (λ i. nat_lt i (length entries)) (range_with_len 0 n) (λ k d h.
+    let room = length-range_with_len 0 n in
+    lt-ltb _ (length entries) (omega (arith, get_or-range_with_len 0 n k d (omega (arith, h, room)), h, room, is))) in
+    rw all (sym (fill_by_all (entry_at entries) entries n [] is (λ k within. refl)))
 
 -- all entries of a checkpoint, where all are wanted
 pub read_all : (source : Source) (cut : Cut) (text file : List ℕ) (c : CheckpointFields) (indices : List ℕ)
@@ -142,9 +111,8 @@ pub read_all : (source : Source) (cut : Cut) (text file : List ℕ) (c : Checkpo
     entries_by source cut text file ≡ Ok (entries_of log.entries.items)
 read_all source cut text file c indices log says reads all =
     let (entries, is, has) = reads in
-    let len : length entries ≡ c.size = sym (ap (λ (x : CheckpointFields). x.size) (under_are cut c file entries is).1) in
     ap (λ r. and_then r (λ x. entries_under cut x file)) says ∙ is
-    ∙ ap Ok (sym (has.wanted_are ∙ ap (wanted_of entries) all ∙ all_wanted entries c.size len))
+    ∙ ap Ok (sym (has.wanted_are ∙ ap (wanted_of entries) all ∙ all_wanted entries c.size (are_under cut c file entries is).size))
 
 abbrev pub indices_in : List EntryFields → List ℕ
 indices_in es = map (λ (e : EntryFields). e.number - 1) es
@@ -152,44 +120,18 @@ indices_in es = map (λ (e : EntryFields). e.number - 1) es
 abbrev pub leaves_in : List EntryFields → List (List ℕ)
 leaves_in es = map (λ (e : EntryFields). leaf_hash sha256 e.bytes) es
 
--- what the verifier accepts under a checkpoint
-pub record Verified (print : Print) (checkpoint proof : List ℕ) (numbers : Option (List ℕ)) (text : List ℕ)
-    : Type 0 where
-  pub c : CheckpointFields
-  pub p : EntriesFields
-  pub says : checkpoint_in checkpoint ≡ Ok c
-  pub shows : proof_in proof ≡ Ok p
-  pub accepted : proof_refusal c p ≡ None
-  pub prints : text ≡ flat_map (printed print (is_some numbers)) p.entries
-
-module _ (print : Print) (checkpoint proof : List ℕ) (numbers : Option (List ℕ)) where
-  abbrev refused : CheckpointFields → EntriesFields → Option Error
-  refused c p =
-      first_some (numbers_refusal numbers p.entries ∷ first_of (entry_refusal print c.size) p.entries ∷ proof_refusal c p ∷ [])
-
-  abbrev text_of : CheckpointFields → EntriesFields → Result (List ℕ) Error
-  text_of c p = ok_unless (refused c p) (flat_map (printed print (is_some numbers)) p.entries)
-
-  pub verified : (text : List ℕ) → verify_outcome print checkpoint proof numbers ≡ Ok text →
-      Verified print checkpoint proof numbers text
-  verified text is =
-      let one = stepped (said_by Checkpoint (checkpoint_in checkpoint))
-      (λ c. and_then (said_by Proof (proof_in proof)) (text_of c)) text is in
-      let two = stepped (said_by Proof (proof_in proof)) (text_of one.0) text one.2 in
-      let c = one.0 in
-      let p = two.0 in
-      let none = ok_none (refused c p) (flat_map (printed print (is_some numbers)) p.entries) text two.2 in
-      let behind = none_parts (numbers_refusal numbers p.entries)
-      (first_some (first_of (entry_refusal print c.size) p.entries ∷ proof_refusal c p ∷ [])) none.0 in
-      let last = none_parts (first_of (entry_refusal print c.size) p.entries) (first_some (proof_refusal c p ∷ [])) behind.1 in
-      record {
-        c = c;
-        p = p;
-        says = said_ok Checkpoint (checkpoint_in checkpoint) c one.1;
-        shows = said_ok Proof (proof_in proof) p two.1;
-        accepted = (none_parts (proof_refusal c p) None last.1).0;
-        prints = sym none.1;
-      }
+-- what the verifier accepts and prints, by what the texts say
+pub verified : (print : Print) (checkpoint proof : List ℕ) (numbers : Option (List ℕ)) (c : CheckpointFields)
+    (p : EntriesFields) (text : List ℕ) → checkpoint_in checkpoint ≡ Ok c → proof_in proof ≡ Ok p →
+    verify_outcome print checkpoint proof numbers ≡ Ok text →
+    (proof_refusal c p ≡ None) × (flat_map (printed print (is_some numbers)) p.entries ≡ text)
+verified print checkpoint proof numbers c p text says shows is =
+    let (none, prints) = ok_none (first_some (numbers_refusal numbers p.entries
+    ∷ first_of (entry_refusal print c.size) p.entries ∷ proof_refusal c p ∷ []))
+    (flat_map (printed print (is_some numbers)) p.entries) text (rw (says, shows) at is) in
+    let behind = none_parts (numbers_refusal numbers p.entries) _ none in
+    let last = none_parts (first_of (entry_refusal print c.size) p.entries) _ behind.1 in
+    ((none_parts (proof_refusal c p) None last.1).0, prints)
 
 module _ (cut : Cut) (checkpoint proof file text : List ℕ) (entries : List (List ℕ)) (p : EntriesFields)
     (out : verify_outcome Raw checkpoint proof None ≡ Ok text)
@@ -202,18 +144,13 @@ module _ (cut : Cut) (checkpoint proof file text : List ℕ) (entries : List (Li
 
   -- the proof is accepted under the root of the file's entries
   pub proved : AreProved entries p
-  proved =
-      let v = verified Raw checkpoint proof None text out in
-      let c_is = same_ok (checkpoint_in checkpoint) v.c by.c v.says by.says ∙ by.of in
-      record {
-        from_1 = All-weaker IsEntry (λ (e : EntryFields). 1 ≤ e.number) (λ e is. is.from_1) p.entries
-            ((entries_proofs proof p).0 shows).0.entries;
-        accepted = map_none entries_error (entries_refusal sha256 (length entries) (indices_in p.entries)
-            (leaves_in p.entries) p.digests (root_of sha256 entries))
-            (subst (λ (x : CheckpointFields). proof_refusal x p ≡ None) c_is
-            (subst (λ (q : EntriesFields). proof_refusal v.c q ≡ None)
-            (same_ok (proof_in proof) v.p p v.shows shows) v.accepted));
-      }
+  proved = record {
+    from_1 = All-weaker IsEntry (λ (e : EntryFields). 1 ≤ e.number) (λ e is. is.from_1) p.entries
+        ((entries_proofs proof p).0 shows).0.entries;
+    accepted = map_none entries_error (entries_refusal sha256 (length entries) (indices_in p.entries)
+        (leaves_in p.entries) p.digests (root_of sha256 entries))
+        (verified Raw checkpoint proof None (checkpoint_of by.origin entries) p text by.says shows out).0;
+  }
 
   -- a collision is found unless the printed entries are the file's
   pub shown : (found : Option Collision) → (IsNone found ↔ All (IsEntryOf entries) p.entries) →
@@ -221,16 +158,15 @@ module _ (cut : Cut) (checkpoint proof file text : List ℕ) (entries : List (Li
   shown found iff = (
     λ none n q print numbers other of other_shows accepted.
         let same = same_ok (entries_by Checkpoint cut checkpoint file) entries (take n (entries_in cut file)) is
-        (of_text Checkpoint cut checkpoint file n of) in
-        let v = verified print checkpoint proof numbers other accepted in (
-          v.prints ∙ ap (λ (x : EntriesFields). flat_map (printed print (is_some numbers)) x.entries)
-              (same_ok (proof_in proof) v.p q v.shows other_shows),
+        (of_text Checkpoint cut checkpoint file n of) in (
+          sym (verified print checkpoint proof numbers (checkpoint_of by.origin entries) q other by.says other_shows
+              accepted).1,
           subst (λ (es : List (List ℕ)). All (IsEntryOf es) q.entries) same
               (subst (λ (x : EntriesFields). All (IsEntryOf entries) x.entries)
               (same_ok (proof_in proof) p q shows other_shows) (iff.0 none)),
         ),
-    λ own. iff.1 (subst (λ (es : List (List ℕ)). All (IsEntryOf es) p.entries) (sym by.are)
-        (own by.c.size p Raw None text (own_checkpoint cut checkpoint file entries by) shows out).1),
+    λ own. iff.1 (subst (λ (es : List (List ℕ)). All (IsEntryOf es) p.entries) by.are
+        (own by.n p Raw None text (own_checkpoint cut checkpoint file entries by) shows out).1),
   )
 
 -- ---- entries of an accepted proof
@@ -273,14 +209,6 @@ module _ (entries : List (List ℕ)) (p : EntriesFields) where
             ∙ ap (λ i. leaf_hash sha256 (get_or entries i [])) (index_at k d room);
       }
 
--- the leaf hashes, as the code computes them
-pub fixed_of : (entries : List (List ℕ)) (p : EntriesFields) (found : Option Collision) (indices : List ℕ)
-    (leaves digests : List (List ℕ)) → indices ≡ indices_in p.entries → leaves ≡ leaves_in p.entries →
-    digests ≡ p.digests → (IsNone found ↔ RootFixesLeaves sha256 entries indices leaves digests) →
-    IsNone found ↔ RootFixesLeaves sha256 entries (indices_in p.entries) (leaves_in p.entries) p.digests
-fixed_of entries p found indices leaves digests indices_are leaves_are digests_are iff =
-    rw (indices_are, leaves_are, digests_are) at iff
-
 -- what holds of each value holds of the one at k
 pub mapped_at : {R V : Type 0} (P : V → Type 0) (f : R → V) (xs : List R) (k : ℕ) (x : R) → k < length xs →
     x ≡ get_or xs k x → All P (map f xs) → P (f x)
@@ -289,56 +217,28 @@ mapped_at P f xs k x within is all =
 
 -- ---- consistency
 
--- what the verifier accepts between two checkpoints
-pub record Grown (old proof new : List ℕ) : Type 0 where
-  pub o : CheckpointFields
-  pub p : ConsistencyFields
-  pub n : CheckpointFields
-  pub o_says : checkpoint_in old ≡ Ok o
-  pub shows : consistency_in proof ≡ Ok p
-  pub n_says : checkpoint_in new ≡ Ok n
-  pub accepted : consistency_refusal sha256 o.size n.size p.digests o.root n.root ≡ None
-
 inside_ok : {V : Type 0} (r : Result V TextError) (v : V) → said_inside r ≡ Ok v → r ≡ Ok v
 inside_ok (Ok w) v is = let same : w ≡ v = cc in ap Ok same
 inside_ok (Err e) v is = absurd cc
 
-module _ (old proof : List ℕ) where
-  abbrev refused_new : CheckpointFields → ConsistencyFields → CheckpointFields → Option Error
-  refused_new o p n = first_some (growth_refusal Proof o n ∷ consistency_refused o n p.digests ∷ [])
-
-  abbrev with_new : CheckpointFields → ConsistencyFields → CheckpointFields → Result (List ℕ) Error
-  with_new o p n = ok_unless (refused_new o p n) p.checkpoint
-
-  abbrev with_size : CheckpointFields → ConsistencyFields → Unit {0} → Result (List ℕ) Error
-  with_size o p done = and_then (said_inside (checkpoint_in p.checkpoint)) (with_new o p)
-
-  abbrev with_proof : CheckpointFields → ConsistencyFields → Result (List ℕ) Error
-  with_proof o p = and_then (ok_unless (old_size_refusal o p) (tt {0})) (with_size o p)
-
-  pub grown : (new : List ℕ) → verify_consistency_outcome old proof ≡ Ok new → Grown old proof new
-  grown new is =
-      let one = stepped (said_by Old (checkpoint_in old))
-      (λ o. and_then (said_by Proof (consistency_in proof)) (with_proof o)) new is in
-      let o = one.0 in
-      let two = stepped (said_by Proof (consistency_in proof)) (with_proof o) new one.2 in
-      let p = two.0 in
-      let three = stepped (ok_unless (old_size_refusal o p) (tt {0})) (with_size o p) new two.2 in
-      let four = stepped (said_inside (checkpoint_in p.checkpoint)) (with_new o p) new three.2 in
-      let n = four.0 in
-      let last = ok_none (refused_new o p n) p.checkpoint new four.2 in
-      let both = none_parts (growth_refusal Proof o n) (first_some (consistency_refused o n p.digests ∷ [])) last.0 in
-      record {
-        o = o;
-        p = p;
-        n = n;
-        o_says = said_ok Old (checkpoint_in old) o one.1;
-        shows = said_ok Proof (consistency_in proof) p two.1;
-        n_says = subst (λ (t : List ℕ). checkpoint_in t ≡ Ok n) last.1 (inside_ok (checkpoint_in p.checkpoint) n four.1);
-        accepted = map_none (λ e. Refused Proof (Consistency e))
-            (consistency_refusal sha256 o.size n.size p.digests o.root n.root)
-            (none_parts (consistency_refused o n p.digests) None both.1).0;
-      }
+-- what the verifier accepts between two checkpoints, by what the texts say
+pub grown : (old proof new : List ℕ) (o n : CheckpointFields) (p : ConsistencyFields) → checkpoint_in old ≡ Ok o →
+    checkpoint_in new ≡ Ok n → consistency_in proof ≡ Ok p → verify_consistency_outcome old proof ≡ Ok new →
+    consistency_refusal sha256 o.size n.size p.digests o.root n.root ≡ None
+grown old proof new o n p old_says new_says shows is =
+    let refused = λ (b : CheckpointFields).
+    first_some (growth_refusal Proof o b ∷ consistency_refused o b p.digests ∷ []) in
+    let with_new = λ (b : CheckpointFields). ok_unless (refused b) p.checkpoint in
+    let (_, _, sized) = stepped (ok_unless (old_size_refusal o p) (tt {0}))
+    (λ _. and_then (said_inside (checkpoint_in p.checkpoint)) with_new) new (rw (old_says, shows) at is) in
+    let (b, said, last) = stepped (said_inside (checkpoint_in p.checkpoint)) with_new new sized in
+    let (none, same) = ok_none (refused b) p.checkpoint new last in
+    let b_is : b ≡ n = same_ok (checkpoint_in p.checkpoint) b n (inside_ok (checkpoint_in p.checkpoint) b said)
+    (ap checkpoint_in same ∙ new_says) in
+    let both = none_parts (growth_refusal Proof o b) _ none in
+    subst (λ (x : CheckpointFields). consistency_refusal sha256 o.size x.size p.digests o.root x.root ≡ None) b_is
+    (map_none (λ e. Refused Proof (Consistency e)) (consistency_refusal sha256 o.size b.size p.digests o.root b.root)
+    (none_parts (consistency_refused o b p.digests) None both.1).0)
 
 -- a collision is found unless the new file begins with the entries of the old one
 module _ (cut : Cut) (old proof old_file new_file new : List ℕ) (D E : List (List ℕ)) (p : ConsistencyFields)
@@ -352,20 +252,10 @@ module _ (cut : Cut) (old proof old_file new_file new : List ℕ) (D E : List (L
 
   consistent : IsConsistent sha256 (length D) (length E) p.digests (root_of sha256 D) (root_of sha256 E)
   consistent =
-      let g = grown old proof new out in
-      let p_is = same_ok (consistency_in proof) g.p p g.shows (said_ok Proof (consistency_in proof) p says) in
-      let o_is = same_ok (checkpoint_in old) g.o old_by.c g.o_says old_by.says ∙ old_by.of in
-      let n_is = same_ok (checkpoint_in new) g.n new_by.c g.n_says new_by.says ∙ new_by.of in
-      let none : consistency_refusal sha256 (length D) (length E) p.digests (root_of sha256 D) (root_of sha256 E) ≡ None =
-      subst (λ (n : CheckpointFields).
-      consistency_refusal sha256 (length D) n.size p.digests (root_of sha256 D) n.root ≡ None) n_is
-      (subst (λ (o : CheckpointFields).
-      consistency_refusal sha256 o.size g.n.size p.digests o.root g.n.root ≡ None) o_is
-      (subst (λ (q : ConsistencyFields).
-      consistency_refusal sha256 g.o.size g.n.size q.digests g.o.root g.n.root ≡ None) p_is g.accepted)) in
-      let ok : IsOk {T = Unit {0}} {E = ProofError} (Ok tt) = search in
+      let none = grown old proof new (checkpoint_of old_by.origin D) (checkpoint_of new_by.origin E) p old_by.says
+      new_by.says (said_ok Proof (consistency_in proof) p says) out in
       ((consistency_accepted sha256 (length D) (length E) p.digests (root_of sha256 D) (root_of sha256 E) (Ok tt)
-      (sym none)).0 ok).1
+      (sym none)).0 (search)).1
 
   pub begins : (found : Option Collision) → (IsNone found ↔ RootsFixPrefix sha256 D E p.digests) →
       IsNone found ↔ BeginsWithOldFile cut old_file new_file old proof
@@ -381,9 +271,8 @@ module _ (cut : Cut) (old proof old_file new_file new : List ℕ) (D E : List (L
         subst (λ (es : List (List ℕ)). all ≡ take (length all) es) same
         (subst (λ (ds : List (List ℕ)). ds ≡ take (length ds) E) old_same (iff.0 none new_by.small consistent)),
     λ all. iff.1 (λ small is.
-        subst (λ (es : List (List ℕ)). D ≡ take (length D) es) (sym new_by.are)
-        (subst (λ (ds : List (List ℕ)). ds ≡ take (length ds) (take new_by.c.size (entries_in cut new_file)))
-        (sym old_by.are)
-        (all old_by.c.size new_by.c.size new (own_checkpoint cut old old_file D old_by) out
+        subst (λ (es : List (List ℕ)). D ≡ take (length D) es) new_by.are
+        (subst (λ (ds : List (List ℕ)). ds ≡ take (length ds) (take new_by.n (entries_in cut new_file))) old_by.are
+        (all old_by.n new_by.n new (own_checkpoint cut old old_file D old_by) out
         (own_checkpoint cut new new_file E new_by)))),
   )

@@ -1,19 +1,15 @@
 -- Bytes behind the end of an entry are further entries, and the entries of a file can be printed as it is cut.
-use Rattle.std.proofs.Common.{◌≡◌, ◌≤◌, ◌-◌, ◌==◌, ◌∙◌, ℕ, List, [], ◌∷◌, ◌++◌, ap, arith, eq-eqb, inl, inr, length, refl, sym}
-use Rattle.std.proofs.Common.{append-nil, None}
-use Rattle.std.specs.Prelude.{◌&&◌, not, Bool, true, false, nat_le}
-use Rattle.std.specs.List.{concat, flat_map, list_all}
-use Rattle.std.proofs.lemmas.Bool.{and_from, cases_eq, le-leb, ne_eqb}
-use Rattle.std.proofs.lemmas.List.Elements.{All-get_or, All-head, All-tail}
+use Rattle.std.proofs.Common.{◌≡◌, ◌≤◌, ◌-◌, ◌==◌, ◌∙◌, ℕ, List, [], ◌∷◌, ◌++◌, ap, arith, eq-eqb, inl, inr, length}
+use Rattle.std.proofs.Common.{refl, sym, append-nil, None, ◌&&◌, not, Bool, true, false, nat_le, le-leb, ne_eqb}
+use Rattle.std.specs.List.{concat, flat_map}
+use Rattle.std.proofs.lemmas.{Bool.and_from, Bool.cases_eq, List.Elements.All-get_or, List.Sums.list_all-from_AllPass}
 use Rattle.log_files.specs.Entries.{entries_in, entry_at, is_refused, partial_of, refuses, IsCut}
 use Rattle.log_files.specs.Inner.Splitting.{LacksFeed}
-use Rattle.log_files.specs.declared.cut.Cut.{Cut}
-use Rattle.log_files.specs.declared.cut.Cut.TheVariants.{Blocks as InBlocks, Lines as InLines}
+use Rattle.log_files.specs.declared.cut.Cut.{Cut, TheVariants.Blocks as InBlocks, TheVariants.Lines as InLines}
 use Rattle.log_files.proofs.CutFiles.{block_is, entries_grow, lines_lack, no_entries, no_rest, rest_grows}
 use Rattle.log_commands.specs.Laws.{EndsWithEntry, EndWithEntries, FilesGrow, FitsCut}
 use Rattle.log_commands.specs.Outcomes.{is_printable}
-use Rattle.log_commands.specs.declared.verify.Print.{Print}
-use Rattle.log_commands.specs.declared.verify.Print.TheVariants.{Blocks, Lines, Raw}
+use Rattle.log_commands.specs.declared.verify.Print.{Print, TheVariants.Blocks, TheVariants.Lines, TheVariants.Raw}
 
 pub files_grow : FilesGrow
 files_grow cut file more is end = entries_grow cut is file more end
@@ -43,11 +39,6 @@ none_refused cut is =
     by true = refl
     by false = refl
 
-plain : (line : List ℕ) → LacksFeed line → list_all (λ b. not (b == 10)) line ≡ true
-plain [] lacks = refl
-plain (b ∷ line) lacks =
-    rw (All-head (λ c. (c == 10) ≡ false) b line lacks) (plain line (All-tail (λ c. (c == 10) ≡ false) b line lacks))
-
 -- an entry of a file by its number, under a checkpoint of so many entries
 pub prints : (print : Print) (cut : Cut) (file : List ℕ) (size n : ℕ) → IsCut cut → FitsCut print cut → 1 ≤ n →
     n ≤ size → size ≤ length (entries_in cut file) →
@@ -57,7 +48,8 @@ prints Lines (InBlocks len) file size n is fits from to inside = absurd fits
 prints (Blocks len) (InLines partial) file size n is fits from to inside = absurd fits
 prints Lines (InLines partial) file size n is fits from to inside =
     let entries = entries_in (InLines partial) file in
-    plain (entry_at entries (n - 1)) (All-get_or LacksFeed entries (n - 1) [] (omega arith) (lines_lack partial file))
+    let lacks = All-get_or LacksFeed entries (n - 1) [] (omega arith) (lines_lack partial file) in
+    list_all-from_AllPass (λ b. not (b == 10)) (entry_at entries (n - 1)) (λ k d h. ap not (lacks k d h))
 prints (Blocks len) (InBlocks block) file size n is fits from to inside =
     let bytes = entry_at (entries_in (InBlocks block) file) (n - 1) in
     let b = block_is block file (n - 1) is (omega arith) in

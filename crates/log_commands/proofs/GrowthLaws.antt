@@ -1,44 +1,31 @@
 -- Growth is proved, and its proofs are accepted.
-use Rattle.std.proofs.Common.{◌≡◌, ◌≤◌, ◌<◌, ◌==◌, ◌∙◌, ℕ, List, [], ◌∷◌, ◌++◌, ap, arith, eq-eqb, inl, inr, length}
-use Rattle.std.proofs.Common.{length-append, refl, sym, subst, take, None, Some, Ok, Err, Option}
-use Rattle.std.proofs.Common.{map}
-use Rattle.std.specs.Prelude.{◌||◌, not, true, nat_le}
-use Rattle.std.specs.Cmp.Lexicographic.{bytes_decides}
-use Rattle.std.specs.Option.{option_map}
-use Rattle.std.proofs.lemmas.Bool.{cases_eq, le-leb, leb-true, ne_eqb, true≢false}
-use Rattle.std.proofs.lemmas.List.{append-nil, nil_from_length, take_at, length-map}
-use Rattle.std.proofs.lemmas.List.Elements.{All-nil}
-use Rattle.p3_merkle_core.specs.Refusals.{first_some, ok_unless, unless}
+use Rattle.std.proofs.Common.{◌≡◌, ◌≤◌, ◌<◌, ◌==◌, ◌∙◌, ℕ, zero, suc, List, [], ◌∷◌, ◌++◌, ap, arith, eq-eqb, inl, inr}
+use Rattle.std.proofs.Common.{length, length-append, refl, sym, subst, None, Some, Ok, Err, Option, map, ◌||◌, not}
+use Rattle.std.proofs.Common.{true, nat_le, le-leb, leb-true, ne_eqb, true≢false, append-nil, take_at}
+use Rattle.std.specs.{Cmp.Lexicographic.bytes_decides, Option.option_map}
+use Rattle.std.proofs.lemmas.{Bool.cases_eq, List.nil_from_length, List.length-map, List.Elements.All-nil}
+use Rattle.p3_merkle_core.specs.Refusals.{ok_unless, unless}
 use Rattle.p3_merkle_core.proofs.Pruned.NoneFacts.{map_none, none_parts, unless_none}
 use Rattle.sha2.specs.Sha256.{sha256}
 use Rattle.tlog.specs.Rfc9162.{leaf_hash, proof_of, root_of, Hash, consistency_proof, subproof_within}
 use Rattle.tlog.specs.Verdicts.{consistency_refusal, is_same, size_limit, IsConsistent}
 use Rattle.tlog.specs.declared.error.ProofError.{ProofError}
-use Rattle.tlog.proofs.Accepted.{consistency_accepted}
+use Rattle.tlog.proofs.{Accepted.consistency_accepted, Layers.itself, Roots.proof_few, Roots.AreFew}
 use Rattle.tlog.proofs.Honest.{honest_grown, root_of_none, sub_whole}
-use Rattle.tlog.proofs.Roots.{proof_few, AreFew}
 use Rattle.log_text.specs.Reading.{checkpoint_in, consistency_in}
 use Rattle.log_text.specs.Texts.{consistency_text, CheckpointFields, ConsistencyFields, IsConsistencyProof, IsDigest}
-use Rattle.log_text.proofs.ConsistencyFacts.{consistency_proofs}
-use Rattle.log_text.proofs.NoteLaws.{notes}
-use Rattle.log_commands.specs.Laws.{GrowthIsAccepted, GrowthIsProved}
+use Rattle.log_text.proofs.{ConsistencyFacts.consistency_proofs, NoteLaws.notes}
+use Rattle.log_commands.specs.{Laws.GrowthIsAccepted, Laws.GrowthIsProved, Outcomes.verify_consistency_outcome}
 use Rattle.log_commands.specs.Outcomes.{and_then, checkpoint_of, compared, consistency_refused, entries_under}
-use Rattle.log_commands.specs.Outcomes.{growth_digests, growth_refusal, growth_text, old_size_refusal, prove_growth}
-use Rattle.log_commands.specs.Outcomes.{said_by, said_inside, verify_consistency_outcome}
-use Rattle.log_commands.specs.declared.error.Error.TheVariants.{Refused}
-use Rattle.log_commands.specs.declared.error.Refusal.TheVariants.{Consistency, OtherOldEntries, OtherOldSize}
-use Rattle.log_commands.specs.declared.error.Source.{Source}
+use Rattle.log_commands.specs.Outcomes.{growth_digests, growth_refusal, growth_text, prove_growth, said_by}
+use Rattle.log_commands.specs.declared.error.{Error.TheVariants.Refused, Source.Source}
+use Rattle.log_commands.specs.declared.error.Refusal.TheVariants.{Consistency, OtherOldEntries}
 use Rattle.log_commands.specs.declared.error.Source.TheVariants.{File, New, Old, Proof}
 use Rattle.log_commands.proofs.LawFacts.{are_under, entries_root, first_under, ok_none, said_ok, stepped}
-use Rattle.tlog.proofs.Layers.{itself}
 use Rattle.tlog_tree.specs.Trees.{all_there, values_at}
 use Rattle.tlog_entries.proofs.Subproofs.{subproof_map}
 
--- from size 0 there are no digests
-pub zero_none : (entries : List (List ℕ)) → growth_digests 0 entries ≡ []
-zero_none entries = refl
-
--- from more they are PROOF
+-- from a size above 0 the digests are PROOF
 pub some_are : (old : ℕ) (entries : List (List ℕ)) → 0 < old → growth_digests old entries ≡ proof_of sha256 old entries
 some_are old entries some =
     let other : old ≡ 0 → ⊥ = λ is. absurd (omega arith) in rw (ne_eqb old 0 other) refl
@@ -82,25 +69,20 @@ other_source a b old new none =
     rw (origin_is, size_is, root_is) refl
 
 -- two checkpoints that texts say, the new one of which may follow the old one
-record AreCompared (old new : List ℕ) (o n : CheckpointFields) : Type 0 where
-  old_is : checkpoint_in old ≡ Ok o
-  new_is : checkpoint_in new ≡ Ok n
-  follows : growth_refusal New o n ≡ None
-
-are_compared : (old new : List ℕ) (o n : CheckpointFields) → compared old new ≡ Ok (o, n) → AreCompared old new o n
+are_compared : (old new : List ℕ) (o n : CheckpointFields) → compared old new ≡ Ok (o, n) →
+    (checkpoint_in old ≡ Ok o) × (checkpoint_in new ≡ Ok n) × (growth_refusal New o n ≡ None)
 are_compared old new o n is =
-    let one = stepped (said_by Old (checkpoint_in old)) (λ a. and_then (said_by New (checkpoint_in new)) (λ b.
-    ok_unless (growth_refusal New a b) (a, b))) (o, n) is in
-    let other = stepped (said_by New (checkpoint_in new)) (λ b. ok_unless (growth_refusal New one.0 b) (one.0, b))
-    (o, n) one.2 in
-    let found = ok_none (growth_refusal New one.0 other.0) (one.0, other.0) (o, n) other.2 in
-    let old_same : one.0 ≡ o = ap (λ (p : CheckpointFields × CheckpointFields). p.0) found.1 in
-    let new_same : other.0 ≡ n = ap (λ (p : CheckpointFields × CheckpointFields). p.1) found.1 in
-    record {
-      old_is = said_ok Old (checkpoint_in old) one.0 one.1 ∙ ap Ok old_same;
-      new_is = said_ok New (checkpoint_in new) other.0 other.1 ∙ ap Ok new_same;
-      follows = (λ i. growth_refusal New (sym old_same i) (sym new_same i)) ∙ found.0;
-    }
+    let with_new = λ (a b : CheckpointFields). ok_unless (growth_refusal New a b) (a, b) in
+    let (a, one, more) = stepped (said_by Old (checkpoint_in old))
+    (λ a. and_then (said_by New (checkpoint_in new)) (with_new a)) (o, n) is in
+    let (b, other, last) = stepped (said_by New (checkpoint_in new)) (with_new a) (o, n) more in
+    let (none, same) = ok_none (growth_refusal New a b) (a, b) (o, n) last in
+    let a_is : a ≡ o = ap (λ (p : CheckpointFields × CheckpointFields). p.0) same in
+    let b_is : b ≡ n = ap (λ (p : CheckpointFields × CheckpointFields). p.1) same in (
+      said_ok Old (checkpoint_in old) a one ∙ ap Ok a_is,
+      said_ok New (checkpoint_in new) b other ∙ ap Ok b_is,
+      (λ i. growth_refusal New (sym a_is i) (sym b_is i)) ∙ none,
+    )
 
 same_itself : (bytes : List ℕ) → is_same bytes bytes ≡ true
 same_itself bytes = (bytes_decides bytes bytes).1 refl
@@ -113,15 +95,10 @@ size_of text c is = let found = (notes text c).0 is in found.2.checkpoint.size
 -- the digests that are sent
 sent : (old_size : ℕ) (entries : List (List ℕ)) → old_size ≤ length entries → length entries ≤ size_limit →
     AreFew IsDigest 63 (growth_digests old_size entries)
-sent old_size entries inside small =
-    elim (cases_eq old_size 0) [
-      | inl none ↦
-          subst (AreFew IsDigest 63) (sym (ap (λ n. growth_digests n entries) none ∙ zero_none entries))
-          (record { few = omega arith; each = All-nil IsDigest })
-      | inr some ↦
-          let more : 0 < old_size = omega arith in
-          subst (AreFew IsDigest 63) (sym (some_are old_size entries more)) (proof_few IsDigest sha256 entries_root old_size entries more inside small)
-    ]
+sent zero entries inside small = record { few = omega arith; each = All-nil IsDigest }
+sent (suc k) entries inside small =
+    subst (AreFew IsDigest 63) (sym (some_are (suc k) entries (omega arith)))
+    (proof_few IsDigest sha256 entries_root (suc k) entries (omega arith) inside small)
 
 -- a proof that is read, between checkpoints that fit
 verified : (old proof : List ℕ) (o n : CheckpointFields) (p : ConsistencyFields) → checkpoint_in old ≡ Ok o →
@@ -129,48 +106,28 @@ verified : (old proof : List ℕ) (o n : CheckpointFields) (p : ConsistencyField
     growth_refusal Proof o n ≡ None → consistency_refused o n p.digests ≡ None →
     verify_consistency_outcome old proof ≡ Ok p.checkpoint
 verified old proof o n p old_is proof_is size_is new_is follows accepted =
-    ap (λ r. and_then (said_by Old r) (λ a. and_then (said_by Proof (consistency_in proof)) (λ q.
-    and_then (ok_unless (old_size_refusal a q) (tt {0})) (λ _.
-    and_then (said_inside (checkpoint_in q.checkpoint)) (λ b.
-    ok_unless (first_some (growth_refusal Proof a b ∷ consistency_refused a b q.digests ∷ [])) q.checkpoint)))))
-    old_is
-    ∙ ap (λ r. and_then (said_by Proof r) (λ q.
-    and_then (ok_unless (old_size_refusal o q) (tt {0})) (λ _.
-    and_then (said_inside (checkpoint_in q.checkpoint)) (λ b.
-    ok_unless (first_some (growth_refusal Proof o b ∷ consistency_refused o b q.digests ∷ [])) q.checkpoint))))
-    proof_is
-    ∙ ap (λ t. and_then (ok_unless (unless t (Refused Proof (OtherOldSize p.old_size o.size))) (tt {0})) (λ _.
-    and_then (said_inside (checkpoint_in p.checkpoint)) (λ b.
-    ok_unless (first_some (growth_refusal Proof o b ∷ consistency_refused o b p.digests ∷ [])) p.checkpoint)))
-    (eq-eqb p.old_size o.size size_is)
-    ∙ ap (λ r. and_then (said_inside r) (λ b.
-    ok_unless (first_some (growth_refusal Proof o b ∷ consistency_refused o b p.digests ∷ [])) p.checkpoint)) new_is
-    ∙ (λ i. ok_unless (first_some (follows i ∷ accepted i ∷ [])) p.checkpoint)
+    rw (old_is, proof_is, eq-eqb p.old_size o.size size_is, new_is, follows, accepted) refl
 
 pub growth_is_accepted : GrowthIsAccepted
 growth_is_accepted cut old new file proof is =
-    let pair = stepped (compared old new) (λ (o, n). prove_growth cut o n new file) proof is in
-    let o = pair.0.0 in
-    let n = pair.0.1 in
-    let both = are_compared old new o n pair.1 in
-    let read = stepped (entries_under cut n file) (growth_text o n new) proof pair.2 in
-    let entries = read.0 in
-    let under = are_under cut n file entries read.1 in
+    let ((o, n), pair, more) = stepped (compared old new) (λ (o, n). prove_growth cut o n new file) proof is in
+    let (old_is, new_is, follows) = are_compared old new o n pair in
+    let (entries, read, last) = stepped (entries_under cut n file) (growth_text o n new) proof more in
+    let under = are_under cut n file entries read in
     let digests = growth_digests o.size entries in
     let p : ConsistencyFields = record { old_size = o.size; digests = digests; checkpoint = new } in
-    let found = ok_none (option_map (λ e. Refused File OtherOldEntries)
-    (consistency_refusal sha256 o.size n.size digests o.root n.root)) (consistency_text p) proof read.2 in
-    let accepted = map_none (λ (e : ProofError). Refused File OtherOldEntries)
-    (consistency_refusal sha256 o.size n.size digests o.root n.root) found.0 in
+    let refusal = consistency_refusal sha256 o.size n.size digests o.root n.root in
+    let (none, text_is) = ok_none (option_map (λ e. Refused File OtherOldEntries) refusal) (consistency_text p) proof last in
+    let accepted = map_none (λ (e : ProofError). Refused File OtherOldEntries) refusal none in
     let ordered : o.size ≤ n.size =
     let size = none_parts (unless (nat_le o.size n.size) _) _
-    (none_parts (unless (is_same o.origin n.origin) _) _ both.follows).1 in
+    (none_parts (unless (is_same o.origin n.origin) _) _ follows).1 in
     leb-true o.size n.size (unless_none (nat_le o.size n.size) _ size.0) in
-    let are = sent o.size entries (omega (arith, under.size)) (omega (arith, under.size, size_of new n both.new_is)) in
+    let are = sent o.size entries (omega (arith, under.size)) (omega (arith, under.size, size_of new n new_is)) in
     let fields : IsConsistencyProof p =
-    record { old_size = size_of old o both.old_is; digests = are.each; few_digests = are.few } in
-    verified old proof o n p both.old_is ((consistency_proofs proof p).1 (fields, sym found.1)) refl both.new_is
-    (other_source New Proof o n both.follows) (ap (option_map (λ e. Refused Proof (Consistency e))) accepted)
+    record { old_size = size_of old o old_is; digests = are.each; few_digests = are.few } in
+    verified old proof o n p old_is ((consistency_proofs proof p).1 (fields, sym text_is)) refl new_is
+    (other_source New Proof o n follows) (ap (option_map (λ e. Refused Proof (Consistency e))) accepted)
 
 -- ---- proved
 
@@ -190,31 +147,22 @@ none_refused old new digests old_root new_root small is =
 grown : (first more : List (List ℕ)) → length (first ++ more) ≤ size_limit →
     IsConsistent sha256 (length first) (length (first ++ more)) (growth_digests (length first) (first ++ more))
     (root_of sha256 first) (root_of sha256 (first ++ more))
-grown first more small =
+grown [] more small = record {
+  ordered = omega arith;
+  from_nothing = λ z. (refl, root_of_none sha256 (leaf_hash sha256) [] refl, root_of_none sha256 (leaf_hash sha256) more);
+  unchanged = λ p same. absurd (omega arith);
+  grown = λ p l. absurd (omega arith);
+}
+grown (x ∷ xs) more small =
+    let first = x ∷ xs in
     let all = first ++ more in
     let m = length first in
-    elim (cases_eq m 0) [
-      | inl none ↦
-          let nothing : first ≡ [] = nil_from_length first none in
-          subst (λ xs. IsConsistent sha256 (length xs) (length (xs ++ more)) (growth_digests (length xs) (xs ++ more))
-          (root_of sha256 xs) (root_of sha256 (xs ++ more))) (sym nothing) (from_nothing more)
-      | inr some ↦
-          let front : take m all ≡ first = take_at first more m refl in
-          let inside : m ≤ length all = omega (arith, length-append first more) in
-          let honest = honest_grown sha256 all m (omega arith) inside small in
-          subst (λ digests. IsConsistent sha256 m (length all) digests (root_of sha256 first) (root_of sha256 all))
-          (sym (some_are m all (omega arith)))
-          (subst (λ xs. IsConsistent sha256 m (length all) (proof_of sha256 m all) (root_of sha256 xs)
-          (root_of sha256 all)) front honest)
-    ]
-  where
-    from_nothing : (D : List (List ℕ)) → IsConsistent sha256 0 (length D) [] (root_of sha256 []) (root_of sha256 D)
-    from_nothing D = record {
-      ordered = omega arith;
-      from_nothing = λ z. (refl, root_of_none sha256 (leaf_hash sha256) [] refl, root_of_none sha256 (leaf_hash sha256) D);
-      unchanged = λ p same. absurd (omega arith);
-      grown = λ p l. absurd (omega arith);
-    }
+    let inside : m ≤ length all = omega (arith, length-append first more) in
+    let honest = honest_grown sha256 all m (omega arith) inside small in
+    subst (λ digests. IsConsistent sha256 m (length all) digests (root_of sha256 first) (root_of sha256 all))
+    (sym (some_are m all (omega arith)))
+    (subst (λ ys. IsConsistent sha256 m (length all) (proof_of sha256 m all) (root_of sha256 ys) (root_of sha256 all))
+    (take_at first more m refl) honest)
 
 follows : (origin : List ℕ) (first more : List (List ℕ)) →
     growth_refusal New (checkpoint_of origin first) (checkpoint_of origin (first ++ more)) ≡ None
@@ -241,15 +189,6 @@ growth_is_proved cut origin old new file first more old_is new_is begins =
     let small = size_of new n new_is in
     let digests = growth_digests (length first) all in
     let proof = consistency_text (record { old_size = length first; digests = digests; checkpoint = new }) in
-    let both : compared old new ≡ Ok (o, n) =
-    ap (λ r. and_then (said_by Old r) (λ a. and_then (said_by New (checkpoint_in new)) (λ b.
-    ok_unless (growth_refusal New a b) (a, b)))) old_is
-    ∙ ap (λ r. and_then (said_by New r) (λ b. ok_unless (growth_refusal New o b) (o, b))) new_is
-    ∙ ap (λ r. ok_unless r (o, n)) (follows origin first more) in (
-      proof,
-      ap (λ r. and_then r (λ (a, b). prove_growth cut a b new file)) both
-          ∙ ap (λ r. and_then r (growth_text o n new)) (first_under cut origin file all begins small)
-          ∙ ap (λ r. ok_unless (option_map (λ e. Refused File OtherOldEntries) r) proof)
-          (none_refused (length first) (length all) digests (root_of sha256 first) (root_of sha256 all) small
-          (grown first more small)),
-    )
+    let none = none_refused (length first) (length all) digests (root_of sha256 first) (root_of sha256 all) small
+    (grown first more small) in
+    (proof, rw (old_is, new_is, follows origin first more, first_under cut origin file all begins small, none) refl)

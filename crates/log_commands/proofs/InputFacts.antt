@@ -1,14 +1,10 @@
 -- Inputs that are read one after another.
-use Rattle.std.proofs.Common.{◌≡◌, ◌⊎◌, ◌∙◌, ◌+◌, List, [], ◌∷◌, ◌++◌}
-use Rattle.std.proofs.Common.{ℕ, Option, None, Some, Result, Ok, Err, Vec, Global}
-use Rattle.std.proofs.Common.{ap, arith, inl, inr, ⊎_elim, length, map, refl, subst, sym, add-zero}
-use Rattle.log_commands.specs.Commands.{AreReadAs, EndsIn, HoldsOfInput, HoldsOfInputs, bytes_of_parts}
-use Rattle.log_commands.specs.Outcomes.{bytes_in, Gives}
-use Rattle.log_commands.specs.Outcomes.{and_then}
-use Rattle.log_commands.specs.declared.error.Error.{Error}
-use Rattle.log_commands.specs.declared.error.Error.TheVariants.{OutOfMemory, Read}
-use Rattle.log_commands.specs.declared.error.Source.{Source}
-use Rattle.log_commands.specs.declared.error.Source.TheVariants.{Part}
+use Rattle.std.proofs.Common.{◌≡◌, ◌⊎◌, ◌∙◌, ◌+◌, List, [], ◌∷◌, ◌++◌, ℕ, Option, None, Some, Result, Ok, Err, Vec}
+use Rattle.std.proofs.Common.{Global, ap, arith, inl, inr, ⊎_elim, length, map, refl, subst, sym, add-zero}
+use Rattle.log_commands.specs.Commands.{AreReadAs, EndsIn, bytes_of_parts}
+use Rattle.log_commands.specs.Outcomes.{bytes_in, Gives, and_then}
+use Rattle.log_commands.specs.declared.error.Error.{Error, TheVariants.OutOfMemory, TheVariants.Read}
+use Rattle.log_commands.specs.declared.error.Source.{Source, TheVariants.Part}
 
 -- all parts are read
 pub all_read : (k : ℕ) (xs : List (List ℕ)) → bytes_of_parts k (map Some xs) ≡ Ok xs
@@ -53,32 +49,6 @@ module _ {R : Type 0} (remaining : R → Option (List ℕ)) where
 pub unread_gives : {V W : Type 0} (view : V → W) (source : Source) (e : Error) → (e ≡ OutOfMemory) ⊎ (e ≡ Read source) →
     Gives view (Err e) (Err (Read source))
 unread_gives view source e why = ⊎_elim inl (λ is. inr (ap Err (sym is))) why
-
-module _ {V W : Type 0} (view : V → W) (result : Result V Error) where
-  -- the outcome by what the inputs are read as
-  pub one_has : (known : Option (List ℕ)) (F : Option (List ℕ) → Result W Error) →
-      HoldsOfInput known (λ input. Gives view result (F input)) →
-      (outcome : Result W Error) × HoldsOfInput known (λ input. outcome ≡ F input) × Gives view result outcome
-  one_has known F h = (F h.0, (h.0, h.1, refl), h.2)
-
-  pub two_has : (known other : Option (List ℕ)) (F : (one two : Option (List ℕ)) → Result W Error) →
-      HoldsOfInput known (λ one. HoldsOfInput other (λ two. Gives view result (F one two))) →
-      (outcome : Result W Error) × HoldsOfInput known (λ one. HoldsOfInput other (λ two. outcome ≡ F one two))
-      × Gives view result outcome
-  two_has known other F h = (F h.0 h.2.0, (h.0, h.1, (h.2.0, h.2.1, refl)), h.2.2)
-
-  pub three_has : (known other third : Option (List ℕ)) (F : (one two three : Option (List ℕ)) → Result W Error) →
-      HoldsOfInput known (λ one. HoldsOfInput other (λ two. HoldsOfInput third (λ three.
-      Gives view result (F one two three)))) →
-      (outcome : Result W Error) × HoldsOfInput known (λ one. HoldsOfInput other (λ two. HoldsOfInput third (λ three.
-      outcome ≡ F one two three))) × Gives view result outcome
-  three_has known other third F h =
-      (F h.0 h.2.0 h.2.2.0, (h.0, h.1, (h.2.0, h.2.1, (h.2.2.0, h.2.2.1, refl))), h.2.2.2)
-
-  pub many_has : (known : List (Option (List ℕ))) (F : List (Option (List ℕ)) → Result W Error) →
-      HoldsOfInputs known (λ inputs. Gives view result (F inputs)) →
-      (outcome : Result W Error) × HoldsOfInputs known (λ inputs. outcome ≡ F inputs) × Gives view result outcome
-  many_has known F h = (F h.0, (h.0, h.1, refl), h.2)
 
 -- an error ends a run
 pub ends_failed : (V : Type 0) (old new : Option (List ℕ)) (outcome : Result (List ℕ) Error) (e : Error) →

@@ -1,31 +1,24 @@
 -- Outcomes that are a text, step by step; the entries of a file under a checkpoint; digests.
-use Rattle.std.proofs.Common.{◌≡◌, ◌≤◌, ◌<◌, ◌==◌, ◌∙◌, ℕ, zero, suc, List, [], ◌∷◌, ap, arith, eq-eqb, get_or}
-use Rattle.std.proofs.Common.{inl, inr, length, length-append, refl, sym, take, Option, None, Some, Result, Ok, Err}
-use Rattle.std.specs.Prelude.{◌&&◌, All, Bool, true, false, nat_le, not, slice_index}
+use Rattle.std.proofs.Common.{◌≡◌, ◌≤◌, ◌<◌, ◌==◌, ◌∙◌, ℕ, zero, suc, List, [], ◌∷◌, ap, arith, eq-eqb, get_or, length}
+use Rattle.std.proofs.Common.{length-append, refl, sym, take, Option, None, Some, Result, Ok, Err, ◌&&◌, All, Bool}
+use Rattle.std.proofs.Common.{true, false, nat_le, not, slice_index, eqb-true, le-ltb, leb-true, length-take}
+use Rattle.std.proofs.{Common.length-take-le, Common.take_at, lemmas.Bool.not-true}
 use Rattle.std.specs.Cmp.Lexicographic.{bytes_decides}
 use Rattle.std.specs.Int.{byte_at, byte_len, bytes_high_first, to_be_bytes, w32}
-use Rattle.std.proofs.lemmas.Bool.{cases_lt, eqb-true, le-ltb, leb-true, not-true}
-use Rattle.std.proofs.lemmas.List.{get_or_past, length-take, length-take-le, take_at}
-use Rattle.std.proofs.lemmas.List.Elements.{All-append, All-cons, All-get_or, All-head, All-nil, All-tail}
+use Rattle.std.proofs.lemmas.List.Elements.{All-append, All-cons, All-head, All-nil, All-tail}
 use Rattle.p3_merkle_core.proofs.Pruned.NoneFacts.{none_parts, unless_none}
-use Rattle.p3_merkle_core.specs.Refusals.{first_of, first_some, ok_unless, unless}
+use Rattle.p3_merkle_core.specs.Refusals.{first_of, ok_unless, unless}
 use Rattle.sha2.specs.Sha256.{digest_bytes, sha256}
 use Rattle.sha2.proofs.Facts256.{length-sha256}
-use Rattle.tlog.specs.Rfc9162.{leaf_hash, mth, root_of}
-use Rattle.tlog.specs.Verdicts.{is_same, size_limit}
+use Rattle.tlog.specs.{Rfc9162.leaf_hash, Rfc9162.mth, Rfc9162.root_of, Verdicts.is_same, Verdicts.size_limit}
 use Rattle.tlog.proofs.Roots.{root_is as root_by}
-use Rattle.log_text.specs.Texts.{CheckpointFields, IsDigest}
-use Rattle.log_text.specs.declared.error.TextError.{TextError}
+use Rattle.log_text.specs.{Texts.CheckpointFields, Texts.IsDigest, declared.error.TextError.TextError}
+use Rattle.log_text.proofs.Base64Facts.{all_bytes}
 use Rattle.log_files.specs.Entries.{entries_in, first_of as first_entries, is_refused, partial_of, refuses, rest_of}
 use Rattle.log_files.specs.declared.cut.Cut.{Cut}
-use Rattle.log_commands.specs.Laws.{BeginsWith}
+use Rattle.log_commands.specs.{Laws.BeginsWith, Outcomes.tree_refusal}
 use Rattle.log_commands.specs.Outcomes.{and_then, checkpoint_of, cut_refusal, entries_read, entries_under, said_by}
-use Rattle.log_commands.specs.Outcomes.{tree_refusal}
-use Rattle.log_commands.specs.declared.error.Error.{Error}
-use Rattle.log_commands.specs.declared.error.Error.TheVariants.{Refused}
-use Rattle.log_commands.specs.declared.error.Refusal.TheVariants.{OtherEntries, TooFewEntries}
-use Rattle.log_commands.specs.declared.error.Source.{Source}
-use Rattle.log_commands.specs.declared.error.Source.TheVariants.{File}
+use Rattle.log_commands.specs.declared.error.{Error.Error, Source.Source}
 use Rattle.log_commands.proofs.FileFacts.{read_ok}
 
 -- ---- results
@@ -81,21 +74,19 @@ pub record AreUnder (cut : Cut) (c : CheckpointFields) (file : List ℕ) (entrie
 pub are_under : (cut : Cut) (c : CheckpointFields) (file : List ℕ) (entries : List (List ℕ)) →
     entries_under cut c file ≡ Ok entries → AreUnder cut c file entries
 are_under cut c file entries is =
-    let all = entries_in cut file in
-    let found = stepped (entries_read cut (Some c.size) file)
+    let (first, read_is, last) = stepped (entries_read cut (Some c.size) file)
     (λ first. ok_unless (tree_refusal c (length first) (root_of sha256 first)) first) entries is in
-    let first = found.0 in
-    let read = is_read cut (Some c.size) file first found.1 in
-    let tree = ok_none (tree_refusal c (length first) (root_of sha256 first)) first entries found.2 in
-    let size = none_parts (unless (length first == c.size) _) _ tree.0 in
+    let read = is_read cut (Some c.size) file first read_is in
+    let (none, same) = ok_none (tree_refusal c (length first) (root_of sha256 first)) first entries last in
+    let size = none_parts (unless (length first == c.size) _) _ none in
     let root = none_parts (unless (is_same (root_of sha256 first) c.root) _) None size.1 in
     let size_is = eqb-true (length first) c.size (unless_none (length first == c.size) _ size.0) in
+    let root_is = unless_none (is_same (root_of sha256 first) c.root) _ root.0 in
     record {
-      first = read.first ∙ tree.1;
-      size = ap length (sym tree.1) ∙ size_is;
-      inside = omega (arith, size_is, ap length read.first, length-take c.size all);
-      root = ap (root_of sha256) (sym tree.1)
-          ∙ (bytes_decides (root_of sha256 first) c.root).0 (unless_none (is_same (root_of sha256 first) c.root) _ root.0);
+      first = read.first ∙ same;
+      size = ap length (sym same) ∙ size_is;
+      inside = omega (arith, size_is, ap length read.first, length-take c.size (entries_in cut file));
+      root = ap (root_of sha256) (sym same) ∙ (bytes_decides (root_of sha256 first) c.root).0 root_is;
     }
 
 never : (a b : Bool) → (a && (b && false)) ≡ false
@@ -115,11 +106,8 @@ under_first cut c file small inside root =
     let whole : is_refused cut (Some c.size) file ≡ false =
     ap (λ short. refuses (partial_of cut) && (not (length (rest_of cut file) == 0) && short)) long
     ∙ never (refuses (partial_of cut)) (not (length (rest_of cut file) == 0)) in
-    ap (λ r. and_then r (λ es. ok_unless (tree_refusal c (length es) (root_of sha256 es)) es))
-    (read_ok cut (Some c.size) file (omega (arith, size)) whole)
-    ∙ (λ i. ok_unless (first_some (
-    unless (eq-eqb (length first) c.size size i) (Refused File (TooFewEntries (length first) c.size))
-    ∷ unless ((bytes_decides (root_of sha256 first) c.root).1 root i) (Refused File OtherEntries) ∷ [])) first)
+    let read = read_ok cut (Some c.size) file (omega (arith, size)) whole in
+    rw (read, eq-eqb (length first) c.size size, (bytes_decides (root_of sha256 first) c.root).1 root) refl
 
 -- of a file that begins with the entries of the checkpoint
 pub first_under : (cut : Cut) (origin file : List ℕ) (first : List (List ℕ)) → BeginsWith cut file first →
@@ -151,19 +139,12 @@ words_bytes h (suc n) =
     All-append IsByte (digest_bytes h n) (to_be_bytes w32 (slice_index h n)) (words_bytes h n)
     (word_bytes (byte_len w32) (slice_index h n))
 
-are_bytes : (bytes : List ℕ) → All IsByte bytes → (i : ℕ) → get_or bytes i 0 < 256
-are_bytes bytes all i =
-    elim (cases_lt i (length bytes)) [
-      | inl within ↦ All-get_or IsByte bytes i 0 within all
-      | inr past ↦ let none : get_or bytes i 0 ≡ 0 = get_or_past bytes i 0 past in omega (arith, none)
-    ]
-
 hash_bytes : (message : List ℕ) → All IsByte (sha256 message)
 unfolding sha256
 hash_bytes message = words_bytes _ 8
 
 pub digest_is : (message : List ℕ) → IsDigest (sha256 message)
-digest_is message = (length-sha256 message, are_bytes (sha256 message) (hash_bytes message))
+digest_is message = (length-sha256 message, all_bytes (sha256 message) (hash_bytes message))
 
 -- roots are digests
 pub root_is : {X : Type 0} (leaf : X → List ℕ) (L : List X) → All (λ x. IsDigest (leaf x)) L →

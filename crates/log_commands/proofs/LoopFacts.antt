@@ -1,21 +1,10 @@
 -- Loops that check or collect one thing after another.
-use Rattle.std.proofs.Common.{◌≡◌, ◌⊎◌, ◌<◌, ◌+◌, ◌-◌, ap, ◌∙◌, List, []}
-use Rattle.std.proofs.Common.{◌∷◌, ◌++◌, length, ℕ, suc, Option, None, Some, map}
-use Rattle.std.proofs.Common.{take, drop, get_or, refl, sym}
-use Rattle.std.proofs.Common.{add-one, arith, append_assoc, append-nil, ⊎_elim}
-use Rattle.std.specs.Prelude.{flat_map, zip}
-use Rattle.std.specs.List.{range_with_len}
-use Rattle.std.specs.Option.{option_or}
-use Rattle.std.proofs.lemmas.List.{map_more}
-use Rattle.std.proofs.Math.Seq.{drop-cons}
+use Rattle.std.proofs.Common.{◌≡◌, ◌⊎◌, ◌<◌, ◌+◌, ◌-◌, ap, ◌∙◌, List, [], ◌∷◌, ◌++◌, length, ℕ, suc, Option, map, take}
+use Rattle.std.proofs.Common.{drop, get_or, refl, sym, add-one, arith, append-nil, ⊎_elim, flat_map, zip}
+use Rattle.std.specs.{List.range_with_len, Option.option_or}
+use Rattle.std.proofs.{lemmas.List.flat_map_more, lemmas.List.map_more, Math.Seq.drop-cons}
 use Rattle.p3_merkle_core.specs.Refusals.{first_of}
-
--- the first refusal is this one, or a later one
-pub kept_or : {E : Type 0} (x y total : Option E) → option_or x y ≡ total → x ≡ None → y ≡ total
-kept_or x y total e n = rw n at e
-
-pub found_or : {E : Type 0} (x y total : Option E) (e : E) → option_or x y ≡ total → x ≡ Some e → total ≡ Some e
-found_or x y total e h s = sym (rw s at h)
+pub use Rattle.p3_merkle_core.proofs.Pruned.LeadFacts.{found_or, kept_or}
 
 -- the refusal of the next value, else of those after it
 pub next_refusal : {R V E : Type 0} (h : V → Option E) (value : R → V) (xs : List R) (n : ℕ) (x : R)
@@ -33,18 +22,9 @@ next_plain h xs n total within so_far =
     ∙ sym (ap (first_of h) (drop-cons xs n 0 within)) ∙ so_far
 
 -- the refusal of a place among so many, else of those after it
-module _ {E : Type 0} (h : ℕ → Option E) (k n : ℕ) (within : k < n) where
-  at_next : first_of h (range_with_len k (n - k))
-      ≡ option_or (h k) (first_of h (range_with_len (k + 1) (n - (k + 1))))
-  at_next =
-      let s : n - k ≡ suc (n - (k + 1)) = omega arith in
-      ap (λ m. first_of h (range_with_len k m)) s
-
-  pub found_at : (e : E) → h k ≡ Some e → first_of h (range_with_len k (n - k)) ≡ Some e
-  found_at e is = at_next ∙ ap (λ o. option_or o (first_of h (range_with_len (k + 1) (n - (k + 1))))) is
-
-  pub passed_at : h k ≡ None → first_of h (range_with_len (k + 1) (n - (k + 1))) ≡ first_of h (range_with_len k (n - k))
-  passed_at none = sym (at_next ∙ ap (λ o. option_or o (first_of h (range_with_len (k + 1) (n - (k + 1))))) none)
+pub next_place : {E : Type 0} (h : ℕ → Option E) (k n : ℕ) (total : Option E) → k < n →
+    first_of h (range_with_len k (n - k)) ≡ total → option_or (h k) (first_of h (range_with_len (k + 1) (n - (k + 1)))) ≡ total
+next_place h k n total within so_far = let more : n - k ≡ suc (n - (k + 1)) = omega arith in rw more at so_far
 
 -- one text more
 pub text_more : {R V : Type 0} (text : V → List ℕ) (value : R → V) (items : List R) (i : ℕ) (item : R)
@@ -53,18 +33,9 @@ pub text_more : {R V : Type 0} (text : V → List ℕ) (value : R → V) (items 
     after ≡ flat_map text (map value (take (i + 1) items))
 text_more text value items i item before after within item_is before_is after_is =
     after_is ∙ ap (λ t. t ++ text (value item)) before_is
-    ∙ flat_one text (map value (take i items)) (value item)
+    ∙ flat_map_more text [] (map value (take i items)) (value item)
     ∙ ap (flat_map text)
     (sym (map_more value items i item within ∙ ap (λ r. map value (take i items) ++ value r ∷ []) (sym item_is)))
-  where
-    flat_one : {V : Type 0} (text : V → List ℕ) (xs : List V) (x : V) →
-        flat_map text xs ++ text x ≡ flat_map text (xs ++ x ∷ [])
-    flat_one text [] x = append_nil_flat (text x)
-      where
-        append_nil_flat : (ys : List ℕ) → ys ≡ ys ++ []
-        append_nil_flat [] = refl
-        append_nil_flat (y ∷ ys) = ap (λ zs. y ∷ zs) (append_nil_flat ys)
-    flat_one text (y ∷ ys) x = append_assoc (text y) (flat_map text ys) (text x) ∙ ap (λ zs. text y ++ zs) (flat_one text ys x)
 
 -- ---- numbers beside entries
 

@@ -1,36 +1,21 @@
 -- Proofs of entries of a file.
-use Rattle.std.proofs.Common.{◌≡◌, ◌≤◌, ◌<◌, ◌-◌, ◌*◌, ◌^◌, ◌∙◌, ℕ}
-use Rattle.std.proofs.Common.{List, [], ◌∷◌, ap, arith, inl, inr, length, map}
-use Rattle.std.proofs.Common.{get_or, refl, subst, sym, zip, Option, None, Some, Result, Ok, Err, Vec, Global, ⊎_elim}
-use Rattle.std.specs.Prelude.{true, false, All, filter, nat_le, nat_lt}
-use Rattle.std.specs.List.{list_all}
-use Rattle.std.proofs.lemmas.Bool.{cases_Bool, leb-true, lt-ltb}
-use Rattle.std.proofs.lemmas.List.{get_or-map, length-map}
-use Rattle.std.proofs.lemmas.List.Elements.{All-head, All-tail}
-use Rattle.p3_merkle_core.specs.Refusals.{first_of}
+use Rattle.std.proofs.Common.{◌≡◌, ◌≤◌, ◌<◌, ◌-◌, ◌*◌, ◌^◌, ℕ, List, [], ◌∷◌, ap, arith, length, map, get_or, refl}
+use Rattle.std.proofs.Common.{subst, sym, zip, Option, None, Some, Result, Ok, Err, Vec, Global, ⊎_elim, true, false}
+use Rattle.std.proofs.Common.{All, filter, nat_le, nat_lt, leb-true, lt-ltb}
+use Rattle.std.proofs.lemmas.{Bool.cases_Bool, List.get_or-map, List.length-map, List.Sums.list_all-from_AllPass}
+use Rattle.p3_merkle_core.specs.{Refusals.first_of, Geometry.levels, Pruning.boundary}
 use Rattle.p3_merkle_core.proofs.Pruned.NoneFacts.{each_none, unless_none}
 use Rattle.sha2.specs.Sha256.{sha256}
-use Rattle.tlog.specs.Rfc9162.{Hash, leaf_hash}
-use Rattle.tlog.specs.Verdicts.{size_limit}
+use Rattle.tlog.specs.{Rfc9162.Hash, Rfc9162.leaf_hash, Verdicts.size_limit}
 use Rattle.tlog_tree.specs.Trees.{all_there, node_at, values_at}
-use Rattle.p3_merkle_core.specs.Geometry.{levels}
-use Rattle.p3_merkle_core.specs.Pruning.{boundary}
-use Rattle.tlog_entries.specs.Entries.{is_node, proof_nodes}
-use Rattle.tlog_entries.specs.Instance.{log_shape}
-use Rattle.log_text.specs.Texts.{CheckpointFields, EntryFields}
-use Rattle.log_files.specs.Entries.{entry_at, wanted_of}
-use Rattle.log_files.specs.declared.cut.Cut.{Cut}
+use Rattle.tlog_entries.specs.{Entries.is_node, Entries.proof_nodes, Instance.log_shape}
+use Rattle.log_text.specs.{Texts.CheckpointFields, Texts.EntryFields, Reading.checkpoint_in}
+use Rattle.log_files.specs.{Entries.entry_at, Entries.wanted_of, declared.cut.Cut.Cut, declared.reading.ReadLog.ReadLog}
 use Rattle.log_text.proofs.NoteLaws.{notes}
-use Rattle.log_text.specs.Reading.{checkpoint_in}
-use Rattle.log_files.specs.declared.reading.ReadLog.{ReadLog}
-use Rattle.log_commands.specs.Commands.{HoldsOfInput}
-use Rattle.log_commands.specs.Inner.{entry_of, HasEntries, ReadsAs}
-use Rattle.log_commands.specs.Outcomes.{bytes_in, Gives}
-use Rattle.log_commands.specs.Outcomes.{and_then, bytes_from}
-use Rattle.log_commands.specs.Outcomes.{entries_under, number_refusal, said_by}
-use Rattle.log_commands.specs.declared.error.Error.{Error}
-use Rattle.log_commands.specs.declared.error.Source.{Source}
-use Rattle.log_commands.specs.declared.error.Source.TheVariants.{File}
+use Rattle.log_commands.specs.{Commands.HoldsOfInput, Inner.entry_of, Inner.HasEntries, Inner.ReadsAs}
+use Rattle.log_commands.specs.Outcomes.{bytes_in, Gives, and_then, bytes_from, entries_under, number_refusal, said_by}
+use Rattle.log_commands.specs.declared.error.{Error.Error, Source.Source, Source.TheVariants.File}
+use Rattle.log_commands.proofs.FileFacts.{goes, stops, whole}
 use Rattle.log_commands.proofs.LawFacts.{are_under, said_ok, stepped}
 
 -- ---- entries under a checkpoint are as many as it has
@@ -81,59 +66,31 @@ within_size size numbers from to k d within =
     let below : get_or numbers k 0 - 1 < size = omega arith in
     subst (λ (m : ℕ). m < size) (sym (get_or-map (λ (n : ℕ). n - 1) numbers k 0 d room)) below
 
-all_inside : (size : ℕ) (numbers : List ℕ) → All (λ n. 1 ≤ n) numbers → All (λ n. n ≤ size) numbers →
-    list_all (λ index. nat_lt index size) (map (λ n. n - 1) numbers) ≡ true
-all_inside size [] from to = refl
-all_inside size (n ∷ ns) from to =
-    let first : 1 ≤ n = All-head (λ n. 1 ≤ n) n ns from in
-    let last : n ≤ size = All-head (λ n. n ≤ size) n ns to in
-    let below : n - 1 < size = omega arith in
-    rw (lt-ltb (n - 1) size below)
-    (all_inside size ns (All-tail (λ n. 1 ≤ n) n ns from) (All-tail (λ n. n ≤ size) n ns to))
-
 pub wanted_is : (entries : List (List ℕ)) (numbers : List ℕ) (size : ℕ) → length entries ≡ size →
     All (λ n. 1 ≤ n) numbers → All (λ n. n ≤ size) numbers →
     wanted_of entries (map (λ n. n - 1) numbers) ≡ map (entry_at entries) (map (λ n. n - 1) numbers)
-wanted_is entries numbers size is from to = rw (is, all_inside size numbers from to) refl
+wanted_is entries numbers size is from to =
+    let within = within_size size numbers from to in
+    let all = list_all-from_AllPass (λ index. nat_lt index size) (map (λ n. n - 1) numbers)
+    (λ k d h. lt-ltb _ size (within k d h)) in
+    rw (is, all) refl
 
 -- ---- the outcome under a checkpoint, by what is read
 
-module _ {W : Type 0} (read : List ℕ → Result (List (List ℕ)) Error) (next : List (List ℕ) → Result W Error) where
-  abbrev under : Option (List ℕ) → Result (List (List ℕ)) Error
-  under input = and_then (bytes_from File input) read
+module _ {W V : Type 0} (read : List ℕ → Result (List (List ℕ)) Error) (next : List (List ℕ) → Result W Error)
+    (view : V → W) (known : Option (List ℕ)) (nodes : List (ℕ × ℕ)) (wanted : List ℕ) where
+  pub whole_stops : (result : Result V Error) (e : Error) → result ≡ Err e →
+      HoldsOfInput known (λ input. ReadsAs nodes wanted (Err e) (and_then (bytes_from File input) read)) →
+      HoldsOfInput known (λ input. Gives view result (whole read next input))
+  whole_stops result e is reads = rw is (stops read next known e reads)
 
-  abbrev whole : Option (List ℕ) → Result W Error
-  whole input = and_then (bytes_from File input) (λ bytes. and_then (read bytes) next)
-
-  whole_is : (input : Option (List ℕ)) → and_then (under input) next ≡ whole input
-  whole_is None = refl
-  whole_is (Some bytes) = refl
-
-  pub whole_stops : {V : Type 0} (view : V → W) (known : Option (List ℕ)) (nodes : List (ℕ × ℕ)) (wanted : List ℕ)
-      (result : Result V Error) (e : Error) → result ≡ Err e →
-      HoldsOfInput known (λ input. ReadsAs nodes wanted (Err e) (under input)) →
-      HoldsOfInput known (λ input. Gives view result (whole input))
-  whole_stops view known nodes wanted result e is reads =
-      rw is (
-        reads.0,
-        reads.1,
-        ⊎_elim inl
-            (λ failed. inr (sym (whole_is reads.0) ∙ ap (λ r. and_then r next) failed)) reads.2,
-      )
-
-  pub whole_goes : {V : Type 0} (view : V → W) (known : Option (List ℕ)) (nodes : List (ℕ × ℕ)) (wanted : List ℕ)
-      (log : ReadLog) (result : Result V Error) →
-      HoldsOfInput known (λ input. ReadsAs nodes wanted (Ok log) (under input)) →
-      ((input : Option (List ℕ)) (entries : List (List ℕ)) → under input ≡ Ok entries →
+  pub whole_goes : (log : ReadLog) (result : Result V Error) →
+      HoldsOfInput known (λ input. ReadsAs nodes wanted (Ok log) (and_then (bytes_from File input) read)) →
+      ((input : Option (List ℕ)) (entries : List (List ℕ)) → and_then (bytes_from File input) read ≡ Ok entries →
       HasEntries nodes wanted entries log → Gives view result (next entries)) →
-      HoldsOfInput known (λ input. Gives view result (whole input))
-  whole_goes view known nodes wanted log result reads each = (
-    reads.0,
-    reads.1,
-    subst (λ (outcome : Result W Error). Gives view result outcome)
-        (sym (ap (λ r. and_then r next) reads.2.1) ∙ whole_is reads.0)
-        (each reads.0 reads.2.0 reads.2.1 reads.2.2),
-  )
+      HoldsOfInput known (λ input. Gives view result (whole read next input))
+  whole_goes log result reads each =
+      goes read next known nodes wanted log (Gives view result) reads (λ bytes entries. each (Some bytes) entries)
 
 -- a text that is made
 pub gives_text : (text : Vec ℕ Global) (own : List ℕ) → text.items ≡ own → Gives bytes_in (Ok text) (Ok own)

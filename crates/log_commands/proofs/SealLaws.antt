@@ -1,39 +1,29 @@
 -- What seal and join print is read again, and parts are joined to what seal prints of the whole file.
 use Rattle.std.proofs.Common.{◌≡◌, ◌≤◌, ◌<◌, ◌+◌, ◌^◌, ◌==◌, ◌∙◌, ℕ, zero, suc, List, [], ◌∷◌, ◌++◌, ap, arith, eq-eqb}
-use Rattle.std.proofs.Common.{get_or, inl, inr, length, length-append, map, refl, subst, sym, append-nil, None, Ok}
-use Rattle.std.specs.Prelude.{All, true, false, nat_le}
-use Rattle.std.specs.Int.{is_power_of_two}
-use Rattle.std.specs.List.{concat, flat_map, range_with_len, sum}
-use Rattle.std.proofs.lemmas.Bool.{and_from, and_parts, cases_eq, eqb-true, le-leb, leb-true, ne_eqb}
-use Rattle.std.proofs.lemmas.Bool.Decides.{eqb_tells}
-use Rattle.std.proofs.lemmas.List.{length-map, map-append}
+use Rattle.std.proofs.Common.{get_or, inl, inr, length, map, refl, subst, sym, append-nil, None, Ok, All, true, false}
+use Rattle.std.proofs.Common.{nat_le, eqb-true, le-leb, leb-true, ne_eqb}
+use Rattle.std.specs.{Int.is_power_of_two, List.concat, List.flat_map, List.range_with_len, List.sum}
+use Rattle.std.proofs.lemmas.{Bool.and_parts, Bool.cases_eq, Simd.map-map}
+use Rattle.std.proofs.lemmas.List.{length-map, map-append, Sums.sum-map, Concat.length-flat_map}
 use Rattle.std.proofs.lemmas.List.Elements.{All-cons, All-map, All-nil}
 use Rattle.std.proofs.lemmas.List.FromFn.{get_or-range_with_len, length-range_with_len}
-use Rattle.std.proofs.lemmas.List.Sums.{sum_by-cons}
 use Rattle.p3_merkle_core.specs.Refusals.{ok_unless, unless}
 use Rattle.p3_merkle_core.proofs.Shapes.LeastFacts.{n_below_pow}
 use Rattle.p3_merkle_core.proofs.Pruned.NoneFacts.{none_parts, range_none, unless_none}
 use Rattle.sha2.specs.Sha256.{sha256}
-use Rattle.tlog.specs.Rfc9162.{leaf_hash, root_of}
-use Rattle.tlog.specs.Verdicts.{size_limit}
+use Rattle.tlog.specs.{Rfc9162.leaf_hash, Rfc9162.root_of, Verdicts.size_limit}
 use Rattle.tlog.proofs.Powers.{power_is, power_only}
-use Rattle.tlog_tree.specs.Parts.{HaveSize}
-use Rattle.tlog_tree.specs.Trees.{leaves_root}
+use Rattle.tlog_tree.specs.{Parts.HaveSize, Trees.leaves_root}
 use Rattle.tlog_tree.proofs.Parts.{root_is_of_parts}
 use Rattle.tlog_entries.proofs.Leaves.{mth_map}
-use Rattle.log_text.specs.Lines.{part_origin}
-use Rattle.log_text.specs.Reading.{part_in}
-use Rattle.log_text.specs.Texts.{checkpoint_text, IsDigest}
-use Rattle.log_text.proofs.LineFacts.{part_is_origin}
-use Rattle.log_text.proofs.NoteLaws.{parts, read_again}
-use Rattle.log_files.specs.Entries.{entries_in, is_refused, IsCut}
-use Rattle.log_files.specs.declared.cut.Cut.{Cut}
+use Rattle.log_text.specs.{Lines.part_origin, Reading.part_in, Texts.checkpoint_text, Texts.IsDigest}
+use Rattle.log_text.proofs.{LineFacts.part_is_origin, NoteLaws.parts, NoteLaws.read_again}
+use Rattle.log_files.specs.{Entries.entries_in, Entries.is_refused, Entries.IsCut, declared.cut.Cut.Cut}
 use Rattle.log_commands.specs.Laws.{AreSealed, EndWithEntries, JoinsAreReadAgain, PartsJoin, Says, SealsAreReadAgain}
 use Rattle.log_commands.specs.Outcomes.{and_then, checkpoint_of, entries_read, is_part_size, join_outcome, join_refusal}
 use Rattle.log_commands.specs.Outcomes.{joined, part_refusal, parts_in, said_by, seal_outcome, sizes_refusal}
 use Rattle.log_commands.specs.declared.error.Source.TheVariants.{Part}
-use Rattle.log_commands.proofs.FileFacts.{read_ok}
-use Rattle.log_commands.proofs.FileLaws.{entries_of_all, none_refused, refused_as}
+use Rattle.log_commands.proofs.{FileFacts.read_ok, FileLaws.entries_of_all, FileLaws.none_refused, FileLaws.refused_as}
 use Rattle.log_commands.proofs.LawFacts.{entries_root, is_read, none_of, ok_none, root_is, said_ok, stepped}
 
 -- ---- seal
@@ -77,19 +67,18 @@ pub record IsJoined (origin : List ℕ) (texts : List (List ℕ)) (text : List �
 pub is_joined : (origin : List ℕ) (texts : List (List ℕ)) (text : List ℕ) → join_outcome origin texts ≡ Ok text →
     (fields : List (ℕ × List ℕ)) × IsJoined origin texts text fields
 is_joined origin texts text is =
-    let found = stepped (parts_in 0 texts)
+    let (fields, fields_are, last) = stepped (parts_in 0 texts)
     (λ fields. ok_unless (join_refusal (map (λ p. p.0) fields)) (checkpoint_text (joined origin fields))) text is in
-    let fields = found.0 in
     let sizes = map (λ (p : ℕ × List ℕ). p.0) fields in
-    let unrefused_is = ok_none (join_refusal sizes) (checkpoint_text (joined origin fields)) text found.2 in
-    let fit = none_parts (sizes_refusal sizes) _ unrefused_is.0 in
+    let (none, text_is) = ok_none (join_refusal sizes) (checkpoint_text (joined origin fields)) text last in
+    let fit = none_parts (sizes_refusal sizes) _ none in
     let few = none_parts (unless (nat_le (sum sizes) size_limit) _) None fit.1 in (
       fields,
       record {
-        fields_are = found.1;
+        fields_are = fields_are;
         sizes_fit = fit.0;
         few = leb-true (sum sizes) size_limit (unless_none (nat_le (sum sizes) size_limit) _ few.0);
-        text_is = sym unrefused_is.1;
+        text_is = sym text_is;
       },
     )
 
@@ -156,44 +145,40 @@ test_from : (sizes : List ℕ) (k : ℕ) → is_part_size sizes k ≡ true → I
 test_from sizes k is =
     let first = get_or sizes 0 0 in
     let size = get_or sizes k 0 in
-    elim (eqb_tells (k + 1) (length sizes)) [
-      | inl (t, end) ↦
-          let both = and_parts (nat_le 1 size) (nat_le size first) (rw t at is) in
-          record {
-            last = λ e. (leb-true 1 size both.0, leb-true size first both.1);
-            other = λ e. absurd (omega arith);
-          }
-      | inr (f, more) ↦
-          let both = and_parts (size == first) (is_power_of_two first) (rw f at is) in
-          record { last = λ e. absurd (more e); other = λ e. eqb-true size first both.0 }
-    ]
+    record {
+      last = λ end.
+          let both = and_parts (nat_le 1 size) (nat_le size first) (rw (eq-eqb (k + 1) (length sizes) end) at is) in
+          (leb-true 1 size both.0, leb-true size first both.1);
+      other = λ more.
+          let apart : k + 1 ≡ length sizes → ⊥ = λ e. absurd (omega arith) in
+          let both = and_parts (size == first) (is_power_of_two first) (rw (ne_eqb (k + 1) (length sizes) apart) at is) in
+          eqb-true size first both.0;
+    }
 
 first_power : (sizes : List ℕ) → 1 < length sizes → is_part_size sizes 0 ≡ true →
     is_power_of_two (get_or sizes 0 0) ≡ true
 first_power sizes more is =
     let first = get_or sizes 0 0 in
-    let other : 0 + 1 ≡ length sizes → ⊥ = λ e. absurd (omega arith) in
-    (and_parts (first == first) (is_power_of_two first) (rw (ne_eqb (0 + 1) (length sizes) other) at is)).1
+    let apart : 0 + 1 ≡ length sizes → ⊥ = λ e. absurd (omega arith) in
+    (and_parts (first == first) (is_power_of_two first) (rw (ne_eqb (0 + 1) (length sizes) apart) at is)).1
 
 test_to : (size : ℕ) (sizes : List ℕ) (k : ℕ) → k < length sizes → is_power_of_two size ≡ true →
     IsPart size sizes k → IsPart size sizes 0 → is_part_size sizes k ≡ true
 test_to size sizes k within power part front =
     let first = get_or sizes 0 0 in
     let own = get_or sizes k 0 in
-    elim (eqb_tells (k + 1) (length sizes)) [
-      | inl (t, end) ↦
-          let last = part.last end in
-          let low : 1 ≤ own = last.0 in
-          let high : own ≤ first = elim (cases_eq k 0) [
+    elim (cases_eq (k + 1) (length sizes)) [
+      | inl end ↦
+          let (low, high) = part.last end in
+          let most : own ≤ first = elim (cases_eq k 0) [
             | inl none ↦ let same : own ≡ first = ap (λ j. get_or sizes j 0) none in omega arith
-            | inr some ↦ let all : first ≡ size = front.other (omega arith) in omega (arith, last.1, all)
+            | inr some ↦ omega (arith, high, front.other (omega arith))
           ] in
-          rw t (and_from (nat_le 1 own) (nat_le own first) (le-leb 1 own low) (le-leb own first high))
-      | inr (f, more) ↦
-          let here : own ≡ size = part.other (omega arith) in
+          rw (eq-eqb (k + 1) (length sizes) end, le-leb 1 own low, le-leb own first most) refl
+      | inr more ↦
           let all : first ≡ size = front.other (omega arith) in
-          rw f (and_from (own == first) (is_power_of_two first) (eq-eqb own first (here ∙ sym all))
-          (ap is_power_of_two all ∙ power))
+          rw (ne_eqb (k + 1) (length sizes) more, eq-eqb own first (part.other (omega arith) ∙ sym all))
+          (ap is_power_of_two all ∙ power)
     ]
 
 pub sizes_from : (sizes : List ℕ) → sizes_refusal sizes ≡ None → (power : ℕ) × HaveSize (2 ^ power) sizes
@@ -245,9 +230,7 @@ module _ (cut : Cut) (is : IsCut cut) where
   parts_say k (file ∷ files) (text ∷ texts) are =
       let read : part_in text ≡ Ok (checkpoint_of part_origin (entries_in cut file)) =
       (seals_read part_origin cut file text part_is_origin are.0).1 refl in
-      ap (λ r. and_then (said_by (Part k) r) (λ c. and_then (parts_in (k + 1) texts)
-      (λ fields. Ok ((c.size, c.root) ∷ fields)))) read
-      ∙ ap (λ r. and_then r (λ fields. Ok (fields_of cut file ∷ fields))) (parts_say (k + 1) files texts are.1)
+      rw (read, parts_say (k + 1) files texts are.1) refl
 
   -- the whole file is read if its parts are
   whole : (files texts : List (List ℕ)) → AreSealed cut files texts → EndWithEntries cut files →
@@ -260,24 +243,20 @@ module _ (cut : Cut) (is : IsCut cut) where
       refused_as cut file (concat (next ∷ files)) is end.0 ∙ whole (next ∷ files) texts are.1 end.1
 
   sizes_say : (files : List (List ℕ)) → map (λ (p : ℕ × List ℕ). p.0) (map (fields_of cut) files) ≡ sizes_of cut files
-  sizes_say [] = refl
-  sizes_say (file ∷ files) = ap (λ sizes. length (entries_in cut file) ∷ sizes) (sizes_say files)
+  sizes_say files = map-map (λ (p : ℕ × List ℕ). p.0) (fields_of cut) files
 
   roots_say : (files : List (List ℕ)) →
       map (λ (p : ℕ × List ℕ). p.1) (map (fields_of cut) files)
       ≡ map (leaves_root sha256) (leaves_of cut files)
-  roots_say [] = refl
-  roots_say (file ∷ files) =
-      let own = sym (mth_map sha256 (leaf_hash sha256) (entries_in cut file)) in
-      let more = roots_say files in
-      (λ i. own i ∷ more i)
+  roots_say files =
+      map-map (λ (p : ℕ × List ℕ). p.1) (fields_of cut) files
+      ∙ (λ i. map (λ file. sym (mth_map sha256 (leaf_hash sha256) (entries_in cut file)) i) files)
+      ∙ sym (map-map (leaves_root sha256) (λ file. map (leaf_hash sha256) (entries_in cut file)) files)
 
   lengths_are : (files : List (List ℕ)) → map (λ (part : List (List ℕ)). length part) (leaves_of cut files) ≡ sizes_of cut files
-  lengths_are [] = refl
-  lengths_are (file ∷ files) =
-      let own = length-map (entries_in cut file) (leaf_hash sha256) in
-      let more = lengths_are files in
-      (λ i. own i ∷ more i)
+  lengths_are files =
+      map-map (λ (part : List (List ℕ)). length part) (λ file. map (leaf_hash sha256) (entries_in cut file)) files
+      ∙ (λ i. map (λ file. length-map (entries_in cut file) (leaf_hash sha256) i) files)
 
   leaves_are : (files : List (List ℕ)) →
       flat_map (λ (part : List (List ℕ)). part) (leaves_of cut files)
@@ -288,13 +267,8 @@ module _ (cut : Cut) (is : IsCut cut) where
       ∙ sym (map-append (leaf_hash sha256) (entries_in cut file) (flat_map (entries_in cut) files))
 
   total : (files : List (List ℕ)) → sum (sizes_of cut files) ≡ length (flat_map (entries_in cut) files)
-  total [] = refl
-  total (file ∷ files) =
-      let own = length (entries_in cut file) in
-      let more : sum (sizes_of cut files) ≡ length (flat_map (entries_in cut) files) = total files in
-      let here : sum (own ∷ sizes_of cut files) ≡ own + sum (sizes_of cut files) =
-      sum_by-cons (λ (x : ℕ). x) own (sizes_of cut files) in
-      omega (arith, here, more, length-append (entries_in cut file) (flat_map (entries_in cut) files))
+  total files =
+      sum-map (λ file. length (entries_in cut file)) files ∙ sym (length-flat_map (entries_in cut) files)
 
   module _ (files : List (List ℕ)) (end : EndWithEntries cut files) where
     abbrev entries : List (List ℕ)
@@ -326,34 +300,27 @@ module _ (cut : Cut) (is : IsCut cut) where
 pub parts_join : PartsJoin
 parts_join origin cut files texts text is are end = (
   λ done.
-      let found = is_joined origin texts text done in
-      let j = found.1 in
-      let same : found.0 ≡ map (fields_of cut) files =
+      let (fields, j) = is_joined origin texts text done in
+      let same : fields ≡ map (fields_of cut) files =
       let e = sym j.fields_are ∙ parts_say cut is 0 files texts are in cc in
-      let sizes = sizes_from (map (λ (p : ℕ × List ℕ). p.0) found.0) j.sizes_fit in
-      let have : HaveSize (2 ^ sizes.0) (sizes_of cut files) =
-      subst (λ ns. HaveSize (2 ^ sizes.0) ns)
-      (ap (λ fields. map (λ (p : ℕ × List ℕ). p.0) fields) same ∙ sizes_say cut is files) sizes.1 in
+      let sizes_are = ap (λ fields. map (λ (p : ℕ × List ℕ). p.0) fields) same in
+      let (power, fits) = sizes_from (map (λ (p : ℕ × List ℕ). p.0) fields) j.sizes_fit in
+      let have : HaveSize (2 ^ power) (sizes_of cut files) =
+      subst (λ ns. HaveSize (2 ^ power) ns) (sizes_are ∙ sizes_say cut is files) fits in
       let few : length (entries_in cut (concat files)) ≤ size_limit =
-      subst (λ n. n ≤ size_limit)
-      (ap (λ fields. sum (map (λ (p : ℕ × List ℕ). p.0) fields)) same ∙ size_is cut is files end) j.few in (
-        (sizes.0, have),
-        ap (λ r. and_then r (λ entries. Ok (checkpoint_text (checkpoint_of origin entries))))
-            (read_ok cut None (concat files) few (whole cut is files texts are end))
-            ∙ ap Ok (sym (text_is cut is files end origin sizes.0 have))
-            ∙ ap (λ fields. Ok (checkpoint_text (joined origin fields))) (sym same) ∙ ap Ok (sym j.text_is),
+      subst (λ n. n ≤ size_limit) (ap sum sizes_are ∙ size_is cut is files end) j.few in (
+        (power, have),
+        rw (read_ok cut None (concat files) few (whole cut is files texts are end)) (ap Ok
+            (sym (text_is cut is files end origin power have)
+            ∙ ap (λ fields. checkpoint_text (joined origin fields)) (sym same) ∙ sym j.text_is)),
       ),
-  λ both.
-      let have = both.0.1 in
-      let s = is_sealed origin cut (concat files) text both.1 in
+  λ ((power, have), sealed).
+      let s = is_sealed origin cut (concat files) text sealed in
       let sizes = map (λ (p : ℕ × List ℕ). p.0) (map (fields_of cut) files) in
       let fit : sizes_refusal sizes ≡ None =
-      sizes_to both.0.0 sizes (subst (λ ns. HaveSize (2 ^ both.0.0) ns) (sym (sizes_say cut is files)) have) in
+      sizes_to power sizes (subst (λ ns. HaveSize (2 ^ power) ns) (sym (sizes_say cut is files)) have) in
       let few : nat_le (sum sizes) size_limit ≡ true =
       le-leb (sum sizes) size_limit (omega (arith, size_is cut is files end, s.few)) in
-      let joins : join_refusal sizes ≡ None = rw (fit, few) refl in
-      ap (λ r. and_then r (λ fields. ok_unless (join_refusal (map (λ (p : ℕ × List ℕ). p.0) fields))
-      (checkpoint_text (joined origin fields)))) (parts_say cut is 0 files texts are)
-      ∙ ap (λ r. ok_unless r (checkpoint_text (joined origin (map (fields_of cut) files)))) joins
-      ∙ ap Ok (text_is cut is files end origin both.0.0 have ∙ sym s.text_is),
+      rw (parts_say cut is 0 files texts are, fit, few)
+      (ap Ok (text_is cut is files end origin power have ∙ sym s.text_is)),
 )

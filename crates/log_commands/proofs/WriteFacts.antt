@@ -1,8 +1,6 @@
 -- A text that is written piece by piece.
-use Rattle.std.proofs.Common.{◌≡◌, ◌∙◌, ℕ, List, ◌++◌, Option, Ok}
-use Rattle.std.proofs.Common.{Err, ap, append_assoc, drop, subst}
-use Rattle.std.proofs.Common.{◌-◌, Result, arith, length, sym, take, take-append-drop}
-use Rattle.std.proofs.lemmas.List.{length-drop, take_all}
+use Rattle.std.proofs.Common.{◌≡◌, ◌∙◌, ℕ, List, ◌++◌, Option, Ok, Err, ap, append_assoc, drop, subst, ◌-◌, Result}
+use Rattle.std.proofs.Common.{arith, length, sym, take, take-append-drop, length-drop, take_all}
 use Rattle.std.specs.Io.KnownBytes.{Appends, Keeps, WriteAppends}
 use Rattle.std.proofs.KnownBytes.{Appends-kept, Appends-trans}
 

@@ -1,5 +1,4 @@
-use Rattle.std.proofs.Common.{map, take}
-use Rattle.std.specs.Prelude.{All}
+use Rattle.std.proofs.Common.{map, take, All}
 use Rattle.tlog.specs.Collisions.{entries_of}
 use Rattle.log_text.specs.Texts.{entry_fields}
 use Rattle.log_commands.specs.Collisions.{IsEntryOf}

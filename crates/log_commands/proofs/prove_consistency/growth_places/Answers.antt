@@ -6,11 +6,9 @@ use Rattle.tlog.specs.Rfc9162.{Hash, consistency_proof, leaf_hash}
 use Rattle.tlog_tree.specs.Trees.{all_there, values_at}
 use Rattle.log_commands.specs.Outcomes.{growth_digests}
 use Rattle.log_commands.proofs.GrowthLaws.{equal_places, other_places}
+use Rattle.log_commands.proofs.prove_consistency.growth_places.Goals.{then-old-eq0-via-then-old-eq0}
+use Rattle.log_commands.proofs.prove_consistency.growth_places.Goals.{then-old-eq0-via-else-old-eq0+then-old-new}
 use Rattle.log_commands.proofs.prove_consistency.growth_places.Goals as goal
-use Rattle.log_commands.proofs.prove_consistency.growth_places.Goals.{
-  then-old-eq0-via-then-old-eq0,
-  then-old-eq0-via-else-old-eq0+then-old-new,
-}
 
 pub returns-then-old-eq0 : goal.returns-then-old-eq0
 returns-then-old-eq0 c entries len =

@@ -5,8 +5,7 @@ use Rattle.sha2.specs.Sha256.{sha256}
 use Rattle.tlog.specs.Rfc9162.{leaf_hash}
 use Rattle.tlog_tree.specs.Trees.{values_at}
 use Rattle.log_text.specs.Texts.{checkpoint_fields}
-use Rattle.log_commands.specs.Outcomes.{bytes_in}
-use Rattle.log_commands.specs.Outcomes.{entries_under, growth_text}
+use Rattle.log_commands.specs.Outcomes.{bytes_in, entries_under, growth_text}
 use Rattle.log_commands.proofs.ProveFacts.{under_size, whole_goes, whole_stops}
 use Rattle.log_commands.proofs.prove_consistency.prove_growth.Goals as goal
 

@@ -2,8 +2,7 @@
 use Rattle.std.proofs.Common.{◌∙◌, ℕ, List, [], None, Err, Ok, ap}
 use Rattle.std.proofs.lemmas.Result.{err_from_is_err_and}
 use Rattle.log_text.specs.Texts.{checkpoint_text}
-use Rattle.log_commands.specs.Outcomes.{bytes_in}
-use Rattle.log_commands.specs.Outcomes.{checkpoint_of, entries_read}
+use Rattle.log_commands.specs.Outcomes.{bytes_in, checkpoint_of, entries_read}
 use Rattle.log_commands.proofs.ProveFacts.{gives_text, whole_goes, whole_stops}
 use Rattle.log_commands.proofs.seal.seal.Goals as goal
 

@@ -2,10 +2,8 @@
 use Rattle.std.proofs.Common.{◌+◌, ap, drop, map, sym}
 use Rattle.p3_merkle_core.specs.Refusals.{first_of, unless}
 use Rattle.log_text.specs.Texts.{entry_fields}
-use Rattle.log_commands.specs.Outcomes.{entry_refusal}
-use Rattle.log_commands.specs.declared.error.Error.TheVariants.{Refused}
-use Rattle.log_commands.specs.declared.error.Refusal.TheVariants.{NoSuchEntry}
-use Rattle.log_commands.specs.declared.error.Source.TheVariants.{Proof}
+use Rattle.log_commands.specs.{Outcomes.entry_refusal, declared.error.Refusal.TheVariants.NoSuchEntry}
+use Rattle.log_commands.specs.declared.error.{Error.TheVariants.Refused, Source.TheVariants.Proof}
 use Rattle.log_commands.proofs.LoopFacts.{found_or, kept_or, next_refusal}
 use Rattle.log_commands.proofs.verify.check_entries.Goals as goal
 

@@ -1,7 +1,5 @@
 -- Each turn is one entry more.
-use Rattle.std.proofs.Common.{◌∙◌, ap, map}
-use Rattle.std.specs.Prelude.{flat_map}
-use Rattle.std.proofs.lemmas.List.{take_all}
+use Rattle.std.proofs.Common.{◌∙◌, ap, map, flat_map, take_all}
 use Rattle.log_text.specs.Texts.{entry_fields}
 use Rattle.log_commands.specs.Outcomes.{printed}
 use Rattle.log_commands.proofs.LoopFacts.{text_more}

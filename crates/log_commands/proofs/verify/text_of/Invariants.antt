@@ -1,5 +1,4 @@
-use Rattle.std.proofs.Common.{◌≡◌, map, take}
-use Rattle.std.specs.Prelude.{flat_map}
+use Rattle.std.proofs.Common.{◌≡◌, map, take, flat_map}
 use Rattle.log_text.specs.Texts.{entry_fields}
 use Rattle.log_commands.specs.Outcomes.{printed}
 use Rattle.log_commands.proofs.verify.text_of.Given as goal

@@ -1,9 +1,8 @@
 -- Each turn writes the next bytes.
 use Rattle.std.proofs.Common.{List, ap, subst, sym, ℕ}
-use Rattle.log_commands.proofs.WriteFacts.{Wrote, step_err}
-use Rattle.log_commands.proofs.WriteFacts.{step_ok, wrote_same}
-use Rattle.log_commands.proofs.write.write_text.Goals as goal
+use Rattle.log_commands.proofs.WriteFacts.{Wrote, step_err, step_ok, wrote_same}
 use Rattle.log_commands.proofs.write.write_text.Goals.{in-Ok-write, in-Err-write}
+use Rattle.log_commands.proofs.write.write_text.Goals as goal
 
 pub loop-turn-preserved : goal.loop-turn-preserved
 loop-turn-preserved g c =
