@@ -1,9 +1,9 @@
--- Proofs of entries are accepted, and stay as they are.
-use Rattle.std.proofs.Common.{◌≡◌, ◌≤◌, ◌<◌, ◌-◌, ◌∙◌, ℕ, List, [], ◌∷◌, ap, arith, get_or, length, length-append, map}
-use Rattle.std.proofs.Common.{refl, subst, sym, take, None, Some, Ok, Option, ◌^◌, Bool, true, is_some, All, map-id}
-use Rattle.std.proofs.{Common.le-leb, Common.get_or-take, lemmas.Simd.map-map}
+-- Proofs of entries are made, and are accepted.
+use Rattle.std.proofs.Common.{◌≡◌, ◌≤◌, ◌<◌, ◌-◌, ◌∙◌, ℕ, List, [], ◌∷◌, ap, arith, get_or, length, map, refl, subst}
+use Rattle.std.proofs.Common.{sym, take, None, Some, Ok, Option, ◌^◌, Bool, true, is_some, All, map-id, le-leb}
+use Rattle.std.proofs.Common.{get_or-take}
+use Rattle.std.proofs.lemmas.{Simd.map-map, List.Folds.flat_map-map, List.get_or-map, List.length-map}
 use Rattle.std.specs.{Cmp.Lexicographic.bytes_decides, List.flat_map, Option.option_map}
-use Rattle.std.proofs.lemmas.List.{Folds.flat_map-map, get_or-map, length-map, take-append-le}
 use Rattle.std.proofs.lemmas.List.Elements.{All-drop, All-head, All-map, All-tail, All-take}
 use Rattle.p3_merkle_core.specs.Refusals.{first_of, ok_unless}
 use Rattle.sha2.specs.Sha256.{sha256}
@@ -12,17 +12,16 @@ use Rattle.tlog_tree.specs.Trees.{leaves_root, node_at}
 use Rattle.tlog_entries.specs.Entries.{entries_refusal, proof_nodes}
 use Rattle.tlog_entries.proofs.EntriesFacts.{unrefused as included_only}
 use Rattle.tlog_entries.proofs.{HonestEntries.honest_included, Leaves.mth_map, Smallest.nodes_within}
-use Rattle.log_text.specs.{Reading.checkpoint_in, Reading.entries_in as proof_in, Texts.IsEntry}
-use Rattle.log_text.specs.Texts.{entries_text, CheckpointFields, EntriesFields, EntryFields, IsDigest, IsEntriesProof}
+use Rattle.log_text.specs.{Reading.checkpoint_in, Reading.entries_in as proof_in, Texts.IsEntriesProof}
+use Rattle.log_text.specs.Texts.{IsEntry, entries_text, CheckpointFields, EntriesFields, EntryFields, IsDigest}
 use Rattle.log_text.proofs.{EntriesFacts.entries_proofs, NoteLaws.notes}
 use Rattle.log_files.specs.{Entries.entries_in, Entries.entry_at, declared.cut.Cut.Cut}
-use Rattle.log_commands.specs.{Commands.prove_file, Commands.AreNumbers, Errors.entries_error, Outcomes.said_by}
-use Rattle.log_commands.specs.Laws.{printed_of, AreRequested, CanSay, ProofsAreAccepted, ProofsAreProved, ProofsStay}
-use Rattle.log_commands.specs.Outcomes.{checkpoint_of, entries_under, entry_refusal, number_refusal, numbers_refusal}
-use Rattle.log_commands.specs.Outcomes.{printed, proof_over, proof_refusal, prove_under, requested, is_printable}
+use Rattle.log_commands.specs.{Commands.prove_file, Commands.AreNumbers, Errors.entries_error, Outcomes.is_printable}
+use Rattle.log_commands.specs.Outcomes.{said_by, checkpoint_of, entries_under, entry_refusal, number_refusal}
+use Rattle.log_commands.specs.Outcomes.{numbers_refusal, printed, proof_over, proof_refusal, prove_under, requested}
+use Rattle.log_commands.specs.Laws.{printed_of, AreRequested, CanSay, ProofsAreAccepted, ProofsAreProved}
 use Rattle.log_commands.specs.declared.{error.Source.TheVariants.Checkpoint, verify.Print.Print}
-use Rattle.log_commands.proofs.{FileLaws.prints, LawFacts.under_first}
-use Rattle.log_commands.proofs.ProveFacts.{numbers_inside, within_size}
+use Rattle.log_commands.proofs.{FileLaws.prints, ProveFacts.numbers_inside, ProveFacts.within_size}
 use Rattle.log_commands.proofs.LawFacts.{are_under, digest_is, first_under, none_of, ok_none, root_is, said_ok, stepped}
 
 numbers_pass : (size : ℕ) (numbers : List ℕ) → All (λ n. n ≤ size) numbers →
@@ -60,19 +59,6 @@ proofs_are_proved cut origin checkpoint file first numbers said_is begins inside
       entries_text (proof_over first numbers),
       rw (said_is, numbers_pass (length first) numbers inside, first_under cut origin file first begins small) refl,
     )
-
-pub proofs_stay : ProofsStay
-proofs_stay cut checkpoint file grown numbers proof begins is =
-    let (c, entries, said_is, inside, read, text_is) = is_proved cut checkpoint file numbers proof is in
-    let u = are_under cut c file entries read in
-    let all = entries_in cut file in
-    let small = ((notes checkpoint c).0 said_is).2.checkpoint.size in
-    let most = u.inside in
-    let front : take c.size (entries_in cut grown) ≡ entries =
-    ap (take c.size) begins.1 ∙ take-append-le c.size all begins.0 most ∙ u.first in
-    let still = under_first cut c grown small (omega (arith, ap length begins.1, length-append all begins.0, most))
-    (ap (root_of sha256) front ∙ u.root) ∙ ap Ok front in
-    rw (said_is, inside, still) (ap Ok text_is)
 
 -- ---- what verify makes of it
 

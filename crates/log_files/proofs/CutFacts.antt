@@ -62,9 +62,6 @@ fewer_left (Blocks size) open_bytes more rest left opens whole parts =
 
 -- ---- whole entries at the head of bytes
 
-pub none_at_head : (cut : Cut) (bytes : List ℕ) → AreAtHead cut bytes bytes []
-none_at_head cut bytes = record { parts = refl; whole = All-nil (IsWhole cut) }
-
 joined_append : (cut : Cut) (xs ys : List (List ℕ)) → joined cut (xs ++ ys) ≡ joined cut xs ++ joined cut ys
 joined_append cut [] ys = refl
 joined_append cut (x ∷ xs) ys = rw (joined_append cut xs ys) (sym (simp append_assoc))

@@ -1,19 +1,17 @@
 -- The wanted entries: those that have ended stand at their places, the others follow in the order of the file.
-use Rattle.std.proofs.Common.{◌≡◌, ℕ, zero, suc, ◌+◌, ◌<◌, ◌≤◌, Bool, true, false, if◌then◌else◌, List, [], ◌∷◌, ◌++◌}
-use Rattle.std.proofs.Common.{length, map, drop, set, get_or, refl, sym, ap, ◌∙◌, arith, length-append, subst, inl, inr}
-use Rattle.std.proofs.Common.{nat_lt, slice_get, Some, le-ltb, lt-ltb, ext_get_or, get_or-set_other, get_or-set_same}
-use Rattle.std.proofs.Common.{length-set}
+use Rattle.std.proofs.Common.{zero, if◌then◌else◌, slice_get, ext_get_or, get_or-set_other, get_or-set_same, length-set}
+use Rattle.std.proofs.Common.{Bool, true, false, List, ◌++◌, length, drop, get_or, arith, subst, nat_lt, le-ltb, lt-ltb}
+use Rattle.std.proofs.Common.{◌≡◌, ℕ, suc, ◌+◌, ◌<◌, ◌≤◌, [], ◌∷◌, map, set, refl, sym, ap, ◌∙◌, inl, inr, Some}
 use Rattle.std.specs.List.{list_all, range_with_len, Contains, Sorted.IsPermutation, Sorted.IsSorted}
 use Rattle.std.specs.Ordering.{nat_cmp, is_lt, ordering_then}
 use Rattle.std.specs.declared.cmp.Ordering.{Ordering, TheVariants.Less, TheVariants.Equal, TheVariants.Greater}
-use Rattle.std.proofs.lemmas.{Bool.cases_eq, Bool.eqb-false, List.Sorted.length_permutation, List.Folds.list_all_at}
-use Rattle.std.proofs.lemmas.List.{get_or-map, get_or_append_left, get_or_default, length-map}
-use Rattle.std.proofs.lemmas.List.{Elements.All-head, Elements.All-tail, Sums.list_all-from_AllPass}
+use Rattle.std.proofs.lemmas.{Bool.cases_eq, List.get_or-map, List.get_or_default, List.length-map}
+use Rattle.std.proofs.lemmas.List.{Folds.list_all_at, Sums.list_all-from_AllPass}
+use Rattle.std.proofs.lemmas.List.Sorted.{length_permutation, All-permutation, Contains-permutation}
+use Rattle.std.proofs.lemmas.List.{Sorted.IsNonDecreasingBy-from_sort, Elements.All-head, Elements.All-tail}
 use Rattle.std.proofs.lemmas.List.FromFn.{get_or-map-range_with_len, length-map-range_with_len, map-range_with_len_more}
-use Rattle.std.proofs.lemmas.List.Sorted.{All-permutation, Contains-permutation, IsNonDecreasingBy-from_sort}
-use Rattle.log_files.specs.{Entries.entry_at, Entries.wanted_of, Inner.Wanted.IsOwn}
-use Rattle.log_files.specs.Inner.Wanted.{is_next, place_of, places_of, HoldsWanted, IsAscending, IsCopied, IsKept}
-use Rattle.log_files.specs.declared.wanted.WantedEntries.{WantedEntries}
+use Rattle.log_files.specs.{Entries.entry_at, Entries.wanted_of, declared.wanted.WantedEntries.WantedEntries}
+use Rattle.log_files.specs.Inner.Wanted.{IsOwn, place_of, places_of, HoldsWanted, IsAscending, IsCopied, IsKept}
 
 -- ---- sorted places
 
@@ -73,24 +71,8 @@ pub none_begun : (b : Bool) → ◌≡◌ {A = List ℕ} (if b then [] else []) 
 none_begun true = refl
 none_begun false = refl
 
--- ---- more entries have ended
+-- ---- the next one is copied
 
-pub kept_longer : (wanted : List ℕ) (ended more entries : List (List ℕ)) (left : List (ℕ × ℕ)) →
-    IsKept wanted ended entries left → IsKept wanted (ended ++ more) entries left
-kept_longer wanted ended more entries left kept =
-    record {
-      own = kept.own;
-      long = kept.long;
-      each = λ place h. elim (kept.each place h) [
-        | inl waits ↦ inl waits
-        | inr copied ↦ inr (record {
-          within = omega (arith, copied.within, length-append ended more);
-          is = copied.is ∙ sym (get_or_append_left ended more [] (get_or wanted place 0) copied.within);
-        })
-      ];
-    }
-
--- the next one is copied
 pub kept_copy : (wanted : List ℕ) (ended entries : List (List ℕ)) (p : ℕ × ℕ) (left : List (ℕ × ℕ)) (copy : List ℕ) →
     p.0 < length ended → copy ≡ entry_at ended p.0 → IsKept wanted ended entries (p ∷ left) →
     IsKept wanted ended (set entries p.1 copy) left
@@ -135,24 +117,6 @@ pub record HoldsSome (w : WantedEntries) (wanted : List ℕ) (first : ℕ) (ende
   pub kept : IsKept wanted ended (map (λ entry. entry.items) w.entries.items) w.left.now
   pub ascending : IsAscending first w.left.now
   pub begun : w.begun.items ≡ []
-
--- ---- the open entry ends
-
-rising_past : (n : ℕ) (ps : List (ℕ × ℕ)) → IsAscending n ps → is_next n ps ≡ false → IsAscending (n + 1) ps
-rising_past n [] up other = tt
-rising_past n (p ∷ ps) up other = (omega (arith, up.0, eqb-false p.0 n other), up.1)
-
--- it is not wanted
-pub ends_unwanted : (w : WantedEntries) (wanted : List ℕ) (ended : List (List ℕ)) (entry : List ℕ) →
-    is_next (length ended) w.left.now ≡ false → HoldsWanted w wanted ended entry →
-    HoldsWanted w wanted (ended ++ entry ∷ []) []
-ends_unwanted w wanted ended entry other holds =
-    record {
-      kept = kept_longer wanted ended (entry ∷ []) _ w.left.now holds.kept;
-      ascending = rw (length-append ended (entry ∷ [])) (rising_past (length ended) w.left.now holds.ascending other);
-      begun = holds.begun ∙ ap (λ b. if b then entry else []) other
-          ∙ sym (none_begun (is_next (length (ended ++ entry ∷ [])) w.left.now));
-    }
 
 -- ---- all of them
 

@@ -1,28 +1,12 @@
 -- Each command reads its inputs and is answered by its own call.
-use Rattle.std.proofs.Common.{ap, inl, inr, ⊎_elim, None, Some, refl, string_bytes, subst, sym}
+use Rattle.std.proofs.Common.{ap, inl, inr, ⊎_elim, None, Some, refl, string_bytes}
 use Rattle.std.proofs.lemmas.Result.{err_from_is_err_and}
-use Rattle.log_commands.specs.Commands.{AreNumbers, IsLawful}
 use Rattle.log_commands.specs.Outcomes.{and_then, bytes_in, join_outcome}
 use Rattle.log_commands.specs.declared.error.Source.TheVariants.{Checkpoint, New, Old, Proof}
 use Rattle.log_commands.proofs.InputFacts.{unread_gives}
 use Rattle.log_commands.proofs.command.answer.Goals as goal
 
-pub seal-requires : goal.seal-requires
-seal-requires g c = (subst IsLawful c.in-Seal.is c.requires).1
-
-pub returns-in-Seal : goal.returns-in-Seal
-returns-in-Seal g c =
-    let h = rw c.deref.ensures at c.seal.ensures in
-    rw c.in-Seal.is (_, (h.0, h.1, refl), h.2)
-
 -- ---- prove
-
-pub prove-requires-clause-cut : goal.prove-requires-clause-cut
-prove-requires-clause-cut g c = (subst IsLawful c.in-Prove.is c.requires).0
-
-pub prove-requires-clause-numbers : goal.prove-requires-clause-numbers
-prove-requires-clause-numbers g c =
-    subst AreNumbers (sym c.deref-in-Prove-2.ensures.value) (subst IsLawful c.in-Prove.is c.requires).1
 
 pub returns-in_ok-checkpoint-in-Prove : goal.returns-in_ok-checkpoint-in-Prove
 returns-in_ok-checkpoint-in-Prove g c =
@@ -75,9 +59,6 @@ returns-in_err-proof-in-Verify g c =
     )
 
 -- ---- prove-consistency
-
-pub prove_consistency-requires : goal.prove_consistency-requires
-prove_consistency-requires g c = subst IsLawful c.in-ProveConsistency.is c.requires
 
 pub returns-in_ok-new-in-ProveConsistency : goal.returns-in_ok-new-in-ProveConsistency
 returns-in_ok-new-in-ProveConsistency g c =
@@ -148,13 +129,6 @@ returns-in_err-proof-in-VerifyConsistency g c =
     )
 
 -- ---- join
-
-pub returns-in_ok-read_parts-in-Join : goal.returns-in_ok-read_parts-in-Join
-returns-in_ok-read_parts-in-Join g c =
-    let read = c.in_ok-read_parts-in-Join.ensures in
-    let h = rw (c.deref-in-Join.ensures, c.deref-in-Join-2.ensures.value) at c.join.ensures in
-    let all = sym (ap (λ r. and_then r (join_outcome (string_bytes c.in-Join.origin))) read.2) in
-    rw c.in-Join.is (_, (read.0, read.1, all), h)
 
 pub returns-in_err-read_parts-in-Join : goal.returns-in_err-read_parts-in-Join
 returns-in_err-read_parts-in-Join g c =

@@ -1,6 +1,6 @@
 -- One step after another, until nothing is left or enough entries have ended.
-use Rattle.std.proofs.Common.{length-append, ◌<◌, ◌^◌, ◌≡◌, ◌+◌, ℕ, List, nat_lt, true, length, ◌∙◌, ◌++◌, [], ap}
-use Rattle.std.proofs.Common.{append-nil, append_assoc, arith, inl, inr, leb-true, refl, subst, sym, ltb-true}
+use Rattle.std.proofs.Common.{length-append, ◌<◌, ◌^◌, ◌≡◌, ◌+◌, ℕ, List, nat_lt, true, length, ◌∙◌, ◌++◌, ap}
+use Rattle.std.proofs.Common.{append_assoc, arith, inl, inr, leb-true, subst, sym, ltb-true}
 use Rattle.std.proofs.lemmas.{Result.err_from_is_err_and, List.length-map, List.map-append}
 use Rattle.tlog_tree.specs.Builders.{IsBuilderOf}
 use Rattle.tlog.specs.{Verdicts.size_limit, Rfc9162.leaf_hash}
@@ -10,16 +10,6 @@ use Rattle.log_files.proofs.{EndFacts.many_at, SplitterFacts.none_of}
 use Rattle.sha2.specs.Sha256.{sha256}
 use Rattle.log_files.proofs.reading.push.Goals.{then-entries-test+else-not-is_full, else-entries-test}
 use Rattle.log_files.proofs.reading.push.Goals as goal
-
-pub entries-init : goal.entries-init
-entries-init c =
-    let s = c.args.splitter.now in
-    record {
-      ready = c.requires;
-      same = (refl, refl);
-      built = λ nodes wanted front b.
-          ([], refl, subst (HasBuilt nodes wanted s c.args.tree) (sym (append-nil front)) b);
-    }
 
 pub entries-preserved : goal.entries-preserved
 entries-preserved c =

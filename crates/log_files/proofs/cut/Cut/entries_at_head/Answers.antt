@@ -2,17 +2,8 @@
 use Rattle.std.proofs.Common.{◌∷◌, [], map, ap, arith, sym, subst, length, length-append, ◌∙◌, refl}
 use Rattle.std.proofs.lemmas.List.{map-append}
 use Rattle.log_files.specs.Inner.Splitting.{AreAtHead}
-use Rattle.log_files.proofs.{CutFacts.more_at_head, CutFacts.none_at_head, EntryFacts.bytes_of, EntryFacts.none_open}
+use Rattle.log_files.proofs.{CutFacts.more_at_head, EntryFacts.bytes_of, EntryFacts.none_open}
 use Rattle.log_files.proofs.cut.Cut.entries_at_head.Goals as goal
-
-pub entries-init : goal.entries-init
-entries-init c =
-    let none = c.new-entries.ensures.items in
-    record {
-      few = omega (arith, ap length none);
-      at_head = subst (λ xs. AreAtHead c.args.self c.args.bytes.now c.args.bytes.now (map bytes_of xs)) (sym none)
-          (none_at_head c.args.self c.args.bytes.now);
-    }
 
 pub entries-preserved : goal.entries-preserved
 entries-preserved c =

@@ -100,7 +100,3 @@ pub returns-in_ok-push-in-None-clause-ready : goal.returns-in_ok-push-in-None-cl
 returns-in_ok-push-in-None-clause-ready c =
     ready_after c.args.self.now _ c.args.bytes.now _ _ c.requires.ready refl c.in_ok-push-in-None.ensures.places
     (returns-in_ok-push-in-None-clause-read c)
-
-pub returns-in_ok-push-in-None-clause-fewer : goal.returns-in_ok-push-in-None-clause-fewer
-returns-in_ok-push-in-None-clause-fewer c =
-    omega (arith, c.requires.some, ap length (nothing_left c.args.bytes.now))

@@ -4,20 +4,9 @@ use Rattle.std.proofs.Common.{length-append, length-drop, set, subst, sym, take,
 use Rattle.std.proofs.lemmas.List.{get_or-append_right, get_or-map, length-map, length-set, map-set}
 use Rattle.std.proofs.lemmas.List.Elements.{All-drop, All-weaker}
 use Rattle.log_files.proofs.EntryFacts.{bytes_of}
-use Rattle.log_files.proofs.WantedFacts.{ascends_lower, kept_copy, kept_longer, next_left, none_begun}
-use Rattle.log_files.specs.Inner.Wanted.{is_next, IsAscending, IsKept}
+use Rattle.log_files.proofs.WantedFacts.{ascends_lower, kept_copy, next_left}
+use Rattle.log_files.specs.Inner.Wanted.{IsAscending, IsKept}
 use Rattle.log_files.proofs.wanted.WantedEntries.copy.Goals as goal
-
-pub wanted-init : goal.wanted-init
-wanted-init c = record {
-  places = c.requires;
-  holds = λ wanted ended is holds.
-      record {
-        kept = kept_longer wanted ended (map bytes_of c.args.entries.now) _ c.args.self.now.left.now holds.kept;
-        ascending = subst (λ n. IsAscending n c.args.self.now.left.now) (sym is) holds.ascending;
-        begun = holds.begun ∙ none_begun (is_next (length ended) c.args.self.now.left.now);
-      };
-}
 
 pub wanted-preserved : goal.wanted-preserved
 wanted-preserved c =

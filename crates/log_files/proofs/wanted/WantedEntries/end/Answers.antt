@@ -1,15 +1,8 @@
 -- The open entry is copied where it is wanted.
 use Rattle.std.proofs.Common.{◌∙◌, ◌∷◌, ◌++◌, [], length, ap, if◌then◌else◌, subst, sym}
 use Rattle.log_files.specs.Inner.Wanted.{is_next, HoldsWanted}
-use Rattle.log_files.proofs.WantedFacts.{ends_unwanted, none_begun}
+use Rattle.log_files.proofs.WantedFacts.{none_begun}
 use Rattle.log_files.proofs.wanted.WantedEntries.end.Goals as goal
-
-pub returns-else-is_next-clause-holds : goal.returns-else-is_next-clause-holds
-returns-else-is_next-clause-holds c =
-    let w = c.args.self.now in
-    λ wanted ended bytes is holds.
-    ends_unwanted w wanted ended bytes
-    (sym (ap (λ n. is_next n w.left.now) is) ∙ sym c.is_next.ensures ∙ c.if-is_next.false) holds
 
 pub returns-in_ok-copy-clause-holds : goal.returns-in_ok-copy-clause-holds
 returns-in_ok-copy-clause-holds c =
