@@ -16,21 +16,21 @@ use Rattle.log_commands.specs.declared.error.Source.TheVariants.{Checkpoint, Fil
 
 -- 1 if a file or a proof is refused, 2 for a wrong line of a checkpoint and otherwise
 abbrev pub status_of : Error → ℕ
-status_of (Refused Checkpoint (Line line expected)) = 2
-status_of (Refused Old (Line line expected)) = 2
-status_of (Refused New (Line line expected)) = 2
-status_of (Refused (Part k) (Line line expected)) = 2
+status_of (Refused Checkpoint (Line line)) = 2
+status_of (Refused Old (Line line)) = 2
+status_of (Refused New (Line line)) = 2
+status_of (Refused (Part k) (Line line)) = 2
 status_of (Refused source refusal) = 1
 status_of error = 2
 
 -- the error of an input whose text is wrong
 abbrev pub text_error : Source → TextError → Error
-text_error source (WrongLine line expected) = Refused source (Line line expected)
+text_error source (WrongLine line) = Refused source (Line line)
 text_error source NoTextMemory = OutOfMemory
 
 -- the error of a consistency proof whose checkpoint is wrong
 abbrev pub checkpoint_error : TextError → Error
-checkpoint_error (WrongLine line expected) = Refused Proof (CheckpointLine line expected)
+checkpoint_error (WrongLine line) = Refused Proof (CheckpointLine line)
 checkpoint_error NoTextMemory = OutOfMemory
 
 -- the error of a proof whose entries the verifier refuses

@@ -5,7 +5,7 @@ ghost use Rattle.log_commands.specs.Errors.{entries_error, read_error, status_of
 ghost use Rattle.log_commands.specs.declared.error.Error.TheVariants.{OutOfMemory};
 
 use log_files::ReadError;
-use log_text::{Expected, TextError};
+use log_text::{TextError, WrongLine};
 use std::alloc::{AllocError, AllocFailed};
 use thiserror::Error;
 use tlog::ProofError;
@@ -49,21 +49,11 @@ pub enum Source {
 #[derive(Clone, Copy, Debug, Error)]
 pub enum Refusal {
     /// A wrong line of a text.
-    #[error("line {line}: expected {expected}")]
-    Line {
-        /// Its number, counted from 1.
-        line: usize,
-        /// What is expected there.
-        expected: Expected,
-    },
+    #[error("{0}")]
+    Line(WrongLine),
     /// A wrong line of the checkpoint that a consistency proof contains.
-    #[error("line {line} of its checkpoint: expected {expected}")]
-    CheckpointLine {
-        /// Its number in the checkpoint, counted from 1.
-        line: usize,
-        /// What is expected there.
-        expected: Expected,
-    },
+    #[error("line {} of its checkpoint: expected {}{}", .0.line, .0.expected, .0.found)]
+    CheckpointLine(WrongLine),
     /// A requested entry that the checkpoint does not have.
     #[error("it has {size} entries, and no entry {number}")]
     NumberPastEnd {
@@ -87,16 +77,16 @@ pub enum Refusal {
         expected: usize,
     },
     /// A file with other entries than the checkpoint.
-    #[error("its entries are not those of the checkpoint")]
+    #[error("its entries are not those that were sealed in the checkpoint")]
     OtherEntries,
     /// A file that begins with other entries than those of the old checkpoint.
     #[error("its first entries are not those of the old checkpoint")]
     OtherOldEntries,
     /// A proof of other entries than the requested ones, or in another order.
-    #[error("its entries are not the requested ones, in their order")]
+    #[error("its entries are not the requested ones, in their order: without numbers `verify` prints those it has")]
     OtherNumbers,
     /// A proof with an entry that a file of lines, or of such blocks, does not have.
-    #[error("entry {number}: no line, or no block of this size")]
+    #[error("entry {number} is no line, or no block of this size: `--raw` prints one entry byte for byte")]
     NoSuchEntry {
         /// The number that the proof gives the entry.
         number: usize,
@@ -155,7 +145,7 @@ impl Error {
     {
         match self {
             Error::Refused(Source::File | Source::Proof, _) => 1,
-            Error::Refused(_, Refusal::Line { .. }) => 2,
+            Error::Refused(_, Refusal::Line(_)) => 2,
             Error::Refused(_, _) => 1,
             _ => 2,
         }
@@ -207,9 +197,7 @@ pub(crate) fn text_error(source: Source, error: TextError) -> Error
     ensures { result ≡ text_error source error }
 {
     match error {
-        TextError::Line { line, expected } => {
-            Error::Refused(source, Refusal::Line { line, expected })
-        }
+        TextError::Line(line) => Error::Refused(source, Refusal::Line(line)),
         TextError::OutOfMemory => Error::OutOfMemory,
     }
 }

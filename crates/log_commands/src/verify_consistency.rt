@@ -45,8 +45,8 @@ fn read_new<'a>(proof: &ConsistencyProof<'a>) -> Result<Checkpoint<'a>, Error>
 {
     match Checkpoint::parse(proof.checkpoint) {
         Ok(checkpoint) => Ok(checkpoint),
-        Err(TextError::Line { line, expected }) => {
-            Err(Error::Refused(Source::Proof, Refusal::CheckpointLine { line, expected }))
+        Err(TextError::Line(line)) => {
+            Err(Error::Refused(Source::Proof, Refusal::CheckpointLine(line)))
         }
         Err(TextError::OutOfMemory) => Err(Error::OutOfMemory),
     }

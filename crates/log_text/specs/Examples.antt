@@ -6,14 +6,14 @@ use lib.Utf8.{encode}
 use Rattle.base64.proofs.OnLiterals.{base64_on_literals}
 use Rattle.log_text.specs.Lines.{base64, base64_bytes, dash, is_key_name, is_line, is_origin, is_signature}
 use Rattle.log_text.specs.Lines.{is_text, number_of}
-use Rattle.log_text.specs.Reading.{after_origin, bytes_by, checkpoint_in, consistency_by, consistency_in}
+use Rattle.log_text.specs.Reading.{after_origin, bytes_by, checkpoint_in, consistency_by, consistency_in, wrong_line}
 use Rattle.log_text.specs.Reading.{digest_by, digests_by, entries_by, entries_in, entry_by, extensions_by}
 use Rattle.log_text.specs.Reading.{log_origin_by, many, part_in, signatures_by}
 use Rattle.log_text.specs.Texts.{checkpoint_text, consistency_text, entries_text, line, CheckpointFields}
 use Rattle.log_text.specs.Texts.{ConsistencyFields, EntriesFields}
-use Rattle.log_text.specs.declared.error.Expected.TheVariants.{Digest, DigestOrBlank, End, EntryBytes, EntryHead}
+use Rattle.log_text.specs.declared.error.Expected.TheVariants.{Digest, DigestOrBlank, End, EntryBytes, EntryHead, OldSize}
 use Rattle.log_text.specs.declared.error.Expected.TheVariants.{NotPart, PartOrigin, Signature, Size}
-use Rattle.log_text.specs.declared.error.TextError.TheVariants.{Line}
+use Rattle.log_text.specs.declared.error.Found.TheVariants.{ByteOrderMark, CarriageReturn, NoLineFeed, Other, TextEnd}
 
 -- what the examples open
 unfoldable pub on_lines : ⊤
@@ -113,35 +113,45 @@ published = refl
 abbrev pub part_lines : List ℕ
 part_lines = line (codes "fohlazu part 1") ++ line (codes "7") ++ line root_text
 
-pub a_part : (checkpoint_in part_lines ≡ Err (Line 1 NotPart))
+pub a_part : (checkpoint_in part_lines ≡ Err (wrong_line 1 NotPart Other))
     × (part_in part_lines ≡ Ok (record { origin = codes "fohlazu part 1"; size = 7; root = root_of_7 }))
-    × (part_in journal_lines ≡ Err (Line 1 PartOrigin))
+    × (part_in journal_lines ≡ Err (wrong_line 1 PartOrigin Other))
 unfolding on_literals
 a_part = (refl, refl, refl)
 
 -- a leading zero; spare bits; a root without a line feed; a blank line alone; and signatures in two parts
 pub leading_zero : checkpoint_in (line (codes "journal.example") ++ line (codes "07") ++ line root_text)
-    ≡ Err (Line 2 Size)
+    ≡ Err (wrong_line 2 Size Other)
 unfolding on_literals
 leading_zero = refl
 
 pub spare_bits : checkpoint_in (line (codes "journal.example") ++ line (codes "7") ++
     line (codes "dPzKac/XCDn10WQ0j59BpM9EMNCIgtydzHKwpsl7smZ="))
-    ≡ Err (Line 3 Digest)
+    ≡ Err (wrong_line 3 Digest Other)
 unfolding on_literals
 spare_bits = refl
 
 pub no_line_feed : checkpoint_in (line (codes "journal.example") ++ line (codes "7") ++ root_text)
-    ≡ Err (Line 3 Digest)
+    ≡ Err (wrong_line 3 Digest NoLineFeed)
 unfolding on_literals
 no_line_feed = refl
 
-pub no_signature : checkpoint_in (journal_lines ++ line []) ≡ Err (Line 5 Signature)
+-- lines that an editor has ended in a carriage return, and a text that it has begun with a byte order mark
+pub carriage_return : checkpoint_in (line (codes "journal.example") ++ (55 ∷ 13 ∷ 10 ∷ []))
+    ≡ Err (wrong_line 2 Size CarriageReturn)
+unfolding on_literals
+carriage_return = refl
+
+pub byte_order_mark : consistency_in (239 ∷ 187 ∷ 191 ∷ line (codes "old 3")) ≡ Err (wrong_line 1 OldSize ByteOrderMark)
+unfolding on_literals
+byte_order_mark = refl
+
+pub no_signature : checkpoint_in (journal_lines ++ line []) ≡ Err (wrong_line 5 Signature TextEnd)
 unfolding on_literals
 no_signature = refl
 
 pub two_blank_lines : checkpoint_in (journal_lines ++ line [] ++ line a_signature ++ line [] ++ line a_signature)
-    ≡ Err (Line 6 End)
+    ≡ Err (wrong_line 6 End Other)
 unfolding on_literals
 two_blank_lines = refl
 
@@ -189,18 +199,18 @@ proof_back = refl
 
 -- the bytes of an entry may be any, line feeds too: here they are two line feeds, and a third ends them
 pub lines_counted : entries_in (line (codes "fohlazu proof 1") ++ line (codes "entries 2") ++ line (codes "entry 1 2")
-    ++ line (10 ∷ 10 ∷ []) ++ line (codes "entries 1")) ≡ Err (Line 7 EntryHead)
+    ++ line (10 ∷ 10 ∷ []) ++ line (codes "entries 1")) ≡ Err (wrong_line 7 EntryHead Other)
 unfolding on_literals
 lines_counted = refl
 
 -- fewer bytes than an entry says; and entries are counted from 1
 pub too_short : entries_in (line (codes "fohlazu proof 1") ++ line (codes "entries 1") ++ line (codes "entry 3 2") ++
-    line (codes "3")) ≡ Err (Line 4 (EntryBytes 2))
+    line (codes "3")) ≡ Err (wrong_line 4 (EntryBytes 2) Other)
 unfolding on_literals
 too_short = refl
 
 pub entry_0 : entries_in (line (codes "fohlazu proof 1") ++ line (codes "entries 1") ++ line (codes "entry 0 1") ++
-    line (codes "0")) ≡ Err (Line 3 EntryHead)
+    line (codes "0")) ≡ Err (wrong_line 3 EntryHead Other)
 unfolding on_literals
 entry_0 = refl
 
@@ -233,6 +243,6 @@ unfolding on_literals
 consistency_back = refl
 
 -- no blank line
-pub no_blank_line : consistency_in (line (codes "old 3") ++ line (codes "journal.example")) ≡ Err (Line 2 DigestOrBlank)
+pub no_blank_line : consistency_in (line (codes "old 3") ++ line (codes "journal.example")) ≡ Err (wrong_line 2 DigestOrBlank Other)
 unfolding on_literals
 no_blank_line = refl

@@ -2,7 +2,7 @@
 use Rattle.std.specs.Prelude.{ℕ, zero, suc, ◌+◌, ◌-◌, ◌==◌, ◌&&◌, ◌||◌, nat_eq, nat_lt, Bool, true, false}
 use Rattle.std.specs.Prelude.{if◌then◌else◌, List, [], ◌∷◌, length, take, drop, codes, slice_index, Option}
 use Rattle.std.specs.Prelude.{Result, Ok, Err}
-use Rattle.std.specs.List.{count_by}
+use Rattle.std.specs.List.{count_by, starts_with}
 use Rattle.std.specs.Option.{option_map_or}
 use Rattle.std.specs.Result.{result_map_both}
 use Rattle.std.specs.Cmp.Lexicographic.{pointwise}
@@ -13,6 +13,8 @@ use Rattle.log_text.specs.declared.error.Expected.TheVariants.{Blank, Digest, Di
 use Rattle.log_text.specs.declared.error.Expected.TheVariants.{EntryBytes, EntryCount, EntryHead, Extension, NotPart}
 use Rattle.log_text.specs.declared.error.Expected.TheVariants.{OldSize, Origin, PartOrigin, ProofVersion, ShortNote}
 use Rattle.log_text.specs.declared.error.Expected.TheVariants.{Signature, Size}
+use Rattle.log_text.specs.declared.error.Found.{Found}
+use Rattle.log_text.specs.declared.error.Found.TheVariants.{ByteOrderMark, CarriageReturn, NoLineFeed, Other, TextEnd}
 use Rattle.log_text.specs.declared.error.Stop.{Stop}
 use Rattle.log_text.specs.declared.error.Stop.TheVariants.{Memory, Missing}
 use Rattle.log_text.specs.declared.error.TextError.{TextError}
@@ -151,9 +153,24 @@ consistency_by text =
 abbrev pub line_at : List ℕ → ℕ → ℕ
 line_at text left = count_by (λ b. b == 10) (take (length text - left) text) + 1
 
+-- what stands at the front of the rest of a text: a byte order mark at its first byte, its end, a line without a line
+-- feed, a line that ends in a carriage return ahead of its line feed, or something else
+abbrev pub found_in : List ℕ → List ℕ → Found
+found_in above below =
+    if (length above == 0) && starts_with nat_eq below (239 ∷ 187 ∷ 191 ∷ []) then ByteOrderMark
+    else if length below == 0 then TextEnd
+    else option_map_or (λ cut. if slice_index cut.0 (length cut.0 - 1) == 13 then CarriageReturn else Other)
+    (cut_at 10 below) NoLineFeed
+
+-- the error of a wrong line
+abbrev pub wrong_line : ℕ → Expected → Found → TextError
+wrong_line line expected found = Line (record { line = line; expected = expected; found = found })
+
 -- the error of a text where reading stops
 abbrev pub error_of : List ℕ → Stop → TextError
-error_of text (Missing left expected) = Line (line_at text left) expected
+error_of text (Missing left expected) =
+    let above = length text - left in
+    wrong_line (line_at text left) expected (found_in (take above text) (drop above text))
 error_of text Memory = OutOfMemory
 
 -- what a text says, or its first wrong line

@@ -1,9 +1,10 @@
 //! Why a text is refused.
 
 ghost use Rattle.std.specs.Prelude.{◌≡◌, length};
-ghost use Rattle.log_text.specs.Reading.{error_of};
+ghost use Rattle.log_text.specs.Reading.{error_of, found_in};
 ghost use Rattle.log_text.specs.declared.error.Stop.TheVariants.{Memory, Missing};
 
+use crate::line::cut_at;
 use std::alloc::{AllocError, AllocFailed};
 use thiserror::Error;
 
@@ -11,19 +12,42 @@ use thiserror::Error;
 #[derive(Debug, Drop, Error)]
 pub enum TextError {
     /// The first wrong line. The bytes of an entry are wrong at their first line, and a note is too long at its first.
-    #[error("line {line}: expected {expected}")]
-    Line {
-        /// Its number, counted from 1: one more than there are line feeds ahead of it.
-        line: usize,
-        /// What is expected there.
-        expected: Expected,
-    },
+    #[error("{0}")]
+    Line(WrongLine),
     #[error("out of memory")]
     OutOfMemory,
 }
 
+/// A wrong line.
+#[derive(Clone, Copy, Debug, PartialEq, Eq, Error)]
+#[error("line {line}: expected {expected}{found}")]
+pub struct WrongLine {
+    /// Its number, counted from 1: one more than there are line feeds ahead of it.
+    pub line: usize,
+    /// What is expected there.
+    pub expected: Expected,
+    /// What stands there.
+    pub found: Found,
+}
+
+/// What stands where something else is expected, if an editor or a transfer often does that to a text.
+#[derive(Clone, Copy, Debug, PartialEq, Eq, Error)]
+pub enum Found {
+    #[error(", but the text begins with a byte order mark")]
+    ByteOrderMark,
+    #[error(", but the text ends")]
+    TextEnd,
+    #[error(", but the last line has no line feed")]
+    NoLineFeed,
+    #[error(", but the line ends in a carriage return and a line feed")]
+    CarriageReturn,
+    /// Anything else.
+    #[error("")]
+    Other,
+}
+
 /// What is expected of a line.
-#[derive(Clone, Copy, Debug, Error)]
+#[derive(Clone, Copy, Debug, PartialEq, Eq, Error)]
 pub enum Expected {
     #[error("a text of at most 1000000 bytes")]
     ShortNote,
@@ -96,15 +120,39 @@ pub(crate) fn missing(left: &[u8], expected: Expected) -> Stop
     Stop::Missing { left, expected }
 }
 
+/// What stands at the front of the rest of a text, where something else is expected.
+fn found_in(above: &[u8], below: &[u8]) -> Found
+    ensures { result ≡ found_in above.now below.now }
+{
+    if above.is_empty() && below.starts_with(b"\xef\xbb\xbf") {
+        return Found::ByteOrderMark;
+    }
+    if below.is_empty() {
+        return Found::TextEnd;
+    }
+    match cut_at(b'\n', below) {
+        Some((line, _)) if !line.is_empty() && line[line.len() - 1] == b'\r' => {
+            Found::CarriageReturn
+        }
+        Some(_) => Found::Other,
+        None => Found::NoLineFeed,
+    }
+}
+
 /// The error of a text where reading stops.
 pub(crate) fn error_of(text: &[u8], stop: Stop) -> TextError
     ensures { result ≡ error_of text.now stop }
 {
     match stop {
         Stop::Missing { left, expected } => {
-            let above = &text[..text.len().saturating_sub(left)];
+            let (above, below) = text.split_at(text.len().saturating_sub(left));
             let line = above.iter().filter(|byte| **byte == b'\n').count() + 1;
-            TextError::Line { line, expected }
+            let found = found_in(above, below);
+            TextError::Line(WrongLine {
+                line,
+                expected,
+                found,
+            })
         }
         Stop::Memory => TextError::OutOfMemory,
     }

@@ -14,4 +14,4 @@ mod text;
 pub use checkpoint::{Checkpoint, PART_ORIGIN, is_key_name, is_origin};
 pub use consistency::ConsistencyProof;
 pub use entries::{EntriesProof, Entry};
-pub use error::{Expected, TextError};
+pub use error::{Expected, Found, TextError, WrongLine};

@@ -6,7 +6,7 @@
 #![tactic(auto)]
 
 use anyhow::{Result, bail};
-use log_text::{Checkpoint, ConsistencyProof, EntriesProof, TextError};
+use log_text::{Checkpoint, ConsistencyProof, EntriesProof, TextError, WrongLine};
 use percent_encoding::percent_decode_str;
 use std::alloc::Global;
 use std::io;
@@ -20,7 +20,7 @@ fn mark(text: &[u8], printed: &[u8]) -> &'static str {
 /// Answers what is wrong with a text.
 fn write_error<W: Write>(error: &TextError, out: &mut W) -> Result<()> {
     match error {
-        TextError::Line { line, .. } => writeln!(out, "line {line}")?,
+        TextError::Line(WrongLine { line, .. }) => writeln!(out, "line {line}")?,
         TextError::OutOfMemory => bail!("out of memory"),
     }
     Ok(())
