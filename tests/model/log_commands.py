@@ -139,7 +139,7 @@ def tree_under(told, data, size, root):
     found = entries_of(told, data, size)
     refuse_if(len(found) < size, told.FILE, f"it has {len(found)} of the {size} entries of the checkpoint")
     log = logs.Log(found)
-    refuse_if(log.root(0, size) != root, told.FILE, "its entries are not those of the checkpoint")
+    refuse_if(log.root(0, size) != root, told.FILE, "its entries are not those that were sealed in the checkpoint")
     return log, found
 
 
@@ -169,10 +169,10 @@ def verify(told, inputs):
     _, size, root = inputs.read(2, told.CHECKPOINT, text, log_texts.checkpoint)
     found, digests = inputs.read(1, told.PROOF, proof, log_texts.entries)
     names = [name for name, _ in found]
-    others = "its entries are not the requested ones, in their order"
+    others = "its entries are not the requested ones, in their order: without numbers `verify` prints those it has"
     refuse_if(told.NUMBER and names != told.NUMBER, told.PROOF, others)
     for name, data in found:
-        why = f"entry {name}: no line, or no block of this size"
+        why = f"entry {name} is no line, or no block of this size: `--raw` prints one entry byte for byte"
         refuse_if(not is_printable(told, size, name, data), told.PROOF, why)
     leaves = [logs.leaf_hash(data) for _, data in found]
     verdict = logs.entries(size, [name - 1 for name in names], leaves, digests, root)

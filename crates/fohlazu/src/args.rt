@@ -1,14 +1,13 @@
 //! The arguments of the program.
 
-ghost use Rattle.std.specs.Prelude.{IfOk};
+ghost use Rattle.std.specs.Prelude.{IfOk, ◌≤◌};
 ghost use Rattle.log_commands.specs.Commands.{IsLawful};
 
-use crate::input::Input;
+use crate::escaped::Escaped;
+use crate::input::{Input, Notes};
 use clap::{Arg, ArgMatches, Command as Syntax, arg, value_parser};
 use log_commands::{Command, Cut, PART_ORIGIN, PartialLine, Print, Source};
 use std::alloc::{AllocError, Global};
-use std::cell::Cell;
-use std::io;
 use std::path::Path;
 use thiserror::Error;
 
@@ -21,49 +20,81 @@ const COMMANDS: [(&str, &str, &str, &str); 6] = [
         "seal",
         "Prints the checkpoint of a file: the log's name, how many entries it has, and their root",
         "Example: fohlazu seal --origin journal.example log > checkpoint",
-        "origin part blocks whole-lines partial FILE",
+        "origin part blocks whole-lines partial output quiet FILE",
     ),
     (
         "prove",
         "Prints a proof of entries of a file",
         "Example: fohlazu prove checkpoint log 3 > proof",
-        "blocks whole-lines partial CHECKPOINT FILE NUMBER!",
+        "blocks whole-lines partial output quiet CHECKPOINT FILE NUMBER!",
     ),
     (
         "verify",
         "Verifies a proof of entries, and prints them: without numbers each after its own and a tab",
         "Example: fohlazu verify checkpoint proof 3",
-        "blocks raw CHECKPOINT PROOF NUMBER",
+        "blocks raw output CHECKPOINT PROOF NUMBER",
     ),
     (
         "prove-consistency",
         "Prints a proof that the file of a new checkpoint begins with the entries of an old one",
         "Example: fohlazu prove-consistency old new log > proof",
-        "blocks whole-lines partial OLD NEW FILE",
+        "blocks whole-lines partial output quiet OLD NEW FILE",
     ),
     (
         "verify-consistency",
         "Verifies such a proof, and prints the new checkpoint, whose signatures are not checked",
         "Example: fohlazu verify-consistency old proof > new",
-        "OLD PROOF",
+        "output OLD PROOF",
     ),
     (
         "join",
         "Prints the checkpoint of a file from its parts: all but the last have one count, a power of two",
         "Example: fohlazu join --origin journal.example part1 part2 > checkpoint",
-        "origin! PART",
+        "origin! output PART",
     ),
 ];
 
+/// The options that a value follows.
+const VALUED: [&str; 4] = ["--origin", "--blocks", "--output", "-o"];
+
+/// The options.
+const OPTIONS: [&str; 13] = [
+    "--origin",
+    "--blocks",
+    "--output",
+    "-o",
+    "--part",
+    "--whole-lines",
+    "--partial",
+    "--raw",
+    "--quiet",
+    "--help",
+    "-h",
+    "--version",
+    "-V",
+];
+
+/// The greatest number of an entry: a log has at most 2^62.
+const MAX_NUMBER: usize = 1 << 62;
+
+/// So many entries are proved at once at most.
+const MAX_COUNT: usize = 100_000_000;
+
 /// Why no command is run.
 #[derive(Debug, Drop, Error)]
-pub(crate) enum ArgsError {
+pub(crate) enum ArgsError<'a> {
     /// The arguments are not as the help says, or they ask for it.
     #[error("{0}")]
     Clap(#[from] clap::Error),
     /// They are refused for another reason.
     #[error("{0}")]
     Refused(&'static str),
+    /// One of them is refused.
+    #[error("{0}: {1}")]
+    Word(Escaped<'a>, &'static str),
+    /// Memory ran out.
+    #[error("out of memory")]
+    OutOfMemory(#[from(alloc)] AllocError),
 }
 
 /// The arguments of a command.
@@ -71,31 +102,32 @@ pub(crate) enum ArgsError {
 pub(crate) struct Args<'a> {
     rt: &'a HostRuntime,
     found: ArgMatches<'a>,
-    /// Takes why a read fails.
-    failure: &'a Cell<Option<io::Error>>,
+    notes: &'a Notes,
 }
 
-/// Reads the arguments: the command, and what its inputs are called. The cell takes why a read of them fails.
+/// Reads the arguments: the command, and what its inputs are called. The notes take what happens while they are read.
 ///
 /// # Errors
 ///
 /// Why nothing is run.
 pub(crate) fn parse_args<'a>(
     rt: &'a HostRuntime,
-    failure: &'a Cell<Option<io::Error>>,
+    notes: &'a Notes,
     words: &'a [String],
-) -> Result<(Command<Input<'a>>, Args<'a>), ArgsError>
+) -> Result<(Command<Input<'a>>, Args<'a>), ArgsError<'a>>
     ensures { IfOk result (λ (command, args). IsLawful command) }
 {
     let alloc = rt.alloc();
+    check_options(words)?;
     let mut matches = program(alloc)
         .map_err(clap::Error::from)?
         .try_get_matches_from(words)?;
     let Some((name, found)) = matches.remove_subcommand() else {
         return Err(ArgsError::Refused("a command is wanted"));
     };
-    let args = Args { rt, found, failure };
-    if args.stdin_count() > 1 {
+    let args = Args { rt, found, notes };
+    let names = args.input_names(alloc)?;
+    if names.iter().filter(|name| **name == "-").count() > 1 {
         return Err(ArgsError::Refused("`-` is standard input, once at most"));
     }
     let command = args.command(alloc, name)?;
@@ -103,6 +135,27 @@ pub(crate) fn parse_args<'a>(
         return Err(ArgsError::Refused(refusal_of(&command)));
     }
     Ok((command, args))
+}
+
+/// Checks that each argument that begins with `-` is an option. What clap says of others misleads.
+fn check_options(words: &[String]) -> Result<(), ArgsError<'_>> {
+    let mut is_value = true;
+    for word in words {
+        let word = word.as_str();
+        if is_value {
+            is_value = false;
+            continue;
+        }
+        let name = word.split('=').next().unwrap_or("");
+        if word == "--" {
+            break;
+        }
+        if word.len() > 1 && word.starts_with('-') && !OPTIONS.contains(&name) {
+            return Err(ArgsError::Word(Escaped(word), "no such option"));
+        }
+        is_value = VALUED.contains(&word);
+    }
+    Ok(())
 }
 
 /// Why a command is not run.
@@ -129,7 +182,7 @@ impl<'a> Args<'a> {
     }
 
     /// The command of this name.
-    fn command(&self, alloc: Global, name: &str) -> Result<Command<Input<'a>>, clap::Error> {
+    fn command(&self, alloc: Global, name: &str) -> Result<Command<Input<'a>>, ArgsError<'a>> {
         Ok(match name {
             "seal" => Command::Seal {
                 origin: self.origin(alloc)?,
@@ -140,13 +193,13 @@ impl<'a> Args<'a> {
                 cut: self.cut(),
                 checkpoint: self.input("CHECKPOINT"),
                 file: self.input("FILE"),
-                numbers: self.numbers(alloc)?,
+                numbers: self.numbers(alloc)?.unwrap_or(Vec::new(alloc)),
             },
             "verify" => Command::Verify {
                 print: self.print(),
                 checkpoint: self.input("CHECKPOINT"),
                 proof: self.input("PROOF"),
-                numbers: Some(self.numbers(alloc)?).filter(|numbers| !numbers.is_empty()),
+                numbers: self.numbers(alloc)?,
             },
             "prove-consistency" => Command::ProveConsistency {
                 cut: self.cut(),
@@ -165,46 +218,59 @@ impl<'a> Args<'a> {
         })
     }
 
-    /// How many inputs are standard input.
-    fn stdin_count(&self) -> usize {
-        let mut count: usize = 0;
+    /// The file that is written, if it is not standard output.
+    pub(crate) fn output(&self) -> Option<&'a str> {
+        self.found.get_str("output").filter(|name| *name != "-")
+    }
+
+    /// What all inputs are called.
+    pub(crate) fn input_names(&self, alloc: Global) -> Result<Vec<&'a str>, AllocError> {
+        let mut names = Vec::new(alloc);
         for id in ["CHECKPOINT", "OLD", "NEW", "FILE", "PROOF", "PART"] {
-            let names = self.found.get_strs(id).unwrap_or(&[]);
-            count = count.saturating_add(names.iter().filter(|name| **name == "-").count());
+            names.extend_from_slice(self.found.get_strs(id).unwrap_or(&[]))?;
         }
-        count
+        Ok(names)
     }
 
     /// An input that is required.
     fn input(&self, id: &str) -> Input<'a> {
-        self.input_of(self.found.get_str(id).unwrap_or(""))
-    }
-
-    /// The input of this name.
-    fn input_of(&self, name: &'a str) -> Input<'a> {
-        Input {
-            rt: self.rt,
-            name,
-            file: None,
-            failure: self.failure,
-        }
+        let shows_progress = id == "FILE" && !self.found.get_flag("quiet");
+        let name = self.found.get_str(id).unwrap_or("");
+        Input::new(self.rt, name, shows_progress, self.notes)
     }
 
     /// The parts.
     fn parts(&self, alloc: Global) -> Result<Vec<Input<'a>>, AllocError> {
         let mut parts = Vec::new(alloc);
         for name in self.found.get_strs("PART").unwrap_or(&[]) {
-            parts.push(self.input_of(name))?;
+            parts.push(Input::new(self.rt, name, false, self.notes))?;
         }
         Ok(parts)
     }
 
-    /// The numbers of entries.
-    fn numbers(&self, alloc: Global) -> Result<Vec<usize>, AllocError> {
-        match self.found.get_many::<usize>("NUMBER") {
-            Some(numbers) => numbers.filter_map(|number| number.ok()).collect(alloc),
-            None => Ok(Vec::new(alloc)),
+    /// The numbers of entries, or none for all.
+    fn numbers(&self, alloc: Global) -> Result<Option<Vec<usize>>, ArgsError<'a>> {
+        let words = self.found.get_strs("NUMBER").unwrap_or(&[]);
+        if words.is_empty() || words == ["all"].as_slice() {
+            return Ok(None);
         }
+        let mut numbers = Vec::with_capacity(alloc, words.len())?;
+        for word in words {
+            for range in word.split(',') {
+                let (first, last) = range_of(range).map_err(|why| ArgsError::Word(
+                    Escaped(word),
+                    why,
+                ))?;
+                if numbers.len().saturating_add(last - first) >= MAX_COUNT {
+                    return Err(ArgsError::Word(
+                        Escaped(word),
+                        "more than 100000000 entries at once",
+                    ));
+                }
+                numbers.extend(first..=last)?;
+            }
+        }
+        Ok(Some(numbers))
     }
 
     /// The origin: that of a part, the one that is given, or `localhost/` and the file's name.
@@ -244,6 +310,30 @@ impl<'a> Args<'a> {
     }
 }
 
+/// The first and the last number of a range, as `3-7`, or of one number.
+fn range_of(range: &str) -> Result<(usize, usize), &'static str>
+    ensures { IfOk result (λ (first, last). first ≤ last) }
+{
+    let (first, last) = range.split_once('-').unwrap_or((range, range));
+    let (first, last) = (number_of(first)?, number_of(last)?);
+    if last < first {
+        return Err("a range goes upwards");
+    }
+    Ok((first, last))
+}
+
+/// The number of an entry.
+fn number_of(word: &str) -> Result<usize, &'static str> {
+    if word.is_empty() || !word.bytes().all(|byte| byte.is_ascii_digit()) {
+        return Err("no number of an entry, as 3, 3-7, 3,7 or all");
+    }
+    match word.parse() {
+        Ok(0) => Err("entries are numbered from 1"),
+        Ok(number) if number <= MAX_NUMBER => Ok(number),
+        _ => Err("a log has at most 4611686018427387904 entries"),
+    }
+}
+
 /// What the program takes.
 fn program<'a>(alloc: Global) -> Result<Syntax<'a>, AllocError> {
     let mut program = Syntax::new(alloc, "fohlazu")
@@ -265,7 +355,6 @@ fn program<'a>(alloc: Global) -> Result<Syntax<'a>, AllocError> {
 
 /// An argument.
 fn argument<'a>(alloc: Global, id: &str) -> Result<Arg<'a>, AllocError> {
-    let number = value_parser!(usize).range(1..);
     Ok(match id {
         "origin" => arg!(in alloc; --origin <ORIGIN> "The log's name, if not `localhost/FILE`"),
         "origin!" => arg!(in alloc; --origin <ORIGIN> "The log's name").required(true),
@@ -277,13 +366,15 @@ fn argument<'a>(alloc: Global, id: &str) -> Result<Arg<'a>, AllocError> {
         "whole-lines" => arg!(in alloc; --"whole-lines" "Leave out a partial line").group("cut")?,
         "partial" => arg!(in alloc; --partial "Take a partial line as an entry").group("cut")?,
         "raw" => arg!(in alloc; --raw "Print one entry byte for byte").group("cut")?,
+        "output" => arg!(in alloc; -o --output <OUTPUT> "Write to this file, once all went well"),
+        "quiet" => arg!(in alloc; --quiet "Do not show how far the file is read"),
         "CHECKPOINT" => arg!(in alloc; <CHECKPOINT> "The checkpoint"),
         "OLD" => arg!(in alloc; <OLD> "The old checkpoint"),
         "NEW" => arg!(in alloc; <NEW> "The new checkpoint"),
         "FILE" => arg!(in alloc; <FILE> "The file, which may have grown since it was sealed"),
         "PROOF" => arg!(in alloc; <PROOF> "The proof"),
         "PART" => arg!(in alloc; <PART> ... "The parts, in order"),
-        "NUMBER" => arg!(in alloc; [NUMBER] ... "The numbers of the entries").value_parser(number),
-        _ => arg!(in alloc; <NUMBER> ... "The numbers of the entries, from 1").value_parser(number),
+        "NUMBER" => arg!(in alloc; [NUMBER] ... "The entries, as 3, 3-7, 3,7 or all"),
+        _ => arg!(in alloc; <NUMBER> ... "The entries, as 3, 3-7, 3,7 or all, counted from 1"),
     })
 }

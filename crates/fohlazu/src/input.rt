@@ -3,24 +3,54 @@
 ghost use Rattle.std.specs.Counts.{IsPrefixLen};
 ghost use Rattle.std.specs.Prelude.{IfOk};
 
+use crate::progress::Progress;
 use std::cell::Cell;
 use std::fs::File;
 use std::io;
 use std::io::{Error, ErrorKind, Read};
 
+/// What is noted while inputs are read.
+#[derive(Drop)]
+pub(crate) struct Notes {
+    /// Why a read failed.
+    pub(crate) failure: Cell<Option<Error>>,
+    /// Whether a line of progress stands on standard error.
+    pub(crate) is_shown: Cell<bool>,
+}
+
 /// An input that is opened when it is first read: a file, or standard input by the name `-`.
 #[derive(Drop)]
 pub(crate) struct Input<'a> {
-    pub(crate) rt: &'a HostRuntime,
-    pub(crate) name: &'a str,
+    rt: &'a HostRuntime,
+    name: &'a str,
     /// The file that is open, and how many of the bytes have not been read that it had when it was opened, if it is a
     /// regular one.
-    pub(crate) file: Option<(File, u64)>,
-    /// Takes why a read fails.
-    pub(crate) failure: &'a Cell<Option<Error>>,
+    file: Option<(File, u64)>,
+    progress: Option<Progress<'a>>,
+    notes: &'a Notes,
 }
 
 impl<'a> Input<'a> {
+    /// The input of this name. How far it is read is shown if that is wanted.
+    pub(crate) fn new(
+        rt: &'a HostRuntime,
+        name: &'a str,
+        shows_progress: bool,
+        notes: &'a Notes,
+    ) -> Input<'a> {
+        Input {
+            rt,
+            name,
+            file: None,
+            progress: if shows_progress {
+                Progress::start(rt)
+            } else {
+                None
+            },
+            notes,
+        }
+    }
+
     /// Reads the next bytes.
     fn read_next(&mut self, buf: &mut [u8]) -> io::Result<usize>
         ensures { IfOk result (λ count. IsPrefixLen count buf.new) }
@@ -57,8 +87,16 @@ fn open(rt: &HostRuntime, name: &str) -> io::Result<(File, u64)> {
 
 impl<'a> Read for Input<'a> {
     fn read(&mut self, buf: &mut [u8]) -> io::Result<usize> {
-        let failure = self.failure;
-        self.read_next(buf)
-            .inspect_err(|error| failure.set(Some(*error)))
+        let notes = self.notes;
+        let count = self
+            .read_next(buf)
+            .inspect_err(|error| notes.failure.set(Some(*error)))?;
+        if let Some(progress) = &mut self.progress {
+            let left = self.file.as_ref().map_or(0, |(_, left)| *left);
+            if progress.add(count, left) {
+                notes.is_shown.set(true);
+            }
+        }
+        Ok(count)
     }
 }

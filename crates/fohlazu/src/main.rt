@@ -2,10 +2,18 @@
 #![tactic(auto)]
 
 mod args;
+mod escaped;
 mod input;
+mod output;
+mod progress;
+
+ghost use Rattle.log_commands.specs.Commands.{IsLawful};
 
 use args::{Args, ArgsError, parse_args};
-use log_commands::{Error, run};
+use escaped::Escaped;
+use input::{Input, Notes};
+use log_commands::{Command, Error, run};
+use output::Replacement;
 use std::cell::Cell;
 use std::process::ExitCode;
 use std::{env, io};
@@ -18,14 +26,25 @@ fn main(rt: HostRuntime) -> ExitCode {
         }
         Err(_) => return refuse(&rt, "an argument is no text in UTF-8"),
     };
-    let failure = Cell::new(None);
-    match parse_args(&rt, &failure, &words) {
-        Ok((command, args)) => match run(rt.alloc(), command, &mut rt.stdout()) {
-            Ok(()) => ExitCode::SUCCESS,
-            Err(error) => stop(&rt, &args, failure.get(), error),
+    let notes = Notes {
+        failure: Cell::new(None),
+        is_shown: Cell::new(false),
+    };
+    match parse_args(&rt, &notes, &words) {
+        Ok((command, args)) => match args.output() {
+            Some(name) => run_to_file(&rt, &args, &notes, command, name),
+            None => finish(
+                &rt,
+                &args,
+                &notes,
+                run(rt.alloc(), command, &mut rt.stdout()),
+            ),
         },
         Err(ArgsError::Clap(error)) => print_help(&rt, &error),
-        Err(ArgsError::Refused(why)) => refuse(&rt, why),
+        Err(error) => {
+            let _ = eprintln!(rt; "fohlazu: {error}");
+            ExitCode::from(2)
+        }
     }
 }
 
@@ -39,13 +58,50 @@ fn read_words(rt: &HostRuntime) -> io::Result<Vec<String>> {
     Ok(words)
 }
 
-/// Prints why a command stops: what the input is called, and why it is refused or a read of it failed.
-fn stop(rt: &HostRuntime, args: &Args<'_>, failure: Option<io::Error>, error: Error) -> ExitCode {
-    let _ = match (error, error.source(), failure) {
+/// Runs a command, whose output replaces a file.
+fn run_to_file(
+    rt: &HostRuntime,
+    args: &Args<'_>,
+    notes: &Notes,
+    command: Command<Input<'_>>,
+    name: &str,
+) -> ExitCode
+    requires { IsLawful command }
+{
+    let mut output = match Replacement::new(rt, name) {
+        Ok(output) => output,
+        Err(error) => return refuse_output(rt, name, error),
+    };
+    match args.input_names(rt.alloc()) {
+        Ok(inputs) if !inputs.iter().any(|input| output.is(input)) => {}
+        Ok(_) => return refuse(rt, "the output is one of the inputs"),
+        Err(_) => return refuse(rt, "out of memory"),
+    }
+    let done = run(rt.alloc(), command, &mut output);
+    if done.is_err() {
+        output.give_up();
+    } else if let Err(error) = output.finish() {
+        return refuse_output(rt, name, error);
+    }
+    finish(rt, args, notes, done)
+}
+
+/// Ends a run: where it failed, prints what the input is called, and why it is refused or a read of it failed.
+fn finish(rt: &HostRuntime, args: &Args<'_>, notes: &Notes, done: Result<(), Error>) -> ExitCode {
+    if notes.is_shown.get() {
+        let _ = eprint!(rt; "\r\u{1b}[K");
+    }
+    let Err(error) = done else {
+        return ExitCode::SUCCESS;
+    };
+    let _ = match (error, error.source(), notes.failure.get()) {
         (Error::Read(_), Some(source), Some(failure)) => {
-            eprintln!(rt; "fohlazu: {}: {failure}", args.name_of(source))
+            eprintln!(rt; "fohlazu: {}: {failure}", Escaped(args.name_of(source)))
         }
-        (_, Some(source), _) => eprintln!(rt; "fohlazu: {}: {error}", args.name_of(source)),
+        (_, Some(source), _) => eprintln!(rt;
+            "fohlazu: {}: {error}",
+            Escaped(args.name_of(source))
+        ),
         _ => eprintln!(rt; "fohlazu: {error}"),
     };
     ExitCode::from(error.status())
@@ -60,6 +116,12 @@ fn print_help(rt: &HostRuntime, error: &clap::Error) -> ExitCode {
         Ok(()) if error.exit_code() == 0 => ExitCode::SUCCESS,
         _ => ExitCode::from(2),
     }
+}
+
+/// Prints why the output is not written.
+fn refuse_output(rt: &HostRuntime, name: &str, error: io::Error) -> ExitCode {
+    let _ = eprintln!(rt; "fohlazu: {}: {error}", Escaped(name));
+    ExitCode::from(2)
 }
 
 /// Prints why nothing is run.

@@ -1,0 +1,58 @@
+//! How far a file is read.
+
+use std::io::IsTerminal;
+use std::time::{Duration, Instant};
+
+/// How many milliseconds a file is read before that is shown.
+const FIRST_MS: u64 = 1000;
+
+/// How many milliseconds a line stands.
+const EACH_MS: u64 = 250;
+
+/// A line on standard error that says how far a file is read, from the first second on.
+#[derive(Drop)]
+pub(crate) struct Progress<'a> {
+    rt: &'a HostRuntime,
+    start: Instant,
+    /// The time of the next line, from the start.
+    next: Duration,
+    read: u64,
+}
+
+impl<'a> Progress<'a> {
+    /// A file that is read from now on. There is none where standard error is no terminal, or without a clock.
+    pub(crate) fn start(rt: &'a HostRuntime) -> Option<Progress<'a>> {
+        if !rt.stderr().is_terminal() {
+            return None;
+        }
+        let start = Instant::now(rt).ok()?;
+        Some(Progress {
+            rt,
+            start,
+            next: Duration::from_millis(FIRST_MS),
+            read: 0,
+        })
+    }
+
+    /// So many more bytes are read, and at least so many are left. Whether a line is shown for it.
+    pub(crate) fn add(&mut self, count: usize, left: u64) -> bool {
+        self.read = self.read.saturating_add(count as u64);
+        let Ok(elapsed) = self.start.elapsed(self.rt) else {
+            return false;
+        };
+        if elapsed < self.next {
+            return false;
+        }
+        self.next = elapsed.saturating_add(Duration::from_millis(EACH_MS));
+        let per_second = self.read / elapsed.as_secs().max(1);
+        let (read, rate) = (self.read >> 20, per_second >> 20);
+        let _ = if left > 0 {
+            let all = self.read.saturating_add(left) >> 20;
+            let seconds = left / per_second.max(1);
+            eprint!(self.rt; "\r{read} of {all} MiB, {rate} MiB/s, {seconds} s left\u{1b}[K")
+        } else {
+            eprint!(self.rt; "\r{read} MiB, {rate} MiB/s\u{1b}[K")
+        };
+        true
+    }
+}
