@@ -18,38 +18,38 @@ const VERSION: &str = "0.1.0";
 const COMMANDS: [(&str, &str, &str, &str); 6] = [
     (
         "seal",
-        "Prints the checkpoint of a file: the log's name, how many entries it has, and their root",
-        "Example: fohlazu seal --origin journal.example log > checkpoint",
+        "Prints the checkpoint of a file: origin, count and root",
+        "Example: fohlazu seal --origin journal.example log -o checkpoint",
         "origin part blocks whole-lines partial output quiet FILE",
     ),
     (
         "prove",
         "Prints a proof of entries of a file",
-        "Example: fohlazu prove checkpoint log 3 > proof",
+        "Example: fohlazu prove checkpoint log 3 -o proof",
         "blocks whole-lines partial output quiet CHECKPOINT FILE NUMBER!",
     ),
     (
         "verify",
-        "Verifies a proof of entries, and prints them: without numbers each after its own and a tab",
-        "Example: fohlazu verify checkpoint proof 3",
+        "Verifies a proof of entries, and prints them",
+        "No signature is checked. Example: fohlazu verify checkpoint proof 3",
         "blocks raw output CHECKPOINT PROOF NUMBER",
     ),
     (
         "prove-consistency",
-        "Prints a proof that the file of a new checkpoint begins with the entries of an old one",
-        "Example: fohlazu prove-consistency old new log > proof",
+        "Prints a proof that a log begins with its old entries",
+        "Example: fohlazu prove-consistency old new log -o proof",
         "blocks whole-lines partial output quiet OLD NEW FILE",
     ),
     (
         "verify-consistency",
-        "Verifies such a proof, and prints the new checkpoint, whose signatures are not checked",
-        "Example: fohlazu verify-consistency old proof > new",
+        "Verifies a proof of growth, and prints the new checkpoint",
+        "No signature is checked. Example: fohlazu verify-consistency old proof -o new",
         "output OLD PROOF",
     ),
     (
         "join",
-        "Prints the checkpoint of a file from its parts: all but the last have one count, a power of two",
-        "Example: fohlazu join --origin journal.example part1 part2 > checkpoint",
+        "Prints the checkpoint of a file from its sealed parts",
+        "Example: fohlazu join --origin journal.example part1 part2 -o checkpoint",
         "origin! output PART",
     ),
 ];
@@ -340,7 +340,9 @@ fn program<'a>(alloc: Global) -> Result<Syntax<'a>, AllocError> {
         .bin_name("fohlazu")?
         .version(VERSION)
         .about("Seals logs in files by RFC 9162, proves entries and growth, and verifies proofs")
-        .after_help("An input called - is standard input. Example: fohlazu seal log > checkpoint")
+        .after_help(
+            "The name - is standard input or output. Example: fohlazu seal log -o checkpoint",
+        )
         .subcommand_required(true)
         .arg_required_else_help(true);
     for (name, about, example, ids) in COMMANDS {
@@ -373,8 +375,10 @@ fn argument<'a>(alloc: Global, id: &str) -> Result<Arg<'a>, AllocError> {
         "NEW" => arg!(in alloc; <NEW> "The new checkpoint"),
         "FILE" => arg!(in alloc; <FILE> "The file, which may have grown since it was sealed"),
         "PROOF" => arg!(in alloc; <PROOF> "The proof"),
-        "PART" => arg!(in alloc; <PART> ... "The parts, in order"),
-        "NUMBER" => arg!(in alloc; [NUMBER] ... "The entries, as 3, 3-7, 3,7 or all"),
+        "PART" =>
+            arg!(in alloc; <PART> ... "The parts, in order; all but the last have 2^k entries, with one k"),
+        "NUMBER" =>
+            arg!(in alloc; [NUMBER] ... "The entries, as 3, 3-7 or 3,7; else all, each after its number"),
         _ => arg!(in alloc; <NUMBER> ... "The entries, as 3, 3-7, 3,7 or all, counted from 1"),
     })
 }
