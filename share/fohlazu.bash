@@ -7,11 +7,12 @@ _fohlazu() {
     known='512 4096 65536'
   elif [ "${word#-}" != "$word" ]; then
     case "${COMP_WORDS[1]}" in
-      seal) known='--origin --part --blocks --whole-lines --partial' ;;
-      prove | prove-consistency) known='--blocks --whole-lines --partial' ;;
+      seal) known='--origin --part --blocks --whole-lines --partial --quiet' ;;
+      prove | prove-consistency) known='--blocks --whole-lines --partial --quiet' ;;
       verify) known='--blocks --raw' ;;
       join) known='--origin' ;;
     esac
+    known="$known --output --help"
   fi
   mapfile -t COMPREPLY < <(compgen -W "$known" -- "$word")
 }
