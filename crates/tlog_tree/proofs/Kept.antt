@@ -14,7 +14,8 @@ use Rattle.std.proofs.lemmas.List.Elements.{All-map, All-weaker}
 use Rattle.tlog.specs.Rfc9162.{Hash, mth_within}
 use Rattle.tlog_tree.specs.Builders.{indexed_of}
 use Rattle.tlog_tree.specs.Inner.Layers.{parents_of, root_of_rest}
-use Rattle.tlog_tree.specs.Inner.Wanted.{HasValue, is_new, kept_in, updated, with_value}
+use Rattle.tlog_tree.specs.Wanted.{HasValue}
+use Rattle.tlog_tree.specs.Inner.Wanted.{is_new, kept_in, updated, with_value}
 use Rattle.tlog_tree.specs.Trees.{leaves_root, node_at, value_at}
 use Rattle.tlog_tree.specs.declared.wanted.WantedNode.{WantedNode}
 use Rattle.tlog_tree.proofs.Whole.{length-parents, parents-drop, parents-take, root_of_parents}

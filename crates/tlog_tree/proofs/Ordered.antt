@@ -13,7 +13,8 @@ use borrow.Rule.Slice.PartMut.{mid_of, put_mid}
 use Rattle.tlog.specs.Rfc9162.{Hash}
 use Rattle.tlog.specs.Verdicts.{size_limit}
 use Rattle.tlog_tree.specs.Builders.{indexed, indexed_of}
-use Rattle.tlog_tree.specs.Inner.Wanted.{end_of, updated, with_value}
+use Rattle.tlog_tree.specs.Wanted.{end_of}
+use Rattle.tlog_tree.specs.Inner.Wanted.{updated, with_value}
 use Rattle.tlog_tree.specs.Trees.{node_at, value_at, values_at}
 use Rattle.tlog_tree.specs.declared.wanted.WantedNode.{WantedNode}
 use Rattle.tlog_tree.proofs.Kept.{at_leaves, new_tells}

@@ -4,7 +4,7 @@ use Rattle.std.specs.List.{All, range_with_len}
 use Rattle.std.specs.List.Sorted.{IsNonDecreasingBy, IsPermutation}
 use Rattle.sha2.specs.Sha256.{sha256}
 use Rattle.tlog_tree.specs.Frontiers.{IsFrontierOf}
-use Rattle.tlog_tree.specs.Inner.Wanted.{HasValue, end_of}
+use Rattle.tlog_tree.specs.Wanted.{HasValue, end_of}
 use Rattle.tlog_tree.specs.declared.builder.TreeBuilder.{TreeBuilder}
 use Rattle.tlog_tree.specs.declared.wanted.WantedNode.{WantedNode}
 

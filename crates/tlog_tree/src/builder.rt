@@ -24,7 +24,7 @@ pub struct TreeBuilder {
 impl TreeBuilder {
     ghost use Rattle.tlog_tree.specs.Builders.{IsBuilderOf};
     ghost use Rattle.tlog_tree.specs.Frontiers.{IsFrontierOf};
-    ghost use Rattle.tlog_tree.specs.Inner.Wanted.{HasValue};
+    ghost use Rattle.tlog_tree.specs.Wanted.{HasValue};
 
     /// The tree of no entries, where the nodes of these layers and slots are wanted.
     ///

@@ -1,8 +1,7 @@
 -- What becomes of a wanted node as a log grows.
-use Rattle.std.specs.Prelude.{◌≡◌, ℕ, ◌+◌, ◌-◌, ◌*◌, ◌^◌, ◌≤◌, ◌==◌, min, nat_lt, nat_le, Bool, true, false, ◌&&◌, List, [], length}
+use Rattle.std.specs.Prelude.{ℕ, ◌+◌, ◌-◌, ◌*◌, ◌^◌, ◌==◌, nat_lt, nat_le, Bool, true, false, ◌&&◌, List, [], length}
 use Rattle.std.specs.Prelude.{slice_index_or}
 use Rattle.tlog.specs.Rfc9162.{Hash}
-use Rattle.tlog.specs.Verdicts.{size_limit}
 use Rattle.tlog_tree.specs.Trees.{node_at}
 use Rattle.tlog_tree.specs.declared.wanted.WantedNode.{WantedNode}
 
@@ -27,11 +26,3 @@ abbrev pub updated : Hash → ℕ → ℕ → List (List ℕ) → WantedNode →
 updated hash layer size nodes w =
     with_value (nat_le layer w.layer && is_new size (length nodes) ((w.slot + 1) * 2 ^ (w.layer - layer)))
     (node_at hash nodes (w.layer - layer) w.slot) w
-
--- how many leaves there are when the last one below it comes, or one more than a log has at most
-abbrev pub end_of : WantedNode → ℕ
-end_of w = min ((w.slot + 1) * 2 ^ w.layer) (size_limit + 1)
-
--- a node has its value, if its leaves have all come
-abbrev pub HasValue : Hash → List (List ℕ) → WantedNode → Type 0
-HasValue hash leaves w = (w.slot + 1) * 2 ^ w.layer ≤ length leaves → w.value ≡ node_at hash leaves w.layer w.slot

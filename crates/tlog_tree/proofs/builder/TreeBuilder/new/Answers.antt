@@ -6,7 +6,7 @@ use Rattle.std.proofs.lemmas.List.FromFn.{map-range_with_len_more}
 use Rattle.std.proofs.lemmas.List.Sorted.{IsNonDecreasingBy-from_sort_by_key, IsPermutation-map}
 use Rattle.sha2.specs.Sha256.{sha256}
 use Rattle.tlog_tree.specs.Builders.{indexed_of}
-use Rattle.tlog_tree.specs.Inner.Wanted.{end_of}
+use Rattle.tlog_tree.specs.Wanted.{end_of}
 use Rattle.tlog_tree.proofs.Kept.{none_has_value}
 use Rattle.tlog_tree.proofs.builder.TreeBuilder.new.Goals as goal
 

@@ -5,7 +5,8 @@ use Rattle.std.proofs.lemmas.List.{with_items_is}
 use Rattle.std.proofs.lemmas.List.Elements.{All-same}
 use Rattle.sha2.specs.Sha256.{sha256}
 use Rattle.tlog_tree.specs.Builders.{indexed, indexed_of}
-use Rattle.tlog_tree.specs.Inner.Wanted.{HasValue, end_of, updated}
+use Rattle.tlog_tree.specs.Wanted.{HasValue, end_of}
+use Rattle.tlog_tree.specs.Inner.Wanted.{updated}
 use Rattle.tlog_tree.proofs.Kept.{places_stay, values_grow}
 use Rattle.tlog_tree.proofs.Ordered.{end_stays, order_stays}
 use Rattle.tlog_tree.proofs.builder.TreeBuilder.push_many.Goals as goal
