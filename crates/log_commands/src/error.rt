@@ -92,7 +92,7 @@ pub enum Refusal {
         number: usize,
     },
     /// A proof of entries that the verifier refuses.
-    #[error("{0}")]
+    #[error("{}", entries_words(.0))]
     Entries(EntriesError),
     /// A new checkpoint of another log than the old one.
     #[error("its origin is not that of the old checkpoint")]
@@ -117,7 +117,7 @@ pub enum Refusal {
         expected: usize,
     },
     /// A consistency proof that the verifier refuses.
-    #[error("{0}")]
+    #[error("{}", consistency_words(.0))]
     Consistency(ProofError),
     /// A part whose size does not fit the first one's.
     #[error("{size} entries: all parts have one size, a power of two ({first} in the first), the last may have fewer")]
@@ -127,6 +127,30 @@ pub enum Refusal {
         /// How many the first one has.
         first: usize,
     },
+}
+
+/// What the verifier's reason says of a proof of entries.
+fn entries_words(error: &EntriesError) -> &'static str {
+    match error {
+        EntriesError::NoIndices => "it has no entries",
+        EntriesError::IndexPastEnd => "it has an entry past the last one of the checkpoint",
+        EntriesError::TooFewDigests => "it has too few digests",
+        EntriesError::TooManyDigests => "it has too many digests",
+        EntriesError::TwoLeafHashes => "it has two entries of one number",
+        // The others are no reasons of a proof: a checkpoint that is read has at most 2^62 entries.
+        _ => "its entries or digests are not those of the checkpoint",
+    }
+}
+
+/// What the verifier's reason says of a consistency proof.
+fn consistency_words(error: &ProofError) -> &'static str {
+    match error {
+        ProofError::TooFewDigests => "it has too few digests",
+        ProofError::TooManyDigests => "it has too many digests",
+        ProofError::OldRootMismatch => "it does not begin with the entries of the old checkpoint",
+        // The sizes are those of checkpoints that are compared before, and lead to no other reason.
+        _ => "it does not lead to the new checkpoint",
+    }
 }
 
 impl Error {
