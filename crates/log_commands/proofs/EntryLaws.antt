@@ -2,8 +2,8 @@
 use Rattle.std.proofs.Common.{◌≡◌, ◌≤◌, ◌<◌, ◌-◌, ◌∙◌, ℕ, List, [], ◌∷◌, ap, arith, get_or, length, map, refl, subst}
 use Rattle.std.proofs.Common.{sym, take, None, Some, Ok, Option, ◌^◌, Bool, true, is_some, All, map-id, le-leb}
 use Rattle.std.proofs.Common.{get_or-take}
-use Rattle.std.proofs.lemmas.{Simd.map-map, List.Folds.flat_map-map, List.get_or-map, List.length-map}
-use Rattle.std.specs.{Cmp.Lexicographic.bytes_decides, List.flat_map, Option.option_map}
+use Rattle.std.proofs.lemmas.{Bool.eq-eqb, Simd.map-map, List.Folds.flat_map-map, List.get_or-map, List.length-map}
+use Rattle.std.specs.{List.flat_map, Option.option_map}
 use Rattle.std.proofs.lemmas.List.Elements.{All-drop, All-head, All-map, All-tail, All-take}
 use Rattle.p3_merkle_core.specs.Refusals.{first_of, ok_unless}
 use Rattle.sha2.specs.Sha256.{sha256}
@@ -17,8 +17,8 @@ use Rattle.log_text.specs.Texts.{IsEntry, entries_text, CheckpointFields, Entrie
 use Rattle.log_text.proofs.{EntriesFacts.entries_proofs, NoteLaws.notes}
 use Rattle.log_files.specs.{Entries.entries_in, Entries.entry_at, declared.cut.Cut.Cut}
 use Rattle.log_commands.specs.{Commands.prove_file, Commands.AreNumbers, Errors.entries_error, Outcomes.is_printable}
-use Rattle.log_commands.specs.Outcomes.{said_by, checkpoint_of, entries_under, entry_refusal, number_refusal}
-use Rattle.log_commands.specs.Outcomes.{numbers_refusal, printed, proof_over, proof_refusal, prove_under, requested}
+use Rattle.log_commands.specs.Outcomes.{said_by, checkpoint_of, entries_under, entry_refusal, number_refusal, requested}
+use Rattle.log_commands.specs.Outcomes.{first_other, numbers_refusal, printed, proof_over, proof_refusal, prove_under}
 use Rattle.log_commands.specs.Laws.{printed_of, AreRequested, CanSay, ProofsAreAccepted, ProofsAreProved}
 use Rattle.log_commands.specs.declared.{error.Source.TheVariants.Checkpoint, verify.Print.Print}
 use Rattle.log_commands.proofs.{FileLaws.prints, ProveFacts.numbers_inside, ProveFacts.within_size}
@@ -72,13 +72,19 @@ map_same f g (x ∷ xs) same =
 abbrev entry_of : List (List ℕ) → ℕ → EntryFields
 entry_of entries n = record { number = n; bytes = entry_at entries (n - 1) }
 
+-- the requested numbers themselves are not refused
+same_numbers : (ns : List ℕ) → first_other ns ns ≡ None
+same_numbers [] = refl
+same_numbers (n ∷ ns) = rw (eq-eqb n n refl) (same_numbers ns)
+
 module _ (entries : List (List ℕ)) (numbers : List ℕ) where
   requested_are : (asked : Option (List ℕ)) → AreRequested asked numbers →
       numbers_refusal asked (proof_over entries numbers).entries ≡ None
   requested_are None are = refl
   requested_are (Some ns) are =
-      rw ((bytes_decides (map (λ (e : EntryFields). e.number) (map (entry_of entries) numbers)) ns).1
-      (map-map (λ (e : EntryFields). e.number) (entry_of entries) numbers ∙ map-id numbers ∙ sym are)) refl
+      ap (λ ms. first_other ms ns)
+      (map-map (λ (e : EntryFields). e.number) (entry_of entries) numbers ∙ map-id numbers ∙ sym are)
+      ∙ same_numbers ns
 
   abbrev leaves : List (List ℕ)
   leaves = map (leaf_hash sha256) entries

@@ -22,10 +22,10 @@ use Rattle.log_commands.specs.Errors.{checkpoint_error, entries_error, text_erro
 use Rattle.log_commands.specs.declared.error.Error.{Error}
 use Rattle.log_commands.specs.declared.error.Error.TheVariants.{OutOfMemory, Read, Refused}
 use Rattle.log_commands.specs.declared.error.Refusal.TheVariants.{Consistency, EndsInsideLine, NoSuchEntry}
-use Rattle.log_commands.specs.declared.error.Refusal.TheVariants.{NumberPastEnd, OtherEntries, OtherNumbers}
-use Rattle.log_commands.specs.declared.error.Refusal.TheVariants.{OtherOldEntries, OtherOldSize, OtherOrigin, PartSize}
-use Rattle.log_commands.specs.declared.error.Refusal.TheVariants.{SmallerSize, TooFewEntries, TooManyEntries}
-use Rattle.log_commands.specs.declared.error.Refusal.TheVariants.{TwoHistories}
+use Rattle.log_commands.specs.declared.error.Refusal.TheVariants.{MissingEntry, NumberPastEnd, OtherEntries}
+use Rattle.log_commands.specs.declared.error.Refusal.TheVariants.{OtherNumber, OtherOldEntries, OtherOldSize}
+use Rattle.log_commands.specs.declared.error.Refusal.TheVariants.{OtherOrigin, PartSize, SmallerSize, TooFewEntries}
+use Rattle.log_commands.specs.declared.error.Refusal.TheVariants.{TooManyEntries, TwoHistories, UnrequestedEntry}
 use Rattle.log_commands.specs.declared.error.Source.{Source}
 use Rattle.log_commands.specs.declared.error.Source.TheVariants.{Checkpoint, File, New, Old, Part, Proof}
 use Rattle.log_commands.specs.declared.verify.Print.{Print}
@@ -131,11 +131,18 @@ prove_under cut c numbers file =
 
 -- ---- verify
 
+-- why entries of these numbers are refused: the first place where they are not the requested ones
+abbrev pub first_other : (got requested : List ℕ) → Option Error
+first_other [] [] = None
+first_other [] (expected ∷ more) = Some (Refused Proof (MissingEntry expected))
+first_other (got ∷ rest) [] = Some (Refused Proof (UnrequestedEntry got))
+first_other (got ∷ rest) (expected ∷ more) =
+    if got == expected then first_other rest more else Some (Refused Proof (OtherNumber got expected))
+
 -- why a proof is refused: it has other entries than the requested ones, or in another order
 abbrev pub numbers_refusal : Option (List ℕ) → List EntryFields → Option Error
 numbers_refusal None entries = None
-numbers_refusal (Some numbers) entries =
-    unless (is_same (map (λ e. e.number) entries) numbers) (Refused Proof OtherNumbers)
+numbers_refusal (Some numbers) entries = first_other (map (λ e. e.number) entries) numbers
 
 -- whether an entry can be printed: a line has no line feed inside; a block has its length, but for a shorter last one
 abbrev pub is_printable : Print → ℕ → EntryFields → Bool

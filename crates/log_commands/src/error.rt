@@ -82,9 +82,26 @@ pub enum Refusal {
     /// A file that begins with other entries than those of the old checkpoint.
     #[error("its first entries are not those of the old checkpoint")]
     OtherOldEntries,
-    /// A proof of other entries than the requested ones, or in another order.
-    #[error("its entries are not the requested ones, in their order: without numbers `verify` prints those it has")]
-    OtherNumbers,
+    /// A proof with another entry where one is requested.
+    #[error("entry {got}, where {expected} is requested: without numbers `verify` prints those that it has")]
+    OtherNumber {
+        /// The number of the proof's entry.
+        got: usize,
+        /// The number that is requested there.
+        expected: usize,
+    },
+    /// A proof that ends before a requested entry.
+    #[error("no entry {expected}, which is requested: without numbers `verify` prints those that it has")]
+    MissingEntry {
+        /// The number that is requested.
+        expected: usize,
+    },
+    /// A proof with an entry behind all that are requested.
+    #[error("entry {got}, which is not requested: without numbers `verify` prints those that it has")]
+    UnrequestedEntry {
+        /// The number of the proof's entry.
+        got: usize,
+    },
     /// A proof with an entry that a file of lines, or of such blocks, does not have.
     #[error("entry {number} is no line, or no block of this size: `--raw` prints one entry byte for byte")]
     NoSuchEntry {

@@ -5,8 +5,8 @@ ghost use Rattle.sha2.specs.Sha256.{sha256};
 ghost use Rattle.p3_merkle_core.specs.Refusals.{first_of};
 ghost use Rattle.tlog.specs.Rfc9162.{leaf_hash as leaf_hash_by};
 ghost use Rattle.log_text.specs.Texts.{checkpoint_fields, entries_fields, entry_fields};
-ghost use Rattle.log_commands.specs.Outcomes.{bytes_in, entry_refusal, Gives, is_printable, numbers_refusal};
-ghost use Rattle.log_commands.specs.Outcomes.{printed, proof_refusal, verify_outcome};
+ghost use Rattle.log_commands.specs.Outcomes.{bytes_in, entry_refusal, first_other, Gives, is_printable};
+ghost use Rattle.log_commands.specs.Outcomes.{numbers_refusal, printed, proof_refusal, verify_outcome};
 ghost use Rattle.log_commands.specs.declared.error.Error.TheVariants.{OutOfMemory};
 
 use crate::error::{Error, Refusal, Source};
@@ -35,7 +35,7 @@ pub enum Print {
 /// The first of these that applies, where `OutOfMemory` may come at any time:
 ///
 /// - the first wrong line of the checkpoint, then of the proof;
-/// - `OtherNumbers` if the proof has other entries than the requested ones, or in another order;
+/// - `OtherNumber`, `UnrequestedEntry` or `MissingEntry` where its entries first differ from the requested ones;
 /// - `NoSuchEntry` for the first that cannot be printed: a line with a line feed inside, a block of another length;
 /// - `Entries` with the verifier's reason.
 pub fn verify(
@@ -50,33 +50,47 @@ pub fn verify(
 {
     let checkpoint = read_checkpoint(Source::Checkpoint, checkpoint)?;
     let proof = read_entries(alloc, proof)?;
-    check_requested(alloc, numbers, &proof.entries)?;
+    check_requested(numbers, &proof.entries)?;
     check_entries(print, checkpoint.size, &proof.entries)?;
     check_proof(alloc, &checkpoint, &proof)?;
     Ok(text_of(alloc, print, numbers.is_some(), &proof.entries)?)
 }
 
 /// Checks that entries are the requested ones, in their order, if numbers are requested.
-fn check_requested(alloc: Global, numbers: Option<&[usize]>, entries: &[Entry]) -> Result<(), Error>
+fn check_requested(numbers: Option<&[usize]>, entries: &[Entry]) -> Result<(), Error>
     ensures { let refusal = numbers_refusal (option_map (λ ns. ns.now) numbers.entry) (map entry_fields entries.now) in
-        MatchResult result (λ ok. refusal ≡ None) (λ error. (error ≡ OutOfMemory) ⊎ (refusal ≡ Some error)) }
+        MatchResult result (λ ok. refusal ≡ None) (λ error. refusal ≡ Some error) }
 {
-    let Some(numbers) = numbers else {
-        return Ok(());
-    };
-    let proved = numbers_of(alloc, entries)?;
-    if proved.as_slice() == numbers {
-        Ok(())
-    } else {
-        Err(Error::Refused(Source::Proof, Refusal::OtherNumbers))
+    match numbers {
+        Some(numbers) => check_numbers(numbers, entries),
+        None => Ok(()),
     }
 }
 
-/// The numbers of entries.
-fn numbers_of(alloc: Global, entries: &[Entry]) -> Result<Vec<usize>, AllocError>
-    ensures { IfOk result (λ numbers. numbers.items ≡ map (λ e. e.number) (map entry_fields entries.now)) }
+/// Checks that entries are those of these numbers, in their order.
+fn check_numbers(numbers: &[usize], entries: &[Entry]) -> Result<(), Error>
+    ensures { let refusal = first_other (map (λ e. e.number) (map entry_fields entries.now)) numbers.now in
+        MatchResult result (λ ok. refusal ≡ None) (λ error. refusal ≡ Some error) }
 {
-    entries.iter().map(|entry| entry.number).collect(alloc)
+    let mut rest = numbers;
+    for entry in entries {
+        let got = entry.number;
+        let Some((expected, more)) = rest.split_first() else {
+            return Err(Error::Refused(Source::Proof, Refusal::UnrequestedEntry { got }));
+        };
+        let expected = *expected;
+        if got != expected {
+            return Err(Error::Refused(Source::Proof, Refusal::OtherNumber { got, expected }));
+        }
+        rest = more;
+    }
+    match rest.first() {
+        Some(expected) => {
+            let expected = *expected;
+            Err(Error::Refused(Source::Proof, Refusal::MissingEntry { expected }))
+        }
+        None => Ok(()),
+    }
 }
 
 /// The indices of entries, counted from 0.
