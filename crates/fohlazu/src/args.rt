@@ -193,7 +193,7 @@ impl<'a> Args<'a> {
                 cut: self.cut(),
                 checkpoint: self.input("CHECKPOINT"),
                 file: self.input("FILE"),
-                numbers: self.numbers(alloc)?.unwrap_or(Vec::new(alloc)),
+                numbers: self.numbers(alloc)?,
             },
             "verify" => Command::Verify {
                 print: self.print(),

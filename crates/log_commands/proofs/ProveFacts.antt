@@ -1,7 +1,9 @@
 -- Proofs of entries of a file.
 use Rattle.std.proofs.Common.{◌≡◌, ◌≤◌, ◌<◌, ◌-◌, ◌*◌, ◌^◌, ℕ, List, [], ◌∷◌, ap, arith, length, map, get_or, refl}
 use Rattle.std.proofs.Common.{subst, sym, zip, Option, None, Some, Result, Ok, Err, Vec, Global, ⊎_elim, true, false}
-use Rattle.std.proofs.Common.{All, filter, nat_le, nat_lt, leb-true, lt-ltb}
+use Rattle.std.proofs.Common.{All, filter, max, nat_le, nat_lt, leb-true, lt-ltb}
+use Rattle.std.proofs.Math.Nat.{le-max_right}
+use Rattle.std.proofs.lemmas.List.FromFn.{get_or-range_with_len, length-range_with_len}
 use Rattle.std.proofs.lemmas.{Bool.cases_Bool, List.get_or-map, List.length-map, List.Sums.list_all-from_AllPass}
 use Rattle.p3_merkle_core.specs.{Refusals.first_of, Geometry.levels, Pruning.boundary}
 use Rattle.p3_merkle_core.proofs.Pruned.NoneFacts.{each_none, unless_none}
@@ -12,8 +14,10 @@ use Rattle.tlog_entries.specs.{Entries.is_node, Entries.proof_nodes, Instance.lo
 use Rattle.log_text.specs.{Texts.CheckpointFields, Texts.EntryFields, Reading.checkpoint_in}
 use Rattle.log_files.specs.{Entries.entry_at, Entries.wanted_of, declared.cut.Cut.Cut, declared.reading.ReadLog.ReadLog}
 use Rattle.log_text.proofs.NoteLaws.{notes}
-use Rattle.log_commands.specs.{Commands.HoldsOfInput, Inner.entry_of, Inner.HasEntries, Inner.ReadsAs}
-use Rattle.log_commands.specs.Outcomes.{bytes_in, Gives, and_then, bytes_from, entries_under, number_refusal, said_by}
+use Rattle.log_commands.specs.{Commands.AreNumbers, Commands.HoldsOfInput}
+use Rattle.log_commands.specs.Inner.{entry_of, HasEntries, ReadsAs}
+use Rattle.log_commands.specs.Outcomes.{all_numbers, bytes_in, Gives, and_then, bytes_from, entries_under}
+use Rattle.log_commands.specs.Outcomes.{number_refusal, said_by}
 use Rattle.log_commands.specs.declared.error.{Error.Error, Source.Source, Source.TheVariants.File}
 use Rattle.log_commands.proofs.FileFacts.{goes, stops, whole}
 use Rattle.log_commands.proofs.LawFacts.{are_under, said_ok, stepped}
@@ -32,6 +36,15 @@ pub numbers_inside : (size : ℕ) (numbers : List ℕ) → first_of (number_refu
 numbers_inside size numbers none k d within =
     let n = get_or numbers k d in
     leb-true n size (unless_none (nat_le n size) _ (each_none (number_refusal size) numbers k d none within))
+
+-- those of all entries of a log
+pub all_are_numbers : (size : ℕ) → AreNumbers (all_numbers size)
+all_are_numbers size =
+    let n = max size 1 in
+    let len = length-range_with_len 1 n in (
+      omega (arith, len, le-max_right size 1),
+      λ k d within. omega (arith, get_or-range_with_len 1 n k d (omega (arith, within, len))),
+    )
 
 -- ---- digests
 

@@ -6,8 +6,8 @@ use Rattle.std.specs.Io.KnownBytes.{Appends}
 use Rattle.log_text.specs.Lines.{is_origin}
 use Rattle.log_files.specs.Entries.{IsCut}
 use Rattle.log_files.specs.declared.cut.Cut.{Cut}
-use Rattle.log_commands.specs.Outcomes.{and_then, bytes_from, compared, join_outcome, prove_growth, prove_under}
-use Rattle.log_commands.specs.Outcomes.{requested, seal_outcome, verify_consistency_outcome, verify_outcome}
+use Rattle.log_commands.specs.Outcomes.{and_then, bytes_from, compared, join_outcome, numbers_under, prove_growth}
+use Rattle.log_commands.specs.Outcomes.{prove_under, requested, seal_outcome, verify_consistency_outcome, verify_outcome}
 use Rattle.log_commands.specs.declared.error.Error.{Error}
 use Rattle.log_commands.specs.declared.error.Error.TheVariants.{OutOfMemory, Write}
 use Rattle.log_commands.specs.declared.error.Source.TheVariants.{Checkpoint, File, New, Old, Part, Proof}
@@ -31,10 +31,10 @@ IsPrint (Blocks size) (Some numbers) = AreNumbers numbers × ((1 ≤ size) × (s
 IsPrint Raw (Some numbers) = AreNumbers numbers × (length numbers ≡ 1)
 IsPrint print None = ⊥
 
--- a lawful origin, blocks of 1 to 2 ^ 30 bytes, and numbers from 1 on
+-- a lawful origin, blocks of 1 to 2 ^ 30 bytes, and numbers from 1 on where there are any
 abbrev pub IsLawful : {Src : Type 0} → Command Src → Type 0
 IsLawful (Seal origin cut file) = (is_origin (string_bytes origin) ≡ true) × IsCut cut
-IsLawful (Prove cut checkpoint file numbers) = IsCut cut × AreNumbers numbers.items
+IsLawful (Prove cut checkpoint file numbers) = IsCut cut × IfSome (option_map (λ ns. ns.items) numbers) AreNumbers
 IsLawful (Verify print checkpoint proof numbers) = IsPrint print (option_map (λ ns. ns.items) numbers)
 IsLawful (ProveConsistency cut old new file) = IsCut cut
 IsLawful (VerifyConsistency old proof) = Unit {0}
@@ -77,6 +77,12 @@ prove_file cut checkpoint file numbers =
     and_then (bytes_from Checkpoint checkpoint) (λ text. and_then (requested text numbers) (λ c.
     and_then (bytes_from File file) (prove_under cut c numbers)))
 
+-- of the requested entries, or of all of the checkpoint
+abbrev pub prove_entries : Cut → (checkpoint file : Option (List ℕ)) → Option (List ℕ) → Result (List ℕ) Error
+prove_entries cut checkpoint file numbers =
+    and_then (bytes_from Checkpoint checkpoint) (λ text. and_then (numbers_under numbers text)
+    (prove_file cut (Some text) file))
+
 abbrev pub verify_proof : Print → (checkpoint proof : Option (List ℕ)) → Option (List ℕ) → Result (List ℕ) Error
 verify_proof print checkpoint proof numbers =
     and_then (bytes_from Checkpoint checkpoint) (λ text. and_then (bytes_from Proof proof) (λ shown.
@@ -101,7 +107,7 @@ HasOutcome remaining (Seal origin cut file) outcome =
     HoldsOfInput (remaining file) (λ bytes. outcome ≡ seal_file (string_bytes origin) cut bytes)
 HasOutcome remaining (Prove cut checkpoint file numbers) outcome =
     HoldsOfInput (remaining checkpoint) (λ text. HoldsOfInput (remaining file) (λ bytes.
-    outcome ≡ prove_file cut text bytes numbers.items))
+    outcome ≡ prove_entries cut text bytes (option_map (λ ns. ns.items) numbers)))
 HasOutcome remaining (Verify print checkpoint proof numbers) outcome =
     HoldsOfInput (remaining checkpoint) (λ text. HoldsOfInput (remaining proof) (λ shown.
     outcome ≡ verify_proof print text shown (option_map (λ ns. ns.items) numbers)))

@@ -1,5 +1,5 @@
 -- What the commands print, or why they stop, by the texts of their inputs and the bytes of the file.
-use Rattle.std.specs.Prelude.{◌≡◌, ◌⊎◌, ℕ, ◌+◌, ◌-◌, ◌==◌, ◌&&◌, nat_le, not, MatchResult, Vec}
+use Rattle.std.specs.Prelude.{◌≡◌, ◌⊎◌, ℕ, ◌+◌, ◌-◌, ◌==◌, ◌&&◌, max, nat_le, not, MatchResult, Vec}
 use Rattle.std.specs.Global.{Global}
 use Rattle.std.specs.Prelude.{◌||◌, Bool, true, false, is_some, if◌then◌else◌, List, []}
 use Rattle.std.specs.Prelude.{◌∷◌, ◌++◌, length, map, flat_map, decimal, slice_index, Option, None, Some, option_map}
@@ -104,6 +104,16 @@ seal_outcome origin cut file =
     and_then (entries_read cut None file) (λ entries. Ok (checkpoint_text (checkpoint_of origin entries)))
 
 -- ---- prove
+
+-- the numbers of all entries of a log of so many; number 1, which is refused, of one of none
+abbrev pub all_numbers : ℕ → List ℕ
+all_numbers size = range_with_len 1 (max size 1)
+
+-- the numbers of entries to prove: the requested ones, or those of all entries of a checkpoint
+abbrev pub numbers_under : Option (List ℕ) → List ℕ → Result (List ℕ) Error
+numbers_under (Some numbers) checkpoint = Ok numbers
+numbers_under None checkpoint =
+    and_then (said_by Checkpoint (checkpoint_in checkpoint)) (λ c. Ok (all_numbers c.size))
 
 -- why an entry is not proved: the checkpoint does not have it
 abbrev pub number_refusal : ℕ → ℕ → Option Error

@@ -1,6 +1,6 @@
 //! Runs commands.
 
-ghost use Rattle.std.specs.Prelude.{◌≡◌, ◌⊎◌, Decides, Err, List, OnErr, Result, map, option_map, ℕ};
+ghost use Rattle.std.specs.Prelude.{◌≡◌, ◌⊎◌, Decides, Err, IfSome, List, OnErr, Result, map, option_map, ℕ};
 ghost use Rattle.log_files.specs.Entries.{IsCut};
 ghost use Rattle.log_commands.specs.Commands.{AreNumbers, EndsIn, HasOutcome, HoldsOfInputs, IsLawful, IsPrint};
 ghost use Rattle.log_commands.specs.Commands.{bytes_of_parts};
@@ -10,7 +10,7 @@ ghost use Rattle.log_commands.specs.declared.error.Error.TheVariants.{Write as F
 
 use crate::error::{Error, Source};
 use crate::join::join;
-use crate::prove::prove;
+use crate::prove::{numbers_of, prove};
 use crate::prove_consistency::prove_consistency;
 use crate::seal::seal;
 use crate::texts::read_text;
@@ -42,8 +42,8 @@ pub enum Command<Src> {
         checkpoint: Src,
         /// The file.
         file: Src,
-        /// The numbers of the entries, counted from 1.
-        numbers: Vec<usize>,
+        /// The numbers of the entries, counted from 1: all of the checkpoint without.
+        numbers: Option<Vec<usize>>,
     },
     /// Prints the entries of a proof that is accepted.
     Verify {
@@ -84,14 +84,14 @@ pub enum Command<Src> {
 }
 
 impl<Src> Command<Src> {
-    /// Whether it can be run: an origin is one, a block has 1 to 2^30 bytes, at least one entry is requested, and
-    /// entries are numbered from 1. Entries as lines alone are verified without numbers, and one entry as raw bytes.
+    /// Whether it can be run: an origin is one, a block has 1 to 2^30 bytes, and entries that are requested are at least
+    /// one, and numbered from 1. Entries as lines alone are verified without numbers, and one entry as raw bytes.
     pub fn is_lawful(&self) -> bool
         ensures { Decides result (IsLawful self.now) }
     {
         match self {
             Command::Seal { origin, cut, .. } => is_origin(origin) && is_cut(*cut),
-            Command::Prove { cut, numbers, .. } => is_cut(*cut) && are_numbers(numbers),
+            Command::Prove { cut, numbers, .. } => is_cut(*cut) && are_requested(numbers),
             Command::Verify { print, numbers, .. } => is_print(*print, numbers),
             Command::ProveConsistency { cut, .. } => is_cut(*cut),
             Command::VerifyConsistency { .. } => true,
@@ -115,6 +115,16 @@ fn are_numbers(numbers: &[usize]) -> bool
     ensures { Decides result (AreNumbers numbers.now) }
 {
     !numbers.is_empty() && numbers.iter().all(|number| 1 <= *number)
+}
+
+/// Whether entries of these numbers, or all, may be proved.
+fn are_requested(numbers: &Option<Vec<usize>>) -> bool
+    ensures { Decides result (IfSome (option_map (λ ns. ns.items) numbers.now) AreNumbers) }
+{
+    match numbers {
+        Some(numbers) => are_numbers(numbers),
+        None => true,
+    }
 }
 
 /// Whether entries of these numbers may be printed so.
@@ -171,6 +181,7 @@ fn answer<Src: Read + Drop>(alloc: Global, command: Command<Src>) -> Result<Vec<
             numbers,
         } => {
             let checkpoint = read_text(alloc, Source::Checkpoint, &mut checkpoint)?;
+            let numbers = numbers_of(alloc, numbers, &checkpoint)?;
             prove(alloc, cut, &checkpoint, &numbers, &mut file)
         }
         Command::Verify {

@@ -1,6 +1,7 @@
 //! Proves entries of a file.
 
-ghost use Rattle.std.specs.Prelude.{◌≡◌, ℕ, ◌-◌, ◌≤◌, List, length, All, Err, IfOk, MatchResult, None, Some, map, zip};
+ghost use Rattle.std.specs.Prelude.{◌≡◌, ℕ, ◌-◌, ◌≤◌, List, length, All, Err, IfOk, IfSome, MatchResult, None, Some};
+ghost use Rattle.std.specs.Prelude.{map, option_map, zip};
 ghost use Rattle.p3_merkle_core.specs.Refusals.{first_of};
 ghost use Rattle.tlog.specs.Verdicts.{size_limit};
 ghost use Rattle.tlog_entries.specs.Entries.{proof_nodes};
@@ -8,8 +9,8 @@ ghost use Rattle.log_files.specs.Entries.{IsCut, entry_at, wanted_of};
 ghost use Rattle.log_text.specs.Texts.{checkpoint_fields, entries_text, entry_fields};
 ghost use Rattle.log_commands.specs.Commands.{AreNumbers, HoldsOfInput};
 ghost use Rattle.log_commands.specs.Inner.{entry_of, HasEntries};
-ghost use Rattle.log_commands.specs.Outcomes.{bytes_in, Gives};
-ghost use Rattle.log_commands.specs.Outcomes.{and_then, bytes_from, number_refusal, proof_over, prove_under, requested};
+ghost use Rattle.log_commands.specs.Outcomes.{all_numbers, and_then, bytes_from, bytes_in, Gives, number_refusal};
+ghost use Rattle.log_commands.specs.Outcomes.{numbers_under, proof_over, prove_under, requested};
 ghost use Rattle.log_commands.specs.declared.error.Error.{Error};
 ghost use Rattle.log_commands.specs.declared.error.Source.TheVariants.{File};
 
@@ -49,6 +50,32 @@ pub fn prove<Src: Read>(
 {
     let checkpoint = requested(checkpoint, numbers)?;
     prove_under(alloc, cut, &checkpoint, numbers, file)
+}
+
+/// The numbers of entries to prove: those of all entries of a checkpoint if none are given.
+pub(crate) fn numbers_of(
+    alloc: Global,
+    numbers: Option<Vec<usize>>,
+    checkpoint: &[u8],
+) -> Result<Vec<usize>, Error>
+    requires { IfSome (option_map (λ ns. ns.items) numbers) AreNumbers }
+    ensures answer { Gives (λ ns. ns.items) result
+        (numbers_under (option_map (λ ns. ns.items) numbers) checkpoint.now) }
+    ensures numbers { IfOk result (λ ns. AreNumbers ns.items) }
+{
+    if let Some(numbers) = numbers {
+        return Ok(numbers);
+    }
+    let checkpoint = read_checkpoint(Source::Checkpoint, checkpoint)?;
+    Ok(all_numbers(alloc, checkpoint.size)?)
+}
+
+/// The numbers of all entries of a log of so many. One of none is refused by number 1.
+fn all_numbers(alloc: Global, size: usize) -> Result<Vec<usize>, AllocError>
+    requires { size ≤ size_limit }
+    ensures { IfOk result (λ numbers. (numbers.items ≡ all_numbers size) × AreNumbers numbers.items) }
+{
+    (1..size.max(1) + 1).collect(alloc)
 }
 
 /// The checkpoint that a text says, if it has the requested entries.

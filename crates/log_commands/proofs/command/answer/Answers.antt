@@ -1,18 +1,26 @@
 -- Each command reads its inputs and is answered by its own call.
-use Rattle.std.proofs.Common.{ap, inl, inr, ⊎_elim, None, Some, refl, string_bytes}
+use Rattle.std.proofs.Common.{ap, inl, inr, ⊎_elim, None, Some, refl, string_bytes, subst, sym, List, ℕ, Result}
 use Rattle.std.proofs.lemmas.Result.{err_from_is_err_and}
-use Rattle.log_commands.specs.Outcomes.{and_then, bytes_in, join_outcome}
+use Rattle.log_commands.specs.Commands.{prove_file}
+use Rattle.log_commands.specs.Outcomes.{and_then, bytes_in, Gives, join_outcome}
+use Rattle.log_commands.specs.declared.error.Error.{Error}
 use Rattle.log_commands.specs.declared.error.Source.TheVariants.{Checkpoint, New, Old, Proof}
 use Rattle.log_commands.proofs.InputFacts.{unread_gives}
 use Rattle.log_commands.proofs.command.answer.Goals as goal
 
 -- ---- prove
 
-pub returns-in_ok-checkpoint-in-Prove : goal.returns-in_ok-checkpoint-in-Prove
-returns-in_ok-checkpoint-in-Prove g c =
+pub returns-in_ok-numbers-in-Prove : goal.returns-in_ok-numbers-in-Prove
+returns-in_ok-numbers-in-Prove g c =
     let text = c.in_ok-checkpoint-in-Prove in
-    let h = rw (c.deref-in-Prove.ensures.value, c.deref-in-Prove-2.ensures.value) at c.prove.ensures.answer in
-    rw c.in-Prove.is (_, (Some text.checkpoint.items, text.ensures.bytes, (h.0, h.1, refl)), h.2)
+    let are = rw c.deref-in-Prove.ensures.value at c.in_ok-numbers-in-Prove.ensures.answer in
+    let h = rw (c.deref-in-Prove-2.ensures.value, c.deref-in-Prove-3.ensures.value) at c.prove.ensures.answer in
+    rw c.in-Prove.is (
+      _,
+      (Some text.checkpoint.items, text.ensures.bytes, (h.0, h.1, refl)),
+      subst (λ (r : Result (List ℕ) Error). Gives bytes_in c.prove.result
+          (and_then r (prove_file c.in-Prove.cut (Some text.checkpoint.items) h.0))) (sym are) h.2,
+    )
 
 pub returns-in_err-checkpoint-in-Prove : goal.returns-in_err-checkpoint-in-Prove
 returns-in_err-checkpoint-in-Prove g c =
@@ -21,6 +29,18 @@ returns-in_err-checkpoint-in-Prove g c =
       _,
       (None, tt, (None, tt, refl)),
       unread_gives bytes_in Checkpoint _ c.in_err-checkpoint-in-Prove.ensures.failed,
+    )
+
+pub returns-in_err-numbers-in-Prove : goal.returns-in_err-numbers-in-Prove
+returns-in_err-numbers-in-Prove g c =
+    let text = c.in_ok-checkpoint-in-Prove in
+    let left = err_from_is_err_and c.from_residual-in_err-numbers-in-Prove.result
+    c.from_residual-in_err-numbers-in-Prove.ensures.1 in
+    let why = rw c.deref-in-Prove.ensures.value at c.in_err-numbers-in-Prove.ensures.answer in
+    rw (c.in-Prove.is, left.1, left.2) (
+      _,
+      (Some text.checkpoint.items, text.ensures.bytes, (None, tt, refl)),
+      ⊎_elim inl (λ is. inr (ap (λ r. and_then r (prove_file c.in-Prove.cut (Some text.checkpoint.items) None)) is)) why,
     )
 
 -- ---- verify
