@@ -63,7 +63,7 @@ pub enum Refusal {
         size: usize,
     },
     /// A file that ends inside a line.
-    #[error("ends inside a line")]
+    #[error("ends inside a line: `--whole-lines` leaves it out, `--partial` takes it as an entry")]
     EndsInsideLine,
     /// More entries than a log may have.
     #[error("more than 2^62 entries")]
