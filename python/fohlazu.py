@@ -8,7 +8,7 @@ calls of `Library` are proved, this file is not: tests/python compares them. Wha
 count from 1, indices from 0. What is accepted holds of a log only if the checkpoint is of one: no signature is checked.
 """
 from __future__ import annotations
-import argparse, base64, ctypes, enum, os, re, sys
+import argparse, base64, ctypes, enum, itertools, os, re, sys
 from hashlib import sha256
 from typing import Callable, Iterable, Iterator, NamedTuple, Sequence
 
@@ -219,6 +219,15 @@ class Library:
         if status: raise Refused([*Reason][status - 1])
 
 # ---- the commands
+# What they say of a verifier's reason.
+DIGESTS = {Reason.TOO_FEW_DIGESTS: "it has too few digests", Reason.TOO_MANY_DIGESTS: "it has too many digests"}
+WORDS: dict[str, dict[Reason | None, str]] = {"verify": {
+    **DIGESTS, Reason.NO_INDICES: "it has no entries", Reason.TWO_LEAF_HASHES: "it has two entries of one number",
+    Reason.INDEX_PAST_END: "it has an entry past the last one of the checkpoint",
+    Reason.ROOT_MISMATCH: "its entries or digests are not those of the checkpoint"}, "verify-consistency": {
+    **DIGESTS, Reason.OLD_ROOT_MISMATCH: "it does not begin with the entries of the old checkpoint",
+    Reason.ROOT_MISMATCH: "it does not lead to the new checkpoint"}}
+
 def parse_args(words: list[str]) -> argparse.Namespace:
     """The arguments of a command. Options stand anywhere ahead of `--`, each once."""
     def number(word: str) -> int:
@@ -250,15 +259,24 @@ def write(file: int, data: bytes) -> None:
         while data: data = data[os.write(file, data) :]
     except OSError: refuse_if(file == 1, "the output cannot be written")
 
+def check_requested(numbers: list[int], requested: list[int]) -> None:
+    """Refuses the first place where the numbers of entries are not the requested ones."""
+    hint = "without numbers `verify` prints those that it has"
+    for got, expected in itertools.zip_longest(numbers, requested):
+        refuse_if(expected is None, f"entry {got}, which is not requested: {hint}")
+        refuse_if(got is None, f"no entry {expected}, which is requested: {hint}")
+        refuse_if(got != expected, f"entry {got}, where {expected} is requested: {hint}")
+
 def answer_entries(checkpoint: Checkpoint, proof: bytes, args: argparse.Namespace) -> bytes:
     """What `verify` prints."""
     entries, digests = parse_entries(proof)
     numbers, block = [number for number, _ in entries], sum(args.blocks)
-    refuse_if(args.numbers not in ([], numbers), "its entries are not the requested ones, in their order")
+    if args.numbers: check_requested(numbers, args.numbers)
     for number, data in entries:
         is_block = len(data) == block or number == checkpoint.size and 0 < len(data) < block
         is_one = is_block if block else args.raw or b"\n" not in data
-        refuse_if(not is_one, f"entry {number}: no line, or no block of this size")
+        refuse_if(not is_one, f"entry {number} is no line, or no block of this size: `--raw` prints one entry byte for "
+                  "byte")
     leaves = [leaf_hash(data) for _, data in entries]
     verify_entries(checkpoint.size, [number - 1 for number in numbers], leaves, digests, checkpoint.root)
     if block or args.raw: return b"".join(data for _, data in entries)
@@ -290,7 +308,7 @@ def main() -> int:
         status, where = 2, ""
         write(1, printed)
         return 0
-    except Refused as refused: why = f"{where}{refused}"
+    except Refused as refused: why = f"{where}{WORDS[args.command].get(refused.reason, refused)}"
     except OSError as error: why = f"{error.filename or '-'}: {error.strerror} (os error {error.errno})"
     except UnicodeDecodeError: why = "an argument is no text in UTF-8"
     except MemoryError: status, why = 2, "out of memory"

@@ -18,8 +18,15 @@ LAST = (1 << 64) - 1
 INPUTS = {"seal": ["FILE"], "prove": ["CHECKPOINT", "FILE"], "verify": ["CHECKPOINT", "PROOF"]}
 INPUTS |= {"prove-consistency": ["OLD", "NEW", "FILE"], "verify-consistency": ["OLD", "PROOF"]}
 COMMANDS = [*INPUTS, "join"]
-REASONS = {logs.TOO_FEW_DIGESTS: "has too few digests", logs.TOO_MANY_DIGESTS: "has too many digests"}
-REASONS |= {logs.OLD_ROOT_MISMATCH: "is of another old root", logs.ROOT_MISMATCH: "is of another root"}
+REASONS = {logs.TOO_FEW_DIGESTS: "it has too few digests", logs.TOO_MANY_DIGESTS: "it has too many digests"}
+REASONS |= {logs.OLD_ROOT_MISMATCH: "it does not begin with the entries of the old checkpoint"}
+REASONS |= {logs.ROOT_MISMATCH: "it does not lead to the new checkpoint"}
+# The same of a proof of entries, by what the model's verifier says.
+ENTRIES = {"there are no indices": "it has no entries"}
+ENTRIES |= {"an index is not below the size": "it has an entry past the last one of the checkpoint"}
+ENTRIES |= {f"the proof has too {number} digests": f"it has too {number} digests" for number in ("few", "many")}
+ENTRIES |= {"one index has two leaf hashes": "it has two entries of one number"}
+ENTRIES |= {"the proof is of another root": "its entries or digests are not those of the checkpoint"}
 
 
 class Refused(Exception):
@@ -130,7 +137,9 @@ def entries_of(told, data, limit):
     """The entries of a file, up to a limit, or all."""
     cut = told.blocks or ("include" if told.partial else "leave-out" if told.whole_lines else "refuse")
     found, is_refused = log_files.entries_of(str(cut), data)
-    refuse_if(is_refused and (limit is None or len(found) < limit), told.FILE, "ends inside a line")
+    is_refused = is_refused and (limit is None or len(found) < limit)
+    why = "ends inside a line: `--whole-lines` leaves it out, `--partial` takes it as an entry"
+    refuse_if(is_refused, told.FILE, why)
     return found[:limit]
 
 
@@ -164,19 +173,27 @@ def is_printable(told, size, name, data):
     return told.raw or b"\n" not in data
 
 
+def other_number(names, wanted):
+    """What is said of the first place where the entries of a proof are not the requested ones."""
+    same = os.path.commonprefix([names, wanted])
+    name, want = ([*all[len(same):], None][0] for all in (names, wanted))
+    why = f"entry {name}, where {want} is requested" if name and want else (
+        f"entry {name}, which is not requested" if name else f"no entry {want}, which is requested")
+    return f"{why}: without numbers `verify` prints those that it has"
+
+
 def verify(told, inputs):
     text, proof = inputs.bytes(told.CHECKPOINT), inputs.bytes(told.PROOF)
     _, size, root = inputs.read(2, told.CHECKPOINT, text, log_texts.checkpoint)
     found, digests = inputs.read(1, told.PROOF, proof, log_texts.entries)
     names = [name for name, _ in found]
-    others = "its entries are not the requested ones, in their order: without numbers `verify` prints those it has"
-    refuse_if(told.NUMBER and names != told.NUMBER, told.PROOF, others)
+    refuse_if(told.NUMBER and names != told.NUMBER, told.PROOF, other_number(names, told.NUMBER))
     for name, data in found:
         why = f"entry {name} is no line, or no block of this size: `--raw` prints one entry byte for byte"
         refuse_if(not is_printable(told, size, name, data), told.PROOF, why)
     leaves = [logs.leaf_hash(data) for _, data in found]
     verdict = logs.entries(size, [name - 1 for name in names], leaves, digests, root)
-    refuse_if(verdict != "accepted", told.PROOF, verdict)
+    refuse_if(verdict != "accepted", told.PROOF, ENTRIES.get(verdict))
     end = b"" if told.blocks or told.raw else b"\n"
     return b"".join((b"" if told.NUMBER else b"%d\t" % name) + data + end for name, data in found)
 
@@ -207,7 +224,7 @@ def verify_consistency(told, inputs):
     new = inputs.read(1, told.PROOF, next_text, log_texts.checkpoint, " of its checkpoint")
     compare(told.PROOF, old, new)
     verdict = logs.consistency(old[1], new[1], digests, old[2], new[2])
-    refuse_if(verdict != logs.ACCEPTED, told.PROOF, f"the proof {REASONS.get(verdict)}")
+    refuse_if(verdict != logs.ACCEPTED, told.PROOF, REASONS.get(verdict))
     return next_text
 
 
