@@ -142,7 +142,15 @@ class Text:
     def __init__(self, data: bytes, where: str = "") -> None:
         self.data, self.where, self.at = data, where, 0
     def refuse_if(self, condition: bool, expected: str) -> None:
-        if condition: raise Refused(f"line {self.data.count(10, 0, self.at) + 1}{self.where}: expected {expected}")
+        if condition:
+            line = f"line {self.data.count(10, 0, self.at) + 1}{self.where}"
+            raise Refused(f"{line}: expected {expected}{self.found()}")
+    def found(self) -> str:
+        """What stands there, if an editor or a transfer often does that to a text."""
+        line, feed, _ = self.data[self.at :].partition(b"\n")
+        if self.at == 0 and line.startswith(b"\xef\xbb\xbf"): return ", but the text begins with a byte order mark"
+        if not feed: return ", but the last line has no line feed" if line else ", but the text ends"
+        return ", but the line ends in a carriage return and a line feed" if line.endswith(b"\r") else ""
     def stands(self, *fronts: bytes) -> bool:
         return self.data[self.at : self.at + 1] in fronts
     def line(self, expected: str, pattern: str) -> tuple[str, list[int]]:
@@ -235,12 +243,22 @@ def parse_args(words: list[str]) -> argparse.Namespace:
         return int(word)
     parser = argparse.ArgumentParser(usage=(__doc__ or "\n\n").split("\n\n")[1].strip(), allow_abbrev=False)
     parser.add_argument("--version", action="version", version=f"fohlazu {__version__}")
+    def numbers(words: list[str]) -> list[int]:
+        found = list[int]()
+        for part in ",".join(words).split(",") if words not in ([], ["all"]) else []:
+            ends = re.fullmatch("0*([0-9]{1,19})(?:-0*([0-9]{1,19}))?", part)
+            first, last = (int(ends[1]), int(ends[2] or ends[1])) if ends else (0, 0)
+            is_range = 1 <= first <= last <= 1 << 62 and len(found) + last - first < 10**8
+            if not is_range: parser.error(f"{part}: no number of an entry, as 3, 3-7 or 3,7")
+            found.extend(range(first, last + 1))
+        return found
     parser.add_argument("--blocks", type=number, action="append", default=[], help="entries are blocks of so long")
     parser.add_argument("--raw", action="append_const", const=1, default=[], help="print one entry byte for byte")
     parser.add_argument("command", choices=["verify", "verify-consistency"])
     parser.add_argument("files", nargs=2, help="a checkpoint and a proof; - is standard input")
-    parser.add_argument("numbers", nargs="*", type=number, help="those of the entries")
+    parser.add_argument("numbers", nargs="*", help="those of the entries, as 3, 3-7, 3,7 or all")
     args = parser.parse_intermixed_args(words)
+    args.numbers = numbers(args.numbers)
     options, count = len(args.blocks) + len(args.raw), len(args.numbers)
     if args.files == ["-", "-"]: parser.error("`-` is standard input, once at most")
     is_wrong = options > 1 or max([0, *args.blocks]) > 1 << 30 or args.blocks and not count or args.raw and count != 1
