@@ -54,25 +54,8 @@ const COMMANDS: [(&str, &str, &str, &str); 6] = [
     ),
 ];
 
-/// The options that a value follows.
-const VALUED: [&str; 4] = ["--origin", "--blocks", "--output", "-o"];
-
-/// The options.
-const OPTIONS: [&str; 13] = [
-    "--origin",
-    "--blocks",
-    "--output",
-    "-o",
-    "--part",
-    "--whole-lines",
-    "--partial",
-    "--raw",
-    "--quiet",
-    "--help",
-    "-h",
-    "--version",
-    "-V",
-];
+/// The options where there is no command.
+const NO_COMMAND: &str = "version";
 
 /// The greatest number of an entry: a log has at most 2^62.
 const MAX_NUMBER: usize = 1 << 62;
@@ -137,32 +120,48 @@ pub(crate) fn parse_args<'a>(
     Ok((command, args))
 }
 
-/// Checks that each argument that begins with `-` is an option. What clap says of others misleads.
+/// Checks that each argument that begins with `-` is an option of the command. What clap says of others misleads.
 fn check_options(words: &[String]) -> Result<(), ArgsError<'_>> {
-    let mut is_value = true;
-    for word in words {
+    let ids = words
+        .get(1)
+        .map_or(NO_COMMAND, |word| ids_of(word.as_str()));
+    for word in words.iter().skip(1) {
         let word = word.as_str();
-        if is_value {
-            is_value = false;
-            continue;
-        }
-        let name = word.split('=').next().unwrap_or("");
         if word == "--" {
             break;
         }
-        if word.len() > 1 && word.starts_with('-') && !OPTIONS.contains(&name) {
-            return Err(ArgsError::Word(Escaped(word), "no such option"));
+        let name = match word.split('=').next() {
+            Some("-h") => "--help",
+            Some("-o") => "--output",
+            Some("-V") => "--version",
+            name => name.unwrap_or(""),
+        };
+        let is_known = name == "--help"
+            || ids.split(' ').any(|id| name.strip_prefix("--") == Some(id.trim_end_matches('!')));
+        if word.len() > 1 && word.starts_with('-') && !is_known {
+            return Err(ArgsError::Word(Escaped(word), "no such option here"));
         }
-        is_value = VALUED.contains(&word);
     }
     Ok(())
+}
+
+/// The arguments of the command of this name.
+fn ids_of(command: &str) -> &'static str {
+    for (name, _, _, ids) in COMMANDS {
+        if name == command {
+            return ids;
+        }
+    }
+    NO_COMMAND
 }
 
 /// Why a command is not run.
 fn refusal_of(command: &Command<Input<'_>>) -> &'static str {
     match command {
-        Command::Verify { .. } => "--raw prints one entry, and --blocks entries by their numbers",
-        _ => "--origin takes 1 to 100 characters, no control character, no space first or last",
+        Command::Prove { .. } => "prove takes numbers, as 3, 3-7 or 3,7",
+        Command::Verify { .. } => "--raw takes the number of one entry, and --blocks takes numbers",
+        _ =>
+            "an origin has 1 to 100 characters, no control character, no space first or last: --origin sets it",
     }
 }
 
@@ -325,7 +324,7 @@ fn range_of(range: &str) -> Result<(usize, usize), &'static str>
 /// The number of an entry.
 fn number_of(word: &str) -> Result<usize, &'static str> {
     if word.is_empty() || !word.bytes().all(|byte| byte.is_ascii_digit()) {
-        return Err("no number of an entry, as 3, 3-7, 3,7 or all");
+        return Err("no number of an entry, as 3, 3-7 or 3,7");
     }
     match word.parse() {
         Ok(0) => Err("entries are numbered from 1"),

@@ -18,6 +18,15 @@ pub(crate) struct Notes {
     pub(crate) is_shown: Cell<bool>,
 }
 
+impl Notes {
+    /// Takes the line of progress away.
+    pub(crate) fn clear_progress(&self, rt: &HostRuntime) {
+        if self.is_shown.replace(false) {
+            let _ = eprint!(rt; "\r\u{1b}[K");
+        }
+    }
+}
+
 /// An input that is opened when it is first read: a file, or standard input by the name `-`.
 #[derive(Drop)]
 pub(crate) struct Input<'a> {

@@ -13,7 +13,7 @@ use args::{Args, ArgsError, parse_args};
 use escaped::Escaped;
 use input::{Input, Notes};
 use log_commands::{Command, Error, run};
-use output::Replacement;
+use output::{Replacement, StandardOutput};
 use std::cell::Cell;
 use std::process::ExitCode;
 use std::{env, io};
@@ -33,12 +33,13 @@ fn main(rt: HostRuntime) -> ExitCode {
     match parse_args(&rt, &notes, &words) {
         Ok((command, args)) => match args.output() {
             Some(name) => run_to_file(&rt, &args, &notes, command, name),
-            None => finish(
-                &rt,
-                &args,
-                &notes,
-                run(rt.alloc(), command, &mut rt.stdout()),
-            ),
+            None => {
+                let mut output = StandardOutput {
+                    rt: &rt,
+                    notes: &notes,
+                };
+                finish(&rt, &args, &notes, run(rt.alloc(), command, &mut output))
+            }
         },
         Err(ArgsError::Clap(error)) => print_help(&rt, &error),
         Err(error) => {
@@ -78,19 +79,23 @@ fn run_to_file(
         Err(_) => return refuse(rt, "out of memory"),
     }
     let done = run(rt.alloc(), command, &mut output);
-    if done.is_err() {
-        output.give_up();
-    } else if let Err(error) = output.finish() {
-        return refuse_output(rt, name, error);
+    let replaced = if done.is_ok() {
+        output.finish()
+    } else {
+        output.give_up()
+    };
+    match replaced {
+        Ok(()) => finish(rt, args, notes, done),
+        Err(error) => {
+            notes.clear_progress(rt);
+            refuse_output(rt, name, error)
+        }
     }
-    finish(rt, args, notes, done)
 }
 
 /// Ends a run: where it failed, prints what the input is called, and why it is refused or a read of it failed.
 fn finish(rt: &HostRuntime, args: &Args<'_>, notes: &Notes, done: Result<(), Error>) -> ExitCode {
-    if notes.is_shown.get() {
-        let _ = eprint!(rt; "\r\u{1b}[K");
-    }
+    notes.clear_progress(rt);
     let Err(error) = done else {
         return ExitCode::SUCCESS;
     };
@@ -120,6 +125,9 @@ fn print_help(rt: &HostRuntime, error: &clap::Error) -> ExitCode {
 
 /// Prints why the output is not written.
 fn refuse_output(rt: &HostRuntime, name: &str, error: io::Error) -> ExitCode {
+    if error.kind() == io::ErrorKind::OutOfMemory {
+        return refuse(rt, "out of memory");
+    }
     let _ = eprintln!(rt; "fohlazu: {}: {error}", Escaped(name));
     ExitCode::from(2)
 }

@@ -44,7 +44,7 @@ impl<'a> Progress<'a> {
             return false;
         }
         self.next = elapsed.saturating_add(Duration::from_millis(EACH_MS));
-        let per_second = self.read / elapsed.as_secs().max(1);
+        let per_second = self.read.saturating_mul(1000) / (elapsed.as_millis() as u64).max(1);
         let (read, rate) = (self.read >> 20, per_second >> 20);
         let _ = if left > 0 {
             let all = self.read.saturating_add(left) >> 20;
