@@ -158,7 +158,6 @@ fn ids_of(command: &str) -> &'static str {
 /// Why a command is not run.
 fn refusal_of(command: &Command<Input<'_>>) -> &'static str {
     match command {
-        Command::Prove { .. } => "prove takes numbers, as 3, 3-7 or 3,7",
         Command::Verify { .. } => "--raw takes the number of one entry, and --blocks takes numbers",
         _ =>
             "an origin has 1 to 100 characters, no control character, no space first or last: --origin sets it",
@@ -324,7 +323,7 @@ fn range_of(range: &str) -> Result<(usize, usize), &'static str>
 /// The number of an entry.
 fn number_of(word: &str) -> Result<usize, &'static str> {
     if word.is_empty() || !word.bytes().all(|byte| byte.is_ascii_digit()) {
-        return Err("no number of an entry, as 3, 3-7 or 3,7");
+        return Err("no number of an entry, as 3, 3-7, 3,7 or all");
     }
     match word.parse() {
         Ok(0) => Err("entries are numbered from 1"),

@@ -17,6 +17,8 @@ pub(crate) struct Progress<'a> {
     /// The time of the next line, from the start.
     next: Duration,
     read: u64,
+    /// Whether it is known how much is left.
+    has_size: bool,
 }
 
 impl<'a> Progress<'a> {
@@ -31,12 +33,14 @@ impl<'a> Progress<'a> {
             start,
             next: Duration::from_millis(FIRST_MS),
             read: 0,
+            has_size: false,
         })
     }
 
     /// So many more bytes are read, and at least so many are left. Whether a line is shown for it.
     pub(crate) fn add(&mut self, count: usize, left: u64) -> bool {
         self.read = self.read.saturating_add(count as u64);
+        self.has_size = self.has_size || left > 0;
         let Ok(elapsed) = self.start.elapsed(self.rt) else {
             return false;
         };
@@ -46,7 +50,7 @@ impl<'a> Progress<'a> {
         self.next = elapsed.saturating_add(Duration::from_millis(EACH_MS));
         let per_second = self.read.saturating_mul(1000) / (elapsed.as_millis() as u64).max(1);
         let (read, rate) = (self.read >> 20, per_second >> 20);
-        let _ = if left > 0 {
+        let _ = if self.has_size {
             let all = self.read.saturating_add(left) >> 20;
             let seconds = left / per_second.max(1);
             eprint!(self.rt; "\r{read} of {all} MiB, {rate} MiB/s, {seconds} s left\u{1b}[K")
