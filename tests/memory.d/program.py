@@ -51,7 +51,15 @@ LOGS = """
 0 join --origin a part.1 part.2 part.3
 1 join --origin a part.1 part.3 part.2
 2 join --origin a new
+0 seal --origin a -o made lines
+1 seal -o made partial
+2 seal -o made missing
+2 seal -o made made
+2 seal -o missing/made lines
+2 seal -o .. lines
 0 prove new lines 4 > one
+0 prove -o made new lines 4,1-2
+2 prove new lines 4,1-x
 0 prove --partial new partial 4 1 4 > several
 1 prove new lines 1 6
 1 prove new lines.1 1
@@ -60,6 +68,7 @@ LOGS = """
 2 prove lines lines 1
 0 verify new one 4
 0 verify --raw new one 4
+0 verify -o made new several all
 0 verify new several 4 1 4
 0 verify new several
 1 verify new several 4 1
@@ -131,7 +140,11 @@ class Trials:
             file.write(data)
 
     def run(self, words, mode, number):
-        """Status, output and error of a run, and how many requests it made and how many were refused."""
+        """Status, output and error of a run, and how many requests it made and how many were refused. What the file
+        `made` says, which was empty, counts as output, and so do files that are left."""
+        if self.name == "fohlazu":
+            self.write("made", b"")
+        names = os.listdir(self.folder)
         with tempfile.TemporaryFile() as report:
             settings = {"LD_PRELOAD": self.library, mode: str(number), "REFUSE_REPORT": str(report.fileno())}
             is_asked = self.name in QUESTIONS
@@ -146,7 +159,14 @@ class Trials:
             )
             report.seek(0)
             requests, refused = map(int, report.read().split())
-        return (done.returncode, done.stdout, done.stderr), requests, refused
+        printed = done.stdout
+        for name in sorted(os.listdir(self.folder)):
+            if name not in names:
+                printed += name.encode()
+            elif name == "made":
+                with open(os.path.join(self.folder, name), "rb") as file:
+                    printed += file.read()
+        return (done.returncode, printed, done.stderr), requests, refused
 
     def attempt(self, words, status, mode):
         """How many runs were made and how many of them answered, and what is wrong, if anything is."""
