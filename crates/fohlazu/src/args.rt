@@ -54,15 +54,6 @@ const COMMANDS: [(&str, &str, &str, &str); 6] = [
     ),
 ];
 
-/// The options where there is no command.
-const NO_COMMAND: &str = "version";
-
-/// The greatest number of an entry: a log has at most 2^62.
-const MAX_NUMBER: usize = 1 << 62;
-
-/// So many entries are proved at once at most.
-const MAX_COUNT: usize = 100_000_000;
-
 /// Why no command is run.
 #[derive(Debug, Drop, Error)]
 pub(crate) enum ArgsError<'a> {
@@ -122,9 +113,7 @@ pub(crate) fn parse_args<'a>(
 
 /// Checks that each argument that begins with `-` is an option of the command. What clap says of others misleads.
 fn check_options(words: &[String]) -> Result<(), ArgsError<'_>> {
-    let ids = words
-        .get(1)
-        .map_or(NO_COMMAND, |word| ids_of(word.as_str()));
+    let ids = ids_of(words.get(1).map_or("", |word| word.as_str()));
     for word in words.iter().skip(1) {
         let word = word.as_str();
         if word == "--" {
@@ -145,14 +134,14 @@ fn check_options(words: &[String]) -> Result<(), ArgsError<'_>> {
     Ok(())
 }
 
-/// The arguments of the command of this name.
+/// The arguments of the command of this name. Where there is none, one option is left.
 fn ids_of(command: &str) -> &'static str {
     for (name, _, _, ids) in COMMANDS {
         if name == command {
             return ids;
         }
     }
-    NO_COMMAND
+    "version"
 }
 
 /// Why a command is not run.
@@ -254,19 +243,7 @@ impl<'a> Args<'a> {
         }
         let mut numbers = Vec::with_capacity(alloc, words.len())?;
         for word in words {
-            for range in word.split(',') {
-                let (first, last) = range_of(range).map_err(|why| ArgsError::Word(
-                    Escaped(word),
-                    why,
-                ))?;
-                if numbers.len().saturating_add(last - first) >= MAX_COUNT {
-                    return Err(ArgsError::Word(
-                        Escaped(word),
-                        "more than 100000000 entries at once",
-                    ));
-                }
-                numbers.extend(first..=last)?;
-            }
+            add_numbers(&mut numbers, word).map_err(|why| ArgsError::Word(Escaped(word), why))?;
         }
         Ok(Some(numbers))
     }
@@ -308,6 +285,18 @@ impl<'a> Args<'a> {
     }
 }
 
+/// Appends the numbers that a word names: numbers and ranges, with commas between.
+fn add_numbers(numbers: &mut Vec<usize>, word: &str) -> Result<(), &'static str> {
+    for range in word.split(',') {
+        let (first, last) = range_of(range)?;
+        if numbers.len().saturating_add(last - first) >= 100_000_000 {
+            return Err("more than 100000000 entries at once");
+        }
+        numbers.extend(first..=last).map_err(|_| "out of memory")?;
+    }
+    Ok(())
+}
+
 /// The first and the last number of a range, as `3-7`, or of one number.
 fn range_of(range: &str) -> Result<(usize, usize), &'static str>
     ensures { IfOk result (λ (first, last). first ≤ last) }
@@ -327,7 +316,7 @@ fn number_of(word: &str) -> Result<usize, &'static str> {
     }
     match word.parse() {
         Ok(0) => Err("entries are numbered from 1"),
-        Ok(number) if number <= MAX_NUMBER => Ok(number),
+        Ok(number) if number <= 1 << 62 => Ok(number),
         _ => Err("a log has at most 4611686018427387904 entries"),
     }
 }

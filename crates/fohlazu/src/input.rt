@@ -10,7 +10,7 @@ use std::io;
 use std::io::{Error, ErrorKind, Read};
 
 /// What is noted while inputs are read.
-#[derive(Drop)]
+#[derive(Default, Drop)]
 pub(crate) struct Notes {
     /// Why a read failed.
     pub(crate) failure: Cell<Option<Error>>,
@@ -51,11 +51,7 @@ impl<'a> Input<'a> {
             rt,
             name,
             file: None,
-            progress: if shows_progress {
-                Progress::start(rt)
-            } else {
-                None
-            },
+            progress: Progress::start(rt, shows_progress),
             notes,
         }
     }
@@ -86,11 +82,7 @@ impl<'a> Input<'a> {
 fn open(rt: &HostRuntime, name: &str) -> io::Result<(File, u64)> {
     let file = File::open(rt, name)?;
     let metadata = file.metadata()?;
-    let len = if metadata.is_file() {
-        metadata.len()
-    } else {
-        0
-    };
+    let len = metadata.is_file().then_some(metadata.len()).unwrap_or(0);
     Ok((file, len))
 }
 

@@ -14,7 +14,7 @@ use escaped::Escaped;
 use input::{Input, Notes};
 use log_commands::{Command, Error, run};
 use output::{Replacement, StandardOutput};
-use std::cell::Cell;
+use std::fmt::Display;
 use std::process::ExitCode;
 use std::{env, io};
 
@@ -26,26 +26,17 @@ fn main(rt: HostRuntime) -> ExitCode {
         }
         Err(_) => return refuse(&rt, "an argument is no text in UTF-8"),
     };
-    let notes = Notes {
-        failure: Cell::new(None),
-        is_shown: Cell::new(false),
-    };
+    let notes = Notes::default();
     match parse_args(&rt, &notes, &words) {
         Ok((command, args)) => match args.output() {
             Some(name) => run_to_file(&rt, &args, &notes, command, name),
             None => {
-                let mut output = StandardOutput {
-                    rt: &rt,
-                    notes: &notes,
-                };
+                let mut output = StandardOutput(&rt, &notes);
                 finish(&rt, &args, &notes, run(rt.alloc(), command, &mut output))
             }
         },
         Err(ArgsError::Clap(error)) => print_help(&rt, &error),
-        Err(error) => {
-            let _ = eprintln!(rt; "fohlazu: {error}");
-            ExitCode::from(2)
-        }
+        Err(error) => refuse(&rt, error),
     }
 }
 
@@ -99,15 +90,11 @@ fn finish(rt: &HostRuntime, args: &Args<'_>, notes: &Notes, done: Result<(), Err
     let Err(error) = done else {
         return ExitCode::SUCCESS;
     };
-    let _ = match (error, error.source(), notes.failure.get()) {
-        (Error::Read(_), Some(source), Some(failure)) => {
-            eprintln!(rt; "fohlazu: {}: {failure}", Escaped(args.name_of(source)))
-        }
-        (_, Some(source), _) => eprintln!(rt;
-            "fohlazu: {}: {error}",
-            Escaped(args.name_of(source))
-        ),
-        _ => eprintln!(rt; "fohlazu: {error}"),
+    let name = error.source().map(|source| Escaped(args.name_of(source)));
+    let _ = match (name, error, notes.failure.get()) {
+        (Some(name), Error::Read(_), Some(failure)) => eprintln!(rt; "fohlazu: {name}: {failure}"),
+        (Some(name), _, _) => eprintln!(rt; "fohlazu: {name}: {error}"),
+        (None, _, _) => eprintln!(rt; "fohlazu: {error}"),
     };
     ExitCode::from(error.status())
 }
@@ -133,7 +120,7 @@ fn refuse_output(rt: &HostRuntime, name: &str, error: io::Error) -> ExitCode {
 }
 
 /// Prints why nothing is run.
-fn refuse(rt: &HostRuntime, why: &str) -> ExitCode {
+fn refuse(rt: &HostRuntime, why: impl Display + Drop) -> ExitCode {
     let _ = eprintln!(rt; "fohlazu: {why}");
     ExitCode::from(2)
 }

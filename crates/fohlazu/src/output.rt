@@ -7,21 +7,14 @@ use std::os::unix::fs::{MetadataExt, OpenOptionsExt, PermissionsExt};
 use std::path::{Path, PathBuf};
 use std::{fs, io};
 
-/// So many symbolic links are followed, as Linux does.
-const MAX_LINKS: usize = 40;
-
-/// So many names are tried for the file that is written.
-const MAX_NAMES: usize = 1000;
-
-/// A file that is written under another name beside its place, and put there once it is whole. What stands there stays
-/// until then.
+/// A file that is written beside its place, and put there once it is whole.
 #[derive(Drop)]
 pub(crate) struct Replacement<'a> {
     rt: &'a HostRuntime,
     /// Where it goes. Symbolic links are followed.
     place: PathBuf,
-    /// What the file that it replaces allows.
-    permissions: Option<Permissions>,
+    /// The mode of the file that it replaces.
+    mode: Option<u32>,
     /// The file that is written, and its name, from the first byte on.
     written: Option<(PathBuf, File)>,
     /// Why the last write failed.
@@ -31,9 +24,12 @@ pub(crate) struct Replacement<'a> {
 impl<'a> Replacement<'a> {
     /// A file of this name, which replaces a regular one if there is one.
     pub(crate) fn new(rt: &'a HostRuntime, name: &str) -> io::Result<Replacement<'a>> {
-        let place = follow(rt, name)?;
-        let permissions = match fs::symlink_metadata(rt, place.as_path()) {
-            Ok(metadata) if metadata.is_file() => Some(metadata.permissions()),
+        let place = match fs::canonicalize(rt, name) {
+            Ok(place) => place,
+            Err(_) => Path::new(name).to_path_buf(rt.alloc())?,
+        };
+        let mode = match fs::symlink_metadata(rt, place.as_path()) {
+            Ok(metadata) if metadata.is_file() => Some(metadata.permissions().mode()),
             Ok(_) => return Err(Error::new(ErrorKind::InvalidInput, "not a regular file")),
             Err(error) if error.kind() == ErrorKind::NotFound => None,
             Err(error) => return Err(error),
@@ -43,20 +39,17 @@ impl<'a> Replacement<'a> {
         Ok(Replacement {
             rt,
             place,
-            permissions,
+            mode,
             written: None,
             failure: None,
         })
     }
 
-    /// Whether a file that it replaces is this one, under whatever name.
+    /// Whether it replaces the file of this name, or by `-` that of standard input.
     pub(crate) fn is(&self, name: &str) -> bool {
-        // What standard input reads has a name as well.
         let name = if name == "-" { "/dev/stdin" } else { name };
-        match (
-            fs::metadata(self.rt, self.place.as_path()),
-            fs::metadata(self.rt, name),
-        ) {
+        let replaced = fs::metadata(self.rt, self.place.as_path());
+        match (replaced, fs::metadata(self.rt, name)) {
             (Ok(old), Ok(input)) => old.dev() == input.dev() && old.ino() == input.ino(),
             _ => false,
         }
@@ -65,41 +58,45 @@ impl<'a> Replacement<'a> {
     /// Puts the file in its place, with the mode of what it replaces, and makes sure that the disk has it.
     pub(crate) fn finish(mut self) -> io::Result<()> {
         self.file()?;
-        let Replacement {
-            rt,
-            place,
-            permissions,
-            written,
-            ..
-        } = self;
-        let Some((name, file)) = written else {
-            return Ok(());
-        };
-        let done = put(rt, name.as_path(), &file, permissions, place.as_path());
+        let done = self.put();
         if done.is_err() {
-            let _ = fs::remove_file(rt, name.as_path());
+            self.remove();
         }
         done
     }
 
     /// Gives the file up. The error is that of a write that failed.
     pub(crate) fn give_up(self) -> io::Result<()> {
-        let Replacement {
-            rt,
-            written,
-            failure,
-            ..
-        } = self;
-        if let Some((name, _)) = written {
-            let _ = fs::remove_file(rt, name.as_path());
+        self.remove();
+        self.failure.map_or(Ok(()), Err)
+    }
+
+    /// Renames the file that is written, once the disk has it.
+    fn put(&self) -> io::Result<()> {
+        let Some((name, file)) = &self.written else {
+            return Ok(());
+        };
+        if let Some(mode) = self.mode {
+            file.set_permissions(Permissions::from_mode(mode))?;
         }
-        failure.map_or(Ok(()), Err)
+        file.sync_all()?;
+        // Opened first, so that nothing is replaced where it cannot be.
+        let folder = File::open(self.rt, folder_of(self.place.as_path()))?;
+        fs::rename(self.rt, name.as_path(), self.place.as_path())?;
+        folder.sync_all()
+    }
+
+    /// Removes the file that is written.
+    fn remove(&self) {
+        if let Some((name, _)) = &self.written {
+            let _ = fs::remove_file(self.rt, name.as_path());
+        }
     }
 
     /// The file that is written.
     fn file(&mut self) -> io::Result<&mut File> {
         if self.written.is_none() {
-            let mode = self.permissions.as_ref().map_or(0o666, |old| old.mode());
+            let mode = self.mode.unwrap_or(0o666);
             self.written = Some(create_beside(self.rt, self.place.as_path(), mode)?);
         }
         match &mut self.written {
@@ -123,32 +120,17 @@ impl Write for Replacement<'_> {
 
 /// Standard output. It takes the line of progress away first, which may stand on the same terminal.
 #[derive(Drop)]
-pub(crate) struct StandardOutput<'a> {
-    pub(crate) rt: &'a HostRuntime,
-    pub(crate) notes: &'a Notes,
-}
+pub(crate) struct StandardOutput<'a>(pub(crate) &'a HostRuntime, pub(crate) &'a Notes);
 
 impl Write for StandardOutput<'_> {
     fn write(&mut self, buf: &[u8]) -> io::Result<usize> {
-        self.notes.clear_progress(self.rt);
-        self.rt.stdout().write(buf)
+        self.1.clear_progress(self.0);
+        self.0.stdout().write(buf)
     }
 
     fn flush(&mut self) -> io::Result<()> {
-        self.rt.stdout().flush()
+        self.0.stdout().flush()
     }
-}
-
-/// The path that a name leads to by symbolic links.
-fn follow(rt: &HostRuntime, name: &str) -> io::Result<PathBuf> {
-    let mut path = Path::new(name).to_path_buf(rt.alloc())?;
-    for _ in 0..MAX_LINKS {
-        match fs::read_link(rt, path.as_path()) {
-            Ok(target) => path = folder_of(path.as_path()).join(rt.alloc(), target.as_path())?,
-            Err(_) => return Ok(path),
-        }
-    }
-    Err(Error::new(ErrorKind::InvalidInput, "too many symbolic links"))
 }
 
 /// The folder of a file.
@@ -163,7 +145,7 @@ fn folder_of(path: Path<'_>) -> Path<'_> {
 fn create_beside(rt: &HostRuntime, place: Path<'_>, mode: u32) -> io::Result<(PathBuf, File)> {
     let mut options = OpenOptions::new();
     options.write(true).create_new(true).mode(mode);
-    for number in 0..MAX_NAMES {
+    for number in 0..1000 {
         let name = format!(in rt.alloc(); ".fohlazu-{number}")?;
         let path = folder_of(place).join(rt.alloc(), name.as_str())?;
         match options.open(rt, path.as_path()) {
@@ -172,26 +154,5 @@ fn create_beside(rt: &HostRuntime, place: Path<'_>, mode: u32) -> io::Result<(Pa
             Err(_) => {}
         }
     }
-    Err(Error::new(
-        ErrorKind::AlreadyExists,
-        "too many files .fohlazu-N stand beside it",
-    ))
-}
-
-/// Renames a file that is written, once the disk has it.
-fn put(
-    rt: &HostRuntime,
-    name: Path<'_>,
-    file: &File,
-    permissions: Option<Permissions>,
-    place: Path<'_>,
-) -> io::Result<()> {
-    if let Some(permissions) = permissions {
-        file.set_permissions(permissions)?;
-    }
-    file.sync_all()?;
-    // Opened first, so that nothing is replaced where it cannot be.
-    let folder = File::open(rt, folder_of(place))?;
-    fs::rename(rt, name, place)?;
-    folder.sync_all()
+    Err(Error::new(ErrorKind::AlreadyExists, "too many files .fohlazu-N"))
 }

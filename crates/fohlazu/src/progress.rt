@@ -3,13 +3,7 @@
 use std::io::IsTerminal;
 use std::time::{Duration, Instant};
 
-/// How many milliseconds a file is read before that is shown.
-const FIRST_MS: u64 = 1000;
-
-/// How many milliseconds a line stands.
-const EACH_MS: u64 = 250;
-
-/// A line on standard error that says how far a file is read, from the first second on.
+/// A line on standard error that says how far a file is read, after a second and then each quarter of one.
 #[derive(Drop)]
 pub(crate) struct Progress<'a> {
     rt: &'a HostRuntime,
@@ -22,16 +16,16 @@ pub(crate) struct Progress<'a> {
 }
 
 impl<'a> Progress<'a> {
-    /// A file that is read from now on. There is none where standard error is no terminal, or without a clock.
-    pub(crate) fn start(rt: &'a HostRuntime) -> Option<Progress<'a>> {
-        if !rt.stderr().is_terminal() {
+    /// A file that is read from now on, if that is to be shown, and standard error is a terminal.
+    pub(crate) fn start(rt: &'a HostRuntime, is_wanted: bool) -> Option<Progress<'a>> {
+        if !is_wanted || !rt.stderr().is_terminal() {
             return None;
         }
         let start = Instant::now(rt).ok()?;
         Some(Progress {
             rt,
             start,
-            next: Duration::from_millis(FIRST_MS),
+            next: Duration::from_secs(1),
             read: 0,
             has_size: false,
         })
@@ -47,7 +41,7 @@ impl<'a> Progress<'a> {
         if elapsed < self.next {
             return false;
         }
-        self.next = elapsed.saturating_add(Duration::from_millis(EACH_MS));
+        self.next = elapsed.saturating_add(Duration::from_millis(250));
         let per_second = self.read.saturating_mul(1000) / (elapsed.as_millis() as u64).max(1);
         let (read, rate) = (self.read >> 20, per_second >> 20);
         let _ = if self.has_size {

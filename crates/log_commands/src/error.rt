@@ -83,31 +83,17 @@ pub enum Refusal {
     #[error("its first entries are not those of the old checkpoint")]
     OtherOldEntries,
     /// A proof with another entry where one is requested.
-    #[error("entry {got}, where {expected} is requested: without numbers `verify` prints those that it has")]
-    OtherNumber {
-        /// The number of the proof's entry.
-        got: usize,
-        /// The number that is requested there.
-        expected: usize,
-    },
+    #[error("entry {0}, where {1} is requested: without numbers `verify` prints those that it has")]
+    OtherNumber(usize, usize),
     /// A proof that ends before a requested entry.
-    #[error("no entry {expected}, which is requested: without numbers `verify` prints those that it has")]
-    MissingEntry {
-        /// The number that is requested.
-        expected: usize,
-    },
+    #[error("no entry {0}, which is requested: without numbers `verify` prints those that it has")]
+    MissingEntry(usize),
     /// A proof with an entry behind all that are requested.
-    #[error("entry {got}, which is not requested: without numbers `verify` prints those that it has")]
-    UnrequestedEntry {
-        /// The number of the proof's entry.
-        got: usize,
-    },
+    #[error("entry {0}, which is not requested: without numbers `verify` prints those that it has")]
+    UnrequestedEntry(usize),
     /// A proof with an entry that a file of lines, or of such blocks, does not have.
-    #[error("entry {number} is no line, or no block of this size: `--raw` prints one entry byte for byte")]
-    NoSuchEntry {
-        /// The number that the proof gives the entry.
-        number: usize,
-    },
+    #[error("entry {0} is no line, or no block of this size: `--raw` prints one entry byte for byte")]
+    NoSuchEntry(usize),
     /// A proof of entries that the verifier refuses.
     #[error("{}", entries_words(.0))]
     Entries(EntriesError),

@@ -76,19 +76,16 @@ fn check_numbers(numbers: &[usize], entries: &[Entry]) -> Result<(), Error>
     for entry in entries {
         let got = entry.number;
         let Some((expected, more)) = rest.split_first() else {
-            return Err(Error::Refused(Source::Proof, Refusal::UnrequestedEntry { got }));
+            return Err(Error::Refused(Source::Proof, Refusal::UnrequestedEntry(got)));
         };
         let expected = *expected;
         if got != expected {
-            return Err(Error::Refused(Source::Proof, Refusal::OtherNumber { got, expected }));
+            return Err(Error::Refused(Source::Proof, Refusal::OtherNumber(got, expected)));
         }
         rest = more;
     }
     match rest.first() {
-        Some(expected) => {
-            let expected = *expected;
-            Err(Error::Refused(Source::Proof, Refusal::MissingEntry { expected }))
-        }
+        Some(expected) => Err(Error::Refused(Source::Proof, Refusal::MissingEntry(*expected))),
         None => Ok(()),
     }
 }
@@ -122,8 +119,7 @@ fn check_entries(print: Print, size: usize, entries: &[Entry]) -> Result<(), Err
 {
     for entry in entries {
         if !is_printable(print, size, entry) {
-            let number = entry.number;
-            return Err(Error::Refused(Source::Proof, Refusal::NoSuchEntry { number }));
+            return Err(Error::Refused(Source::Proof, Refusal::NoSuchEntry(entry.number)));
         }
     }
     Ok(())
