@@ -1,6 +1,6 @@
 //! Runs commands.
 
-ghost use Rattle.std.specs.Prelude.{◌≡◌, ◌⊎◌, Decides, Err, IfSome, List, OnErr, Result, map, option_map, ℕ};
+ghost use Rattle.std.specs.Prelude.{◌≡◌, ◌⊎◌, Decides, Err, List, OnErr, Result, map, option_map, ℕ};
 ghost use Rattle.log_files.specs.Entries.{IsCut};
 ghost use Rattle.log_commands.specs.Commands.{AreNumbers, EndsIn, HasOutcome, HoldsOfInputs, IsLawful, IsPrint};
 ghost use Rattle.log_commands.specs.Commands.{bytes_of_parts};
@@ -91,7 +91,9 @@ impl<Src> Command<Src> {
     {
         match self {
             Command::Seal { origin, cut, .. } => is_origin(origin) && is_cut(*cut),
-            Command::Prove { cut, numbers, .. } => is_cut(*cut) && are_requested(numbers),
+            Command::Prove { cut, numbers, .. } => {
+                is_cut(*cut) && numbers.as_deref().is_none_or(are_numbers)
+            }
             Command::Verify { print, numbers, .. } => is_print(*print, numbers),
             Command::ProveConsistency { cut, .. } => is_cut(*cut),
             Command::VerifyConsistency { .. } => true,
@@ -115,16 +117,6 @@ fn are_numbers(numbers: &[usize]) -> bool
     ensures { Decides result (AreNumbers numbers.now) }
 {
     !numbers.is_empty() && numbers.iter().all(|number| 1 <= *number)
-}
-
-/// Whether entries of these numbers, or all, may be proved.
-fn are_requested(numbers: &Option<Vec<usize>>) -> bool
-    ensures { Decides result (IfSome (option_map (λ ns. ns.items) numbers.now) AreNumbers) }
-{
-    match numbers {
-        Some(numbers) => are_numbers(numbers),
-        None => true,
-    }
 }
 
 /// Whether entries of these numbers may be printed so.

@@ -5,8 +5,8 @@ ghost use Rattle.sha2.specs.Sha256.{sha256};
 ghost use Rattle.p3_merkle_core.specs.Refusals.{first_of};
 ghost use Rattle.tlog.specs.Rfc9162.{leaf_hash as leaf_hash_by};
 ghost use Rattle.log_text.specs.Texts.{checkpoint_fields, entries_fields, entry_fields};
-ghost use Rattle.log_commands.specs.Outcomes.{bytes_in, entry_refusal, first_other, Gives, is_printable};
-ghost use Rattle.log_commands.specs.Outcomes.{numbers_refusal, printed, proof_refusal, verify_outcome};
+ghost use Rattle.log_commands.specs.Outcomes.{bytes_in, entry_refusal, Gives, is_printable, numbers_refusal};
+ghost use Rattle.log_commands.specs.Outcomes.{printed, proof_refusal, verify_outcome};
 ghost use Rattle.log_commands.specs.declared.error.Error.TheVariants.{OutOfMemory};
 
 use crate::error::{Error, Refusal, Source};
@@ -61,33 +61,23 @@ fn check_requested(numbers: Option<&[usize]>, entries: &[Entry]) -> Result<(), E
     ensures { let refusal = numbers_refusal (option_map (λ ns. ns.now) numbers.entry) (map entry_fields entries.now) in
         MatchResult result (λ ok. refusal ≡ None) (λ error. refusal ≡ Some error) }
 {
-    match numbers {
-        Some(numbers) => check_numbers(numbers, entries),
-        None => Ok(()),
-    }
-}
-
-/// Checks that entries are those of these numbers, in their order.
-fn check_numbers(numbers: &[usize], entries: &[Entry]) -> Result<(), Error>
-    ensures { let refusal = first_other (map (λ e. e.number) (map entry_fields entries.now)) numbers.now in
-        MatchResult result (λ ok. refusal ≡ None) (λ error. refusal ≡ Some error) }
-{
-    let mut rest = numbers;
+    let Some(mut rest) = numbers else {
+        return Ok(());
+    };
     for entry in entries {
         let got = entry.number;
-        let Some((expected, more)) = rest.split_first() else {
+        let Some((&expected, more)) = rest.split_first() else {
             return Err(Error::Refused(Source::Proof, Refusal::UnrequestedEntry(got)));
         };
-        let expected = *expected;
         if got != expected {
             return Err(Error::Refused(Source::Proof, Refusal::OtherNumber(got, expected)));
         }
         rest = more;
     }
-    match rest.first() {
-        Some(expected) => Err(Error::Refused(Source::Proof, Refusal::MissingEntry(*expected))),
-        None => Ok(()),
+    if let Some(&expected) = rest.first() {
+        return Err(Error::Refused(Source::Proof, Refusal::MissingEntry(expected)));
     }
+    Ok(())
 }
 
 /// The indices of entries, counted from 0.
