@@ -104,10 +104,19 @@ fn print_help(rt: &HostRuntime, error: &clap::Error) -> ExitCode {
     if error.kind() == clap::error::ErrorKind::OutOfMemory {
         return refuse(rt, "out of memory");
     }
-    match error.print(rt) {
-        Ok(()) if error.exit_code() == 0 => ExitCode::SUCCESS,
-        _ => ExitCode::from(2),
+    if error.exit_code() == 0 {
+        return match error.print(rt) {
+            Ok(()) => ExitCode::SUCCESS,
+            Err(_) => ExitCode::from(2),
+        };
     }
+    let Ok(text) = format!(in rt.alloc(); "{error}") else {
+        return refuse(rt, "out of memory");
+    };
+    for line in text.lines() {
+        let _ = eprintln!(rt; "{}", Escaped(line));
+    }
+    ExitCode::from(2)
 }
 
 /// Prints why the output is not written.
