@@ -243,7 +243,7 @@ impl<'a> Args<'a> {
         }
         let mut numbers = Vec::with_capacity(alloc, words.len())?;
         for word in words {
-            add_numbers(&mut numbers, word).map_err(|why| ArgsError::Word(Escaped(word), why))?;
+            add_numbers(&mut numbers, word)?;
         }
         Ok(Some(numbers))
     }
@@ -286,13 +286,14 @@ impl<'a> Args<'a> {
 }
 
 /// Appends the numbers that a word names: numbers and ranges, with commas between.
-fn add_numbers(numbers: &mut Vec<usize>, word: &str) -> Result<(), &'static str> {
+fn add_numbers<'a>(numbers: &mut Vec<usize>, word: &'a str) -> Result<(), ArgsError<'a>> {
     for range in word.split(',') {
-        let (first, last) = range_of(range)?;
+        let (first, last) = range_of(range).map_err(|why| ArgsError::Word(Escaped(word), why))?;
         if numbers.len().saturating_add(last - first) >= 100_000_000 {
-            return Err("more than 100000000 entries at once");
+            let why = "more than 100000000 entries at once";
+            return Err(ArgsError::Word(Escaped(word), why));
         }
-        numbers.extend(first..=last).map_err(|_| "out of memory")?;
+        numbers.extend(first..=last)?;
     }
     Ok(())
 }

@@ -25,8 +25,10 @@ impl<'a> Replacement<'a> {
     /// A file of this name, which replaces a regular one if there is one.
     pub(crate) fn new(rt: &'a HostRuntime, name: &str) -> io::Result<Replacement<'a>> {
         let place = match fs::canonicalize(rt, name) {
-            Ok(place) => place,
-            Err(_) => Path::new(name).to_path_buf(rt.alloc())?,
+            Err(error) if error.kind() == ErrorKind::NotFound => {
+                Path::new(name).to_path_buf(rt.alloc())?
+            }
+            place => place?,
         };
         let mode = match fs::symlink_metadata(rt, place.as_path()) {
             Ok(metadata) if metadata.is_file() => Some(metadata.permissions().mode()),
@@ -108,7 +110,10 @@ impl<'a> Replacement<'a> {
 
 impl Write for Replacement<'_> {
     fn write(&mut self, buf: &[u8]) -> io::Result<usize> {
-        let done = self.file().and_then(|file| file.write(buf));
+        let done = match self.file() {
+            Ok(file) => file.write(buf),
+            Err(error) => Err(error),
+        };
         self.failure = done.err();
         done
     }
