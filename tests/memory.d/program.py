@@ -59,6 +59,7 @@ LOGS = """
 2 seal -o .. lines
 0 prove new lines 4 > one
 0 prove -o made new lines 4,1-2
+0 prove new lines all
 2 prove new lines 4,1-x
 0 prove --partial new partial 4 1 4 > several
 1 prove new lines 1 6
