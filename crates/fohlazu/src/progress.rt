@@ -42,7 +42,10 @@ impl<'a> Progress<'a> {
             return false;
         }
         self.next = elapsed.saturating_add(Duration::from_millis(250));
-        let per_second = self.read.saturating_mul(1000) / (elapsed.as_millis() as u64).max(1);
+        let millis = u64::try_from(elapsed.as_millis())
+            .unwrap_or(u64::MAX)
+            .max(1);
+        let per_second = self.read.saturating_mul(1000) / millis;
         let (read, rate) = (self.read >> 20, per_second >> 20);
         let _ = if self.has_size {
             let all = self.read.saturating_add(left) >> 20;
