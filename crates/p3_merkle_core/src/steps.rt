@@ -553,6 +553,8 @@ impl<'a> Covered<'a> {
 
     /// Climbs to the layer above, in place: replaces the covered nodes by their parents, and returns the step that led
     /// to them. This layer must be below the root.
+    // Inlined: the count of a proof's digests is a loop of this alone.
+    #[inline(always)]
     pub fn climb(&mut self) -> StepUp
         requires { self.old.layer < self.old.steps.now.num_levels }
         ensures steps { self.new.steps.now ≡ self.old.steps.now }
