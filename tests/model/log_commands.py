@@ -14,7 +14,6 @@ import logs
 from log_texts import PART, checkpoint_text, consistency_text, entries_text
 
 MOST_BYTES = 1 << 30
-LAST = (1 << 64) - 1
 INPUTS = {"seal": ["FILE"], "prove": ["CHECKPOINT", "FILE"], "verify": ["CHECKPOINT", "PROOF"]}
 INPUTS |= {"prove-consistency": ["OLD", "NEW", "FILE"], "verify-consistency": ["OLD", "PROOF"]}
 COMMANDS = [*INPUTS, "join"]
@@ -82,7 +81,7 @@ def words_of(command):
     if command == "join":
         words.add_argument("PART", nargs="+")
     if command in ("prove", "verify"):
-        words.add_argument("NUMBER", nargs="+" if command == "prove" else "*", type=number(1, LAST))
+        words.add_argument("NUMBER", nargs="+" if command == "prove" else "*", type=number(1, 1 << 62))
     return words
 
 
