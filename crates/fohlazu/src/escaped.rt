@@ -3,7 +3,7 @@
 use std::fmt;
 use std::fmt::{Display, Formatter, Write};
 
-/// A word of the command line, whose control characters are shown escaped.
+/// An argument that prints with its control characters escaped.
 #[derive(Clone, Copy, Debug)]
 pub(crate) struct Escaped<'a>(pub(crate) &'a str);
 

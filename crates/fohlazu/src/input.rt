@@ -40,7 +40,7 @@ pub(crate) struct Input<'a> {
 }
 
 impl<'a> Input<'a> {
-    /// The input of this name. How far it is read is shown if that is wanted.
+    /// The input of this name, with or without progress.
     pub(crate) fn new(
         rt: &'a HostRuntime,
         name: &'a str,

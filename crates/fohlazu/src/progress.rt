@@ -31,7 +31,7 @@ impl<'a> Progress<'a> {
         })
     }
 
-    /// So many more bytes are read, and at least so many are left. Whether a line is shown for it.
+    /// Counts bytes that were read, where at least `left` follow. Returns whether it printed a line.
     pub(crate) fn add(&mut self, count: usize, left: u64) -> bool {
         self.read = self.read.saturating_add(count as u64);
         self.has_size = self.has_size || left > 0;

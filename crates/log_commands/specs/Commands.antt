@@ -7,7 +7,8 @@ use Rattle.log_text.specs.Lines.{is_origin}
 use Rattle.log_files.specs.Entries.{IsCut}
 use Rattle.log_files.specs.declared.cut.Cut.{Cut}
 use Rattle.log_commands.specs.Outcomes.{and_then, bytes_from, compared, join_outcome, numbers_under, prove_growth}
-use Rattle.log_commands.specs.Outcomes.{prove_under, requested, seal_outcome, verify_consistency_outcome, verify_outcome}
+use Rattle.log_commands.specs.Outcomes.{prove_under, requested, seal_outcome, verify_consistency_outcome}
+use Rattle.log_commands.specs.Outcomes.{verify_outcome}
 use Rattle.log_commands.specs.declared.error.Error.{Error}
 use Rattle.log_commands.specs.declared.error.Error.TheVariants.{OutOfMemory, Write}
 use Rattle.log_commands.specs.declared.error.Source.TheVariants.{Checkpoint, File, New, Old, Part, Proof}

@@ -84,8 +84,8 @@ pub enum Command<Src> {
 }
 
 impl<Src> Command<Src> {
-    /// Whether it can be run: an origin is one, a block has 1 to 2^30 bytes, and entries that are requested are at least
-    /// one, and numbered from 1. Entries as lines alone are verified without numbers, and one entry as raw bytes.
+    /// Whether it can be run: an origin is one, a block has 1 to 2^30 bytes, and requested entries are at least one and
+    /// numbered from 1. Entries as lines alone are verified without numbers, and one entry as raw bytes.
     pub fn is_lawful(&self) -> bool
         ensures { Decides result (IsLawful self.now) }
     {

@@ -11,8 +11,8 @@ use Rattle.log_text.specs.Reading.{digest_by, digests_by, entries_by, entries_in
 use Rattle.log_text.specs.Reading.{log_origin_by, many, part_in, signatures_by}
 use Rattle.log_text.specs.Texts.{checkpoint_text, consistency_text, entries_text, line, CheckpointFields}
 use Rattle.log_text.specs.Texts.{ConsistencyFields, EntriesFields}
-use Rattle.log_text.specs.declared.error.Expected.TheVariants.{Digest, DigestOrBlank, End, EntryBytes, EntryHead, OldSize}
-use Rattle.log_text.specs.declared.error.Expected.TheVariants.{NotPart, PartOrigin, Signature, Size}
+use Rattle.log_text.specs.declared.error.Expected.TheVariants.{Digest, DigestOrBlank, End, EntryBytes, EntryHead}
+use Rattle.log_text.specs.declared.error.Expected.TheVariants.{NotPart, OldSize, PartOrigin, Signature, Size}
 use Rattle.log_text.specs.declared.error.Found.TheVariants.{ByteOrderMark, CarriageReturn, NoLineFeed, Other, TextEnd}
 
 -- what the examples open
@@ -142,7 +142,8 @@ pub carriage_return : checkpoint_in (line (codes "journal.example") ++ (55 ∷ 1
 unfolding on_literals
 carriage_return = refl
 
-pub byte_order_mark : consistency_in (239 ∷ 187 ∷ 191 ∷ line (codes "old 3")) ≡ Err (wrong_line 1 OldSize ByteOrderMark)
+pub byte_order_mark : consistency_in (239 ∷ 187 ∷ 191 ∷ line (codes "old 3"))
+    ≡ Err (wrong_line 1 OldSize ByteOrderMark)
 unfolding on_literals
 byte_order_mark = refl
 
@@ -243,6 +244,7 @@ unfolding on_literals
 consistency_back = refl
 
 -- no blank line
-pub no_blank_line : consistency_in (line (codes "old 3") ++ line (codes "journal.example")) ≡ Err (wrong_line 2 DigestOrBlank Other)
+pub no_blank_line : consistency_in (line (codes "old 3") ++ line (codes "journal.example"))
+    ≡ Err (wrong_line 2 DigestOrBlank Other)
 unfolding on_literals
 no_blank_line = refl

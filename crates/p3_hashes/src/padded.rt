@@ -12,8 +12,8 @@ use crate::messages::{digest_of, lane_words, words};
 use std::alloc::AllocError;
 use std::simd::prelude::*;
 
-/// Loads block `t` of each of eight messages of `width` bytes into `block`, one message a lane. The messages must have the
-/// whole block.
+/// Loads block `t` of each of eight messages of `width` bytes into `block`, one message a lane. The messages must have
+/// the whole block.
 fn load_block(block: &mut [u32x8; 16], messages: &[u8], width: usize, t: usize)
     requires full { length messages.now ≡ 8 * width }
     requires inside { 64 * t + 64 ≤ width }
