@@ -95,10 +95,9 @@ toolchain:
 
 documents:
 	@python3 tests/audit
-	@python3 tests/audit-trials
+	@python3 tests/strength --check
+	@python3 tests/claims
 	@bash tests/documents
-	@python3 tests/calls --check
-	@python3 tests/where --check
 
 check-quick: toolchain documents quick
 	@$(ALONE) python3 tests/quick

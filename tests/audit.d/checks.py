@@ -1,170 +1,153 @@
-"""What is checked of docs/AUDIT.md."""
+"""What the public contracts and the headline of docs/AUDIT.md need, and what is wrong with it."""
+
+import re
 
 from definitions import module_of
-from headline import headline_of
 from needed import Needed
+from sources import INTERNAL, TESTS, crate_of, is_left_out
 
 LIST = "docs/AUDIT.md"
-MOST_LINES = 1100
 
 
 class Checks:
     """The checks, and what they found wrong."""
 
-    def __init__(self, listed, sources, modules):
-        self.listed, self.sources, self.modules = listed, sources, modules
+    def __init__(self, calls, sources, modules):
+        self.calls, self.sources, self.modules = calls, sources, modules
         self.wrong = []
-        self.clauses = [self._clauses(call) for call in listed.calls]
-        self.headline = Needed(modules, sources.crates)
-        for call, clauses in zip(listed.calls, self.clauses):
+        self.clauses = [self._clauses(call) for call in calls]
+        self.headline, self.needed = Needed(modules, sources.crates), Needed(modules, sources.crates)
+        for call, clauses in zip(calls, self.clauses):
             for clause in clauses:
                 self.headline.add(call.source, clause)
         for source, name in list(self.headline.types):
             for contract in sources.read(source).contracts:
                 if contract.block.kind == "struct" and contract.owner == name:
                     self.headline.add(source, contract)
+        self.public = {path: sources.public(path) for path in sources.paths}
+        for path, contracts in self.public.items():
+            for contract in contracts:
+                self.needed.add(path, contract)
+        self.order = self._order()
 
     def run(self):
         """Runs all checks, and gives what is wrong, each once and in order."""
-        self._check_listed()
-        needed = Needed(self.modules, self.sources.crates)
-        for path in self.sources.paths:
-            self._check_source(path, needed)
-        self._check_words(needed)
-        self._check_types(needed)
-        self._check_traits()
-        for name in self.listed.modules:
-            if name in self.modules:
-                self._check_module(self.modules[name], needed)
-        self._check_counts()
+        for name, place in [*self.needed.unknown.items(), *self.headline.unknown.items()]:
+            self.wrong.append(f"{place} cites {name}, which is not there")
+        for (module, word), place in self.needed.words.items():
+            if ".Inner" in module or ".proofs." in module:
+                self.wrong.append(f"{place} cites {word or 'a word'} of {module}, which is not public")
+        rows = {(call.source, call.name) for call in self.calls}
+        for (source, name), place in self.headline.types.items():
+            if (source, name) not in rows and name in self.sources.read(source).traits:
+                self.wrong.append(f"{place} cites the trait {name}, which the headline of {LIST} does not have")
+        for name in self.order:
+            self._check_module(self.modules[name])
+        for path in sorted(INTERNAL | TESTS):
+            if not any(f"{source[7:-3]}/".startswith(f"{path}/") for source in self.sources.paths):
+                self.wrong.append(f"tests/audit.d/sources.py leaves {path} out, which is not there")
         return sorted(set(self.wrong))
 
-    def totals(self):
-        """How many modules are listed and how many lines they have: first for the headline, then in all."""
-        totals = [[0, 0], [0, 0]]
-        for name in self.listed.modules:
-            if name in self.modules:
-                for total, lines in zip(totals, self._lines(self.modules[name])):
-                    total[0] += lines is not None
-                    total[1] += lines or 0
-        return totals
-
-    def _say(self, place, what):
-        self.wrong.append(f"{place}: {what}")
-
-    def _say_listed(self, name, what):
-        self._say(f"{LIST}:{self.listed.lines[name]}", f"{name} {what}")
-
-    # ---- sources
-
-    def _check_listed(self):
-        """Sees that what is listed is there, and once."""
-        for line, name in self.listed.twice:
-            self._say(f"{LIST}:{line}", f"{name} is listed twice")
-        for name in self.listed.modules:
-            if name not in self.modules:
-                self._say_listed(name, "is listed, and is not there")
-        for path in [*self.listed.sources, *self.listed.types]:
-            if path not in self.sources.paths:
-                self._say_listed(path, "is listed, and is not there")
-        for path, why in self.listed.left_out.items():
-            if not any(f"{source}/".startswith(f"{path}/") for source in self.sources.paths):
-                self._say_listed(path, "is left out, and is not there")
-            if not why:
-                self._say_listed(path, "is left out, and nothing says why")
-
-    def _check_source(self, path, needed):
-        """Sees that a source with public contracts is listed, and adds what they need."""
-        contracts = self.sources.public(path)
-        owners = sorted({contract.owner for contract in contracts})
-        items = self.listed.sources.get(path)
-        if contracts and items is None:
-            line = min(contract.line for contract in contracts)
-            self._say(f"{path}:{line}", f"public contracts of {', '.join(owners)}, which {LIST} does not list")
-        elif items and items != owners:
-            self._say_listed(path, f"is listed for other public contracts than those of {', '.join(owners) or 'none'}")
-        elif items is not None and not contracts:
-            self._say_listed(path, "is listed, and has no public contract")
-        for contract in contracts:
-            needed.add(path, contract)
-
-    # ---- words
-
-    def _check_words(self, needed):
-        for name, place in [*needed.unknown.items(), *self.headline.unknown.items()]:
-            self.wrong.append(f"{place} cites {name}, which is not there")
-        for (module, word), place in needed.words.items():
-            if module not in self.listed.modules:
-                self.wrong.append(f"{place} cites {word or 'a word'} of {module}, which {LIST} does not list")
-
-    def _check_types(self, needed):
-        for (source, name), place in needed.types.items():
-            is_listed = self.listed.sources.get(source) == []
-            if is_listed == (name in self.listed.types.get(source, [])):
-                self.wrong.append(f"{place} cites the type {name}, and {LIST} lists it and {source}, or neither")
-        for source, names in self.listed.types.items():
-            for name in names:
-                if (source, name) not in needed.types:
-                    self._say_listed(source, f"has no type {name} that a public contract needs")
-
-    def _check_module(self, module, needed):
-        """Sees that a listed module has but words that are needed, and uses those before it."""
-        at = self.listed.modules[module.name]
-        if ".Inner" in module.name:
-            self._say_listed(module.name, "is listed, and is an inner module")
-        for word in module.words.values():
-            if (module.name, word.name) not in needed.words:
-                self._say(f"{module.path}:{word.start}", f"{word.name} is needed by no public contract")
-        for line, name in module.proofs:
-            self._say(f"{module.path}:{line}", f"{name} is proved, and is no definition")
-        for line, path in module.used:
-            target = module_of(self.modules, path)
-            if self.listed.modules.get(target, at if target in self.modules else -1) >= at:
-                self._say(f"{module.path}:{line}", f"uses {target}, which {LIST} lists behind it, or not")
-            elif ".proofs." in target:
-                self._say(f"{module.path}:{line}", f"uses {target}, which has no definitions")
-
-    # ---- the headline and the counts
+    def lines(self, module):
+        """How many lines of a module the headline needs, and how many lines it has."""
+        return sum(word.end - word.start + 1 for word in self.headline.of(module)), len(module.lines)
 
     def _clauses(self, call):
         """The clauses of a call of the headline."""
         contracts = self.sources.read(call.source).contracts if call.source in self.sources.paths else []
         clauses = [contract for contract in contracts if call.has(contract)]
         if not call.is_whole(clauses):
-            self._say(f"{LIST}:{call.line}", f"{call.source} has no such clauses of {call.name}")
+            self.wrong.append(f"{LIST}:{call.line}: {call.source} has no such clauses of {call.name}")
         return clauses
 
-    def _check_traits(self):
-        """Sees that each trait that the headline needs is one of its rows."""
-        rows = {(call.source, call.name) for call in self.listed.calls}
-        for (source, name), place in self.headline.types.items():
-            if (source, name) not in rows and name in self.sources.read(source).traits:
-                self.wrong.append(f"{place} cites the trait {name}, which the headline of {LIST} does not have")
+    def _order(self):
+        """The modules that are read, each after those that it uses: those of the headline first."""
+        order = []
 
-    def _lines(self, module):
-        """How many lines of a module the headline needs, if any, and how many lines it has."""
-        words = self.headline.of(module)
-        return sum(word.end - word.start + 1 for word in words) if words else None, len(module.lines)
+        def read(name, among):
+            if name in among and name not in order and name not in path:
+                path.append(name)
+                for _, used in self.modules[name].used:
+                    read(module_of(self.modules, used), among)
+                order.append(path.pop())
 
-    def _check_counts(self):
-        for name, said in self.listed.counts.items():
-            if name in self.modules and said != (lines := self._lines(self.modules[name])):
-                needed = f"{lines[0]} of {lines[1]}" if lines[0] else str(lines[1])
-                self._say_listed(name, f"has {needed} as its lines")
-        totals = self.totals()
-        if self.listed.totals != totals:
-            self._say(LIST, f"modules and lines of the headline, then of all, are {totals}, not {self.listed.totals}")
-        if totals[0][1] > MOST_LINES:
-            self._say(LIST, f"the headline needs more than {MOST_LINES} lines of definitions")
-        if not self.wrong and self.listed.printed != round(printed := len(list(headline_of(self))), -2):
-            self._say(LIST, f"the headline prints {printed} lines, not about {self.listed.printed}")
-        self._check_order()
+        path, cited = [], {name for name, _ in self.needed.words}
+        own = [name for name in self.modules if re.match(r"Rattle\.\w+\.specs\.(?!Lib$|Inner\b)\w+(?<!Examples)$", name)
+               and name.split(".")[1] not in TESTS]
+        for among in ([n for n in own if self.headline.of(self.modules[n])], [n for n in own if n in cited], own):
+            for name in among:
+                read(name, among)
+        return order
 
-    def _check_order(self):
-        """Sees that the modules of the headline come first, with others among them only where they use these."""
-        names = [name for name in self.listed.modules if name in self.modules]
-        ours = [name for name in names if self.listed.counts[name][0]]
-        used = {module_of(self.modules, path) for name in ours for _, path in self.modules[name].used}
-        for name in names[: names.index(ours[-1])] if ours else []:
-            if name not in ours and name not in used:
-                self._say_listed(name, "comes before a module of the headline")
+    def _check_module(self, module):
+        """Sees that a module that is read has but definitions that are needed."""
+        for word in module.words.values():
+            if (module.name, word.name) not in self.needed.words:
+                self.wrong.append(f"{module.path}:{word.start}: {word.name} is needed by no public contract")
+        for line, name in module.proofs:
+            self.wrong.append(f"{module.path}:{line}: {name} is proved, and is no definition")
+
+    # ---- the page
+
+    def page(self):
+        """The lines of the page of all definitions and public contracts."""
+        yield from PAGE.splitlines()
+        for name in self.order:
+            module = self.modules[name]
+            needed, lines = self.lines(module)
+            yield f"| {module.path} | {needed or ''} | {lines} | {said(module.lines, '--')} |"
+        counts = [self.lines(self.modules[name]) for name in self.order]
+        yield f"| {len(self.order)} files | {sum(n for n, _ in counts)} | {sum(n for _, n in counts)} | |"
+        yield from SOURCES.splitlines()
+        for path, contracts in self.public.items():
+            if contracts:
+                items = dict.fromkeys(c.item if c.item == c.owner or not c.kind else f"{c.owner}::{c.item}"
+                                      for c in contracts)
+                text = self.sources.read(path).path.read_text(encoding="utf-8").splitlines()
+                yield f"| {path} | {said(text, '//!')} | {', '.join(f'`{item}`' for item in items)} |"
+        yield from TYPES.splitlines()
+        types = {}
+        for source, name in sorted(self.needed.types):
+            types.setdefault(source, []).append(f"`{name}`")
+        for source, names in types.items():
+            yield f"| {source} | {', '.join(names)} |"
+
+
+def said(lines, sign):
+    """The first sentence of the comment at the top of a file."""
+    head = []
+    for line in lines:
+        if not line.startswith(sign + " "):
+            break
+        head.append(line[len(sign) + 1 :])
+    sentence = re.split(r"(?<=\.)(?: |$)", " ".join(head))[0]
+    return sentence.replace("|", "\\|")
+
+
+PAGE = """\
+# All definitions and public contracts
+
+`tests/audit write` writes this page for whoever audits; docs/AUDIT.md says what is read and in which order.
+
+## Definitions
+
+Each file comes after those that it uses. "Headline" is how many of its lines the headline needs.
+
+| File | Headline | Lines | What it defines |
+|---|---:|---:|---|"""
+SOURCES = """
+## Public contracts
+
+A contract is public if it is a clause of a `pub fn`, or of a function of a public trait or of an implementation of a
+trait; or a ghost member of a public type or trait. One that proves a law of a trait promises nothing. Left out are
+tests, and functions that are `pub` for other code of the repository alone.
+
+| Source | What it is for | Contracts of |
+|---|---|---|"""
+TYPES = """
+## Types
+
+Definitions cite these types and traits of the code.
+
+| Source | Types |
+|---|---|"""

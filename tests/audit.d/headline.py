@@ -11,19 +11,17 @@ def headline_of(checks):
     """The lines of the text."""
     yield "// docs/AUDIT.md says how this is read."
     yield ""
-    for call, clauses in zip(checks.listed.calls, checks.clauses):
+    for call, clauses in zip(checks.calls, checks.clauses):
         source = checks.sources.read(call.source)
         yield f"// ==== {call.name}: {call.source}"
         yield from trait_of(call.name, source, clauses) if call.is_trait else contract_of(source, clauses)
         renamed = sorted({name for clause in clauses for name in clause.renamed()})
         yield from (f"    // {name} is {word} of {module}." for name, module, word in renamed)
         yield ""
-    for name in checks.listed.modules:
-        module = checks.modules.get(name)
-        words = checks.headline.of(module) if module else []
-        if words:
-            yield from definitions_of(module, words)
-    traits = {call.name for call in checks.listed.calls if call.is_trait}
+    for name in checks.order:
+        if words := checks.headline.of(checks.modules[name]):
+            yield from definitions_of(checks.modules[name], words)
+    traits = {call.name for call in checks.calls if call.is_trait}
     for source, name in sorted(types_in(checks)):
         if name not in traits:
             yield from type_of(name, checks.sources.read(source).path)
@@ -32,7 +30,7 @@ def headline_of(checks):
 def types_in(checks):
     """The types that the contracts and the definitions cite, and those that the heads of the calls name."""
     types, named = set(checks.headline.types), set()
-    for call, clauses in zip(checks.listed.calls, checks.clauses):
+    for call, clauses in zip(checks.calls, checks.clauses):
         if not call.is_trait:
             first, last = clauses[0].head
             lines = checks.sources.read(call.source).path.read_text(encoding="utf-8").splitlines()

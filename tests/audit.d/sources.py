@@ -5,19 +5,34 @@ from functools import cache
 from contracts import Source
 from definitions import Unread
 
+TESTS = set("""callers library_tests log_commands_tests log_files_answers log_text_answers merkle_cases mmcs_cases
+    rust_answers test_fixtures tlog_answers tlog_entries_answers tlog_entries_tests tlog_tests tlog_tree_tests""".split())
+# Crates, and modules that are private, whose functions are `pub` for other code of this repository alone.
+INTERNAL = set("""p3_merkle_core p3_merkle_digests p3_merkle_prover p3_merkle_verifier mmcs_engine
+    fohlazu/src/args fohlazu_c/src/verdict log_commands/src/files log_commands/src/texts log_commands/src/write
+    log_text/src/line log_text/src/text p3_hashes/src/many p3_merkle_hiding/src/join""".split())
+# The modules of internal crates that stand whole in public calls or programs.
+PUBLIC = set("""mmcs_engine/src/engine mmcs_engine/src/fault mmcs_engine/src/laws mmcs_engine/src/process""".split())
+
+
+def is_left_out(source):
+    """Whether a source has no public contract but those that others hand on."""
+    path = source.removeprefix("crates/").removesuffix(".rt")
+    return path not in PUBLIC and (path in INTERNAL or crate_of(source) in INTERNAL | TESTS)
+
 
 class Sources:
     """All sources, by their paths from the top."""
 
-    def __init__(self, top, listed):
-        self._top, self._listed = top, listed
+    def __init__(self, top):
+        self._top = top
         self.paths = [str(path.relative_to(top)) for path in sorted(top.glob("crates/*/src/**/*.rt"))]
         self.crates = {crate_of(path) for path in self.paths}
         self._handed_on = {}  # a source -> the names of it that others hand on by `pub use`; `*` is all of it
         self._own = {}  # a crate -> the public names of its sources that are not left out
         self._laws = set()
         for path in self.paths:
-            if not listed.is_left_out(path):
+            if not is_left_out(path):
                 source = self.read(path)
                 self._laws |= source.laws
                 self._own.setdefault(crate_of(path), set()).update(source.names)
@@ -31,13 +46,12 @@ class Sources:
 
     def public(self, path):
         """The public contracts of a source. What proves a law of a trait is none."""
-        is_left_out = self._listed.is_left_out(path)
-        if is_left_out and path not in self._handed_on and crate_of(path) not in self._own:
+        if is_left_out(path) and path not in self._handed_on and crate_of(path) not in self._own:
             return []
         source = self.read(path)
         contracts = [contract for contract in source.contracts if contract.is_public]
         contracts += [contract for trait, name, contract in source.given if (trait, name) not in self._laws]
-        if not is_left_out:
+        if not is_left_out(path):
             return contracts
         return [contract for contract in contracts if self._is_handed_on(path, contract)]
 
@@ -47,8 +61,6 @@ class Sources:
         names = names | {self.read(path).aliases.get(name) for name in names}
         if "*" in names or contract.owner in names:
             return True
-        if contract.block.kind in ("struct", "enum"):
-            return contract.owner in self._listed.types.get(path, [])
         return contract.block.kind in ("impl", "trait") and contract.owner in self._own.get(crate_of(path), set())
 
     def _note(self, path, said):
