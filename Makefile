@@ -140,7 +140,8 @@ help:
 #: make check        the gate: documents, then every proof, test and refused edit; 80 to 170 processor minutes
 #: make libraries    the proved libraries, for share/rattle-with: a crate over them is checked in a minute
 #: make dist         archives of the programs and of the libraries, with their checksums, in build/dist/
-#: make documents    compares docs/ with the sources: seconds
+#: make documents    compares docs/ with the sources: seconds. `tests/audit write` and `tests/strength` write what of it
+#:                   is generated
 #: make install      the programs, manual pages, completions and the libraries for C, below $DESTDIR$PREFIX; PREFIX is
 #:                   /usr/local if it is not given. FROM=build/quick installs what has no proof
 #: make uninstall    removes what was installed there
