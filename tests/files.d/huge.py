@@ -17,8 +17,6 @@ def wrongs(program, ran, status, printed, held=LITTLE):
     """What is wrong about a measured run."""
     if ran.status != status or ran.printed != printed:
         yield f"status {ran.status}, prints {len(ran.printed)} bytes, says {ran.said[:200]!r}"
-    if bool(ran.said) != bool(status):
-        yield f"says {ran.said[:200]!r}"
     if ran.held > held and not program.has_checks:
         yield f"holds {ran.held / MIB:.1f} MiB, expected at most {held / MIB:.1f}"
 
@@ -33,7 +31,9 @@ def tried(program, name, words, contents, status, printed, held=LITTLE):
         program.write(own, data)
     ran = program.measured(words)
     told(name, ran)
-    return name, list(wrongs(program, ran, status, printed, held))
+    is_said = bool(status) or words[0] == "verify" and not words[3:]
+    faults = [] if bool(ran.said) == is_said else [f"says {ran.said[:200]!r}"]
+    return name, [*wrongs(program, ran, status, printed, held), *faults]
 
 
 def claims(program):

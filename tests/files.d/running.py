@@ -74,8 +74,8 @@ class Program:
         """What is wrong about standard error, in lines."""
         refused = answer.refused
         if refused is None:
-            if said:
-                yield f"says {said!r}, expected nothing"
+            if said.decode() != answer.said + "\n" * bool(answer.said):
+                yield f"says {said!r}, expected {answer.said!r}"
         elif refused.name is None:
             if not said:
                 yield "says nothing of wrong words"

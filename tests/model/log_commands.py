@@ -26,6 +26,8 @@ ENTRIES |= {"an index is not below the size": "it has an entry past the last one
 ENTRIES |= {f"the proof has too {number} digests": f"it has too {number} digests" for number in ("few", "many")}
 ENTRIES |= {"one index has two leaf hashes": "it has two entries of one number"}
 ENTRIES |= {"the proof is of another root": "its entries or digests are not those of the checkpoint"}
+# What is said of entries that are verified without numbers.
+UNCOMPARED = "fohlazu: entry numbers were not compared: check that they are those you requested"
 
 
 class Refused(Exception):
@@ -39,9 +41,12 @@ class Refused(Exception):
 
 
 class Answer(NamedTuple):
+    """The exit status, what is printed, why the command is refused, and what is said where it is not."""
+
     status: int
     printed: bytes
     refused: Optional[Refused] = None
+    said: str = ""
 
 
 class Words(argparse.ArgumentParser):
@@ -250,7 +255,8 @@ def answer(words, contents):
     """What a command answers; `contents` tells the bytes of a file by its name."""
     try:
         command, told = command_of(words)
-        return Answer(0, ANSWERS[command](told, Inputs(contents)))
+        printed = ANSWERS[command](told, Inputs(contents))
+        return Answer(0, printed, None, UNCOMPARED if command == "verify" and not told.NUMBER else "")
     except Refused as refused:
         return Answer(refused.status, b"", refused)
 
@@ -265,9 +271,10 @@ def bytes_of(name):
 
 def main():
     found = answer(sys.argv[1:], bytes_of)
-    if found.refused:
-        print(found.refused.line, file=sys.stderr)
     sys.stdout.buffer.write(found.printed)
+    sys.stdout.flush()
+    if found.refused or found.said:
+        print(found.refused.line if found.refused else found.said, file=sys.stderr)
     sys.exit(found.status)
 
 

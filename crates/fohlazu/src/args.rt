@@ -105,6 +105,8 @@ pub(crate) fn parse_args<'a>(
         return Err(ArgsError::Refused("`-` is standard input, once at most"));
     }
     let command = args.command(alloc, name)?;
+    let lacks_numbers = matches!(command, Command::Verify { numbers: None, .. });
+    notes.lacks_numbers.set(lacks_numbers);
     if !command.is_lawful() {
         return Err(ArgsError::Refused(refusal_of(&command)));
     }

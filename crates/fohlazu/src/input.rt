@@ -9,13 +9,15 @@ use std::fs::File;
 use std::io;
 use std::io::{Error, ErrorKind, Read};
 
-/// What is noted while inputs are read.
+/// What is noted while arguments and inputs are read.
 #[derive(Default, Drop)]
 pub(crate) struct Notes {
     /// Why a read failed.
     pub(crate) failure: Cell<Option<Error>>,
     /// Whether a line of progress stands on standard error.
     pub(crate) is_shown: Cell<bool>,
+    /// Whether a proof is verified without numbers to compare its own with.
+    pub(crate) lacks_numbers: Cell<bool>,
 }
 
 impl Notes {
@@ -64,7 +66,11 @@ impl<'a> Input<'a> {
             return self.rt.stdin().read(buf);
         }
         if self.file.is_none() {
-            self.file = Some(open(self.rt, self.name)?);
+            // A regular file is to give as many bytes as it has now.
+            let file = File::open(self.rt, self.name)?;
+            let metadata = file.metadata()?;
+            let len = metadata.is_file().then_some(metadata.len()).unwrap_or(0);
+            self.file = Some((file, len));
         }
         let Some((file, left)) = &mut self.file else {
             return Ok(0);
@@ -76,14 +82,6 @@ impl<'a> Input<'a> {
         *left = left.saturating_sub(count as u64);
         Ok(count)
     }
-}
-
-/// Opens a file. A regular one is to give as many bytes as it has now.
-fn open(rt: &HostRuntime, name: &str) -> io::Result<(File, u64)> {
-    let file = File::open(rt, name)?;
-    let metadata = file.metadata()?;
-    let len = metadata.is_file().then_some(metadata.len()).unwrap_or(0);
-    Ok((file, len))
 }
 
 impl<'a> Read for Input<'a> {

@@ -84,10 +84,14 @@ fn run_to_file(
     }
 }
 
-/// Ends a run: where it failed, prints what the input is called, and why it is refused or a read of it failed.
+/// Ends a run: prints why it failed and what the input is called, or that the caller has to compare numbers.
 fn finish(rt: &HostRuntime, args: &Args<'_>, notes: &Notes, done: Result<(), Error>) -> ExitCode {
     notes.clear_progress(rt);
     let Err(error) = done else {
+        if notes.lacks_numbers.get() {
+            let why = "entry numbers were not compared: check that they are those you requested";
+            let _ = eprintln!(rt; "fohlazu: {why}");
+        }
         return ExitCode::SUCCESS;
     };
     let name = error.source().map(|source| Escaped(args.name_of(source)));
@@ -105,10 +109,7 @@ fn print_help(rt: &HostRuntime, error: &clap::Error) -> ExitCode {
         return refuse(rt, "out of memory");
     }
     if error.exit_code() == 0 {
-        return match error.print(rt) {
-            Ok(()) => ExitCode::SUCCESS,
-            Err(_) => ExitCode::from(2),
-        };
+        return ExitCode::from(error.print(rt).map_or(2, |()| 0));
     }
     let Ok(text) = format!(in rt.alloc(); "{error}") else {
         return refuse(rt, "out of memory");
