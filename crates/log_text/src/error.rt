@@ -19,7 +19,7 @@ pub enum TextError {
 }
 
 /// A wrong line.
-#[derive(Clone, Copy, Debug, PartialEq, Eq, Error)]
+#[derive(Clone, Copy, Debug, Error)]
 #[error("line {line}: expected {expected}{found}")]
 pub struct WrongLine {
     /// Its number, counted from 1: one more than there are line feeds ahead of it.
@@ -31,7 +31,7 @@ pub struct WrongLine {
 }
 
 /// What stands where something else is expected, if an editor or a transfer often does that to a text.
-#[derive(Clone, Copy, Debug, PartialEq, Eq, Error)]
+#[derive(Clone, Copy, Debug, Error)]
 pub enum Found {
     #[error(", but the text begins with a byte order mark")]
     ByteOrderMark,
@@ -47,7 +47,7 @@ pub enum Found {
 }
 
 /// What is expected of a line.
-#[derive(Clone, Copy, Debug, PartialEq, Eq, Error)]
+#[derive(Clone, Copy, Debug, Error)]
 pub enum Expected {
     #[error("a text of at most 1000000 bytes")]
     ShortNote,
