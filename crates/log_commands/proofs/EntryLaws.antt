@@ -1,8 +1,9 @@
 -- Proofs of entries are made, and are accepted.
 use Rattle.std.proofs.Common.{◌≡◌, ◌≤◌, ◌<◌, ◌-◌, ◌∙◌, ℕ, List, [], ◌∷◌, ap, arith, get_or, length, map, refl, subst}
 use Rattle.std.proofs.Common.{sym, take, None, Some, Ok, Option, ◌^◌, Bool, true, is_some, All, map-id, le-leb}
-use Rattle.std.proofs.Common.{get_or-take}
-use Rattle.std.proofs.lemmas.{Bool.eq-eqb, Simd.map-map, List.Folds.flat_map-map, List.get_or-map, List.length-map}
+use Rattle.std.proofs.Common.{get_or-take, inl, inr, ne_eqb, ◌↔◌}
+use Rattle.std.proofs.lemmas.{Bool.cases_eq, Bool.eq-eqb, Simd.map-map, List.Folds.flat_map-map, List.get_or-map}
+use Rattle.std.proofs.lemmas.List.{length-map}
 use Rattle.std.specs.{List.flat_map, Option.option_map}
 use Rattle.std.proofs.lemmas.List.Elements.{All-drop, All-head, All-map, All-tail, All-take}
 use Rattle.p3_merkle_core.specs.Refusals.{first_of, ok_unless}
@@ -19,7 +20,8 @@ use Rattle.log_files.specs.{Entries.entries_in, Entries.entry_at, declared.cut.C
 use Rattle.log_commands.specs.{Commands.prove_file, Commands.AreNumbers, Errors.entries_error, Outcomes.is_printable}
 use Rattle.log_commands.specs.Outcomes.{said_by, checkpoint_of, entries_under, entry_refusal, number_refusal, requested}
 use Rattle.log_commands.specs.Outcomes.{first_other, numbers_refusal, printed, proof_over, proof_refusal, prove_under}
-use Rattle.log_commands.specs.Laws.{printed_of, AreRequested, CanSay, ProofsAreAccepted, ProofsAreProved}
+use Rattle.log_commands.specs.Laws.{printed_of, AreRequested, CanSay, NumbersAreCompared, ProofsAreAccepted}
+use Rattle.log_commands.specs.Laws.{ProofsAreProved}
 use Rattle.log_commands.specs.declared.{error.Source.TheVariants.Checkpoint, verify.Print.Print}
 use Rattle.log_commands.proofs.{FileLaws.prints, ProveFacts.numbers_inside, ProveFacts.within_size}
 use Rattle.log_commands.proofs.LawFacts.{are_under, digest_is, first_under, none_of, ok_none, root_is, said_ok, stepped}
@@ -72,10 +74,23 @@ map_same f g (x ∷ xs) same =
 abbrev entry_of : List (List ℕ) → ℕ → EntryFields
 entry_of entries n = record { number = n; bytes = entry_at entries (n - 1) }
 
--- the requested numbers themselves are not refused
-same_numbers : (ns : List ℕ) → first_other ns ns ≡ None
-same_numbers [] = refl
-same_numbers (n ∷ ns) = rw (eq-eqb n n refl) (same_numbers ns)
+-- numbers are not refused exactly if they are the requested ones
+same_numbers : (got ns : List ℕ) → (first_other got ns ≡ None) ↔ (got ≡ ns)
+same_numbers [] [] = (λ none. refl, λ same. refl)
+same_numbers [] (n ∷ ns) = (λ none. absurd cc, λ same. absurd cc)
+same_numbers (m ∷ got) [] = (λ none. absurd cc, λ same. absurd cc)
+same_numbers (m ∷ got) (n ∷ ns) =
+    elim (cases_eq m n) [
+      | inl first ↦
+          rw (eq-eqb m n first) (
+            λ none. (λ i. first i ∷ (same_numbers got ns).0 none i),
+            λ same. (same_numbers got ns).1 cc,
+          )
+      | inr other ↦ rw (ne_eqb m n other) (λ none. absurd cc, λ same. absurd (other cc))
+    ]
+
+pub numbers_are_compared : NumbersAreCompared
+numbers_are_compared entries = same_numbers (map (λ (e : EntryFields). e.number) entries)
 
 module _ (entries : List (List ℕ)) (numbers : List ℕ) where
   requested_are : (asked : Option (List ℕ)) → AreRequested asked numbers →
@@ -84,7 +99,7 @@ module _ (entries : List (List ℕ)) (numbers : List ℕ) where
   requested_are (Some ns) are =
       ap (λ ms. first_other ms ns)
       (map-map (λ (e : EntryFields). e.number) (entry_of entries) numbers ∙ map-id numbers ∙ sym are)
-      ∙ same_numbers ns
+      ∙ (same_numbers ns ns).1 refl
 
   abbrev leaves : List (List ℕ)
   leaves = map (leaf_hash sha256) entries

@@ -5,13 +5,13 @@ use Rattle.std.specs.List.{concat}
 use Rattle.tlog_tree.specs.Parts.{HaveSize}
 use Rattle.log_text.specs.Lines.{is_origin, part_origin}
 use Rattle.log_text.specs.Reading.{checkpoint_in, part_in}
-use Rattle.log_text.specs.Texts.{CheckpointFields}
+use Rattle.log_text.specs.Texts.{CheckpointFields, EntryFields}
 use Rattle.log_files.specs.Entries.{entries_in, entry_at, rest_of, IsCut}
 use Rattle.log_files.specs.declared.cut.Cut.{Cut}
 use Rattle.log_files.specs.declared.cut.Cut.TheVariants.{Blocks as InBlocks, Lines as InLines}
 use Rattle.log_commands.specs.Commands.{prove_file, prove_file_growth, AreNumbers}
-use Rattle.log_commands.specs.Outcomes.{checkpoint_of, join_outcome, joined, parts_in, printed, seal_outcome}
-use Rattle.log_commands.specs.Outcomes.{verify_consistency_outcome, verify_outcome}
+use Rattle.log_commands.specs.Outcomes.{checkpoint_of, join_outcome, joined, numbers_refusal, parts_in, printed}
+use Rattle.log_commands.specs.Outcomes.{seal_outcome, verify_consistency_outcome, verify_outcome}
 use Rattle.log_commands.specs.declared.verify.Print.{Print}
 use Rattle.log_commands.specs.declared.verify.Print.TheVariants.{Blocks, Lines, Raw}
 
@@ -99,6 +99,12 @@ GrowthIsProved =
 abbrev pub AreRequested : Option (List ℕ) → List ℕ → Type 0
 AreRequested None numbers = Unit {0}
 AreRequested (Some requested) numbers = requested ≡ numbers
+
+-- the entries of a proof are refused for their numbers exactly if these are not the requested ones, in their order
+abbrev pub NumbersAreCompared : Type 0
+NumbersAreCompared =
+    (entries : List EntryFields) (numbers : List ℕ) →
+    (numbers_refusal (Some numbers) entries ≡ None) ↔ (map (λ e. e.number) entries ≡ numbers)
 
 -- the entries of a file that is cut so can be printed so
 abbrev pub FitsCut : Print → Cut → Type 0

@@ -1,7 +1,8 @@
 //! What the outcomes say of files, as the contracts of calls that do nothing.
 
 ghost use Rattle.log_commands.specs.Laws.{FilesGrow, GrowthIsAccepted, GrowthIsProved, JoinsAreReadAgain, PartsJoin};
-ghost use Rattle.log_commands.specs.Laws.{ProofsAreAccepted, ProofsAreProved, ProofsStay, SealsAreReadAgain};
+ghost use Rattle.log_commands.specs.Laws.{NumbersAreCompared, ProofsAreAccepted, ProofsAreProved, ProofsStay};
+ghost use Rattle.log_commands.specs.Laws.{SealsAreReadAgain};
 
 /// What `seal` prints is read again, as the checkpoint of the file's entries or as that part of a file.
 pub fn seals_are_read_again()
@@ -32,9 +33,11 @@ pub fn growth()
 {}
 
 /// Under a checkpoint of first entries of a file `prove` prints a proof of any of them, the same once the file has
-/// grown, and whatever it prints is accepted by `verify`, which prints these entries.
+/// grown, and whatever it prints is accepted by `verify`, which prints these entries. Numbers of entries are refused
+/// exactly if they are not the requested ones, in their order.
 pub fn proofs()
     ensures accepted { ProofsAreAccepted }
     ensures proved { ProofsAreProved }
     ensures stay { ProofsStay }
+    ensures compared { NumbersAreCompared }
 {}
