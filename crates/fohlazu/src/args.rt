@@ -115,7 +115,10 @@ pub(crate) fn parse_args<'a>(
 
 /// Checks that each argument that begins with `-` is an option of the command. What clap says of others misleads.
 fn check_options(words: &[String]) -> Result<(), ArgsError<'_>> {
-    let ids = ids_of(words.get(1).map_or("", |word| word.as_str()));
+    let command = words.get(1).map_or("", |word| word.as_str());
+    let row = COMMANDS.into_iter().find(|row| row.0 == command);
+    // Where there is no such command, one option is left.
+    let ids = row.map_or("version", |row| row.3);
     for word in words.iter().skip(1) {
         let word = word.as_str();
         if word == "--" {
@@ -134,16 +137,6 @@ fn check_options(words: &[String]) -> Result<(), ArgsError<'_>> {
         }
     }
     Ok(())
-}
-
-/// The arguments of the command of this name. Where there is none, one option is left.
-fn ids_of(command: &str) -> &'static str {
-    for (name, _, _, ids) in COMMANDS {
-        if name == command {
-            return ids;
-        }
-    }
-    "version"
 }
 
 /// Why a command is not run.

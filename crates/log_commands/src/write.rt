@@ -15,10 +15,7 @@ pub(crate) fn write_text<Dst: Write>(output: &mut Dst, text: &[u8]) -> Result<()
     let mut rest = text;
     for _turn in 0..u64::MAX {
         if rest.is_empty() {
-            return match output.flush() {
-                Ok(()) => Ok(()),
-                Err(_) => Err(Error::Write),
-            };
+            return output.flush().map_err(|_| Error::Write);
         }
         match output.write(rest) {
             Ok(0) => return Err(Error::Write),
