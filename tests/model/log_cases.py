@@ -77,7 +77,43 @@ def whole_and_damaged(source, kind, words, contents, few):
 
 
 def numbers_of(source, size, most=5):
-    return [source.randint(1, size) for _ in range(source.randint(1, most))]
+    """Some numbers, or a run of them."""
+    numbers = [source.randint(1, size) for _ in range(source.randint(1, most))]
+    return numbers if source.randrange(3) else [*range(numbers[0], min(numbers[0] + most, size + 1))]
+
+
+def spelled(source, numbers):
+    """Words for these numbers: singly, and runs of them as ranges, some with commas between."""
+    words = []
+    for number in numbers:
+        first, _, last = (words or [""])[-1].rpartition(",")[2].partition("-")
+        is_next = first and int(last or first) == number - 1
+        if is_next and source.randrange(8):
+            words[-1] = words[-1].removesuffix(f"-{last}") + f"-{number}"
+            continue
+        word = source.choice([f"{number}", f"{number}", f"{number}-{number}", f"0{number}"])
+        if words and source.randrange(2):
+            words[-1] += f",{word}"
+        else:
+            words.append(word)
+    return words
+
+
+def strange(source, size):
+    """Words for numbers of a log of so many entries, most of which are refused: ranges that go down, begin with 0, have
+    no end, pass the last entry, the greatest number or the most that are taken; and what is no number."""
+    low, high = sorted(source.sample(range(1, size + 9), 2))
+    most, many = logs.MOST, 10**8
+    return source.choice([
+        f"{high}-{low}", f"{low}-{high},{high}-{low}", f"{low},{high}", f"{high},{low}", f"{low}-{high} {high}",
+        f"0-{high}", "0-0", f"{low}-0", f"0,{low}", f"{low}-", f"-{high}", f"{low}-{high}-{high}", f"{low}--{high}",
+        f"{low}-{high}-", f"{low},", f",{low}", f"{low},,{high}", ",", "-", f"{size}-{size + 1}", f"1-{size + 1}",
+        f"{low}-{size + 100000}", f"{size + 1}", f"{most}", f"{most}-{most}", f"{most + 1}", f"{most}-{most + 1}",
+        f"{low}-{most}", f"{low}-{most + 1}", f"{1 << 64}-{(1 << 64) + low}", f"{10**23}", f"{low}-{low + many}",
+        f"{low} 1-{many}", f"{low},{high}-{high + many - 1}", f"all {low}", f"{low} all", "all,1", "all-2", "all all",
+        "ALL", f"+{low}-{high}", f"{low}-+{high}", f"{low}..{high}", f"{low}:{high}", f"{low}\u2013{high}",
+        f"{low}-{high}\u0661", f"0x{low}", f"{low}-{high}e1",
+    ]).split()
 
 
 def near(source, numbers):
@@ -90,7 +126,7 @@ def near(source, numbers):
         source.shuffle(numbers)
     elif kind == 2:
         numbers.append(source.choice(numbers))
-    return [str(number) for number in numbers]
+    return spelled(source, numbers) if source.randrange(2) else [*map(str, numbers)]
 
 
 def seals(source, limit, few):
@@ -118,8 +154,11 @@ def proves(source, limit, few):
     numbers = numbers_of(source, size)
     contents = {"checkpoint": published(source, checkpoint), "log": data}
     words = ["prove", *cut, "checkpoint", "log"]
-    yield from whole_and_damaged(source, "a file", [*words, *map(str, numbers)], contents, few)
+    yield from whole_and_damaged(source, "a file", [*words, *spelled(source, numbers)], contents, few)
     yield Case("other numbers", [*words, *near(source, numbers)], contents)
+    yield Case("all, whole", [*words, "all"], contents)
+    for _ in range(few or SAMPLE):
+        yield Case("strange numbers", [*words, *strange(source, size)], contents)
     yield Case("a file that has grown", [*words, *map(str, numbers)], {**contents, "log": data + b"more\nand more"})
     yield Case("cut otherwise", ["prove", *source.choice(CUTS), *words[len(cut) + 1 :], "1"], contents)
 
@@ -150,9 +189,15 @@ def verifies(source, limit, few):
     words = ["verify", *ways, "checkpoint", "proof"]
     found, digests = log_texts.entries(proof)
     kind = "entries" if ways or all(b"\n" not in data for _, data in found) else "line feeds inside"
-    for asked in [[str(number) for number in numbers]] + ([[]] if not ways else []):
-        yield from whole_and_damaged(source, kind if asked else f"all {kind}", [*words, *asked], contents, few)
+    everything = source.choice([[], ["all"]])
+    yield from whole_and_damaged(source, kind, [*words, *spelled(source, numbers)], contents, few)
+    if not ways:
+        yield from whole_and_damaged(source, f"all {kind}", [*words, *everything], contents, few)
     yield Case("other numbers", [*words, *near(source, numbers)], contents)
+    for _ in range(few or SAMPLE):
+        yield Case("strange numbers", [*words, *strange(source, max(numbers))], contents)
+    yield Case("all, printed otherwise", ["verify", *source.choice([["--raw"], ["--blocks", "3"]]), *words[-2:],
+                                          *everything], contents)
     blocks = ["verify", "--blocks", str(source.randrange(1, 70)), *words[-2:]]
     yield Case("printed otherwise", [*blocks, *map(str, numbers)], contents)
     yield Case("raw", ["verify", "--raw", *words[-2:], *map(str, numbers[: source.choice([1, 1, 2])])], contents)

@@ -6,6 +6,7 @@
 import argparse
 import os
 import sys
+from itertools import chain, islice
 from typing import NamedTuple, Optional
 
 import log_files
@@ -14,6 +15,8 @@ import logs
 from log_texts import PART, checkpoint_text, consistency_text, entries_text
 
 MOST_BYTES = 1 << 30
+# How many entries may be requested.
+MOST_NUMBERS = 10**8
 INPUTS = {"seal": ["FILE"], "prove": ["CHECKPOINT", "FILE"], "verify": ["CHECKPOINT", "PROOF"]}
 INPUTS |= {"prove-consistency": ["OLD", "NEW", "FILE"], "verify-consistency": ["OLD", "PROOF"]}
 COMMANDS = [*INPUTS, "join"]
@@ -65,6 +68,17 @@ def number(least, most):
     return read
 
 
+def ranges(words):
+    """The ranges of numbers that words request: 3, 3-7 or 3,7. None are for all."""
+    found = []
+    for part in ",".join(words).split(",") if words not in ([], ["all"]) else []:
+        first, *last = map(number(1, logs.MOST), part.split("-", 1))
+        found.append(range(first, max(last, default=first) + 1))
+    if not all(found) or sum(map(len, found)) > MOST_NUMBERS:
+        raise ValueError(words)
+    return found
+
+
 def words_of(command):
     """The words that a command takes."""
     words = Words(allow_abbrev=False, add_help=False)
@@ -86,7 +100,7 @@ def words_of(command):
     if command == "join":
         words.add_argument("PART", nargs="+")
     if command in ("prove", "verify"):
-        words.add_argument("NUMBER", nargs="+" if command == "prove" else "*", type=number(1, 1 << 62))
+        words.add_argument("NUMBER", nargs="+" if command == "prove" else "*")
     return words
 
 
@@ -103,7 +117,11 @@ def command_of(words):
         raise Refused(2, None, "standard input twice, or no origin")
     if command in ("seal", "join") and not log_texts.is_origin(told.origin.encode()):
         raise Refused(2, None, "no origin")
-    if command == "verify" and ((told.blocks and not told.NUMBER) or (told.raw and len(told.NUMBER) != 1)):
+    try:
+        told.ranges = ranges(getattr(told, "NUMBER", []))
+    except ValueError:
+        raise Refused(2, None, "no numbers") from None
+    if command == "verify" and ((told.blocks and not told.ranges) or (told.raw and sum(map(len, told.ranges)) != 1)):
         raise Refused(2, None, "no numbers, or too many")
     return command, told
 
@@ -163,12 +181,15 @@ def seal(told, inputs):
 
 def prove(told, inputs):
     _, size, root = inputs.checkpoint(told.CHECKPOINT)
-    for name in told.NUMBER:
-        refuse_if(name > size, told.CHECKPOINT, f"it has {size} entries, and no entry {name}")
+    names = [*(told.ranges or [range(1, max(size, 1) + 1)])]
+    for each in names:
+        past = max(each.start, size + 1)
+        refuse_if(past in each, told.CHECKPOINT, f"it has {size} entries, and no entry {past}")
     log, found = tree_under(told, inputs.bytes(told.FILE), size, root)
-    nodes = sorted(logs.entry_nodes([name - 1 for name in told.NUMBER], 0, size))
+    names = [*chain(*names)]
+    nodes = sorted(logs.entry_nodes([name - 1 for name in names], 0, size))
     digests = [log.root(first, last) for _, _, first, last in nodes]
-    return entries_text([(name, found[name - 1]) for name in told.NUMBER], digests)
+    return entries_text([(name, found[name - 1]) for name in names], digests)
 
 
 def is_printable(told, size, name, data):
@@ -191,7 +212,8 @@ def verify(told, inputs):
     _, size, root = inputs.read(2, told.CHECKPOINT, text, log_texts.checkpoint)
     found, digests = inputs.read(1, told.PROOF, proof, log_texts.entries)
     names = [name for name, _ in found]
-    refuse_if(told.NUMBER and names != told.NUMBER, told.PROOF, other_number(names, told.NUMBER))
+    wanted = [*islice(chain(*told.ranges), len(names) + 1)]
+    refuse_if(wanted and names != wanted, told.PROOF, other_number(names, wanted))
     for name, data in found:
         why = f"entry {name} is no line, or no block of this size: `--raw` prints one entry byte for byte"
         refuse_if(not is_printable(told, size, name, data), told.PROOF, why)
@@ -199,7 +221,7 @@ def verify(told, inputs):
     verdict = logs.entries(size, [name - 1 for name in names], leaves, digests, root)
     refuse_if(verdict != "accepted", told.PROOF, ENTRIES.get(verdict))
     end = b"" if told.blocks or told.raw else b"\n"
-    return b"".join((b"" if told.NUMBER else b"%d\t" % name) + data + end for name, data in found)
+    return b"".join((b"" if told.ranges else b"%d\t" % name) + data + end for name, data in found)
 
 
 def compare(name, old, new):
@@ -256,7 +278,7 @@ def answer(words, contents):
     try:
         command, told = command_of(words)
         printed = ANSWERS[command](told, Inputs(contents))
-        return Answer(0, printed, None, UNCOMPARED if command == "verify" and not told.NUMBER else "")
+        return Answer(0, printed, None, UNCOMPARED if command == "verify" and not told.ranges else "")
     except Refused as refused:
         return Answer(refused.status, b"", refused)
 
