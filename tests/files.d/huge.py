@@ -44,7 +44,7 @@ def claims(program):
     prove, verify = ["prove", "checkpoint", "file"], ["verify", "checkpoint", "proof", "2"]
     for size in (most, most + 1, LAST + 1):
         huge = {**contents, "checkpoint": checkpoint_text(b"huge", size, bytes(32))}
-        for words in ([*prove, "2"], [*prove, str(most)], [*prove, "--blocks", "1073741824", "2"],
+        for words in ([*prove, "2"], [*prove, str(most)], [*prove, "--blocks", "1073741824", "2"], [*prove, "all"],
                       [*prove, f"1-{10**8 + 1}"], verify):
             yield compared(program, f"{words[0]}, {size} entries", words, huge)
     heads = [b"entries %d" % most, b"entries %d" % LAST, b"entry 2 %d" % most, b"entry 2 %d" % LAST,

@@ -15,8 +15,9 @@ import logs
 from log_texts import PART, checkpoint_text, consistency_text, entries_text
 
 MOST_BYTES = 1 << 30
-# How many entries may be requested.
+# How many entries may be requested, and what is said of more.
 MOST_NUMBERS = 10**8
+TOO_MANY = f"more than {MOST_NUMBERS} entries at once"
 INPUTS = {"seal": ["FILE"], "prove": ["CHECKPOINT", "FILE"], "verify": ["CHECKPOINT", "PROOF"]}
 INPUTS |= {"prove-consistency": ["OLD", "NEW", "FILE"], "verify-consistency": ["OLD", "PROOF"]}
 COMMANDS = [*INPUTS, "join"]
@@ -181,6 +182,7 @@ def seal(told, inputs):
 
 def prove(told, inputs):
     _, size, root = inputs.checkpoint(told.CHECKPOINT)
+    refuse_if(not told.ranges and size > MOST_NUMBERS, told.CHECKPOINT, TOO_MANY)
     names = [*(told.ranges or [range(1, max(size, 1) + 1)])]
     for each in names:
         past = max(each.start, size + 1)

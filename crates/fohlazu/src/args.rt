@@ -6,6 +6,7 @@ ghost use Rattle.log_commands.specs.Commands.{IsLawful};
 use crate::escaped::Escaped;
 use crate::input::{Input, Notes};
 use clap::{Arg, ArgMatches, Command as Syntax, arg, value_parser};
+use log_commands::prove::MOST_NUMBERS;
 use log_commands::{Command, Cut, PART_ORIGIN, PartialLine, Print, Source};
 use std::alloc::{AllocError, Global};
 use std::path::Path;
@@ -284,7 +285,7 @@ impl<'a> Args<'a> {
 fn add_numbers<'a>(numbers: &mut Vec<usize>, word: &'a str) -> Result<(), ArgsError<'a>> {
     for range in word.split(',') {
         let (first, last) = range_of(range).map_err(|why| ArgsError::Word(Escaped(word), why))?;
-        if numbers.len().saturating_add(last - first) >= 100_000_000 {
+        if numbers.len().saturating_add(last - first) >= MOST_NUMBERS {
             let why = "more than 100000000 entries at once";
             return Err(ArgsError::Word(Escaped(word), why));
         }

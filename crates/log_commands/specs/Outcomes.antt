@@ -25,7 +25,8 @@ use Rattle.log_commands.specs.declared.error.Refusal.TheVariants.{Consistency, E
 use Rattle.log_commands.specs.declared.error.Refusal.TheVariants.{MissingEntry, NumberPastEnd, OtherEntries}
 use Rattle.log_commands.specs.declared.error.Refusal.TheVariants.{OtherNumber, OtherOldEntries, OtherOldSize}
 use Rattle.log_commands.specs.declared.error.Refusal.TheVariants.{OtherOrigin, PartSize, SmallerSize, TooFewEntries}
-use Rattle.log_commands.specs.declared.error.Refusal.TheVariants.{TooManyEntries, TwoHistories, UnrequestedEntry}
+use Rattle.log_commands.specs.declared.error.Refusal.TheVariants.{TooManyEntries, TooManyNumbers, TwoHistories}
+use Rattle.log_commands.specs.declared.error.Refusal.TheVariants.{UnrequestedEntry}
 use Rattle.log_commands.specs.declared.error.Source.{Source}
 use Rattle.log_commands.specs.declared.error.Source.TheVariants.{Checkpoint, File, New, Old, Part, Proof}
 use Rattle.log_commands.specs.declared.verify.Print.{Print}
@@ -109,11 +110,16 @@ seal_outcome origin cut file =
 abbrev pub all_numbers : ℕ → List ℕ
 all_numbers size = range_with_len 1 (max size 1)
 
+-- why all entries of a checkpoint are not proved at once: they are too many
+abbrev pub all_refusal : ℕ → Option Error
+all_refusal size = unless (nat_le size 100000000) (Refused Checkpoint TooManyNumbers)
+
 -- the numbers of entries to prove: the requested ones, or those of all entries of a checkpoint
 abbrev pub numbers_under : Option (List ℕ) → List ℕ → Result (List ℕ) Error
 numbers_under (Some numbers) checkpoint = Ok numbers
 numbers_under None checkpoint =
-    and_then (said_by Checkpoint (checkpoint_in checkpoint)) (λ c. Ok (all_numbers c.size))
+    and_then (said_by Checkpoint (checkpoint_in checkpoint))
+    (λ c. ok_unless (all_refusal c.size) (all_numbers c.size))
 
 -- why an entry is not proved: the checkpoint does not have it
 abbrev pub number_refusal : ℕ → ℕ → Option Error

@@ -138,8 +138,9 @@ fn is_print(print: Print, numbers: &Option<Vec<usize>>) -> bool
 ///
 /// # Errors
 ///
-/// Those of the command's own call; `Read` where an input cannot be read; `Write` if the output cannot be written. No
-/// other error leaves anything written.
+/// Those of the command's own call; `TooManyNumbers` for all entries of a checkpoint with more than `MOST_NUMBERS`;
+/// `Read` where an input cannot be read; `Write` if the output cannot be written. No other error leaves anything
+/// written.
 pub fn run<Src: Read + Drop, Dst: Write>(
     alloc: Global,
     command: Command<Src>,

@@ -62,6 +62,9 @@ pub enum Refusal {
         /// How many entries the checkpoint has.
         size: usize,
     },
+    /// A checkpoint with more entries than are proved at once, where all are requested.
+    #[error("more than 100000000 entries at once")]
+    TooManyNumbers,
     /// A file that ends inside a line.
     #[error("ends inside a line: `--whole-lines` leaves it out, `--partial` takes it as an entry")]
     EndsInsideLine,

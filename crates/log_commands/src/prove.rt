@@ -23,6 +23,9 @@ use std::alloc::{AllocError, Global};
 use std::io::Read;
 use tlog_entries::entry_places;
 
+/// The most entries that a command takes at once.
+pub const MOST_NUMBERS: usize = 100_000_000;
+
 /// The proof of entries of a file under its checkpoint, by their numbers, counted from 1, in the order of these, also
 /// repeated. The file may have grown: of it as many entries are read as the checkpoint has, in one pass.
 ///
@@ -52,7 +55,7 @@ pub fn prove<Src: Read>(
     prove_under(alloc, cut, &checkpoint, numbers, file)
 }
 
-/// The numbers of entries to prove: those of all entries of a checkpoint if none are given.
+/// The numbers of entries to prove: those of all entries of a checkpoint, if it has not too many, where none are given.
 pub(crate) fn numbers_of(
     alloc: Global,
     numbers: Option<Vec<usize>>,
@@ -67,6 +70,9 @@ pub(crate) fn numbers_of(
         return Ok(numbers);
     }
     let checkpoint = read_checkpoint(Source::Checkpoint, checkpoint)?;
+    if checkpoint.size > MOST_NUMBERS {
+        return Err(Error::Refused(Source::Checkpoint, Refusal::TooManyNumbers));
+    }
     Ok(all_numbers(alloc, checkpoint.size)?)
 }
 
