@@ -29,6 +29,16 @@ impl From<AllocError> for Fault {
     }
 }
 
+/// What a call answers, where it is compared with other answers. Fails where memory ran out.
+pub fn compared<A: Drop>(
+    answer: Result<A, MerkleTreeError>,
+) -> Result<Result<A, MerkleTreeError>, MerkleTreeError> {
+    match answer {
+        Err(MerkleTreeError::OutOfMemory) => Err(MerkleTreeError::OutOfMemory),
+        answer => Ok(answer),
+    }
+}
+
 /// The fields of a line, of which the first `next` have been read. A field that can't be read has an empty value, and
 /// its [`Reader`] keeps the reason.
 #[derive(Drop)]

@@ -42,11 +42,13 @@ mod widest;
 use crate::answered::answered;
 use crate::case::Case;
 use crate::fields::Fault;
+use crate::reader::NO_MEMORY;
 use crate::scheme::{ROOT, fold_scheme};
 use crate::text::Answer;
-use p3_merkle_tree::CapRule;
+use p3_merkle_tree::{CapRule, MerkleTreeError};
 use std::alloc::Global;
 use std::io;
+use std::io::ErrorKind;
 use std::process::ExitCode;
 
 /// Writes what the calls of a kind of case answer at an arity.
@@ -154,19 +156,21 @@ fn expected(case: &Case<'_>) -> Answer {
 
 /// Answers a case: by an answer, or by the text of what is refused or wrong. Else why it can't be read.
 fn answer_or_refuse(case: &mut Case<'_>) -> Result<(), &'static str> {
-    if let Err(fault) = answer(case) {
+    let answered = answer(case);
+    if let Some(reason) = case.fields.reader.fault() {
+        return Err(reason);
+    }
+    if let Err(fault) = answered {
         // What has been written before a refusal is no part of it.
         case.answer = Answer::new(case.alloc);
         match &fault {
+            Fault::Refused(MerkleTreeError::OutOfMemory) => return Err(NO_MEMORY),
             Fault::Refused(error) => case.answer.error(error),
             Fault::Wrong(way) => case.answer.push(way),
             Fault::Unreadable(reason) => return Err(reason),
         }
     }
-    match case.fields.reader.fault() {
-        Some(reason) => Err(reason),
-        None => Ok(()),
-    }
+    Ok(())
 }
 
 /// Whether a case is answered as its line says.
@@ -174,7 +178,7 @@ fn is_as_expected(case: &mut Case<'_>) -> Result<bool, &'static str> {
     answer_or_refuse(case)?;
     let expected = expected(case);
     if case.answer.is_cut() || expected.is_cut() {
-        return Err("there is no memory");
+        return Err(NO_MEMORY);
     }
     if expected.as_str().is_empty() {
         return Err("the answer is missing");
@@ -194,7 +198,7 @@ fn wrong_answer(alloc: Global, pieces: &[&str]) -> Result<Option<Answer>, &'stat
     Ok(if is_right { None } else { Some(case.answer) })
 }
 
-/// Checks a case, and prints its line where it is wrong or can't be read.
+/// Checks a case, and prints its line where it is wrong or can't be read. Fails where memory ran out.
 fn is_right(rt: &HostRuntime, number: usize, line: &str) -> io::Result<bool> {
     let pieces: Vec<&str> = line.split('|').collect(rt.alloc())?;
     match wrong_answer(rt.alloc(), &pieces) {
@@ -203,6 +207,7 @@ fn is_right(rt: &HostRuntime, number: usize, line: &str) -> io::Result<bool> {
             let got = got.as_str();
             println!(rt; "line {number}: {line}\n  is answered: {got}")?
         }
+        Err(reason) if reason == NO_MEMORY => return Err(io::Error::from(ErrorKind::OutOfMemory)),
         Err(reason) => println!(rt; "line {number}: {line}\n  can't be read: {reason}")?,
     }
     Ok(false)

@@ -1,7 +1,7 @@
 //! How cases try the scheme without salts.
 
 use crate::committed::{Committed, OpenedLeaves, accepted};
-use crate::fields::{Fault, Fields};
+use crate::fields::{Fault, Fields, compared};
 use crate::openings::{LentLeaves, Statement};
 use crate::scheme::{FoldCap, FoldCommitted, FoldScheme};
 use crate::text::Answer;
@@ -96,8 +96,9 @@ impl<const N: usize> Tried for FoldScheme<N> {
         statement: &Statement,
         opening: LentLeaves<'_, MultiProof>,
         verdict: &Result<(), MerkleTreeError>,
-    ) -> bool {
-        *verdict == restored_verdict(alloc, self, statement, opening)
+    ) -> Result<bool, MerkleTreeError> {
+        let restored = compared(restored_verdict(alloc, self, statement, opening))?;
+        Ok(*verdict == restored)
     }
 
     fn check_paths(

@@ -7,6 +7,9 @@ ghost use Rattle.std.specs.Prelude.{◌%◌, ◌<◌};
 use p3_support::matrix::{Dimensions, RowMajorMatrix};
 use std::alloc::Global;
 
+/// The reason why a line whose memory ran out can't be answered.
+pub const NO_MEMORY: &str = "there is no memory";
+
 /// Reads values in texts. What can't be read is an empty value or a part of one, and the reason is kept, so that a line
 /// is judged once, when all of it has been read.
 #[derive(Drop)]
@@ -21,14 +24,16 @@ impl Reader {
         Reader { alloc, fault: None }
     }
 
-    /// Why something could not be read, where that was so: the last reason.
+    /// Why something could not be read, where that was so: the first reason.
     pub fn fault(&self) -> Option<&'static str> {
         self.fault
     }
 
-    /// Keeps the reason why something can't be read.
+    /// Keeps the reason why something can't be read, where there is none yet.
     pub fn fail(&mut self, reason: &'static str) {
-        self.fault = Some(reason);
+        if self.fault.is_none() {
+            self.fault = Some(reason);
+        }
     }
 
     /// Keeps the reason why something can't be read, unless it can.
@@ -46,7 +51,7 @@ impl Reader {
     /// Adds a value to others.
     pub fn push<T: Drop>(&mut self, values: &mut Vec<T>, value: T) {
         if values.push(value).is_err() {
-            self.fail("there is no memory");
+            self.fail(NO_MEMORY);
         }
     }
 
@@ -227,7 +232,7 @@ impl Reader {
             self.check(is_as_wide, "rows of a matrix have different widths");
             width = words.len();
             if values.extend_from_slice(&words).is_err() {
-                self.fail("there is no memory");
+                self.fail(NO_MEMORY);
             }
         }
         self.matrix_from(values, width)

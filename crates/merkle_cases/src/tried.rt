@@ -40,7 +40,7 @@ pub trait Tried: Mmcs<u32, Rows, Commitment = FoldCap, Error = MerkleTreeError> 
         statement: &Statement,
         opening: LentLeaves<'_, Self::MultiProof>,
         verdict: &Result<(), MerkleTreeError>,
-    ) -> bool;
+    ) -> Result<bool, MerkleTreeError>;
 
     /// How many digests an accepted opening of several leaves has. Fails where it has other paths or another number of
     /// digests than it should.

@@ -2,7 +2,7 @@
 
 use crate::case::Case;
 use crate::extract::collision_of_leaves;
-use crate::fields::Fault;
+use crate::fields::{Fault, compared};
 use crate::openings::{LeavesOpening, Statement, leaf_in, leaves_in};
 use crate::tried::Tried;
 use p3_merkle_tree::{BatchOpeningRef, MerkleTreeError};
@@ -31,6 +31,7 @@ pub fn verify<S: Tried>(case: &mut Case<'_>, scheme: &S) -> Result<(), Fault> {
     let verdict = scheme.verify_batch(case.alloc, cap, dimensions, leaf.index, lent);
     let indices = [leaf.index, leaf.index];
     let found = scheme.extract(case.alloc, cap, dimensions, indices, lent, lent);
+    let (verdict, found) = (compared(verdict)?, compared(found)?);
     if !agrees(&verdict, &found) {
         return Err(Fault::Wrong("the extraction is answered otherwise"));
     }
@@ -63,11 +64,9 @@ fn extracts<S: Tried>(
     first: &LeavesOpening<S::MultiProof>,
     second: &LeavesOpening<S::MultiProof>,
     verdict: &Result<(), MerkleTreeError>,
-) -> bool {
-    agrees(
-        verdict,
-        &collision_of_leaves(alloc, scheme, statement, first, second),
-    )
+) -> Result<bool, MerkleTreeError> {
+    let found = compared(collision_of_leaves(alloc, scheme, statement, first, second))?;
+    Ok(agrees(verdict, &found))
 }
 
 /// How many queries an opening has at most whose queries are compared each with each.
@@ -81,18 +80,20 @@ fn extracts_alike<S: Tried>(
     statement: &Statement,
     opening: &LeavesOpening<S::MultiProof>,
     verdict: &Result<(), MerkleTreeError>,
-) -> bool {
+) -> Result<bool, MerkleTreeError> {
     let none = LeavesOpening {
         indices: Vec::new(alloc),
         rows: Vec::new(alloc),
         proof: S::proof_of_none(alloc),
     };
     let is_long = opening.indices.len() > LONG;
-    let of_none = verdict_on(alloc, scheme, statement, &none);
+    let of_none = compared(verdict_on(alloc, scheme, statement, &none))?;
     let of_second = if of_none.is_err() { &of_none } else { verdict };
-    extracts(alloc, scheme, statement, opening, &none, verdict)
-        && extracts(alloc, scheme, statement, &none, opening, of_second)
-        && (is_long || extracts(alloc, scheme, statement, opening, opening, verdict))
+    Ok(
+        extracts(alloc, scheme, statement, opening, &none, verdict)?
+            && extracts(alloc, scheme, statement, &none, opening, of_second)?
+            && (is_long || extracts(alloc, scheme, statement, opening, opening, verdict)?),
+    )
 }
 
 /// `verify_pruned | ARITY | CAP | ROOTS | DIMENSIONS | INDICES | ROW SETS | DIGESTS | ANSWER`: the check of an opening
@@ -101,12 +102,12 @@ fn extracts_alike<S: Tried>(
 pub fn verify_pruned<S: Tried>(case: &mut Case<'_>, scheme: &S) -> Result<(), Fault> {
     let statement = Statement::of(&mut case.fields);
     let opening = leaves_in::<S>(&mut case.fields);
-    let verdict = verdict_on(case.alloc, scheme, &statement, &opening);
+    let verdict = compared(verdict_on(case.alloc, scheme, &statement, &opening))?;
     case.answer.verdict(&verdict);
-    if !scheme.agrees(case.alloc, &statement, opening.lent(), &verdict) {
+    if !scheme.agrees(case.alloc, &statement, opening.lent(), &verdict)? {
         return Err(Fault::Wrong("another check is answered otherwise"));
     }
-    if !extracts_alike(case.alloc, scheme, &statement, &opening, &verdict) {
+    if !extracts_alike(case.alloc, scheme, &statement, &opening, &verdict)? {
         return Err(Fault::Wrong("an extraction is answered otherwise"));
     }
     Ok(())

@@ -1,26 +1,28 @@
 //! What a salted scheme commits to, batch after batch, and what its fork does.
 
 use crate::case::Case;
-use crate::fields::Fault;
+use crate::fields::{Fault, compared};
 use crate::salted::Salted;
 use crate::scheme::tall_matrices;
 use crate::text::Answer;
+use p3_merkle_tree::MerkleTreeError;
 use p3_support::matrix::Matrix;
 use rand_chacha::ChaCha20Rng;
 use rand_core::CryptoRng;
 use std::alloc::Global;
 
-/// Commits to matrices by a salted scheme, and writes the cap or why they are refused.
+/// Commits to matrices by a salted scheme, and writes the cap or why they are refused. Fails where memory ran out.
 fn write_cap<R: CryptoRng, M: Matrix<u32> + Drop, const N: usize, const SALT_ELEMS: usize>(
     alloc: Global,
     scheme: &mut Salted<R, N, SALT_ELEMS>,
     matrices: Vec<M>,
     answer: &mut Answer,
-) {
-    match scheme.commit(alloc, matrices) {
+) -> Result<(), MerkleTreeError> {
+    match compared(scheme.commit(alloc, matrices))? {
         Ok((cap, _)) => answer.digests(cap.roots()),
         Err(error) => answer.error(&error),
     }
+    Ok(())
 }
 
 /// `salted_commits | ARITY | CAP | SALTS A ROW | GENERATOR | BATCHES | CAPS`: what a scheme answers to batches of
@@ -36,10 +38,10 @@ pub fn commits<R: CryptoRng, const N: usize, const SALT_ELEMS: usize>(
         if batch == "none" || batch.contains('x') {
             let dimensions = reader.dimensions(batch);
             let matrices = tall_matrices(reader, &dimensions);
-            write_cap(case.alloc, scheme, matrices, &mut case.answer);
+            write_cap(case.alloc, scheme, matrices, &mut case.answer)?;
         } else {
             let matrices = reader.matrices(batch);
-            write_cap(case.alloc, scheme, matrices, &mut case.answer);
+            write_cap(case.alloc, scheme, matrices, &mut case.answer)?;
         }
     }
     Ok(())
@@ -54,9 +56,9 @@ pub fn fork<const N: usize, const SALT_ELEMS: usize>(
     let text = case.fields.take();
     let mut fork = scheme.fork()?;
     let matrices = case.fields.reader.matrices(text);
-    write_cap(case.alloc, scheme, matrices, &mut case.answer);
+    write_cap(case.alloc, scheme, matrices, &mut case.answer)?;
     case.answer.push(" / ");
     let matrices = case.fields.reader.matrices(text);
-    write_cap(case.alloc, &mut fork, matrices, &mut case.answer);
+    write_cap(case.alloc, &mut fork, matrices, &mut case.answer)?;
     Ok(())
 }

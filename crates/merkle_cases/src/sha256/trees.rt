@@ -5,7 +5,7 @@ ghost use Rattle.p3_merkle_core.specs.Geometry.{is_arity};
 
 use crate::case::Case;
 use crate::committed::{Committed, accepted, accepted_leaves};
-use crate::fields::Fault;
+use crate::fields::{Fault, compared};
 use crate::reader::Reader;
 use crate::scheme::Cap;
 use crate::sha256::{Digest, byte_at};
@@ -191,6 +191,7 @@ fn answer_of<const N: usize>(
     let plain = answer_by(case.alloc, &mut plain_scheme::<N>(cap), matrices, asked);
     let matrices = byte_matrices(&mut case.fields.reader, dimensions);
     let in_eights = answer_by(case.alloc, &mut scheme_in_eights::<N>(cap), matrices, asked);
+    let (plain, in_eights) = (compared(plain)?, compared(in_eights)?);
     if plain != in_eights {
         return Err(Fault::Wrong("the answers differ"));
     }
