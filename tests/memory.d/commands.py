@@ -1,12 +1,10 @@
-"""Runs a program with each of its requests for memory refused in turn, alone and with all later ones:
-python3 program.py mmcs|fohlazu|tlog_answers|tlog_entries_answers PROGRAM LIBRARY. It prints a line for each command and
-one for all. The status is 1 where a run did anything else than answer as with ample memory, or say that memory ran out,
-alone and as the program does."""
+"""What tests/memory runs with requests refused: commands of mmcs and fohlazu, questions about logs, and stored cases."""
 
-import os
-import subprocess
-import sys
-import tempfile
+import random
+import re
+from collections import defaultdict
+from dataclasses import dataclass
+from pathlib import Path
 
 # Three matrices, of four, two and one rows.
 ROWS = b"1 2\n3 4\n5 6\n7 8\n\n9\n10\n\n11 12 13\n"
@@ -116,120 +114,70 @@ QUESTIONS = {
         "weak 8 5,3,5 59,68,59 6,132,207,159",
     ),
 }
-# What a run says that has no memory, and its status.
-OUT_OF_MEMORY = {
-    "mmcs": [(1, b"", b"out of memory\n")],
-    "fohlazu": [(2, b"", b"fohlazu: out of memory\n")],
-} | {
-    name: [(1, b"", b"Error: %s\n" % text) for text in (b"memory allocation failed", b"out of memory")]
-    for name in QUESTIONS
-}
-# What is said of entries that are verified without numbers, with status 0.
-UNCOMPARED = b"fohlazu: entry numbers were not compared: check that they are those you requested\n"
-MOST = 10_000
 
 
-class Trials:
-    """A program, the library that refuses, and the folder with the files that are read."""
+@dataclass(frozen=True)
+class Trial:
+    """A run of a program: its arguments, its input, its status, and the file that keeps what it prints, if any."""
 
-    def __init__(self, name, program, library, folder):
-        self.name = name
-        self.program = os.path.abspath(program)
-        self.library = os.path.abspath(library)
-        self.folder = folder
-
-    def write(self, name, data):
-        with open(os.path.join(self.folder, name), "wb") as file:
-            file.write(data)
-
-    def run(self, words, mode, number):
-        """Status, output and error of a run, and how many requests it made and how many were refused. What the file
-        `made` says, which was empty, counts as output, and so do files that are left."""
-        if self.name == "fohlazu":
-            self.write("made", b"")
-        names = os.listdir(self.folder)
-        with tempfile.TemporaryFile() as report:
-            settings = {"LD_PRELOAD": self.library, mode: str(number), "REFUSE_REPORT": str(report.fileno())}
-            is_asked = self.name in QUESTIONS
-            done = subprocess.run(
-                [self.program, *([] if is_asked else words)],
-                cwd=self.folder,
-                input=" ".join(words).encode() + b"\n" if is_asked else ROWS,
-                capture_output=True,
-                env={**os.environ, **settings},
-                pass_fds=[report.fileno()],
-                timeout=60,
-            )
-            report.seek(0)
-            requests, refused = map(int, report.read().split())
-        printed = done.stdout
-        for name in sorted(os.listdir(self.folder)):
-            if name not in names:
-                printed += name.encode()
-            elif name == "made":
-                with open(os.path.join(self.folder, name), "rb") as file:
-                    printed += file.read()
-        return (done.returncode, printed, done.stderr), requests, refused
-
-    def attempt(self, words, status, mode):
-        """How many runs were made and how many of them answered, and what is wrong, if anything is."""
-        ample = self.run(words, mode, MOST)[0]
-        is_said = ample[2] not in (b"", UNCOMPARED)
-        if ample[0] != status or bool(ample[1]) != (status == 0) or is_said == (status == 0):
-            return 0, 0, f"with ample memory it ends with {ample}"
-        answered = 0
-        for number in range(1, MOST):
-            outcome, _, refused = self.run(words, mode, number)
-            if outcome == ample:
-                answered += 1
-            elif not refused or outcome not in OUT_OF_MEMORY[self.name]:
-                return number, answered, f"{mode}={number}: {outcome}"
-            if not refused:
-                return number, answered, None
-        return MOST, answered, f"{mode}: it makes too many requests"
+    program: str
+    kind: str
+    words: tuple[str, ...] = ()
+    data: bytes = b""
+    status: int = 0
+    kept: str = ""
 
 
-def try_all(trials, commands):
-    """How many runs were made, and how many of them went wrong."""
-    total = wrong = 0
-    for status, words, kept in commands:
-        counts = []
-        for mode in ("REFUSE_ONCE", "REFUSE_FROM"):
-            runs, answered, fault = trials.attempt(words, status, mode)
-            total += runs
-            wrong += fault is not None
-            # The last run met no refusal.
-            counts.append((runs - 1, answered - 1))
-            if fault:
-                print(f"{trials.name} {' '.join(words)}: wrong: {fault}")
-        if kept:
-            trials.write(kept, trials.run(words, "REFUSE_ONCE", MOST)[0][1])
-        (requests, once), (_, since) = counts
-        told = f"{requests:5} requests, answered all the same {once} and {since} times"
-        print(f"{trials.name} {' '.join(words):<24} {told}")
-    return total, wrong
+def commands() -> list[Trial]:
+    trials = [Trial("mmcs", words[3], tuple(words), ROWS) for words in TABLES]
+    for line in LOGS.split("\n")[1:-1]:
+        command, _, kept = line.partition(" > ")
+        status, *words = command.split()
+        trials.append(Trial("fohlazu", words[0] if words else "", tuple(words), ROWS, int(status), kept))
+    for program, questions in QUESTIONS.items():
+        trials += [Trial(program, "", (), question.encode() + b"\n") for question in questions]
+    return trials
 
 
-def commands_of(name):
-    """The commands of a program: the exit status, the arguments, and the file that keeps what is printed, if any."""
-    if name == "mmcs":
-        return [(0, words, "") for words in TABLES]
-    if name in QUESTIONS:
-        return [(0, text.split(), "") for text in QUESTIONS[name]]
-    lines = [line.partition(" > ") for line in LOGS.split("\n")[1:-1]]
-    return [(int(words.split()[0]), words.split()[1:], kept) for words, _, kept in lines]
+# The kinds of cases that build nothing: they check openings, heights and indices, and extract collisions.
+CHECKS = re.compile(r"(salted_)?(verify|extract)(_pruned)?|restore|pruned_len|replay|schedule|authenticated|widths")
 
 
-def main():
-    name, program, library = sys.argv[1:]
-    with tempfile.TemporaryDirectory() as folder:
-        trials = Trials(name, program, library, folder)
-        for file, data in FILES.items():
-            trials.write(file, data)
-        total, wrong = try_all(trials, commands_of(name))
-    print(f"{total} runs of {name}, {wrong} wrong")
-    return 1 if wrong else 0
+def stored(cases: Path) -> list[Trial]:
+    """The stored cases, but for those of heights, some of which are answered by `out of memory`."""
+    lines = [line for line in cases.read_text().splitlines() if line and not line.startswith("#")]
+    trials = [Trial("merkle_cases", line.split(" ")[0], (), line.encode() + b"\n") for line in lines]
+    return [trial for trial in trials if trial.kind != "heights"]
 
 
-if __name__ == "__main__":
-    sys.exit(main())
+def shape(trial: Trial) -> tuple[str, ...]:
+    """The keyword of a case, its arity, the rule of its cap, and the first words of its answer."""
+    fields = [field.strip() for field in trial.data.decode().split("|")]
+    arity = fields[1] if fields[1] in ("2", "4", "8", "16") else ""
+    rule = re.fullmatch(r"\d+([lf])", fields[2])
+    answer = re.match(r"[a-z]+( \w+)?", fields[-1])
+    return trial.kind, arity, rule[1] if rule else "", answer[0] if answer else ""
+
+
+def choices(trials: list[Trial], seed: int) -> list[list[Trial]]:
+    """The cases of each shape, in random order."""
+    shapes = defaultdict(list)
+    for trial in trials:
+        shapes[shape(trial)].append(trial)
+    generator = random.Random(seed)
+    return [generator.sample(cases, len(cases)) for cases in shapes.values()]
+
+
+def items(trial: Trial) -> int:
+    """How many numbers and rows a case has, with those that are written once for many."""
+    total = 0
+    for part in re.split(r"[|/]", trial.data.decode()):
+        part, _, sets = part.partition(" sets ")
+        count = 0
+        for row in part.split(";"):
+            row, _, times = row.partition(" times ")
+            words = [re.fullmatch(r"(?:.*\*|(\d+)\.\.)(\d+)", word) for word in row.split()]
+            numbers = sum(int(word[2]) - int(word[1] or 0) if word else 1 for word in words)
+            count += max(numbers, 1) * int(times or 1)
+        total += count * int(sets or 1)
+    return total

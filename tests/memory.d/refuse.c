@@ -1,11 +1,13 @@
 /* Refuses and counts requests for memory. It is loaded before a program by LD_PRELOAD, and needs the GNU C library.
  *
- * A program gives it orders by requests of sizes that no allocation has: the upper 16 bits of the size are 0x5a5a,
- * the next 8 say what is asked, and the lower 40 are a number n. An order is answered by a null pointer, or by a small
- * block where the answer is yes. Orders are not counted.
+ * Where the environment has REFUSE_ONCE=n, the nth request from the program's start on is refused, and where it has
+ * REFUSE_FROM=n, so are all after it. Where it has REFUSE_REPORT=fd, a line is written to that file descriptor at the
+ * end: how many requests there were, how many were refused, and how many bytes were asked for at a time, with those that
+ * were held.
  *
- * Where the environment has REFUSE_ONCE=n or REFUSE_FROM=n, requests are refused from the program's start on, and where
- * it has REFUSE_REPORT=fd, a line `REQUESTS REFUSED` is written to that file descriptor at the end. */
+ * A program can give orders by requests of sizes that no allocation has: the upper 16 bits of the size are 0x5a5a, the
+ * next 8 are the order, and the lower 40 are a number n. An order is answered by a null pointer, or by a small block
+ * where the answer is yes. Orders are not counted. */
 
 #include <errno.h>
 #include <stdint.h>
@@ -15,34 +17,27 @@
 #include <unistd.h>
 
 extern void *__libc_malloc(size_t);
-extern void *__libc_calloc(size_t, size_t);
 extern void *__libc_realloc(void *, size_t);
 extern void *__libc_memalign(size_t, size_t);
 extern void __libc_free(void *);
 
 enum order {
-  REFUSE_ONCE = 1,     /* refuse the nth request from now on, and no other */
-  REFUSE_FROM = 2,     /* refuse the nth request from now on, and all after it */
-  COUNT = 3,           /* refuse nothing, and count from now on */
-  STOP = 4,            /* refuse nothing, and leave the counts as they are */
-  WAS_REFUSED = 5,     /* was a request refused? */
-  REQUESTS_REACH = 6,  /* were there at least n requests? */
-  BYTES_REACH = 7,     /* were at least n bytes held at a time, beyond those that were held at the start? */
-  LARGEST_REACHES = 8, /* was there a request for at least n bytes? */
-  REFUSALS_REACH = 9,  /* were at least n requests refused? */
+  REFUSE_ONCE = 1, /* refuse the nth request from now on, and no other */
+  REFUSE_FROM = 2, /* refuse the nth request from now on, and all after it */
+  STOP = 3,        /* refuse nothing, and leave the counts as they are */
+  WAS_REFUSED = 4, /* was a request refused since REFUSE_ONCE or REFUSE_FROM? */
 };
 
-static int counts;
+static int refuses;
 static uint64_t first, last; /* the requests that are refused, by their numbers from 1 */
-static uint64_t requests, refusals, largest;
-static int64_t held, most;
+static uint64_t requests, refusals;
+static size_t held, most;
 
 static void start(uint64_t from, uint64_t to) {
-  counts = 1;
+  refuses = 1;
   first = from;
   last = to;
-  requests = refusals = largest = 0;
-  held = most = 0;
+  requests = refusals = 0;
 }
 
 static int obey(size_t size) {
@@ -50,26 +45,24 @@ static int obey(size_t size) {
   switch ((size >> 40) & 0xff) {
   case REFUSE_ONCE: start(n, n); return 0;
   case REFUSE_FROM: start(n, UINT64_MAX); return 0;
-  case COUNT: start(UINT64_MAX, 0); return 0;
-  case STOP: counts = 0; return 0;
+  case STOP: refuses = 0; return 0;
   case WAS_REFUSED: return refusals > 0;
-  case REQUESTS_REACH: return requests >= n;
-  case BYTES_REACH: return most >= (int64_t)n;
-  case LARGEST_REACHES: return largest >= n;
-  case REFUSALS_REACH: return refusals >= n;
   default: return 0;
   }
 }
 
 static int is_order(size_t size) { return size >> 48 == 0x5a5a; }
 
-/* Whether a request is granted. */
-static int grants(size_t size) {
-  if (!counts) return 1;
+/* Whether a request is granted, for a block in the place of one of `before` bytes. */
+static int grants(size_t size, size_t before) {
+  size_t bytes = size < PTRDIFF_MAX ? size : PTRDIFF_MAX;
+  if (held - before + bytes > most) most = held - before + bytes;
   requests++;
-  if (size > largest) largest = size;
-  if (requests < first || requests > last) return 1;
-  refusals++;
+  if (refuses && first <= requests && requests <= last) {
+    refusals++;
+  } else if (size <= PTRDIFF_MAX / 2) {
+    return 1;
+  }
   errno = ENOMEM;
   return 0;
 }
@@ -86,23 +79,13 @@ static void *taken(char *whole, size_t distance, size_t size) {
   if (whole == NULL) return NULL;
   void *block = whole + distance;
   *head_of(block) = (struct head){distance, size};
-  if (counts) {
-    held += (int64_t)size;
-    if (held > most) most = held;
-  }
+  held += size;
   return block;
-}
-
-/* Whether so many bytes can be asked for beside a head. */
-static int fits(size_t size) {
-  if (size <= PTRDIFF_MAX / 2) return 1;
-  errno = ENOMEM;
-  return 0;
 }
 
 void *malloc(size_t size) {
   if (is_order(size)) return obey(size) ? taken(__libc_malloc(sizeof(struct head)), sizeof(struct head), 0) : NULL;
-  if (!grants(size) || !fits(size)) return NULL;
+  if (!grants(size, 0)) return NULL;
   return taken(__libc_malloc(sizeof(struct head) + size), sizeof(struct head), size);
 }
 
@@ -116,14 +99,14 @@ void *calloc(size_t count, size_t size) {
 void free(void *block) {
   if (block == NULL) return;
   struct head *head = head_of(block);
-  if (counts) held -= (int64_t)head->size;
+  held -= head->size;
   __libc_free((char *)block - head->distance);
 }
 
 void *realloc(void *block, size_t size) {
   if (block == NULL) return malloc(size);
   struct head before = *head_of(block);
-  if (!grants(size) || !fits(size)) return NULL;
+  if (!grants(size, before.size)) return NULL;
   /* An aligned block is not moved: nothing here asks for that. */
   if (before.distance != sizeof(struct head)) {
     errno = ENOMEM;
@@ -131,13 +114,13 @@ void *realloc(void *block, size_t size) {
   }
   char *moved = __libc_realloc(head_of(block), sizeof(struct head) + size);
   if (moved == NULL) return NULL;
-  if (counts) held -= (int64_t)before.size;
+  held -= before.size;
   return taken(moved, sizeof(struct head), size);
 }
 
 static void *aligned(size_t alignment, size_t size) {
   size_t distance = alignment < sizeof(struct head) ? sizeof(struct head) : alignment;
-  if (!grants(size) || !fits(size)) return NULL;
+  if (!grants(size, 0)) return NULL;
   return taken(__libc_memalign(alignment, distance + size), distance, size);
 }
 
@@ -163,7 +146,7 @@ __attribute__((constructor)) static void begin(void) {
 __attribute__((destructor)) static void report(void) {
   const char *descriptor = getenv("REFUSE_REPORT");
   if (descriptor == NULL) return;
-  char line[64];
-  int length = snprintf(line, sizeof line, "%llu %llu\n", (unsigned long long)requests, (unsigned long long)refusals);
+  char line[99];
+  int length = snprintf(line, sizeof line, "%ju %ju %zu\n", (uintmax_t)requests, (uintmax_t)refusals, most);
   if (write(atoi(descriptor), line, (size_t)length) != length) _exit(70);
 }
