@@ -1,4 +1,4 @@
-"""What tests/memory runs with requests refused: commands of mmcs and fohlazu, questions about logs, and stored cases."""
+"""What tests/memory runs with requests refused: commands of mmcs and fohlazu, questions about logs, stored cases."""
 
 import random
 import re
@@ -9,11 +9,11 @@ from pathlib import Path
 # Three matrices, of four, two and one rows.
 ROWS = b"1 2\n3 4\n5 6\n7 8\n\n9\n10\n\n11 12 13\n"
 TABLES = [
-    [name, arity, "0", *action]
+    (0, [name, arity, "0", *action])
     for name in ("fold", "sha256")
     for arity in ("2", "4", "8")
     for action in (["commit"], ["open", "3", "0", "3"], ["check", "3", "0", "3"])
-]
+] + [(1, ["fold", "2", "0", "open", "4"]), (2, ["fold", "2", "0", ""])]
 # Five lines, one of them empty and one of two blocks of SHA-256: all, with the last partial, other ones, and in parts;
 # seventeen blocks, all and in parts.
 LINES = b"one\ntwo\n\n" + 100 * b"x" + b"\nlast\n"
@@ -129,7 +129,7 @@ class Trial:
 
 
 def commands() -> list[Trial]:
-    trials = [Trial("mmcs", words[3], tuple(words), ROWS) for words in TABLES]
+    trials = [Trial("mmcs", words[3], tuple(words), ROWS, status) for status, words in TABLES]
     for line in LOGS.split("\n")[1:-1]:
         command, _, kept = line.partition(" > ")
         status, *words = command.split()
