@@ -8,8 +8,10 @@ package main
 import (
 	"bytes"
 	"crypto/ed25519"
+	"crypto/sha256"
 	"crypto/x509"
 	"encoding/base64"
+	"encoding/binary"
 	"encoding/hex"
 	"encoding/pem"
 	"errors"
@@ -29,6 +31,8 @@ const (
 	notes    = 200
 	bytewise = 3 // notes of which each byte is changed
 	changes  = 600
+	// cosigned notes, and bytes of each that are changed
+	cosigned, changedBytes = 20, 10
 )
 
 // Letters of names and of lines, with those that a shell or a regular expression could take for something else.
@@ -183,8 +187,47 @@ func (s *scripts) note(signatures int) (string, string) {
 	return string(must(note.Sign(&note.Note{Text: text}, signers...))), keys[s.random.Intn(len(keys))].vkey
 }
 
+// A note with a witness's cosignature, and its verifier key, by what C2SP's tlog-cosignature says. Go has no such keys.
+func (s *scripts) cosigned() (signed, vkey, text, time string) {
+	public, private, err := ed25519.GenerateKey(s.random)
+	must(public, err)
+	name, seconds := s.letters(nameLetters), s.random.Uint64()>>(1+s.random.Intn(63))
+	text, time = s.text(s.letters(nameLetters)), fmt.Sprint(seconds)
+	key := append([]byte{4}, public...)
+	sum := sha256.Sum256(append([]byte(name+"\n"), key...))
+	blob := binary.BigEndian.AppendUint64(sum[:4:4], seconds)
+	blob = append(blob, ed25519.Sign(private, []byte("cosignature/v1\ntime "+time+"\n"+text))...)
+	line := fmt.Sprintf("— %s %s\n", name, base64.StdEncoding.EncodeToString(blob))
+	vkey = fmt.Sprintf("%s+%x+%s", name, sum[:4], base64.StdEncoding.EncodeToString(key))
+	return text + "\n" + line, vkey, text, time
+}
+
+// fohlazu-open opens cosignatures, and none with a changed byte.
+func (s *scripts) tryCosigned() {
+	signed, vkey, text, time := s.cosigned()
+	command := exec.Command("sh", filepath.Join(s.share, "fohlazu-open"), vkey)
+	var said bytes.Buffer
+	command.Stdin, command.Stderr = strings.NewReader(signed), &said
+	printed, err := command.Output()
+	if err != nil || string(printed) != text || said.String() != "fohlazu-open: time "+time+"\n" {
+		log.Fatalf("%q by %q: %q, %q", signed, vkey, printed, said.String())
+	}
+	for _, at := range s.random.Perm(len(signed))[:changedBytes] {
+		if printed, status := s.run(s.changed(signed, at), "fohlazu-open", vkey); printed != "" || status != 1 {
+			log.Fatalf("byte %d of %q does not matter", at, signed)
+		}
+	}
+	s.counts["cosigned"]++
+	s.counts["cosigned, a byte changed"] += changedBytes
+}
+
+// A text with another byte at an index, and no NUL, which no argument has.
 func (s *scripts) changed(text string, at int) string {
-	return text[:at] + string([]byte{text[at] ^ byte(1+s.random.Intn(255))}) + text[at+1:]
+	byte := text[at]
+	for byte == text[at] || byte == 0 {
+		byte = uint8(s.random.Intn(256))
+	}
+	return text[:at] + string([]uint8{byte}) + text[at+1:]
 }
 
 // What a note is damaged by: bytes of UTF-8 and others, spaces of Unicode, and what base64 and lines are made of.
@@ -247,6 +290,9 @@ func main() {
 	for k := 0; k < changes; k++ {
 		signed, vkey := s.note(1 + random.Intn(3))
 		s.compare("damaged", s.damaged(signed, vkey), vkey)
+	}
+	for k := 0; k < cosigned; k++ {
+		s.tryCosigned()
 	}
 	fmt.Println("signed notes as Go's:", s.counts)
 }
