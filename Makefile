@@ -14,6 +14,8 @@ KIT_CHECK := yes
 
 VERSION := $(shell sed -n 's/^const VERSION.*"\(.*\)";/\1/p' crates/fohlazu/src/args.rt)
 PROGRAMS := fohlazu mmcs
+# Scripts of share/ that are installed beside the programs.
+SCRIPTS := fohlazu-daily fohlazu-open fohlazu-sign
 LIBRARY_FOR_C := libfohlazu.a libfohlazu.so
 FILES := $(PROGRAMS) $(LIBRARY_FOR_C)
 CPUS := x86-64-v2 x86-64-v3
@@ -31,7 +33,7 @@ PREFIX := /usr/local
 TO = $(DESTDIR)$(PREFIX)
 # Where the programs come from that are installed: build, build/quick, or build/CPU.
 FROM := build
-INSTALLED := $(PROGRAMS:%=bin/%) $(PROGRAMS:%=share/man/man1/%.1)
+INSTALLED := $(PROGRAMS:%=bin/%) $(SCRIPTS:%=bin/%) $(PROGRAMS:%=share/man/man1/%.1)
 INSTALLED += $(PROGRAMS:%=share/bash-completion/completions/%) $(PROGRAMS:%=share/zsh/site-functions/_%)
 INSTALLED_LIBRARY := $(LIBRARY_FOR_C:%=lib/%) lib/pkgconfig/fohlazu.pc include/fohlazu.h
 LIBRARY := $(foreach folder,$(filter-out build/quick,$(FROM)),$(LIBRARY_FOR_C:%=$(folder)/%))
@@ -112,6 +114,7 @@ install: $(PROGRAMS:%=$(FROM)/%) $(LIBRARY)
 	  install -Dm 644 "share/$$name.zsh" "$(TO)/share/zsh/site-functions/_$$name"; \
 	  install -Dm 644 <(sed 's/@VERSION@/$(VERSION)/' "share/$$name.1") "$(TO)/share/man/man1/$$name.1"; \
 	done
+	@install -t "$(TO)/bin" $(SCRIPTS:%=share/%)
 ifdef LIBRARY
 	@install -Dm 644 -t "$(TO)/lib" $(LIBRARY)
 	@install -Dm 644 -t "$(TO)/include" examples/c/fohlazu.h
@@ -142,8 +145,8 @@ help:
 #: make dist         archives of the programs and of the libraries, with their checksums, in build/dist/
 #: make documents    compares docs/ with the sources: seconds. `tests/audit write` and `tests/strength` write what of it
 #:                   is generated
-#: make install      the programs, manual pages, completions and the libraries for C, below $DESTDIR$PREFIX; PREFIX is
-#:                   /usr/local if it is not given. FROM=build/quick installs what has no proof
+#: make install      the programs, scripts, manual pages, completions and the libraries for C, below $DESTDIR$PREFIX;
+#:                   PREFIX is /usr/local if it is not given. FROM=build/quick installs what has no proof
 #: make uninstall    removes what was installed there
 #: make bench        the benchmark; PARTS names parts of it (docs/PERFORMANCE.md)
 #: make clean        removes build/. What was proved stays in crates/*/out, and is not proved again
