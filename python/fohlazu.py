@@ -5,7 +5,8 @@
 
 The commands answer as those of the proved program fohlazu: docs/FILES.md has them, and the texts that they read. The
 calls of `Library` are proved, this file is not: tests/python compares them. What is refused raises `Refused`. Entries
-count from 1, indices from 0. What is accepted holds of a log only if the checkpoint is of one: no signature is checked.
+count from 1, indices from 0. What is accepted holds of a log only if the checkpoint is of one. Its signature is checked
+with `--key VKEY` alone, which the program lacks, or by `verify_note`: they need the package `cryptography`.
 
 >>> log = parse_checkpoint(b"journal.example\\n3\\n/m6dRgT1eGAoUaLBXvOJTKB7lRf31ffe3CgXnKiIWA0=\\n")
 >>> a, b, c = map(leaf_hash, (b"1", b"2", b"3"))
@@ -14,8 +15,8 @@ count from 1, indices from 0. What is accepted holds of a log only if the checkp
 >>> verify_consistency(1, log.size, [b, c], a, log.root)
 """
 from __future__ import annotations
-import argparse, base64, contextlib, ctypes, enum, hashlib, itertools, os, re, sys
-from typing import Callable, Iterable, Iterator, NamedTuple, Sequence
+import argparse, base64, contextlib, ctypes, enum, hashlib, importlib, itertools, os, re, sys
+from typing import Any, Callable, Iterable, Iterator, NamedTuple, Sequence
 
 __version__ = "0.1.0"
 EMPTY_ROOT = hashlib.sha256(b"").digest()
@@ -118,7 +119,7 @@ ORIGIN = f"(?! )[^{OUT}\x7f]{{1,100}}(?<! )"
 NUMBER = "(0|[1-9][0-9]{0,18})"
 BASE64 = "(?:[A-Za-z0-9+/]{4})*(?:[A-Za-z0-9+/][AQgw]==|[A-Za-z0-9+/]{2}[AEIMQUYcgkosw048]=)?"
 DIGEST = "[A-Za-z0-9+/]{42}[AEIMQUYcgkosw048]="  # base64 of 32 bytes
-SIGNATURE = f"\u2014 [^{OUT} +]+ (?=.{{8}})(?!.{{6}}==$){BASE64}"  # base64 of at least 5 bytes
+SIGNATURE = f"\u2014 [^{OUT} +]+ (?=.{{8}})(?!.{{6}}==(?m:$)){BASE64}"  # base64 of at least 5 bytes
 
 class Text:
     """A text that is read line by line. It is refused at the first line where something else is expected."""
@@ -184,6 +185,30 @@ def parse_consistency(proof: bytes) -> tuple[int, list[bytes], bytes]:
     text.line("a blank line", "")
     return old_size, digests, proof[text.at :]
 
+def parse_key(vkey: str) -> tuple[str, bytes, Any]:
+    """The name, id and public key of a verifier key of Ed25519, `NAME+HEX+BASE64` as Go prints it."""
+    ed25519 = importlib.import_module("cryptography.hazmat.primitives.asymmetric.ed25519")
+    found = re.fullmatch(f"([^{OUT}\\s+]+)\\+([0-9A-Fa-f]{{8}})\\+({BASE64})", vkey)
+    name, key = (found[1], base64.b64decode(found[3])) if found else ("", b"")
+    key_id = hashlib.sha256(name.encode() + b"\n" + key).digest()[:4]
+    if not found or found[2].lower() != key_id.hex() or key[:1] != b"\1" or len(key) != 33:
+        raise Refused("the key is no NAME+HEX+BASE64 of Ed25519")
+    return name, key_id, ed25519.Ed25519PublicKey.from_public_bytes(key[1:])
+
+def verify_note(note: bytes, vkey: str) -> bytes:
+    """The text of a note that this verifier key signed. It refuses what Go's note.Open refuses."""
+    name, key_id, key = parse_key(vkey)
+    found = re.fullmatch(f"((?:[^{OUT}]|\n)*\n)\n((?:{SIGNATURE}\n){{1,100}})", note.decode("utf-8", "surrogateescape"))
+    lines = [line.split(" ") for line in found[2].split("\n")[:-1]] if found else []
+    if not found or any(re.search(r"\s", signer) for _, signer, _ in lines): raise Refused("expected a signed note")
+    signatures = [base64.b64decode(signature) for _, signer, signature in lines if signer == name]
+    mine = [signature[4:] for signature in signatures if signature[:4] == key_id]
+    if not mine: raise Refused("the note is not signed by this key")
+    try: key.verify(mine[0], found[1].encode())  # the first one decides
+    except importlib.import_module("cryptography.exceptions").InvalidSignature:
+        raise Refused("the note's signature by this key is of another text") from None
+    return found[1].encode()
+
 class Library:
     """Calls of libfohlazu.so: at a path, in the folder that FOHLAZU_LIB names, or where it is installed."""
     def __init__(self, path: str = "") -> None:
@@ -220,6 +245,7 @@ def parse_args(words: list[str]) -> argparse.Namespace:
     parser.add_argument("--version", action="version", version=f"fohlazu {__version__}")
     parser.add_argument("--blocks", type=number, action="append", default=[], help="entries are blocks of so long")
     parser.add_argument("--raw", action="append_const", const=1, default=[], help="print one entry byte for byte")
+    parser.add_argument("--key", action="append", default=[], help="the key that signed; the program has no --key")
     parser.add_argument("command", choices=["verify", "verify-consistency"])
     parser.add_argument("files", nargs=2, help="a checkpoint and a proof; - is standard input")
     parser.add_argument("numbers", nargs="*", help="those of the entries, as 3, 3-7, 3,7 or all")
@@ -268,6 +294,7 @@ def answer_verify_consistency(old: Checkpoint, proof: bytes, args: argparse.Name
     size, digests, note = parse_consistency(proof)
     if size != old.size: raise Refused(f"it is a proof from {size} entries, and the old checkpoint has {old.size}")
     new = parse_checkpoint(note, " of its checkpoint")
+    for vkey in args.key: verify_note(note, vkey)
     if old.origin != new.origin: raise Refused("its origin is not that of the old checkpoint")
     if old.size > new.size: raise Refused(f"it has {new.size} entries, fewer than the {old.size} of the old checkpoint")
     if old.size == new.size and old.root != new.root:
@@ -279,11 +306,13 @@ def main() -> int:
     status, where = 2, ""
     try:
         args = parse_args([os.fsencode(word).decode() for word in sys.argv[1:]])
+        for vkey in args.key: parse_key(vkey)
         note, proof = map(read, args.files)
         where = f"{args.files[0]}: "
-        checkpoint = parse_checkpoint(note)
-        status, where = 1, f"{args.files[1]}: "
+        checkpoint, status = parse_checkpoint(note), 1
         answer = answer_verify if args.command == "verify" else answer_verify_consistency
+        for vkey in args.key if answer is answer_verify else []: verify_note(note, vkey)
+        where = f"{args.files[1]}: "
         printed = answer(checkpoint, proof, args)
         status, where = 2, ""
         try: write(1, printed)
@@ -293,6 +322,7 @@ def main() -> int:
     except Refused as refused: why = f"{where}{WORDS[args.command].get(refused.reason, refused)}"
     except OSError as error: why = f"{error.filename or '-'}: {error.strerror} (os error {error.errno})"
     except UnicodeDecodeError: why = "an argument is no text in UTF-8"
+    except ImportError: why = "`--key` needs the package `cryptography`, which is not installed"
     except MemoryError: status, why = 2, "out of memory"
     with contextlib.suppress(OSError): write(2, f"fohlazu: {why}\n".encode())
     return status
