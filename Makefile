@@ -15,7 +15,7 @@ KIT_CHECK := yes
 VERSION := $(shell sed -n 's/^const VERSION.*"\(.*\)";/\1/p' crates/fohlazu/src/args.rt)
 PROGRAMS := fohlazu mmcs
 # Scripts of share/ that are installed beside the programs.
-SCRIPTS := fohlazu-daily fohlazu-open fohlazu-sign
+SCRIPTS := fohlazu-daily fohlazu-follow fohlazu-open fohlazu-sign
 LIBRARY_FOR_C := libfohlazu.a libfohlazu.so
 FILES := $(PROGRAMS) $(LIBRARY_FOR_C)
 CPUS := x86-64-v2 x86-64-v3
