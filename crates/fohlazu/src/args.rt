@@ -109,7 +109,12 @@ pub(crate) fn parse_args<'a>(
     let lacks_numbers = matches!(command, Command::Verify { numbers: None, .. });
     notes.lacks_numbers.set(lacks_numbers);
     if !command.is_lawful() {
-        return Err(ArgsError::Refused(refusal_of(&command)));
+        let why = if matches!(command, Command::Verify { .. }) {
+            "--raw takes the number of one entry, and --blocks takes numbers"
+        } else {
+            "an origin has 1 to 100 characters, no control character, no space first or last: --origin sets it"
+        };
+        return Err(ArgsError::Refused(why));
     }
     Ok((command, args))
 }
@@ -138,15 +143,6 @@ fn check_options(words: &[String]) -> Result<(), ArgsError<'_>> {
         }
     }
     Ok(())
-}
-
-/// Why a command is not run.
-fn refusal_of(command: &Command<Input<'_>>) -> &'static str {
-    match command {
-        Command::Verify { .. } => "--raw takes the number of one entry, and --blocks takes numbers",
-        _ =>
-            "an origin has 1 to 100 characters, no control character, no space first or last: --origin sets it",
-    }
 }
 
 impl<'a> Args<'a> {

@@ -108,7 +108,11 @@ fn total(sizes: &[usize]) -> Option<usize>
 fn roots_of(alloc: Global, parts: &[(usize, [u8; 32])]) -> Result<Vec<[u8; 32]>, AllocError>
     ensures { IfOk result (λ roots. roots.items ≡ map (λ part. part.1) parts.now) }
 {
-    parts.iter().map(|part| part.1).collect(alloc)
+    let mut roots = Vec::with_capacity(alloc, parts.len())?;
+    for part in parts {
+        roots.push(part.1)?;
+    }
+    Ok(roots)
 }
 
 /// The root of all parts.

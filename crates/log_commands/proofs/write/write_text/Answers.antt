@@ -1,7 +1,7 @@
 -- Each turn writes the next bytes.
 use Rattle.std.proofs.Common.{List, ap, subst, sym, ℕ}
 use Rattle.log_commands.proofs.WriteFacts.{Wrote, step_err, step_ok, wrote_same}
-use Rattle.log_commands.proofs.write.write_text.Goals.{in-Ok-write, in-Err-write}
+use Rattle.log_commands.proofs.write.write_text.Goals.{in-Ok, in-Err}
 use Rattle.log_commands.proofs.write.write_text.Goals as goal
 
 pub loop-turn-preserved : goal.loop-turn-preserved
@@ -11,12 +11,12 @@ loop-turn-preserved g c =
     let new = g.Dst.Write.contents c.write.new.self in
     let rest = c.loop-turn.rest.now in
     elim c.match-write.branch [
-      | in-Ok-write w ↦
+      | in-Ok w ↦
           step_ok old now new c.args.text.now rest c.write.result c.loop-turn.invariant c.write.ensures.bytes _
-          w.in-Ok-write.count w.in-Ok-write.is (ap (λ r. r.now) w.rest-is)
-      | in-Err-write w ↦
+          w.in-Ok.count w.in-Ok.is (ap (λ r. r.now) w.rest-is)
+      | in-Err w ↦
           subst (λ (r : List ℕ). Wrote old new c.args.text.now r) (sym (ap (λ r. r.now) w.rest-is))
           (wrote_same old now new c.args.text.now rest c.loop-turn.invariant
           (step_err old now new c.args.text.now rest c.write.result c.loop-turn.invariant c.write.ensures.bytes
-          w.in-Err-write.error w.in-Err-write.is))
+          w.in-Err.error w.in-Err.is))
     ]
