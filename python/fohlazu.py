@@ -5,8 +5,8 @@
 
 The commands answer as those of the proved program fohlazu: docs/FILES.md has them, and the texts that they read. The
 calls of `Library` are proved, this file is not: tests/python compares them. What is refused raises `Refused`. Entries
-count from 1, indices from 0. What is accepted holds of a log only if the checkpoint is of one. Its signature is checked
-with `--key VKEY` alone, which the program lacks, or by `verify_note`: they need the package `cryptography`.
+count from 1, indices from 0. What is accepted holds of a log only if the checkpoint is of one. `--key VKEY`, which the
+program lacks, checks that this key signed it, or the new one; so does `verify_note`. Both need `cryptography`.
 
 >>> log = parse_checkpoint(b"journal.example\\n3\\n/m6dRgT1eGAoUaLBXvOJTKB7lRf31ffe3CgXnKiIWA0=\\n")
 >>> a, b, c = map(leaf_hash, (b"1", b"2", b"3"))
