@@ -231,8 +231,8 @@ func (s *scripts) changed(text string, at int) string {
 }
 
 // What a note is damaged by: bytes of UTF-8 and others, spaces of Unicode, and what base64 and lines are made of.
-var pieces = []string{"", "\n", "\n\n", " ", "\t", "\r", "\x00", "\x7f", "+", "=", "A", "B", "— ", "é", "\u0085", "\u00a0",
-	"\u1680", "\u2007", "\u2028", "\u202f", "\u205f", "\u3000", "\ufffd", "\xff", "\xc0\x80", "\xed\xa0\x80",
+var pieces = []string{"", "\n", "\n\n", " ", "\t", "\r", "\x00", "\x7f", "+", "=", "A", "B", "— ", "é", "\u0085",
+	"\u00a0", "\u1680", "\u2007", "\u2028", "\u202f", "\u205f", "\u3000", "\ufffd", "\xff", "\xc0\x80", "\xed\xa0\x80",
 	"\xf4\x90\x80\x80", "\xe2\x80"}
 
 // The same note with a piece put in or in place of a byte, or with a line dropped, repeated or moved, a signature of
