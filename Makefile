@@ -20,6 +20,8 @@ LIBRARY_FOR_C := libfohlazu.a libfohlazu.so
 FILES := $(PROGRAMS) $(LIBRARY_FOR_C)
 CPUS := x86-64-v2 x86-64-v3
 QUICK := $(PROGRAMS:%=build/quick/%)
+# What answers the cases of tests/fuzz.
+CASES := merkle_cases mmcs_cases
 LIBRARIES := build/libraries.tar.zst
 
 # This processor: x86-64-v3 where each has what that adds to x86-64-v2. Linux calls lzcnt by the name abm.
@@ -131,6 +133,17 @@ bench: toolchain
 
 clean:
 	@rm -rf build bench/out tests/memory.d/out
+
+# How a program of cases is built is in its out/make.log.
+.SECONDEXPANSION:
+$(CASES:%=build/quick/%): build/quick/%: tools/quick $$(call sources_of,$$*,$$(CODE))
+	$(kit)
+	@bash tools/quick build/quick $*
+$(CASES:%=build/%): build/%: $$(call sources_of,$$*,$$(ALL))
+	$(kit)
+	@mkdir -p build crates/$*/out && (cd crates/$* && $(ALONE) rt run) < /dev/null > crates/$*/out/make.log 2>&1 || \
+	  { echo 'crates/$*/out/make.log says why $* is not built' >&2; exit 1; }
+	@cp crates/$*/out/$* build/partial && mv -f build/partial $@
 
 help:
 	@sed -n 's/^#: \{0,1\}//p' Makefile

@@ -1,9 +1,10 @@
-"""Random commands of `mmcs`: matrices and words, whole and damaged."""
+"""Random commands of `mmcs`: matrices and words, whole and damaged, and random bytes."""
 
 from trials import heights_of
 
 CAPS = ["0", "0", "0", "1", "2", "1f", "3f", "9"]
 BYTES = b"\n\n \t\r0123456789abcdefABFgx-+"
+WORDS = ["commit", "open", "check", "4x1", "0", "1", "x", "", "16", "+1", "00", "18446744073709551616"]
 
 
 class Asked:
@@ -14,9 +15,13 @@ class Asked:
         self.words = [hash_name, random.choice("248"), random.choice(CAPS)]
         limit = random.choice([10, 256 if hash_name == "sha256" else 1 << 32])
         heights = heights_of(random, random.randrange(1, size + 1))
+        if random.random() < 0.2:
+            heights = [random.randrange(1, size + 1) for _ in heights]
         matrices = [[[random.randrange(limit) for _ in range(width)] for _ in range(height)]
                     for height, width in ((height, random.randrange(1, 4)) for height in heights)]
-        self.input = "\n".join("".join(" ".join(map(str, row)) + "\n" for row in rows) for rows in matrices).encode()
+        gap, end = random.choice([" ", " ", "  ", "\t"]), random.choice(["\n", "\n", "\n", "\r\n", "\t \r\n"])
+        texts = ("".join(gap.join(map(str, row)) + end for row in rows) for rows in matrices)
+        self.input = end.join(texts).encode()
         self.tallest = max(heights)
         self.indices = [str(random.randrange(self.tallest)) for _ in range(random.choice([0, 1, 1, 2, 3, 5]))]
 
@@ -25,31 +30,33 @@ class Asked:
         return [[*self.words, *asked] for asked in (["commit"], ["open", *self.indices], ["check", *self.indices])]
 
 
-def damaged(random, text):
-    """A text with one byte dropped, replaced or put in."""
-    place = random.randrange(len(text))
-    added = bytes([random.choice([random.randrange(256), *BYTES])])
-    return text[:place] + random.choice([b"", added, added, added + text[place : place + 1]]) + text[place + 1 :]
+def damaged(random, data):
+    """An input with a few bytes dropped, put in or replaced."""
+    data = bytearray(data)
+    for _ in range(random.choice([1, 1, 2, 5])):
+        place = random.randrange(len(data) + 1)
+        added = bytes([random.choice([random.randrange(256), *BYTES])])
+        data[place : place + random.randrange(2)] = random.choice([b"", added])
+    return bytes(data)
 
 
 def other_words(random, words):
     """Words that tell another hash, arity, cap, action or index."""
     words = list(words)
     place = random.randrange(len(words))
-    choices = [["fold", "sha256"], ["2", "4", "8", "3"], CAPS + ["f", "x"]]
-    others = ["commit", "open", "check", "4x1", "0", "1", "18446744073709551616"]
-    words[place] = random.choice(choices[place] if place < len(choices) else others)
+    choices = [["fold", "sha256", "x"], ["2", "4", "8", "3"], CAPS + ["f", "x"]]
+    words[place] = random.choice(choices[place] if place < len(choices) else WORDS)
     return words
 
 
-def runs(random, size):
-    """Words and inputs, each with what it is counted as: whole, damaged at a byte, other words, and an index past the
-    end."""
-    asked = Asked(random, size)
+def runs(random, size=None):
+    """Words and inputs, each with what it is counted as."""
+    asked = Asked(random, size or random.choice([1, 2, 4, 6, 9, 20]))
     for words in asked.commands():
         yield words, asked.input, "whole"
         yield words, damaged(random, asked.input), "damaged"
         yield other_words(random, words), asked.input, "other words"
+        yield words, random.randbytes(random.randrange(20)), "random bytes"
     past = asked.tallest + random.choice([0, 1, 1 << 40])
     yield [*asked.words, random.choice(["open", "check"]), "0", str(past)], asked.input, "an index past the end"
 

@@ -25,6 +25,21 @@ class Case(NamedTuple):
     def answer(self):
         return log_commands.answer(self.words, self.contents.get)
 
+    def shown(self):
+        """The case, to be tried by hand."""
+        return "\n  ".join([str(self.words), *(f"{name}: {data!r}" for name, data in self.contents.items())])
+
+    def wrongs(self, program, answer):
+        """What is wrong about a program's answer, in lines. Whole texts are accepted, but for line feeds inside of
+        lines."""
+        ran = program.run(self.words, self.contents)
+        if self.kind.endswith("whole") and "inside" not in self.kind and answer.status:
+            return [f"the model refuses a whole text: {answer.refused.line}"]
+        found = [f"status {ran.status}, expected {answer.status}"] if ran.status != answer.status else []
+        if ran.printed != answer.printed:
+            found.append(f"prints {ran.printed!r}, expected {answer.printed!r}")
+        return [*found, *program.said_wrongly(ran.said, answer)]
+
 
 def printed(words, contents):
     """What a command prints that is not to be refused."""
@@ -281,3 +296,14 @@ def joins(source, limit, few):
 
 CASES = {"seal": seals, "prove": proves, "verify": verifies, "join": joins}
 CASES |= {"prove-consistency": proves_growth, "verify-consistency": verifies_growth}
+# How many entries a file has at most, and how many places of a text are damaged, or none for each.
+SIZES = [(1, 40), (3, None), (3, 40), (9, 40), (9, 40), (33, 40), (257, 5)]
+
+
+def cases(command, source, size, least=100):
+    """At least so many cases of a command; small files are damaged at few places."""
+    made = 0
+    while made < least:
+        for case in CASES[command](source, *((size, 5) if size else source.choice(SIZES))):
+            yield case
+            made += 1

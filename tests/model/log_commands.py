@@ -1,11 +1,7 @@
-"""The commands of `fohlazu`: what they print, or refuse, and with which status. It answers as the program does:
-
-    python3 tests/model/log_commands.py seal examples/journal/monday.txt
-"""
+"""The commands of `fohlazu`: what they print, or refuse, and with which status."""
 
 import argparse
 import os
-import sys
 from itertools import chain, islice
 from typing import NamedTuple, Optional
 
@@ -51,6 +47,14 @@ class Answer(NamedTuple):
     printed: bytes
     refused: Optional[Refused] = None
     said: str = ""
+
+    def counted(self):
+        """What an answer is counted as."""
+        if self.refused is None:
+            return "accepted"
+        if self.refused.name is None:
+            return "no command"
+        return f"{'malformed' if ': line ' in self.refused.line else 'refused'}, status {self.status}"
 
 
 class Words(argparse.ArgumentParser):
@@ -283,24 +287,3 @@ def answer(words, contents):
         return Answer(0, printed, None, UNCOMPARED if command == "verify" and not told.ranges else "")
     except Refused as refused:
         return Answer(refused.status, b"", refused)
-
-
-def bytes_of(name):
-    """The bytes of a file; none where it can't be read."""
-    try:
-        return sys.stdin.buffer.read() if name == "-" else open(name, "rb").read()
-    except OSError:
-        return None
-
-
-def main():
-    found = answer(sys.argv[1:], bytes_of)
-    sys.stdout.buffer.write(found.printed)
-    sys.stdout.flush()
-    if found.refused or found.said:
-        print(found.refused.line if found.refused else found.said, file=sys.stderr)
-    sys.exit(found.status)
-
-
-if __name__ == "__main__":
-    main()

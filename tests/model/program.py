@@ -154,6 +154,12 @@ def escaped(data):
     return text.replace("\\x0a", "\\n")
 
 
+def line_of(words, data):
+    """The case of some words and an input, and how its answer is written."""
+    answered = escaped(output(words, data).encode()).replace("\\x7c", "|")
+    return " ".join(word or '""' for word in words) + f' | "{escaped(data)}"', answered
+
+
 def words_of(written):
     return ["" if word == '""' else word for word in written.split()]
 

@@ -4,7 +4,6 @@ import re
 
 import cases
 import notation
-import program
 from damage import damaged
 from drafts import Draft
 from geometry import FIXED, LOWERED, MAX_NUMBER, exponent, expected_height
@@ -206,9 +205,8 @@ def size_of(random):
     return random.choice([2, 4, 6, 9, 9, 9, 12]) if random.random() < 0.99 else random.choice([40, 120, 300])
 
 
-def cases_of(random, size=None):
+def cases_of(random, size, is_salted):
     """The cases of a trial."""
-    is_salted = random.random() < 0.4
     trial = Trial(random, size or size_of(random), is_salted)
     if is_salted:
         add_salted_tree(trial)
@@ -217,48 +215,3 @@ def cases_of(random, size=None):
         add_tree(trial)
     add_openings(trial, 12 if trial.size < 40 else 2)
     return trial.found
-
-
-def input_of(random, size):
-    """Lines that stand for matrices, with gaps of any form."""
-    end = random.choice(["\n", "\n", "\r\n", " \n", "\t \r\n"])
-    blocks = []
-    for _ in range(random.randrange(1, 4)):
-        width, rows = random.randrange(1, 4), random.randrange(1, size + 1)
-        lines = [random.choice([" ", "  ", "\t"]).join(str(random.randrange(300)) for _ in range(width))
-                 for _ in range(rows)]
-        blocks.append(end.join(lines) + end)
-    return end.join(blocks).encode()
-
-
-def mutated(random, data):
-    """An input with a few bytes dropped, put in or replaced."""
-    data = bytearray(data)
-    for _ in range(random.choice([1, 1, 2, 5])):
-        place = random.randrange(len(data) + 1)
-        added = bytes([random.choice([random.randrange(256), *b"\n\n \t\r09x-"])])
-        data[place : place + random.randrange(2)] = random.choice([b"", added])
-    return bytes(data)
-
-
-def command_of(random):
-    words = [random.choice(["fold", "fold", "sha256"]), random.choice("248"), random.choice(["0", "0", "1", "2f", "9"])]
-    asked = random.choice(["commit", "open", "check"])
-    indices = [str(random.choice([0, 0, 1, 2, 3, 9])) for _ in range(random.randrange(4)) if asked != "commit"]
-    words += [asked, *indices]
-    if random.random() < 0.05:
-        words[random.randrange(len(words))] = random.choice(["x", "", "16", "+1", "00", "18446744073709551616"])
-    return words
-
-
-def program_case(random, size=6):
-    """A case of the program: random bytes, an input, or a changed one."""
-    kind = random.choice(["random bytes", "an input", "a changed input", "a changed input"])
-    data = random.randbytes(random.randrange(3 * size)) if kind == "random bytes" else input_of(random, size)
-    data = mutated(random, data) if kind == "a changed input" else data
-    words = command_of(random)
-    answer = program.output(words, data)
-    shown = " ".join(word or '""' for word in words)
-    line = f'{shown} | "{program.escaped(data)}"'
-    kinds = f"{kind}, {'refused' if answer.endswith(')') else 'answered'}"
-    return line, program.escaped(answer.encode()).replace("\\x7c", "|"), ("the program", kinds)

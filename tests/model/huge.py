@@ -13,11 +13,11 @@ LITTLE = 16 * MIB
 LAST = (1 << 64) - 1
 
 
-def wrongs(program, ran, status, printed, held=LITTLE):
+def wrongs(ran, status, printed, held=LITTLE):
     """What is wrong about a measured run."""
     if ran.status != status or ran.printed != printed:
         yield f"status {ran.status}, prints {len(ran.printed)} bytes, says {ran.said[:200]!r}"
-    if ran.held > held and not program.has_checks:
+    if ran.held > held:
         yield f"holds {ran.held / MIB:.1f} MiB, expected at most {held / MIB:.1f}"
 
 
@@ -33,7 +33,7 @@ def tried(program, name, words, contents, status, printed, held=LITTLE):
     told(name, ran)
     is_said = bool(status) or words[0] == "verify" and not words[3:]
     faults = [] if bool(ran.said) == is_said else [f"says {ran.said[:200]!r}"]
-    return name, [*wrongs(program, ran, status, printed, held), *faults]
+    return name, [*wrongs(ran, status, printed, held), *faults]
 
 
 def claims(program):
@@ -60,7 +60,7 @@ def compared(program, name, words, contents):
         program.write(own, data)
     answer = log_commands.answer(words, contents.get)
     ran = program.measured(words)
-    return name, [*wrongs(program, ran, answer.status, answer.printed), *program.said_wrongly(ran.said, answer)]
+    return name, [*wrongs(ran, answer.status, answer.printed), *program.said_wrongly(ran.said, answer)]
 
 
 def known_trees(program):
@@ -83,13 +83,13 @@ def long_lines(program, part):
     log = logs.Log(entries)
     proof = entries_text([(2, long)], [log.leaves[0], log.root(2, 4)])
     contents = {"file": b"\n".join(entries) + b"\n", "checkpoint": checkpoint_of(entries), "proof": proof}
-    mb = f"a line of {len(long) // 1_000_000} MB"
+    what = f"a line of {len(long)} bytes"
     prove, room = ["prove", "checkpoint", "file"], LITTLE + 4 * len(long)
     other = entries_text([(4, b"last")], [log.leaves[2], log.root(0, 2)])
-    yield tried(program, f"seal, {mb}", ["seal", "file"], contents, 0, contents["checkpoint"])
-    yield tried(program, f"prove another, {mb}", [*prove, "4"], contents, 0, other)
-    yield tried(program, f"prove, {mb}", [*prove, "2"], contents, 0, proof, room)
-    yield tried(program, f"verify, {mb}", ["verify", "checkpoint", "proof", "2"], contents, 0, long + b"\n", room)
+    yield tried(program, f"seal, {what}", ["seal", "file"], contents, 0, contents["checkpoint"])
+    yield tried(program, f"prove another, {what}", [*prove, "4"], contents, 0, other)
+    yield tried(program, f"prove, {what}", [*prove, "2"], contents, 0, proof, room)
+    yield tried(program, f"verify, {what}", ["verify", "checkpoint", "proof", "2"], contents, 0, long + b"\n", room)
 
 
 def long_proofs(program, part):

@@ -1,4 +1,4 @@
-"""Runs of `fohlazu` in a folder of its own."""
+"""Runs of a program in a folder of its own."""
 
 import os
 import signal
@@ -23,12 +23,11 @@ class Ran(NamedTuple):
 
 
 class Program:
-    """A program, and the folder that it runs in. What it holds says nothing where it is built with checks."""
+    """A program, and the folder that it runs in."""
 
-    def __init__(self, path, folder, has_checks):
+    def __init__(self, path, folder, _=None):
         self.path = path
         self.folder = Path(folder)
-        self.has_checks = has_checks
         self.written = {}
 
     def write(self, name, data):
@@ -53,12 +52,12 @@ class Program:
         ran = subprocess.run([self.path, *words], cwd=self.folder, **settings)
         return Ran(ran.returncode, ran.stdout or b"", ran.stderr or b"")
 
-    def measured(self, words):
-        """The same, with its time and memory; what it prints and says goes through files."""
+    def measured(self, words, data=subprocess.DEVNULL):
+        """The same, with its time and memory; what it reads, prints and says goes through files."""
         out, err, report = (self.folder / name for name in (".out", ".err", ".report"))
         helper = [sys.executable, "-I", "-S", MEASURE, report, self.path, *words]
         with out.open("wb") as printed, err.open("wb") as said:
-            settings = {"stdin": subprocess.DEVNULL, "stdout": printed, "stderr": said, "start_new_session": True}
+            settings = {"stdin": data, "stdout": printed, "stderr": said, "start_new_session": True}
             child = subprocess.Popen(helper, cwd=self.folder, **settings)
             try:
                 child.wait(SECONDS)
