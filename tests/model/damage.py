@@ -165,8 +165,8 @@ def damaged_once(random, draft):
         return other
     for _ in range(random.choice([1, 1, 1, 2, 3])):
         random.choice(DAMAGE)(random, other)
-    for fit, chance in drafts.FITS[:2]:
-        if random.random() < chance / 3:
+    for fit in drafts.FITS:
+        if random.random() < 0.23:
             fit(random, other)
     return other
 

@@ -3,16 +3,10 @@
 import copy
 
 import notation
-from checks import places
-from geometry import FIXED, LOWERED, MAX_HEIGHT, MAX_NUMBER
-from pruned import boundary_len, covered, values_of
-from refusals import Claim, can_restore, first_sets
-from schemes import Scheme
+from geometry import MAX_HEIGHT, MAX_NUMBER
+from pruned import boundary_len
+from refusals import Claim
 
-BATCHES = [
-    [(1, 1)], [(1, 2)], [(1, 4)], [(2, 3)], [(1, 5)], [(1, 2), (1, 2)], [(1, 2), (1, 1)], [(1, 3), (1, 2)],
-    [(1, 4), (1, 2), (1, 1)], [(1, 1), (1, 2)], [(1, 5), (1, 3)], [(2, 4), (1, 2)], [(1, 8), (1, 4)],
-]
 HEIGHTS = [0, 1, 2, 3, 4, 5, 6, 7, MAX_HEIGHT, MAX_HEIGHT + 1, 2 * MAX_HEIGHT, MAX_NUMBER]
 
 
@@ -65,18 +59,6 @@ class Draft:
         fields += [notation.print_numbers(self.roots), notation.print_dimensions(self.dimensions), index]
         fields += [rows(self.rows)] + ([rows(self.salts)] if self.salts is not None else [])
         return " | ".join(fields + [notation.print_numbers(self.siblings)])
-
-
-def small_draft(random, arity, salts, is_pruned):
-    """An honest opening of a small batch."""
-    scheme = Scheme(arity, random.choice([0, 0, 0, 1, 2]), random.choice([LOWERED, FIXED]), salts)
-    dimensions = random.choice(BATCHES)
-    drawn = min(salts, 2) if salts < 3 else 1
-    tree = scheme.tree([[[random.randrange(1, 9) for _ in range(width + drawn)] for _ in range(height)]
-                        for width, height in dimensions])
-    leaves = tree.shape.tallest
-    queries = [random.randrange(leaves) for _ in range(random.randrange(4))]
-    return Draft(scheme, dimensions, tree, drawn, queries if is_pruned else random.randrange(leaves))
 
 
 def copied(value):
@@ -237,45 +219,9 @@ def fit_siblings(random, draft):
     draft.siblings = (draft.siblings + [0] * needed)[:needed]
 
 
-def digest_at_cap(claim):
-    """The nodes of the layer of the cap that the claim leads to, with their values."""
-    shape, functions = claim.shape, claim.scheme.functions
-    if isinstance(claim.index, list):
-        has_nodes = claim.index and can_restore(claim)
-        values = values_of(shape, functions, first_sets(claim), claim.siblings)[-1] if has_nodes else {}
-        return {node: values[node] for node in covered(shape, claim.index, shape.cap_layer) if node in values}
-    if len(claim.rows) < len(claim.dimensions) or len(claim.siblings) < shape.siblings:
-        return {}
-    _, digest = places(shape, functions, claim.index, claim.rows, claim.siblings)
-    return {shape.ancestor(shape.cap_layer, claim.index): digest}
-
-
-def fit_roots(random, draft):
-    """The cap that the opening leads to."""
-    claim = draft.claim()
-    if draft.salts is not None:
-        claim = claim.plain_pruned() if draft.is_pruned else claim.plain()
-    found = digest_at_cap(claim)
-    if found and max(found) < 16:
-        draft.roots = [found.get(node, 0) for node in range(max(found) + 1)]
-
-
 CHANGES = [
     change_height, change_height, empty_heights, no_matrices, change_width, change_rows_number, change_salts_number,
     change_row_width, change_salt_width, change_word, change_siblings, change_index, no_roots, another_root,
     change_sets_number, change_salt_sets_number, change_both_sets, no_queries, repeat_query,
 ]
-FITS = [(fit_salts, 0.7), (fit_siblings, 0.7), (fit_roots, 0.7)]
-
-
-def changed(random, draft):
-    """A draft with a few changes, made to fit in some respects."""
-    other = draft.copy()
-    for _ in range(random.choice([1, 1, 2, 2, 3, 4, 6])):
-        random.choice(CHANGES)(random, other)
-    for fit, chance in FITS:
-        if random.random() < chance:
-            fit(random, other)
-    if random.random() < 0.2:
-        random.choice(CHANGES)(random, other)
-    return other
+FITS = [fit_salts, fit_siblings]

@@ -1,8 +1,7 @@
 """Why openings are refused: tables whose rows are looked at in order. The first row that holds is answered.
 
-Each row of a table yields, of a claim, the name of what is wrong and the text of the error. It does so whatever the
-other rows say, so that it can be told which of them hold together. Where a row says something of a path that can't be
-followed, it does not hold.
+Each row of a table yields, of a claim, the name of what is wrong and the text of the error, whatever the other rows say.
+Where a row says something of a path that can't be followed, it does not hold.
 """
 
 import texts
@@ -260,11 +259,6 @@ SALTED += [joined_with_salts(row) for row in (salt_widths, index_bound, cap_entr
 SALTED_PRUNED = [salt_sets_number, salted_sets, widened, *HEIGHTS, sets_number, no_query, highest_index]
 JOINED_SETS = [repeats, digests_number, salt_set_widths, groups, cap_entries]
 SALTED_PRUNED += [joined_sets_with_salts(row) for row in JOINED_SETS]
-
-
-def faults(table, claim):
-    """All that is wrong with a claim, in the order in which it is looked at: names with texts."""
-    return [fault for row in table for fault in row(claim)]
 
 
 def refusal(table, claim):

@@ -1,6 +1,5 @@
 """The cases of SHA-256: messages, groups, and trees over bytes, which are 0, 1, 2 and so on modulo 251."""
 
-import notation
 from nodes import Sha256
 
 TOGETHER = 17

@@ -1,5 +1,5 @@
 #!/usr/bin/env python3
-"""tests/model/stored.py: answers the stored cases of the test programs by the definitions, and names each line that says
+"""tests/model/stored.py: answers the stored cases of the test programs by the definitions. It names each line that says
 otherwise, with the model's answer."""
 
 import re
@@ -54,8 +54,8 @@ def tests(crate, is_quick):
             if not cases.is_case(line) or (is_quick and SLOW.search(line)):
                 continue
             kind, expected, answer = ANSWERS[crate](line)
-            faults = [] if answer == expected else [f"line {number}: {line[:400]}", f"the model answers: {answer[:400]}"]
-            yield f"{crate}: {kind}", faults
+            faults = [f"line {number}: {line[:400]}", f"the model answers: {answer[:400]}"]
+            yield f"{crate}: {kind}", [] if answer == expected else faults
     if crate == "merkle_cases":
         yield "the block of ChaCha20 in RFC 8439", [] if salts.check_block() else ["the model has another"]
 
