@@ -8,7 +8,7 @@ from extraction import extract, extract_pruned, restored_checks
 from nodes import Fold
 from pruned import boundary_len, suffices
 from refusals import (
-    PRUNED, REPLAY, RESTORED, SALTED, SALTED_PRUNED, SINGLE, Claim, highest_index, refusal, width_fault,
+    PRUNED, REPLAY, RESTORED, SALTED, SALTED_PRUNED, SINGLE, Claim, refusal, width_fault,
 )
 from salts import Generator, generator_of
 from schemes import Scheme
@@ -115,13 +115,9 @@ def steps(fields):
     return notation.print_numbers(geometry.ladder(arity, fields.numbers())[1])
 
 
-def positions_of(shape, layer, index):
-    return [shape.ancestor(level, index) % step for level, step in enumerate(shape.steps[:layer])]
-
-
 def positions(fields):
     shape = Scheme(fields.number(), 0, geometry.FIXED).shape(fields.numbers())
-    return notation.print_numbers(positions_of(shape, fields.number(), fields.number()))
+    return notation.print_numbers(shape.positions(fields.number(), fields.number()))
 
 
 def siblings(fields):
@@ -140,7 +136,7 @@ def widths(fields):
 def heights(fields):
     """There is no memory for a tree of too many rows."""
     scheme, columns = Scheme(2, 0, geometry.LOWERED), fields.columns()
-    refused = scheme.height_refusal([height for _, height in columns])
+    refused = scheme.height_refusal(heights_in(columns))
     claim = Claim(scheme, [], columns, 0, [[0] for _ in columns], [])
     has_memory = refused or claim.shape.tallest < MOST_ROWS
     built = verdict(refused) if has_memory else "out of memory"
@@ -166,11 +162,11 @@ def commit(fields):
 
 
 def shape(fields):
-    scheme, columns = fields.scheme(), fields.columns()
-    refused = scheme.height_refusal([height for _, height in columns])
+    scheme, heights = fields.scheme(), fields.numbers()
+    refused = scheme.height_refusal(heights)
     if refused:
         return refused
-    found = scheme.shape([height for _, height in columns])
+    found = scheme.shape(heights)
     lengths = " ".join(f"{raw}/{width}" for raw, width in found.lengths())
     return f"{notation.print_numbers(found.proof_steps)} | {lengths}"
 
@@ -186,7 +182,7 @@ def replay(fields):
     text = refusal(REPLAY, claim)
     if text:
         return text
-    positions = positions_of(claim.shape, claim.shape.cap_layer, index)
+    positions = claim.shape.positions(claim.shape.cap_layer, index)
     return f"{notation.print_numbers(claim.shape.proof_steps)} | {notation.print_numbers(positions)}"
 
 
@@ -198,25 +194,13 @@ def authenticated(fields):
 
 
 def pruned_len(fields):
-    scheme, columns = fields.scheme(), fields.columns()
-    claim = Claim(scheme, [], columns, fields.numbers(), [], [])
-    refused = scheme.height_refusal(claim.heights) or refusal([highest_index], claim)
-    return refused or str(boundary_len(claim.shape, claim.index))
-
-
-def size_refusal(scheme, sizes, queries):
-    """Why leaves are not opened: heights, or an index past the end."""
-    claim = Claim(scheme, [], sizes, queries, [], [])
-    return scheme.height_refusal(claim.heights) or refusal([highest_index], claim)
-
-
-def open_refusal(scheme, matrices, queries):
-    return size_refusal(scheme, [(1, len(rows)) for rows in matrices], queries)
+    scheme, heights, queries = fields.scheme(), fields.numbers(), fields.numbers()
+    return scheme.open_refusal(heights, queries) or str(boundary_len(scheme.shape(heights), queries))
 
 
 def open_leaf(fields):
     scheme, matrices, index = fields.scheme(), notation.matrices(fields.take()), fields.number()
-    refused = open_refusal(scheme, matrices, [index])
+    refused = scheme.open_refusal(map(len, matrices), [index])
     if refused:
         return refused
     rows, path = scheme.opening(scheme.tree(matrices), index)
@@ -225,7 +209,7 @@ def open_leaf(fields):
 
 def open_pruned(fields):
     scheme, matrices, queries = fields.scheme(), notation.matrices(fields.take()), fields.numbers()
-    refused = open_refusal(scheme, matrices, queries)
+    refused = scheme.open_refusal(map(len, matrices), queries)
     if refused:
         return refused
     sets, digests = scheme.pruned_opening(scheme.tree(matrices), queries)
@@ -235,7 +219,7 @@ def open_pruned(fields):
 def salted_open(fields):
     scheme, generator = fields.salted_scheme(), generator_of(fields.take())
     matrices, index = notation.matrices(fields.take()), fields.number()
-    refused = open_refusal(scheme, matrices, [index])
+    refused = scheme.open_refusal(map(len, matrices), [index])
     if refused:
         return refused
     tree = scheme.salted_tree(matrices, generator)
@@ -247,7 +231,7 @@ def salted_open(fields):
 def salted_pruned(fields):
     scheme, generator = fields.salted_scheme(), generator_of(fields.take())
     matrices, queries = notation.matrices(fields.take()), fields.numbers()
-    refused = open_refusal(scheme, matrices, queries)
+    refused = scheme.open_refusal(map(len, matrices), queries)
     if refused:
         return refused
     tree = scheme.salted_tree(matrices, generator)
@@ -265,7 +249,7 @@ def cap_or_refusal(scheme, generator, text):
         sizes = [(len(rows[0]), len(rows)) for rows in notation.matrices(text)]
     most = geometry.MAX_NUMBER - scheme.salts
     wide = (texts.too_large(matrix, width) for matrix, (width, _) in enumerate(sizes) if width > most)
-    refused = scheme.height_refusal([height for _, height in sizes]) or next(wide, None)
+    refused = scheme.height_refusal(heights_in(sizes)) or next(wide, None)
     if refused:
         return refused
     matrices = notation.numbered(sizes) if "x" in text else notation.matrices(text)
@@ -283,19 +267,23 @@ def salted_fork(fields):
     return " / ".join(cap_or_refusal(scheme, source, text) for source in (generator, fork))
 
 
+def heights_in(sizes):
+    return [height for _, height in sizes]
+
+
 def sha256_commit(fields):
     scheme, sizes = fields.scheme(), notation.dimensions(fields.take())
-    return scheme.height_refusal([height for _, height in sizes]) or sha256.roots(scheme, sizes)
+    return scheme.height_refusal(heights_in(sizes)) or sha256.roots(scheme, sizes)
 
 
 def sha256_open(fields):
     scheme, sizes, index = fields.scheme(), notation.dimensions(fields.take()), fields.number()
-    return size_refusal(scheme, sizes, [index]) or sha256.siblings(scheme, sizes, index)
+    return scheme.open_refusal(heights_in(sizes), [index]) or sha256.siblings(scheme, sizes, index)
 
 
 def sha256_pruned(fields):
     scheme, sizes, queries = fields.scheme(), notation.dimensions(fields.take()), fields.numbers()
-    return size_refusal(scheme, sizes, queries) or sha256.sent(scheme, sizes, queries)
+    return scheme.open_refusal(heights_in(sizes), queries) or sha256.sent(scheme, sizes, queries)
 
 
 def leaves(fields):
@@ -387,7 +375,7 @@ def lawful(tallest, width):
     pairs = [(first, second) for first in range(tallest + 1) for second in range(tallest + 1)]
     batches = [[(width, first)] + [(width, second)] * (second > 0) for first, second in pairs]
     scheme = Scheme(2, 0, geometry.LOWERED)
-    return [batch for batch in batches if not scheme.height_refusal([height for _, height in batch])]
+    return [batch for batch in batches if not scheme.height_refusal(heights_in(batch))]
 
 
 def batches(text):

@@ -75,6 +75,10 @@ class Shape:
         """The number of the node of a layer that is above a leaf."""
         return index // self.spans[layer]
 
+    def positions(self, layer, index):
+        """The places of a leaf's ancestors below a layer, each in its group."""
+        return [self.ancestor(level, index) % step for level, step in enumerate(self.steps[:layer])]
+
     def row(self, matrix, index):
         """The number of the row of a matrix that belongs to a leaf."""
         return index >> halvings(self.tallest, self.heights[matrix])

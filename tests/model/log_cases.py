@@ -297,13 +297,13 @@ def joins(source, limit, few):
 CASES = {"seal": seals, "prove": proves, "verify": verifies, "join": joins}
 CASES |= {"prove-consistency": proves_growth, "verify-consistency": verifies_growth}
 # How many entries a file has at most, and how many places of a text are damaged, or none for each.
-SIZES = [(1, 40), (3, None), (3, 40), (9, 40), (9, 40), (33, 40), (257, 5)]
+SIZES = [(1, 1), (9, 1), (33, 1), (257, 5), (3, None), (3, 40), (9, 40), (33, 40)]
 
 
-def cases(command, source, size, least=100):
-    """At least so many cases of a command; small files are damaged at few places."""
+def cases(command, source, size, least=200):
+    """At least so many cases of a command, of files of a size or of any."""
     made = 0
     while made < least:
-        for case in CASES[command](source, *((size, 5) if size else source.choice(SIZES))):
+        for case in CASES[command](source, *((size, 1) if size else source.choice(SIZES))):
             yield case
             made += 1

@@ -13,9 +13,8 @@ class Fold:
     def __init__(self, arity):
         self.arity = arity
 
-    def hash(self, words):
-        """Starts at 1 and takes each word in."""
-        state = 1
+    def hash(self, words, state=1):
+        """Starts at 1, unless it is told otherwise, and takes each word in."""
         for word in words:
             state = (31 * state + word) & WORD
         return state

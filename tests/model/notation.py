@@ -53,8 +53,8 @@ def print_numbers(values):
     return " ".join(map(str, values)) if values else "-"
 
 
-def print_rows(values, empty="none"):
-    return "; ".join(map(print_numbers, values)) if values else empty
+def print_rows(values):
+    return "; ".join(map(print_numbers, values)) if values else "none"
 
 
 def print_row_sets(values):

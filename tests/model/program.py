@@ -5,7 +5,6 @@ import re
 from geometry import FIXED, LOWERED, MAX_NUMBER
 from nodes import Fold, Sha256
 from pruned import boundary_len
-from refusals import Claim, highest_index, refusal
 from schemes import Scheme
 
 USAGE = "usage: mmcs fold|sha256 2|4|8 CAP[f] commit|open I..|check I.."
@@ -75,13 +74,12 @@ def matrices_of(data, greatest):
 
 def lines_of(name, scheme, asked, indices, matrices):
     """The lines that are printed."""
-    columns = [(1, len(rows)) for rows in matrices]
-    claim = Claim(scheme, [], columns, indices, [], [])
-    refused = scheme.height_refusal(claim.heights) or refusal([highest_index], claim)
+    heights = list(map(len, matrices))
+    refused = scheme.open_refusal(heights, indices)
     if refused:
         raise Fault(refused)
     if asked == "check":
-        return [f"ok {boundary_len(claim.shape, indices)}"]
+        return [f"ok {boundary_len(scheme.shape(heights), indices)}"]
     tree = scheme.tree(matrices)
     if asked == "commit":
         return [hexadecimal(name, digest) for digest in tree.cap()]

@@ -1,7 +1,7 @@
 """Why openings are refused: tables whose rows are looked at in order. The first row that holds is answered.
 
-Each row of a table yields, of a claim, the name of what is wrong and the text of the error, whatever the other rows say.
-Where a row says something of a path that can't be followed, it does not hold.
+Each row of a table yields, of a claim, the name of what is wrong and the text of the error, whatever the other rows
+say. Where a row says something of a path that can't be followed, it does not hold.
 """
 
 import texts

@@ -4,9 +4,10 @@ import re
 
 import texts
 from extraction import restored_checks
-from nodes import WORD, Sha256
+from nodes import WORD, Fold, Sha256
 from refusals import HEIGHTS, PRUNED, RESTORED, SALTED, SALTED_PRUNED, SINGLE, Claim
-from refusals import highest_index, index_bound, refusal
+from refusals import index_bound, refusal
+from salts import Counting
 from schemes import Scheme
 
 # Each error with its text, and which of the numbers there are its fields.
@@ -34,24 +35,18 @@ def error(text):
     raise ValueError(text)
 
 
-class WideFold:
-    """The fold functions with digests of several words."""
+class WideFold(Fold):
+    """The fold functions with digests of several words: each word starts one higher, and is compressed by itself."""
 
     def __init__(self, arity, words):
-        self.arity = arity
+        super().__init__(arity)
         self.zero = [0] * words
 
     def hash(self, words):
-        state = [1 + place for place in range(len(self.zero))]
-        for word in words:
-            state = [(31 * own + word) & WORD for own in state]
-        return state
+        return [Fold.hash(self, words, start) for start in range(1, len(self.zero) + 1)]
 
     def compress(self, children):
-        state = self.zero
-        for place, child in enumerate(children + [self.zero] * (self.arity - len(children))):
-            state = [(31 * own + word + place) & WORD for own, word in zip(state, child)]
-        return state
+        return [Fold.compress(self, [child[place] for child in children]) for place in range(len(self.zero))]
 
 
 class Bytes(Sha256):
@@ -65,17 +60,6 @@ class Bytes(Sha256):
     def compress(self, children):
         padding = [self.zero] * (self.arity - len(children))
         return self.hash(byte for child in children + padding for byte in child)
-
-
-class Steps:
-    """A generator whose words are a, a + b, a + 2b and so on; a salt is the lowest bits of one."""
-
-    def __init__(self, first, step, mask):
-        self.next, self.step, self.mask = first, step, mask
-
-    def salt(self):
-        word, self.next = self.next, self.next + self.step
-        return word & self.mask
 
 
 class Line:
@@ -114,7 +98,7 @@ class Line:
         return self.list(lambda: (self.number(), self.number())[::-1])
 
     def generator(self):
-        return Steps(self.number(), self.number(), 0xFF if self.is_bytes else WORD)
+        return Counting(self.number(), self.number(), 0xFF if self.is_bytes else WORD)
 
     def matrices(self):
         def matrix():
@@ -172,8 +156,7 @@ def answer_over_matrices(line):
     generator = line.generator() if line.is_salted else None
     indices = {"open": lambda: [line.number()], "prune": line.row}.get(line.call, list)()
     matrices = line.drawn_matrices() if line.call == "large" else line.matrices()
-    columns = [(1, len(rows)) for rows in matrices]
-    text = refusal([*HEIGHTS, highest_index], Claim(line.scheme, [], columns, indices, [], []))
+    text = line.scheme.open_refusal(map(len, matrices), indices)
     if text:
         return text, None
     tree = line.scheme.salted_tree(matrices, generator) if generator else line.scheme.tree(matrices)
@@ -201,8 +184,7 @@ def answer_over_dimensions(line):
         text = refusal([*HEIGHTS, index_bound], claim)
         if not text and siblings != shape.siblings:
             text = texts.siblings(shape.siblings, siblings)
-        steps = shape.proof_steps
-        return text, (steps, [shape.ancestor(level, claim.index) % step for level, step in enumerate(steps)])
+        return text, (shape.proof_steps, shape.positions(shape.cap_layer, claim.index))
     claim = line.claim()
     tables = {"verify": (SINGLE, SALTED), "vprune": (PRUNED, SALTED_PRUNED), "restore": (RESTORED,)}
     text = refusal(tables[line.call][line.is_salted], claim)

@@ -61,20 +61,19 @@ class Generator:
 
 
 class Counting:
-    """A generator whose salts go up by a step."""
+    """A generator whose words go up by a step; a salt is the lowest bits of one."""
 
-    def __init__(self, last, step):
-        self.last = last
-        self.step = step
+    def __init__(self, first, step, mask=WORD):
+        self.next, self.step, self.mask = first, step, mask
 
     def salt(self):
-        self.last += self.step
-        return self.last
+        word, self.next = self.next, self.next + self.step
+        return word & self.mask
 
 
 def generator_of(text):
     """The generator that a field names: a seed, or one whose salts are told at sight."""
-    return {"tens": Counting(0, 10), "hundred": Counting(99, 1)}.get(text) or Generator(int(text))
+    return {"tens": Counting(10, 10), "hundred": Counting(100, 1)}.get(text) or Generator(int(text))
 
 
 def salts_of(generator, matrices, count):

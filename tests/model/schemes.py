@@ -3,7 +3,7 @@
 from geometry import shape_of
 from nodes import Fold, Tree
 from pruned import digests_of
-from refusals import HEIGHTS, Claim, refusal
+from refusals import HEIGHTS, Claim, highest_index, refusal
 from salts import salts_of
 
 
@@ -25,8 +25,12 @@ class Scheme:
 
     def height_refusal(self, heights):
         """Why no tree has these heights; none where one has."""
-        columns = Claim(self, [], [(1, height) for height in heights], 0, [], [])
-        return refusal(HEIGHTS, columns)
+        return refusal(HEIGHTS, Claim(self, [], [(1, height) for height in heights], 0, [], []))
+
+    def open_refusal(self, heights, queries):
+        """Why leaves are not opened: heights, or an index past the end."""
+        columns = Claim(self, [], [(1, height) for height in heights], queries, [], [])
+        return refusal([*HEIGHTS, highest_index], columns)
 
     def opening(self, tree, index):
         """The honest opening of a leaf: rows and siblings."""
