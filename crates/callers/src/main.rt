@@ -5,6 +5,7 @@
 // The other callers of docs/CALLING.md, and that of README.md.
 mod coins;
 mod conflict;
+mod growing_log;
 mod messages;
 mod readme;
 mod rules;
@@ -66,6 +67,7 @@ fn main(rt: HostRuntime) -> Result<()> {
     several_rows::run(&rt)?;
     rules::run(&rt)?;
     salted::run(&rt)?;
+    growing_log::run(&rt)?;
     coins::run(&rt)?;
     let alloc = rt.alloc();
     let scheme = Sha::new(Sha256RowsInEights, Sha256NodesInEights::<2>, 0);
