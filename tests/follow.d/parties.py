@@ -2,7 +2,9 @@
 
 import os
 import shutil
+import signal
 import subprocess
+import time
 from pathlib import Path
 
 import log_texts
@@ -32,8 +34,9 @@ def printed(ran):
 
 
 def contents(folder):
-    """Each file of a folder, with its bytes."""
-    return {str(path.relative_to(folder)): path.read_bytes() for path in folder.rglob("*") if path.is_file()}
+    """Each file of a folder, with its bytes, but for what a killed run was at work with."""
+    files = [path.relative_to(folder) for path in folder.rglob("*") if path.is_file()]
+    return {str(path): (folder / path).read_bytes() for path in files if path.parts[0] != ".work"}
 
 
 class Operator:
@@ -102,7 +105,8 @@ class Customer:
     """Whoever follows a log in a folder."""
 
     def __init__(self, folder, vkey):
-        self.folder, self.vkey, self.counts = folder, vkey, {"followed": 0, "refused": 0, "two histories": 0}
+        self.folder, self.vkey = folder, vkey
+        self.counts = dict.fromkeys(["followed", "refused", "two histories", "killed"], 0)
         folder.mkdir()
 
     def step(self, proof, words=None, **settings):
@@ -110,9 +114,26 @@ class Customer:
 
     def follows(self, proof, checkpoint):
         printed(self.step(proof))
-        if contents(self.folder) != {"checkpoint": checkpoint}:
+        if contents(self.folder) != {"checkpoint": checkpoint} or (self.folder / ".work").exists():
             raise Failed(f"the customer has {contents(self.folder)}, and not {checkpoint}")
         self.counts["followed"] += 1
+
+    def survives(self, proof, checkpoint, seconds):
+        """A run that is killed leaves the checkpoint that was there, or the new one. Whether it is the new one."""
+        before, path = contents(self.folder).get("checkpoint"), self.folder / "checkpoint"
+        words = [SHELL, SHARE / "fohlazu-follow", self.folder, self.vkey, "-"]
+        settings = {"stdin": subprocess.PIPE, "stdout": subprocess.DEVNULL, "stderr": subprocess.DEVNULL}
+        killed = subprocess.Popen([*map(str, words)], start_new_session=True, **settings)
+        killed.stdin.write(proof)
+        killed.stdin.close()
+        time.sleep(seconds)
+        os.killpg(killed.pid, signal.SIGKILL)
+        killed.wait()
+        after = path.read_bytes() if path.exists() else None
+        if after not in (before, checkpoint):
+            raise Failed(f"killed after {seconds} seconds: {after}")
+        self.counts["killed"] += 1
+        return after == checkpoint
 
     def refuses(self, why, status, proof=b"", words=None, **settings):
         """A refusal prints nothing, says why, and leaves the folder as it was."""
