@@ -4,6 +4,7 @@ SCHEDULER is the scheduler's file. The sealed parts are written to part.01, part
 no file is, the first worker that is in the middle of part 6 makes this file, and kills itself.
 """
 
+import faulthandler
 import os
 import signal
 import subprocess
@@ -14,13 +15,12 @@ from pathlib import Path
 from distributed import Client
 
 WORKERS = 2
-BLOCK = "4096"
-CHUNK = 1 << 20
+CHUNK = 1 << 16
 
 
 def seal(program: str, path: str, start: int, size: int, mark: str | None) -> bytes:
     """What `fohlazu seal --part` prints of some bytes of a file."""
-    command = [program, "seal", "--part", "--blocks", BLOCK, "-"]
+    command = [program, "seal", "--part", "--blocks", "4096", "-"]
     with open(path, "rb") as file, subprocess.Popen(command, stdin=subprocess.PIPE, stdout=subprocess.PIPE) as process:
         file.seek(start)
         end = start + size
@@ -41,10 +41,12 @@ def seal(program: str, path: str, start: int, size: int, mark: str | None) -> by
 
 def main() -> None:
     scheduler, program, path, part_bytes, *mark = sys.argv[1:]
-    with Client(scheduler_file=scheduler, timeout=60) as client:
-        client.wait_for_workers(WORKERS, timeout=60)
+    size, step = os.stat(path).st_size, int(part_bytes)
+    # ends the client, with where it stands, if it is late: 45 s, and one for each 16 MiB
+    faulthandler.dump_traceback_later(45 + (size >> 24), exit=True)
+    with Client(scheduler_file=scheduler, timeout=30) as client:
+        client.wait_for_workers(WORKERS, timeout=30)
         since = time.monotonic()
-        size, step = os.stat(path).st_size, int(part_bytes)
         parts = []
         for number, start in enumerate(range(0, size, step), 1):
             marked = mark[0] if mark and number == 6 else None
