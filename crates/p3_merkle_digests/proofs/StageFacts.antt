@@ -7,7 +7,7 @@ use Rattle.std.specs.Prelude.{sum_by}
 use Rattle.std.specs.Simd.{first_chunks}
 use Rattle.std.proofs.lemmas.Bool.{cases_lt}
 use Rattle.std.proofs.lemmas.List.{get_or-append_right, get_or-drop, get_or-take, drop-drop, length-take-le, length-map}
-use Rattle.std.proofs.lemmas.List.{get_or-map, get_or_append_left, take_all, take_at}
+use Rattle.std.proofs.lemmas.List.{get_or-map, get_or_append_left, take_at}
 use Rattle.std.proofs.lemmas.List.FromFn.{fill_by_all, get_or-map-range_with_len, length-map-range_with_len}
 use Rattle.std.proofs.lemmas.List.Sums.{sum_by-cons}
 use Rattle.std.proofs.Math.Seq.{drop-append-add}
@@ -140,14 +140,6 @@ fill_part f made xs ys a k n len same inside is each before =
           ∙ get_or-map-range_with_len made 0 (length (take k (drop a xs))) j j [] (omega (arith, part, h)) (omega arith)
           ∙ each j h) (omega arith) before.filled;
     }
-
--- one message that is staged is all of the words
-pub staged_one : {T : Type 0} (f : ℕ → List T) (words : List T) → IsStaged f 1 words → words ≡ f 0
-staged_one f words s =
-    let none : 0 * s.width ≡ 0 = omega arith in
-    sym (ap (λ k. take ((0 + 1) * s.width - k) (drop k words)) none
-    ∙ take_all ((0 + 1) * s.width - 0) words (omega (arith, s.long)))
-    ∙ ap (λ l. get_or l 0 []) s.are
 
 -- one more part is written, with the digests of the rows that are staged
 pub leaves_part : {T W : Type 0} (hash : List T → List W) (rows : ℕ → List T) (first : ℕ) (words : List T)

@@ -4,7 +4,7 @@ ghost use Rattle.std.specs.Mem.{FitsInMemory};
 ghost use denote.Param.{ArrayAt};
 ghost use Rattle.std.specs.Prelude.{◌≡◌, ℕ, ◌+◌, ◌-◌, ◌*◌, ◌%◌, ◌^◌, ◌<◌, ◌≤◌, ◌++◌, [], ◌∷◌, length, map, max, min};
 ghost use Rattle.std.specs.Prelude.{drop, replicate, slice_index_or, sum_by, take, All, IfOk, IfSome};
-ghost use Rattle.std.specs.List.{range_with_len};
+ghost use Rattle.std.specs.List.{flat_map, range_with_len};
 ghost use Rattle.p3_merkle_digests.specs.Inner.Slots.{rows_over, IsFilled, IsStaged};
 
 use p3_merkle_core::group::{padded_group, pair_group};
@@ -105,6 +105,13 @@ fn contiguous_rows<'b, T: Copy + Default, M: Matrix<T>>(
     Ok(staged.as_slice())
 }
 
+/// Both slices, with one lifetime, as an array of them needs.
+fn both<'b, T>(first: &'b [T], second: &'b [T]) -> [&'b [T]; 2]
+    ensures { flat_map (λ words. words.now) result ≡ first.now ++ second.now }
+{
+    [first, second]
+}
+
 impl<
     'a,
     P: PackedValue,
@@ -113,6 +120,34 @@ impl<
     M: Matrix<P::Value>,
     const D: usize,
 > LayerRows<'a, P, PW, H, M, [PW::Value; D]> {
+    /// The digest of a row, which has `len` words and is below the height. One that a lone matrix stores in two pieces is
+    /// hashed where it lies, others as [`contiguous_rows`] gives them. `staged` is a buffer for a row.
+    fn row_digest(
+        &self,
+        staged: &mut Vec<P::Value>,
+        len: usize,
+        row: usize,
+    ) -> Result<[PW::Value; D], AllocError>
+        requires len { len ≡ sum_by M.width_of self.now.matrices.now }
+        requires row { row < self.now.height }
+        ensures { let words = rows_over M.row_of self.now.matrices.now row in
+            IfOk result (λ digest. digest ≡ H.hash self.now.hash.now words) }
+    {
+        if let [matrix] = self.matrices {
+            let left = matrix.piece(row, 0);
+            if left.len() < len {
+                let right = matrix.piece(row, left.len());
+                let rest = len - left.len();
+                if rest <= right.len() {
+                    let pieces = both(left, &right[..rest]);
+                    return Ok(self.hash.hash_iter_slices(pieces.iter().copied()));
+                }
+            }
+        }
+        let words = contiguous_rows(staged, self.matrices, self.height, len, row, 1)?;
+        Ok(self.hash.hash_slice(words))
+    }
+
     /// Writes the digest of row `first + j` into each slot `j`, at most as many rows per call as [`messages_per_call`]
     /// says. There must be at most as many slots as rows from `first` on. `staged` is a buffer for rows.
     ///
@@ -144,20 +179,17 @@ impl<
             [matrix] if H::LANES == 1 && matrix.piece(first, 0).len() / 2 < len => 1,
             _ => messages_per_call(bytes, H::LANES),
         };
+        // Read first, for the proof: the height bounds the sum in the loop.
+        let height = self.height;
         let mut done = 0;
         while done < slots.len() {
             let count = rows.min(slots.len() - done);
-            let words = contiguous_rows(
-                staged,
-                self.matrices,
-                self.height,
-                len,
-                first + done,
-                count,
-            )?;
+            let row = first + done;
             if count == 1 {
-                slots[done] = self.hash.hash_slice(words);
+                let digest = self.row_digest(staged, len, row)?;
+                slots[done] = digest;
             } else {
+                let words = contiguous_rows(staged, self.matrices, height, len, row, count)?;
                 self.hash.hash_many(words, &mut slots[done..done + count]);
             }
             done += count;

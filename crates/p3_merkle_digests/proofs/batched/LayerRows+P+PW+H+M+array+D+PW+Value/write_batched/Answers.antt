@@ -1,12 +1,12 @@
 -- Each turn writes the slots of one call.
-use Rattle.std.proofs.Common.{arith, ℕ, ◌≡◌, ◌+◌, ◌-◌, ◌≤◌, ◌∙◌, [], ap, length, length-set}
+use Rattle.std.proofs.Common.{arith, ℕ, ◌≡◌, ◌+◌, ◌-◌, ◌≤◌, ◌∙◌, [], length, length-set}
 use Rattle.std.proofs.lemmas.List.FromFn.{fill_by_all}
 use Rattle.p3_support.proofs.Fills.{filled_more}
 use Rattle.p3_merkle_digests.specs.Inner.Slots.{rows_over}
-use Rattle.p3_merkle_digests.proofs.StageFacts.{leaves_part, staged_one}
+use Rattle.p3_merkle_digests.proofs.StageFacts.{leaves_part}
 use Rattle.p3_merkle_digests.proofs.batched.LayerRows+P+PW+H+M+array+D+PW+Value.write_batched.Goals as goal
-use Rattle.p3_merkle_digests.proofs.batched.LayerRows+P+PW+H+M+array+D+PW+Value.write_batched.Goals.{then-count-eq1}
-use Rattle.p3_merkle_digests.proofs.batched.LayerRows+P+PW+H+M+array+D+PW+Value.write_batched.Goals.{else-count-eq1}
+use Rattle.p3_merkle_digests.proofs.batched.LayerRows+P+PW+H+M+array+D+PW+Value.write_batched.Goals.{then-count-eq1+in_ok-digest}
+use Rattle.p3_merkle_digests.proofs.batched.LayerRows+P+PW+H+M+array+D+PW+Value.write_batched.Goals.{else-count-eq1+in_ok-words}
 
 pub loop-done-preserved : goal.loop-done-preserved
 loop-done-preserved g c =
@@ -20,20 +20,16 @@ loop-done-preserved g c =
     let same : k ≡ n = omega arith in (
       omega (arith, inside, c.loop-done.invariant.1.long),
       elim c.if-count-eq1.branch [
-        | then-count-eq1 w ↦
+        | then-count-eq1+in_ok-digest w ↦
             let one : n ≡ 1 = w.if-count-eq1.true in
-            let staged = rw one at c.in_ok-words.ensures in
-            let digest : w.hash_slice.result ≡ hash (rows (c.args.first + done)) = w.hash_slice.ensures
-            ∙ ap hash (staged_one (λ (j : ℕ). rows (c.args.first + done + j)) c.in_ok-words.words.now staged)
-            ∙ ap (λ i. hash (rows i)) (omega arith) in
             rw (w.slots-is, one) (record {
-              long = length-set xs done w.hash_slice.result ∙ c.loop-done.invariant.1.long;
-              filled = filled_more (λ (j : ℕ). hash (rows (c.args.first + j))) xs done w.hash_slice.result []
-                  (omega (arith, inside, one)) digest c.loop-done.invariant.1.filled;
+              long = length-set xs done w.in_ok-digest.digest ∙ c.loop-done.invariant.1.long;
+              filled = filled_more (λ (j : ℕ). hash (rows (c.args.first + j))) xs done w.in_ok-digest.digest []
+                  (omega (arith, inside, one)) w.in_ok-digest.ensures c.loop-done.invariant.1.filled;
             })
-        | else-count-eq1 w ↦ rw w.slots-is
-            (leaves_part hash rows c.args.first c.in_ok-words.words.now xs w.hash_many.new.out done k n
-            (length c.args.slots.now) same inside (rw (← same) at c.in_ok-words.ensures) w.hash_many.ensures
+        | else-count-eq1+in_ok-words w ↦ rw w.slots-is
+            (leaves_part hash rows c.args.first w.in_ok-words.words.now xs w.hash_many.new.out done k n
+            (length c.args.slots.now) same inside (rw (← same) at w.in_ok-words.ensures) w.hash_many.ensures
             c.loop-done.invariant.1)
       ],
     )
