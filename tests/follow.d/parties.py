@@ -12,6 +12,14 @@ import logs
 
 SHARE, ORIGIN, SECONDS = Path(__file__).resolve().parent.parent.parent / "share", b"ledger.example", 120
 SHELL = os.environ.get("SHELL_OF_TESTS") or shutil.which("dash") or "sh"
+# What a run without its arguments prints: the comment at the top of the script.
+HEADER = "".join(line[1:].removeprefix(" ") for line in (SHARE / "fohlazu-follow").read_text().partition("set -eu")[0]
+                 .splitlines(True)[1:]).encode()
+BLOCK, PAGE = 4096, b"<html>\n\n<h1>404</h1>\n\n\xe2\x80\x94 not found\n"
+NOT_WHOLE = b" is no growth proof, or not whole: fetch it again ("
+# What is said of forgeries; of the others that they are refused.
+SAID = dict.fromkeys(["a cut proof", "nothing", "a page", "a carriage return", "not signed"], NOT_WHOLE)
+SAID["another old count"] = b" begins at "
 
 
 class Failed(Exception):
@@ -36,7 +44,7 @@ def printed(ran):
 def contents(folder):
     """Each file of a folder, with its bytes, but for what a killed run was at work with."""
     files = [path.relative_to(folder) for path in folder.rglob("*") if path.is_file()]
-    return {str(path): (folder / path).read_bytes() for path in files if path.parts[0] != ".work"}
+    return {str(path): (folder / path).read_bytes() for path in files if path.parts[0] != ".next"}
 
 
 class Operator:
@@ -75,7 +83,7 @@ class Operator:
         digests, new = self.log.subproof(old, 0, size, True), self.signed(size, root)
         unsigned, at = log_texts.checkpoint_text(ORIGIN, size, root), source.randrange(len(digests))
         place = source.randrange(len(new) - 90, len(new) - 10)
-        changed = new[:place] + bytes([new[place] ^ 1 << source.randrange(5)]) + new[place + 1:]
+        changed = new[:place] + (b"B" if new[place:place + 1] == b"A" else b"A") + new[place + 1:]
         yield "another key", text(old, digests, self.signed(size, root, self.other))
         yield "another name", text(old, digests, self.signed(size, root, origin=b"other.example"))
         yield "not signed", text(old, digests, unsigned)
@@ -92,6 +100,8 @@ class Operator:
                                       self.signed(size, rewritten.root(0, size)))
         yield "a cut proof", text(old, digests, new)[: -source.randint(1, 100)]
         yield "nothing", b""
+        yield "a page", PAGE
+        yield "a carriage return", text(old, digests, new).replace(b"\n", b"\r\n")
 
     def histories(self, old):
         """A signed checkpoint of so many entries with another root, in two proofs, a true one and another."""
@@ -106,7 +116,7 @@ class Customer:
 
     def __init__(self, folder, vkey):
         self.folder, self.vkey = folder, vkey
-        self.counts = dict.fromkeys(["followed", "refused", "two histories", "killed"], 0)
+        self.counts = dict.fromkeys(["followed", "nothing new", "refused", "two histories", "killed"], 0)
         folder.mkdir()
 
     def step(self, proof, words=None, **settings):
@@ -114,9 +124,16 @@ class Customer:
 
     def follows(self, proof, checkpoint):
         printed(self.step(proof))
-        if contents(self.folder) != {"checkpoint": checkpoint} or (self.folder / ".work").exists():
+        if contents(self.folder) != {"checkpoint": checkpoint} or (self.folder / ".next").exists():
             raise Failed(f"the customer has {contents(self.folder)}, and not {checkpoint}")
         self.counts["followed"] += 1
+
+    def has(self, proof):
+        """A proof, or another's checkpoint, of the entries and the root that are stored already."""
+        before, ran = contents(self.folder), self.step(proof)
+        if b"the same root: nothing is new" not in printed(ran) or contents(self.folder) != before:
+            raise Failed(f"nothing new: {ran}, {contents(self.folder)}")
+        self.counts["nothing new"] += 1
 
     def survives(self, proof, checkpoint, seconds):
         """A run that is killed leaves the checkpoint that was there, or the new one. Whether it is the new one."""
@@ -135,22 +152,58 @@ class Customer:
         self.counts["killed"] += 1
         return after == checkpoint
 
-    def refuses(self, why, status, proof=b"", words=None, **settings):
+    def refuses(self, why, status, proof=b"", words=None, said=b"", **settings):
         """A refusal prints nothing, says why, and leaves the folder as it was."""
         before, ran = contents(self.folder), self.step(proof, words, **settings)
-        names = b"fohlazu: ", b"fohlazu-open: ", b"fohlazu-follow: ", b"cat: "
-        is_said = ran.stderr and all(line.startswith(names) for line in ran.stderr.splitlines())
+        lines = [line for line in ran.stderr.splitlines() if not line.startswith(b"cat: ")]
+        is_said = len(lines) == 1 and lines[0].startswith(b"fohlazu-follow: ") and said in lines[0]
+        is_said |= ran.stderr == HEADER and words is not None and len(words) != 3
         if ran.returncode != status or ran.stdout or not is_said or contents(self.folder) != before:
             raise Failed(f"{why}: {ran}, {proof}\n{before}\n{contents(self.folder)}")
         self.counts["refused"] += 1
 
-    def finds(self, proof, forked):
-        """Two histories are stored and named; no other file changes."""
-        before, ran = contents(self.folder), self.step(proof)
-        [found] = self.folder.glob("two-histories-*")
-        expected = {**before, f"{found.name}/old": before["checkpoint"], f"{found.name}/new": forked}
-        are_named = all(str(found / name).encode() in ran.stderr for name in ("old", "new"))
-        if ran.returncode != 1 or ran.stdout or not are_named or contents(self.folder) != expected:
+    def begins(self, count):
+        """What is said of a proof from another count."""
+        path = self.folder / "checkpoint"
+        have = int(path.read_bytes().splitlines()[1]) if path.exists() else 0
+        return (f"fohlazu-follow: standard input begins at {count} entries, and {path} has {have}: "
+                f"take the one from {have} first, or ask for prove-consistency").encode()
+
+    def finds(self, proof, forked, is_full=False):
+        """Two histories are announced, then stored and named, if there is room; no other file changes."""
+        path = self.folder.parent / "their proof"
+        path.write_bytes(proof)
+        before, ran = contents(self.folder), self.step(b"", [self.folder, self.vkey, path])
+        both, files = f"{path} and {self.folder}/checkpoint", []
+        if is_full:
+            end = f"no copies (No space left on device): keep {both} as evidence\n"
+        else:
+            files = [*self.folder.glob("two-histories-*")]
+            end = "".join(f"keep {found}/old and {found}/new as evidence\n" for found in files)
+        expected = before | {f"{found.name}/{name}": text for found in files
+                             for name, text in (("old", before["checkpoint"]), ("new", forked))}
+        said = f"fohlazu-follow: two histories of one log: {both}, both signed\nfohlazu-follow: {end}".encode()
+        if (ran.returncode, ran.stdout, ran.stderr, contents(self.folder)) != (3, b"", said, expected):
             raise Failed(f"two histories: {ran}, {contents(self.folder)}")
-        shutil.rmtree(found)
+        for found in files:
+            shutil.rmtree(found)
         self.counts["two histories"] += 1
+
+    def fills_its_disk(self, operator, days):
+        """Two histories are announced on a full disk too. It needs a disk that can be mounted."""
+        [(first, _), (last, growth)] = days[-2:]
+        mount = ["mount", "-t", "tmpfs", "-o", f"size={2 * BLOCK},mode=700", "tmpfs", self.folder]
+        if run(*mount).returncode:
+            print("follow: a full disk: skipped, none can be mounted")
+            return
+        try:
+            (self.folder / "checkpoint").write_bytes(first)
+            (self.folder / "filler").write_bytes(bytes(BLOCK))
+            for proof, forked in operator.histories(int(first.splitlines()[1])):
+                self.finds(proof, forked, is_full=True)
+            self.refuses("a full disk", 2, growth, said=b" cannot be written: No space left on device")
+            self.has(first)
+            (self.folder / "filler").unlink()
+            self.follows(growth, last)
+        finally:
+            printed(run("umount", self.folder))
