@@ -56,8 +56,7 @@ def verify_inclusion(index: int, size: int, leaf: bytes, proof: Digests, root: b
     check_question(size, [index, size], [leaf, root, *proof])
     if index >= size: raise Refused(Reason.INDEX_PAST_END)  # 1
     r = leaf  # 3
-    for p, is_left in climb(index, size - 1, proof):  # 2, 4
-        r = node_hash(p, r) if is_left else node_hash(r, p)
+    for p, is_left in climb(index, size - 1, proof): r = node_hash(p, r) if is_left else node_hash(r, p)  # 2, 4
     if r != root: raise Refused(Reason.ROOT_MISMATCH)  # 5
 
 def verify_consistency(old_size: int, new_size: int, proof: Digests, old_root: bytes, new_root: bytes) -> None:
@@ -123,8 +122,7 @@ SIGNATURE = f"\u2014 [^{OUT} +]+ (?=.{{8}})(?!.{{6}}==(?m:$)){BASE64}"  # base64
 
 class Text:
     """A text that is read line by line. It is refused at the first line where something else is expected."""
-    def __init__(self, data: bytes, where: str = "") -> None:
-        self.data, self.where, self.at = data, where, 0
+    def __init__(self, data: bytes, where: str = "") -> None: self.data, self.where, self.at = data, where, 0
     def refused(self, expected: str) -> Refused:
         """Says what is expected, and what is found if an editor or a transfer often does that to a text."""
         line, feed, _ = self.data[self.at :].partition(b"\n")
@@ -132,8 +130,7 @@ class Text:
         if not feed: found = ", but the last line has no line feed" if line else ", but the text ends"
         if self.at == 0 and line.startswith(b"\xef\xbb\xbf"): found = ", but the text begins with a byte order mark"
         return Refused(f"line {self.data.count(10, 0, self.at) + 1}{self.where}: expected {expected}{found}")
-    def stands(self, *fronts: bytes) -> bool:
-        return self.data[self.at : self.at + 1] in fronts
+    def stands(self, *fronts: bytes) -> bool: return self.data[self.at : self.at + 1] in fronts
     def line(self, expected: str, pattern: str) -> tuple[str, list[int]]:
         """Reads a line by a pattern, and the numbers up to 2^62 that are its groups."""
         end = self.data.find(b"\n", self.at)
@@ -151,14 +148,15 @@ def parse_checkpoint(note: bytes, where: str = "") -> Checkpoint:
     text, is_part = Text(note, where), note.startswith(b"fohlazu part 1\n")
     if len(note) > 10**6: raise text.refused("a text of at most 1000000 bytes")
     if is_part: raise text.refused("the origin of a log, not that of a part, which only `join` takes")
-    origin, _ = text.line("1 to 100 characters, no control character, and no space first or last", ORIGIN)
-    size, root = text.line("a number up to 2^62", NUMBER)[1][0], text.digest()
+    origin, _ = text.line("the origin: 1 to 100 characters, no control character, and no space first or last", ORIGIN)
+    size, root = text.line("the number of entries, up to 2^62", NUMBER)[1][0], text.digest()
     while not text.stands(b"", b"\n"):
         text.line("text without control characters, a blank line or the end", f"[^{OUT}]+")
     if not text.stands(b""):
         text.line("a blank line", "")
-        for count in range(100):
-            if count == 0 or not text.stands(b"", b"\n"): text.line("`\u2014 NAME BASE64`", SIGNATURE)
+        for _ in range(100):
+            text.line("a signature, `\u2014 NAME BASE64`, after the blank line", SIGNATURE)
+            if text.stands(b"", b"\n"): break
     if not text.stands(b""): raise text.refused("the end")
     return Checkpoint(origin, size, root)
 
@@ -229,12 +227,14 @@ class Library:
 
 # ---- the commands, and what they say of a verifier's reason
 WORDS: dict[str, dict[Reason | None, str]] = {"verify": {
-    Reason.TOO_FEW_DIGESTS: "it has too few digests", Reason.TOO_MANY_DIGESTS: "it has too many digests",
+    Reason.TOO_FEW_DIGESTS: "it has too few digests: is it under another checkpoint?",
+    Reason.TOO_MANY_DIGESTS: "it has too many digests: is it under another checkpoint?",
     Reason.NO_INDICES: "it has no entries", Reason.TWO_LEAF_HASHES: "it has two entries of one number",
     Reason.INDEX_PAST_END: "it has an entry past the last one of the checkpoint",
+    Reason.ROOT_MISMATCH: "its entries or digests are not those of the checkpoint"}, "verify-consistency": {
+    Reason.TOO_FEW_DIGESTS: "it has too few digests", Reason.TOO_MANY_DIGESTS: "it has too many digests",
     Reason.OLD_ROOT_MISMATCH: "it does not begin with the entries of the old checkpoint",
-    Reason.ROOT_MISMATCH: "its entries or digests are not those of the checkpoint"}}
-WORDS["verify-consistency"] = {**WORDS["verify"], Reason.ROOT_MISMATCH: "it does not lead to the new checkpoint"}
+    Reason.ROOT_MISMATCH: "it does not lead to the new checkpoint"}}
 
 def parse_args(words: list[str]) -> argparse.Namespace:
     """The arguments of a command. Options stand anywhere ahead of `--`, each once."""
@@ -280,7 +280,7 @@ def answer_verify(checkpoint: Checkpoint, proof: bytes, args: argparse.Namespace
         if expected is None: raise Refused(f"entry {got}, which is not requested: {hint}")
         if got is None: raise Refused(f"no entry {expected}, which is requested: {hint}")
         if got != expected: raise Refused(f"entry {got}, where {expected} is requested: {hint}")
-    hint = "`--raw` prints one entry byte for byte"
+    hint = "give `--blocks` as for `seal`, or `--raw` to print one entry"
     for number, data in entries:
         is_block = len(data) == block or number == checkpoint.size and 0 < len(data) < block
         is_one = is_block if block else args.raw or b"\n" not in data
@@ -296,7 +296,8 @@ def answer_verify_consistency(old: Checkpoint, proof: bytes, args: argparse.Name
     new = parse_checkpoint(note, " of its checkpoint")
     for vkey in args.key: verify_note(note, vkey)
     if old.origin != new.origin: raise Refused("its origin is not that of the old checkpoint")
-    if old.size > new.size: raise Refused(f"it has {new.size} entries, fewer than the {old.size} of the old checkpoint")
+    if old.size > new.size:
+        raise Refused(f"it has {new.size} entries, fewer than the {size} of the old checkpoint: are both exchanged?")
     if old.size == new.size and old.root != new.root:
         raise Refused("two histories of one log, with one size and different roots: keep both checkpoints as evidence")
     verify_consistency(old.size, new.size, digests, old.root, new.root)
@@ -307,8 +308,7 @@ def main() -> int:
     try:
         args = parse_args([os.fsencode(word).decode() for word in sys.argv[1:]])
         for vkey in args.key: parse_key(vkey)
-        note, proof = map(read, args.files)
-        where = f"{args.files[0]}: "
+        (note, proof), where = map(read, args.files), f"{args.files[0]}: "
         checkpoint, status = parse_checkpoint(note), 1
         answer = answer_verify if args.command == "verify" else answer_verify_consistency
         for vkey in args.key if answer is answer_verify else []: verify_note(note, vkey)

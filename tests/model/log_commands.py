@@ -23,7 +23,8 @@ REASONS |= {logs.ROOT_MISMATCH: "it does not lead to the new checkpoint"}
 # The same of a proof of entries, by what the model's verifier says.
 ENTRIES = {"there are no indices": "it has no entries"}
 ENTRIES |= {"an index is not below the size": "it has an entry past the last one of the checkpoint"}
-ENTRIES |= {f"the proof has too {number} digests": f"it has too {number} digests" for number in ("few", "many")}
+ENTRIES |= {f"the proof has too {number} digests": f"it has too {number} digests: is it under another checkpoint?"
+            for number in ("few", "many")}
 ENTRIES |= {"one index has two leaf hashes": "it has two entries of one number"}
 ENTRIES |= {"the proof is of another root": "its entries or digests are not those of the checkpoint"}
 # What is said of entries that are verified without numbers.
@@ -175,7 +176,8 @@ def tree_under(told, data, size, root):
     found = entries_of(told, data, size)
     refuse_if(len(found) < size, told.FILE, f"it has {len(found)} of the {size} entries of the checkpoint")
     log = logs.Log(found)
-    refuse_if(log.root(0, size) != root, told.FILE, "its entries are not those that were sealed in the checkpoint")
+    refuse_if(log.root(0, size) != root, told.FILE, "its entries are not those that were sealed in the checkpoint: "
+              "they were changed, or it is cut otherwise")
     return log, found
 
 
@@ -221,8 +223,8 @@ def verify(told, inputs):
     wanted = [*islice(chain(*told.ranges), len(names) + 1)]
     refuse_if(wanted and names != wanted, told.PROOF, other_number(names, wanted))
     for name, data in found:
-        why = f"entry {name} is no line, or no block of this size: `--raw` prints one entry byte for byte"
-        refuse_if(not is_printable(told, size, name, data), told.PROOF, why)
+        refuse_if(not is_printable(told, size, name, data), told.PROOF, f"entry {name} is no line, or no block of this "
+                  "size: give `--blocks` as for `seal`, or `--raw` to print one entry")
     leaves = [logs.leaf_hash(data) for _, data in found]
     verdict = logs.entries(size, [name - 1 for name in names], leaves, digests, root)
     refuse_if(verdict != "accepted", told.PROOF, ENTRIES.get(verdict))
@@ -233,7 +235,8 @@ def verify(told, inputs):
 def compare(name, old, new):
     """Refuses a new checkpoint that does not follow an old one."""
     refuse_if(old[0] != new[0], name, "its origin is not that of the old checkpoint")
-    refuse_if(old[1] > new[1], name, f"it has {new[1]} entries, fewer than the {old[1]} of the old checkpoint")
+    refuse_if(old[1] > new[1], name, f"it has {new[1]} entries, fewer than the {old[1]} of the old checkpoint: "
+              "are both exchanged?")
     refuse_if(old[1] == new[1] and old[2] != new[2], name, "two histories of one log, with one size and different "
               "roots: keep both checkpoints as evidence")
 

@@ -80,7 +80,7 @@ pub enum Refusal {
         expected: usize,
     },
     /// A file with other entries than the checkpoint.
-    #[error("its entries are not those that were sealed in the checkpoint")]
+    #[error("its entries are not those that were sealed in the checkpoint: they were changed, or it is cut otherwise")]
     OtherEntries,
     /// A file that begins with other entries than those of the old checkpoint.
     #[error("its first entries are not those of the old checkpoint")]
@@ -95,7 +95,8 @@ pub enum Refusal {
     #[error("entry {0}, which is not requested: without numbers `verify` prints those that it has")]
     UnrequestedEntry(usize),
     /// A proof with an entry that a file of lines, or of such blocks, does not have.
-    #[error("entry {0} is no line, or no block of this size: `--raw` prints one entry byte for byte")]
+    #[error("entry {0} is no line, or no block of this size: give `--blocks` as for `seal`, or \
+             `--raw` to print one entry")]
     NoSuchEntry(usize),
     /// A proof of entries that the verifier refuses.
     #[error("{}", entries_words(.0))]
@@ -104,7 +105,7 @@ pub enum Refusal {
     #[error("its origin is not that of the old checkpoint")]
     OtherOrigin,
     /// A new checkpoint with fewer entries than the old one.
-    #[error("it has {new} entries, fewer than the {old} of the old checkpoint")]
+    #[error("it has {new} entries, fewer than the {old} of the old checkpoint: are both exchanged?")]
     SmallerSize {
         /// How many entries the old checkpoint has.
         old: usize,
@@ -140,8 +141,8 @@ fn entries_words(error: &EntriesError) -> &'static str {
     match error {
         EntriesError::NoIndices => "it has no entries",
         EntriesError::IndexPastEnd => "it has an entry past the last one of the checkpoint",
-        EntriesError::TooFewDigests => "it has too few digests",
-        EntriesError::TooManyDigests => "it has too many digests",
+        EntriesError::TooFewDigests => "it has too few digests: is it under another checkpoint?",
+        EntriesError::TooManyDigests => "it has too many digests: is it under another checkpoint?",
         EntriesError::TwoLeafHashes => "it has two entries of one number",
         // The others are no reasons of a proof: a checkpoint that is read has at most 2^62 entries.
         _ => "its entries or digests are not those of the checkpoint",

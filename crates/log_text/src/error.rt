@@ -51,21 +51,21 @@ pub enum Found {
 pub enum Expected {
     #[error("a text of at most 1000000 bytes")]
     ShortNote,
-    #[error("1 to 100 characters, no control character, and no space first or last")]
+    #[error("the origin: 1 to 100 characters, no control character, and no space first or last")]
     Origin,
     /// The origin of a log, where that of a part is.
     #[error("the origin of a log, not that of a part, which only `join` takes")]
     NotPart,
     #[error("`fohlazu part 1`")]
     PartOrigin,
-    #[error("a number up to 2^62")]
+    #[error("the number of entries, up to 2^62")]
     Size,
     #[error("the base64 of 32 bytes")]
     Digest,
     /// An extension line, or what may follow instead.
     #[error("text without control characters, a blank line or the end")]
     Extension,
-    #[error("`— NAME BASE64`")]
+    #[error("a signature, `— NAME BASE64`, after the blank line")]
     Signature,
     #[error("`fohlazu proof 1`")]
     ProofVersion,
