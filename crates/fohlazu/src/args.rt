@@ -123,8 +123,7 @@ pub(crate) fn parse_args<'a>(
 fn check_options(words: &[String]) -> Result<(), ArgsError<'_>> {
     let command = words.get(1).map_or("", |word| word.as_str());
     let row = COMMANDS.into_iter().find(|row| row.0 == command);
-    // Where there is no such command, one option is left.
-    let ids = row.map_or("version", |row| row.3);
+    let ids = row.map_or("version", |row| row.3); // one option is left where there is no such command
     for word in words.iter().skip(1) {
         let word = word.as_str();
         if word == "--" {
@@ -139,7 +138,8 @@ fn check_options(words: &[String]) -> Result<(), ArgsError<'_>> {
         let is_known = name == "--help"
             || ids.split(' ').any(|id| name.strip_prefix("--") == Some(id.trim_end_matches('!')));
         if word.len() > 1 && word.starts_with('-') && !is_known {
-            return Err(ArgsError::Word(Escaped(word), "no such option here"));
+            let why = "no such option here: `--` goes ahead of names with a dash";
+            return Err(ArgsError::Word(Escaped(word), why));
         }
     }
     Ok(())
