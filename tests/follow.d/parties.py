@@ -146,6 +146,8 @@ class Customer:
         time.sleep(seconds)
         os.killpg(killed.pid, signal.SIGKILL)
         killed.wait()
+        # What its last command was at, such as a sync, may take a while to end, and holds the lock.
+        printed(run("flock", "-w", SECONDS // 2, self.folder, "true"))
         after = path.read_bytes() if path.exists() else None
         if after not in (before, checkpoint):
             raise Failed(f"killed after {seconds} seconds: {after}")
