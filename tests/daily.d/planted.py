@@ -1,0 +1,111 @@
+"""Runs that have to be refused. Whoever can write the published folder, or copies an older one over it, has nothing
+signed by it that the log does not have, or that does not follow the last stored checkpoint."""
+
+import fcntl
+import os
+import subprocess
+
+
+def check(is_so: bool, *found) -> None:
+    if not is_so:
+        raise ValueError(" ".join(map(str, found)))
+
+
+def refuse(play, why: str, status: int, said: bytes) -> None:
+    """A run that says so, and stores and signs nothing."""
+    before, signed, ran = play.stored(), play.signatures(), play.run()
+    check((ran.returncode, ran.stdout) == (status, b"") and said in ran.stderr, why, ran)
+    check(ran.stderr.count(b"\n") == 1 and b".work" not in ran.stderr, why, ran)
+    check((play.stored(), play.signatures()) == (before, signed), why, "is stored or signed")
+    play.counts["planted or restored files refused"] += 1
+
+
+def finish(play, count: int) -> None:
+    """A run that finishes so many begun checkpoints."""
+    ran = play.run()
+    check(ran.returncode == 0 and ran.stdout.count(b"finished what a stopped run began: ") == count, ran)
+    play.go_on("begun checkpoints")
+    play.counts["begun checkpoints finished"] += count
+
+
+def plant(play) -> None:
+    """Files of a checkpoint that a stopped run began, of the last checkpoint, and older links, logs and folders."""
+    play.go_on("a day")
+    known, last = len(play.lines), play.last()
+    stored = sorted(play.dir.glob("*-*.checkpoint"), key=lambda path: path.stem[-12:])
+    play.grow()
+    size, text, lines = len(play.lines), play.expected, play.lines
+    rewritten, key, link = [b"rewritten", *lines[1:]], play.folder / "another key", play.dir / "checkpoint"
+    subprocess.run(["openssl", "genpkey", "-algorithm", "ed25519", "-out", key], check=True)
+
+    def begun(count):
+        return play.dir / f".{play.day}-{count:012}.begun"
+
+    kept = play.dir / f"{play.day}-{size:012}.checkpoint"
+    signed = subprocess.run(["sh", play.share / "fohlazu-sign", key], input=text(size), capture_output=True, check=True)
+    for why, path, planted, status, said in [
+        ("a forged log", begun(size), text(size, rewritten), 1, b"put them back"),
+        ("a smaller log", begun(known - 1), text(known - 1, rewritten), 1, b"put them back"),
+        ("the log's old lines", begun(known - 1), text(known - 1), 1, b"put them back"),
+        ("another root of the last count", begun(known), text(known, rewritten), 1, b"put them back"),
+        ("more lines than the log's", begun(size + 9), text(size + 9, [*lines, *[b"forged"] * 9]), 1, b"put them back"),
+        ("another origin", begun(size), text(size, lines, "victim.example"), 2, b"remove it"),
+        ("another count", begun(size + 1), text(size), 2, b"remove it"),
+        ("no checkpoint", begun(size), b"old 0\n\n", 2, b"remove it"),
+        ("no text", begun(size), b"", 2, b"remove it"),
+        ("a last one that is not signed", kept, text(size), 2, b"damaged or not signed"),
+        ("a last one of a rewritten log", kept, text(size, rewritten), 2, b"damaged or not signed"),
+        ("a last one of another key", kept, signed.stdout, 2, b"is not the key that signed"),
+        ("a changed last one", kept, text(size) + last.partition(b"\n\n")[2].join([b"\n", b""]), 2, b"damaged or not"),
+        ("a last one of another count", kept, last, 2, b"is damaged"),
+        ("an empty last one", kept, b"", 2, b"is damaged"),
+    ]:
+        path.write_bytes(planted)
+        refuse(play, why, status, said)
+        path.unlink()
+    # A log is restored after a kill, and put right.
+    begun(size).write_bytes(text(size))
+    play.write(lines[:known])
+    refuse(play, "a log that was restored after a kill", 1, b"put them back")
+    play.write(lines, play.tail)
+    begun(size).write_bytes(text(size) + b"the log owes me a fortune\n")
+    begun(known + 1).write_bytes(text(known + 1))
+    finish(play, 1 if known + 1 == size else 2)
+    # The link is to a rewritten log, which is there.
+    play.write(rewritten)
+    link.unlink()
+    link.write_bytes(text(size, rewritten))
+    refuse(play, "a link to a rewritten log", 1, b"put its old lines back")
+    # Log and folder are copied back, the newer files stay, and the log grows to as many lines, fewer or more.
+    old = int(stored[-1].stem[-12:])
+    for count in size - 1, size, size + 5:
+        play.write([*lines[:old], *[b"other"] * (count - old)])
+        for kind in "growth", "checkpoint":
+            (play.dir / kind).unlink()
+            (play.dir / kind).symlink_to(stored[-1].with_suffix(f".{kind}").name)
+        refuse(play, "a restored log and folder", 1, b"put its old lines back")
+        check(link.read_bytes().startswith(text(size) + b"\n"), "the link is to", link.resolve())
+    link.unlink()
+    play.grow()
+    play.go_on("a log that was put right")
+
+
+def lock(play) -> None:
+    play.grow()
+    held = os.open(play.dir, os.O_RDONLY)
+    fcntl.flock(held, fcntl.LOCK_EX)
+    check(play.run().returncode == 2, "another run holds the lock")
+    os.close(held)
+    for words, said in ([], b"give -k KEY"), (["-k", play.key, "--origin", "other"], b"have another origin"):
+        ran = play.run(words=words)
+        check(ran.returncode == 2 and said in ran.stderr, ran)
+
+
+def forge(play) -> None:
+    """A note with another text is never opened, whichever command fails."""
+    forged, at, commands = play.expected(1) + b"\n" + play.last().partition(b"\n\n")[2], 0, 0
+    while at <= commands:
+        ran = play.script("fohlazu-open", play.vkey, data=forged, at=at, how="fail")
+        check(ran.returncode in (1, 2) and not ran.stdout, ran)
+        at, commands = at + 1, max(commands, play.commands)
+    play.counts["forged notes"] = at
