@@ -11,6 +11,14 @@ def check(is_so: bool, *found) -> None:
         raise ValueError(" ".join(map(str, found)))
 
 
+def await_lock(folder) -> None:
+    """Waits until the processes of a killed run, which hold its lock, are gone."""
+    if folder.exists():
+        held = os.open(folder, os.O_RDONLY)
+        fcntl.flock(held, fcntl.LOCK_EX)
+        os.close(held)
+
+
 def refuse(play, why: str, status: int, said: bytes) -> None:
     """A run that says so, and stores and signs nothing."""
     before, signed, ran = play.stored(), play.signatures(), play.run()
@@ -94,7 +102,8 @@ def lock(play) -> None:
     play.grow()
     held = os.open(play.dir, os.O_RDONLY)
     fcntl.flock(held, fcntl.LOCK_EX)
-    check(play.run().returncode == 2, "another run holds the lock")
+    ran = play.script("fohlazu-daily", play.log, play.dir, "-k", play.key)
+    check(ran.returncode == 2 and b"another run" in ran.stderr, ran)
     os.close(held)
     for words, said in ([], b"give -k KEY"), (["-k", play.key, "--origin", "other"], b"have another origin"):
         ran = play.run(words=words)
