@@ -19,7 +19,7 @@ fn write_cap<R: CryptoRng, M: Matrix<u32> + Drop, const N: usize, const SALT_ELE
     answer: &mut Answer,
 ) -> Result<(), MerkleTreeError> {
     match compared(scheme.commit(alloc, matrices))? {
-        Ok((cap, _)) => answer.digests(cap.roots()),
+        Ok((cap, _tree)) => answer.digests(cap.roots()),
         Err(error) => answer.error(&error),
     }
     Ok(())
