@@ -120,8 +120,8 @@ impl<
     M: Matrix<P::Value>,
     const D: usize,
 > LayerRows<'a, P, PW, H, M, [PW::Value; D]> {
-    /// The digest of a row, which has `len` words and is below the height. One that a lone matrix stores in two pieces is
-    /// hashed where it lies, others as [`contiguous_rows`] gives them. `staged` is a buffer for a row.
+    /// The digest of a row, which has `len` words and is below the height. One that a lone matrix stores in two pieces
+    /// is hashed where it lies, others as [`contiguous_rows`] gives them. `staged` is a buffer for a row.
     fn row_digest(
         &self,
         staged: &mut Vec<P::Value>,
