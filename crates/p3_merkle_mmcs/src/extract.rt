@@ -107,12 +107,10 @@ impl<
             IsExtraction P.Value.eq PW.Value.eq (cap_rule_of self.now) c (presented index1 first.entry)
             (presented index2 second.entry) (found_alone result) }
     {
-        let steps = steps_of(dimensions, N);
-        let cap_layer = steps.cap_layer(self.cap_rule, self.cap_height);
         let first = OpeningRef::new(index1, first);
         let second = OpeningRef::new(index2, second);
-        self.checker()
-            .extraction(alloc, commit.roots(), &steps, cap_layer, first, second)
+        self.checker(dimensions)
+            .extraction(alloc, commit.roots(), first, second)
     }
 
     /// Extracts a collision from two accepted pruned openings of one cap: two different inputs of the hasher or of the
@@ -146,11 +144,9 @@ impl<
             IsExtraction P.Value.eq PW.Value.eq (cap_rule_of self.now) c (presented indices1.now rows1.now proof1.now)
             (presented indices2.now rows2.now proof2.now) (found_pair result) }
     {
-        let steps = steps_of(dimensions, N);
-        let cap_layer = steps.cap_layer(self.cap_rule, self.cap_height);
         let first = PrunedOpeningRef::new(indices1, rows1, proof1);
         let second = PrunedOpeningRef::new(indices2, rows2, proof2);
-        self.checker()
-            .pruned_extraction(alloc, commit.roots(), &steps, cap_layer, first, second)
+        self.checker(dimensions)
+            .pruned_extraction(alloc, commit.roots(), first, second)
     }
 }

@@ -136,7 +136,7 @@ impl<
     const D: usize,
 > MerkleTreeMmcs<P, PW, H, C, N, D> {
     ghost use Rattle.p3_merkle_core.specs.Gate.{gate_refusal};
-    ghost use Rattle.p3_merkle_core.specs.Geometry.{heights};
+    ghost use Rattle.p3_merkle_core.specs.Geometry.{heights, shape_of};
     ghost use Rattle.p3_merkle_core.specs.Nodes.{shape};
     ghost use Rattle.p3_merkle_core.specs.Presented.{IsExactVerdict};
     ghost use Rattle.p3_merkle_core.specs.Refusals.{AnswersUnlessMemory};
@@ -144,8 +144,8 @@ impl<
     ghost use Rattle.p3_merkle_core.specs.declared.cap.CapRule.TheVariants.{Lowered};
     ghost use Rattle.p3_merkle_prover.specs.Parts.{matrices_of, tree_batch};
     ghost use Rattle.p3_merkle_mmcs.specs.Committed.{presented_one, Commits, Opens};
-    ghost use Rattle.p3_merkle_mmcs.specs.Schemes.{cap_height_of, cap_rule_of, compression_of, functions_of, hash_of};
-    ghost use Rattle.p3_merkle_verifier.specs.Inner.Checks.{functions_of as functions_by};
+    ghost use Rattle.p3_merkle_mmcs.specs.Schemes.{cap_height_of, cap_rule_of, compression_of, hash_of, params_of};
+    ghost use Rattle.p3_merkle_verifier.specs.Inner.Checks.{params_in};
     ghost use Rattle.p3_support.specs.Shown.{roots_of};
 
     /// The scheme of a hasher and a compression. Its cap is the layer `cap_height` levels below the root (0 is the root
@@ -191,13 +191,20 @@ impl<
         }
     }
 
-    /// The checker of openings, with the scheme's hasher and compression.
-    pub(crate) fn checker(&self) -> Checker<'_, P, PW, H, C, [[PW::Value; D]; N], N, D>
-        ensures { functions_by result ≡ functions_of self.now }
+    /// The checker of openings of a tree over matrices of these dimensions.
+    pub(crate) fn checker<'a>(
+        &'a self,
+        dimensions: &'a [Dimensions],
+    ) -> Checker<'a, P, PW, H, C, [[PW::Value; D]; N], N, D>
+        ensures { params_in result ≡ params_of self.now (shape_of N dimensions.now) }
     {
+        let steps = steps_of(dimensions, N);
+        let cap_layer = steps.cap_layer(self.cap_rule, self.cap_height);
         Checker {
             hash: &self.hash,
             compress: &self.compress,
+            steps,
+            cap_layer,
             item: PhantomData,
         }
     }
@@ -314,11 +321,9 @@ impl<
     ) -> Result<(), MerkleTreeError>
         ensures { IsExactVerdict (presented_one self.now dimensions.now commit.now index opening.entry) result }
     {
-        let steps = steps_of(dimensions, N);
-        let cap_layer = steps.cap_layer(self.cap_rule, self.cap_height);
         let opening = OpeningRef::new(index, opening);
-        self.checker()
-            .check_opening(commit.roots(), &steps, cap_layer, opening)
+        self.checker(dimensions)
+            .check_opening(commit.roots(), opening)
     }
 }
 

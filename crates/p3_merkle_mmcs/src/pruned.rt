@@ -170,11 +170,9 @@ impl<
     ) -> Result<(), MerkleTreeError>
         ensures { IsVerdict (presented_all self.now dimensions.now commit.now indices.now rows.now proof.now) result }
     {
-        let steps = steps_of(dimensions, N);
-        let cap_layer = steps.cap_layer(self.cap_rule, self.cap_height);
         let opening = PrunedOpeningRef::new(indices, rows, proof);
-        self.checker()
-            .check_pruned_opening(alloc, commit.roots(), &steps, cap_layer, opening)
+        self.checker(dimensions)
+            .check_pruned_opening(alloc, commit.roots(), opening)
     }
 
     /// The same as [`verify_batch_pruned`](Self::verify_batch_pruned), by the name that the trait `Mmcs` has for it.
@@ -223,10 +221,7 @@ impl<
             let p = pruned_borrowed indices.now rows.now proof.now in
             IfOk result (λ paths. shown_paths paths.items ≡ restored_paths c p) }
     {
-        let steps = steps_of(dimensions, N);
-        let cap_layer = steps.cap_layer(self.cap_rule, self.cap_height);
         let opening = PrunedOpeningRef::new(indices, rows, proof);
-        self.checker()
-            .restored_paths(alloc, &steps, cap_layer, opening)
+        self.checker(dimensions).restored_paths(alloc, opening)
     }
 }

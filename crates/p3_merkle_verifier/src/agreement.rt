@@ -3,9 +3,9 @@
 //! reach one node there.
 
 ghost use Rattle.std.specs.Prelude.{◌≡◌, IsTrue, length, replicate};
-ghost use Rattle.p3_merkle_core.specs.Geometry.{shape_of};
 ghost use Rattle.p3_merkle_core.specs.Refusals.{IsEquality};
-ghost use Rattle.p3_merkle_verifier.specs.Inner.Checks.{functions_of, opening_in, AgreeBelow, AgreeOnLevel};
+ghost use Rattle.p3_merkle_verifier.specs.Inner.Checks.{functions_of, opening_in, shape_in, AgreeBelow};
+ghost use Rattle.p3_merkle_verifier.specs.Inner.Checks.{AgreeOnLevel};
 ghost use Rattle.p3_merkle_verifier.specs.Inner.Collisions.{first_words, second_words};
 ghost use Rattle.p3_merkle_verifier.specs.Inner.Paths.{CanReach};
 
@@ -13,7 +13,6 @@ use crate::checker::Checker;
 use crate::extraction::RowPair;
 use crate::openings::OpeningRef;
 use crate::path::ComputedLevel;
-use p3_merkle_core::steps::Steps;
 use p3_support::compress::PseudoCompressionFunction;
 use p3_support::hasher::CryptographicHasher;
 use p3_support::packed::PackedValue;
@@ -43,38 +42,34 @@ impl<
     const N: usize,
     const D: usize,
 > Checker<'a, P, PW, H, C, [[PW::Value; D]; N], N, D> {
-    /// Whether the checks of two openings, up to layer `cap_layer`, have the same inputs at every place that both
-    /// share. Both openings must have their siblings up to the cap, and `N` must be the arity of `steps`.
+    /// Whether the checks of two openings have the same inputs at every place that both share. Both openings must have
+    /// their siblings up to the cap.
     pub(crate) fn agree(
         &self,
-        steps: &Steps<'_>,
-        cap_layer: usize,
         first: OpeningRef<'_, P::Value, [PW::Value; D]>,
         second: OpeningRef<'_, P::Value, [PW::Value; D]>,
     ) -> bool
-        requires arity { steps.now.arity ≡ N }
-        requires first { CanReach (shape_of N steps.now.dimensions.now) cap_layer (length first.siblings.now) }
-        requires second { CanReach (shape_of N steps.now.dimensions.now) cap_layer (length second.siblings.now) }
-        ensures { let f = functions_of self.now in
-            IsTrue result → AgreeBelow f (shape_of N steps.now.dimensions.now) (opening_in first.entry)
-            (opening_in second.entry) cap_layer }
+        requires first { CanReach (shape_in self.now) self.now.cap_layer (length first.siblings.now) }
+        requires second { CanReach (shape_in self.now) self.now.cap_layer (length second.siblings.now) }
+        ensures { IsTrue result → AgreeBelow (functions_of self.now) (shape_in self.now) (opening_in first.entry)
+            (opening_in second.entry) self.now.cap_layer }
     {
         let leaves = RowPair {
-            dimensions: steps.dimensions,
-            exponent: steps.exponent,
+            dimensions: self.steps.dimensions,
+            exponent: self.steps.exponent,
             first: first.rows,
             second: second.rows,
         };
         if first.index == second.index && !leaves.agree() {
             return false;
         }
-        let mut first_progress = self.start(steps, first);
-        let mut second_progress = self.start(steps, second);
-        for level in 0..cap_layer {
-            let mine = self.compute_level(steps, cap_layer, level, first, &first_progress);
-            let theirs = self.compute_level(steps, cap_layer, level, second, &second_progress);
+        let mut first_progress = self.start(first);
+        let mut second_progress = self.start(second);
+        for level in 0..self.cap_layer {
+            let mine = self.compute_level(level, first, &first_progress);
+            let theirs = self.compute_level(level, second, &second_progress);
             let rows = RowPair {
-                dimensions: steps.dimensions,
+                dimensions: self.steps.dimensions,
                 exponent: mine.above.exponent,
                 first: first.rows,
                 second: second.rows,

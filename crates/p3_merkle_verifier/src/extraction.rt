@@ -10,15 +10,16 @@ ghost use Rattle.std.specs.Cmp.Lexicographic.{pointwise};
 ghost use Rattle.std.specs.Option.{option_or};
 ghost use Rattle.p3_support.specs.Batches.{heights_of};
 ghost use Rattle.p3_support.specs.Shown.{row_lists};
-ghost use Rattle.p3_merkle_core.specs.Checks.{digests_at, params, words_at, words_of_exponent};
+ghost use Rattle.p3_merkle_core.specs.Checks.{digests_at, words_at, words_of_exponent};
 ghost use Rattle.p3_merkle_core.specs.Extraction.{difference_of, input_eq, last_difference};
 ghost use Rattle.p3_merkle_core.specs.Geometry.{layer_exponent, shape_of};
 ghost use Rattle.p3_merkle_core.specs.Refusals.{refusal_under, AnswersUnlessMemory};
-ghost use Rattle.p3_merkle_verifier.specs.Inner.Checks.{functions_of, leaf_difference, opening_in, ShowsLevel};
+ghost use Rattle.p3_merkle_verifier.specs.Inner.Checks.{functions_of, leaf_difference, opening_in, params_in};
+ghost use Rattle.p3_merkle_verifier.specs.Inner.Checks.{shape_in, ShowsLevel};
 ghost use Rattle.p3_merkle_verifier.specs.Inner.Collisions.{first_rows, first_words, inputs_above, second_rows};
 ghost use Rattle.p3_merkle_verifier.specs.Inner.Collisions.{second_words};
 ghost use Rattle.p3_merkle_verifier.specs.Inner.Collisions.{IsDifference, Shows};
-ghost use Rattle.p3_merkle_verifier.specs.Inner.Paths.{CanCheck, CanReach};
+ghost use Rattle.p3_merkle_verifier.specs.Inner.Paths.{CanReach};
 
 use crate::checker::Checker;
 use crate::openings::{OpenedRows, OpeningRef};
@@ -210,33 +211,28 @@ impl<
     const N: usize,
     const D: usize,
 > Checker<'a, P, PW, H, C, [[PW::Value; D]; N], N, D> {
-    /// The last place that the checks of two openings share up to layer `cap_layer` and at which they differ, with both
-    /// inputs. `None` if they agree. Both openings must have their siblings up to the cap. It allocates at shared
+    /// The last place that the checks of two openings share and at which they differ, with both inputs. `None` if they agree. Both openings must have their siblings up to the cap. It allocates at shared
     /// places alone: the rows there, and the inputs that differ.
     pub(crate) fn last_difference(
         &self,
         alloc: Global,
-        steps: &Steps<'_>,
-        cap_layer: usize,
         first: OpeningRef<'_, P::Value, [PW::Value; D]>,
         second: OpeningRef<'_, P::Value, [PW::Value; D]>,
     ) -> Result<Option<Collision<P::Value, PW::Value, D>>, AllocError>
-        requires arity { steps.now.arity ≡ N }
-        requires first { CanReach (shape_of N steps.now.dimensions.now) cap_layer (length first.siblings.now) }
-        requires second { CanReach (shape_of N steps.now.dimensions.now) cap_layer (length second.siblings.now) }
-        ensures { let c = params (functions_of self.now) (shape_of N steps.now.dimensions.now) cap_layer in
-            let difference = difference_of P.Value.eq PW.Value.eq c (opening_in first.entry)
-            (opening_in second.entry) in
+        requires first { CanReach (shape_in self.now) self.now.cap_layer (length first.siblings.now) }
+        requires second { CanReach (shape_in self.now) self.now.cap_layer (length second.siblings.now) }
+        ensures { let o = opening_in first.entry in
+            let difference = difference_of P.Value.eq PW.Value.eq (params_in self.now) o (opening_in second.entry) in
             IfOk result (λ found. Shows found difference) }
     {
-        let mut first_progress = self.start(steps, first);
-        let mut second_progress = self.start(steps, second);
-        let mut last = leaf_difference(alloc, steps, first, second)?;
-        for level in 0..cap_layer {
-            let mine = self.compute_level(steps, cap_layer, level, first, &first_progress);
-            let theirs = self.compute_level(steps, cap_layer, level, second, &second_progress);
+        let mut first_progress = self.start(first);
+        let mut second_progress = self.start(second);
+        let mut last = leaf_difference(alloc, &self.steps, first, second)?;
+        for level in 0..self.cap_layer {
+            let mine = self.compute_level(level, first, &first_progress);
+            let theirs = self.compute_level(level, second, &second_progress);
             let rows = RowPair {
-                dimensions: steps.dimensions,
+                dimensions: self.steps.dimensions,
                 exponent: mine.above.exponent,
                 first: first.rows,
                 second: second.rows,
@@ -252,8 +248,6 @@ impl<
     /// Extracts a collision from two openings under the roots of a cap: the inputs at the last place that both checks
     /// share and at which they differ, or `None` if the checks agree.
     ///
-    /// `N` must be a power of two from 2 to 2^62 and the arity of `steps`; `cap_layer` at most the number of levels.
-    ///
     /// # Errors
     ///
     /// The error of [`check_opening`](Self::check_opening) for the first opening, else that for the second;
@@ -262,24 +256,18 @@ impl<
         &self,
         alloc: Global,
         roots: &[[PW::Value; D]],
-        steps: &Steps<'_>,
-        cap_layer: usize,
         first: OpeningRef<'_, P::Value, [PW::Value; D]>,
         second: OpeningRef<'_, P::Value, [PW::Value; D]>,
     ) -> Result<Option<Collision<P::Value, PW::Value, D>>, MerkleTreeError>
-        requires arity { steps.now.arity ≡ N }
-        requires check { CanCheck (shape_of N steps.now.dimensions.now) cap_layer }
-        ensures answer { let c = params (functions_of self.now) (shape_of N steps.now.dimensions.now) cap_layer in
-            let refusal = refusal_under PW.Value.eq c roots.now in
+        ensures answer { let refusal = refusal_under PW.Value.eq (params_in self.now) roots.now in
             AnswersUnlessMemory result
             (option_or (refusal (opening_in first.entry)) (refusal (opening_in second.entry))) }
-        ensures found { let c = params (functions_of self.now) (shape_of N steps.now.dimensions.now) cap_layer in
-            let difference = difference_of P.Value.eq PW.Value.eq c (opening_in first.entry)
-            (opening_in second.entry) in
+        ensures found { let o = opening_in first.entry in
+            let difference = difference_of P.Value.eq PW.Value.eq (params_in self.now) o (opening_in second.entry) in
             IfOk result (λ found. Shows found difference) }
     {
-        self.check_opening(roots, steps, cap_layer, first)?;
-        self.check_opening(roots, steps, cap_layer, second)?;
-        Ok(self.last_difference(alloc, steps, cap_layer, first, second)?)
+        self.check_opening(roots, first)?;
+        self.check_opening(roots, second)?;
+        Ok(self.last_difference(alloc, first, second)?)
     }
 }

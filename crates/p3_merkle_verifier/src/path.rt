@@ -9,11 +9,11 @@ ghost use Rattle.std.specs.Option.{option_map};
 ghost use Rattle.p3_support.specs.Batches.{heights_of};
 ghost use Rattle.p3_support.specs.Shown.{row_lists};
 ghost use Rattle.p3_merkle_core.specs.Geometry.{layer_exponent, shape_of, step as step_of};
-ghost use Rattle.p3_merkle_core.specs.Checks.{params, siblings_below, words_of_exponent};
+ghost use Rattle.p3_merkle_core.specs.Checks.{siblings_below, words_of_exponent};
 ghost use Rattle.p3_merkle_core.specs.Nodes.{padded};
 ghost use Rattle.p3_merkle_core.specs.Refusals.{answer_under, form_refusal};
-ghost use Rattle.p3_merkle_verifier.specs.Inner.Checks.{functions_of, opening_in, step_siblings, CanStep};
-ghost use Rattle.p3_merkle_verifier.specs.Inner.Checks.{IsLevelOfCheck, IsProgress};
+ghost use Rattle.p3_merkle_verifier.specs.Inner.Checks.{functions_of, opening_in, params_in, shape_in};
+ghost use Rattle.p3_merkle_verifier.specs.Inner.Checks.{step_siblings, CanStep, IsLevelOfCheck, IsProgress};
 ghost use Rattle.p3_merkle_verifier.specs.Inner.Paths.{CanCheck, CanReach};
 
 use crate::checker::Checker;
@@ -25,7 +25,6 @@ use p3_merkle_core::group::{group_with, pair_group};
 use p3_merkle_core::steps::{StepUp, Steps, check_heights};
 use p3_support::compress::PseudoCompressionFunction;
 use p3_support::hasher::CryptographicHasher;
-use p3_support::matrix::Dimensions;
 use p3_support::packed::PackedValue;
 
 /// The node that the check of an opening has reached on the path from the leaf, with its digest.
@@ -143,77 +142,67 @@ impl<
     const N: usize,
     const D: usize,
 > Checker<'a, P, PW, H, C, [[PW::Value; D]; N], N, D> {
-    /// The digest of the rows of the matrices of one exponent, as one message. `rows` has one for each of `dimensions`.
-    fn row_digest(
-        &self,
-        dimensions: &[Dimensions],
-        rows: &[Vec<P::Value>],
-        exponent: usize,
-    ) -> [PW::Value; D]
-        ensures { let rows = zip (heights_of dimensions.now) (row_lists rows.now) in
+    /// The digest of the rows of the matrices of one exponent, as one message. `rows` has a row of each matrix.
+    fn row_digest(&self, rows: &[Vec<P::Value>], exponent: usize) -> [PW::Value; D]
+        ensures { let rows = zip (heights_of self.now.steps.dimensions.now) (row_lists rows.now) in
             result ≡ H.hash self.now.hash.now (words_of_exponent exponent rows) }
     {
         self.hash.hash_iter_slices(OpenedRows {
-            dimensions,
+            dimensions: self.steps.dimensions,
             rows,
             exponent,
         })
     }
 
-    /// The start of the check of an opening: the leaf, with the digest of its rows. `steps` are those of the tree.
+    /// The start of the check of an opening: the leaf, with the digest of its rows.
     pub(crate) fn start(
         &self,
-        steps: &Steps<'_>,
         opening: OpeningRef<'_, P::Value, [PW::Value; D]>,
     ) -> Progress<[PW::Value; D]>
-        requires { steps.now.arity ≡ N }
-        ensures { let f = functions_of self.now in
-            IsProgress f (shape_of N steps.now.dimensions.now) (opening_in opening.entry) 0 result }
+        ensures { IsProgress (functions_of self.now) (shape_in self.now) (opening_in opening.entry) 0 result }
     {
-        let exponent = steps.exponent;
+        let exponent = self.steps.exponent;
         Progress {
             exponent,
             node: opening.index,
             used: 0,
-            digest: self.row_digest(steps.dimensions, opening.rows, exponent),
+            digest: self.row_digest(opening.rows, exponent),
         }
     }
 
-    /// Computes level `level` of the check of an opening, which must be below layer `cap_layer`: from the node of
+    /// Computes level `level` of the check of an opening, which must be below the cap's layer: from the node of
     /// `progress`, which the check has reached, to its parent. The opening must have all siblings up to the cap.
     // A call that is not inlined writes the whole level to memory, and a verification needs only `above`.
     #[inline(always)]
     pub(crate) fn compute_level(
         &self,
-        steps: &Steps<'_>,
-        cap_layer: usize,
         level: usize,
         opening: OpeningRef<'_, P::Value, [PW::Value; D]>,
         progress: &Progress<[PW::Value; D]>,
     ) -> ComputedLevel<[PW::Value; D], [[PW::Value; D]; N]>
-        requires arity { steps.now.arity ≡ N }
-        requires reach { CanReach (shape_of N steps.now.dimensions.now) cap_layer (length opening.siblings.now) }
-        requires level { level < cap_layer }
+        requires reach { CanReach (shape_in self.now) self.now.cap_layer (length opening.siblings.now) }
+        requires level { level < self.now.cap_layer }
         requires progress { let f = functions_of self.now in
-            IsProgress f (shape_of N steps.now.dimensions.now) (opening_in opening) level progress.now }
+            IsProgress f (shape_in self.now) (opening_in opening) level progress.now }
         ensures { let f = functions_of self.now in
-            IsLevelOfCheck f (shape_of N steps.now.dimensions.now) (opening_in opening.entry) level result }
+            IsLevelOfCheck f (shape_in self.now) (opening_in opening.entry) level result }
     {
         let StepUp {
             step,
             has_rows,
             exponent,
-        } = steps.step_up(N, level, progress.exponent);
+        } = self.steps.step_up(N, level, progress.exponent);
+        let siblings = opening.siblings;
         lemma_step(
-            steps,
-            cap_layer,
+            &self.steps,
+            self.cap_layer,
             level,
             step,
             progress.used,
-            opening.siblings,
+            siblings,
         );
         let default_digest = [PW::Value::default(); D];
-        let group = progress.group::<N>(default_digest, step, opening.siblings);
+        let group = progress.group::<N>(default_digest, step, siblings);
         let mut above = Progress {
             exponent,
             node: parent_of(progress.node, step),
@@ -228,7 +217,7 @@ impl<
                 above,
             };
         }
-        let rows = self.row_digest(steps.dimensions, opening.rows, exponent);
+        let rows = self.row_digest(opening.rows, exponent);
         let pair = pair_group::<PW::Value, N, D>(default_digest, above.digest, rows);
         above.digest = self.compress.compress(pair);
         ComputedLevel {
@@ -240,8 +229,6 @@ impl<
     }
 
     /// Checks an opening against the roots of a cap: its form, and that its path leads to the root above the leaf.
-    ///
-    /// `N` must be a power of two from 2 to 2^62 and the arity of `steps`; `cap_layer` at most the number of levels.
     ///
     /// # Errors
     ///
@@ -256,25 +243,23 @@ impl<
     pub fn check_opening(
         &self,
         roots: &[[PW::Value; D]],
-        steps: &Steps<'_>,
-        cap_layer: usize,
         opening: OpeningRef<'_, P::Value, [PW::Value; D]>,
     ) -> Result<(), MerkleTreeError>
-        requires arity { steps.now.arity ≡ N }
-        requires check { CanCheck (shape_of N steps.now.dimensions.now) cap_layer }
-        ensures answer { let f = functions_of self.now in
-            result ≡ answer_under PW.Value.eq (params f (shape_of N steps.now.dimensions.now) cap_layer) roots.now
-            (opening_in opening.entry) }
-        ensures reach { IfOk result (λ ok. CanReach (shape_of N steps.now.dimensions.now) cap_layer
+        ensures answer { result ≡ answer_under PW.Value.eq (params_in self.now) roots.now (opening_in opening.entry) }
+        ensures reach { IfOk result (λ ok. CanReach (shape_in self.now) self.now.cap_layer
             (length opening.entry.siblings.now)) }
     {
         let (index, num_siblings) = (opening.index, opening.siblings.len());
-        check_form(steps, cap_layer, index, opening.rows, num_siblings)?;
-        let mut progress = self.start(steps, opening);
-        for level in 0..cap_layer {
-            progress = self
-                .compute_level(steps, cap_layer, level, opening, &progress)
-                .above;
+        check_form(
+            &self.steps,
+            self.cap_layer,
+            index,
+            opening.rows,
+            num_siblings,
+        )?;
+        let mut progress = self.start(opening);
+        for level in 0..self.cap_layer {
+            progress = self.compute_level(level, opening, &progress).above;
         }
         if is_entry(roots, progress.node, &progress.digest) {
             Ok(())

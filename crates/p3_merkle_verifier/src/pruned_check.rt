@@ -19,7 +19,7 @@ ghost use Rattle.p3_merkle_core.specs.Refusals.{cap_refusal, is_entry as is_entr
 ghost use Rattle.p3_merkle_core.specs.Refusals.{pruned_refusal_under, AnswersUnlessMemory};
 ghost use Rattle.p3_merkle_core.specs.Views.{pruned_borrowed, shown_paths};
 ghost use Rattle.p3_merkle_digests.specs.Inner.Slots.{rows_over};
-ghost use Rattle.p3_merkle_verifier.specs.Inner.Checks.{functions_of};
+ghost use Rattle.p3_merkle_verifier.specs.Inner.Checks.{functions_of, params_in, shape_in};
 ghost use Rattle.p3_merkle_verifier.specs.Inner.NodeDigests.{child_group, group_digest};
 ghost use Rattle.p3_merkle_verifier.specs.Inner.OpenedMatrices.{row_in};
 ghost use Rattle.p3_merkle_verifier.specs.Inner.Paths.{CanCheck};
@@ -417,8 +417,6 @@ impl<
     /// Checks a pruned opening against the roots of a cap: checks its form, computes the digest of each covered node of
     /// the cap's layer from the rows and the proof's digests, and compares it with the root at that node.
     ///
-    /// `N` must be a power of two from 2 to 2^62 and the arity of `steps`; `cap_layer` at most the number of levels.
-    ///
     /// # Errors
     ///
     /// The error of [`check_pruned`], else `CapMismatch` if a root is wrong or missing; `OutOfMemory` at any time.
@@ -426,19 +424,16 @@ impl<
         &self,
         alloc: Global,
         roots: &[[PW::Value; D]],
-        steps: &Steps<'_>,
-        cap_layer: usize,
         opening: PrunedOpeningRef<'_, P::Value, [PW::Value; D]>,
     ) -> Result<(), MerkleTreeError>
-        requires arity { steps.now.arity ≡ N }
-        requires check { CanCheck (shape_of steps.now.arity steps.now.dimensions.now) cap_layer }
-        ensures { let f = functions_of self.now in
-            let c = params f (shape_of steps.now.arity steps.now.dimensions.now) cap_layer in
-            AnswersUnlessMemory result
-            (pruned_refusal_under P.Value.eq PW.Value.eq c roots.now (pruned_in opening.entry)) }
+        ensures { let refusal = pruned_refusal_under P.Value.eq PW.Value.eq (params_in self.now) roots.now in
+            AnswersUnlessMemory result (refusal (pruned_in opening.entry)) }
     {
         let (restorable, leaves) = check_restorable::<P, [PW::Value; D]>(
-            alloc, steps, cap_layer, opening,
+            alloc,
+            &self.steps,
+            self.cap_layer,
+            opening,
         )?;
         let top = self.top_layer(alloc, &restorable, leaves)?;
         self.check_roots(alloc, &restorable, &top, roots)
@@ -450,23 +445,19 @@ impl<
         &self,
         alloc: Global,
         roots: &[[PW::Value; D]],
-        steps: &Steps<'_>,
-        cap_layer: usize,
         opening: PrunedOpeningRef<'_, P::Value, [PW::Value; D]>,
     ) -> Result<(DistinctQueries, Vec<AuthPath<[PW::Value; D]>>), MerkleTreeError>
-        requires arity { steps.now.arity ≡ N }
-        requires check { CanCheck (shape_of steps.now.arity steps.now.dimensions.now) cap_layer }
-        ensures answer { let f = functions_of self.now in
-            let c = params f (shape_of steps.now.arity steps.now.dimensions.now) cap_layer in
-            AnswersUnlessMemory result
-            (pruned_refusal_under P.Value.eq PW.Value.eq c roots.now (pruned_in opening.entry)) }
-        ensures paths { let f = functions_of self.now in
-            let c = params f (shape_of steps.now.arity steps.now.dimensions.now) cap_layer in
-            IfOk result (λ made. shown_paths made.1.items ≡ restored_paths c (pruned_in opening.entry)) }
+        ensures answer { let refusal = pruned_refusal_under P.Value.eq PW.Value.eq (params_in self.now) roots.now in
+            AnswersUnlessMemory result (refusal (pruned_in opening.entry)) }
+        ensures paths { let paths = restored_paths (params_in self.now) (pruned_in opening.entry) in
+            IfOk result (λ made. shown_paths made.1.items ≡ paths) }
         ensures leaves { IfOk result (λ made. AreDistinctOf made.0 opening.entry.indices.now) }
     {
         let (restorable, leaves) = check_restorable::<P, [PW::Value; D]>(
-            alloc, steps, cap_layer, opening,
+            alloc,
+            &self.steps,
+            self.cap_layer,
+            opening,
         )?;
         let layers = self.restored_layers(alloc, &restorable, leaves)?;
         self.check_roots(alloc, &restorable, &layers[restorable.cap_layer], roots)?;
@@ -477,28 +468,24 @@ impl<
     /// Restores the path of each query up to the cap's layer, in query order, from a pruned opening: each sibling is a
     /// digest of the proof, or is computed from the rows and these digests. No cap is compared.
     ///
-    /// `N` must be a power of two from 2 to 2^62 and the arity of `steps`; `cap_layer` at most the number of levels.
-    ///
     /// # Errors
     ///
     /// The error of [`check_pruned`]. `OutOfMemory` may come at any time.
     pub fn restored_paths(
         &self,
         alloc: Global,
-        steps: &Steps<'_>,
-        cap_layer: usize,
         opening: PrunedOpeningRef<'_, P::Value, [PW::Value; D]>,
     ) -> Result<Vec<AuthPath<[PW::Value; D]>>, MerkleTreeError>
-        requires arity { steps.now.arity ≡ N }
-        requires check { CanCheck (shape_of steps.now.arity steps.now.dimensions.now) cap_layer }
-        ensures answer { AnswersUnlessMemory result (pruned_refusal P.Value.eq
-            (shape_of steps.now.arity steps.now.dimensions.now) cap_layer (pruned_in opening.entry)) }
-        ensures paths { let f = functions_of self.now in
-            let c = params f (shape_of steps.now.arity steps.now.dimensions.now) cap_layer in
-            IfOk result (λ paths. shown_paths paths.items ≡ restored_paths c (pruned_in opening.entry)) }
+        ensures answer { let refusal = pruned_refusal P.Value.eq (shape_in self.now) self.now.cap_layer in
+            AnswersUnlessMemory result (refusal (pruned_in opening.entry)) }
+        ensures paths { let restored = restored_paths (params_in self.now) (pruned_in opening.entry) in
+            IfOk result (λ paths. shown_paths paths.items ≡ restored) }
     {
         let (restorable, leaves) = check_restorable::<P, [PW::Value; D]>(
-            alloc, steps, cap_layer, opening,
+            alloc,
+            &self.steps,
+            self.cap_layer,
+            opening,
         )?;
         let layers = self.restored_layers(alloc, &restorable, leaves)?;
         Ok(paths_of(alloc, &restorable, &layers)?)

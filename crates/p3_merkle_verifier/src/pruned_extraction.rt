@@ -3,13 +3,11 @@
 
 ghost use Rattle.std.specs.Prelude.{◌≡◌, ◌⊎◌, ℕ, ◌<◌, IfOk, IsTrue, length, replicate};
 ghost use Rattle.std.specs.Option.{option_or};
-ghost use Rattle.p3_merkle_core.specs.Checks.{params};
 ghost use Rattle.p3_merkle_core.specs.Extraction.{difference_of, first_pair};
-ghost use Rattle.p3_merkle_core.specs.Geometry.{shape_of};
 ghost use Rattle.p3_merkle_core.specs.Pruning.{opening_at};
 ghost use Rattle.p3_merkle_core.specs.Refusals.{pruned_refusal_under, AnswersUnlessMemory};
-ghost use Rattle.p3_merkle_verifier.specs.Inner.Checks.{functions_of, opening_in, AgreeBelow};
-ghost use Rattle.p3_merkle_verifier.specs.Inner.Paths.{CanCheck, CanReach};
+ghost use Rattle.p3_merkle_verifier.specs.Inner.Checks.{functions_of, opening_in, params_in, shape_in};
+ghost use Rattle.p3_merkle_verifier.specs.Inner.Paths.{CanReach};
 ghost use Rattle.p3_merkle_verifier.specs.Inner.QueryPairs.{query_difference, first_place, query_in};
 ghost use Rattle.p3_merkle_verifier.specs.Inner.QueryPairs.{AgreesWithAll, AreConsistent, AreQueriesOf, CanCompare};
 ghost use Rattle.p3_merkle_verifier.specs.Inner.QueryPairs.{HasLeaves, ShowsAt, ShowsPair, StandsBetween};
@@ -20,7 +18,6 @@ use crate::openings::{OpeningRef, PrunedOpeningRef};
 use p3_merkle_core::collision::Collision;
 use p3_merkle_core::error::MerkleTreeError;
 use p3_merkle_core::pruning::{AuthPath, DistinctQueries};
-use p3_merkle_core::steps::Steps;
 use p3_support::compress::PseudoCompressionFunction;
 use p3_support::hasher::CryptographicHasher;
 use p3_support::packed::PackedValue;
@@ -89,27 +86,19 @@ impl<
         &self,
         alloc: Global,
         roots: &[[PW::Value; D]],
-        steps: &Steps<'_>,
-        cap_layer: usize,
         opening: PrunedOpeningRef<'b, P::Value, [PW::Value; D]>,
     ) -> Result<RestoredQueries<'b, P::Value, [PW::Value; D]>, MerkleTreeError>
-        requires arity { steps.now.arity ≡ N }
-        requires check { CanCheck (shape_of steps.now.arity steps.now.dimensions.now) cap_layer }
-        ensures answer { let f = functions_of self.now in
-            let c = params f (shape_of steps.now.arity steps.now.dimensions.now) cap_layer in
-            AnswersUnlessMemory result
-            (pruned_refusal_under P.Value.eq PW.Value.eq c roots.now (pruned_in opening.entry)) }
-        ensures comparable { let s = shape_of steps.now.arity steps.now.dimensions.now in
-            IfOk result (λ queries. CanCompare s cap_layer queries) }
-        ensures consistent { let s = shape_of steps.now.arity steps.now.dimensions.now in
-            IfOk result (λ queries. AreConsistent (functions_of self.now) s cap_layer queries) }
+        ensures answer { let refusal = pruned_refusal_under P.Value.eq PW.Value.eq (params_in self.now) roots.now in
+            AnswersUnlessMemory result (refusal (pruned_in opening.entry)) }
+        ensures comparable { IfOk result (CanCompare (shape_in self.now) self.now.cap_layer) }
+        ensures consistent { let f = functions_of self.now in
+            IfOk result (AreConsistent f (shape_in self.now) self.now.cap_layer) }
         ensures leaves { IfOk result (λ queries. HasLeaves queries) }
         ensures restored { let f = functions_of self.now in
-            let s = shape_of steps.now.arity steps.now.dimensions.now in
-            IfOk result (λ queries. AreQueriesOf f s cap_layer (pruned_in opening.entry) queries) }
+            IfOk result (AreQueriesOf f (shape_in self.now) self.now.cap_layer (pruned_in opening.entry)) }
     {
         let sets = opening.sets;
-        let (leaves, paths) = self.checked_paths(alloc, roots, steps, cap_layer, opening)?;
+        let (leaves, paths) = self.checked_paths(alloc, roots, opening)?;
         Ok(RestoredQueries {
             sets,
             paths,
@@ -117,57 +106,29 @@ impl<
         })
     }
 
-    /// Whether the check of the opening `first` agrees with that of query `place`, wherever both share a place.
-    fn agrees_with(
-        &self,
-        steps: &Steps<'_>,
-        cap_layer: usize,
-        first: OpeningRef<'_, P::Value, [PW::Value; D]>,
-        queries: &RestoredQueries<'_, P::Value, [PW::Value; D]>,
-        place: usize,
-    ) -> bool
-        requires arity { steps.now.arity ≡ N }
-        requires first { CanReach (shape_of steps.now.arity steps.now.dimensions.now) cap_layer
-            (length first.siblings.now) }
-        requires queries { CanCompare (shape_of steps.now.arity steps.now.dimensions.now) cap_layer queries.now }
-        requires place { place < length queries.now.paths.items }
-        ensures { let f = functions_of self.now in
-            let s = shape_of steps.now.arity steps.now.dimensions.now in
-            IsTrue result → AgreeBelow f s (opening_in first.entry) (query_in queries.now place) cap_layer }
-    {
-        let second = queries.opening(place);
-        self.agree(steps, cap_layer, first, second)
-    }
-
     /// Whether the check of the opening `first` agrees with that of each query, wherever both share a place. Only the
     /// queries of the nearest indices below and above are compared: the opening's path shares with one of them each
     /// node that it shares with any query, and the checks of the queries agree among themselves.
     fn agrees_with_all(
         &self,
-        steps: &Steps<'_>,
-        cap_layer: usize,
         first: OpeningRef<'_, P::Value, [PW::Value; D]>,
         queries: &RestoredQueries<'_, P::Value, [PW::Value; D]>,
     ) -> bool
-        requires arity { steps.now.arity ≡ N }
-        requires first { CanReach (shape_of steps.now.arity steps.now.dimensions.now) cap_layer
-            (length first.siblings.now) }
-        requires queries { CanCompare (shape_of steps.now.arity steps.now.dimensions.now) cap_layer queries.now }
-        requires consistent { let f = functions_of self.now in
-            AreConsistent f (shape_of steps.now.arity steps.now.dimensions.now) cap_layer queries.now }
+        requires first { CanReach (shape_in self.now) self.now.cap_layer (length first.siblings.now) }
+        requires queries { CanCompare (shape_in self.now) self.now.cap_layer queries.now }
+        requires consistent { AreConsistent (functions_of self.now) (shape_in self.now) self.now.cap_layer queries.now }
         requires leaves { HasLeaves queries.now }
-        ensures { let s = shape_of steps.now.arity steps.now.dimensions.now in
-            let o = opening_in first.entry in
-            IsTrue result → AgreesWithAll P.Value.eq PW.Value.eq (functions_of self.now) s cap_layer o queries.now }
+        ensures { IsTrue result → AgreesWithAll P.Value.eq PW.Value.eq (functions_of self.now) (shape_in self.now)
+            self.now.cap_layer (opening_in first.entry) queries.now }
     {
         if queries.paths.is_empty() {
             return true;
         }
         let (below, above) = queries.neighbours(first.index);
-        if !self.agrees_with(steps, cap_layer, first, queries, below) {
+        if !self.agree(first, queries.opening(below)) {
             return false;
         }
-        above == below || self.agrees_with(steps, cap_layer, first, queries, above)
+        above == below || self.agree(first, queries.opening(above))
     }
 
     /// The first query whose check differs from that of the opening `first`: its position among the queries, and both
@@ -175,32 +136,23 @@ impl<
     fn differing_query(
         &self,
         alloc: Global,
-        steps: &Steps<'_>,
-        cap_layer: usize,
         first: OpeningRef<'_, P::Value, [PW::Value; D]>,
         queries: &RestoredQueries<'_, P::Value, [PW::Value; D]>,
     ) -> Result<Option<(usize, Collision<P::Value, PW::Value, D>)>, AllocError>
-        requires arity { steps.now.arity ≡ N }
-        requires first { CanReach (shape_of steps.now.arity steps.now.dimensions.now) cap_layer
-            (length first.siblings.now) }
-        requires queries { CanCompare (shape_of steps.now.arity steps.now.dimensions.now) cap_layer queries.now }
-        requires consistent { let f = functions_of self.now in
-            AreConsistent f (shape_of steps.now.arity steps.now.dimensions.now) cap_layer queries.now }
+        requires first { CanReach (shape_in self.now) self.now.cap_layer (length first.siblings.now) }
+        requires queries { CanCompare (shape_in self.now) self.now.cap_layer queries.now }
+        requires consistent { AreConsistent (functions_of self.now) (shape_in self.now) self.now.cap_layer queries.now }
         requires leaves { HasLeaves queries.now }
-        ensures { let f = functions_of self.now in
-            let s = shape_of steps.now.arity steps.now.dimensions.now in
-            let o = opening_in first.entry in
-            let differs = first_place
-            (λ b. query_difference P.Value.eq PW.Value.eq f s cap_layer o (query_in queries.now b))
-            (length queries.now.paths.items) in
+        ensures { let difference = query_difference P.Value.eq PW.Value.eq (functions_of self.now) (shape_in self.now)
+            self.now.cap_layer (opening_in first.entry) in
+            let differs = first_place (λ b. difference (query_in queries.now b)) (length queries.now.paths.items) in
             IfOk result (λ found. ShowsAt found differs) }
     {
-        if self.agrees_with_all(steps, cap_layer, first, queries) {
+        if self.agrees_with_all(first, queries) {
             return Ok(None);
         }
         for place in 0..queries.paths.len() {
-            let second = queries.opening(place);
-            let found = self.last_difference(alloc, steps, cap_layer, first, second)?;
+            let found = self.last_difference(alloc, first, queries.opening(place))?;
             if let Some(collision) = found {
                 return Ok(Some((place, collision)));
             }
@@ -213,26 +165,21 @@ impl<
     fn differing_pair(
         &self,
         alloc: Global,
-        steps: &Steps<'_>,
-        cap_layer: usize,
         first: &RestoredQueries<'_, P::Value, [PW::Value; D]>,
         second: &RestoredQueries<'_, P::Value, [PW::Value; D]>,
     ) -> Result<Option<(usize, usize, Collision<P::Value, PW::Value, D>)>, AllocError>
-        requires arity { steps.now.arity ≡ N }
-        requires first { CanCompare (shape_of steps.now.arity steps.now.dimensions.now) cap_layer first.now }
-        requires second { CanCompare (shape_of steps.now.arity steps.now.dimensions.now) cap_layer second.now }
-        requires consistent { let f = functions_of self.now in
-            AreConsistent f (shape_of steps.now.arity steps.now.dimensions.now) cap_layer second.now }
+        requires first { CanCompare (shape_in self.now) self.now.cap_layer first.now }
+        requires second { CanCompare (shape_in self.now) self.now.cap_layer second.now }
+        requires consistent { AreConsistent (functions_of self.now) (shape_in self.now) self.now.cap_layer second.now }
         requires leaves { HasLeaves second.now }
-        ensures { let s = shape_of steps.now.arity steps.now.dimensions.now in
-            let differ = first_pair
-            (λ a b. query_difference P.Value.eq PW.Value.eq (functions_of self.now) s cap_layer (query_in first.now a)
-            (query_in second.now b)) (length first.now.paths.items) (length second.now.paths.items) in
+        ensures { let difference = query_difference P.Value.eq PW.Value.eq (functions_of self.now) (shape_in self.now)
+            self.now.cap_layer in
+            let differ = first_pair (λ a b. difference (query_in first.now a) (query_in second.now b))
+            (length first.now.paths.items) (length second.now.paths.items) in
             IfOk result (λ found. ShowsPair found differ) }
     {
         for place in 0..first.paths.len() {
-            let opening = first.opening(place);
-            let found = self.differing_query(alloc, steps, cap_layer, opening, second)?;
+            let found = self.differing_query(alloc, first.opening(place), second)?;
             if let Some((other, collision)) = found {
                 return Ok(Some((place, other, collision)));
             }
@@ -244,9 +191,8 @@ impl<
     /// of the first list, then of the second, whose checks differ at a place that both share. Returns the position of
     /// each query in its list, from 0, and both inputs at the last such place; or `None` if there is no such pair.
     ///
-    /// `N` must be a power of two from 2 to 2^62 and the arity of `steps`, and the cap's layer at most the number of
-    /// levels. Beside both verifications it takes the time of at most four checks for each query of the first opening,
-    /// and of two for each query of the second.
+    /// Beside both verifications it takes the time of at most four checks for each query of the first opening, and of
+    /// two for each query of the second.
     ///
     /// # Errors
     ///
@@ -256,20 +202,13 @@ impl<
         &self,
         alloc: Global,
         roots: &[[PW::Value; D]],
-        steps: &Steps<'_>,
-        cap_layer: usize,
         first: PrunedOpeningRef<'_, P::Value, [PW::Value; D]>,
         second: PrunedOpeningRef<'_, P::Value, [PW::Value; D]>,
     ) -> Result<Option<(usize, usize, Collision<P::Value, PW::Value, D>)>, MerkleTreeError>
-        requires arity { steps.now.arity ≡ N }
-        requires check { CanCheck (shape_of steps.now.arity steps.now.dimensions.now) cap_layer }
-        ensures answer { let f = functions_of self.now in
-            let c = params f (shape_of steps.now.arity steps.now.dimensions.now) cap_layer in
-            let refusal = pruned_refusal_under P.Value.eq PW.Value.eq c roots.now in
+        ensures answer { let refusal = pruned_refusal_under P.Value.eq PW.Value.eq (params_in self.now) roots.now in
             AnswersUnlessMemory result
             (option_or (refusal (pruned_in first.entry)) (refusal (pruned_in second.entry))) }
-        ensures found { let f = functions_of self.now in
-            let c = params f (shape_of steps.now.arity steps.now.dimensions.now) cap_layer in
+        ensures found { let c = params_in self.now in
             let p = pruned_in first.entry in
             let r = pruned_in second.entry in
             let difference = first_pair
@@ -277,8 +216,8 @@ impl<
             (length r.indices) in
             IfOk result (λ found. ShowsPair found difference) }
     {
-        let first = self.checked_queries(alloc, roots, steps, cap_layer, first)?;
-        let second = self.checked_queries(alloc, roots, steps, cap_layer, second)?;
-        Ok(self.differing_pair(alloc, steps, cap_layer, &first, &second)?)
+        let first = self.checked_queries(alloc, roots, first)?;
+        let second = self.checked_queries(alloc, roots, second)?;
+        Ok(self.differing_pair(alloc, &first, &second)?)
     }
 }

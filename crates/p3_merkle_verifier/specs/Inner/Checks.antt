@@ -7,10 +7,11 @@ use Rattle.p3_support.specs.declared.compress.PseudoCompressionFunction as compr
 use Rattle.p3_support.specs.declared.hasher.CryptographicHasher as hasher
 use Rattle.p3_support.specs.declared.packed.PackedValue as packed
 use Rattle.p3_merkle_core.specs.Extraction.{last_difference}
-use Rattle.p3_merkle_core.specs.Geometry.{Shape, ancestor, layer_exponent}
+use Rattle.p3_merkle_core.specs.Geometry.{Shape, ancestor, layer_exponent, shape_of}
 use Rattle.p3_merkle_core.specs.Nodes.{Functions}
 use Rattle.p3_merkle_core.specs.Openings.{Opening, opening_of}
-use Rattle.p3_merkle_core.specs.Checks.{Input, inputs_at, path_digest, layer_words, siblings_below, leaf_input}
+use Rattle.p3_merkle_core.specs.Checks.{Input, Params, inputs_at, params, path_digest, layer_words}
+use Rattle.p3_merkle_core.specs.Checks.{siblings_below, leaf_input}
 use Rattle.p3_merkle_core.specs.declared.collision.InputPair.{InputPair}
 use Rattle.p3_support.specs.Shown.{row_lists}
 use Rattle.p3_merkle_verifier.specs.declared.openings.OpeningRef.{OpeningRef}
@@ -19,17 +20,25 @@ use Rattle.p3_merkle_verifier.specs.declared.checker.Checker.{Checker}
 use Rattle.p3_merkle_verifier.specs.declared.path.Progress.{Progress}
 use Rattle.p3_merkle_verifier.specs.Inner.Collisions.{level_inputs, Shows}
 
--- what a checker's hasher and compression compute, and the digest of default words
-abbrev pub functions_of : {P PW H C G V W : Type 0} {N D : ℕ} {p : packed.Ghosts P V} {pd : default.Ghosts V}
-    {pe : equality.Ghosts V} {q : packed.Ghosts PW W} {qd : default.Ghosts W} {qe : equality.Ghosts W}
-    {h : hasher.Ghosts H P PW D V W} {c : compressor.Ghosts C PW N D W} →
-    Checker P PW H C G N D V W p pd pe q qd qe h c → Functions V W
-functions_of {D = D} {q = q} {h = h} {c = c} checker =
-    record {
-      hash = h.hash checker.hash.now;
-      compression = c.compression checker.compress.now;
-      default_digest = replicate D q.default_value;
-    }
+module _ {P PW H C G V W : Type 0} {N D : ℕ} {p : packed.Ghosts P V} {pd : default.Ghosts V} {pe : equality.Ghosts V}
+    {q : packed.Ghosts PW W} {qd : default.Ghosts W} {qe : equality.Ghosts W} {h : hasher.Ghosts H P PW D V W}
+    {c : compressor.Ghosts C PW N D W} where
+  -- what a checker's hasher and compression compute, and the digest of default words
+  abbrev pub functions_of : Checker P PW H C G N D V W p pd pe q qd qe h c → Functions V W
+  functions_of checker =
+      record {
+        hash = h.hash checker.hash.now;
+        compression = c.compression checker.compress.now;
+        default_digest = replicate D q.default_value;
+      }
+
+  -- the shape of a checker's tree
+  abbrev pub shape_in : Checker P PW H C G N D V W p pd pe q qd qe h c → Shape
+  shape_in checker = shape_of checker.steps.arity checker.steps.dimensions.now
+
+  -- what a checker checks openings against
+  abbrev pub params_in : Checker P PW H C G N D V W p pd pe q qd qe h c → Params V W
+  params_in checker = params (functions_of checker) (shape_in checker) checker.cap_layer
 
 -- a borrowed opening with its index
 abbrev pub opening_in : {T W : Type 0} → OpeningRef T (List W) → Opening T W

@@ -1,5 +1,5 @@
 -- What the answer means of the openings.
-use Rattle.std.proofs.Common.{refl, subst}
+use Rattle.std.proofs.Common.{subst}
 use Rattle.std.specs.Prelude.{IfOk}
 use Rattle.std.specs.Option.{option_or}
 use Rattle.p3_support.specs.Shown.{roots_of}
@@ -9,8 +9,7 @@ use Rattle.p3_merkle_core.specs.Refusals.{AnswersUnlessMemory, refusal_under}
 use Rattle.p3_merkle_core.specs.Views.{opening_borrowed}
 use Rattle.p3_merkle_core.proofs.Collisions.ExtractionFacts.{all_authenticated, extracted_alone}
 use Rattle.p3_merkle_verifier.specs.Inner.Collisions.{Shows}
-use Rattle.p3_merkle_mmcs.specs.Schemes.{functions_of, params_of}
-use Rattle.p3_merkle_mmcs.proofs.CheckFacts.{params_alike}
+use Rattle.p3_merkle_mmcs.specs.Schemes.{params_of}
 use Rattle.p3_merkle_mmcs.proofs.extract.MerkleTreeMmcs+P+PW+H+C+N+D.extract_collision.Goals as goal
 
 pub returns : goal.returns
@@ -19,10 +18,7 @@ returns g c =
     let eq = g.P.Value.PartialEq.eq in
     let same = g.PW.Value.PartialEq.eq in
     let s = shape_of g.row.N c.args.dimensions.now in
-    let made = c.steps_of-steps in
-    let alike = params_alike g.row.N c.args.dimensions.now scheme.cap_rule scheme.cap_height made.result
-    c.cap_layer-cap_layer.result made.ensures.arity made.ensures.dimensions c.cap_layer-cap_layer.ensures _
-    (functions_of scheme) g.row.N c.checker.ensures refl in
+    let alike = c.checker.ensures in
     let first = c.new-first.ensures in
     let second = c.new-second.ensures in
     let answer = subst (AnswersUnlessMemory c.extraction.result)

@@ -10,8 +10,7 @@ use Rattle.p3_merkle_core.specs.Refusals.{AnswersUnlessMemory, pruned_refusal_un
 use Rattle.p3_merkle_core.proofs.Collisions.ExtractionFacts.{all_authenticated, extracted_pair}
 use Rattle.p3_merkle_core.specs.Views.{pruned_borrowed}
 use Rattle.p3_merkle_verifier.specs.Inner.QueryPairs.{ShowsPair}
-use Rattle.p3_merkle_mmcs.specs.Schemes.{functions_of, params_of}
-use Rattle.p3_merkle_mmcs.proofs.CheckFacts.{params_alike}
+use Rattle.p3_merkle_mmcs.specs.Schemes.{params_of}
 use Rattle.p3_merkle_mmcs.proofs.extract.MerkleTreeMmcs+P+PW+H+C+N+D.extract_collision_multi.Goals as goal
 
 pub returns : goal.returns
@@ -20,10 +19,7 @@ returns g c =
     let eq = g.P.Value.PartialEq.eq in
     let same = g.PW.Value.PartialEq.eq in
     let s = shape_of g.row.N c.args.dimensions.now in
-    let made = c.steps_of-steps in
-    let alike = params_alike g.row.N c.args.dimensions.now scheme.cap_rule scheme.cap_height made.result
-    c.cap_layer-cap_layer.result made.ensures.arity made.ensures.dimensions c.cap_layer-cap_layer.ensures _
-    (functions_of scheme) made.result.arity c.checker.ensures made.ensures.arity in
+    let alike = c.checker.ensures in
     let first = c.new-first.ensures in
     let second = c.new-second.ensures in
     let answer = subst (AnswersUnlessMemory c.pruned_extraction.result)

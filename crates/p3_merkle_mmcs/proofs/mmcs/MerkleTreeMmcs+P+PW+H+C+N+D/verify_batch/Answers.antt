@@ -1,11 +1,10 @@
 -- The answer is that of the checker's walk.
-use Rattle.std.proofs.Common.{◌∙◌, refl}
+use Rattle.std.proofs.Common.{◌∙◌}
 use Rattle.p3_support.specs.Shown.{roots_of}
 use Rattle.p3_merkle_core.specs.Geometry.{shape_of}
 use Rattle.p3_merkle_core.specs.Refusals.{answer_under}
 use Rattle.p3_merkle_core.specs.Views.{opening_borrowed}
-use Rattle.p3_merkle_mmcs.specs.Schemes.{functions_of, params_of}
-use Rattle.p3_merkle_mmcs.proofs.CheckFacts.{params_alike}
+use Rattle.p3_merkle_mmcs.specs.Schemes.{params_of}
 use Rattle.p3_merkle_mmcs.proofs.VerdictFacts.{exact_verdict}
 use Rattle.p3_merkle_mmcs.proofs.mmcs.MerkleTreeMmcs+P+PW+H+C+N+D.verify_batch.Goals as goal
 
@@ -13,10 +12,7 @@ pub returns : goal.returns
 returns g c =
     let scheme = c.args.self.now in
     let same = g.PW.Value.PartialEq.eq in
-    let made = c.steps_of-steps in
-    let alike = params_alike g.row.N c.args.dimensions.now scheme.cap_rule scheme.cap_height made.result
-    c.cap_layer-cap_layer.result made.ensures.arity made.ensures.dimensions c.cap_layer-cap_layer.ensures _
-    (functions_of scheme) g.row.N c.checker.ensures refl in
+    let alike = c.checker.ensures in
     exact_verdict same (params_of scheme (shape_of g.row.N c.args.dimensions.now)) (roots_of c.args.commit.now)
     (opening_borrowed c.args.index c.args.opening) g.met.PW.PackedValue.eq_is_equality c.check_opening.result
     (c.check_opening.ensures.answer

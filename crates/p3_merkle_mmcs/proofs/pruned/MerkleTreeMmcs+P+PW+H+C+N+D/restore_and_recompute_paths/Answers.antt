@@ -5,8 +5,7 @@ use Rattle.p3_merkle_core.specs.Geometry.{shape_of}
 use Rattle.p3_merkle_core.specs.Pruning.{restored_paths}
 use Rattle.p3_merkle_core.specs.Refusals.{AnswersUnlessMemory, pruned_refusal}
 use Rattle.p3_merkle_core.specs.Views.{pruned_borrowed, shown_paths}
-use Rattle.p3_merkle_mmcs.specs.Schemes.{cap_layer_of, functions_of}
-use Rattle.p3_merkle_mmcs.proofs.CheckFacts.{params_alike}
+use Rattle.p3_merkle_mmcs.specs.Schemes.{cap_layer_of}
 use Rattle.p3_merkle_mmcs.proofs.VerdictFacts.{restoring_verdict}
 use Rattle.p3_merkle_mmcs.proofs.pruned.MerkleTreeMmcs+P+PW+H+C+N+D.restore_and_recompute_paths.Goals as goal
 
@@ -15,10 +14,7 @@ returns g c =
     let scheme = c.args.self.now in
     let eq = g.P.Value.PartialEq.eq in
     let s = shape_of g.row.N c.args.dimensions.now in
-    let made = c.steps_of-steps in
-    let alike = params_alike g.row.N c.args.dimensions.now scheme.cap_rule scheme.cap_height made.result
-    c.cap_layer-cap_layer.result made.ensures.arity made.ensures.dimensions c.cap_layer-cap_layer.ensures _
-    (functions_of scheme) made.result.arity c.checker.ensures made.ensures.arity in
+    let alike = c.checker.ensures in
     let restored = c.restored_paths.result in
     record {
       verdict = restoring_verdict eq s (cap_layer_of scheme s)

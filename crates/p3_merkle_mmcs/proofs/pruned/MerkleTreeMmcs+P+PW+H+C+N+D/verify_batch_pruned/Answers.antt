@@ -4,8 +4,7 @@ use Rattle.p3_support.specs.Shown.{roots_of}
 use Rattle.p3_merkle_core.specs.Geometry.{shape_of}
 use Rattle.p3_merkle_core.specs.Refusals.{AnswersUnlessMemory, pruned_refusal_under}
 use Rattle.p3_merkle_core.specs.Views.{pruned_borrowed}
-use Rattle.p3_merkle_mmcs.specs.Schemes.{functions_of, params_of}
-use Rattle.p3_merkle_mmcs.proofs.CheckFacts.{params_alike}
+use Rattle.p3_merkle_mmcs.specs.Schemes.{params_of}
 use Rattle.p3_merkle_mmcs.proofs.VerdictFacts.{pruned_verdict}
 use Rattle.p3_merkle_mmcs.proofs.pruned.MerkleTreeMmcs+P+PW+H+C+N+D.verify_batch_pruned.Goals as goal
 
@@ -14,10 +13,7 @@ returns g c =
     let scheme = c.args.self.now in
     let eq = g.P.Value.PartialEq.eq in
     let same = g.PW.Value.PartialEq.eq in
-    let made = c.steps_of-steps in
-    let alike = params_alike g.row.N c.args.dimensions.now scheme.cap_rule scheme.cap_height made.result
-    c.cap_layer-cap_layer.result made.ensures.arity made.ensures.dimensions c.cap_layer-cap_layer.ensures _
-    (functions_of scheme) made.result.arity c.checker.ensures made.ensures.arity in
+    let alike = c.checker.ensures in
     pruned_verdict eq same (params_of scheme (shape_of g.row.N c.args.dimensions.now)) (roots_of c.args.commit.now)
     (pruned_borrowed c.args.indices.now c.args.rows.now c.args.proof.now) g.met.P.PackedValue.eq_is_equality
     g.met.PW.PackedValue.eq_is_equality scheme.arity c.check_pruned_opening.result

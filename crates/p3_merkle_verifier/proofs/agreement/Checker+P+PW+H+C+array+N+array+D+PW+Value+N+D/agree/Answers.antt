@@ -2,20 +2,19 @@
 use Rattle.std.proofs.Common.{◌∙◌, add-one, ap, sym, zip}
 use Rattle.p3_support.specs.Batches.{heights_of}
 use Rattle.p3_merkle_core.specs.Checks.{words_of_exponent}
-use Rattle.p3_merkle_core.specs.Geometry.{shape_of}
-use Rattle.p3_merkle_verifier.specs.Inner.Checks.{functions_of, opening_in}
+use Rattle.p3_merkle_verifier.specs.Inner.Checks.{functions_of, opening_in, shape_in}
 use Rattle.p3_merkle_verifier.proofs.AgreeFacts.{agree_more, agree_start, rows_same}
 use Rattle.p3_merkle_verifier.proofs.agreement.Checker+P+PW+H+C+array+N+array+D+PW+Value+N+D.agree.Goals as goal
 use Rattle.p3_merkle_verifier.proofs.agreement.Checker+P+PW+H+C+array+N+array+D+PW+Value+N+D.agree.Goals.{else-first-second-via-then-first-second+else-not-agree, else-first-second-via-else-first-second}
 
 pub loop-level-init : goal.loop-level-init
 loop-level-init g c =
-    let steps = c.args.steps.now in
-    let s = shape_of g.row.N steps.dimensions.now in
+    let steps = c.args.self.now.steps in
+    let s = shape_in c.args.self.now in
     let o = opening_in c.args.first in
     let u = opening_in c.args.second in
     let heights = heights_of steps.dimensions.now in
-    let leaves = rw c.requires.arity at steps.walked.leaves in
+    let leaves = steps.walked.leaves in
     record {
       first_progress = c.start-first_progress.ensures;
       second_progress = c.start-second_progress.ensures;
@@ -37,11 +36,11 @@ loop-level-init g c =
 pub loop-level-preserved : goal.loop-level-preserved
 loop-level-preserved g c =
     let f = functions_of c.args.self.now in
-    let s = shape_of g.row.N c.args.steps.now.dimensions.now in
+    let s = shape_in c.args.self.now in
     let l = c.loop-level.level in
     let o = opening_in c.args.first in
     let u = opening_in c.args.second in
-    let heights = heights_of c.args.steps.now.dimensions.now in
+    let heights = heights_of c.args.self.now.steps.dimensions.now in
     let mine = c.compute_level-mine.ensures in
     let theirs = c.compute_level-theirs.ensures in
     record {

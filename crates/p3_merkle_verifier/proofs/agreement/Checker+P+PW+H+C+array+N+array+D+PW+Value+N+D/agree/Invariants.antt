@@ -1,12 +1,11 @@
-use Rattle.p3_merkle_core.specs.Geometry.{shape_of}
-use Rattle.p3_merkle_verifier.specs.Inner.Checks.{functions_of, opening_in, AgreeBelow, IsProgress}
+use Rattle.p3_merkle_verifier.specs.Inner.Checks.{functions_of, opening_in, shape_in, AgreeBelow, IsProgress}
 use Rattle.p3_merkle_verifier.proofs.agreement.Checker+P+PW+H+C+array+N+array+D+PW+Value+N+D.agree.Given as goal
 
 -- both checks stand at the level, and agree below it
 abbrev pub invariant-loop-level : goal.invariant-loop-level
 invariant-loop-level g l =
     let f = functions_of l.self in
-    let s = shape_of g.row.N l.steps.dimensions.now in
+    let s = shape_in l.self in
     record {
       first_progress : IsProgress f s (opening_in l.first) l.level l.first_progress;
       second_progress : IsProgress f s (opening_in l.second) l.level l.second_progress;

@@ -3,8 +3,7 @@ use Rattle.std.proofs.Common.{◌≡◌, add-one, ap, arith, zip}
 use Rattle.p3_support.specs.Batches.{heights_of}
 use Rattle.p3_merkle_core.specs.Checks.{words_of_exponent}
 use Rattle.p3_merkle_core.specs.Extraction.{input_eq}
-use Rattle.p3_merkle_core.specs.Geometry.{shape_of}
-use Rattle.p3_merkle_verifier.specs.Inner.Checks.{functions_of, opening_in}
+use Rattle.p3_merkle_verifier.specs.Inner.Checks.{functions_of, opening_in, shape_in}
 use Rattle.p3_merkle_verifier.proofs.SharedFacts.{difference_shared}
 use Rattle.p3_merkle_verifier.proofs.WalkFacts.{found_next}
 use Rattle.p3_merkle_verifier.proofs.extraction.Checker+P+PW+H+C+array+N+array+D+PW+Value+N+D.last_difference.Goals as goal
@@ -12,11 +11,11 @@ use Rattle.p3_merkle_verifier.proofs.extraction.Checker+P+PW+H+C+array+N+array+D
 pub loop-level-preserved : goal.loop-level-preserved
 loop-level-preserved g c =
     let f = functions_of c.args.self.now in
-    let s = shape_of g.row.N c.args.steps.now.dimensions.now in
+    let s = shape_in c.args.self.now in
     let l = c.loop-level.level in
     let o = opening_in c.args.first in
     let u = opening_in c.args.second in
-    let heights = heights_of c.args.steps.now.dimensions.now in
+    let heights = heights_of c.args.self.now.steps.dimensions.now in
     let mine = c.compute_level-mine.ensures in
     let theirs = c.compute_level-theirs.ensures in
     record {
@@ -33,9 +32,9 @@ pub returns : goal.returns
 returns g c =
     let f = functions_of c.args.self.now in
     let test = input_eq g.P.Value.PartialEq.eq g.PW.Value.PartialEq.eq in
-    let here : c.loop-level.level ≡ c.args.cap_layer = omega arith in
+    let here : c.loop-level.level ≡ c.args.self.now.cap_layer = omega arith in
     rw (
-      ← difference_shared test f (shape_of g.row.N c.args.steps.now.dimensions.now) (opening_in c.args.first)
-          (opening_in c.args.second) c.args.cap_layer,
+      ← difference_shared test f (shape_in c.args.self.now) (opening_in c.args.first)
+          (opening_in c.args.second) c.args.self.now.cap_layer,
       ← here,
     ) c.loop-level.invariant.found

@@ -1,6 +1,5 @@
 use Rattle.std.proofs.Common.{◌≡◌, ◌<◌, ℕ, None}
-use Rattle.p3_merkle_core.specs.Geometry.{shape_of}
-use Rattle.p3_merkle_verifier.specs.Inner.Checks.{functions_of, opening_in}
+use Rattle.p3_merkle_verifier.specs.Inner.Checks.{functions_of, opening_in, shape_in}
 use Rattle.p3_merkle_verifier.specs.Inner.QueryPairs.{query_difference, query_in}
 use Rattle.p3_merkle_verifier.proofs.pruned_extraction.Checker+P+PW+H+C+array+N+array+D+PW+Value+N+D.differing_query.Given as goal
 
@@ -9,6 +8,6 @@ abbrev pub invariant-loop-place : goal.invariant-loop-place
 invariant-loop-place g l =
     (k : ℕ) → k < l.place →
     query_difference g.P.Value.PartialEq.eq g.PW.Value.PartialEq.eq
-    (functions_of l.self) (shape_of l.steps.arity l.steps.dimensions.now)
-    l.cap_layer (opening_in l.first) (query_in l.queries k)
+    (functions_of l.self) (shape_in l.self)
+    l.self.cap_layer (opening_in l.first) (query_in l.queries k)
     ≡ None
