@@ -164,12 +164,13 @@ class Customer:
             raise Failed(f"{why}: {ran}, {proof}\n{before}\n{contents(self.folder)}")
         self.counts["refused"] += 1
 
-    def begins(self, count):
-        """What is said of a proof from another count."""
+    def begins(self, count, how="begins at"):
+        """What is said of a proof from another count, and of a checkpoint that has another."""
         path = self.folder / "checkpoint"
         have = int(path.read_bytes().splitlines()[1]) if path.exists() else 0
-        return (f"fohlazu-follow: standard input begins at {count} entries, and {path} has {have}: "
-                f"take the one from {have} first, or ask for prove-consistency").encode()
+        first = "" if how == "has" else f"take the one from {have} first, or "
+        return (f"fohlazu-follow: standard input {how} {count} entries, and {path} has {have}: "
+                f"{first}ask for prove-consistency").encode()
 
     def finds(self, proof, forked, is_full=False):
         """Two histories are announced, then stored and named, if there is room; no other file changes."""
