@@ -71,6 +71,13 @@ def plant(play) -> None:
         path.write_bytes(planted)
         refuse(play, why, status, said)
         path.unlink()
+    # The last checkpoint is lost, and its proof shows it.
+    stored[-1].unlink()
+    for contents in lines, rewritten, [*lines[:known - 1], b"other"]:
+        play.write(contents)
+        refuse(play, "a log whose last checkpoint is lost", 2, b"put it back")
+    stored[-1].write_bytes(last)
+    play.write(lines, play.tail)
     # A log is restored after a kill, and put right.
     begun(size).write_bytes(text(size))
     play.write(lines[:known])
