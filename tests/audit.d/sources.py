@@ -11,7 +11,7 @@ TESTS = set("""callers library_tests log_commands_tests log_files_answers log_te
 # Crates, and modules that are private, whose functions are `pub` for other code of this repository alone.
 INTERNAL = set("""p3_merkle_core p3_merkle_digests p3_merkle_prover p3_merkle_verifier mmcs_engine
     fohlazu/src/args fohlazu_c/src/verdict log_commands/src/files log_commands/src/texts log_commands/src/write
-    log_text/src/line log_text/src/text p3_hashes/src/many p3_merkle_hiding/src/join""".split())
+    log_text/src/line log_text/src/text p3_hashes/src/many p3_merkle_tree/src/join""".split())
 # The modules of internal crates that are public as a whole.
 PUBLIC = set("""mmcs_engine/src/engine mmcs_engine/src/fault mmcs_engine/src/laws mmcs_engine/src/process
     p3_merkle_core/src/error p3_merkle_core/src/laws p3_merkle_prover/src/tree""".split())

@@ -2,12 +2,27 @@
 //! its rows, which a verifier checks against a cap. Each public name of the library stands here; traits, matrices and
 //! openings as lists of rows are in `p3_support`, hashes in `p3_hashes`.
 //!
+//! The salted scheme is this crate's own: each row is followed by random words before it is hashed. That this hides the
+//! rows is not proved. Salts are drawn beside the matrices. Rows of an opening are joined with their salts, the plain
+//! scheme does the rest, and what it opens is split.
+//!
 //! Some names are aliases at digests of words: `MerkleTree`, `MerkleTreeMmcs`, `MerkleTreeHidingMmcs`, `Hash`,
 //! `PrunedMerklePaths`, `PrunedBatchOpening`, `MerkleAuthPath` and `Collision`. The structs that they name, which are
 //! what a message of the compiler says, stand beside them: `Tree`, `Scheme`, `HidingScheme`, `DigestRef`,
 //! `PrunedProof`, `PrunedRows`, `AuthPath` and `InputPair`.
 #![tactic(auto)]
 
+mod commit;
+mod extract;
+mod hiding_mmcs;
+mod join;
+mod open;
+mod scheme_trait;
+mod verify;
+
+pub use hiding_mmcs::{
+    HidingScheme, MerkleTreeHidingMmcs, SaltedMultiProof, SaltedProof, SaltedTree,
+};
 pub use p3_merkle_core::cap::CapRule;
 pub use p3_merkle_core::collision::{Collision, InputPair, Place};
 pub use p3_merkle_core::error::{MerkleTreeError, PrunedProofError};
@@ -16,9 +31,6 @@ pub use p3_merkle_core::laws;
 pub use p3_merkle_core::pruning::{
     AuthPath, MerkleAuthPath, PrunedBatchOpening, PrunedMerklePaths, PrunedProof, PrunedRows,
     check_indices,
-};
-pub use p3_merkle_hiding::hiding_mmcs::{
-    HidingScheme, MerkleTreeHidingMmcs, SaltedMultiProof, SaltedProof, SaltedTree,
 };
 pub use p3_merkle_mmcs::mmcs::{MerkleTreeMmcs, Scheme};
 pub use p3_merkle_prover::tree::{MerkleTree, Tree};

@@ -1,7 +1,0 @@
-use Rattle.std.proofs.Common.{◌≡◌, take}
-use Rattle.p3_merkle_hiding.specs.SaltedOpenings.{widened}
-use Rattle.p3_merkle_hiding.proofs.join.widened_dimensions.Given as goal
-
--- those of the matrices so far
-abbrev pub invariant-loop-matrix : goal.invariant-loop-matrix
-invariant-loop-matrix l = l.wider.items ≡ widened l.salt_elems (take l.matrix-index l.dimensions)

@@ -1,0 +1,185 @@
+-- What is not refused of rows and salts is accepted, and the other way round.
+use Rattle.std.proofs.Common.{◌≡◌, ◌↔◌, ℕ, Bool, List, [], ◌∷◌, refl, sym, ap, ◌∙◌, arith, inl}
+use Rattle.std.proofs.Common.{inr, length, map, zip, None, Some, Option, Result, eqb}
+use Rattle.std.specs.Prelude.{Ok, Err, IsErr}
+use Rattle.std.specs.List.{AllZip}
+use Rattle.std.specs.Option.{option_or}
+use Rattle.std.proofs.lemmas.Bool.{eqb-true}
+use Rattle.std.proofs.lemmas.List.{length-map}
+use Rattle.p3_support.specs.declared.matrix.Dimensions.{Dimensions}
+use Rattle.p3_merkle_core.specs.Openings.{Opening}
+use Rattle.p3_support.specs.Batches.{widths_of}
+use Rattle.p3_merkle_core.specs.Pruning.{PrunedOpening}
+use Rattle.p3_merkle_core.specs.Geometry.{IsArity}
+use Rattle.p3_merkle_core.specs.Refusals.{AnswersUnlessMemory, IsEquality, first_of, pruned_refusal_under}
+use Rattle.p3_merkle_core.specs.Refusals.{refusal_under, row_width_refusal, size_refusal, width_refusal, ok_unless}
+use Rattle.p3_merkle_core.specs.declared.error.MerkleTreeError.{MerkleTreeError}
+use Rattle.p3_merkle_core.specs.declared.error.MerkleTreeError.TheVariants.{WrongBatchSize}
+use Rattle.p3_merkle_core.proofs.Pruned.NoneFacts.{fit_from, none_of_both, none_parts, unless_none}
+use Rattle.p3_merkle_core.proofs.Pruned.Unrefused.{each_width, size_none}
+use Rattle.p3_merkle_core.proofs.Checks.Verdicts.{accepted_answer, accepted_from, pruned_accepted}
+use Rattle.p3_merkle_tree.proofs.SaltFacts.{widening}
+use Rattle.p3_merkle_tree.specs.SaltRefusals.{salt_refusal, salt_sets_refusal}
+use Rattle.p3_merkle_tree.specs.SaltRefusals.{salted_pruned_refusal_under, salted_refusal_under, salted_rows_refusal}
+use Rattle.p3_merkle_tree.specs.SaltRefusals.{salted_sets_refusal, widening_refusal}
+use Rattle.p3_merkle_tree.specs.SaltedOpenings.{HaveSalts, IsSaltedAccepted, IsSaltedPrunedAccepted}
+use Rattle.p3_merkle_tree.specs.SaltedOpenings.{SaltedOpening, SaltedPruned, joined, joined_sets, widened}
+use Rattle.p3_merkle_tree.specs.SaltedPresented.{presented_salted, presented_salted_pruned}
+use Rattle.p3_merkle_core.specs.Checks.{Params}
+use Rattle.p3_merkle_core.proofs.Collisions.ExtractionFacts.{IsPresentation}
+
+-- ---- rows and salts
+
+rows_fit : {T : Type 0} (ds : List Dimensions) (rows : List (List T)) → map length rows ≡ widths_of ds →
+    width_refusal ds rows ≡ None
+rows_fit ds rows fit =
+    let size : length ds ≡ length rows = sym (length-map ds (λ (d : Dimensions). d.width)) ∙ sym (ap length fit)
+    ∙ length-map rows length in
+    none_of_both (size_refusal (length ds) (length rows)) (row_width_refusal (widths_of ds) rows)
+    (size_none (length ds) (length rows) size)
+    (ap (λ (ws : List ℕ). row_width_refusal ws rows) (sym fit) ∙ each_width 0 rows)
+
+size_from : (expected got : ℕ) → size_refusal expected got ≡ None → got ≡ expected
+size_from expected got none =
+    sym (eqb-true expected got (unless_none (eqb expected got) (WrongBatchSize expected got) none))
+
+pub have_salts : {T : Type 0} (ds : List Dimensions) (rows salts : List (List T)) →
+    (salt_refusal ds rows salts ≡ None) ↔ HaveSalts ds rows salts
+have_salts ds rows salts =
+    let size = size_refusal (length rows) (length salts) in (
+      λ none.
+          let both = none_parts (width_refusal ds rows) size none in
+          record { rows_fit = fit_from ds rows both.0; in_pairs = size_from (length rows) (length salts) both.1 },
+      λ w. none_of_both (width_refusal ds rows) size (rows_fit ds rows w.rows_fit)
+          (size_none (length rows) (length salts) (sym w.in_pairs)),
+    )
+
+module _ {T : Type 0} (ds : List Dimensions) where
+  each_from : (sets salts : List (List (List T))) → length salts ≡ length sets →
+      first_of (λ (rows, salt). salt_refusal ds rows salt) (zip sets salts) ≡ None → AllZip (HaveSalts ds) sets salts
+  each_from [] [] same none = tt
+  each_from [] (x ∷ salts) same none = absurd (omega (arith, same))
+  each_from (rows ∷ sets) [] same none = absurd (omega (arith, same))
+  each_from (rows ∷ sets) (salt ∷ salts) same none =
+      let both = none_parts (salt_refusal ds rows salt)
+      (first_of (λ (rows, salt). salt_refusal ds rows salt) (zip sets salts)) none in
+      ((have_salts ds rows salt).0 both.0, each_from sets salts (omega (arith, same)) both.1)
+
+  each_passes : (sets salts : List (List (List T))) → AllZip (HaveSalts ds) sets salts →
+      first_of (λ (rows, salt). salt_refusal ds rows salt) (zip sets salts) ≡ None
+  each_passes [] [] w = refl
+  each_passes [] (x ∷ salts) w = absurd w
+  each_passes (rows ∷ sets) [] w = absurd w
+  each_passes (rows ∷ sets) (salt ∷ salts) w =
+      none_of_both (salt_refusal ds rows salt) (first_of (λ (rows, salt). salt_refusal ds rows salt) (zip sets salts))
+      ((have_salts ds rows salt).1 w.0) (each_passes sets salts w.1)
+
+-- ---- answers
+
+unrefused_from : (refusal : Option MerkleTreeError) → ok_unless refusal (tt {0}) ≡ Ok tt → refusal ≡ None
+unrefused_from None e = refl
+unrefused_from (Some x) e = absurd cc
+
+module _ {T W : Type 0} (same : W → W → Bool) (e : ℕ) (ds : List Dimensions) (c : Params T W) (cap : List (List W))
+    (dec_w : IsEquality same) where
+  -- an opening is accepted exactly if it is not refused
+  pub salted_accepted : (o : SaltedOpening T W) →
+      (salted_refusal_under same e ds c cap o ≡ None) ↔ IsSaltedAccepted e ds c cap o
+  salted_accepted o =
+      let first = salted_rows_refusal e ds o.rows o.salts in
+      let salt = salt_refusal ds o.rows o.salts in
+      let wide = widening_refusal e ds in
+      let plain = refusal_under same c cap (joined o) in (
+        λ none.
+            let both = none_parts first plain none in
+            let form = none_parts salt wide both.0 in
+            record {
+              salted = (have_salts ds o.rows o.salts).0 form.0;
+              can_widen = (widening e ds).0 form.1;
+              accepted = accepted_from same c.functions c.shape c.layer cap (joined o) dec_w
+                  (ap (λ refusal. ok_unless refusal (tt {0})) both.1);
+            },
+        λ w.
+            let form = none_of_both salt wide ((have_salts ds o.rows o.salts).1 w.salted)
+            ((widening e ds).1 w.can_widen) in
+            none_of_both first plain form
+            (unrefused_from plain
+            (accepted_answer same c.functions c.shape c.layer cap (joined o) dec_w w.accepted)),
+      )
+
+  -- so it is presented to an extraction
+  pub salted_presentation : (o : SaltedOpening T W) → IsPresentation c cap (presented_salted same e ds c cap o)
+  salted_presentation o = record { decided = salted_accepted o; each = λ a k inside. a.accepted }
+
+  -- the same of several indices
+  pub salted_pruned_accepted : (eq : T → T → Bool) → IsEquality eq → IsArity c.shape.arity → (p : SaltedPruned T W) →
+      (salted_pruned_refusal_under eq same e ds c cap p ≡ None) ↔ IsSaltedPrunedAccepted e ds c cap p
+  salted_pruned_accepted eq dec w p =
+      let first = salted_sets_refusal e ds p.rows p.salts in
+      let sets = salt_sets_refusal ds p.rows p.salts in
+      let size = size_refusal (length p.rows) (length p.salts) in
+      let each = first_of (λ (rows, salt). salt_refusal ds rows salt) (zip p.rows p.salts) in
+      let wide = widening_refusal e ds in
+      let plain = pruned_refusal_under eq same c cap (joined_sets p) in
+      let meant = pruned_accepted eq same c.functions c.shape c.layer cap (joined_sets p) dec dec_w w in (
+        λ none.
+            let both = none_parts first plain none in
+            let form = none_parts sets wide both.0 in
+            let salts = none_parts size each form.0 in
+            let paired = size_from (length p.rows) (length p.salts) salts.0 in
+            record {
+              in_pairs = paired;
+              salted = each_from ds p.rows p.salts paired salts.1;
+              can_widen = (widening e ds).0 form.1;
+              accepted = meant.0 (ap (λ refusal. ok_unless refusal (tt {0})) both.1);
+            },
+        λ a.
+            let salts = none_of_both size each (size_none (length p.rows) (length p.salts) (sym a.in_pairs))
+            (each_passes ds p.rows p.salts a.salted) in
+            let form = none_of_both sets wide salts ((widening e ds).1 a.can_widen) in
+            none_of_both first plain form (unrefused_from plain (meant.1 a.accepted)),
+      )
+
+  pub salted_pruned_presentation : (eq : T → T → Bool) → IsEquality eq → IsArity c.shape.arity →
+      (p : SaltedPruned T W) → IsPresentation c cap (presented_salted_pruned eq same e ds c cap p)
+  salted_pruned_presentation eq dec w p =
+      record { decided = salted_pruned_accepted eq dec w p; each = λ a. a.accepted.each_accepted }
+
+-- ---- the answers of the calls
+
+-- a verdict is what is refused
+pub said : (r : Result (Unit {0}) MerkleTreeError) (o : Option MerkleTreeError) → r ≡ ok_unless o (tt {0}) →
+    AnswersUnlessMemory r o
+said (Ok v) None is = refl
+said (Ok v) (Some e) is = absurd cc
+said (Err x) None is = absurd cc
+said (Err x) (Some e) is = inr (let same : e ≡ x = cc in ap (λ (z : MerkleTreeError). Some z) same)
+
+-- where rows and salts are not refused, the refusal is that of the rows followed by their salts, under the parameters of the
+-- wider matrices
+pub refusal_joined : {T W : Type 0} (same : W → W → Bool) (e : ℕ) (ds wide : List Dimensions) (params : List Dimensions →
+    Params T W) (cap : List (List W)) (o : SaltedOpening T W) (p : Opening T W) →
+    salted_rows_refusal e ds o.rows o.salts ≡ None → wide ≡ widened e ds → p ≡ joined o →
+    refusal_under same (params wide) cap p ≡ salted_refusal_under same e ds (params (widened e ds)) cap o
+refusal_joined same e ds wide params cap o p none are_wide is_joined =
+    (λ i. refusal_under same (params (are_wide i)) cap (is_joined i))
+    ∙ ap (λ (z : Option MerkleTreeError). option_or z (refusal_under same (params (widened e ds)) cap (joined o)))
+    (sym none)
+
+-- the same of several indices
+pub refusal_joined_sets : {T W : Type 0} (eq : T → T → Bool) (same : W → W → Bool) (e : ℕ) (ds wide : List Dimensions)
+    (params : List Dimensions → Params T W) (cap : List (List W)) (o : SaltedPruned T W) (p : PrunedOpening T W) →
+    salted_sets_refusal e ds o.rows o.salts ≡ None → wide ≡ widened e ds → p ≡ joined_sets o →
+    pruned_refusal_under eq same (params wide) cap p
+    ≡ salted_pruned_refusal_under eq same e ds (params (widened e ds)) cap o
+refusal_joined_sets eq same e ds wide params cap o p none are_wide is_joined =
+    (λ i. pruned_refusal_under eq same (params (are_wide i)) cap (is_joined i))
+    ∙ ap (λ (z : Option MerkleTreeError).
+    option_or z (pruned_refusal_under eq same (params (widened e ds)) cap (joined_sets o))) (sym none)
+
+-- what is refused before rows and salts are joined is the refusal
+pub refused_before : {V : Type 0} (r : Result V MerkleTreeError) (first after : Option MerkleTreeError) → IsErr r →
+    AnswersUnlessMemory r first → AnswersUnlessMemory r (option_or first after)
+refused_before (Ok v) first after err a = absurd cc
+refused_before (Err x) first after err (inl m) = inl m
+refused_before (Err x) first after err (inr is) = inr (ap (λ (z : Option MerkleTreeError). option_or z after) is)

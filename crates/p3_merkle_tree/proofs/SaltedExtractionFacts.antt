@@ -1,0 +1,257 @@
+-- What the answer to two salted openings says of their rows and salts.
+use Rattle.std.proofs.Common.{◌≡◌, ◌↔◌, ◌∙◌, ◌++◌, ⊎_elim, ℕ, ◌<◌, Bool, List, [], ap, arith, length, refl, subst, sym}
+use Rattle.std.proofs.Common.{None, Some, Option, Result}
+use Rattle.std.specs.Prelude.{Ok, Err, IfOk, IsNone, IsSome, slice_index}
+use Rattle.std.specs.Option.{option_map}
+use Rattle.std.specs.Result.{result_map_both}
+use Rattle.std.proofs.lemmas.List.Elements.{AllZip-get_or}
+use Rattle.p3_support.specs.declared.matrix.Dimensions.{Dimensions}
+use Rattle.p3_merkle_core.specs.Checks.{Input, Params, opened_row}
+use Rattle.p3_merkle_core.specs.Extraction.{RowsAgreeWhereAuthenticated, RowsConflictAt, IsExtraction}
+use Rattle.p3_merkle_core.specs.Geometry.{Shape}
+use Rattle.p3_merkle_core.specs.Openings.{Opening, opening_of}
+use Rattle.p3_merkle_core.specs.Presented.{Presented}
+use Rattle.p3_merkle_core.specs.Pruning.{restored_path}
+use Rattle.p3_merkle_core.specs.Views.{found_alone, found_pair, inputs_in}
+use Rattle.p3_merkle_core.specs.declared.cap.CapRule.{CapRule}
+use Rattle.p3_merkle_core.specs.declared.cap.CapRule.TheVariants.{Lowered}
+use Rattle.p3_merkle_core.specs.declared.collision.InputPair.{InputPair}
+use Rattle.p3_merkle_core.specs.declared.error.MerkleTreeError.{MerkleTreeError}
+use Rattle.p3_merkle_tree.specs.SaltedExtraction.{AgreeWhereAuthenticated, ConflictAt, ConflictSomewhere}
+use Rattle.p3_merkle_tree.specs.SaltedExtraction.{ConflictWhereAuthenticated, IsSaltedExtraction, row_in}
+use Rattle.p3_merkle_tree.specs.SaltedExtraction.{IsSaltedPrunedExtraction, salted_opening_at, salts_in}
+use Rattle.p3_merkle_tree.specs.SaltedOpenings.{HaveSalts, IsSaltedPrunedAccepted, SaltedOpening, SaltedPruned}
+use Rattle.p3_merkle_tree.specs.SaltedOpenings.{joined, joined_sets, salted_of}
+use Rattle.p3_merkle_tree.specs.SaltedPresented.{presented_salted, presented_salted_pruned}
+use Rattle.p3_merkle_tree.proofs.JoinedFacts.{as_many_sets, joined_at, joined_set_at, parts_alike, parts_same}
+
+-- ---- one query of each
+
+module _ {T W : Type 0} (ds : List Dimensions) (o u : SaltedOpening T W) (a : HaveSalts ds o.rows o.salts)
+    (b : HaveSalts ds u.rows u.salts) where
+  same_parts : (k : ℕ) → opened_row (joined o) k ≡ opened_row (joined u) k →
+      (row_in o k ≡ row_in u k) × (salts_in o k ≡ salts_in u k)
+  same_parts k same =
+      parts_same o.rows o.salts u.rows u.salts k a.in_pairs b.in_pairs (a.rows_fit ∙ sym b.rows_fit) same
+
+  same_joined : (k : ℕ) → row_in o k ≡ row_in u k → salts_in o k ≡ salts_in u k →
+      opened_row (joined o) k ≡ opened_row (joined u) k
+  same_joined k row salt =
+      joined_at o.rows o.salts k a.in_pairs ∙ (λ i. row i ++ salt i) ∙ sym (joined_at u.rows u.salts k b.in_pairs)
+
+  -- where rows or salts conflict, the rows followed by their salts do
+  conflict_joined : (s : Shape) (k : ℕ) → ConflictAt s o u k → RowsConflictAt s (joined o) (joined u) k
+  conflict_joined s k conflict =
+      record {
+        exists = conflict.exists;
+        one_row = conflict.one_row;
+        two_ways = λ same.
+            let parts = same_parts k same in
+            ⊎_elim (λ rows. rows parts.0) (λ salts. salts parts.1) conflict.two_ways;
+      }
+
+  -- where they are joined alike, rows and salts agree, and the other way round
+  agree_joined : (c : Params T W) → RowsAgreeWhereAuthenticated c (joined o) (joined u) ↔ AgreeWhereAuthenticated c o u
+  agree_joined c = (
+    λ alike. record {
+      siblings = alike.siblings;
+      rows = λ k inside there. (same_parts k (alike.rows k inside there)).0;
+      salts = λ k inside there. (same_parts k (alike.rows k inside there)).1;
+    },
+    λ agree. record {
+      siblings = agree.siblings;
+      rows = λ k inside there. same_joined k (agree.rows k inside there) (agree.salts k inside there);
+    },
+  )
+
+  -- openings of one index that are joined alike are one
+  one_joined : o.index ≡ u.index → (joined o ≡ joined u) ↔ (o ≡ u)
+  one_joined one = (
+    λ is.
+        let parts = parts_alike o.rows o.salts u.rows u.salts a.in_pairs b.in_pairs (a.rows_fit ∙ sym b.rows_fit)
+        (ap (λ (p : Opening T W). p.rows) is) in
+        let siblings = ap (λ (p : Opening T W). p.siblings) is in
+        λ i. salted_of (one i) (parts.0 i) (parts.1 i) (siblings i),
+    λ alike. ap joined alike,
+  )
+
+-- ---- all queries
+
+-- the queries of an opening are these salted openings, joined
+record AreJoined {T W : Type 0} (ds : List Dimensions) (p : Presented T W)
+    (query : ℕ → SaltedOpening T W) : Type 0 where
+  salted : (k : ℕ) → k < p.queries → HaveSalts ds (query k).rows (query k).salts
+  is : (k : ℕ) → k < p.queries → joined (query k) ≡ p.query k
+
+module _ {T W : Type 0} (eq : T → T → Bool) (same : W → W → Bool) (rule : CapRule) (ds : List Dimensions)
+    (c : Params T W) (first second : Presented T W) (one other : ℕ → SaltedOpening T W) where
+  -- each of the one and each of the other
+  abbrev EachOf : (SaltedOpening T W → SaltedOpening T W → Type 0) → Type 0
+  EachOf Holds = (a b : ℕ) → a < first.queries → b < second.queries → Holds (one a) (other b)
+
+  -- some of the one and some of the other
+  abbrev SomeOf : (SaltedOpening T W → SaltedOpening T W → Type 0) → Type 0
+  SomeOf Holds = (a : ℕ) × (b : ℕ) × (a < first.queries) × (b < second.queries) × Holds (one a) (other b)
+
+  -- what is found of queries, in the words of rows and salts
+  record Tells (result : Result (Option (ℕ × ℕ × (Input T W × Input T W))) MerkleTreeError) : Type 0 where
+    one_index : EachOf (λ o u. o.index ≡ u.index) →
+        IfOk result (λ found. IsNone found ↔ EachOf (AgreeWhereAuthenticated c))
+    two_ways : SomeOf (ConflictWhereAuthenticated c) → IfOk result (λ found. IsSome found)
+    lowered_one_index : rule ≡ Lowered → EachOf (λ o u. o.index ≡ u.index) →
+        IfOk result (λ found. IsNone found ↔ EachOf (λ o u. o ≡ u))
+    lowered_two_ways : rule ≡ Lowered → SomeOf (ConflictSomewhere c) → IfOk result (λ found. IsSome found)
+
+  module _ (x : AreJoined ds first one) (y : AreJoined ds second other) where
+    -- what holds of joined openings holds of the queries, and the other way round
+    to_queries : (Holds : Opening T W → Opening T W → Type 0) (a b : ℕ) → a < first.queries → b < second.queries →
+        Holds (joined (one a)) (joined (other b)) → Holds (first.query a) (second.query b)
+    to_queries Holds a b h g holds =
+        subst (λ (z : Opening T W × Opening T W). Holds z.0 z.1) (λ i. (x.is a h i, y.is b g i)) holds
+
+    from_queries : (Holds : Opening T W → Opening T W → Type 0) (a b : ℕ) → a < first.queries → b < second.queries →
+        Holds (first.query a) (second.query b) → Holds (joined (one a)) (joined (other b))
+    from_queries Holds a b h g holds =
+        subst (λ (z : Opening T W × Opening T W). Holds z.0 z.1) (λ i. (sym (x.is a h) i, sym (y.is b g) i)) holds
+
+    row_twice : (a b : ℕ) → a < first.queries → b < second.queries → (k : ℕ) →
+        ConflictAt c.shape (one a) (other b) k → RowsConflictAt c.shape (first.query a) (second.query b) k
+    row_twice a b h g k conflict =
+        to_queries (λ o u. RowsConflictAt c.shape o u k) a b h g
+        (conflict_joined ds (one a) (other b) (x.salted a h) (y.salted b g) c.shape k conflict)
+
+    agree : (a b : ℕ) → a < first.queries → b < second.queries →
+        RowsAgreeWhereAuthenticated c (joined (one a)) (joined (other b)) ↔ AgreeWhereAuthenticated c (one a) (other b)
+    agree a b h g = agree_joined ds (one a) (other b) (x.salted a h) (y.salted b g) c
+
+    are_one : (a b : ℕ) → a < first.queries → b < second.queries → (one a).index ≡ (other b).index →
+        (joined (one a) ≡ joined (other b)) ↔ (one a ≡ other b)
+    are_one a b h g e = one_joined ds (one a) (other b) (x.salted a h) (y.salted b g) e
+
+  tells : (first.is_accepted → AreJoined ds first one) → (second.is_accepted → AreJoined ds second other) →
+      (result : Result (Option (ℕ × ℕ × (Input T W × Input T W))) MerkleTreeError) →
+      IsExtraction eq same rule c first second result → Tells result
+  tells p q (Ok found) e =
+      let x = p e.both_accepted.0 in
+      let y = q e.both_accepted.1 in
+      let indices = λ (each : EachOf (λ o u. o.index ≡ u.index)) (a b : ℕ) (h : a < first.queries)
+      (g : b < second.queries). to_queries x y (λ o u. o.index ≡ u.index) a b h g (each a b h g) in
+      record {
+        one_index = λ each. (
+          λ none a b h g. (agree x y a b h g).0
+              (from_queries x y (RowsAgreeWhereAuthenticated c) a b h g ((e.one_index (indices each)).0 none a b h g)),
+          λ alike. (e.one_index (indices each)).1
+              (λ a b h g.
+              to_queries x y (RowsAgreeWhereAuthenticated c) a b h g ((agree x y a b h g).1 (alike a b h g))),
+        );
+        two_ways = λ (a, b, h, g, (k, there, conflict)).
+            e.two_ways (a, b, h, g, (k, there, row_twice x y a b h g k conflict));
+        lowered_one_index = λ lowered each. (
+          λ none a b h g. (are_one x y a b h g (each a b h g)).0
+              (from_queries x y (λ o u. o ≡ u) a b h g
+              ((e.lowered_one_index lowered (indices each)).0 none a b h g)),
+          λ alike. (e.lowered_one_index lowered (indices each)).1
+              (λ a b h g. to_queries x y (λ o u. o ≡ u) a b h g
+              ((are_one x y a b h g (each a b h g)).1 (alike a b h g))),
+        );
+        lowered_two_ways = λ lowered (a, b, h, g, (k, conflict)).
+            e.lowered_two_ways lowered (a, b, h, g, (k, row_twice x y a b h g k conflict));
+      }
+  tells p q (Err x) e =
+      record {
+        one_index = λ each. tt;
+        two_ways = λ some. tt;
+        lowered_one_index = λ lowered each. tt;
+        lowered_two_ways = λ lowered some. tt;
+      }
+
+-- ---- what is found, as the calls return it
+
+some_shown : {V U : Type 0} (view : V → U) (r : Result (Option V) MerkleTreeError) →
+    IfOk (result_map_both (λ found. option_map view found) (λ e. e) r) (λ found. IsSome found) →
+    IfOk r (λ found. IsSome found)
+some_shown view (Ok None) is = is
+some_shown view (Ok (Some v)) is = is
+some_shown view (Err e) is = tt
+
+none_shown : {V U : Type 0} (view : V → U) (Q : Type 0) (r : Result (Option V) MerkleTreeError) →
+    IfOk (result_map_both (λ found. option_map view found) (λ e. e) r) (λ found. IsNone found ↔ Q) →
+    IfOk r (λ found. IsNone found ↔ Q)
+none_shown view Q (Ok None) is = is
+none_shown view Q (Ok (Some v)) is = is
+none_shown view Q (Err e) is = tt
+
+both_meant : {V : Type 0} (Q R : Type 0) (r : Result (Option V) MerkleTreeError) → Q ↔ R →
+    IfOk r (λ found. IsNone found ↔ Q) → IfOk r (λ found. IsNone found ↔ R)
+both_meant Q R (Ok found) meant is = (λ none. meant.0 (is.0 none), λ x. is.1 (meant.1 x))
+both_meant Q R (Err e) meant is = tt
+
+module _ {T W : Type 0} (eq : T → T → Bool) (same : W → W → Bool) (rule : CapRule) (e : ℕ) (ds : List Dimensions)
+    (c : Params T W) (cap : List (List W)) where
+  -- ---- two openings of one index each
+  module _ (o u : SaltedOpening T W) (r : Result (Option (InputPair T (List W))) MerkleTreeError)
+      (extracted : IsExtraction eq same rule c (presented_salted same e ds c cap o) (presented_salted same e ds c cap u)
+      (found_alone r)) where
+    abbrev shown : InputPair T (List W) → ℕ × ℕ × (Input T W × Input T W)
+    shown pair = (0, 0, inputs_in pair)
+
+    told : Tells eq same rule ds c (presented_salted same e ds c cap o) (presented_salted same e ds c cap u) (λ k. o)
+        (λ k. u) (found_alone r)
+    told =
+        tells eq same rule ds c (presented_salted same e ds c cap o) (presented_salted same e ds c cap u) (λ k. o)
+        (λ k. u) (λ a. record { salted = λ k h. a.salted; is = λ k h. refl })
+        (λ a. record { salted = λ k h. a.salted; is = λ k h. refl }) (found_alone r) extracted
+
+    alone : (Holds : SaltedOpening T W → SaltedOpening T W → Type 0) →
+        ((a b : ℕ) → a < 1 → b < 1 → Holds o u) ↔ Holds o u
+    alone Holds = (λ each. each 0 0 (omega arith) (omega arith), λ holds a b h g. holds)
+
+    pub salted_told : IsSaltedExtraction eq same rule e ds c cap o u r
+    salted_told =
+        record {
+          extraction = extracted;
+          one_index = λ one. both_meant _ _ r (alone (AgreeWhereAuthenticated c))
+              (none_shown shown _ r (told.one_index (λ a b h g. one)));
+          two_ways = λ conflict. some_shown shown r (told.two_ways (0, 0, omega arith, omega arith, conflict));
+          lowered_one_index = λ lowered one. both_meant _ _ r (alone (λ x y. x ≡ y))
+              (none_shown shown _ r (told.lowered_one_index lowered (λ a b h g. one)));
+          lowered_two_ways = λ lowered conflict.
+              some_shown shown r (told.lowered_two_ways lowered (0, 0, omega arith, omega arith, conflict));
+        }
+
+  -- ---- two openings of several indices
+
+  -- the queries of an accepted opening, each with its salts
+  sets_joined : (p : SaltedPruned T W) → IsSaltedPrunedAccepted e ds c cap p →
+      AreJoined ds (presented_salted_pruned eq same e ds c cap p) (salted_opening_at c p)
+  sets_joined p a =
+      let many : length p.rows ≡ length p.indices = sym (as_many_sets p.rows p.salts a.in_pairs)
+      ∙ a.accepted.restorable.agreed.in_pairs in
+      record {
+        salted = λ k h. AllZip-get_or (HaveSalts ds) p.rows p.salts k [] [] a.salted (omega (arith, many));
+        is = λ k h i. opening_of (slice_index p.indices k) (sym (joined_set_at p.rows p.salts k a.in_pairs) i)
+            (restored_path c (joined_sets p) (slice_index p.indices k));
+      }
+
+  module _ (p q : SaltedPruned T W) (r : Result (Option (ℕ × ℕ × InputPair T (List W))) MerkleTreeError)
+      (extracted : IsExtraction eq same rule c (presented_salted_pruned eq same e ds c cap p)
+      (presented_salted_pruned eq same e ds c cap q) (found_pair r)) where
+    abbrev shown_pair : ℕ × ℕ × InputPair T (List W) → ℕ × ℕ × (Input T W × Input T W)
+    shown_pair (a, b, pair) = (a, b, inputs_in pair)
+
+    told_of_all : Tells eq same rule ds c (presented_salted_pruned eq same e ds c cap p)
+        (presented_salted_pruned eq same e ds c cap q) (salted_opening_at c p) (salted_opening_at c q) (found_pair r)
+    told_of_all =
+        tells eq same rule ds c (presented_salted_pruned eq same e ds c cap p)
+        (presented_salted_pruned eq same e ds c cap q) (salted_opening_at c p) (salted_opening_at c q) (sets_joined p)
+        (sets_joined q) (found_pair r) extracted
+
+    pub salted_pruned_told : IsSaltedPrunedExtraction eq same rule e ds c cap p q r
+    salted_pruned_told =
+        record {
+          extraction = extracted;
+          one_index = λ each. none_shown shown_pair _ r (told_of_all.one_index each);
+          two_ways = λ some. some_shown shown_pair r (told_of_all.two_ways some);
+          lowered_one_index = λ lowered each. none_shown shown_pair _ r (told_of_all.lowered_one_index lowered each);
+          lowered_two_ways = λ lowered some. some_shown shown_pair r (told_of_all.lowered_two_ways lowered some);
+        }

@@ -1,0 +1,120 @@
+-- What follows of what a salted scheme commits to, and of what it shows.
+use Rattle.std.specs.Prelude.{◌≡◌, ℕ, zero, suc, ◌<◌, List, [], ◌∷◌, length, map, slice_index, slice_index_or}
+use Rattle.std.specs.List.{AllZip}
+use Rattle.std.proofs.Common.{◌∙◌, ap, arith, refl, subst, sym}
+use Rattle.p3_support.specs.Batches.{FitDimensions, IsEquivalence, heights_of, greatest}
+use Rattle.p3_merkle_mmcs.specs.Schemes.{IsSameScheme}
+use Rattle.p3_merkle_core.specs.Views.{heights_in}
+use Rattle.p3_support.specs.Pairs.{left_of}
+use Rattle.p3_support.specs.declared.matrix.Dimensions.{Dimensions}
+use Rattle.p3_support.specs.declared.matrix.Matrix.{Ghosts}
+use Rattle.p3_support.specs.declared.compress.PseudoCompressionFunction as compressor
+use Rattle.p3_support.specs.declared.hasher.CryptographicHasher as hasher
+use Rattle.p3_support.specs.declared.packed.PackedValue as packed
+use Rattle.p3_support.specs.declared.pair.HorizontalPair.{HorizontalPair}
+use Rattle.std.specs.declared.default.Default as default
+use Rattle.std.specs.declared.cmp.PartialEq as equality
+use Rattle.p3_merkle_core.specs.Geometry.{IsLawful, shape_of}
+use Rattle.p3_merkle_core.specs.Nodes.{Functions, dimensions_of}
+use Rattle.p3_merkle_core.specs.Openings.{opening_of}
+use Rattle.p3_merkle_core.specs.Checks.{IsAccepted, Params, params}
+use Rattle.p3_merkle_core.specs.Pruning.{restored_path}
+use Rattle.p3_merkle_mmcs.specs.Inner.CommitmentLaws.{all_zip, greatest_is, same_is_equivalence}
+use Rattle.p3_merkle_tree.specs.HidingSchemes.{plain_of}
+use Rattle.p3_merkle_tree.specs.SaltedCommitments.{HaveSaltedProof}
+use Rattle.p3_merkle_tree.specs.SaltedOpenings.{HaveSalts, IsSaltedPrunedAccepted, SaltedPruned, joined_sets}
+use Rattle.p3_merkle_tree.specs.SaltedOpenings.{salted_rows, salted_sets, widened}
+use Rattle.p3_merkle_tree.specs.Inner.SaltedParts.{pair_matrix}
+use Rattle.p3_merkle_tree.specs.declared.hiding_mmcs.HidingScheme.{HidingScheme}
+
+module _ {P PW H C R X G V W : Type 0} {N D E : ℕ} {p : packed.Ghosts P V} {pd : default.Ghosts V}
+    {pe : equality.Ghosts V} {q : packed.Ghosts PW W} {qd : default.Ghosts W} {qe : equality.Ghosts W}
+    {h : hasher.Ghosts H P PW D V W} {c : compressor.Ghosts C PW N D W} where
+  -- having one plain scheme is an equivalence
+  pub same_plain_is_equivalence : IsEquivalence {A = HidingScheme P PW H C R X G N D E V W p pd pe q qd qe h c}
+      (λ s t. IsSameScheme (plain_of s) (plain_of t))
+  same_plain_is_equivalence =
+      record {
+        itself = λ s. same_is_equivalence.itself (plain_of s);
+        back = λ s t w. same_is_equivalence.back (plain_of s) (plain_of t) w;
+        through = λ s t u v w. same_is_equivalence.through (plain_of s) (plain_of t) (plain_of u) v w;
+      }
+
+-- ---- the matrices of pairs
+
+module _ {T A B : Type 0} {a : Ghosts A T} {b : Ghosts B T} where
+  -- pairs have the heights of their left matrices
+  pub left_heights : (pairs : List (HorizontalPair T A B a b)) → heights_of (dimensions_of (map pair_matrix pairs))
+      ≡ heights_in a.height_of a.width_of a.row_of (map left_of pairs)
+  left_heights [] = refl
+  left_heights (p ∷ pairs) = ap (λ (hs : List ℕ). a.height_of (left_of p) ∷ hs) (left_heights pairs)
+
+  -- so these are lawful
+  pub left_lawful : (pairs : List (HorizontalPair T A B a b)) →
+      IsLawful (heights_of (dimensions_of (map pair_matrix pairs))) →
+      IsLawful (heights_in a.height_of a.width_of a.row_of (map left_of pairs))
+  left_lawful pairs w = subst IsLawful (left_heights pairs) w
+
+  -- and the greatest of them is the tallest of the pairs
+  pub left_greatest : (pairs : List (HorizontalPair T A B a b)) → greatest (map a.height_of (map left_of pairs))
+      ≡ greatest (heights_of (dimensions_of (map pair_matrix pairs)))
+  left_greatest pairs = greatest_is a.height_of a.width_of a.row_of 0 (map left_of pairs)
+      ∙ ap greatest (sym (left_heights pairs))
+
+-- ---- what is shown
+
+zip_at : {A B : Type 0} (holds : A → B → Type 0) (xs : List A) (ys : List B) (a : A) (b : B) (k : ℕ) →
+    AllZip holds xs ys → k < length xs → holds (slice_index_or xs k a) (slice_index_or ys k b)
+zip_at holds [] ys a b k w inside = absurd (omega arith)
+zip_at holds (x ∷ xs) [] a b k w inside = absurd w
+zip_at holds (x ∷ xs) (y ∷ ys) a b zero w inside = w.0
+zip_at holds (x ∷ xs) (y ∷ ys) a b (suc k) w inside = zip_at holds xs ys a b k w.1 (omega arith)
+
+module _ {T : Type 0} where
+  length_sets : (sets salts : List (List (List T))) → length salts ≡ length sets → length (salted_sets sets salts)
+      ≡ length sets
+  length_sets [] salts same = refl
+  length_sets (rows ∷ sets) [] same = absurd (omega (arith, same))
+  length_sets (rows ∷ sets) (salt ∷ salts) same = ap suc (length_sets sets salts (omega (arith, same)))
+
+  set_at : (sets salts : List (List (List T))) (k : ℕ) → length salts ≡ length sets → k < length sets →
+      slice_index_or (salted_sets sets salts) k [] ≡ salted_rows (slice_index_or sets k []) (slice_index_or salts k [])
+  set_at [] salts k same inside = absurd (omega arith)
+  set_at (rows ∷ sets) [] k same inside = absurd (omega (arith, same))
+  set_at (rows ∷ sets) (salt ∷ salts) zero same inside = refl
+  set_at (rows ∷ sets) (salt ∷ salts) (suc k) same inside = set_at sets salts k (omega (arith, same)) (omega arith)
+
+-- of an accepted pruned opening each row set is shown to be that of its index
+pub each_salted_shown : {T W : Type 0} (e : ℕ) (ds : List Dimensions) (c : Params T W) (cap : List (List W))
+    (o : SaltedPruned T W) → IsSaltedPrunedAccepted e ds c cap o → AllZip (HaveSaltedProof e ds c cap) o.indices o.rows
+each_salted_shown {T} {W} e ds c cap o w =
+    let long = length_sets o.rows o.salts w.in_pairs in
+    let as_many : length o.rows ≡ length o.indices = sym long ∙ w.accepted.restorable.agreed.in_pairs in
+    all_zip (HaveSaltedProof e ds c cap) o.indices o.rows 0 [] as_many (λ k inside.
+    let i = slice_index o.indices k in
+    let path = restored_path c (joined_sets o) i in
+    let here = subst (λ (rows : List (List T)). IsAccepted c cap (opening_of i rows path))
+    (set_at o.rows o.salts k w.in_pairs (omega (arith, as_many))) (w.accepted.each_accepted k inside) in
+    record {
+      salts = slice_index_or o.salts k [];
+      siblings = path;
+      is_accepted = record {
+        salted = zip_at (HaveSalts ds) o.rows o.salts [] [] k w.salted (omega (arith, as_many));
+        can_widen = w.can_widen;
+        accepted = here;
+      };
+    })
+
+-- more columns leave the heights
+wide_heights : (e : ℕ) (ds : List Dimensions) → heights_of (widened e ds) ≡ heights_of ds
+wide_heights e [] = refl
+wide_heights e (d ∷ ds) = ap (λ (hs : List ℕ). d.height ∷ hs) (wide_heights e ds)
+
+-- rows that are shown fit the dimensions, which are those of the matrices without salts
+pub salted_rows_fit : {T W : Type 0} (f : Functions T W) (n e t : ℕ) (ds : List Dimensions) (cap : List (List W))
+    (index : ℕ) (rows : List (List T)) → HaveSaltedProof e ds (params f (shape_of n (widened e ds)) t) cap index rows →
+    FitDimensions ds index rows
+salted_rows_fit f n e t ds cap index rows proof =
+    let w = proof.is_accepted in
+    let tall : greatest (heights_of (widened e ds)) ≡ greatest (heights_of ds) = ap greatest (wide_heights e ds) in
+    record { rows_fit = w.salted.rows_fit; in_range = subst (λ height. index < height) tall w.accepted.in_range }

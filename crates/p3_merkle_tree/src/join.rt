@@ -1,0 +1,190 @@
+//! Rows joined with their salts: rows and salts are checked, and each row is followed by its salts. A row set has one
+//! row of each matrix, a salt set one list of salts for each row.
+
+ghost use Rattle.std.specs.Prelude.{◌≡◌, IfOk, MatchResult, None, Some};
+ghost use Rattle.p3_merkle_core.specs.Refusals.{AnswersUnlessMemory};
+ghost use Rattle.p3_merkle_tree.specs.SaltRefusals.{salt_refusal, salted_rows_refusal, salted_sets_refusal};
+ghost use Rattle.p3_merkle_tree.specs.SaltRefusals.{widening_refusal};
+ghost use Rattle.p3_merkle_tree.specs.SaltedOpenings.{salted_rows, salted_sets, widened, CanWiden};
+ghost use Rattle.p3_support.specs.Shown.{row_lists, row_sets};
+
+use p3_merkle_core::error::MerkleTreeError;
+use p3_merkle_core::geometry::check_widths;
+use p3_support::matrix::Dimensions;
+use std::alloc::{AllocError, Global};
+
+/// Rows followed by their salts, and the dimensions of matrices of such rows.
+#[derive(Drop)]
+pub struct Salted<Rows> {
+    /// The dimensions with the salts.
+    pub dimensions: Vec<Dimensions>,
+    /// The rows with the salts.
+    pub rows: Rows,
+}
+
+/// Checks the rows and the salts of one index, and joins each row with its salts. `rows` is the row set, `salts` the
+/// salt set. `dimensions` are those of the matrices without salts; in the result each has `salt_elems` more columns.
+/// How many salts a row has is not checked here.
+///
+/// # Errors
+///
+/// The error of [`check_widths`] for the rows; else `WrongBatchSize` if there are not as many lists of salts as rows;
+/// else `TooLarge` for the first matrix whose width with the salts does not fit `usize`. `OutOfMemory` may come at any
+/// time.
+pub fn salted_rows<T: Copy>(
+    alloc: Global,
+    dimensions: &[Dimensions],
+    salt_elems: usize,
+    rows: &[Vec<T>],
+    salts: &[Vec<T>],
+) -> Result<Salted<Vec<Vec<T>>>, MerkleTreeError>
+    ensures answer { AnswersUnlessMemory result
+        (salted_rows_refusal salt_elems dimensions.now (row_lists rows.now) (row_lists salts.now)) }
+    ensures dimensions { IfOk result (λ s. s.dimensions.items ≡ widened salt_elems dimensions.now) }
+    ensures rows { IfOk result
+        (λ s. row_lists s.rows.items ≡ salted_rows (row_lists rows.now) (row_lists salts.now)) }
+{
+    check_rows_and_salts(dimensions, rows, salts)?;
+    Ok(Salted {
+        dimensions: widened_dimensions(alloc, dimensions, salt_elems)?,
+        rows: joined_rows(alloc, rows, salts)?,
+    })
+}
+
+/// Checks the rows and the salts of several indices, and joins each row with its salts. `sets` has a row set for each
+/// index, and `salts` a salt set. `dimensions` are those of the matrices without salts; in the result each has
+/// `salt_elems` more columns. How many salts a row has is not checked: where it is not `salt_elems`, the joined row has
+/// another width than its matrix.
+///
+/// # Errors
+///
+/// The first of these that applies, where `OutOfMemory` may come at any time:
+///
+/// - `WrongBatchSize`: the number of salt sets is not that of the row sets;
+/// - for each row set in turn, the error of [`check_widths`]; else `WrongBatchSize` if the number of lists of salts is
+///   not that of the rows;
+/// - `TooLarge`, for the first matrix whose width with the salts does not fit `usize`.
+pub fn salted_sets<T: Copy>(
+    alloc: Global,
+    dimensions: &[Dimensions],
+    salt_elems: usize,
+    sets: &[Vec<Vec<T>>],
+    salts: &[Vec<Vec<T>>],
+) -> Result<Salted<Vec<Vec<Vec<T>>>>, MerkleTreeError>
+    ensures answer { AnswersUnlessMemory result
+        (salted_sets_refusal salt_elems dimensions.now (row_sets sets.now) (row_sets salts.now)) }
+    ensures dimensions { IfOk result (λ s. s.dimensions.items ≡ widened salt_elems dimensions.now) }
+    ensures sets { IfOk result (λ s. row_sets s.rows.items ≡ salted_sets (row_sets sets.now) (row_sets salts.now)) }
+{
+    if salts.len() != sets.len() {
+        return Err(MerkleTreeError::WrongBatchSize {
+            expected: sets.len(),
+            got: salts.len(),
+        });
+    }
+    for (rows, salt) in sets.iter().zip(salts) {
+        check_rows_and_salts(dimensions, rows, salt)?;
+    }
+    Ok(Salted {
+        dimensions: widened_dimensions(alloc, dimensions, salt_elems)?,
+        rows: joined_row_sets(alloc, sets, salts)?,
+    })
+}
+
+/// Checks by [`check_widths`] that there is one row for each matrix, of the matrix's width without salts; and then that
+/// there is one list of salts for each row, else `WrongBatchSize`.
+fn check_rows_and_salts<T>(
+    dimensions: &[Dimensions],
+    rows: &[Vec<T>],
+    salts: &[Vec<T>],
+) -> Result<(), MerkleTreeError>
+    ensures { let refusal = salt_refusal dimensions.now (row_lists rows.now) (row_lists salts.now) in
+        MatchResult result (λ ok. refusal ≡ None) (λ e. refusal ≡ Some e) }
+{
+    check_widths(dimensions, rows)?;
+    if salts.len() != rows.len() {
+        return Err(MerkleTreeError::WrongBatchSize {
+            expected: rows.len(),
+            got: salts.len(),
+        });
+    }
+    Ok(())
+}
+
+/// Checks that each width fits `usize` with `salt_elems` more columns: `TooLarge` for the first that does not.
+fn check_widening(dimensions: &[Dimensions], salt_elems: usize) -> Result<(), MerkleTreeError>
+    ensures answer { let refusal = widening_refusal salt_elems dimensions.now in
+        MatchResult result (λ ok. refusal ≡ None) (λ e. refusal ≡ Some e) }
+    ensures fits { IfOk result (λ ok. CanWiden salt_elems dimensions.now) }
+{
+    for matrix in 0..dimensions.len() {
+        let width = dimensions[matrix].width;
+        if width > usize::MAX - salt_elems {
+            return Err(MerkleTreeError::TooLarge {
+                matrix,
+                size: width,
+            });
+        }
+    }
+    Ok(())
+}
+
+/// The dimensions, each with `salt_elems` more columns.
+///
+/// # Errors
+///
+/// `TooLarge` for the first matrix whose new width does not fit `usize`, with its width as the size; `OutOfMemory` may
+/// come at any time.
+pub fn widened_dimensions(
+    alloc: Global,
+    dimensions: &[Dimensions],
+    salt_elems: usize,
+) -> Result<Vec<Dimensions>, MerkleTreeError>
+    ensures answer { AnswersUnlessMemory result (widening_refusal salt_elems dimensions.now) }
+    ensures fits { IfOk result (λ v. CanWiden salt_elems dimensions.now) }
+    ensures wider { IfOk result (λ v. v.items ≡ widened salt_elems dimensions.now) }
+{
+    check_widening(dimensions, salt_elems)?;
+    let mut wider = Vec::with_capacity(alloc, dimensions.len())?;
+    for matrix in dimensions {
+        wider.push(Dimensions {
+            width: matrix.width + salt_elems,
+            height: matrix.height,
+        })?;
+    }
+    Ok(wider)
+}
+
+/// Each row followed by its salts. Rows and lists of salts are paired in order, up to the end of the shorter list.
+fn joined_rows<T: Copy>(
+    alloc: Global,
+    rows: &[Vec<T>],
+    salts: &[Vec<T>],
+) -> Result<Vec<Vec<T>>, AllocError>
+    ensures { IfOk result (λ v. row_lists v.items ≡ salted_rows (row_lists rows.now) (row_lists salts.now)) }
+{
+    let mut joined = Vec::with_capacity(alloc, rows.len())?;
+    for (row, salt) in rows.iter().zip(salts) {
+        let mut words = Vec::with_capacity(alloc, row.len().saturating_add(salt.len()))?;
+        words.extend_from_slice(row)?;
+        words.extend_from_slice(salt)?;
+        joined.push(words)?;
+    }
+    Ok(joined)
+}
+
+/// The row sets of several queries, each joined with its salt set by [`joined_rows`]. `sets` has the row sets and
+/// `salts` the salt sets; they are paired in order, up to the end of the shorter list.
+fn joined_row_sets<T: Copy>(
+    alloc: Global,
+    sets: &[Vec<Vec<T>>],
+    salts: &[Vec<Vec<T>>],
+) -> Result<Vec<Vec<Vec<T>>>, AllocError>
+    ensures { IfOk result (λ v. row_sets v.items ≡ salted_sets (row_sets sets.now) (row_sets salts.now)) }
+{
+    let mut joined = Vec::with_capacity(alloc, sets.len())?;
+    for (rows, salt) in sets.iter().zip(salts) {
+        joined.push(joined_rows(alloc, rows, salt)?)?;
+    }
+    Ok(joined)
+}
