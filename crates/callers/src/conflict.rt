@@ -1,7 +1,7 @@
 //! An opening that answers a committed row in another way, and the two inputs behind both answers.
 
 use anyhow::Result;
-use end_to_end::plain_compared::commit_compare;
+use end_to_end::plain::commit_compare;
 use p3_hashes::fold::{FoldCompress, FoldHash};
 use p3_merkle_tree::{BatchOpeningRef, MerkleTreeMmcs};
 use p3_support::matrix::RowMajorMatrix;

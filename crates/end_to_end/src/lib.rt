@@ -1,5 +1,5 @@
-//! From commit to verdict: each public function commits to matrices, opens rows of them, and has the opening verified,
-//! or compared with an opening that anybody claims. Its contract is the whole statement, for every packing, hash,
+//! From commit to verdict: each public function commits to matrices, opens rows of them, and has the opening verified
+//! and compared with an opening that anybody claims. Its contract is the whole statement, for every packing, hash,
 //! compression, matrix type, arity and length of digests. The crate sees the public contracts of the library alone.
 //!
 //! A contract says what the calls return: the cap and the layers are the definition's, the opening is the honest one,
@@ -8,26 +8,11 @@
 #![tactic(auto)]
 
 pub mod plain;
-pub mod plain_compared;
 pub mod salted;
-pub mod salted_compared;
 
 use p3_merkle_tree::MerkleTreeError;
 
-/// What a commitment, an opening and its verification return.
-#[derive(Drop)]
-pub struct Verified<Cap, Tree, Opening> {
-    /// The cap of the tree.
-    pub cap: Cap,
-    /// The tree over the matrices.
-    pub tree: Tree,
-    /// What is opened of the tree.
-    pub opening: Opening,
-    /// What the verification of the opening under the cap answers.
-    pub verdict: Result<(), MerkleTreeError>,
-}
-
-/// What a commitment, an opening and its comparison with a claimed opening return.
+/// What a commitment, an opening, its verification and its comparison with a claimed opening return.
 #[derive(Drop)]
 pub struct Compared<Cap, Tree, Opening, Found> {
     /// The cap of the tree.
@@ -36,6 +21,8 @@ pub struct Compared<Cap, Tree, Opening, Found> {
     pub tree: Tree,
     /// What is opened of the tree.
     pub opening: Opening,
+    /// What the verification of the opening under the cap answers.
+    pub verdict: Result<(), MerkleTreeError>,
     /// The collision, if the claimed opening differs from this one; or why the claimed opening is refused.
     pub found: Result<Option<Found>, MerkleTreeError>,
 }

@@ -1,4 +1,5 @@
-//! The plain scheme: what it opens of its own commitment is accepted.
+//! The plain scheme: what it opens of its own commitment is accepted; and an opening that anybody presents has the
+//! committed row of each authenticated matrix, or a collision is returned.
 
 ghost use Rattle.std.specs.Prelude.{◌≡◌, ◌<◌, [], ◌∷◌, All, IfErr, IfOk, IsOk};
 ghost use Rattle.end_to_end.specs.Honest.{IsHonest, IsHonestPruned};
@@ -9,14 +10,16 @@ ghost use Rattle.p3_merkle_tree.specs.MerkleTreeError.TheVariants.{OutOfMemory};
 ghost use Rattle.p3_merkle_tree.specs.Nodes.{shape};
 ghost use Rattle.p3_merkle_tree.specs.Parts.{matrices_of, tree_batch};
 ghost use Rattle.p3_merkle_tree.specs.Refusals.{AnswersUnlessMemory};
-ghost use Rattle.p3_merkle_tree.specs.Views.{heights_in, opening_made, pruned_made};
+ghost use Rattle.p3_merkle_tree.specs.Views.{heights_in, opening_made, pruned_made, opening_borrowed, pruned_borrowed};
 ghost use Rattle.p3_support.specs.Batches.{greatest};
 ghost use Rattle.p3_support.specs.Shown.{roots_of};
+ghost use Rattle.end_to_end.specs.Comparisons.{IsComparison, IsPrunedComparison};
+ghost use Rattle.p3_merkle_tree.specs.Schemes.{cap_rule_of, params_of};
 
-use crate::Verified;
+use crate::Compared;
 use p3_merkle_tree::{
-    BatchOpening, BatchOpeningRef, MerkleCap, MerkleTree, MerkleTreeError, MerkleTreeMmcs,
-    PrunedBatchOpening, check_indices, laws,
+    BatchOpening, BatchOpeningRef, Collision, MerkleCap, MerkleTree, MerkleTreeError,
+    MerkleTreeMmcs, PrunedBatchOpening, PrunedMerklePaths, check_indices, laws,
 };
 use p3_support::compress::PseudoCompressionFunction;
 use p3_support::hasher::CryptographicHasher;
@@ -25,7 +28,7 @@ use p3_support::packed::PackedValue;
 use std::alloc::Global;
 
 /// Commits to matrices that have all the indices. Returns the cap, the tree, and the dimensions of the matrices.
-pub(crate) fn committed<
+fn committed<
     P: PackedValue,
     PW: PackedValue,
     H: CryptographicHasher<P, PW, D>,
@@ -62,13 +65,15 @@ pub(crate) fn committed<
     Ok((cap, tree, dimensions))
 }
 
-/// Commits to matrices, opens the row of each that belongs to an index, and verifies the opening under the cap.
+/// Commits to matrices, opens the row of each that belongs to an index, verifies the opening under the cap, and compares
+/// an opening that anybody claims for this index with it: what is found is a collision of both, or why `verify_batch`
+/// refuses the claimed one.
 ///
 /// # Errors
 ///
 /// `EmptyBatch`, `TooLarge` or `IncompatibleHeights` if the matrices have such heights; else `IndexOutOfBounds` if the
-/// index is not below the tallest height. `OutOfMemory` may come at any time.
-pub fn commit_open_verify<
+/// index is not below the tallest height. `OutOfMemory` may come at any time, also as what is found.
+pub fn commit_compare<
     P: PackedValue,
     PW: PackedValue,
     H: CryptographicHasher<P, PW, D>,
@@ -81,11 +86,13 @@ pub fn commit_open_verify<
     scheme: &MerkleTreeMmcs<P, PW, H, C, N, D>,
     matrices: Vec<M>,
     index: usize,
+    claimed: BatchOpeningRef<'_, P::Value, Vec<[PW::Value; D]>>,
 ) -> Result<
-    Verified<
+    Compared<
         MerkleCap<P::Value, [PW::Value; D]>,
         MerkleTree<P::Value, PW::Value, M, N, D>,
         BatchOpening<P::Value, Vec<[PW::Value; D]>>,
+        Collision<P::Value, PW::Value, D>,
     >,
     MerkleTreeError,
 >
@@ -95,26 +102,38 @@ pub fn commit_open_verify<
     ensures committed { IfOk result (λ v. Commits scheme.now (roots_of v.cap) v.tree) }
     ensures opened { IfOk result (λ v. IsHonest scheme.now v.tree (roots_of v.cap) (opening_made index v.opening)) }
     ensures verdict { IfOk result (λ v. IsOk v.verdict) }
+    ensures compared { let compares = IsComparison PW.Value.eq (cap_rule_of scheme.now) in
+        IfOk result (λ v. compares (params_of scheme.now (shape (tree_batch v.tree))) (roots_of v.cap)
+        (opening_borrowed index claimed.entry) (opening_made index v.opening) v.found) }
 {
+    laws::answers::<P::Value, PW::Value>();
     let (cap, tree, dimensions) = committed(alloc, scheme, matrices, &[index])?;
     let opening = scheme.open_batch(alloc, index, &tree)?;
-    let verdict = scheme.verify_batch(&cap, &dimensions, index, BatchOpeningRef::from(&opening));
-    Ok(Verified {
+    let honest = BatchOpeningRef::from(&opening);
+    let verdict = scheme.verify_batch(&cap, &dimensions, index, honest);
+    let found = scheme.extract_collision(alloc, &cap, &dimensions, index, claimed, index, honest);
+    Ok(Compared {
         cap,
         tree,
         opening,
         verdict,
+        found,
     })
 }
 
-/// Commits to matrices, opens the rows that belong to several indices by one proof, and verifies the opening under the
-/// cap. The indices may come in any order, with repeats.
+/// Commits to matrices, opens the rows that belong to several indices by one proof, verifies the opening under the cap,
+/// and compares an opening that anybody claims for these indices with it: a row set for each index, and a pruned proof.
+/// The indices may come in any order, with repeats.
+///
+/// What is found is the place of a claimed query in the list of indices, the place of an honest one, and the collision
+/// of both; or why `verify_batch_pruned` refuses the claimed opening.
 ///
 /// # Errors
 ///
 /// `EmptyBatch`, `TooLarge` or `IncompatibleHeights` if the matrices have such heights; else `IndexOutOfBounds` for the
-/// highest index, if it is not below the tallest height. `OutOfMemory` may come at any time, also as the verdict.
-pub fn commit_open_verify_pruned<
+/// highest index, if it is not below the tallest height. `OutOfMemory` may come at any time, also as the verdict or as
+/// what is found.
+pub fn commit_compare_pruned<
     P: PackedValue,
     PW: PackedValue,
     H: CryptographicHasher<P, PW, D>,
@@ -127,11 +146,14 @@ pub fn commit_open_verify_pruned<
     scheme: &MerkleTreeMmcs<P, PW, H, C, N, D>,
     matrices: Vec<M>,
     indices: &[usize],
+    rows: &[Vec<Vec<P::Value>>],
+    proof: &PrunedMerklePaths<PW::Value, D>,
 ) -> Result<
-    Verified<
+    Compared<
         MerkleCap<P::Value, [PW::Value; D]>,
         MerkleTree<P::Value, PW::Value, M, N, D>,
         PrunedBatchOpening<P::Value, PW::Value, D>,
+        (usize, usize, Collision<P::Value, PW::Value, D>),
     >,
     MerkleTreeError,
 >
@@ -142,15 +164,39 @@ pub fn commit_open_verify_pruned<
     ensures opened { IfOk result (λ v.
         IsHonestPruned scheme.now v.tree (roots_of v.cap) (pruned_made indices.now v.opening)) }
     ensures verdict { IfOk result (λ v. IfErr v.verdict (λ e. e ≡ OutOfMemory)) }
+    ensures compared { let compares = IsPrunedComparison P.Value.eq PW.Value.eq (cap_rule_of scheme.now) in
+        IfOk result (λ v. compares (params_of scheme.now (shape (tree_batch v.tree))) (roots_of v.cap)
+        (pruned_borrowed indices.now rows.now proof.now) (pruned_made indices.now v.opening) v.found) }
 {
+    laws::answers::<P::Value, PW::Value>();
+    laws::extraction::<P::Value, PW::Value>();
     let (cap, tree, dimensions) = committed(alloc, scheme, matrices, indices)?;
     let opening = scheme.open_batch_pruned(alloc, indices, &tree)?;
-    let (rows, proof) = (&opening.opened_values, &opening.pruned_proof);
-    let verdict = scheme.verify_batch_pruned(alloc, &cap, &dimensions, indices, rows, proof);
-    Ok(Verified {
+    let (honest_rows, honest_proof) = (&opening.opened_values, &opening.pruned_proof);
+    let verdict = scheme.verify_batch_pruned(
+        alloc,
+        &cap,
+        &dimensions,
+        indices,
+        honest_rows,
+        honest_proof,
+    );
+    let found = scheme.extract_collision_multi(
+        alloc,
+        &cap,
+        &dimensions,
+        indices,
+        rows,
+        proof,
+        indices,
+        honest_rows,
+        honest_proof,
+    );
+    Ok(Compared {
         cap,
         tree,
         opening,
         verdict,
+        found,
     })
 }

@@ -1,10 +1,12 @@
-//! The salted scheme: what it opens of its own commitment is accepted.
+//! The salted scheme: what it opens of its own commitment is accepted; and an opening that anybody presents has the
+//! committed row of each authenticated matrix, or a collision is returned.
 
 ghost use Rattle.std.specs.Prelude.{◌≡◌, ◌<◌, ◌⊎◌, [], ◌∷◌, All, IfErr, IfOk, IsSome, map, slice_index};
 ghost use Rattle.end_to_end.specs.Honest.{IsHonestSalted, IsHonestSaltedPruned};
 ghost use Rattle.end_to_end.specs.Refusals.{salted_open_refusal};
 ghost use Rattle.p3_merkle_tree.specs.Geometry.{heights};
-ghost use Rattle.p3_merkle_tree.specs.HidingSchemes.{generator_of, salted_made, salted_pruned_made};
+ghost use Rattle.p3_merkle_tree.specs.HidingSchemes.{generator_of, salted_made, salted_pruned_made, plain_of};
+ghost use Rattle.p3_merkle_tree.specs.HidingSchemes.{salted_borrowed, salted_params_of, salted_pruned_borrowed};
 ghost use Rattle.p3_merkle_tree.specs.MerkleTreeError.TheVariants.{OutOfMemory};
 ghost use Rattle.p3_merkle_tree.specs.Nodes.{shape};
 ghost use Rattle.p3_merkle_tree.specs.Parts.{matrices_of, tree_batch};
@@ -17,10 +19,12 @@ ghost use Rattle.p3_merkle_tree.specs.Views.{batch_of};
 ghost use Rattle.p3_support.specs.Batches.{greatest};
 ghost use Rattle.p3_support.specs.Pairs.{left_of};
 ghost use Rattle.p3_support.specs.Shown.{roots_of};
+ghost use Rattle.end_to_end.specs.Comparisons.{IsSaltedComparison, IsSaltedPrunedComparison};
+ghost use Rattle.p3_merkle_tree.specs.Schemes.{cap_rule_of};
 
-use crate::Verified;
+use crate::Compared;
 use p3_merkle_tree::{
-    BatchOpening, BatchOpeningRef, MerkleCap, MerkleTreeError, MerkleTreeHidingMmcs,
+    BatchOpening, BatchOpeningRef, Collision, MerkleCap, MerkleTreeError, MerkleTreeHidingMmcs,
     SaltedMultiProof, SaltedProof, SaltedTree, check_indices, laws,
 };
 use p3_support::compress::PseudoCompressionFunction;
@@ -36,7 +40,7 @@ pub type SaltedRows<T, W, const D: usize> = (Vec<Vec<Vec<T>>>, SaltedMultiProof<
 
 /// Commits to matrices that have all the indices, with salts for each row. Returns the cap, the tree, and the
 /// dimensions of the matrices without salts.
-pub(crate) fn salted_committed<
+fn salted_committed<
     P: PackedValue,
     PW: PackedValue,
     H: CryptographicHasher<P, PW, D>,
@@ -90,14 +94,16 @@ where
 }
 
 /// Commits to matrices with `SALT_ELEMS` salts for each row, opens the row of each that belongs to an index, with its
-/// salts, and verifies the opening under the cap.
+/// salts, verifies the opening under the cap, and compares an opening that anybody claims for this index with it: what
+/// is found is a collision of both, or why the salted `verify_batch` refuses the claimed one.
 ///
 /// # Errors
 ///
 /// `EmptyBatch`, `TooLarge` or `IncompatibleHeights` if the matrices have such heights; else `TooLarge` for the first
 /// matrix whose width with its salts does not fit `usize`; else `IndexOutOfBounds` if the index is not below the
-/// tallest height, which is found after the salts are drawn. `OutOfMemory` may come at any time, also as the verdict.
-pub fn salted_commit_open_verify<
+/// tallest height, which is found after the salts are drawn. `OutOfMemory` may come at any time, also as the verdict or
+/// as what is found.
+pub fn salted_commit_compare<
     P: PackedValue,
     PW: PackedValue,
     H: CryptographicHasher<P, PW, D>,
@@ -112,11 +118,13 @@ pub fn salted_commit_open_verify<
     scheme: &mut MerkleTreeHidingMmcs<P, PW, H, C, R, N, D, SALT_ELEMS>,
     matrices: Vec<M>,
     index: usize,
+    claimed: BatchOpeningRef<'_, P::Value, SaltedProof<P::Value, PW::Value, D>>,
 ) -> Result<
-    Verified<
+    Compared<
         MerkleCap<P::Value, [PW::Value; D]>,
         SaltedTree<P::Value, PW::Value, M, N, D>,
         BatchOpening<P::Value, SaltedProof<P::Value, PW::Value, D>>,
+        Collision<P::Value, PW::Value, D>,
     >,
     MerkleTreeError,
 >
@@ -132,34 +140,46 @@ where
     ensures opened { IfOk result (λ v.
         IsHonestSalted scheme.new v.tree (roots_of v.cap) (salted_made index v.opening)) }
     ensures verdict { IfOk result (λ v. IfErr v.verdict (λ e. e ≡ OutOfMemory)) }
+    ensures compared { let compares = IsSaltedComparison PW.Value.eq (cap_rule_of (plain_of scheme.new)) SALT_ELEMS in
+        IfOk result (λ v. let dimensions = unsalted_dimensions N (matrices_of v.tree) in
+        compares dimensions (salted_params_of scheme.new dimensions) (roots_of v.cap)
+        (salted_borrowed index claimed.entry) (salted_made index v.opening) v.found) }
     ensures drawn { let b = batch_of M.height_of M.width_of M.row_of N matrices.items in
         Draws R.stream b.matrices scheme.old scheme.new result }
     ensures untouched { let b = batch_of M.height_of M.width_of M.row_of N matrices.items in
         IsSome (salted_commit_refusal SALT_ELEMS (shape b).dimensions) →
         IfErr result (λ e. (e ≡ OutOfMemory) ⊎ (generator_of scheme.new ≡ generator_of scheme.old)) }
 {
+    laws::answers::<P::Value, PW::Value>();
     let (cap, tree, dimensions) = salted_committed(alloc, scheme, matrices, &[index])?;
     let opening = scheme.open_batch(alloc, index, &tree)?;
     let honest = BatchOpeningRef::from(&opening);
     let verdict = scheme.verify_batch(alloc, &cap, &dimensions, index, honest);
-    Ok(Verified {
+    let found = scheme.extract_collision(alloc, &cap, &dimensions, index, claimed, index, honest);
+    Ok(Compared {
         cap,
         tree,
         opening,
         verdict,
+        found,
     })
 }
 
 /// Commits to matrices with `SALT_ELEMS` salts for each row, opens the rows that belong to several indices by one
-/// proof, with their salts, and verifies the opening under the cap. The indices may come in any order, with repeats.
+/// proof, with their salts, verifies the opening under the cap, and compares an opening that anybody claims for these
+/// indices with it: a row set and a salt set for each index, and a pruned proof. The indices may come in any order, with
+/// repeats.
+///
+/// What is found is the place of a claimed query in the list of indices, the place of an honest one, and the collision
+/// of both; or why the salted `verify_multi_batch` refuses the claimed opening.
 ///
 /// # Errors
 ///
 /// `EmptyBatch`, `TooLarge` or `IncompatibleHeights` if the matrices have such heights; else `TooLarge` for the first
 /// matrix whose width with its salts does not fit `usize`; else `IndexOutOfBounds` for the highest index, if it is not
 /// below the tallest height, which is found after the salts are drawn. `OutOfMemory` may come at any time, also as the
-/// verdict.
-pub fn salted_commit_open_verify_pruned<
+/// verdict or as what is found.
+pub fn salted_commit_compare_pruned<
     P: PackedValue,
     PW: PackedValue,
     H: CryptographicHasher<P, PW, D>,
@@ -174,11 +194,14 @@ pub fn salted_commit_open_verify_pruned<
     scheme: &mut MerkleTreeHidingMmcs<P, PW, H, C, R, N, D, SALT_ELEMS>,
     matrices: Vec<M>,
     indices: &[usize],
+    rows: &[Vec<Vec<P::Value>>],
+    proof: &SaltedMultiProof<P::Value, PW::Value, D>,
 ) -> Result<
-    Verified<
+    Compared<
         MerkleCap<P::Value, [PW::Value; D]>,
         SaltedTree<P::Value, PW::Value, M, N, D>,
         SaltedRows<P::Value, PW::Value, D>,
+        (usize, usize, Collision<P::Value, PW::Value, D>),
     >,
     MerkleTreeError,
 >
@@ -194,20 +217,46 @@ where
     ensures opened { IfOk result (λ v.
         IsHonestSaltedPruned scheme.new v.tree (roots_of v.cap) (salted_pruned_made indices.now v.opening)) }
     ensures verdict { IfOk result (λ v. IfErr v.verdict (λ e. e ≡ OutOfMemory)) }
+    ensures compared { let rule = cap_rule_of (plain_of scheme.new) in
+        let compares = IsSaltedPrunedComparison P.Value.eq PW.Value.eq rule SALT_ELEMS in
+        IfOk result (λ v. let dimensions = unsalted_dimensions N (matrices_of v.tree) in
+        compares dimensions (salted_params_of scheme.new dimensions) (roots_of v.cap)
+        (salted_pruned_borrowed indices.now rows.now proof.now) (salted_pruned_made indices.now v.opening) v.found) }
     ensures drawn { let b = batch_of M.height_of M.width_of M.row_of N matrices.items in
         Draws R.stream b.matrices scheme.old scheme.new result }
     ensures untouched { let b = batch_of M.height_of M.width_of M.row_of N matrices.items in
         IsSome (salted_commit_refusal SALT_ELEMS (shape b).dimensions) →
         IfErr result (λ e. (e ≡ OutOfMemory) ⊎ (generator_of scheme.new ≡ generator_of scheme.old)) }
 {
+    laws::answers::<P::Value, PW::Value>();
+    laws::extraction::<P::Value, PW::Value>();
     let (cap, tree, dimensions) = salted_committed(alloc, scheme, matrices, indices)?;
     let opening = scheme.open_multi_batch(alloc, indices, &tree)?;
-    let (rows, proof) = &opening;
-    let verdict = scheme.verify_multi_batch(alloc, &cap, &dimensions, indices, rows, proof);
-    Ok(Verified {
+    let (honest_rows, honest_proof) = &opening;
+    let verdict = scheme.verify_multi_batch(
+        alloc,
+        &cap,
+        &dimensions,
+        indices,
+        honest_rows,
+        honest_proof,
+    );
+    let found = scheme.extract_collision_multi(
+        alloc,
+        &cap,
+        &dimensions,
+        indices,
+        rows,
+        proof,
+        indices,
+        honest_rows,
+        honest_proof,
+    );
+    Ok(Compared {
         cap,
         tree,
         opening,
         verdict,
+        found,
     })
 }

@@ -2,23 +2,16 @@
 //! level, and has an input of the hash or of the compression at each place. Openings conflict in a row if both have it
 //! and its words differ.
 
-ghost use Rattle.std.specs.Prelude.{◌≡◌, ◌<◌, IfOk, IsTrue, MatchResult, None, Some, length};
-ghost use Rattle.p3_merkle_core.specs.Checks.{is_authenticated as authenticates};
-ghost use Rattle.p3_support.specs.Batches.{heights_of};
 ghost use Rattle.p3_merkle_core.specs.Extraction.{IsExtraction};
-ghost use Rattle.p3_merkle_core.specs.Gate.{gate_refusal};
 ghost use Rattle.p3_merkle_core.specs.Geometry.{shape_of};
 ghost use Rattle.p3_merkle_core.specs.Views.{found_alone, found_pair};
-ghost use Rattle.p3_merkle_core.specs.declared.cap.CapRule.TheVariants.{Lowered};
 ghost use Rattle.p3_merkle_mmcs.specs.Committed.{presented_one, presented_all};
-ghost use Rattle.p3_merkle_mmcs.specs.Schemes.{cap_layer_of, cap_rule_of, params_of};
+ghost use Rattle.p3_merkle_mmcs.specs.Schemes.{cap_rule_of, params_of};
 
-use crate::mmcs::{MerkleTreeMmcs, Scheme};
+use crate::mmcs::MerkleTreeMmcs;
 use p3_merkle_core::collision::Collision;
 use p3_merkle_core::error::MerkleTreeError;
-use p3_merkle_core::geometry::exponent_of;
 use p3_merkle_core::pruning::PrunedMerklePaths;
-use p3_merkle_core::steps::{check_heights, steps_of};
 use p3_merkle_verifier::openings::{OpeningRef, PrunedOpeningRef};
 use p3_support::compress::PseudoCompressionFunction;
 use p3_support::hasher::CryptographicHasher;
@@ -26,45 +19,6 @@ use p3_support::matrix::Dimensions;
 use p3_support::opening::{BatchOpeningRef, MerkleCap};
 use p3_support::packed::PackedValue;
 use std::alloc::Global;
-
-impl<
-    P: PackedValue,
-    PW: PackedValue,
-    H: CryptographicHasher<P, PW, D>,
-    C: PseudoCompressionFunction<PW, N, D>,
-    X,
-    G,
-    const N: usize,
-    const D: usize,
-> Scheme<P, PW, H, C, X, G, N, D> {
-    /// Whether a cap over matrices of these dimensions authenticates the rows of one of them: its rows are hashed into
-    /// the cap's layer, or into a layer below it. `matrix` is its position in `dimensions`, from 0, and must be below
-    /// their number. For any other matrix a verifier checks only the width of the row. Under the rule `Lowered` every
-    /// matrix is authenticated. The call does not allocate.
-    ///
-    /// # Errors
-    ///
-    /// `EmptyBatch`, `TooLarge` or `IncompatibleHeights` if [`commit`](Self::commit) refuses such heights.
-    pub fn is_authenticated(
-        &self,
-        dimensions: &[Dimensions],
-        matrix: usize,
-    ) -> Result<bool, MerkleTreeError>
-        requires { matrix < length dimensions.now }
-        ensures answer { MatchResult result
-            (λ answer. gate_refusal (heights_of dimensions.now) ≡ None)
-            (λ e. gate_refusal (heights_of dimensions.now) ≡ Some e) }
-        ensures authenticated { let s = shape_of N dimensions.now in
-            IfOk result (λ answer. answer ≡ authenticates s (cap_layer_of self.now s) matrix) }
-        ensures lowered { cap_rule_of self.now ≡ Lowered → IfOk result (λ answer. IsTrue answer) }
-    {
-        let steps = steps_of(dimensions, N);
-        check_heights(steps.dimensions)?;
-        let cap_layer = steps.cap_layer(self.cap_rule, self.cap_height);
-        let height = dimensions[matrix].height;
-        Ok(exponent_of(height) >= steps.layer_exponent(cap_layer))
-    }
-}
 
 impl<
     P: PackedValue,

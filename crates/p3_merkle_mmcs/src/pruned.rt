@@ -6,20 +6,18 @@ ghost use Rattle.p3_merkle_core.specs.Geometry.{heights, shape_of};
 ghost use Rattle.p3_support.specs.Batches.{greatest};
 ghost use Rattle.p3_merkle_core.specs.Nodes.{shape};
 ghost use Rattle.p3_merkle_core.specs.Presented.{presented_to_restore, IsVerdict};
-ghost use Rattle.p3_merkle_core.specs.Pruning.{restored_paths, IsLeast};
-ghost use Rattle.p3_merkle_core.specs.Refusals.{pruned_len_refusal, AnswersUnlessMemory};
+ghost use Rattle.p3_merkle_core.specs.Pruning.{restored_paths};
+ghost use Rattle.p3_merkle_core.specs.Refusals.{AnswersUnlessMemory};
 ghost use Rattle.p3_merkle_core.specs.Views.{multi_made, pruned_borrowed, pruned_made, shown_paths};
 ghost use Rattle.p3_merkle_prover.specs.Parts.{tree_batch};
 ghost use Rattle.p3_merkle_mmcs.specs.Committed.{presented_all, OpensPruned};
 ghost use Rattle.p3_merkle_mmcs.specs.Schemes.{cap_layer_of, params_of};
 
-use crate::mmcs::{MerkleTreeMmcs, Scheme};
+use crate::mmcs::MerkleTreeMmcs;
 use p3_merkle_core::error::MerkleTreeError;
 use p3_merkle_core::pruning::{
-    MerkleAuthPath, PrunedBatchOpening, PrunedMerklePaths, PrunedProof, PrunedRows, check_indices,
-    distinct_indices,
+    MerkleAuthPath, PrunedBatchOpening, PrunedMerklePaths, PrunedProof, PrunedRows,
 };
-use p3_merkle_core::steps::{Covered, check_heights, steps_of};
 use p3_merkle_prover::opener::tree_steps;
 use p3_merkle_prover::pruned_opener::{boundary_digests, rows_of_indices};
 use p3_merkle_prover::tree::MerkleTree;
@@ -30,47 +28,6 @@ use p3_support::matrix::{Dimensions, Matrix};
 use p3_support::opening::MerkleCap;
 use p3_support::packed::PackedValue;
 use std::alloc::Global;
-
-impl<
-    P: PackedValue,
-    PW: PackedValue,
-    H: CryptographicHasher<P, PW, D>,
-    C: PseudoCompressionFunction<PW, N, D>,
-    X,
-    G,
-    const N: usize,
-    const D: usize,
-> Scheme<P, PW, H, C, X, G, N, D> {
-    /// The number of digests in a pruned proof of these indices, over matrices of these dimensions. The proof has the
-    /// digests that a verifier cannot compute from the rows: on each level below the cap, those of the children of
-    /// covered nodes that are not covered themselves. A node is covered if it is a queried leaf or above one. No
-    /// smaller set of digests suffices.
-    ///
-    /// The indices may be in any order, with repeats.
-    ///
-    /// # Errors
-    ///
-    /// `EmptyBatch`, `TooLarge` or `IncompatibleHeights` if [`commit`](Self::commit) refuses such heights; else
-    /// `IndexOutOfBounds` for the highest index, if it is not below the tallest height. `OutOfMemory` may come at any
-    /// time.
-    pub fn pruned_len(
-        &self,
-        alloc: Global,
-        dimensions: &[Dimensions],
-        indices: &[usize],
-    ) -> Result<usize, MerkleTreeError>
-        ensures answer { AnswersUnlessMemory result (pruned_len_refusal (shape_of N dimensions.now) indices.now) }
-        ensures least { let s = shape_of N dimensions.now in
-            IfOk result (λ count. IsLeast s indices.now (cap_layer_of self.now s) count) }
-    {
-        let steps = steps_of(dimensions, N);
-        check_heights(steps.dimensions)?;
-        check_indices(steps.max_height, indices)?;
-        let cap_layer = steps.cap_layer(self.cap_rule, self.cap_height);
-        let leaves = distinct_indices(alloc, indices)?;
-        Ok(Covered::new(&steps, indices, leaves).boundary_len(cap_layer))
-    }
-}
 
 impl<
     P: PackedValue,

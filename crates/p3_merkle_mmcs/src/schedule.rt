@@ -1,16 +1,18 @@
-//! The steps and positions on paths, level by level; and the matrices of a tree. A level's step is how many children a
-//! node above it has.
+//! What dimensions alone say: the steps and positions on paths, level by level, the size of pruned proofs, and which
+//! matrices a cap authenticates; and the matrices of a tree. A level's step is how many children a node above it has.
 
-ghost use Rattle.std.specs.Prelude.{◌≡◌, ◌≤◌, IfErr, IfOk, map, take, vec_len, None};
+ghost use Rattle.std.specs.Prelude.{◌≡◌, ◌<◌, ◌≤◌, IfOk, IsTrue, MatchResult, length, map, take, vec_len, None};
+ghost use Rattle.std.specs.Prelude.{Some};
 ghost use Rattle.p3_support.specs.Batches.{heights_of};
 ghost use Rattle.p3_merkle_core.specs.Gate.{gate_refusal};
 ghost use Rattle.p3_merkle_core.specs.Geometry.{positions_below, schedule_below, shape_of};
-ghost use Rattle.p3_merkle_core.specs.Refusals.{replay_refusal, AnswersUnlessMemory};
+ghost use Rattle.p3_merkle_core.specs.Refusals.{pruned_len_refusal, replay_refusal, AnswersUnlessMemory};
 
 use crate::mmcs::Scheme;
 use p3_merkle_core::error::MerkleTreeError;
-use p3_merkle_core::geometry::ArityAndPositions;
-use p3_merkle_core::steps::{check_heights, steps_of};
+use p3_merkle_core::geometry::{ArityAndPositions, exponent_of};
+use p3_merkle_core::pruning::{check_indices, distinct_indices};
+use p3_merkle_core::steps::{Covered, check_heights, steps_of};
 use p3_merkle_prover::opener::{matrix_refs, max_height};
 use p3_merkle_prover::tree::Tree;
 use p3_support::compress::PseudoCompressionFunction;
@@ -24,17 +26,19 @@ impl<
     PW: PackedValue,
     H: CryptographicHasher<P, PW, D>,
     C: PseudoCompressionFunction<PW, N, D>,
-    X: Copy,
+    X,
     G,
     const N: usize,
     const D: usize,
 > Scheme<P, PW, H, C, X, G, N, D> {
     ghost use Rattle.p3_support.specs.Batches.{greatest};
+    ghost use Rattle.p3_merkle_core.specs.Checks.{is_authenticated as authenticates};
     ghost use Rattle.p3_merkle_core.specs.Geometry.{arity_schedule as schedule_in, exponent, heights};
     ghost use Rattle.p3_merkle_core.specs.Nodes.{shape};
-    ghost use Rattle.p3_merkle_core.specs.declared.error.MerkleTreeError.TheVariants.{OutOfMemory};
+    ghost use Rattle.p3_merkle_core.specs.Pruning.{IsLeast};
+    ghost use Rattle.p3_merkle_core.specs.declared.cap.CapRule.TheVariants.{Lowered};
     ghost use Rattle.p3_merkle_prover.specs.Parts.{matrices_of, tree_batch};
-    ghost use Rattle.p3_merkle_mmcs.specs.Schemes.{cap_layer_of};
+    ghost use Rattle.p3_merkle_mmcs.specs.Schemes.{cap_layer_of, cap_rule_of};
 
     /// The step of each level below the cap, from the leaves up: how many children a node above it has, in the tree
     /// over matrices of these dimensions.
@@ -102,6 +106,64 @@ impl<
             arity_schedule: steps.schedule_below(alloc, cap_layer)?,
             query_positions: steps.positions_below(alloc, cap_layer, index)?,
         })
+    }
+
+    /// The number of digests in a pruned proof of these indices, over matrices of these dimensions. The proof has the
+    /// digests that a verifier cannot compute from the rows: on each level below the cap, those of the children of
+    /// covered nodes that are not covered themselves. A node is covered if it is a queried leaf or above one. No
+    /// smaller set of digests suffices.
+    ///
+    /// The indices may be in any order, with repeats.
+    ///
+    /// # Errors
+    ///
+    /// `EmptyBatch`, `TooLarge` or `IncompatibleHeights` if [`commit`](Self::commit) refuses such heights; else
+    /// `IndexOutOfBounds` for the highest index, if it is not below the tallest height. `OutOfMemory` may come at any
+    /// time.
+    pub fn pruned_len(
+        &self,
+        alloc: Global,
+        dimensions: &[Dimensions],
+        indices: &[usize],
+    ) -> Result<usize, MerkleTreeError>
+        ensures answer { AnswersUnlessMemory result (pruned_len_refusal (shape_of N dimensions.now) indices.now) }
+        ensures least { let s = shape_of N dimensions.now in
+            IfOk result (λ count. IsLeast s indices.now (cap_layer_of self.now s) count) }
+    {
+        let steps = steps_of(dimensions, N);
+        check_heights(steps.dimensions)?;
+        check_indices(steps.max_height, indices)?;
+        let cap_layer = steps.cap_layer(self.cap_rule, self.cap_height);
+        let leaves = distinct_indices(alloc, indices)?;
+        Ok(Covered::new(&steps, indices, leaves).boundary_len(cap_layer))
+    }
+
+    /// Whether a cap over matrices of these dimensions authenticates the rows of one of them: its rows are hashed into
+    /// the cap's layer, or into a layer below it. `matrix` is its position in `dimensions`, from 0, and must be below
+    /// their number. For any other matrix a verifier checks only the width of the row. Under the rule `Lowered` every
+    /// matrix is authenticated. The call does not allocate.
+    ///
+    /// # Errors
+    ///
+    /// `EmptyBatch`, `TooLarge` or `IncompatibleHeights` if [`commit`](Self::commit) refuses such heights.
+    pub fn is_authenticated(
+        &self,
+        dimensions: &[Dimensions],
+        matrix: usize,
+    ) -> Result<bool, MerkleTreeError>
+        requires { matrix < length dimensions.now }
+        ensures answer { MatchResult result
+            (λ answer. gate_refusal (heights_of dimensions.now) ≡ None)
+            (λ e. gate_refusal (heights_of dimensions.now) ≡ Some e) }
+        ensures authenticated { let s = shape_of N dimensions.now in
+            IfOk result (λ answer. answer ≡ authenticates s (cap_layer_of self.now s) matrix) }
+        ensures lowered { cap_rule_of self.now ≡ Lowered → IfOk result (λ answer. IsTrue answer) }
+    {
+        let steps = steps_of(dimensions, N);
+        check_heights(steps.dimensions)?;
+        let cap_layer = steps.cap_layer(self.cap_rule, self.cap_height);
+        let height = dimensions[matrix].height;
+        Ok(exponent_of(height) >= steps.layer_exponent(cap_layer))
     }
 
     /// The matrices of a tree, in input order.

@@ -1,4 +1,4 @@
--- The claimed pruned opening is compared with the honest one, under the cap of the salted matrices.
+-- The opening is honest and accepted, and the claimed one is compared with it.
 use Rattle.std.proofs.Common.{◌∙◌, List, refl, subst}
 use Rattle.p3_support.specs.Shown.{roots_of, row_sets}
 use Rattle.p3_support.specs.declared.matrix.Dimensions.{Dimensions}
@@ -10,7 +10,10 @@ use Rattle.p3_merkle_tree.specs.SaltedTrees.{unsalted_dimensions}
 use Rattle.p3_merkle_tree.specs.Schemes.{cap_rule_of}
 use Rattle.end_to_end.proofs.ComparisonFacts.{compared_salted_pruned}
 use Rattle.end_to_end.proofs.RefusalFacts.{salted_pruned_unrefused}
-use Rattle.end_to_end.proofs.salted_compared.salted_commit_compare_pruned.Goals as goal
+use Rattle.p3_merkle_tree.specs.Presented.{IsVerdict}
+use Rattle.p3_merkle_tree.specs.SaltedPresented.{presented_salted_pruned}
+use Rattle.end_to_end.proofs.SaltedFacts.{memory_left}
+use Rattle.end_to_end.proofs.salted.salted_commit_compare_pruned.Goals as goal
 
 pub returns-clause-opened : goal.returns-clause-opened
 returns-clause-opened g c =
@@ -22,6 +25,26 @@ returns-clause-opened g c =
       digests = opened.is_honest committed.committed.own_layers;
       accepted = opened.is_accepted (roots_of c.in_ok-cap.cap) committed;
     }
+
+pub returns-clause-verdict : goal.returns-clause-verdict
+returns-clause-verdict g c =
+    let e = g.row.SALT_ELEMS in
+    let cap = roots_of c.in_ok-cap.cap in
+    let presented = λ (ds : List Dimensions) (p : SaltedPruned _ _). presented_salted_pruned g.P.Value.PartialEq.eq
+    g.PW.Value.PartialEq.eq e ds (salted_params_of c.salted_committed.new.scheme ds) cap p in
+    let same = c.deref.ensures.value ∙ c.in_ok-cap.ensures.dimensions in
+    let lent = c.deref-2.ensures.value in
+    let proof = c.in_ok-opening.opening.1 in
+    let is = subst (λ (z : List Dimensions × SaltedPruned _ _).
+    IsVerdict (presented z.0 z.1) c.verify_multi_batch-verdict.result)
+    (λ i. (
+      same i,
+      salted_pruned_of c.args.indices.now (row_sets (lent i)) (row_sets proof.0.items) proof.1.sibling_hashes.items,
+    ))
+    c.verify_multi_batch-verdict.ensures in
+    memory_left (presented (unsalted_dimensions g.row.N (matrices_of c.in_ok-cap.tree))
+    (salted_pruned_made c.args.indices.now c.in_ok-opening.opening)) c.verify_multi_batch-verdict.result is
+    (returns-clause-opened g c).accepted
 
 pub returns-clause-compared : goal.returns-clause-compared
 returns-clause-compared g c =
