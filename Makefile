@@ -127,9 +127,9 @@ endif
 uninstall:
 	@cd "$(TO)" && rm -f $(INSTALLED) $(INSTALLED_LIBRARY)
 
-# `make bench PARTS='quick raw'` measures these parts alone.
+# `make bench PARTS='quick openings'` measures these parts alone.
 bench: toolchain
-	@bash bench/run $(PARTS)
+	@python3 bench/run $(PARTS)
 
 clean:
 	@rm -rf build bench/out tests/memory.d/out

@@ -1,4 +1,4 @@
-"""What the scripts that measure `fohlazu` share: the program, and the files in bench/out."""
+"""What the scripts that measure share: the program `fohlazu`, files in bench/out, and the time and memory of a run."""
 
 import os
 import random
@@ -7,8 +7,11 @@ import sys
 from pathlib import Path
 
 TOP = Path(__file__).resolve().parent.parent
-OUT = TOP / "bench" / "out"
+OUT = TOP / "bench/out"
+MEASURE = TOP / "tests/model/measure.py"
 PIECE = 16 << 20
+# openssl computes SHA-256 as the library does: without the processor's SHA instructions
+os.environ["OPENSSL_ia32cap"] = ":~0x20000000"
 
 
 def fail(text, status):
@@ -19,11 +22,23 @@ def fail(text, status):
 def built(is_quick):
     """The path of the program, which is built where it is not."""
     if os.environ.get("FOHLAZU"):
-        return str(Path(os.environ["FOHLAZU"]).resolve())
+        return Path(os.environ["FOHLAZU"]).resolve()
     path = "build/quick/fohlazu" if is_quick else "build/fohlazu"
     if subprocess.run(["make", "-s", path], cwd=TOP, stdin=subprocess.DEVNULL).returncode != 0:
         fail(f"{path} can't be built", 3)
-    return str(TOP / path)
+    return TOP / path
+
+
+def measured(words, output=os.devnull):
+    """The seconds of the processor of a run that writes to a file, and the bytes that it held at most."""
+    report = OUT / "report"
+    helper = [sys.executable, "-I", "-S", MEASURE, report, *words]
+    with open(output, "wb") as file:
+        subprocess.run(helper, stdin=subprocess.DEVNULL, stdout=file, stderr=subprocess.DEVNULL, check=True)
+    seconds, held, status = report.read_text().split()
+    if status != "0":
+        fail(f"{' '.join(map(str, words))} ends with status {status}", 3)
+    return float(seconds), int(held)
 
 
 def make(name, size, piece_of):
@@ -43,23 +58,15 @@ def bytes_of(source):
     return source.randbytes(PIECE)
 
 
-def lines_of(source):
-    """Lines of 63 printable bytes each, and their ends."""
-    digits = source.randbytes(PIECE // 2).hex().encode()
-    return b"\n".join(digits[at : at + 63] for at in range(0, len(digits) - 63, 63)) + b"\n"
+def lines_of(least, most):
+    """Makes lines of printable bytes: each length with the end, from the least to the most, as often as any other."""
 
+    def piece_of(source):
+        digits, lines, start = source.randbytes(PIECE // 2).hex().encode(), [], 0
+        while start + most < len(digits):
+            end = start + source.randint(least, most) - 1
+            lines.append(digits[start:end])
+            start = end
+        return b"\n".join(lines) + b"\n"
 
-def short_of(source):
-    """Lines of 19 printable bytes each, and their ends."""
-    digits = source.randbytes(PIECE // 2).hex().encode()
-    return b"\n".join(digits[at : at + 19] for at in range(0, len(digits) - 19, 19)) + b"\n"
-
-
-def mixed_of(source):
-    """Lines of 60 to 250 bytes with their ends, each length as often as any other."""
-    digits, lines, at = source.randbytes(PIECE // 2).hex().encode(), [], 0
-    while at + 250 < len(digits):
-        end = at + source.randrange(59, 250)
-        lines.append(digits[at:end])
-        at = end
-    return b"\n".join(lines) + b"\n"
+    return piece_of
