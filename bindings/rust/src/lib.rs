@@ -27,54 +27,48 @@ pub enum ProofError {
     RootMismatch,
 }
 
+// The reasons by the status of the library, less 1, and their texts.
+const REASONS: [(ProofError, &str); 7] = [
+    (ProofError::SizeTooLarge, "the size is above 2^62"),
+    (ProofError::IndexPastEnd, "the index is not below the size"),
+    (ProofError::SmallerNewSize, "the new size is below the old size"),
+    (ProofError::TooFewDigests, "the proof has too few digests"),
+    (ProofError::TooManyDigests, "the proof has too many digests"),
+    (ProofError::OldRootMismatch, "the proof is of another old root"),
+    (ProofError::RootMismatch, "the proof is of another root"),
+];
+
 impl fmt::Display for ProofError {
     fn fmt(&self, f: &mut fmt::Formatter<'_>) -> fmt::Result {
-        f.write_str(match self {
-            Self::SizeTooLarge => "the size is above 2^62",
-            Self::IndexPastEnd => "the index is not below the size",
-            Self::SmallerNewSize => "the new size is below the old size",
-            Self::TooFewDigests => "the proof has too few digests",
-            Self::TooManyDigests => "the proof has too many digests",
-            Self::OldRootMismatch => "the proof is of another old root",
-            Self::RootMismatch => "the proof is of another root",
-        })
+        f.write_str(REASONS[*self as usize].1)
     }
 }
 
 impl Error for ProofError {}
 
-// As `examples/c/fohlazu.h` has them: no pointer is null, and those to arrays are to 32 bytes each.
+// As `examples/c/fohlazu.h` has them: no pointer is null.
 unsafe extern "C" {
-    fn fohlazu_verify_inclusion(
-        index: u64,
-        size: u64,
-        leaf: *const u8,
-        proof: *const Digest,
-        proof_length: usize,
-        root: *const u8,
-    ) -> i32;
-    fn fohlazu_verify_consistency(
-        old_size: u64,
-        new_size: u64,
-        proof: *const Digest,
-        proof_length: usize,
-        old_root: *const u8,
-        new_root: *const u8,
-    ) -> i32;
-    fn fohlazu_leaf_hash(entry: *const u8, length: usize, leaf: *mut u8);
+    #[link_name = "fohlazu_verify_inclusion"]
+    fn inclusion(index: u64, size: u64, leaf: &Digest, proof: *const Digest, length: usize, root: &Digest) -> i32;
+    #[link_name = "fohlazu_verify_consistency"]
+    fn consistency(old: u64, new: u64, proof: *const Digest, length: usize, old_root: &Digest, root: &Digest) -> i32;
+    fn fohlazu_leaf_hash(entry: *const u8, length: usize, leaf: &mut Digest);
+}
+
+type Verdict = Result<(), ProofError>;
+
+fn verdict(status: i32) -> Verdict {
+    match status {
+        0 => Ok(()),
+        reason => Err(REASONS[reason as usize - 1].0),
+    }
 }
 
 /// Verifies that the log of `size` entries under `root` has `leaf` as the leaf hash of its entry `index` (RFC 9162,
 /// 2.1.3.2).
-pub fn verify_inclusion(
-    index: u64,
-    size: u64,
-    leaf: &Digest,
-    proof: &[Digest],
-    root: &Digest,
-) -> Result<(), ProofError> {
+pub fn verify_inclusion(index: u64, size: u64, leaf: &Digest, proof: &[Digest], root: &Digest) -> Verdict {
     // SAFETY: the pointers and the length are those of borrowed values.
-    verdict(unsafe { fohlazu_verify_inclusion(index, size, leaf.as_ptr(), proof.as_ptr(), proof.len(), root.as_ptr()) })
+    verdict(unsafe { inclusion(index, size, leaf, proof.as_ptr(), proof.len(), root) })
 }
 
 /// Verifies that the log of `new_size` entries under `new_root` begins with the `old_size` entries under `old_root`
@@ -85,38 +79,15 @@ pub fn verify_consistency(
     proof: &[Digest],
     old_root: &Digest,
     new_root: &Digest,
-) -> Result<(), ProofError> {
+) -> Verdict {
     // SAFETY: the pointers and the length are those of borrowed values.
-    verdict(unsafe {
-        fohlazu_verify_consistency(
-            old_size,
-            new_size,
-            proof.as_ptr(),
-            proof.len(),
-            old_root.as_ptr(),
-            new_root.as_ptr(),
-        )
-    })
+    verdict(unsafe { consistency(old_size, new_size, proof.as_ptr(), proof.len(), old_root, new_root) })
 }
 
 /// The leaf hash of an entry: SHA-256 of a byte 0 and the entry (RFC 9162, 2.1.1).
 pub fn leaf_hash(entry: &[u8]) -> Digest {
     let mut leaf = [0; 32];
     // SAFETY: the pointer and the length are those of a borrowed value, and `leaf` is another one.
-    unsafe { fohlazu_leaf_hash(entry.as_ptr(), entry.len(), leaf.as_mut_ptr()) };
+    unsafe { fohlazu_leaf_hash(entry.as_ptr(), entry.len(), &mut leaf) };
     leaf
-}
-
-fn verdict(status: i32) -> Result<(), ProofError> {
-    Err(match status {
-        0 => return Ok(()),
-        1 => ProofError::SizeTooLarge,
-        2 => ProofError::IndexPastEnd,
-        3 => ProofError::SmallerNewSize,
-        4 => ProofError::TooFewDigests,
-        5 => ProofError::TooManyDigests,
-        6 => ProofError::OldRootMismatch,
-        7 => ProofError::RootMismatch,
-        _ => unreachable!("the library has no other status"),
-    })
 }
