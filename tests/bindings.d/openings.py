@@ -25,7 +25,7 @@ STATUSES = {
 NO_SUCH_TREE = 8
 
 
-class Asked:
+class Question:
     """A scheme, a cap, dimensions, an index, the bytes of its rows, and siblings."""
 
     def __init__(self, source):
@@ -33,8 +33,7 @@ class Asked:
         self.scheme = Scheme(self.arity, cap_height, source.choice([LOWERED, FIXED]), functions=Sha256)
         heights = heights_of(source, source.randrange(1, 18))
         self.sizes = [(source.randrange(4), height) for height in heights]
-        matrices = [[source.randbytes(width) for _ in range(height)] for width, height in self.sizes]
-        tree = self.scheme.tree(matrices)
+        tree = self.scheme.tree([[source.randbytes(width) for _ in range(height)] for width, height in self.sizes])
         self.index = source.randrange(max(heights))
         rows, self.siblings = self.scheme.opening(tree, self.index)
         self.rows, self.roots = b"".join(rows), tree.cap()
@@ -53,46 +52,41 @@ class Asked:
         rows, left = [], list(self.rows)
         for width, _ in self.sizes:
             rows, left = [*rows, left[:width]], left[width:]
-        text = refusal(SINGLE, Claim(self.scheme, self.roots, self.sizes, self.index, rows + [left] * bool(left),
-                                     self.siblings))
+        rows += [left] * bool(left)
+        text = refusal(SINGLE, Claim(self.scheme, self.roots, self.sizes, self.index, rows, self.siblings))
         if text and text.startswith("wrong height"):
             expected, got = map(int, re.findall(r"\d+", text))
             return 4 if got < expected else 5
         return next(number for begin, number in STATUSES.items() if re.match(begin, text)) if text else 0
 
+    def damage(self, source):
+        """Changes something."""
 
-def changed(source, digests):
-    """Digests with one dropped, put in or replaced."""
-    place = source.randrange(len(digests) + 1)
-    return digests[:place] + source.choice([[], [source.randbytes(32)]]) + digests[place + source.randrange(2) :]
+        def spliced(items, new):
+            """Items with one dropped, put in or replaced."""
+            place = source.randrange(len(items) + 1)
+            return items[:place] + new + items[place + source.randrange(2) :]
 
-
-def damaged(source, asked):
-    """The same with something changed in it."""
-    what = source.randrange(6)
-    if what == 0:
-        asked.siblings = changed(source, asked.siblings)
-    elif what == 1:
-        asked.roots = changed(source, asked.roots)
-    elif what == 2:
-        place = source.randrange(len(asked.rows) + 1)
-        asked.rows = asked.rows[:place] + source.choice([b"", b"\0"]) + asked.rows[place + source.randrange(2) :]
-    elif what == 3:
-        asked.index = source.choice([asked.index + 1, 1 << 40])
-    elif what == 4:
-        place = source.randrange(len(asked.sizes))
-        asked.sizes[place] = (asked.sizes[place][0], source.choice([0, 3, MAX_HEIGHT + 1]))
-    else:
-        asked.arity = source.choice([0, 1, 3, 16])
-    return asked
+        part = source.choice(["siblings", "roots", "rows", "index", "sizes", "arity"])
+        if part in ("siblings", "roots"):
+            setattr(self, part, spliced(getattr(self, part), source.choice([[], [source.randbytes(32)]])))
+        elif part == "rows":
+            self.rows = spliced(self.rows, source.choice([b"", b"\0"]))
+        elif part == "index":
+            self.index = source.choice([self.index + 1, 1 << 40])
+        elif part == "sizes":
+            place = source.randrange(len(self.sizes))
+            self.sizes[place] = (self.sizes[place][0], source.choice([0, 3, MAX_HEIGHT + 1]))
+        else:
+            self.arity = source.choice([0, 1, 3, 16])
 
 
 def questions():
     """Words to the program, and the status."""
     source = random.Random(SEED)
     for _ in range(COUNT):
-        whole = Asked(source)
+        whole, damaged = Question(source), Question(source)
         assert whole.status() == 0
         yield whole.words(), 0
-        asked = damaged(source, Asked(source))
-        yield asked.words(), asked.status()
+        damaged.damage(source)
+        yield damaged.words(), damaged.status()
