@@ -8,10 +8,7 @@ package fohlazu
 // #include <fohlazu.h>
 import "C"
 
-import (
-	"strconv"
-	"unsafe"
-)
+import "unsafe"
 
 // A Digest is a value of SHA-256.
 type Digest = [32]byte
@@ -29,7 +26,7 @@ const (
 	RootMismatch    ProofError = C.FOHLAZU_ROOT_MISMATCH     // the proof leads to another root, or another new one
 )
 
-var texts = map[ProofError]string{
+var texts = [...]string{
 	SizeTooLarge:    "the size is above 2^62",
 	IndexPastEnd:    "the index is not below the size",
 	SmallerNewSize:  "the new size is below the old size",
@@ -40,10 +37,7 @@ var texts = map[ProofError]string{
 }
 
 func (e ProofError) Error() string {
-	if text, ok := texts[e]; ok {
-		return text
-	}
-	return "status " + strconv.Itoa(int(e))
+	return texts[e]
 }
 
 // VerifyInclusion verifies that the log of size entries under root has leaf as the leaf hash of its entry index

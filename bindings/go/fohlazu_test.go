@@ -9,34 +9,28 @@ import (
 	"golang.org/x/mod/sumdb/tlog"
 )
 
-// A memory has the hashes of a log, as tlog numbers them.
-type memory []tlog.Hash
-
-func (m memory) ReadHashes(indexes []int64) ([]tlog.Hash, error) {
-	found := make([]tlog.Hash, len(indexes))
-	for k, index := range indexes {
-		found[k] = m[index]
+// What a call of tlog returns, where no error is expected.
+func must[T any](value T, err error) T {
+	if err != nil {
+		panic(err)
 	}
-	return found, nil
+	return value
 }
 
 // A log of the decimal numbers 1, 2, 3 and so on, and its roots by size.
-func logOf(t *testing.T, size int64) (stored memory, roots []tlog.Hash) {
-	for n := int64(0); ; n++ {
-		root, err := tlog.TreeHash(n, stored)
-		if err != nil {
-			t.Fatal(err)
+func logOf(size int64) (log tlog.HashReader, roots []tlog.Hash) {
+	var stored []tlog.Hash
+	log = tlog.HashReaderFunc(func(indexes []int64) (found []tlog.Hash, err error) {
+		for _, index := range indexes {
+			found = append(found, stored[index])
 		}
-		roots = append(roots, root)
-		if n == size {
-			return stored, roots
-		}
-		hashes, err := tlog.StoredHashes(n, []byte(strconv.FormatInt(n+1, 10)), stored)
-		if err != nil {
-			t.Fatal(err)
-		}
-		stored = append(stored, hashes...)
+		return found, nil
+	})
+	for n := int64(0); n < size; n++ {
+		roots = append(roots, must(tlog.TreeHash(n, log)))
+		stored = append(stored, must(tlog.StoredHashes(n, []byte(strconv.FormatInt(n+1, 10)), log))...)
 	}
+	return log, append(roots, must(tlog.TreeHash(size, log)))
 }
 
 func of(hashes []tlog.Hash) (proof []Digest) {
@@ -49,11 +43,12 @@ func of(hashes []tlog.Hash) (proof []Digest) {
 // Drops, puts in or changes a digest, or does nothing.
 func damage(random *rand.Rand, proof []tlog.Hash) []tlog.Hash {
 	at := random.Intn(len(proof) + 1)
-	if kind := random.Intn(4); kind == 0 {
+	switch kind := random.Intn(4); {
+	case kind == 0:
 		return append(append(append([]tlog.Hash{}, proof[:at]...), tlog.Hash{}), proof[at:]...)
-	} else if kind == 1 && at < len(proof) {
+	case kind == 1 && at < len(proof):
 		return append(append([]tlog.Hash{}, proof[:at]...), proof[at+1:]...)
-	} else if kind == 2 && at < len(proof) {
+	case kind == 2 && at < len(proof):
 		proof[at][random.Intn(32)] ^= 1
 	}
 	return proof
@@ -62,21 +57,14 @@ func damage(random *rand.Rand, proof []tlog.Hash) []tlog.Hash {
 // The verdicts of CheckRecord and CheckTree, of honest proofs and of damaged ones. Go takes no size 0.
 func TestBesideGo(t *testing.T) {
 	random := rand.New(rand.NewSource(69))
-	stored, roots := logOf(t, 100)
+	log, roots := logOf(100)
 	for n := 0; n < 20000; n++ {
 		size := 1 + random.Int63n(100)
 		old := 1 + random.Int63n(size)
 		index := random.Int63n(size)
 		root, leaf := roots[size], tlog.RecordHash([]byte(strconv.FormatInt(index+1, 10)))
-		record, err := tlog.ProveRecord(size, index, stored)
-		if err != nil {
-			t.Fatal(err)
-		}
-		tree, err := tlog.ProveTree(size, old, stored)
-		if err != nil {
-			t.Fatal(err)
-		}
-		record, tree = damage(random, record), damage(random, tree)
+		record := damage(random, must(tlog.ProveRecord(size, index, log)))
+		tree := damage(random, must(tlog.ProveTree(size, old, log)))
 		if random.Intn(4) == 0 {
 			size += random.Int63n(9)
 		}
@@ -93,22 +81,21 @@ func TestBesideGo(t *testing.T) {
 
 // Each reason not to accept, and empty lists.
 func TestErrors(t *testing.T) {
-	stored, roots := logOf(t, 5)
-	record, _ := tlog.ProveRecord(5, 2, stored)
-	tree, _ := tlog.ProveTree(5, 3, stored)
+	log, roots := logOf(5)
+	record, tree := of(must(tlog.ProveRecord(5, 2, log))), of(must(tlog.ProveTree(5, 3, log)))
 	leaf, old, root, empty := LeafHash([]byte("3")), Digest(roots[3]), Digest(roots[5]), Digest(sha256.Sum256(nil))
 	for _, c := range []struct{ found, expected error }{
-		{VerifyInclusion(2, 5, leaf, of(record), root), nil},
-		{VerifyInclusion(2, 1<<62+1, leaf, of(record), root), SizeTooLarge},
-		{VerifyInclusion(5, 5, leaf, of(record), root), IndexPastEnd},
+		{VerifyInclusion(2, 5, leaf, record, root), nil},
+		{VerifyInclusion(2, 1<<62+1, leaf, record, root), SizeTooLarge},
+		{VerifyInclusion(5, 5, leaf, record, root), IndexPastEnd},
 		{VerifyInclusion(2, 5, leaf, nil, root), TooFewDigests},
-		{VerifyInclusion(2, 3, leaf, of(record), root), TooManyDigests},
-		{VerifyInclusion(2, 5, LeafHash(nil), of(record), root), RootMismatch},
-		{VerifyConsistency(3, 5, of(tree), old, root), nil},
+		{VerifyInclusion(2, 3, leaf, record, root), TooManyDigests},
+		{VerifyInclusion(2, 5, LeafHash(nil), record, root), RootMismatch},
+		{VerifyConsistency(3, 5, tree, old, root), nil},
 		{VerifyConsistency(0, 5, nil, empty, root), nil},
-		{VerifyConsistency(5, 3, of(tree), old, root), SmallerNewSize},
-		{VerifyConsistency(3, 5, of(tree), root, root), OldRootMismatch},
-		{VerifyConsistency(3, 5, of(tree), old, old), RootMismatch},
+		{VerifyConsistency(5, 3, tree, old, root), SmallerNewSize},
+		{VerifyConsistency(3, 5, tree, root, root), OldRootMismatch},
+		{VerifyConsistency(3, 5, tree, old, old), RootMismatch},
 	} {
 		if c.found != c.expected {
 			t.Errorf("%v in place of %v", c.found, c.expected)
