@@ -2,6 +2,7 @@
 
 import os
 import random
+import shutil
 import subprocess
 import sys
 from pathlib import Path
@@ -32,7 +33,7 @@ def built(is_quick):
 def measured(words, output=os.devnull):
     """The seconds of the processor of a run that writes to a file, and the bytes that it held at most."""
     report = OUT / "report"
-    helper = [sys.executable, "-I", "-S", MEASURE, report, *words]
+    helper = [sys.executable, "-I", "-S", MEASURE, report, shutil.which(words[0]), *words[1:]]
     with open(output, "wb") as file:
         subprocess.run(helper, stdin=subprocess.DEVNULL, stdout=file, stderr=subprocess.DEVNULL, check=True)
     seconds, held, status = report.read_text().split()
