@@ -8,7 +8,7 @@ use Rattle.p3_support.specs.declared.matrix.Matrix.{Ghosts}
 use Rattle.p3_support.specs.declared.packed.PackedValue as packed
 use Rattle.p3_support.specs.declared.pair.HorizontalPair.{HorizontalPair}
 use Rattle.p3_merkle_tree.specs.Checks.{IsAccepted}
-use Rattle.p3_merkle_tree.specs.HidingScheme.{HidingScheme}
+use Rattle.p3_merkle_tree.specs.declared.hiding_mmcs.HidingScheme.{HidingScheme}
 use Rattle.p3_merkle_tree.specs.HidingSchemes.{plain_of, salted_params_of}
 use Rattle.p3_merkle_tree.specs.Nodes.{shape}
 use Rattle.p3_merkle_tree.specs.Openings.{Opening, honest, honest_rows}
