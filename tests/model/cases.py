@@ -1,478 +1,364 @@
-"""What the definitions answer to a case: a line of fields with | between them, of which the first is the kind."""
+"""Models the answers to cases of crates/merkle_cases: a line of fields with | between them, the first of which is the kind.
+
+A kind is a function. The annotation of each of its parameters reads a field, or more of them."""
+
+from itertools import chain, product
 
 import geometry
 import notation
-import sha256
-import texts
-from extraction import extract, extract_pruned, restored_checks
-from nodes import Fold
-from pruned import boundary_len, suffices
-from refusals import (
-    PRUNED, REPLAY, RESTORED, SALTED, SALTED_PRUNED, SINGLE, Claim, refusal, width_fault,
-)
+from geometry import FIXED, LOWERED, Shape
+from nodes import Fold, Scheme, Sha256
+from notation import dimensions, matrices, numbers, print_numbers, print_row_sets, rows
+from openings import Claim, checks_of, count_errors, extract, height_errors, index_errors, pruned_errors, refusal
+from openings import row_errors, width_errors
 from salts import Generator, generator_of
-from schemes import Scheme
 
+# There is no memory for a tree of so many rows.
 MOST_ROWS = 1 << 40
+KINDS = {}
+
+
+class Refused(Exception):
+    """The error that a call answers."""
 
 
 class Fields:
     """The fields of a case, read one after another. A cap without a letter has the rule that is handed in."""
 
     def __init__(self, line, rule):
-        self.fields = [field.strip() for field in line.split("|")]
-        self.rule = rule
-        self.names_rule = True
+        self.kind, *self.fields = (field.strip() for field in line.split("|"))
+        self.rule, self.names_rule = rule, True
+        self.is_salted, self.is_sha256 = (self.kind.startswith(name) for name in ("salted", "sha256"))
+        self.is_pruned = self.kind.endswith("pruned") or self.kind == "restore"
 
-    def take(self):
-        return self.fields.pop(0)
-
-    def number(self):
-        return int(self.take())
-
-    def numbers(self):
-        return notation.numbers(self.take())
-
-    def columns(self):
-        return [(1, height) for height in self.numbers()]
+    def read(self, reader=str):
+        """What the next field, or the next fields, say."""
+        special = {Fields: lambda: self, Scheme: self.scheme, Batch: self.batch, Generator: self.generator}
+        return special[reader]() if reader in special else reader(self.fields.pop(0))
 
     def scheme(self):
-        """The arity and the cap of the next two fields."""
-        arity, cap = self.number(), self.take()
-        if cap[-1] in "lf":
-            return Scheme(arity, int(cap[:-1]), cap[-1])
-        self.names_rule = False
-        return Scheme(arity, int(cap), self.rule)
+        arity, cap = self.read(int), self.read()
+        self.names_rule = cap[-1] in "lf"
+        cap, rule = (cap[:-1], cap[-1]) if self.names_rule else (cap, self.rule)
+        salts = self.read(int) if self.is_salted else 0
+        return Scheme(arity, int(cap), rule, salts, Sha256 if self.is_sha256 else Fold)
 
-    def salted_scheme(self):
-        scheme = self.scheme()
-        scheme.salts = self.number()
-        return scheme
+    def generator(self):
+        return self.read(generator_of) if self.is_salted else None
 
-    def claim(self, scheme, roots, dimensions):
-        """The opening of a leaf of the next fields."""
-        index, rows = self.number(), notation.rows(self.take())
-        salts = notation.rows(self.take()) if scheme.salts else None
-        return Claim(scheme, roots, dimensions, index, rows, self.numbers(), salts)
+    def batch(self):
+        return Batch(self.read(), self.is_sha256)
 
-    def pruned_claim(self, scheme, roots, dimensions):
-        """The opening of several leaves of the next fields."""
-        queries, sets = self.numbers(), notation.row_sets(self.take())
-        salts = notation.row_sets(self.take()) if scheme.salts else None
-        return Claim(scheme, roots, dimensions, queries, sets, self.numbers(), salts)
+    def queries(self):
+        return self.read(numbers) if self.is_pruned else self.read(int)
+
+    def claim(self, scheme, roots, sizes):
+        """An opening, of a leaf or of several."""
+        index, read = self.queries(), notation.row_sets if self.is_pruned else rows
+        opened, salts = self.read(read), self.read(read) if scheme.salts else None
+        return Claim(scheme, roots, sizes, index, opened, self.read(numbers), salts)
 
 
-def verdict(text):
-    return text or "accepted"
+class Batch:
+    """Matrices, or dimensions of such, whose words are the numbers of their rows, or of SHA-256 the bytes 0, 1, 2 and so
+    on modulo 251."""
 
+    def __init__(self, text, is_sha256=False):
+        self.is_sha256, self.given = is_sha256, None if text == "none" or "x" in text else matrices(text)
+        self.sizes = [(len(own[0]), len(own)) for own in self.given] if self.given else dimensions(text)
+        self.heights = heights_in(self.sizes)
 
-def hash_of(fields):
-    return str(Fold(2).hash(fields.numbers()))
+    def matrices(self):
+        if self.is_sha256:
+            return [byte_rows(width, height) for width, height in self.sizes]
+        return self.given or [[[row] * width for row in range(height)] for width, height in self.sizes]
 
-
-def compress(fields):
-    return str(Fold(fields.number()).compress(fields.numbers()))
-
-
-def sha256_message(fields):
-    return sha256.of_message(fields.take())
-
-
-def sha256_rows(fields):
-    return sha256.of_rows(fields.number())
-
-
-def sha256_groups(fields):
-    return sha256.of_groups(fields.number())
-
-
-def exponent(fields):
-    return str(geometry.exponent(fields.number()))
-
-
-def halving(fields):
-    tallest, height = fields.number(), fields.number()
-    return f"{geometry.expected_height(tallest, height)} {geometry.halvings(tallest, height)}"
-
-
-def padding(fields):
-    arity = fields.number()
-    return notation.print_numbers([geometry.padded_len(length, arity) for length in fields.numbers()])
-
-
-def step(fields):
-    arity = fields.number()
-    exponents = {geometry.exponent(height) for height in fields.numbers()}
-    start = fields.number()
-    count, following = geometry.step_from(exponents, arity, start)
-    has_matrix = "matrix" if start in exponents else "none"
-    is_bridge = "bridge" if geometry.is_bridge(exponents, arity, start) else "whole"
-    return f"{has_matrix} {is_bridge} {count} {following}"
-
-
-def steps(fields):
-    arity = fields.number()
-    return notation.print_numbers(geometry.ladder(arity, fields.numbers())[1])
-
-
-def positions(fields):
-    shape = Scheme(fields.number(), 0, geometry.FIXED).shape(fields.numbers())
-    return notation.print_numbers(shape.positions(fields.number(), fields.number()))
-
-
-def siblings(fields):
-    shape = Scheme(fields.number(), 0, geometry.FIXED).shape(fields.numbers())
-    counts = [sum(step - 1 for step in shape.steps[:layer]) for layer in range(shape.levels + 1)]
-    return notation.print_numbers(counts)
-
-
-def widths(fields):
-    dimensions, rows = notation.dimensions(fields.take()), notation.rows(fields.take())
-    if len(rows) != len(dimensions):
-        return texts.batch_size(len(dimensions), len(rows))
-    return verdict(width_fault(dimensions, rows))
-
-
-def heights(fields):
-    """There is no memory for a tree of too many rows."""
-    scheme, columns = Scheme(2, 0, geometry.LOWERED), fields.columns()
-    refused = scheme.height_refusal(heights_in(columns))
-    claim = Claim(scheme, [], columns, 0, [[0] for _ in columns], [])
-    has_memory = refused or claim.shape.tallest < MOST_ROWS
-    built = verdict(refused) if has_memory else "out of memory"
-    answers = [verdict(refused), built, built, verdict(refused), verdict(refusal(SINGLE, claim))]
-    return answers[0] if len(set(answers)) == 1 else " | ".join(answers)
-
-
-def layers(fields):
-    tree = Scheme(fields.number(), 0, geometry.FIXED).tree(notation.matrices(fields.take()))
-    return "; ".join(map(notation.print_numbers, tree.layers))
-
-
-def builders(fields):
-    scheme = Scheme(fields.number(), 0, geometry.FIXED)
-    tree = scheme.tree(notation.numbered(notation.dimensions(fields.take())))
-    return f"{len(tree.layers)} {tree.layers[-1][0]}"
-
-
-def commit(fields):
-    scheme, matrices = fields.scheme(), notation.matrices(fields.take())
-    refused = scheme.height_refusal(map(len, matrices))
-    return refused or notation.print_numbers(scheme.tree(matrices).cap())
-
-
-def shape(fields):
-    scheme, heights = fields.scheme(), fields.numbers()
-    refused = scheme.height_refusal(heights)
-    if refused:
-        return refused
-    found = scheme.shape(heights)
-    lengths = " ".join(f"{raw}/{width}" for raw, width in found.lengths())
-    return f"{notation.print_numbers(found.proof_steps)} | {lengths}"
-
-
-def schedule(fields):
-    scheme, heights = fields.scheme(), fields.numbers()
-    return scheme.height_refusal(heights) or notation.print_numbers(scheme.shape(heights).proof_steps)
-
-
-def replay(fields):
-    scheme, columns, index = fields.scheme(), fields.columns(), fields.number()
-    claim = Claim(scheme, [], columns, index, [], [0] * fields.number())
-    text = refusal(REPLAY, claim)
-    if text:
-        return text
-    positions = claim.shape.positions(claim.shape.cap_layer, index)
-    return f"{notation.print_numbers(claim.shape.proof_steps)} | {notation.print_numbers(positions)}"
-
-
-def authenticated(fields):
-    scheme, heights = fields.scheme(), fields.numbers()
-    found = scheme.shape(heights)
-    answers = ["yes" if layer <= found.cap_layer else "no" for layer in found.layers]
-    return scheme.height_refusal(heights) or " ".join(answers)
-
-
-def pruned_len(fields):
-    scheme, heights, queries = fields.scheme(), fields.numbers(), fields.numbers()
-    return scheme.open_refusal(heights, queries) or str(boundary_len(scheme.shape(heights), queries))
-
-
-def open_leaf(fields):
-    scheme, matrices, index = fields.scheme(), notation.matrices(fields.take()), fields.number()
-    refused = scheme.open_refusal(map(len, matrices), [index])
-    if refused:
-        return refused
-    rows, path = scheme.opening(scheme.tree(matrices), index)
-    return f"{notation.print_rows(rows)} | {notation.print_numbers(path)}"
-
-
-def open_pruned(fields):
-    scheme, matrices, queries = fields.scheme(), notation.matrices(fields.take()), fields.numbers()
-    refused = scheme.open_refusal(map(len, matrices), queries)
-    if refused:
-        return refused
-    sets, digests = scheme.pruned_opening(scheme.tree(matrices), queries)
-    return f"{notation.print_row_sets(sets)} | {notation.print_numbers(digests)}"
-
-
-def salted_open(fields):
-    scheme, generator = fields.salted_scheme(), generator_of(fields.take())
-    matrices, index = notation.matrices(fields.take()), fields.number()
-    refused = scheme.open_refusal(map(len, matrices), [index])
-    if refused:
-        return refused
-    tree = scheme.salted_tree(matrices, generator)
-    rows, path = scheme.opening(tree, index)
-    parts = [notation.print_rows(part) for part in scheme.split(rows)]
-    return " | ".join([notation.print_numbers(tree.cap()), *parts, notation.print_numbers(path)])
-
-
-def salted_pruned(fields):
-    scheme, generator = fields.salted_scheme(), generator_of(fields.take())
-    matrices, queries = notation.matrices(fields.take()), fields.numbers()
-    refused = scheme.open_refusal(map(len, matrices), queries)
-    if refused:
-        return refused
-    tree = scheme.salted_tree(matrices, generator)
-    sets, digests = scheme.pruned_opening(tree, queries)
-    split = [scheme.split(rows) for rows in sets]
-    parts = [notation.print_row_sets([pair[side] for pair in split]) for side in (0, 1)]
-    return " | ".join([notation.print_numbers(tree.cap()), *parts, notation.print_numbers(digests)])
-
-
-def cap_or_refusal(scheme, generator, text):
-    """The cap over matrices, or over such of some dimensions; else why no tree has them with their salts."""
-    if text == "none" or "x" in text:
-        sizes = notation.dimensions(text)
-    else:
-        sizes = [(len(rows[0]), len(rows)) for rows in notation.matrices(text)]
-    most = geometry.MAX_NUMBER - scheme.salts
-    wide = (texts.too_large(matrix, width) for matrix, (width, _) in enumerate(sizes) if width > most)
-    refused = scheme.height_refusal(heights_in(sizes)) or next(wide, None)
-    if refused:
-        return refused
-    matrices = notation.numbered(sizes) if "x" in text else notation.matrices(text)
-    return notation.print_numbers(scheme.salted_tree(matrices, generator).cap())
-
-
-def salted_commits(fields):
-    scheme, generator = fields.salted_scheme(), generator_of(fields.take())
-    return " / ".join(cap_or_refusal(scheme, generator, batch.strip()) for batch in fields.take().split("/"))
-
-
-def salted_fork(fields):
-    scheme, generator, text = fields.salted_scheme(), generator_of(fields.take()), fields.take()
-    fork = generator.fork()
-    return " / ".join(cap_or_refusal(scheme, source, text) for source in (generator, fork))
+    def tree(self, scheme, generator=None, queries=()):
+        """The tree over them, out of which these leaves are to be opened."""
+        wide = width_errors([width for width, _ in self.sizes], scheme.salts)
+        refuse(height_errors(self.heights), wide, index_errors(self.heights, queries))
+        return scheme.tree(self.matrices(), generator)
 
 
 def heights_in(sizes):
     return [height for _, height in sizes]
 
 
-def sha256_commit(fields):
-    scheme, sizes = fields.scheme(), notation.dimensions(fields.take())
-    return scheme.height_refusal(heights_in(sizes)) or sha256.roots(scheme, sizes)
+def byte_rows(width, height):
+    return [[place % 251 for place in range(row * width, (row + 1) * width)] for row in range(height)]
 
 
-def sha256_open(fields):
-    scheme, sizes, index = fields.scheme(), notation.dimensions(fields.take()), fields.number()
-    return scheme.open_refusal(heights_in(sizes), [index]) or sha256.siblings(scheme, sizes, index)
+def refuse(*errors):
+    for error in chain(*errors):
+        raise Refused(error)
 
 
-def sha256_pruned(fields):
-    scheme, sizes, queries = fields.scheme(), notation.dimensions(fields.take()), fields.numbers()
-    return scheme.open_refusal(heights_in(sizes), queries) or sha256.sent(scheme, sizes, queries)
+def answered(call, *arguments):
+    """What a call answers, as a text."""
+    try:
+        return str(call(*arguments))
+    except Refused as refused:
+        return str(refused)
 
 
-def leaves(fields):
-    scheme, heights = fields.scheme(), fields.numbers()
-    return scheme.height_refusal(heights) or f"{max(heights)} accepted"
+def case(*names):
+    """Has a function answer cases of these kinds."""
+    def register(function):
+        KINDS.update(dict.fromkeys(names, function))
+        return function
+
+    return register
 
 
-def kept(fields):
-    fields.take()
-    columns = fields.columns()
-    return f"{max(height for _, height in columns)} | {notation.print_dimensions(columns)}"
+@case("hash")
+def hash_of(words: numbers):
+    return Fold(2).hash(words)
 
 
-def single_with(fields, scheme, table):
-    roots, dimensions = fields.numbers(), notation.dimensions(fields.take())
-    return verdict(refusal(table, fields.claim(scheme, roots, dimensions)))
+@case("compress")
+def compress(arity: int, digests: numbers):
+    return Fold(arity).compress(digests)
 
 
-def verify(fields):
-    return single_with(fields, fields.scheme(), SINGLE)
+@case("sha256")
+def sha256(text: str):
+    return Sha256(2).hash(b"" if text == "-" else text.encode()).hex()
 
 
-def salted_verify(fields):
-    return single_with(fields, fields.salted_scheme(), SALTED)
+@case("sha256_rows")
+def sha256_rows(length: int):
+    return print_numbers([Sha256(2).hash(row) for row in byte_rows(length, 17)])
 
 
-def pruned_with(fields, scheme, table):
-    roots, dimensions = fields.numbers(), notation.dimensions(fields.take())
-    return verdict(refusal(table, fields.pruned_claim(scheme, roots, dimensions)))
+@case("sha256_groups")
+def sha256_groups(arity: int):
+    digests = list(map(bytes, byte_rows(32, 17 * arity)))
+    return print_numbers([Sha256(arity).compress(digests[at : at + arity]) for at in range(0, 17 * arity, arity)])
 
 
-def verify_pruned(fields):
-    return pruned_with(fields, fields.scheme(), PRUNED)
+@case("exponent")
+def exponent(height: int):
+    return geometry.exponent(height)
 
 
-def salted_verify_pruned(fields):
-    return pruned_with(fields, fields.salted_scheme(), SALTED_PRUNED)
+@case("halving")
+def halving(tallest: int, height: int):
+    return f"{geometry.expected_height(tallest, height)} {geometry.halvings(tallest, height)}"
 
 
-def restore(fields):
-    scheme = fields.scheme()
-    claim = fields.pruned_claim(scheme, [], notation.dimensions(fields.take()))
-    paths = [] if refusal(RESTORED, claim) else [(query, path) for query, _, path in restored_checks(claim)]
-    return refusal(RESTORED, claim) or notation.print_paths(paths)
+@case("padding")
+def padding(arity: int, lengths: numbers):
+    return print_numbers([geometry.padded_len(length, arity) for length in lengths])
 
 
-def extract_with(fields, scheme):
-    roots, dimensions = fields.numbers(), notation.dimensions(fields.take())
-    first = fields.claim(scheme, roots, dimensions)
-    text, found = extract(first, fields.claim(scheme, roots, dimensions))
-    return text or (notation.print_collision(found) if found else "none")
+@case("step")
+def step(arity: int, heights: numbers, start: int):
+    exponents = set(map(geometry.exponent, heights))
+    count, following = geometry.step_from(exponents, arity, start)
+    has_matrix = "matrix" if start in exponents else "none"
+    return f"{has_matrix} {'whole' if count == arity else 'bridge'} {count} {following}"
 
 
-def extract_leaf(fields):
-    return extract_with(fields, fields.scheme())
+@case("steps")
+def steps(arity: int, heights: numbers):
+    return print_numbers(Shape(arity, heights).steps)
 
 
-def salted_extract(fields):
-    return extract_with(fields, fields.salted_scheme())
+@case("positions")
+def positions(arity: int, heights: numbers, layer: int, index: int):
+    return print_numbers(Shape(arity, heights).positions(layer, index))
 
 
-def extract_pruned_with(fields, scheme):
-    roots, dimensions = fields.numbers(), notation.dimensions(fields.take())
-    first = fields.pruned_claim(scheme, roots, dimensions)
-    text, found = extract_pruned(first, fields.pruned_claim(scheme, roots, dimensions))
+@case("siblings")
+def siblings(arity: int, heights: numbers):
+    shape = Shape(arity, heights)
+    return print_numbers([sum(step - 1 for step in shape.steps[:layer]) for layer in range(shape.levels + 1)])
+
+
+@case("widths")
+def widths(sizes: dimensions, opened: rows):
+    refuse(row_errors(sizes, opened))
+    return "accepted"
+
+
+@case("heights")
+def heights(found: numbers):
+    """What is answered by the test of heights, the commit, the tree, the schedule and the check of an opening."""
+    error = next(height_errors(found), None)
+    built = "out of memory" if not error and max(found) >= MOST_ROWS else error or "accepted"
+    columns = [(1, height) for height in found]
+    checked = refusal(Claim(Scheme(2, 0, LOWERED), [], columns, 0, [[0] for _ in columns], []))
+    answers = [str(answer or "accepted") for answer in (error, built, built, error, checked)]
+    return answers[0] if len(set(answers)) == 1 else " | ".join(answers)
+
+
+@case("layers")
+def layers(arity: int, batch: Batch):
+    return "; ".join(map(print_numbers, batch.tree(Scheme(arity, 0, FIXED)).layers))
+
+
+@case("builders")
+def builders(arity: int, batch: Batch):
+    found = batch.tree(Scheme(arity, 0, FIXED)).layers
+    return f"{len(found)} {found[-1][0]}"
+
+
+@case("commit", "sha256_commit")
+def commit(scheme: Scheme, batch: Batch):
+    return print_numbers(batch.tree(scheme).cap())
+
+
+@case("shape")
+def shape(scheme: Scheme, found: numbers):
+    refuse(height_errors(found))
+    lengths = " ".join(f"{raw}/{width}" for raw, width in scheme.shape(found).lengths())
+    return f"{print_numbers(scheme.shape(found).proof_steps)} | {lengths}"
+
+
+@case("schedule")
+def schedule(scheme: Scheme, found: numbers):
+    refuse(height_errors(found))
+    return print_numbers(scheme.shape(found).proof_steps)
+
+
+@case("replay")
+def replay(scheme: Scheme, found: numbers, index: int, count: int):
+    own = scheme.shape(found)
+    refuse(height_errors(found), index_errors(found, [index]), count_errors("WrongHeight", own.siblings, count))
+    return f"{print_numbers(own.proof_steps)} | {print_numbers(own.positions(own.cap_layer, index))}"
+
+
+@case("authenticated")
+def authenticated(scheme: Scheme, found: numbers):
+    refuse(height_errors(found))
+    own = scheme.shape(found)
+    return " ".join("yes" if layer <= own.cap_layer else "no" for layer in own.layers)
+
+
+@case("pruned_len")
+def pruned_len(scheme: Scheme, found: numbers, queries: numbers):
+    refuse(height_errors(found), index_errors(found, queries))
+    return scheme.shape(found).boundary_len(queries)
+
+
+@case("open", "pruned", "salted_open", "salted_pruned", "sha256_open", "sha256_pruned")
+def opened(fields: Fields, scheme: Scheme, generator: Generator, batch: Batch):
+    """The rows, salts and digests that are opened; of SHA-256 the digests alone, with salts the cap as well."""
+    queries = fields.queries() if fields.is_pruned else [fields.queries()]
+    tree = batch.tree(scheme, generator, queries)
+    parts = [] if fields.is_sha256 else scheme.opened(tree, queries)
+    cap = [print_numbers(tree.cap())] if scheme.salts else []
+    return " | ".join([*cap, *map(print_row_sets, parts), print_numbers(tree.proof(queries))])
+
+
+def cap_over(scheme, generator, text):
+    return print_numbers(Batch(text).tree(scheme, generator).cap())
+
+
+@case("salted_commits")
+def salted_commits(scheme: Scheme, generator: Generator, text: str):
+    return " / ".join(answered(cap_over, scheme, generator, batch.strip()) for batch in text.split("/"))
+
+
+@case("salted_fork")
+def salted_fork(scheme: Scheme, generator: Generator, text: str):
+    fork = generator.fork()
+    return " / ".join(answered(cap_over, scheme, source, text) for source in (generator, fork))
+
+
+@case("leaves")
+def leaves(scheme: Scheme, found: numbers):
+    refuse(height_errors(found))
+    return f"{max(found)} accepted"
+
+
+@case("kept")
+def kept(_: int, found: numbers):
+    return f"{max(found)} | {notation.print_dimensions([(1, height) for height in found])}"
+
+
+@case("verify", "verify_pruned", "salted_verify", "salted_verify_pruned")
+def verify(scheme: Scheme, roots: numbers, sizes: dimensions, fields: Fields):
+    return refusal(fields.claim(scheme, roots, sizes)) or "accepted"
+
+
+@case("restore")
+def restore(scheme: Scheme, sizes: dimensions, fields: Fields):
+    claim = fields.claim(scheme, [], sizes)
+    refuse(pruned_errors(claim))
+    return "; ".join(f"{query}: {print_numbers(path)}" for query, _, path in checks_of(claim)) or "-"
+
+
+@case("extract", "extract_pruned", "salted_extract", "salted_extract_pruned")
+def extracted(scheme: Scheme, roots: numbers, sizes: dimensions, fields: Fields):
+    error, found = extract(*(fields.claim(scheme, roots, sizes) for _ in range(2)))
     if not found:
-        return text or "none"
-    return f"{found[0]} {found[1]} | {notation.print_collision(found[2])}"
+        return error or "none"
+    *queries, name, first, second = found
+    places = [print_numbers(queries)] if fields.is_pruned else []
+    return " | ".join([*places, name, print_numbers(first), print_numbers(second)])
 
 
-def extract_leaves(fields):
-    return extract_pruned_with(fields, fields.scheme())
-
-
-def salted_extract_pruned(fields):
-    return extract_pruned_with(fields, fields.salted_scheme())
-
-
-def known(fields):
-    shape = Scheme(fields.number(), 0, geometry.FIXED).shape(fields.numbers())
-    queries = fields.numbers()
-    nodes = list(zip(fields.numbers(), fields.numbers()))
+@case("known")
+def known(arity: int, found: numbers, queries: numbers, known_layers: numbers, known_numbers: numbers):
+    nodes = list(zip(known_layers, known_numbers))
     lists = [nodes[:place] + nodes[place + 1 :] for place in range(len(nodes))] + [nodes]
-    return " ".join("yes" if suffices(shape, queries, given) else "no" for given in lists)
-
-
-def lawful(tallest, width):
-    """One or two matrices of a width, of every lawful height up to a bound. A second height of 0 is no matrix."""
-    pairs = [(first, second) for first in range(tallest + 1) for second in range(tallest + 1)]
-    batches = [[(width, first)] + [(width, second)] * (second > 0) for first, second in pairs]
-    scheme = Scheme(2, 0, geometry.LOWERED)
-    return [batch for batch in batches if not scheme.height_refusal(heights_in(batch))]
+    return " ".join("yes" if Shape(arity, found).suffices(queries, given) else "no" for given in lists)
 
 
 def batches(text):
-    words = text.split()
-    if words[0] == "lawful":
-        return lawful(int(words[1]), int(words[2]))
-    return [notation.dimensions(batch.strip()) for batch in text.split(";")]
+    """The batches that a text names: some, or one or two matrices of a width, of every lawful height up to a bound."""
+    if not text.startswith("lawful"):
+        return [dimensions(batch.strip()) for batch in text.split(";")]
+    most, width = map(int, text.split()[1:])
+    # A second height of 0 is no matrix.
+    pairs = [[first, second] if second else [first] for first, second in product(range(most + 1), repeat=2)]
+    return [[(width, height) for height in pair] for pair in pairs if not any(height_errors(pair))]
 
 
-def every_list(leaves, length):
-    found = [[]]
-    for _ in range(length):
-        found = [one + [leaf] for one in found for leaf in range(leaves)]
-    return found
-
-
-def random_list(generator, leaves, shortest, longest):
-    length = shortest + generator.below(longest - shortest + 1)
-    return [generator.below(leaves) for _ in range(length)]
-
-
-def query_lists(text, leaves):
+def query_lists(text, count):
     """The lists of queries that a text names, over so many leaves."""
+    if not text.startswith(("every", "up to", "random")):
+        return [numbers(one.strip()) for one in text.split(";")]
     words = text.split()
-    if words[0] == "every":
-        return every_list(leaves, int(words[1]))
-    if words[:2] == ["up", "to"]:
-        return [one for length in range(int(words[2]) + 1) for one in every_list(leaves, length)]
-    if words[0] != "random":
-        return [notation.numbers(one.strip()) for one in text.split(";")]
-    seed, count, shortest, longest = map(int, words[1:])
-    generator = Generator(seed)
-    return [random_list(generator, leaves, shortest, longest) for _ in range(count)]
+    if words[0] == "random":
+        seed, many, shortest, longest = map(int, words[1:])
+        below = Generator(bytes([seed] * 32)).next_u64
+        lengths = (shortest + below() % (longest - shortest + 1) for _ in range(many))
+        return [[below() % count for _ in range(length)] for length in lengths]
+    most = int(words[-1])
+    lengths = [most] if words[0] == "every" else range(most + 1)
+    return [list(one) for length in lengths for one in product(range(count), repeat=length)]
 
 
-def counted_sweep(scheme, fields):
+@case("sweep", "salted_sweep", "sha256_sweep")
+def sweep(fields: Fields, scheme: Scheme, _: Generator, found: batches, queries: str):
     """Lists of queries, digests of their proofs, openings that collide with a twin, and openings that do not.
 
     Where each row has two words or more, each list is compared with its twin, matrix by matrix, and so is the first
     leaf of each list that has a query.
     """
-    found, queries = batches(fields.take()), fields.take()
     lists = digests = collisions = nones = 0
-    for batch in found:
-        shape = scheme.shape([height for _, height in batch])
-        has_twins = all(width >= 2 for width, _ in batch)
-        known = sum(layer <= shape.cap_layer for layer in shape.layers)
-        for one in query_lists(queries, shape.tallest):
-            lists, digests = lists + 1, digests + boundary_len(shape, one)
+    for sizes in found:
+        own = scheme.shape(heights_in(sizes))
+        has_twins = all(width >= 2 for width, _ in sizes)
+        authentic = sum(layer <= own.cap_layer for layer in own.layers)
+        for one in query_lists(queries, own.tallest):
+            lists, digests = lists + 1, digests + own.boundary_len(one)
             if has_twins and one:
-                collisions, nones = collisions + 2 * known, nones + 2 * (len(batch) - known)
+                collisions, nones = collisions + 2 * authentic, nones + 2 * (len(sizes) - authentic)
             elif has_twins:
-                nones += len(batch)
-    return [lists, digests, collisions, nones]
-
-
-def sweep(fields):
-    return notation.print_numbers(counted_sweep(fields.scheme(), fields))
-
-
-def sha256_sweep(fields):
-    return notation.print_numbers(counted_sweep(fields.scheme(), fields)[:2])
-
-
-def salted_sweep(fields):
-    scheme = fields.salted_scheme()
-    fields.take()
-    return notation.print_numbers(counted_sweep(scheme, fields))
-
-
-KINDS = {
-    "hash": hash_of, "compress": compress, "sha256": sha256_message, "sha256_rows": sha256_rows,
-    "sha256_groups": sha256_groups, "sha256_commit": sha256_commit, "sha256_open": sha256_open,
-    "sha256_pruned": sha256_pruned, "exponent": exponent, "halving": halving, "padding": padding, "step": step,
-    "steps": steps, "positions": positions, "siblings": siblings, "widths": widths, "heights": heights,
-    "layers": layers, "builders": builders, "commit": commit, "shape": shape, "schedule": schedule, "replay": replay,
-    "authenticated": authenticated, "pruned_len": pruned_len, "open": open_leaf, "pruned": open_pruned,
-    "salted_open": salted_open, "salted_pruned": salted_pruned, "salted_commits": salted_commits,
-    "salted_fork": salted_fork, "leaves": leaves, "kept": kept,
-    "verify": verify, "salted_verify": salted_verify, "verify_pruned": verify_pruned,
-    "salted_verify_pruned": salted_verify_pruned, "restore": restore, "extract": extract_leaf,
-    "extract_pruned": extract_leaves, "salted_extract": salted_extract,
-    "salted_extract_pruned": salted_extract_pruned, "known": known, "sweep": sweep,
-    "salted_sweep": salted_sweep, "sha256_sweep": sha256_sweep,
-}
-
-
-def is_case(line):
-    return bool(line.strip()) and not line.startswith("#")
+                nones += len(sizes)
+    return print_numbers([lists, digests] if fields.is_sha256 else [lists, digests, collisions, nones])
 
 
 def answers(line):
-    """What is answered to a case, whose own answer may stand behind its fields: one answer, or one by each rule."""
+    """What is answered to a case, whose own answer may stand after its fields: one answer, or one by each rule."""
     found = []
-    for rule in (geometry.LOWERED, geometry.FIXED):
+    for rule in (LOWERED, FIXED):
         fields = Fields(line, rule)
-        found.append(KINDS[fields.take()](fields))
+        answer = KINDS[fields.kind]
+        found.append(answered(lambda: answer(*map(fields.read, answer.__annotations__.values()))))
         if fields.names_rule:
             break
     return found, " | ".join(fields.fields)

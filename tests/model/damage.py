@@ -1,180 +1,156 @@
-"""Random damage to an opening, and damage that keeps its digests."""
+"""Models whoever hands in wrong openings: random damage to a claim, and changes that keep its digests."""
 
-import drafts
-from geometry import MAX_NUMBER
+from collections import defaultdict
+from copy import deepcopy
+
+from geometry import MAX_HEIGHT, MAX_NUMBER
 from nodes import WORD
-from pruned import boundary
+from openings import values_of
+
+HEIGHTS = [0, 1, 2, 3, 4, 5, 6, 7, MAX_HEIGHT, MAX_HEIGHT + 1, 2 * MAX_HEIGHT, MAX_NUMBER]
+PARTS = ["roots", "dimensions", "index", "rows", "rows", "salts", "siblings", "siblings"]
 
 
-def change_digest(random, draft):
-    if draft.siblings:
-        draft.siblings[random.randrange(len(draft.siblings))] ^= random.choice([1, 1 << 31, random.getrandbits(32)])
+def changed(random, claim, part, value):
+    """Another number, or other dimensions."""
+    if part == "dimensions":
+        width, height = value
+        other = random.choice([0, 2, MAX_NUMBER])
+        return random.choice([(other, height), (width, random.choice(HEIGHTS)), (width, random.choice(HEIGHTS))])
+    if part == "index":
+        tallest = claim.shape.tallest
+        other = random.choice([random.randrange(max(1, tallest)), tallest + random.choice([0, 1, 5]), MAX_NUMBER])
+        return min(other, MAX_NUMBER)
+    return random.choice([value ^ 1, value + 1 & WORD, value ^ 1 << 31, random.getrandbits(32)])
 
 
-def move_digest(random, draft):
-    if len(draft.siblings) > 1:
-        place = random.randrange(len(draft.siblings) - 1)
-        draft.siblings[place : place + 2] = draft.siblings[place : place + 2][::-1]
+def lists_in(values, depth):
+    """A list and all in it, each with the depth of its items: that of numbers is 0."""
+    yield values, depth
+    for own in values if depth else []:
+        yield from lists_in(own, depth - 1)
 
 
-def repeat_digest(random, draft):
-    if draft.siblings:
-        place = random.randrange(len(draft.siblings))
-        draft.siblings.insert(place, draft.siblings[place])
-
-
-def move_row(random, draft):
-    rows = drafts.row_list(random, draft, draft.rows)
-    if rows and len(rows) > 1:
-        place = random.randrange(len(rows) - 1)
-        rows[place : place + 2] = rows[place : place + 2][::-1]
-
-
-def repeat_row(random, draft):
-    rows = drafts.row_list(random, draft, draft.rows)
-    if rows:
-        rows.insert(0, list(random.choice(rows)))
-
-
-def change_salt(random, draft):
-    salts = drafts.row_list(random, draft, draft.salts) if draft.salts is not None else None
-    own = random.choice(salts) if salts else None
-    if own:
-        own[random.randrange(len(own))] ^= 1
-
-
-def another_index(random, draft):
-    other = random.choice([random.randrange(max(1, draft.claim().shape.tallest)), MAX_NUMBER])
-    if not draft.is_pruned:
-        draft.index = other
-    elif draft.index:
-        draft.index[random.randrange(len(draft.index))] = other
-
-
-def swap_queries(random, draft):
-    if draft.is_pruned and len(draft.index) > 1:
-        place = random.randrange(len(draft.index) - 1)
-        draft.index[place : place + 2] = draft.index[place : place + 2][::-1]
-
-
-def extra_root(random, draft):
-    draft.roots.insert(random.randrange(len(draft.roots) + 1), 0)
-
-
-DAMAGE = drafts.CHANGES + [
-    change_digest, change_digest, move_digest, repeat_digest, move_row, repeat_row, change_salt, another_index,
-    swap_queries, extra_root, drafts.change_word,
-]
-
-
-def shift(values, place, by):
-    values[place] = (values[place] + by) & WORD
-
-
-def twin_words(random, draft):
-    """Adds 1 to a word of a row and takes 31 from the next, in each set that opens this row."""
-    matrix = random.randrange(len(draft.dimensions))
-    width = draft.dimensions[matrix][0]
-    if width < 2 or (draft.is_pruned and not draft.index):
+def damage_part(random, claim):
+    """An item of some list is dropped, repeated, changed, exchanged with the next one, or one is added."""
+    part = random.choice(PARTS)
+    values = getattr(claim, part)
+    if isinstance(values, int):
+        claim.index = changed(random, claim, part, values)
+    if not isinstance(values, list):
         return
-    place, shape = random.randrange(width - 1), draft.claim().shape
-    chosen = random.choice(draft.index) if draft.is_pruned else draft.index
-    queries = list(zip(draft.index, draft.rows)) if draft.is_pruned else [(draft.index, draft.rows)]
-    for query, rows in queries:
-        if shape.row(matrix, query) == shape.row(matrix, chosen):
-            shift(rows[matrix], place, 1)
-            shift(rows[matrix], place + 1, -31)
-
-
-def twin_salt(random, draft):
-    """The same of the last word of a row and its first salt."""
-    matrix = random.randrange(len(draft.dimensions))
-    if draft.salts is None or draft.is_pruned or not draft.rows[matrix]:
+    depth = 1 + claim.is_pruned if part in ("rows", "salts") else 0
+    level = random.randrange(depth + 1)
+    lists = [found for found, below in lists_in(values, depth) if below == level]
+    if not lists:
         return
-    shift(draft.rows[matrix], -1, 1)
-    shift(draft.salts[matrix], 0, -31)
+    own = random.choice(lists)
+    place = random.randrange(len(own) + 1)
+    items, following = own[place : place + 1], own[place + 1 : place + 2]
+    added = (1, 1) if part == "dimensions" else random.randrange(9)
+    for _ in range(level):
+        added = [added]
+    other = [changed(random, claim, part, item) for item in items] if level == 0 else [added]
+    own[place : place + 2] = random.choice([
+        following, items + deepcopy(items) + following, other + following, following + items,
+        [added] + items + following])
 
 
-def twin_digests(random, draft):
-    """Adds 1 to a digest and takes 31 from the next child of the same node."""
-    shape = draft.claim().shape
-    if draft.is_pruned:
-        nodes = boundary(shape, draft.index)
-    else:
-        nodes = [
-            (level, first + child)
-            for level, step in enumerate(shape.proof_steps)
-            for own in [shape.ancestor(level, draft.index)]
-            for first in [own - own % step]
-            for child in range(step)
-            if first + child != own
-        ]
-    places = [
-        place
-        for place, (one, other) in enumerate(zip(nodes, nodes[1:]))
-        if other == (one[0], one[1] + 1) and one[1] // shape.steps[one[0]] == other[1] // shape.steps[one[0]]
-    ]
-    if places:
-        place = random.choice(places)
-        shift(draft.siblings, place, 1)
-        shift(draft.siblings, place + 1, -31)
+def no_heights(random, claim):
+    claim.dimensions = random.choice([[], [(width, 0) for width, _ in claim.dimensions]])
 
 
-def twin_leaf(random, draft):
-    """Changes the last word of the leaf and makes up for it by the sibling beside."""
-    shape = draft.claim().shape
-    if draft.is_pruned or shape.cap_layer == 0:
+def no_roots(random, claim):
+    claim.roots = []
+
+
+def no_queries(random, claim):
+    if claim.is_pruned:
+        claim.index, claim.rows, claim.salts = [], [], [] if claim.salts is not None else None
+
+
+def repeat_query(random, claim):
+    """A query is repeated with its rows and salts; or there is a row set more."""
+    if claim.is_pruned and len(claim.index) == len(claim.rows) and claim.index:
+        place = random.randrange(len(claim.index))
+        for values in (claim.index, claim.rows, claim.salts or [])[random.randrange(2) :]:
+            values += deepcopy(values[place : place + 1])
+
+
+def fit_salts(random, claim):
+    """As many salt sets as row sets, and as many salts as rows."""
+    if claim.salts is not None:
+        sets = claim.sets(claim.rows)
+        own = [*claim.sets(claim.salts), *([] for _ in sets)]
+        fitting = [(salts + [[1]] * len(rows))[: len(rows)] for rows, salts in zip(sets, own)]
+        claim.salts = fitting if claim.is_pruned else fitting[0]
+
+
+def fit_siblings(random, claim):
+    """As many siblings as the heights ask for."""
+    needed = claim.shape.boundary_len(claim.index) if claim.is_pruned else claim.shape.siblings
+    claim.siblings = (claim.siblings + [0] * needed)[:needed]
+
+
+WHOLE = [no_heights, no_roots, no_queries, repeat_query, repeat_query]
+
+
+def variables(claim):
+    """Each number that is opened, as the places where it stands: those of a row in all sets that open it, or a digest's."""
+    found, parts = defaultdict(list), [claim.sets(part) for part in (claim.rows, claim.salts) if part is not None]
+    for query, *opened in zip(claim.queries, *parts):
+        for part, rows in enumerate(opened):
+            for matrix, row in enumerate(rows):
+                for place in range(len(row)):
+                    found[part, matrix, claim.shape.row(matrix, query), place].append((row, place))
+    return [*found.values(), *([(claim.siblings, place)] for place in range(len(claim.siblings)))]
+
+
+def shift(variable, by):
+    for values, place in variable:
+        values[place] = values[place] + by & WORD
+
+
+def effects(claim, variable):
+    """How much roots change with a number, by their places; none of those that do not."""
+    before = values_of(claim.plain() if claim.salts is not None else claim)[-1]
+    shift(variable, 1)
+    after = values_of(claim.plain() if claim.salts is not None else claim)[-1]
+    shift(variable, -1)
+    return {node: after[node] - digest for node, digest in before.items() if after[node] != digest}
+
+
+def twin(random, claim):
+    """Changes a number of an honest opening, and makes up for it by another one. The fold functions are linear, and the
+    effect of a number is a power of 31, which has an inverse; that of a row above the cap is none."""
+    found = variables(claim)
+    if len(found) < 2:
         return
-    words = (draft.salts if draft.salts is not None else draft.rows)[shape.matrices[0][-1]]
-    own, step = draft.index % shape.steps[0], shape.steps[0]
-    if words and own + 1 < step:
-        shift(words, -1, 1)
-        shift(draft.siblings, own, -31)
-    elif words:
-        shift(draft.siblings, own - 1, 1)
-        shift(words, -1, -31)
+    # Numbers that stand together are often those of one place.
+    at = random.randrange(len(found) - 1)
+    one, other = random.choice([found[at : at + 2], random.sample(found, 2)])
+    ours, theirs = effects(claim, one), effects(claim, other)
+    if not ours:
+        shift(one, 1)
+    elif ours.keys() == theirs.keys():
+        (root, ours), = ours.items()
+        shift(other, 1)
+        shift(one, -theirs[root] * pow(ours, -1, WORD + 1))
 
 
-def twin_pair(random, draft):
-    """Changes the last child of a group and makes up for it by the row that is brought in above."""
-    shape = draft.claim().shape
-    if draft.is_pruned:
-        return
-    taken = 0
-    for level, step in enumerate(shape.proof_steps):
-        taken += step - 1
-        own = shape.ancestor(level, draft.index) % step
-        above = shape.matrices[level + 1]
-        words = (draft.salts if draft.salts is not None else draft.rows)[above[-1]] if above else None
-        if step == shape.arity and own + 1 < step and words:
-            shift(draft.siblings, taken - 1, 1)
-            shift(words, -1, -31)
-            return
-
-
-TWINS = [twin_words, twin_words, twin_words, twin_salt, twin_digests, twin_leaf, twin_pair]
-
-
-def damaged_once(random, draft):
-    """A damaged opening: by anything, or by what keeps its digests."""
-    other = draft.copy()
-    if random.random() < 0.4:
-        random.choice(TWINS)(random, other)
-        if random.random() < 0.2:
-            random.choice(TWINS)(random, other)
-        return other
-    for _ in range(random.choice([1, 1, 1, 2, 3])):
-        random.choice(DAMAGE)(random, other)
-    for fit in drafts.FITS:
-        if random.random() < 0.23:
-            fit(random, other)
-    return other
-
-
-def damaged(random, draft):
+def damaged(random, claim):
     """A damaged opening that is another one, where some tries find such a one."""
     for _ in range(4):
-        other = damaged_once(random, draft)
-        if vars(other) != vars(draft):
+        other = claim.copy()
+        if random.random() < 0.4:
+            for _ in range(random.choice([1, 1, 1, 1, 2])):
+                twin(random, other)
+        else:
+            for _ in range(random.choice([1, 1, 1, 2, 3])):
+                random.choice([damage_part] * 15 + WHOLE)(random, other)
+            for fit in (fit_salts, fit_siblings):
+                if random.random() < 0.23:
+                    fit(random, other)
+        if other != claim:
             break
     return other

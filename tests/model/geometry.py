@@ -1,6 +1,8 @@
-"""The shape of a tree: exponents, steps, lengths, ancestors and the layer of the cap."""
+"""Models the shape of a tree: exponents, steps, lengths, ancestors, the layer of the cap, and the nodes of a pruned proof."""
 
 from functools import lru_cache
+from itertools import accumulate
+from operator import mul
 
 MAX_HEIGHT = 1 << 62
 MAX_NUMBER = (1 << 64) - 1
@@ -27,47 +29,35 @@ def padded_len(length, arity):
     return length if length <= 1 else -(-length // arity) * arity
 
 
-def is_bridge(exponents, arity, start):
-    """Whether some matrix has an exponent strictly between the ends of a whole step from there."""
-    target = max(0, start - (arity.bit_length() - 1))
-    return any(target < other < start for other in exponents)
-
-
 def step_from(exponents, arity, start):
-    """The number of children that the step from an exponent above 0 joins, and the next exponent."""
-    if is_bridge(exponents, arity, start):
+    """The step from an exponent above 0, and the next exponent. A matrix between both ends of a whole step makes a bridge
+    step of 2."""
+    target = max(0, start - (arity.bit_length() - 1))
+    if any(target < other < start for other in exponents):
         return 2, start - 1
-    return arity, max(0, start - (arity.bit_length() - 1))
-
-
-def ladder(arity, heights):
-    """The exponents of the layers, leaves first, and the steps between them."""
-    exponents = {exponent(height) for height in heights}
-    layers, steps = [exponent(max(heights, default=0))], []
-    while layers[-1] > 0:
-        step, following = step_from(exponents, arity, layers[-1])
-        steps.append(step)
-        layers.append(following)
-    return layers, steps
+    return arity, target
 
 
 class Shape:
-    """The layers of a tree over matrices of some heights, and which of them is the cap.
+    """The layers of a tree over matrices of some heights, and which of them is the cap. All of it is defined for unlawful
+    heights, too."""
 
-    All of it is defined for unlawful heights, too: each row of a table of refusals has a meaning of its own.
-    """
-
-    def __init__(self, arity, heights, cap_height, rule):
-        self.arity = arity
-        self.heights = heights
+    def __init__(self, arity, heights, cap_height=0, rule=FIXED):
+        self.arity, self.heights = arity, heights
         self.tallest = max(heights, default=0)
-        self.exponents, self.steps = ladder(arity, heights)
+        exponents = {exponent(height) for height in heights}
+        self.exponents, self.steps = [exponent(self.tallest)], []
+        while self.exponents[-1] > 0:
+            step, following = step_from(exponents, arity, self.exponents[-1])
+            self.steps.append(step)
+            self.exponents.append(following)
         self.levels = len(self.steps)
+        # How many leaves are below a node of each layer, where all groups are full.
+        self.spans = list(accumulate(self.steps, mul, initial=1))
         self.layers = [self.exponents.index(exponent(height)) for height in heights]
+        self.matrices = [[m for m, own in enumerate(self.layers) if own == layer] for layer in range(self.levels + 1)]
         room = self.levels if rule == FIXED else self.levels - max(self.layers, default=0)
         self.cap_layer = self.levels - min(cap_height, room)
-        self.matrices = [[m for m, own in enumerate(self.layers) if own == layer] for layer in range(self.levels + 1)]
-        self.spans = spans_of(self.steps)
         self.proof_steps = self.steps[: self.cap_layer]
         self.siblings = sum(step - 1 for step in self.proof_steps)
 
@@ -93,16 +83,40 @@ class Shape:
             raw = ((1 << self.exponents[level]) if is_cut else width) // step
         return found
 
+    def children(self, level, node):
+        """The children of a node of the layer above a level."""
+        step = self.steps[level]
+        return range(step * node, step * node + step)
 
-def spans_of(steps):
-    """How many leaves are below a node of each layer, where all groups are full."""
-    spans = [1]
-    for step in steps:
-        spans.append(spans[-1] * step)
-    return spans
+    def covered(self, queries, layer):
+        """The nodes of a layer that are above a query."""
+        return {self.ancestor(layer, query) for query in queries}
+
+    def boundary(self, queries):
+        """The uncovered children of covered nodes below the cap, by layer and then by number. Those of one query are the
+        siblings on its path."""
+        found = []
+        for level in range(self.cap_layer):
+            own = self.covered(queries, level)
+            for node in sorted(self.covered(queries, level + 1)):
+                found += [(level, child) for child in self.children(level, node) if child not in own]
+        return found
+
+    def boundary_len(self, queries):
+        """How many these are: the children of covered nodes, but for the covered ones."""
+        counts = [len(self.covered(queries, layer)) for layer in range(self.cap_layer + 1)]
+        return sum(step * counts[level + 1] - counts[level] for level, step in enumerate(self.proof_steps))
+
+    def suffices(self, queries, given):
+        """Whether each covered node of the cap's layer is known from the queries and from given nodes."""
+        known = set(queries) | {number for layer, number in given if layer == 0}
+        lengths = self.lengths()
+        for level in range(self.cap_layer):
+            parents = {number // self.steps[level] for number in known}
+            known = {number for layer, number in given if layer == level + 1} | {
+                node for node in parents
+                if node < lengths[level + 1][0] and known.issuperset(self.children(level, node))}
+        return self.covered(queries, self.cap_layer) <= known
 
 
-@lru_cache(maxsize=4096)
-def shape_of(arity, heights, cap_height, rule):
-    """The shape of a tree; heights are a tuple."""
-    return Shape(arity, heights, cap_height, rule)
+shape_of = lru_cache(maxsize=4096)(Shape)

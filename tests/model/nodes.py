@@ -1,6 +1,8 @@
-"""Hashes and compressions, and the nodes of a tree."""
+"""Models hashes, the nodes of a tree, and schemes: what is committed to and opened."""
 
 import hashlib
+
+from geometry import shape_of
 
 WORD = (1 << 32) - 1
 
@@ -14,18 +16,15 @@ class Fold:
         self.arity = arity
 
     def hash(self, words, state=1):
-        """Starts at 1, unless it is told otherwise, and takes each word in."""
+        """Takes each word in."""
         for word in words:
             state = (31 * state + word) & WORD
         return state
 
     def compress(self, children):
         """Takes each child and its place in; children that are not there have the default digest."""
-        state = 0
-        for place in range(self.arity):
-            child = children[place] if place < len(children) else 0
-            state = (31 * state + child + place) & WORD
-        return state
+        padding = [0] * (self.arity - len(children))
+        return self.hash([child + place for place, child in enumerate([*children, *padding])], 0)
 
 
 class Sha256:
@@ -41,7 +40,7 @@ class Sha256:
 
     def compress(self, children):
         padding = [self.zero] * (self.arity - len(children))
-        return hashlib.sha256(b"".join(children + padding)).digest()
+        return self.hash(b"".join([*children, *padding]))
 
 
 def joined(rows, matrices):
@@ -53,9 +52,7 @@ class Tree:
     """The layers over some matrices, each a list of rows."""
 
     def __init__(self, shape, functions, matrices):
-        self.shape = shape
-        self.functions = functions
-        self.matrices = matrices
+        self.shape, self.functions, self.matrices = shape, functions, matrices
         self.layers = []
         for raw, width in shape.lengths():
             padding = [functions.zero] * (width - raw)
@@ -86,11 +83,28 @@ class Tree:
         """The row of each matrix that belongs to a leaf."""
         return [rows[self.shape.row(matrix, index)] for matrix, rows in enumerate(self.matrices)]
 
-    def siblings(self, index):
-        """On each level below the cap the group of the leaf's ancestor, without that ancestor."""
-        found = []
-        for level, step in enumerate(self.shape.proof_steps):
-            own = self.shape.ancestor(level, index)
-            first = own - own % step
-            found += [self.layers[level][child] for child in range(first, first + step) if child != own]
-        return found
+    def proof(self, queries):
+        """The digests of the boundary."""
+        return [self.layers[layer][number] for layer, number in self.shape.boundary(queries)]
+
+
+class Scheme:
+    """An arity, a cap, functions and, where rows are salted, so many salts a row."""
+
+    def __init__(self, arity, cap_height, rule, salts=0, functions=Fold):
+        self.arity, self.cap_height, self.rule, self.salts = arity, cap_height, rule, salts
+        self.functions = functions(arity)
+
+    def shape(self, heights):
+        return shape_of(self.arity, tuple(heights), self.cap_height, self.rule)
+
+    def tree(self, matrices, generator=None):
+        """The tree over matrices, or over rows followed by salts that a generator draws, in input order."""
+        if generator:
+            matrices = [[[*row, *(generator.salt() for _ in range(self.salts))] for row in rows] for rows in matrices]
+        return Tree(self.shape(map(len, matrices)), self.functions, matrices)
+
+    def opened(self, tree, queries):
+        """The row sets of some leaves; with salts the rows without them, and the salts."""
+        cuts = [slice(-self.salts), slice(-self.salts, None)] if self.salts else [slice(None)]
+        return [[[row[cut] for row in tree.rows(query)] for query in queries] for cut in cuts]

@@ -1,8 +1,8 @@
-"""How cases are written: numbers, rows, row sets, dimensions and matrices, read and printed."""
+"""Models how cases are written: numbers, rows, row sets, dimensions and matrices, read and printed."""
 
 
 def repeated(word, read):
-    """What a word stands for; with * and a count behind it, so often."""
+    """What a word stands for; with * and a count after it, so often."""
     value, _, count = word.partition("*")
     return read(value.strip()) * int(count or 1)
 
@@ -13,12 +13,21 @@ def span(word):
     return list(range(int(first), int(end))) if dots else [int(first)]
 
 
+def size(word):
+    width, height = word.split("x")
+    return [(int(width), int(height))]
+
+
 def numbers(text):
     return [] if text == "-" else [value for word in text.split() for value in repeated(word, span)]
 
 
+def dimensions(text):
+    return [] if text == "none" else [value for word in text.split() for value in repeated(word, size)]
+
+
 def counted(text, mark, read):
-    """What a part of a text stands for; with a mark and a count behind it, so often."""
+    """What a part of a text stands for; with a mark and a count after it, so often."""
     part, _, count = text.partition(mark)
     return [read(part.strip()) for _ in range(int(count or 1))]
 
@@ -31,48 +40,26 @@ def row_sets(text):
     return [] if text == "-" else [found for one in text.split("/") for found in counted(one, " sets ", rows)]
 
 
-def size(word):
-    width, height = word.split("x")
-    return [(int(width), int(height))]
-
-
-def dimensions(text):
-    return [] if text == "none" else [value for word in text.split() for value in repeated(word, size)]
-
-
 def matrices(text):
     return [[numbers(row.strip()) for row in matrix.split(",")] for matrix in text.split(";")]
 
 
-def numbered(sizes):
-    """Matrices of these dimensions, each word of which is the number of its row."""
-    return [[[row] * width for row in range(height)] for width, height in sizes]
-
-
 def print_numbers(values):
-    return " ".join(map(str, values)) if values else "-"
+    """Numbers, or digests, which are numbers or bytes."""
+    return " ".join(value.hex() if isinstance(value, bytes) else str(value) for value in values) or "-"
 
 
 def print_rows(values):
-    return "; ".join(map(print_numbers, values)) if values else "none"
+    return "; ".join(map(print_numbers, values)) or "none"
 
 
 def print_row_sets(values):
-    return " / ".join(map(print_rows, values)) if values else "-"
+    return " / ".join(map(print_rows, values)) or "-"
 
 
 def print_dimensions(values):
-    return " ".join(f"{width}x{height}" for width, height in values) if values else "none"
+    return " ".join(f"{width}x{height}" for width, height in values) or "none"
 
 
 def print_matrices(values):
     return "; ".join(", ".join(map(print_numbers, matrix)) for matrix in values)
-
-
-def print_paths(paths):
-    return "; ".join(f"{query}: {print_numbers(path)}" for query, path in paths) if paths else "-"
-
-
-def print_collision(found):
-    name, first, second = found
-    return f"{name} | {print_numbers(first)} | {print_numbers(second)}"

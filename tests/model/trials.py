@@ -1,16 +1,15 @@
-"""Random trials: a batch of matrices, and cases of every kind about it."""
+"""Models random users of the library: a batch of matrices, and cases of every kind about it."""
 
 import re
 
 import cases
 import notation
 from damage import damaged
-from drafts import Draft
-from geometry import FIXED, LOWERED, MAX_NUMBER, exponent, expected_height
-from nodes import Fold
-from refusals import with_salts
-from salts import Generator, salts_of
-from schemes import Scheme
+from geometry import FIXED, LOWERED, MAX_NUMBER, expected_height, exponent
+from nodes import Fold, Scheme
+from notation import print_dimensions, print_numbers
+from openings import Claim
+from salts import generator_of
 
 
 def heights_of(random, tallest):
@@ -27,37 +26,31 @@ def words_of(random, count):
 
 
 class Trial:
-    """A batch, its scheme, its tree and some queries, and where its cases are collected.
-
-    Cases are lines with what the model answers to them, and what each of them is counted as.
-    """
+    """A batch, its scheme, its tree and some queries; and its cases, each with what the model answers and what it is
+    counted as."""
 
     def __init__(self, random, size, is_salted):
         self.random, self.found, self.size = random, [], size
-        rule = random.choice([LOWERED, FIXED])
-        cap_height = random.choice([0, 0, 0, 1, 1, 2, 3, 5, MAX_NUMBER])
-        self.scheme = Scheme(random.choice([2, 4, 8]), cap_height, rule, random.choice([1, 2]) if is_salted else 0)
-        self.dimensions = [(random.randrange(1, 2 + size // 3 if size < 60 else 40), height)
-                           for height in heights_of(random, random.randrange(1, size + 1))]
-        self.matrices = [[words_of(random, width) for _ in range(height)] for width, height in self.dimensions]
-        self.seed = random.randrange(256)
-        self.tree = self.scheme.tree(self.salted_matrices() if is_salted else self.matrices)
+        self.scheme = Scheme(random.choice([2, 4, 8]), random.choice([0, 0, 0, 1, 1, 2, 3, 5, MAX_NUMBER]),
+                             random.choice([LOWERED, FIXED]), random.choice([1, 2]) if is_salted else 0)
+        heights = heights_of(random, random.randrange(1, size + 1))
+        most = 1 + size // 3 if size < 60 else 39
+        self.dimensions = [(random.randint(1, most), height) for height in heights]
+        matrices = [[words_of(random, width) for _ in range(height)] for width, height in self.dimensions]
+        seed = str(random.randrange(256))
+        self.tree = self.scheme.tree(matrices, generator_of(seed) if is_salted else None)
         leaves = self.tree.shape.tallest
         self.queries = [random.randrange(leaves) for _ in range(random.choice([0, 1, 2, 3, 5, 9]))]
         self.index = random.randrange(leaves)
-        self.head = f"{self.scheme.arity} | {cap_height}{rule}"
-        self.heights = notation.print_numbers([height for _, height in self.dimensions])
+        self.head = head_of(self.scheme)
+        self.heights = print_numbers(heights)
+        self.batch = f"{self.head} | " + f"{seed} | " * is_salted + notation.print_matrices(matrices)
 
-    def salted_matrices(self):
-        salts = salts_of(Generator(self.seed), self.matrices, self.scheme.salts)
-        return [with_salts(rows, own) for rows, own in zip(self.matrices, salts)]
-
-    def add(self, line, counted=None):
+    def add(self, line, counted="answered"):
         """A case whose answer is the model's."""
-        found, _ = cases.answers(line)
-        kind = line.split(" |")[0]
-        self.found.append((line, found[0], (kind, counted or "answered")))
-        return found[0]
+        answer = cases.answers(line)[0][0]
+        self.found.append((line, answer, (line.split(" |")[0], counted)))
+        return answer
 
     def add_honest(self, line, expected=None):
         """A case of what is honest, which has to be accepted."""
@@ -65,85 +58,102 @@ class Trial:
         if expected is not None and answer != expected:
             raise AssertionError(f"the model answers {answer} to the honest {line}")
 
-    def draft(self, index):
-        return Draft(self.scheme, self.dimensions, self.tree, self.scheme.salts, index)
+    def claim(self, index):
+        """The honest opening of an index, or of a list of them."""
+        is_pruned = isinstance(index, list)
+        queries = index if is_pruned else [index]
+        parts = self.scheme.opened(self.tree, queries)
+        rows, salts = [part if is_pruned else part[0] for part in parts] + [None] * (not self.scheme.salts)
+        return Claim(self.scheme, self.tree.cap(), self.dimensions, index, rows, self.tree.proof(queries), salts).copy()
+
+
+def head_of(scheme):
+    """The fields of a scheme."""
+    return f"{scheme.arity} | {scheme.cap_height}{scheme.rule}" + f" | {scheme.salts}" * bool(scheme.salts)
+
+
+def opening_of(claim):
+    """The fields of an opening: its index, rows, salts and siblings."""
+    read = notation.print_row_sets if claim.is_pruned else notation.print_rows
+    parts = [read(part) for part in (claim.rows, claim.salts) if part is not None]
+    return " | ".join([print_numbers(claim.queries), *parts, print_numbers(claim.siblings)])
+
+
+def line_of(claim, kind="verify", *others):
+    """The case of an opening, or of several, against the cap and the dimensions of the first."""
+    kind = "salted_" * bool(claim.scheme.salts) + kind + "_pruned" * claim.is_pruned
+    against = f"{print_numbers(claim.roots)} | {print_dimensions(claim.dimensions)}"
+    return " | ".join([kind, head_of(claim.scheme), against, *map(opening_of, (claim, *others))])
+
+
+def add_restored(trial, claim, counted):
+    if claim.is_pruned and claim.salts is None:
+        dimensions = print_dimensions(claim.dimensions)
+        trial.add(f"restore | {trial.head} | {dimensions} | {opening_of(claim)}", counted)
+
+
+def is_written(claim):
+    """Whether the notation has a form for it: there is none for one row set of one empty row."""
+    return not claim.is_pruned or [[[]]] not in (claim.rows, claim.salts)
 
 
 def add_shape(trial):
     """The calls that take heights alone, also with numbers that are wrong."""
-    random, head = trial.random, trial.head
-    heights = trial.heights
-    if random.random() < 0.2:
-        heights += f" {random.choice([0, 1, 5, 1 << 62, (1 << 62) + 1])}"
-    trial.add(f"schedule | {head} | {heights}")
-    trial.add(f"authenticated | {head} | {heights}")
+    random = trial.random
+    wrong = [0, 1, 5, 1 << 62, (1 << 62) + 1]
+    heights = trial.heights + (f" {random.choice(wrong)}" if random.random() < 0.2 else "")
     indices = trial.queries + ([random.choice([99, MAX_NUMBER])] if random.random() < 0.2 else [])
-    trial.add(f"pruned_len | {head} | {heights} | {notation.print_numbers(indices)}")
     count = trial.tree.shape.siblings + random.choice([0, 0, 0, 1])
     index = random.choice([trial.index, trial.index, trial.index + 7])
-    trial.add(f"replay | {head} | {heights} | {index} | {count}")
     trial.add(f"heights | {heights}")
+    for kind, rest in {"schedule": "", "authenticated": "", "pruned_len": f" | {print_numbers(indices)}",
+                       "replay": f" | {index} | {count}"}.items():
+        trial.add(f"{kind} | {trial.head} | {heights}{rest}")
 
 
 def add_tree(trial):
     """The calls that build a tree, and what is opened out of it."""
-    random, head = trial.random, trial.head
-    matrices = notation.print_matrices(trial.matrices)
-    queries = notation.print_numbers(trial.queries)
-    trial.add_honest(f"commit | {head} | {matrices}", notation.print_numbers(trial.tree.cap()))
-    trial.add_honest(f"layers | {trial.scheme.arity} | {matrices}")
-    trial.add_honest(f"shape | {head} | {trial.heights}")
-    if random.random() < 0.3:
-        sizes = notation.print_dimensions(trial.dimensions)
-        trial.add_honest(f"builders | {trial.scheme.arity} | {sizes}")
-    trial.add_honest(f"open | {head} | {matrices} | {trial.index}")
-    trial.add_honest(f"pruned | {head} | {matrices} | {queries}")
-
-
-def add_salted_tree(trial):
-    matrices = notation.print_matrices(trial.matrices)
-    head = f"{trial.head} | {trial.scheme.salts} | {trial.seed} | {matrices}"
-    trial.add_honest(f"salted_open | {head} | {trial.index}")
-    trial.add_honest(f"salted_pruned | {head} | {notation.print_numbers(trial.queries)}")
-    trial.add_honest(f"salted_fork | {head}")
-
-
-def extraction_line(first, second):
-    """The case of two openings under the first one's cap."""
-    fields, others = first.line().split(" | "), second.line().split(" | ")
-    opening = 3 + (first.salts is not None) + 2
-    return " | ".join([fields[0].replace("verify", "extract"), *fields[1:], *others[opening:]])
+    queries = print_numbers(trial.queries)
+    if trial.scheme.salts:
+        trial.add_honest(f"salted_open | {trial.batch} | {trial.index}")
+        trial.add_honest(f"salted_pruned | {trial.batch} | {queries}")
+        trial.add_honest(f"salted_fork | {trial.batch}")
+        return
+    trial.add_honest(f"commit | {trial.batch}", print_numbers(trial.tree.cap()))
+    arity, _, matrices = trial.batch.split(" | ")
+    trial.add_honest(f"layers | {arity} | {matrices}")
+    trial.add_honest(f"shape | {trial.head} | {trial.heights}")
+    if trial.random.random() < 0.3:
+        trial.add_honest(f"builders | {arity} | {print_dimensions(trial.dimensions)}")
+    trial.add_honest(f"open | {trial.batch} | {trial.index}")
+    trial.add_honest(f"pruned | {trial.batch} | {queries}")
 
 
 def check_collision(arity, answer):
     """Whether the two inputs of an answered collision differ and have one digest, worked out once more."""
-    name, first, second = answer.split(" | ")[-3:]
-    inputs = [notation.numbers(first), notation.numbers(second)]
+    name, *inputs = answer.split(" | ")[-3:]
+    first, second = map(notation.numbers, inputs)
     functions = Fold(arity)
     digest = functions.hash if name.startswith(("leaf", "rows")) else functions.compress
-    return inputs[0] != inputs[1] and digest(inputs[0]) == digest(inputs[1])
+    return first != second and digest(first) == digest(second)
+
+
+def opened_rows(shape, claim):
+    """The rows of authenticated matrices that an opening has, each with its salts."""
+    parts = [claim.sets(part) for part in (claim.rows, claim.salts) if part is not None]
+    return {(matrix, shape.row(matrix, index)): [rows[matrix] for rows in opened]
+            for index, *opened in zip(claim.queries, *parts)
+            for matrix, layer in enumerate(shape.layers) if layer <= shape.cap_layer}
 
 
 def opens_other(trial, honest, other):
     """Whether another row or salt of an authenticated matrix is opened at one index by both."""
-    ours, theirs = opened_rows(trial.tree.shape, honest), opened_rows(trial.tree.shape, other)
+    ours, theirs = (opened_rows(trial.tree.shape, claim) for claim in (honest, other))
     return any(place in theirs and theirs[place] != row for place, row in ours.items())
 
 
-def opened_rows(shape, draft):
-    """The rows of authenticated matrices that an opening shows, each with its salts."""
-    salts = draft.rows if draft.salts is None else draft.salts
-    sets = zip(draft.index, draft.rows, salts) if draft.is_pruned else [(draft.index, draft.rows, salts)]
-    own = [matrix for matrix, layer in enumerate(shape.layers) if layer <= shape.cap_layer]
-    return {
-        (matrix, shape.row(matrix, index)): (rows[matrix], drawn[matrix])
-        for index, rows, drawn in sets
-        for matrix in own
-    }
-
-
-def refusal_name(answer):
-    """The name of a refusal: what its text begins with, up to the first number."""
+def count_refused(answer):
+    """What a refusal counts as: what its text begins with, up to the first number."""
     if answer.startswith("matrix"):
         return "a height off the ladder" if "incompatible" in answer else "a size past the limit"
     return re.split("[0-9:]", answer.removeprefix("malformed pruned proof: "), maxsplit=1)[0].strip()
@@ -151,67 +161,46 @@ def refusal_name(answer):
 
 def count_accepted(trial, honest, other):
     """What a damaged opening that is accepted counts as; a collision is asked for, and looked at."""
-    same = (other.index, other.rows, other.salts, other.siblings)
-    if same == (honest.index, honest.rows, honest.salts, honest.siblings):
-        return "damaged, still the honest one"
+    if opening_of(other) == opening_of(honest):
+        return "still the honest one"
     if other.dimensions != honest.dimensions or other.roots != honest.roots:
-        return "damaged, accepted under other dimensions or another cap"
-    answer = trial.add(extraction_line(honest, other), "two accepted")
+        return "accepted under other dimensions or another cap"
+    line = line_of(honest, "extract", other)
+    answer = trial.add(line, "two accepted")
     if answer != "none" and check_collision(trial.scheme.arity, answer):
-        return "damaged, accepted, with a collision"
+        return "accepted, with a collision"
     if answer != "none" or opens_other(trial, honest, other):
-        raise AssertionError(f"{answer} is no collision of {extraction_line(honest, other)}")
-    return "damaged, accepted, and nothing that is authenticated differs"
+        raise AssertionError(f"{answer} is no collision of {line}")
+    return "accepted, and nothing that is authenticated differs"
 
 
 def add_damaged(trial, honest):
     """A damaged opening through the calls that take it."""
     other = damaged(trial.random, honest)
-    if not other.is_written():
+    if not is_written(other):
         return
-    line = other.line()
+    line = line_of(other)
     answer = cases.answers(line)[0][0]
-    if answer == "accepted":
-        counted = count_accepted(trial, honest, other)
-    else:
-        counted = f"damaged, refused: {refusal_name(answer)}"
-    trial.add(line, counted)
-    if other.is_pruned and other.salts is None:
-        fields = line.split(" | ")
-        trial.add(" | ".join(["restore", *fields[1:3], *fields[4:]]), "of the damaged")
-    if trial.random.random() < 0.2:
-        pair = (honest, other) if trial.random.random() < 0.5 else (other, honest)
-        if pair[0].dimensions == pair[1].dimensions:
-            trial.add(extraction_line(*pair), "of the damaged")
-
-
-def add_openings(trial, damages):
-    """Honest openings of one leaf and of several, and damaged ones."""
-    for index in (trial.index, trial.queries):
-        honest = trial.draft(index)
-        if not honest.is_written():
-            continue
-        trial.add_honest(honest.line(), "accepted")
-        trial.add_honest(extraction_line(honest, honest), "none")
-        if honest.is_pruned and honest.salts is None:
-            fields = honest.line().split(" | ")
-            trial.add_honest(" | ".join(["restore", *fields[1:3], *fields[4:]]))
-        for _ in range(damages):
-            add_damaged(trial, honest)
-
-
-def size_of(random):
-    """Small batches, and now and then a larger one."""
-    return random.choice([2, 4, 6, 9, 9, 9, 12]) if random.random() < 0.99 else random.choice([40, 120, 300])
+    accepted = answer == "accepted"
+    counted = count_accepted(trial, honest, other) if accepted else f"refused: {count_refused(answer)}"
+    trial.add(line, f"damaged, {counted}")
+    add_restored(trial, other, "of the damaged")
+    if trial.random.random() < 0.2 and other.dimensions == honest.dimensions:
+        pair = trial.random.sample([honest, other], 2)
+        trial.add(line_of(pair[0], "extract", pair[1]), "of the damaged")
 
 
 def cases_of(random, size, is_salted):
-    """The cases of a trial."""
-    trial = Trial(random, size or size_of(random), is_salted)
-    if is_salted:
-        add_salted_tree(trial)
-    else:
+    """The cases of a batch, which is small, but now and then a larger one."""
+    small = random.random() < 0.99
+    trial = Trial(random, size or random.choice([2, 4, 6, 9, 9, 9, 12] if small else [40, 120, 300]), is_salted)
+    if not is_salted:
         add_shape(trial)
-        add_tree(trial)
-    add_openings(trial, 12 if trial.size < 40 else 2)
+    add_tree(trial)
+    for honest in filter(is_written, map(trial.claim, (trial.index, trial.queries))):
+        trial.add_honest(line_of(honest), "accepted")
+        trial.add_honest(line_of(honest, "extract", honest), "none")
+        add_restored(trial, honest, "honest")
+        for _ in range(12 if trial.size < 40 else 2):
+            add_damaged(trial, honest)
     return trial.found
