@@ -1,14 +1,13 @@
 """Models whoever hands in wrong openings: random damage to a claim, and changes that keep its digests."""
 
 from collections import defaultdict
-from copy import deepcopy
 
 from geometry import MAX_HEIGHT, MAX_NUMBER
 from nodes import WORD
-from openings import values_of
+from openings import copied, values_of
 
 HEIGHTS = [0, 1, 2, 3, 4, 5, 6, 7, MAX_HEIGHT, MAX_HEIGHT + 1, 2 * MAX_HEIGHT, MAX_NUMBER]
-PARTS = ["roots", "dimensions", "index", "rows", "rows", "salts", "siblings", "siblings"]
+PARTS = ["roots", "dimensions", "dimensions", "index", "rows", "rows", "salts", "siblings"]
 
 
 def changed(random, claim, part, value):
@@ -40,7 +39,7 @@ def damage_part(random, claim):
     if not isinstance(values, list):
         return
     depth = 1 + claim.is_pruned if part in ("rows", "salts") else 0
-    level = random.randrange(depth + 1)
+    level = random.choice([0, 0, *range(depth + 1)])
     lists = [found for found, below in lists_in(values, depth) if below == level]
     if not lists:
         return
@@ -50,10 +49,9 @@ def damage_part(random, claim):
     added = (1, 1) if part == "dimensions" else random.randrange(9)
     for _ in range(level):
         added = [added]
-    other = [changed(random, claim, part, item) for item in items] if level == 0 else [added]
+    other = [[changed(random, claim, part, item) for item in items] + following] if level == 0 else []
     own[place : place + 2] = random.choice([
-        following, items + deepcopy(items) + following, other + following, following + items,
-        [added] + items + following])
+        following, items + copied(items) + following, following + items, [added] + items + following, *other * 6])
 
 
 def no_heights(random, claim):
@@ -74,7 +72,7 @@ def repeat_query(random, claim):
     if claim.is_pruned and len(claim.index) == len(claim.rows) and claim.index:
         place = random.randrange(len(claim.index))
         for values in (claim.index, claim.rows, claim.salts or [])[random.randrange(2) :]:
-            values += deepcopy(values[place : place + 1])
+            values += copied(values[place : place + 1])
 
 
 def fit_salts(random, claim):
@@ -106,16 +104,20 @@ def variables(claim):
     return [*found.values(), *([(claim.siblings, place)] for place in range(len(claim.siblings)))]
 
 
+def roots_of(claim):
+    """The roots that an opening leads to, by their places."""
+    return values_of(claim.plain() if claim.salts is not None else claim)[-1]
+
+
 def shift(variable, by):
     for values, place in variable:
         values[place] = values[place] + by & WORD
 
 
-def effects(claim, variable):
+def effect(claim, before, variable):
     """How much roots change with a number, by their places; none of those that do not."""
-    before = values_of(claim.plain() if claim.salts is not None else claim)[-1]
     shift(variable, 1)
-    after = values_of(claim.plain() if claim.salts is not None else claim)[-1]
+    after = roots_of(claim)
     shift(variable, -1)
     return {node: after[node] - digest for node, digest in before.items() if after[node] != digest}
 
@@ -123,13 +125,13 @@ def effects(claim, variable):
 def twin(random, claim):
     """Changes a number of an honest opening, and makes up for it by another one. The fold functions are linear, and the
     effect of a number is a power of 31, which has an inverse; that of a row above the cap is none."""
-    found = variables(claim)
+    found, before = variables(claim), roots_of(claim)
     if len(found) < 2:
         return
     # Numbers that stand together are often those of one place.
     at = random.randrange(len(found) - 1)
     one, other = random.choice([found[at : at + 2], random.sample(found, 2)])
-    ours, theirs = effects(claim, one), effects(claim, other)
+    ours, theirs = effect(claim, before, one), effect(claim, before, other)
     if not ours:
         shift(one, 1)
     elif ours.keys() == theirs.keys():

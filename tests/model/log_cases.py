@@ -1,20 +1,23 @@
-"""Random files, sealed, proved, grown and joined by the commands of `fohlazu`, and all of this damaged."""
+"""Models random users of `fohlazu`: files, sealed, proved, grown and joined by its commands, and all of this damaged."""
 
+from pathlib import Path
 from typing import NamedTuple
 
 import log_commands
 import log_texts
 import logs
 from log_texts import checkpoint_text, consistency_text, entries_text
+from running import faults
 
 CUTS = [[], [], [], ["--partial"], ["--whole-lines"]]
 LENGTHS = [0, 0, 1, 2, 5, 54, 55, 56, 63, 64, 118, 119, 120, 300]
 ORIGINS = ["journal.example", "a", "localhost/log of today", "caf\u00e9", "x" * 100]
 SIGNATURES = ["\u2014 journal.example bm90IGNoZWNrZWQ=\n".encode(), "\u2014 w\u00e9 MTIzNDU2Nzg5\n".encode()]
-
-
-# bytes of a text of which not each is damaged, and how many are then
+# Bytes of a text of which not each is damaged, and how many are then.
 LONG, SAMPLE = 700, 40
+# Words for numbers, most of which are refused: ranges that go down, begin with 0, have no end, pass the last entry, the
+# greatest number or the most that are taken; and what is no number.
+STRANGE = (Path(__file__).parent / "numbers.txt").read_text().splitlines()
 
 
 class Case(NamedTuple):
@@ -32,13 +35,9 @@ class Case(NamedTuple):
     def wrongs(self, program, answer):
         """What is wrong about a program's answer, in lines. Whole texts are accepted, but for line feeds inside of
         lines."""
-        ran = program.run(self.words, self.contents)
         if self.kind.endswith("whole") and "inside" not in self.kind and answer.status:
             return [f"the model refuses a whole text: {answer.refused.line}"]
-        found = [f"status {ran.status}, expected {answer.status}"] if ran.status != answer.status else []
-        if ran.printed != answer.printed:
-            found.append(f"prints {ran.printed!r}, expected {answer.printed!r}")
-        return [*found, *program.said_wrongly(ran.said, answer)]
+        return [*faults(program.run(self.words, self.contents), *answer.expected())]
 
 
 def printed(words, contents):
@@ -71,14 +70,16 @@ def published(source, checkpoint):
 def damaged(source, text, few):
     """Texts with a byte or a line dropped, changed, or put in front of; all of a short text, or a few."""
     few = SAMPLE if few is None and len(text) > LONG else few
-    places = range(len(text) + 1) if few is None else [source.randint(0, len(text)) for _ in range(few)]
-    for at in places:
-        byte = bytes([source.choice([source.randrange(256), *b"\n\r =0+/A\xe2"])])
-        yield text[:at] + text[at + 1 :]
-        yield text[:at] + byte + text[at + 1 :]
-        yield text[:at] + byte + text[at:]
     lines = text.splitlines(keepends=True)
-    for at in range(len(lines)) if few is None else [source.randrange(len(lines)) for _ in range(few if lines else 0)]:
+
+    def places(count):
+        return range(count) if few is None else [source.randrange(count) for _ in range(few if count else 0)]
+
+    for at in places(len(text) + 1):
+        byte = bytes([source.choice([source.randrange(256), *b"\n\r =0+/A\xe2"])])
+        for middle, rest in (b"", at + 1), (byte, at + 1), (byte, at):
+            yield text[:at] + middle + text[rest:]
+    for at in places(len(lines)):
         yield b"".join(lines[:at] + lines[at + 1 :])
         yield b"".join([*lines[:at], source.choice(lines), *lines[at + source.randrange(2) :]])
 
@@ -99,36 +100,25 @@ def numbers_of(source, size, most=5):
 
 def spelled(source, numbers):
     """Words for these numbers: singly, and runs of them as ranges, some with commas between."""
-    words = []
+    parts = []
     for number in numbers:
-        first, _, last = (words or [""])[-1].rpartition(",")[2].partition("-")
-        is_next = first and int(last or first) == number - 1
-        if is_next and source.randrange(8):
-            words[-1] = words[-1].removesuffix(f"-{last}") + f"-{number}"
-            continue
-        word = source.choice([f"{number}", f"{number}", f"{number}-{number}", f"0{number}"])
-        if words and source.randrange(2):
-            words[-1] += f",{word}"
+        first, last = parts[-1] if parts else (0, -1)
+        if number == last + 1 and source.randrange(8):
+            parts[-1] = first, number
         else:
-            words.append(word)
-    return words
+            parts.append((number, number))
+    words = ""
+    for first, last in parts:
+        word = f"{first}-{last}" if first < last else source.choice([f"{first}", f"{first}", f"{first}-{first}", f"0{first}"])
+        words += source.choice([" ", ","]) + word if words else word
+    return words.split(" ")
 
 
 def strange(source, size):
-    """Words for numbers of a log of so many entries, most of which are refused: ranges that go down, begin with 0, have
-    no end, pass the last entry, the greatest number or the most that are taken; and what is no number."""
+    """Strange words for numbers of a log of so many entries."""
     low, high = sorted(source.sample(range(1, size + 9), 2))
-    most, many = logs.MOST, 10**8
-    return source.choice([
-        f"{high}-{low}", f"{low}-{high},{high}-{low}", f"{low},{high}", f"{high},{low}", f"{low}-{high} {high}",
-        f"0-{high}", "0-0", f"{low}-0", f"0,{low}", f"{low}-", f"-{high}", f"{low}-{high}-{high}", f"{low}--{high}",
-        f"{low}-{high}-", f"{low},", f",{low}", f"{low},,{high}", ",", "-", f"{size}-{size + 1}", f"1-{size + 1}",
-        f"{low}-{size + 100000}", f"{size + 1}", f"{most}", f"{most}-{most}", f"{most + 1}", f"{most}-{most + 1}",
-        f"{low}-{most}", f"{low}-{most + 1}", f"{1 << 64}-{(1 << 64) + low}", f"{10**23}", f"{low}-{low + many}",
-        f"{low} 1-{many}", f"{low},{high}-{high + many - 1}", f"all {low}", f"{low} all", "all,1", "all-2", "all all",
-        "ALL", f"+{low}-{high}", f"{low}-+{high}", f"{low}..{high}", f"{low}:{high}", f"{low}\u2013{high}",
-        f"{low}-{high}\u0661", f"0x{low}", f"{low}-{high}e1",
-    ]).split()
+    text = source.choice(STRANGE)
+    return text.format(low=low, high=high, size=size, past=size + 1, far=size + 10**5, many=low + 10**8).split(" ")
 
 
 def near(source, numbers):
@@ -183,11 +173,10 @@ def known(source):
     size = source.choice([source.randint(1, 40), source.randint(1, logs.MOST), logs.MOST, logs.MOST - 1])
     found = {name: source.choice([b"", b"a", b"entry %d" % name, b"a\nb"]) for name in numbers_of(source, size)}
     numbers = [source.choice([*found]) for _ in range(source.randint(0, 2))] + [*found]
-    nodes = sorted(logs.entry_nodes([name - 1 for name in numbers], 0, size))
+    nodes = logs.ranges([name - 1 for name in numbers], size)
     digests = [source.randbytes(32) for _ in nodes]
-    values = {(first, last): digest for (_, _, first, last), digest in zip(nodes, digests)}
-    leaves = {name - 1: logs.leaf_hash(data) for name, data in found.items()}
-    checkpoint = checkpoint_text(b"known.example", size, logs.root_of_entries(0, size, leaves, values))
+    values = {(name - 1, name): logs.leaf_hash(data) for name, data in found.items()} | dict(zip(nodes, digests))
+    checkpoint = checkpoint_text(b"known.example", size, logs.root_of(0, size, values))
     return checkpoint, entries_text([(name, found[name]) for name in numbers], digests), numbers
 
 
@@ -225,10 +214,9 @@ def grown(source, limit):
     """A file that has grown, how it is cut, and the checkpoints of its beginning and of all of it."""
     data, cut, new, size = sealed(source, limit)
     told = log_commands.words_of("seal").parse_args([*cut, "log"])
-    found = log_commands.entries_of(told, data, None)
+    log = logs.Log(log_commands.entries_of(told, data, None))
     old = source.choice([0, size, *range(size)])
-    origin = log_texts.checkpoint(new)[0]
-    return data, cut, checkpoint_text(origin, old, logs.Log(found).root(0, old)), new
+    return data, cut, checkpoint_text(log_texts.checkpoint(new)[0], old, log.root(0, old)), new
 
 
 def others(source, checkpoint):
@@ -253,9 +241,9 @@ def known_growth(source):
     """Checkpoints of up to 2^62 entries, and a proof between them."""
     size = source.choice([source.randint(1, 40), source.randint(1, logs.MOST), logs.MOST])
     old = source.choice([source.randint(1, size), 1 << source.randrange(size.bit_length())])
-    digests = [source.randbytes(32) for _ in range(logs.subproof_length(old, size, True))]
-    before, after = logs.roots_of_subproof(old, size, source.randbytes(32), digests)
-    return checkpoint_text(b"known.example", old, before), checkpoint_text(b"known.example", size, after), digests
+    digests = [source.randbytes(32) for _ in logs.growth_ranges(old, 0, size)]
+    roots = logs.roots_of_growth(old, size, source.randbytes(32), digests)
+    return *(checkpoint_text(b"known.example", *pair) for pair in zip((old, size), roots)), digests
 
 
 def verifies_growth(source, limit, few):
@@ -266,15 +254,13 @@ def verifies_growth(source, limit, few):
         data, cut, old, new = grown(source, limit)
         contents = {"old": old, "new": published(source, new), "log": data}
         proof = printed(["prove-consistency", *cut, "old", "new", "log"], contents)
-    contents = {"old": published(source, old), "proof": proof}
-    yield from whole_and_damaged(source, "growth", ["verify-consistency", "old", "proof"], contents, few)
+    words, old = ["verify-consistency", "old", "proof"], published(source, old)
+    yield from whole_and_damaged(source, "growth", words, {"old": old, "proof": proof}, few)
     size, digests, new = log_texts.consistency(proof)
     for other in others(source, new):
-        yield Case("another new checkpoint", ["verify-consistency", "old", "proof"],
-                   {**contents, "proof": consistency_text(size, digests, other)})
+        yield Case("another new checkpoint", words, {"old": old, "proof": consistency_text(size, digests, other)})
     other = [*digests, source.randbytes(32)][source.randrange(2) :]
-    yield Case("other digests", ["verify-consistency", "old", "proof"],
-               {**contents, "proof": consistency_text(size, other, new)})
+    yield Case("other digests", words, {"old": old, "proof": consistency_text(size, other, new)})
 
 
 def joins(source, limit, few):

@@ -5,7 +5,6 @@ import os
 from itertools import chain, islice
 from typing import NamedTuple, Optional
 
-import log_files
 import log_texts
 import logs
 from log_texts import PART, checkpoint_text, consistency_text, entries_text
@@ -48,6 +47,11 @@ class Answer(NamedTuple):
     printed: bytes
     refused: Optional[Refused] = None
     said: str = ""
+
+    def expected(self):
+        """The exit status, what is printed, and the line of standard error: its beginning, or none for wrong words."""
+        line = self.said if self.refused is None else self.refused.line if self.refused.name is not None else None
+        return self.status, self.printed, line
 
     def counted(self):
         """What an answer is counted as."""
@@ -161,10 +165,20 @@ def refuse_if(condition, name, why):
         raise Refused(1, name, why)
 
 
+def cut_entries(cut, data):
+    """The entries of a file, in blocks of a size or as lines without their line feed, and whether it ends inside a line that
+    is refused. A partial line may be an entry, or be left out."""
+    if cut.isdigit():
+        size = int(cut)
+        return [data[at : at + size] for at in range(0, len(data), size)], False
+    *lines, partial = data.split(b"\n")
+    return lines + [partial] * (partial != b"" and cut == "include"), partial != b"" and cut == "refuse"
+
+
 def entries_of(told, data, limit):
     """The entries of a file, up to a limit, or all."""
     cut = told.blocks or ("include" if told.partial else "leave-out" if told.whole_lines else "refuse")
-    found, is_refused = log_files.entries_of(str(cut), data)
+    found, is_refused = cut_entries(str(cut), data)
     is_refused = is_refused and (limit is None or len(found) < limit)
     why = "ends inside a line: `--whole-lines` leaves it out, `--partial` takes it as an entry"
     refuse_if(is_refused, told.FILE, why)
@@ -195,8 +209,7 @@ def prove(told, inputs):
         refuse_if(past in each, told.CHECKPOINT, f"it has {size} entries, and no entry {past}")
     log, found = tree_under(told, inputs.bytes(told.FILE), size, root)
     names = [*chain(*names)]
-    nodes = sorted(logs.entry_nodes([name - 1 for name in names], 0, size))
-    digests = [log.root(first, last) for _, _, first, last in nodes]
+    digests = log.proof(logs.ranges([name - 1 for name in names], size))
     return entries_text([(name, found[name - 1]) for name in names], digests)
 
 
@@ -247,7 +260,7 @@ def prove_consistency(told, inputs):
     compare(told.NEW, old, new)
     log, _ = tree_under(told, inputs.bytes(told.FILE), *new[1:])
     refuse_if(log.root(0, old[1]) != old[2], told.FILE, "its first entries are not those of the old checkpoint")
-    digests = log.subproof(old[1], 0, new[1], True) if old[1] else []
+    digests = log.proof(logs.growth_ranges(old[1], 0, new[1])) if old[1] else []
     return consistency_text(old[1], digests, texts[1])
 
 

@@ -1,4 +1,4 @@
-"""Random questions to the verifiers of logs: honest proofs, and these damaged, of other sizes, indices, leaves and
+"""Models random users of the verifiers of logs: honest proofs, and these damaged, of other sizes, indices, leaves and
 roots; and proofs of any sizes whose root is computed from random digests, which are accepted as well."""
 
 import logs
@@ -23,15 +23,10 @@ def damaged(rng, proof, pool):
     """A proof with a digest or two dropped, put in, replaced or moved; or as it was."""
     proof = list(proof)
     for _ in range(rng.choice([0, 0, 1, 1, 2])):
-        kind = rng.randrange(4)
-        if kind == 0:
-            proof.insert(rng.randint(0, len(proof)), rng.choice(pool))
-        elif proof and kind == 1:
-            proof.pop(rng.randrange(len(proof)))
-        elif proof and kind == 2:
-            proof[rng.randrange(len(proof))] = rng.choice(pool)
-        elif proof:
-            proof.append(proof.pop(rng.randrange(len(proof))))
+        at, other = rng.randrange(len(proof) + 1), rng.choice(pool)
+        proof[at : at + 1] = rng.choice([[], [other], [other, *proof[at : at + 1]]])
+        if rng.randrange(4) == 0:
+            rng.shuffle(proof)
     return proof
 
 
@@ -42,10 +37,10 @@ def of_a_log(rng, log):
     other = rng.choice(pool) if rng.randrange(6) == 0 else None
     if rng.randrange(2):
         index = rng.randrange(size)
-        proof = damaged(rng, log.path(index, 0, size), pool)
+        proof = damaged(rng, log.proof(logs.ranges([index], size)), pool)
         return "inclusion", near(rng, index), near(rng, size), other or log.leaves[index], proof, root
     old = rng.randint(0, size)
-    proof = damaged(rng, log.subproof(old, 0, size, True) if old else [], pool)
+    proof = damaged(rng, log.proof(logs.growth_ranges(old, 0, size)) if old else [], pool)
     roots = [log.root(0, old), root]
     if other:
         roots[rng.randrange(2)] = other
@@ -57,11 +52,13 @@ def sown(rng):
     size = rng.choice([rng.randint(1, 40), rng.randint(1, MOST), rng.choice(SIZES[1:5])])
     if rng.randrange(2):
         index = rng.randrange(size)
-        leaf, *proof = digests(rng, 1 + logs.path_length(index, size))
-        return "inclusion", index, size, leaf, proof, logs.root_of_path(index, size, leaf, proof)
+        nodes = logs.ranges([index], size)
+        leaf, *proof = digests(rng, 1 + len(nodes))
+        values = {(index, index + 1): leaf, **dict(zip(nodes, proof))}
+        return "inclusion", index, size, leaf, proof, logs.root_of(0, size, values)
     old = rng.randint(1, size)
-    known, *proof = digests(rng, 1 + logs.subproof_length(old, size, True))
-    return "consistency", old, size, proof, *logs.roots_of_subproof(old, size, known, proof)
+    known, *proof = digests(rng, 1 + len(logs.growth_ranges(old, 0, size)))
+    return "consistency", old, size, proof, *logs.roots_of_growth(old, size, known, proof)
 
 
 def of_entries(rng, most):
@@ -87,7 +84,7 @@ def forged_entries(rng, log):
     random leaf hashes, one for each index, and digests, which are accepted if some are found in 512 tries."""
     size = rng.randint(1, len(log.leaves))
     indices = [rng.randrange(size) for _ in range(rng.randint(1, 3))]
-    count = len(logs.entry_nodes(indices, 0, size))
+    count = len(logs.ranges(indices, size))
     for _ in range(512):
         words = [bytes([rng.randrange(256), *bytes(31)]) for _ in range(size + count)]
         leaves = [rng.choice([log.leaves, words])[index] for index in indices]

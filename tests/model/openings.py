@@ -1,6 +1,5 @@
 """Models openings: why a verifier refuses one, what it restores of it, and which collision two of them lead to."""
 
-from copy import deepcopy
 from dataclasses import dataclass, replace
 from itertools import product
 from typing import NamedTuple
@@ -34,6 +33,11 @@ class Error(NamedTuple):
 
     def __str__(self):
         return TEXTS[self.name].format(*self.fields)
+
+
+def copied(value):
+    """A copy of a list down to its numbers."""
+    return [copied(part) for part in value] if isinstance(value, list) else value
 
 
 @dataclass
@@ -78,7 +82,7 @@ class Claim:
 
     def copy(self):
         parts = ("roots", "dimensions", "index", "rows", "siblings", "salts")
-        return replace(self, **{part: deepcopy(getattr(self, part)) for part in parts})
+        return replace(self, **{part: copied(getattr(self, part)) for part in parts})
 
     def plain(self):
         """The claim on rows followed by their salts."""

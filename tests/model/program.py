@@ -18,7 +18,8 @@ class Fault(Exception):
     """A line and a status."""
 
     def __init__(self, line, status=1):
-        super().__init__(f"{line} (status {status})")
+        super().__init__(line)
+        self.status = status
 
 
 def number_of(word, greatest):
@@ -74,17 +75,29 @@ def printed(scheme, action, indices, matrices):
     return lines + [digest.hex() if isinstance(digest, bytes) else f"{digest:08x}" for digest in digests]
 
 
-def output(words, data, is_unread=False, calls=None):
-    """What is printed, with the line and the status of a fault. An unread input fails at its end. An output that takes so
-    many calls has a byte at each, and fails after them: a flush is the last."""
+def answered(words, data, is_unread=False, calls=None):
+    """What is printed before a fault, if any, and the fault. An unread input fails at its end. An output that takes so many
+    calls has a byte at each, and fails after them: a flush is the last."""
     try:
         scheme, greatest, action, indices = command_of(words)
         if is_unread:
             raise Fault("read failed")
         text = "".join(line + "\n" for line in printed(scheme, action, indices, matrices_of(data, greatest)))
     except Fault as fault:
-        return str(fault)
-    return text if calls is None or calls > len(text) else f"{text[:calls]}{Fault('write failed')}"
+        return "", fault
+    return (text, None) if calls is None or calls > len(text) else (text[:calls], Fault("write failed"))
+
+
+def output(words, data, **settings):
+    """The same as one text."""
+    text, fault = answered(words, data, **settings)
+    return f"{text}{fault} (status {fault.status})" if fault else text
+
+
+def expected(words, data):
+    """The exit status, what is printed, and the line of standard error."""
+    text, fault = answered(words, data)
+    return (fault.status, b"", str(fault)) if fault else (0, text.encode(), "")
 
 
 def bytes_of(written):

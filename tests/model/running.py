@@ -1,4 +1,4 @@
-"""Runs of a program in a folder of its own."""
+"""Runs a program in a folder of its own, and says what is wrong about a run."""
 
 import os
 import signal
@@ -32,7 +32,7 @@ class Program:
 
     def write(self, name, data):
         """Has a file say this, or be none."""
-        if self.written.get(name, b"") == data and name in self.written:
+        if name in self.written and self.written[name] == data:
             return
         if data is None:
             (self.folder / name).unlink(missing_ok=True)
@@ -42,18 +42,20 @@ class Program:
 
     def run(self, words, contents=None, **settings):
         """A run on these files; the one that is called `-` is its standard input."""
-        for name, data in (contents or {}).items():
-            if name != "-":
-                self.write(name, data)
-        data = (contents or {}).get("-", b"")
+        contents = dict(contents or {})
+        data = contents.pop("-", b"")
+        for name in contents:
+            self.write(name, contents[name])
         if not {"stdin", "input"} & settings.keys():
             settings["input"] = data
         settings = {"stdout": subprocess.PIPE, "stderr": subprocess.PIPE, "timeout": SECONDS, **settings}
         ran = subprocess.run([self.path, *words], cwd=self.folder, **settings)
         return Ran(ran.returncode, ran.stdout or b"", ran.stderr or b"")
 
-    def measured(self, words, data=subprocess.DEVNULL):
-        """The same, with its time and memory; what it reads, prints and says goes through files."""
+    def measured(self, words, contents, data=subprocess.DEVNULL):
+        """The same, with its time and memory; what it prints and says goes through files."""
+        for name in contents:
+            self.write(name, contents[name])
         out, err, report = (self.folder / name for name in (".out", ".err", ".report"))
         helper = [sys.executable, "-I", "-S", MEASURE, report, self.path, *words]
         with out.open("wb") as printed, err.open("wb") as said:
@@ -68,22 +70,24 @@ class Program:
         seconds, held, status = report.read_text().split()
         return Ran(int(status), out.read_bytes(), err.read_bytes(), float(seconds), int(held))
 
-    @staticmethod
-    def said_wrongly(said, answer):
-        """What is wrong about standard error, in lines."""
-        refused = answer.refused
-        if refused is None:
-            if said.decode() != answer.said + "\n" * bool(answer.said):
-                yield f"says {said!r}, expected {answer.said!r}"
-        elif refused.name is None:
-            if not said:
-                yield "says nothing of wrong words"
-        elif not is_line(said) or not said.startswith(refused.line.encode()):
-            yield f"says {said!r}, expected {refused.line!r}"
-        elif not refused.line.endswith(" ") and len(said) > len(refused.line.encode()) + 1:
-            yield f"says {said!r}, expected {refused.line!r} alone"
-
 
 def is_line(said):
     """Whether this is one line with its end."""
     return said.count(b"\n") == 1 and said.endswith(b"\n") and len(said) > 1
+
+
+def faults(ran, status, printed=b"", line=""):
+    """What is wrong about a run, in lines. A line of standard error that ends in a space is the beginning of one; none at
+    all stands for any text."""
+    if ran.status != status:
+        yield f"status {ran.status}, expected {status}"
+    if ran.printed != printed:
+        yield f"prints {ran.printed[:400]!r}, expected {printed[:400]!r}"
+    if line is None:
+        is_right = bool(ran.said)
+    elif line.endswith(" "):
+        is_right = is_line(ran.said) and ran.said.startswith(line.encode())
+    else:
+        is_right = ran.said == (line + "\n" * bool(line)).encode()
+    if not is_right:
+        yield f"says {ran.said[:400]!r}, expected {'something' if line is None else line!r}"

@@ -1,5 +1,5 @@
 #!/usr/bin/env python3
-"""tests/model/stored.py: answers the stored cases of the test programs by the definitions. It names each line that says
+"""tests/model/stored.py: answers the stored cases of the test programs by the model. It names each line that says
 otherwise, with the model's answer."""
 
 import re
@@ -10,35 +10,101 @@ from pathlib import Path
 
 sys.dont_write_bytecode = True
 import cases  # noqa: E402
+import log_answers  # noqa: E402
+import program  # noqa: E402
 import replayed  # noqa: E402
 import salts  # noqa: E402
 
 CRATES = Path(__file__).resolve().parent.parent.parent / "crates"
+# Cases that take the model seconds, of a minute that all take.
 SLOW = re.compile("100000")
+# Seconds that a program may take for some lines.
+LONGEST = 300
 
 
 def of_library(line):
-    """The kind of a case, and what it is answered: what its line says, where the model answers so."""
+    """What a case is answered, and what the model answers: the same, where one of its answers is."""
     found, expected = cases.answers(line)
-    return line.split("|")[0].strip(), expected, next((answer for answer in found if answer != expected), expected)
+    return expected, next((answer for answer in found if answer != expected), expected)
 
 
 def of_rust(line):
-    """The same of a case of the Rust crate's. Its last field is what is answered here."""
+    """The last field is what is answered here."""
     case, *answers = line.split(" | ")
-    return "of the Rust crate", answers[-1], replayed.answer(case)
+    return answers[-1], replayed.answer(case)
+
+
+def of_log(answer):
+    """A question that has its answer after a tab."""
+    return lambda line: (line.split("\t")[1], answer(line.split("\t")[0]))
+
+
+# What answers the cases of each crate.
+ANSWERS = {"merkle_cases": of_library, "mmcs_cases": program.case_of, "rust_answers": of_rust,
+           "log_text_answers": of_log(log_answers.of_text), "log_files_answers": of_log(log_answers.of_file)}
+OF_LOGS = ["log_text_answers", "log_files_answers"]
+
+
+def lines_of(crate):
+    """The stored lines of a crate; a question about logs with its answer."""
+    folder = CRATES / crate
+    if crate == "rust_answers":
+        return [line for path in sorted((folder / "data").iterdir()) for line in path.read_text().split("\n")]
+    lines = (folder / "stdin").read_text().split("\n")
+    if crate in OF_LOGS:
+        return map("\t".join, zip(lines[:-1], (folder / "stdout").read_text().split("\n")))
+    return lines
+
+
+def tests(crate, is_quick):
+    """Each case of a crate with its faults; the quick ones, or all."""
+    for number, line in enumerate(lines_of(crate), 1):
+        if line.strip() and not line.startswith("#") and not (is_quick and SLOW.search(line)):
+            expected, answer = ANSWERS[crate](line)
+            kind = line.split("|")[0].strip() if crate == "merkle_cases" else "a case"
+            yield f"{crate}: {kind}", [] if answer == expected else [f"line {number}: {line[:400]}",
+                                                                     f"the model answers: {answer[:400]}"]
+    if crate == "merkle_cases":
+        yield "the block of ChaCha20 in RFC 8439", [] if salts.has_block() else ["the model has another"]
+
+
+def wrong_answers(path, lines):
+    """What a test program answers otherwise, by the places of its lines; if it stops, the first at which it does."""
+    try:
+        ran = subprocess.run([path], input="\n".join([*lines, ""]), capture_output=True, text=True, timeout=LONGEST)
+        said = f"status {ran.returncode}: {ran.stdout[-300:]} {ran.stderr[-300:]}"
+        printed = ran.stdout.split("\n")
+    except subprocess.TimeoutExpired:
+        said, printed = f"no answer in {LONGEST} seconds", []
+    found = {int(line.split(":")[0][5:]) - 1: [after] for line, after in zip(printed, printed[1:])
+             if re.match("line [0-9]+:", line)}
+    if f"{len(lines)} cases, {len(found)} wrong" in printed:
+        return found
+    if len(lines) == 1:
+        return {0: [said]}
+    half = len(lines) // 2
+    first = wrong_answers(path, lines[:half])
+    return first or {half + place: faults for place, faults in wrong_answers(path, lines[half:]).items()}
+
+
+def report(tests):
+    """Prints what goes wrong. How many tests there are of each name, and how many go wrong."""
+    kinds, wrong = Counter(), 0
+    for name, faults in tests:
+        faults = list(faults)
+        kinds[name] += 1
+        if faults:
+            wrong += 1
+            print("\n  ".join([name, *faults]))
+    return kinds, wrong
+
+
+def main():
+    kinds, wrong = report(test for crate in ANSWERS for test in tests(crate, False))
+    print(", ".join(f"{kind} {number}" for kind, number in sorted(kinds.items())))
+    print(f"{kinds.total()} cases, {wrong} wrong")
+    sys.exit(1 if wrong else 0)
+
 
 if __name__ == "__main__":
-    import time
-    counts = Counter(); bad = 0
-    for path, f in [("merkle_cases/stdin", of_library), ("rust_answers/data/cases.txt", of_rust), ("rust_answers/data/large.txt", of_rust)]:
-        t = time.time()
-        for n, line in enumerate((CRATES/path).read_text().split("\n"), 1):
-            if not line.strip() or line.startswith("#"): continue
-            if SLOW.search(line) and len(sys.argv) < 2: continue
-            k, e, a = f(line); counts[k] += 1
-            if e != a:
-                bad += 1
-                if bad < 10: print(path, n, line[:300], "\n   model:", a[:300])
-        print(path, time.time() - t)
-    print(counts, bad)
+    main()
