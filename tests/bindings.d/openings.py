@@ -2,26 +2,17 @@
 status that the model gives."""
 
 import random
-import re
 
 from geometry import FIXED, LOWERED, MAX_HEIGHT
-from nodes import Sha256
-from refusals import SINGLE, Claim, refusal
-from schemes import Scheme
+from nodes import Scheme, Sha256
+from claims import Claim, refusal
 from trials import heights_of
 
 SEED = 70
 COUNT = 200
-# How the text of a refusal begins, and its status.
-STATUSES = {
-    r"matrix \d+: size": 1,
-    "index out of bounds": 2,
-    "cap mismatch": 7,
-    "empty batch": 9,
-    "matrix height": 10,
-    "batch size mismatch": 11,
-    "wrong width": 11,
-}
+# The status of an error.
+STATUSES = {"TooLarge": 1, "IndexOutOfBounds": 2, "CapMismatch": 7, "EmptyBatch": 9, "IncompatibleHeights": 10,
+            "WrongBatchSize": 11, "WrongWidth": 11}
 NO_SUCH_TREE = 8
 
 
@@ -35,8 +26,8 @@ class Question:
         self.sizes = [(source.randrange(4), height) for height in heights]
         tree = self.scheme.tree([[source.randbytes(width) for _ in range(height)] for width, height in self.sizes])
         self.index = source.randrange(max(heights))
-        rows, self.siblings = self.scheme.opening(tree, self.index)
-        self.rows, self.roots = b"".join(rows), tree.cap()
+        self.rows, self.siblings = b"".join(tree.rows(self.index)), tree.proof([self.index])
+        self.roots = tree.cap()
 
     def words(self):
         """The words of the program."""
@@ -53,11 +44,11 @@ class Question:
         for width, _ in self.sizes:
             rows, left = [*rows, left[:width]], left[width:]
         rows += [left] * bool(left)
-        text = refusal(SINGLE, Claim(self.scheme, self.roots, self.sizes, self.index, rows, self.siblings))
-        if text and text.startswith("wrong height"):
-            expected, got = map(int, re.findall(r"\d+", text))
+        error = refusal(Claim(self.scheme, self.roots, self.sizes, self.index, rows, self.siblings))
+        if error and error.name == "WrongHeight":
+            expected, got = error.fields
             return 4 if got < expected else 5
-        return next(number for begin, number in STATUSES.items() if re.match(begin, text)) if text else 0
+        return STATUSES[error.name] if error else 0
 
     def damage(self, source):
         """Changes something."""

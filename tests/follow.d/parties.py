@@ -80,7 +80,7 @@ class Operator:
         size, text, source = len(self.lines), log_texts.consistency_text, self.source
         root, other = self.log.root(0, size), source.randbytes(32)
         rewritten = logs.Log([*self.lines[: old - 1], b"other", *self.lines[old:]])
-        digests, new = self.log.subproof(old, 0, size, True), self.signed(size, root)
+        digests, new = self.log.consistency(old, size), self.signed(size, root)
         unsigned, at = log_texts.checkpoint_text(ORIGIN, size, root), source.randrange(len(digests))
         place = source.randrange(len(new) - 90, len(new) - 10)
         changed = new[:place] + (b"B" if new[place:place + 1] == b"A" else b"A") + new[place + 1:]
@@ -96,7 +96,7 @@ class Operator:
         yield "a digest more", text(old, [*digests, other], new)
         yield "another old count", text(old + 1, digests, new)
         yield "a smaller log", text(old, [], self.signed(old - 1, self.log.root(0, old - 1)))
-        yield "a rewritten log", text(old, rewritten.subproof(old, 0, size, True),
+        yield "a rewritten log", text(old, rewritten.consistency(old, size),
                                       self.signed(size, rewritten.root(0, size)))
         yield "a cut proof", text(old, digests, new)[: -source.randint(1, 100)]
         yield "nothing", b""
@@ -107,7 +107,7 @@ class Operator:
         """A signed checkpoint of so many entries with another root, in two proofs, a true one and another."""
         other = logs.Log([*self.lines[: old - 1], b"other"])
         forked = self.signed(old, other.root(0, old))
-        for digests, count in ([], old), (other.subproof(old - 1, 0, old, True), old - 1):
+        for digests, count in ([], old), (other.consistency(old - 1, old), old - 1):
             yield log_texts.consistency_text(count, digests, forked), forked
 
 

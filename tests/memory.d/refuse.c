@@ -3,11 +3,7 @@
  * Where the environment has REFUSE_ONCE=n, the nth request from the program's start on is refused, and where it has
  * REFUSE_FROM=n, so are all after it. Where it has REFUSE_REPORT=fd, a line is written to that file descriptor at the
  * end: how many requests there were, how many were refused, and how many bytes were asked for at a time, with those that
- * were held.
- *
- * A program can give orders by requests of sizes that no allocation has: the upper 16 bits of the size are 0x5a5a, the
- * next 8 are the order, and the lower 40 are a number n. An order is answered by a null pointer, or by a small block
- * where the answer is yes. Orders are not counted. */
+ * were held. */
 
 #include <errno.h>
 #include <stdint.h>
@@ -21,44 +17,16 @@ extern void *__libc_realloc(void *, size_t);
 extern void *__libc_memalign(size_t, size_t);
 extern void __libc_free(void *);
 
-enum order {
-  REFUSE_ONCE = 1, /* refuse the nth request from now on, and no other */
-  REFUSE_FROM = 2, /* refuse the nth request from now on, and all after it */
-  STOP = 3,        /* refuse nothing, and leave the counts as they are */
-  WAS_REFUSED = 4, /* was a request refused since REFUSE_ONCE or REFUSE_FROM? */
-};
-
-static int refuses;
 static uint64_t first, last; /* the requests that are refused, by their numbers from 1 */
 static uint64_t requests, refusals;
 static size_t held, most;
-
-static void start(uint64_t from, uint64_t to) {
-  refuses = 1;
-  first = from;
-  last = to;
-  requests = refusals = 0;
-}
-
-static int obey(size_t size) {
-  uint64_t n = size & (((uint64_t)1 << 40) - 1);
-  switch ((size >> 40) & 0xff) {
-  case REFUSE_ONCE: start(n, n); return 0;
-  case REFUSE_FROM: start(n, UINT64_MAX); return 0;
-  case STOP: refuses = 0; return 0;
-  case WAS_REFUSED: return refusals > 0;
-  default: return 0;
-  }
-}
-
-static int is_order(size_t size) { return size >> 48 == 0x5a5a; }
 
 /* Whether a request is granted, for a block in the place of one of `before` bytes. */
 static int grants(size_t size, size_t before) {
   size_t bytes = size < PTRDIFF_MAX ? size : PTRDIFF_MAX;
   if (held - before + bytes > most) most = held - before + bytes;
   requests++;
-  if (refuses && first <= requests && requests <= last) {
+  if (first <= requests && requests <= last) {
     refusals++;
   } else if (size <= PTRDIFF_MAX / 2) {
     return 1;
@@ -84,7 +52,6 @@ static void *taken(char *whole, size_t distance, size_t size) {
 }
 
 void *malloc(size_t size) {
-  if (is_order(size)) return obey(size) ? taken(__libc_malloc(sizeof(struct head)), sizeof(struct head), 0) : NULL;
   if (!grants(size, 0)) return NULL;
   return taken(__libc_malloc(sizeof(struct head) + size), sizeof(struct head), size);
 }
@@ -136,10 +103,10 @@ int posix_memalign(void **block, size_t alignment, size_t size) {
 __attribute__((constructor)) static void begin(void) {
   const char *once = getenv("REFUSE_ONCE"), *from = getenv("REFUSE_FROM");
   if (once != NULL) {
-    uint64_t n = strtoull(once, NULL, 10);
-    start(n, n);
+    first = last = strtoull(once, NULL, 10);
   } else if (from != NULL) {
-    start(strtoull(from, NULL, 10), UINT64_MAX);
+    first = strtoull(from, NULL, 10);
+    last = UINT64_MAX;
   }
 }
 

@@ -9,8 +9,8 @@ import notation
 from geometry import FIXED, LOWERED, Shape
 from nodes import Fold, Scheme, Sha256
 from notation import dimensions, matrices, numbers, print_numbers, print_row_sets, rows
-from openings import Claim, checks_of, count_errors, extract, height_errors, index_errors, pruned_errors, refusal
-from openings import row_errors, width_errors
+from claims import Claim, checks_of, count_errors, extract, height_errors, index_errors, pruned_errors, refusal
+from claims import row_errors, width_errors
 from salts import Generator, generator_of
 
 # There is no memory for a tree of so many rows.

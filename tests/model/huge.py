@@ -7,7 +7,7 @@ import log_commands
 import logs
 from log_cases import printed
 from log_texts import checkpoint_text
-from openings import Error
+from claims import Error
 from running import faults
 
 MIB = 1 << 20

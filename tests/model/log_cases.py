@@ -241,7 +241,7 @@ def known_growth(source):
     """Checkpoints of up to 2^62 entries, and a proof between them."""
     size = source.choice([source.randint(1, 40), source.randint(1, logs.MOST), logs.MOST])
     old = source.choice([source.randint(1, size), 1 << source.randrange(size.bit_length())])
-    digests = [source.randbytes(32) for _ in logs.growth_ranges(old, 0, size)]
+    digests = [source.randbytes(32) for _ in logs.growth_ranges(old, size)]
     roots = logs.roots_of_growth(old, size, source.randbytes(32), digests)
     return *(checkpoint_text(b"known.example", *pair) for pair in zip((old, size), roots)), digests
 

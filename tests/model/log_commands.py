@@ -209,7 +209,7 @@ def prove(told, inputs):
         refuse_if(past in each, told.CHECKPOINT, f"it has {size} entries, and no entry {past}")
     log, found = tree_under(told, inputs.bytes(told.FILE), size, root)
     names = [*chain(*names)]
-    digests = log.proof(logs.ranges([name - 1 for name in names], size))
+    digests = log.inclusion([name - 1 for name in names], size)
     return entries_text([(name, found[name - 1]) for name in names], digests)
 
 
@@ -260,7 +260,7 @@ def prove_consistency(told, inputs):
     compare(told.NEW, old, new)
     log, _ = tree_under(told, inputs.bytes(told.FILE), *new[1:])
     refuse_if(log.root(0, old[1]) != old[2], told.FILE, "its first entries are not those of the old checkpoint")
-    digests = log.proof(logs.growth_ranges(old[1], 0, new[1])) if old[1] else []
+    digests = log.consistency(old[1], new[1])
     return consistency_text(old[1], digests, texts[1])
 
 

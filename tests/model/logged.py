@@ -37,10 +37,10 @@ def of_a_log(rng, log):
     other = rng.choice(pool) if rng.randrange(6) == 0 else None
     if rng.randrange(2):
         index = rng.randrange(size)
-        proof = damaged(rng, log.proof(logs.ranges([index], size)), pool)
+        proof = damaged(rng, log.inclusion([index], size), pool)
         return "inclusion", near(rng, index), near(rng, size), other or log.leaves[index], proof, root
     old = rng.randint(0, size)
-    proof = damaged(rng, log.proof(logs.growth_ranges(old, 0, size)) if old else [], pool)
+    proof = damaged(rng, log.consistency(old, size), pool)
     roots = [log.root(0, old), root]
     if other:
         roots[rng.randrange(2)] = other
@@ -57,7 +57,7 @@ def sown(rng):
         values = {(index, index + 1): leaf, **dict(zip(nodes, proof))}
         return "inclusion", index, size, leaf, proof, logs.root_of(0, size, values)
     old = rng.randint(1, size)
-    known, *proof = digests(rng, 1 + len(logs.growth_ranges(old, 0, size)))
+    known, *proof = digests(rng, 1 + len(logs.growth_ranges(old, size)))
     return "consistency", old, size, proof, *logs.roots_of_growth(old, size, known, proof)
 
 

@@ -50,14 +50,19 @@ def ranges(indices, size):
     return [node[2:] for node in sorted(entry_nodes(indices, 0, size))]
 
 
-def growth_ranges(old, first, last, is_known=True):
+def subproof(old, first, last, is_known):
     """SUBPROOF of the entries below `old` among those from `first` on, below `last`, as nodes."""
     if old == last:
         return [] if is_known else [(first, last)]
     middle = split(first, last)
     if old <= middle:
-        return [*growth_ranges(old, first, middle, is_known), (middle, last)]
-    return [*growth_ranges(old, middle, last, False), (first, middle)]
+        return [*subproof(old, first, middle, is_known), (middle, last)]
+    return [*subproof(old, middle, last, False), (first, middle)]
+
+
+def growth_ranges(old, new):
+    """The nodes of a proof of consistency; from size 0 it has none."""
+    return subproof(old, 0, new, True) if old else []
 
 
 class Log:
@@ -76,14 +81,13 @@ class Log:
             self.roots[first, last] = node_hash(self.root(first, middle), self.root(middle, last))
         return self.roots[first, last]
 
-    def proof(self, nodes):
-        return [self.root(*node) for node in nodes]
+    def inclusion(self, indices, size):
+        """The proof of some of the first entries."""
+        return [self.root(*node) for node in ranges(indices, size)]
 
-
-def length_refusal(length, right):
-    if length != right:
-        return TOO_FEW_DIGESTS if length < right else TOO_MANY_DIGESTS
-    return None
+    def consistency(self, old, size):
+        """The proof that the first entries begin with fewer."""
+        return [self.root(*node) for node in growth_ranges(old, size)]
 
 
 def inclusion(index, size, leaf, proof, root):
@@ -93,9 +97,8 @@ def inclusion(index, size, leaf, proof, root):
     if index >= size:
         return INDEX_PAST_END
     nodes = ranges([index], size)
-    refusal = length_refusal(len(proof), len(nodes))
-    if refusal:
-        return refusal
+    if len(proof) != len(nodes):
+        return TOO_FEW_DIGESTS if len(proof) < len(nodes) else TOO_MANY_DIGESTS
     values = {(index, index + 1): leaf, **dict(zip(nodes, proof))}
     return ACCEPTED if root_of(0, size, values) == root else ROOT_MISMATCH
 
@@ -103,21 +106,21 @@ def inclusion(index, size, leaf, proof, root):
 def roots_of_growth(old, new, old_root, proof):
     """The roots of both sizes that a proof of the right length leads to. The old root is one of its nodes where the old
     entries are a tree of the new ones."""
-    values = dict(zip(growth_ranges(old, 0, new), proof))
+    values = dict(zip(growth_ranges(old, new), proof))
     if old == new or old.bit_count() == 1:
         values[0, old] = old_root
     return root_of(0, old, values), root_of(0, new, values)
 
 
 def consistency(old, new, proof, old_root, new_root):
-    """The verdict on a proof of consistency. From size 0 and between equal sizes no digests are sent."""
+    """The verdict on a proof of consistency. From size 0 and between equal sizes it has no digests."""
     if new > MOST:
         return SIZE_TOO_LARGE
     if new < old:
         return SMALLER_NEW_SIZE
-    refusal = length_refusal(len(proof), len(growth_ranges(old, 0, new)) if old else 0)
-    if refusal:
-        return refusal
+    nodes = growth_ranges(old, new)
+    if len(proof) != len(nodes):
+        return TOO_FEW_DIGESTS if len(proof) < len(nodes) else TOO_MANY_DIGESTS
     if old == 0:
         before, after = EMPTY_ROOT, new_root if new else EMPTY_ROOT
     else:

@@ -5,7 +5,7 @@ from itertools import accumulate, repeat
 from cases import Refused, refuse
 from geometry import FIXED
 from nodes import WORD, Fold, Scheme, Sha256
-from openings import Claim, checks_of, claim_errors, count_errors, height_errors, index_errors, pruned_errors
+from claims import Claim, checks_of, claim_errors, count_errors, height_errors, index_errors, pruned_errors
 from salts import Counting
 
 

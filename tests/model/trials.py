@@ -8,7 +8,7 @@ from damage import damaged
 from geometry import FIXED, LOWERED, MAX_NUMBER, expected_height, exponent
 from nodes import Fold, Scheme
 from notation import print_dimensions, print_numbers
-from openings import Claim
+from claims import Claim
 from salts import generator_of
 
 
