@@ -1,6 +1,6 @@
 """Models the answers to cases of crates/merkle_cases: a line of fields with | between them, the first of which is the kind.
 
-A kind is a function. The annotation of each of its parameters reads a field, or more of them."""
+A kind is a function, with a reader for each of its arguments, which reads a field or more of them."""
 
 from itertools import chain, product
 
@@ -101,88 +101,67 @@ def answered(call, *arguments):
         return str(refused)
 
 
-def case(*names):
-    """Has a function answer cases of these kinds."""
+def case(kinds, *readers):
+    """Has a function answer cases of these kinds, out of what readers read of their fields."""
     def register(function):
-        KINDS.update(dict.fromkeys(names, function))
+        KINDS.update(dict.fromkeys(kinds.split(), (function, readers)))
         return function
 
     return register
 
 
-@case("hash")
-def hash_of(words: numbers):
-    return Fold(2).hash(words)
+case("hash", numbers)(Fold(2).hash)
+case("compress", int, numbers)(lambda arity, digests: Fold(arity).compress(digests))
+case("sha256", str)(lambda text: Sha256(2).hash(b"" if text == "-" else text.encode()).hex())
+case("sha256_rows", int)(lambda length: print_numbers([Sha256(2).hash(row) for row in byte_rows(length, 17)]))
+case("exponent", int)(geometry.exponent)
+case("steps", int, numbers)(lambda arity, heights: print_numbers(Shape(arity, heights).steps))
+case("commit sha256_commit", Scheme, Batch)(lambda scheme, batch: print_numbers(batch.tree(scheme).cap()))
 
 
-@case("compress")
-def compress(arity: int, digests: numbers):
-    return Fold(arity).compress(digests)
-
-
-@case("sha256")
-def sha256(text: str):
-    return Sha256(2).hash(b"" if text == "-" else text.encode()).hex()
-
-
-@case("sha256_rows")
-def sha256_rows(length: int):
-    return print_numbers([Sha256(2).hash(row) for row in byte_rows(length, 17)])
-
-
-@case("sha256_groups")
-def sha256_groups(arity: int):
+@case("sha256_groups", int)
+def sha256_groups(arity):
     digests = list(map(bytes, byte_rows(32, 17 * arity)))
     return print_numbers([Sha256(arity).compress(digests[at : at + arity]) for at in range(0, 17 * arity, arity)])
 
 
-@case("exponent")
-def exponent(height: int):
-    return geometry.exponent(height)
-
-
-@case("halving")
-def halving(tallest: int, height: int):
+@case("halving", int, int)
+def halving(tallest, height):
     return f"{geometry.expected_height(tallest, height)} {geometry.halvings(tallest, height)}"
 
 
-@case("padding")
-def padding(arity: int, lengths: numbers):
+@case("padding", int, numbers)
+def padding(arity, lengths):
     return print_numbers([geometry.padded_len(length, arity) for length in lengths])
 
 
-@case("step")
-def step(arity: int, heights: numbers, start: int):
+@case("step", int, numbers, int)
+def step(arity, heights, start):
     exponents = set(map(geometry.exponent, heights))
     count, following = geometry.step_from(exponents, arity, start)
     has_matrix = "matrix" if start in exponents else "none"
     return f"{has_matrix} {'whole' if count == arity else 'bridge'} {count} {following}"
 
 
-@case("steps")
-def steps(arity: int, heights: numbers):
-    return print_numbers(Shape(arity, heights).steps)
-
-
-@case("positions")
-def positions(arity: int, heights: numbers, layer: int, index: int):
+@case("positions", int, numbers, int, int)
+def positions(arity, heights, layer, index):
     return print_numbers(Shape(arity, heights).positions(layer, index))
 
 
-@case("siblings")
-def siblings(arity: int, heights: numbers):
+@case("siblings", int, numbers)
+def siblings(arity, heights):
     shape = Shape(arity, heights)
     return print_numbers([sum(step - 1 for step in shape.steps[:layer]) for layer in range(shape.levels + 1)])
 
 
-@case("widths")
-def widths(sizes: dimensions, opened: rows):
+@case("widths", dimensions, rows)
+def widths(sizes, opened):
     refuse(row_errors(sizes, opened))
     return "accepted"
 
 
-@case("heights")
-def heights(found: numbers):
+@case("heights", numbers)
+def heights(found):
     """What is answered by the test of heights, the commit, the tree, the schedule and the check of an opening."""
     error = next(height_errors(found), None)
     built = "out of memory" if not error and max(found) >= MOST_ROWS else error or "accepted"
@@ -192,57 +171,52 @@ def heights(found: numbers):
     return answers[0] if len(set(answers)) == 1 else " | ".join(answers)
 
 
-@case("layers")
-def layers(arity: int, batch: Batch):
+@case("layers", int, Batch)
+def layers(arity, batch):
     return "; ".join(map(print_numbers, batch.tree(Scheme(arity, 0, FIXED)).layers))
 
 
-@case("builders")
-def builders(arity: int, batch: Batch):
+@case("builders", int, Batch)
+def builders(arity, batch):
     found = batch.tree(Scheme(arity, 0, FIXED)).layers
     return f"{len(found)} {found[-1][0]}"
 
 
-@case("commit", "sha256_commit")
-def commit(scheme: Scheme, batch: Batch):
-    return print_numbers(batch.tree(scheme).cap())
-
-
-@case("shape")
-def shape(scheme: Scheme, found: numbers):
+@case("shape", Scheme, numbers)
+def shape(scheme, found):
     refuse(height_errors(found))
     lengths = " ".join(f"{raw}/{width}" for raw, width in scheme.shape(found).lengths())
     return f"{print_numbers(scheme.shape(found).proof_steps)} | {lengths}"
 
 
-@case("schedule")
-def schedule(scheme: Scheme, found: numbers):
+@case("schedule", Scheme, numbers)
+def schedule(scheme, found):
     refuse(height_errors(found))
     return print_numbers(scheme.shape(found).proof_steps)
 
 
-@case("replay")
-def replay(scheme: Scheme, found: numbers, index: int, count: int):
+@case("replay", Scheme, numbers, int, int)
+def replay(scheme, found, index, count):
     own = scheme.shape(found)
     refuse(height_errors(found), index_errors(found, [index]), count_errors("WrongHeight", own.siblings, count))
     return f"{print_numbers(own.proof_steps)} | {print_numbers(own.positions(own.cap_layer, index))}"
 
 
-@case("authenticated")
-def authenticated(scheme: Scheme, found: numbers):
+@case("authenticated", Scheme, numbers)
+def authenticated(scheme, found):
     refuse(height_errors(found))
     own = scheme.shape(found)
     return " ".join("yes" if layer <= own.cap_layer else "no" for layer in own.layers)
 
 
-@case("pruned_len")
-def pruned_len(scheme: Scheme, found: numbers, queries: numbers):
+@case("pruned_len", Scheme, numbers, numbers)
+def pruned_len(scheme, found, queries):
     refuse(height_errors(found), index_errors(found, queries))
     return scheme.shape(found).boundary_len(queries)
 
 
-@case("open", "pruned", "salted_open", "salted_pruned", "sha256_open", "sha256_pruned")
-def opened(fields: Fields, scheme: Scheme, generator: Generator, batch: Batch):
+@case("open pruned salted_open salted_pruned sha256_open sha256_pruned", Fields, Scheme, Generator, Batch)
+def opened(fields, scheme, generator, batch):
     """The rows, salts and digests that are opened; of SHA-256 the digests alone, with salts the cap as well."""
     queries = fields.queries() if fields.is_pruned else [fields.queries()]
     tree = batch.tree(scheme, generator, queries)
@@ -255,42 +229,42 @@ def cap_over(scheme, generator, text):
     return print_numbers(Batch(text).tree(scheme, generator).cap())
 
 
-@case("salted_commits")
-def salted_commits(scheme: Scheme, generator: Generator, text: str):
+@case("salted_commits", Scheme, Generator, str)
+def salted_commits(scheme, generator, text):
     return " / ".join(answered(cap_over, scheme, generator, batch.strip()) for batch in text.split("/"))
 
 
-@case("salted_fork")
-def salted_fork(scheme: Scheme, generator: Generator, text: str):
+@case("salted_fork", Scheme, Generator, str)
+def salted_fork(scheme, generator, text):
     fork = generator.fork()
     return " / ".join(answered(cap_over, scheme, source, text) for source in (generator, fork))
 
 
-@case("leaves")
-def leaves(scheme: Scheme, found: numbers):
+@case("leaves", Scheme, numbers)
+def leaves(scheme, found):
     refuse(height_errors(found))
     return f"{max(found)} accepted"
 
 
-@case("kept")
-def kept(_: int, found: numbers):
+@case("kept", int, numbers)
+def kept(_, found):
     return f"{max(found)} | {notation.print_dimensions([(1, height) for height in found])}"
 
 
-@case("verify", "verify_pruned", "salted_verify", "salted_verify_pruned")
-def verify(scheme: Scheme, roots: numbers, sizes: dimensions, fields: Fields):
+@case("verify verify_pruned salted_verify salted_verify_pruned", Scheme, numbers, dimensions, Fields)
+def verify(scheme, roots, sizes, fields):
     return refusal(fields.claim(scheme, roots, sizes)) or "accepted"
 
 
-@case("restore")
-def restore(scheme: Scheme, sizes: dimensions, fields: Fields):
+@case("restore", Scheme, dimensions, Fields)
+def restore(scheme, sizes, fields):
     claim = fields.claim(scheme, [], sizes)
     refuse(pruned_errors(claim))
     return "; ".join(f"{query}: {print_numbers(path)}" for query, _, path in checks_of(claim)) or "-"
 
 
-@case("extract", "extract_pruned", "salted_extract", "salted_extract_pruned")
-def extracted(scheme: Scheme, roots: numbers, sizes: dimensions, fields: Fields):
+@case("extract extract_pruned salted_extract salted_extract_pruned", Scheme, numbers, dimensions, Fields)
+def extracted(scheme, roots, sizes, fields):
     error, found = extract(*(fields.claim(scheme, roots, sizes) for _ in range(2)))
     if not found:
         return error or "none"
@@ -299,8 +273,8 @@ def extracted(scheme: Scheme, roots: numbers, sizes: dimensions, fields: Fields)
     return " | ".join([*places, name, print_numbers(first), print_numbers(second)])
 
 
-@case("known")
-def known(arity: int, found: numbers, queries: numbers, known_layers: numbers, known_numbers: numbers):
+@case("known", int, numbers, numbers, numbers, numbers)
+def known(arity, found, queries, known_layers, known_numbers):
     nodes = list(zip(known_layers, known_numbers))
     lists = [nodes[:place] + nodes[place + 1 :] for place in range(len(nodes))] + [nodes]
     return " ".join("yes" if Shape(arity, found).suffices(queries, given) else "no" for given in lists)
@@ -331,8 +305,8 @@ def query_lists(text, count):
     return [list(one) for length in lengths for one in product(range(count), repeat=length)]
 
 
-@case("sweep", "salted_sweep", "sha256_sweep")
-def sweep(fields: Fields, scheme: Scheme, _: Generator, found: batches, queries: str):
+@case("sweep salted_sweep sha256_sweep", Fields, Scheme, Generator, batches, str)
+def sweep(fields, scheme, _, found, queries):
     """Lists of queries, digests of their proofs, openings that collide with a twin, and openings that do not.
 
     Where each row has two words or more, each list is compared with its twin, matrix by matrix, and so is the first
@@ -357,8 +331,8 @@ def answers(line):
     found = []
     for rule in (LOWERED, FIXED):
         fields = Fields(line, rule)
-        answer = KINDS[fields.kind]
-        found.append(answered(lambda: answer(*map(fields.read, answer.__annotations__.values()))))
+        function, readers = KINDS[fields.kind]
+        found.append(answered(function, *map(fields.read, readers)))
         if fields.names_rule:
             break
     return found, " | ".join(fields.fields)
