@@ -13,9 +13,15 @@ MOST_BYTES = 1 << 30
 # How many entries may be requested, and what is said of more.
 MOST_NUMBERS = 10**8
 TOO_MANY = f"more than {MOST_NUMBERS} entries at once"
-INPUTS = {"seal": ["FILE"], "prove": ["CHECKPOINT", "FILE"], "verify": ["CHECKPOINT", "PROOF"]}
-INPUTS |= {"prove-consistency": ["OLD", "NEW", "FILE"], "verify-consistency": ["OLD", "PROOF"]}
-COMMANDS = [*INPUTS, "join"]
+# The words of each command, of options that exclude each other one.
+COMMANDS = {
+    "seal": "--blocks=SIZE|--whole-lines|--partial --origin=ORIGIN|--part FILE",
+    "prove": "--blocks=SIZE|--whole-lines|--partial CHECKPOINT FILE NUMBER+",
+    "verify": "--blocks=SIZE|--raw CHECKPOINT PROOF NUMBER*",
+    "prove-consistency": "--blocks=SIZE|--whole-lines|--partial OLD NEW FILE",
+    "verify-consistency": "OLD PROOF",
+    "join": "--origin=ORIGIN PART+",
+}
 REASONS = {logs.TOO_FEW_DIGESTS: "it has too few digests", logs.TOO_MANY_DIGESTS: "it has too many digests"}
 REASONS |= {logs.OLD_ROOT_MISMATCH: "it does not begin with the entries of the old checkpoint"}
 REASONS |= {logs.ROOT_MISMATCH: "it does not lead to the new checkpoint"}
@@ -90,27 +96,18 @@ def ranges(words):
 
 
 def words_of(command):
-    """The words that a command takes."""
+    """Reads the words that a command takes."""
     words = Words(allow_abbrev=False, add_help=False)
-    ways = words.add_mutually_exclusive_group()
-    if command not in ("verify-consistency", "join"):
-        ways.add_argument("--blocks", type=number(1, MOST_BYTES))
-    if "FILE" in INPUTS.get(command, []):
-        ways.add_argument("--whole-lines", action="store_true")
-        ways.add_argument("--partial", action="store_true")
-    if command == "verify":
-        ways.add_argument("--raw", action="store_true")
-    if command in ("seal", "join"):
-        names = words.add_mutually_exclusive_group()
-        names.add_argument("--origin")
-    if command == "seal":
-        names.add_argument("--part", action="store_true")
-    for name in INPUTS.get(command, []):
-        words.add_argument(name)
-    if command == "join":
-        words.add_argument("PART", nargs="+")
-    if command in ("prove", "verify"):
-        words.add_argument("NUMBER", nargs="+" if command == "prove" else "*")
+    for part in COMMANDS[command].split():
+        name = part.rstrip("+*")
+        if name.isupper():
+            words.add_argument(name, nargs=part[len(name) :] or None)
+            continue
+        group = words.add_mutually_exclusive_group()
+        for option in part.split("|"):
+            flag, _, value = option.partition("=")
+            read = number(1, MOST_BYTES) if value == "SIZE" else str
+            group.add_argument(flag, **({"type": read} if value else {"action": "store_true"}))
     return words
 
 
@@ -122,8 +119,8 @@ def command_of(words):
     if command == "seal" and told.origin is None:
         name = "stdin" if told.FILE == "-" else os.path.basename(told.FILE)
         told.origin = PART.decode() if told.part else f"localhost/{name}"
-    names = getattr(told, "PART", []) + [getattr(told, name) for name in INPUTS.get(command, [])]
-    if names.count("-") > 1 or (command == "join" and told.origin is None):
+    names = [vars(told)[name] for name in COMMANDS[command].split() if name.isalpha()]
+    if [*names, *getattr(told, "PART", [])].count("-") > 1 or (command == "join" and told.origin is None):
         raise Refused(2, None, "standard input twice, or no origin")
     if command in ("seal", "join") and not log_texts.is_origin(told.origin.encode()):
         raise Refused(2, None, "no origin")
@@ -137,7 +134,7 @@ def command_of(words):
 
 
 class Inputs:
-    """The bytes of files by their names; none where one can't be read."""
+    """The bytes of files by their names, and what texts say; none where one can't be read."""
 
     def __init__(self, contents):
         self.contents = contents
@@ -150,14 +147,10 @@ class Inputs:
 
     @staticmethod
     def read(status, name, data, reading, where=""):
-        """What a text says."""
         try:
             return reading(data)
         except log_texts.Wrong as wrong:
             raise Refused(status, name, f"line {wrong.args[0]}{where}: expected ") from None
-
-    def checkpoint(self, name):
-        return self.read(2, name, self.bytes(name), log_texts.checkpoint)
 
 
 def refuse_if(condition, name, why):
@@ -201,7 +194,7 @@ def seal(told, inputs):
 
 
 def prove(told, inputs):
-    _, size, root = inputs.checkpoint(told.CHECKPOINT)
+    _, size, root = inputs.read(2, told.CHECKPOINT, inputs.bytes(told.CHECKPOINT), log_texts.checkpoint)
     refuse_if(not told.ranges and size > MOST_NUMBERS, told.CHECKPOINT, TOO_MANY)
     names = [*(told.ranges or [range(1, max(size, 1) + 1)])]
     for each in names:
