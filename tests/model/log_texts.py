@@ -47,86 +47,95 @@ def digest(line):
     return found if found is not None and len(found) == 32 else None
 
 
-def is_signature(line):
+def signature(line):
     words = line.split(b" ")
     if len(words) != 3 or words[0] != DASH or not words[1] or not is_text(words[1]) or b"+" in words[1]:
-        return False
-    found = unb64(words[2])
-    return found is not None and len(found) >= 5
+        return None
+    return line if len(unb64(words[2]) or b"") >= 5 else None
+
+
+def one(line):
+    """A reader of this line alone."""
+    return lambda found: line if found == line else None
+
+
+def counted(word):
+    """A reader of a word and a number."""
+    return lambda line: number(line[len(word) :]) if line.startswith(word) else None
+
+
+class Lines:
+    """The lines of a text, read one after another. A reader answers nothing where a line is wrong."""
+
+    def __init__(self, text):
+        self.at, self.text, self.start = 1, text, 0
+
+    def read(self, reader):
+        end = self.text.find(b"\n", self.start)
+        found = reader(self.text[self.start : end]) if end >= 0 else None
+        if found is None:
+            raise Wrong(self.at)
+        self.at, self.start = self.at + 1, end + 1
+        return found
+
+    def bytes(self, length):
+        """So many bytes, and the line feed after them."""
+        data, end = self.text[self.start : self.start + length], self.start + length
+        if self.text[end : end + 1] != b"\n":
+            raise Wrong(self.at)
+        self.at, self.start = self.at + data.count(b"\n") + 1, end + 1
+        return data
+
+    def end(self):
+        if self.start < len(self.text):
+            raise Wrong(self.at)
 
 
 def checkpoint(text, is_part=False):
     """The origin, the size and the root of a checkpoint, or of a part."""
     if len(text) > MOST_BYTES:
         raise Wrong(1)
-    *lines, last = text.split(b"\n")
-    state, signatures = "origin", 0
-    for at, line in enumerate(lines, 1):
-        if state == "origin":
-            is_good, after = (line == PART) if is_part else (is_origin(line) and line != PART), "size"
-        elif state == "size":
-            is_good, after = number(line) is not None, "root"
-        elif state == "root":
-            is_good, after = digest(line) is not None, "more"
-        elif state == "more":
-            is_good, after = is_text(line), "more" if line else "signatures"
-        else:
-            signatures += 1
-            is_good, after = signatures <= 100 and is_signature(line), state
-        if not is_good:
-            raise Wrong(at)
-        state = after
-    if last or state in ("origin", "size", "root") or (state == "signatures" and signatures == 0):
-        raise Wrong(len(lines) + 1)
-    return lines[0], int(lines[1]), digest(lines[2])
+    lines = Lines(text)
+    origin = lines.read(one(PART) if is_part else lambda line: line if is_origin(line) and line != PART else None)
+    size, root = lines.read(number), lines.read(digest)
+    line = None
+    while line != b"" and lines.start < len(text):
+        line = lines.read(lambda line: line if is_text(line) else None)
+    # A blank line ends the extension, and one to a hundred signatures follow.
+    for count in range(100 if line == b"" else 0):
+        if count == 0 or lines.start < len(text):
+            lines.read(signature)
+    lines.end()
+    return origin, size, root
 
 
 def entries(text):
     """The entries of a proof, each with its number, and its digests."""
-    at, rest = 1, text
-
-    def line(shown):
-        nonlocal at, rest
-        found = shown(rest.partition(b"\n")[0]) if b"\n" in rest else None
-        if found is None:
-            raise Wrong(at)
-        at, rest = at + 1, rest.partition(b"\n")[2]
-        return found
-
-    def counted(word):
-        return lambda line: number(line[len(word) :]) if line.startswith(word) else None
 
     def head(line):
         words = line.split(b" ")
         found = [number(word) for word in words[1:]]
         return found if len(words) == 3 and words[0] == b"entry" and found[0] and found[1] is not None else None
 
-    line(lambda line: True if line == b"fohlazu proof 1" else None)
-    found = []
-    for _ in range(line(counted(b"entries "))):
-        name, length = line(head)
-        if rest[length : length + 1] != b"\n":
-            raise Wrong(at)
-        found.append((name, rest[:length]))
-        at, rest = at + rest[:length].count(b"\n") + 1, rest[length + 1 :]
-    digests = [line(digest) for _ in range(line(counted(b"digests ")))]
-    if rest:
-        raise Wrong(at)
+    lines, found = Lines(text), []
+    lines.read(one(b"fohlazu proof 1"))
+    for _ in range(lines.read(counted(b"entries "))):
+        name, length = lines.read(head)
+        found.append((name, lines.bytes(length)))
+    digests = [lines.read(digest) for _ in range(lines.read(counted(b"digests ")))]
+    lines.end()
     return found, digests
 
 
 def consistency(text):
     """The old size, the digests and the new checkpoint, as it stands, of a proof."""
-    *lines, last = text.split(b"\n")
-    for at, line in enumerate(lines, 1):
-        if at == 1:
-            if not line.startswith(b"old ") or number(line[4:]) is None:
-                raise Wrong(1)
-        elif line == b"":
-            return int(lines[0][4:]), [digest(line) for line in lines[1 : at - 1]], b"\n".join([*lines[at:], last])
-        elif at > 64 or digest(line) is None:
-            raise Wrong(at)
-    raise Wrong(len(lines) + 1)
+    lines = Lines(text)
+    old, digests = lines.read(counted(b"old ")), []
+    while True:
+        found = lines.read(lambda line: line if line == b"" else digest(line) if len(digests) < 63 else None)
+        if found == b"":
+            return old, digests, text[lines.start :]
+        digests.append(found)
 
 
 def checkpoint_text(origin, size, root):
