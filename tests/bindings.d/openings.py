@@ -1,5 +1,5 @@
-"""Random openings of matrices of bytes under SHA-256, whole and damaged, as words of examples/c/opening.c, each with the
-status that the model gives."""
+"""Random openings of matrices of bytes under SHA-256, whole and damaged, as words of examples/c/opening.c, each with
+the status that the model gives."""
 
 import random
 

@@ -1,4 +1,4 @@
-"""Models the answers to cases of crates/merkle_cases: a line of fields with | between them, the first of which is the kind.
+"""Models the answers to cases of crates/merkle_cases: a line of fields with | between them, first the kind.
 
 A kind is a function, with a reader for each of its arguments, which reads a field or more of them."""
 
@@ -60,8 +60,8 @@ class Fields:
 
 
 class Batch:
-    """Matrices, or dimensions of such, whose words are the numbers of their rows, or of SHA-256 the bytes 0, 1, 2 and so
-    on modulo 251."""
+    """Matrices, or dimensions of such: their words are the numbers of their rows, or of SHA-256 the bytes 0, 1, 2 and
+    so on modulo 251."""
 
     def __init__(self, text, is_sha256=False):
         self.is_sha256, self.given = is_sha256, None if text == "none" or "x" in text else matrices(text)

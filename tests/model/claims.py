@@ -10,8 +10,8 @@ from nodes import Scheme, joined
 TEXTS = {
     "EmptyBatch": "empty batch: attempted to open an empty batch with no committed matrices",
     "TooLarge": "matrix {}: size {} is too large",
-    "IncompatibleHeights": "matrix height {0} incompatible with tallest height {1}; expected ceil_div({1}, 2^{3}) = {2} "
-                           "so every global index maps to a row at depth {3}",
+    "IncompatibleHeights": "matrix height {0} incompatible with tallest height {1}; expected ceil_div({1}, 2^{3}) = "
+                           "{2} so every global index maps to a row at depth {3}",
     "WrongBatchSize": "batch size mismatch: expected {} entries, got {}",
     "WrongWidth": "wrong width: matrix {} expected {} values, got {}",
     "WrongHeight": "wrong height: expected {} siblings, got {}",
@@ -42,8 +42,8 @@ def copied(value):
 
 @dataclass
 class Claim:
-    """What a verifier is handed: an index, rows and siblings; or of several leaves a list of indices, row sets and digests.
-    Salts stand beside rows where there are any."""
+    """What a verifier is handed: an index, rows and siblings; or of several leaves a list of indices, row sets and
+    digests. Salts stand beside rows where there are any."""
 
     scheme: Scheme
     roots: list
@@ -270,8 +270,8 @@ def collision(shape, functions, first, second):
 
 
 def extract(first, second):
-    """A refusal and nothing; or no refusal, and the collision that two openings of one cap lead to, if any: the places of
-    the first two queries that have one, its name and its inputs."""
+    """A refusal and nothing; or no refusal, and the collision that two openings of one cap lead to, if any: the places
+    of the first two queries that have one, its name and its inputs."""
     error = refusal(first) or refusal(second)
     if error:
         return error, None

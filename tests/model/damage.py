@@ -94,7 +94,7 @@ WHOLE = [no_heights, no_roots, no_queries, repeat_query, repeat_query]
 
 
 def variables(claim):
-    """Each number that is opened, as the places where it stands: those of a row in all sets that open it, or a digest's."""
+    """Each number that is opened, as the places where it stands: those of a row in all sets that open it."""
     found, parts = defaultdict(list), [claim.sets(part) for part in (claim.rows, claim.salts) if part is not None]
     for query, *opened in zip(claim.queries, *parts):
         for part, rows in enumerate(opened):

@@ -1,4 +1,4 @@
-"""Models the shape of a tree: exponents, steps, lengths, ancestors, the layer of the cap, and the nodes of a pruned proof."""
+"""Models the shape of a tree: exponents, steps, lengths, ancestors, the layer of the cap, nodes of a pruned proof."""
 
 from functools import lru_cache
 from itertools import accumulate
@@ -30,8 +30,8 @@ def padded_len(length, arity):
 
 
 def step_from(exponents, arity, start):
-    """The step from an exponent above 0, and the next exponent. A matrix between both ends of a whole step makes a bridge
-    step of 2."""
+    """The step from an exponent above 0, and the next exponent. A matrix between both ends of a whole step makes a
+    bridge step of 2."""
     target = max(0, start - (arity.bit_length() - 1))
     if any(target < other < start for other in exponents):
         return 2, start - 1
@@ -39,8 +39,8 @@ def step_from(exponents, arity, start):
 
 
 class Shape:
-    """The layers of a tree over matrices of some heights, and which of them is the cap. All of it is defined for unlawful
-    heights, too."""
+    """The layers of a tree over matrices of some heights, and which of them is the cap. All of it is defined for
+    unlawful heights, too."""
 
     def __init__(self, arity, heights, cap_height=0, rule=FIXED):
         self.arity, self.heights = arity, heights
@@ -93,8 +93,8 @@ class Shape:
         return {self.ancestor(layer, query) for query in queries}
 
     def boundary(self, queries):
-        """The uncovered children of covered nodes below the cap, by layer and then by number. Those of one query are the
-        siblings on its path."""
+        """The uncovered children of covered nodes below the cap, by layer and then by number. Those of one query are
+        the siblings on its path."""
         found = []
         for level in range(self.cap_layer):
             own = self.covered(queries, level)

@@ -64,7 +64,8 @@ def file_tests(program, what, entries, numbers):
         prove = ["prove", "checkpoint", "file", *words]
         contents["proof"] = printed(prove, contents)
         yield compared(program, f"prove {name}, {what}", prove, contents, held, True)
-        yield compared(program, f"verify {name}, {what}", ["verify", "checkpoint", "proof", *words], contents, held, True)
+        verify = ["verify", "checkpoint", "proof", *words]
+        yield compared(program, f"verify {name}, {what}", verify, contents, held, True)
 
 
 def long_tests(program, part):

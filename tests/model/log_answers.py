@@ -1,5 +1,5 @@
-"""Models the answers to questions about logs: crates/log_text_answers asks what texts say, crates/log_files_answers what
-files have. Both stand in a file of questions and one of answers, line by line."""
+"""Models the answers to questions about logs: what texts say (crates/log_text_answers) and what files have
+(crates/log_files_answers). They stand in a file of questions and one of answers, line by line."""
 
 from hashlib import sha256
 from urllib.parse import unquote_to_bytes

@@ -1,4 +1,4 @@
-"""Models random users of `fohlazu`: files, sealed, proved, grown and joined by its commands, and all of this damaged."""
+"""Models random users of `fohlazu`: files are sealed, proved, grown and joined, and all of this is damaged."""
 
 from pathlib import Path
 from typing import NamedTuple
@@ -109,8 +109,8 @@ def spelled(source, numbers):
             parts.append((number, number))
     words = ""
     for first, last in parts:
-        word = f"{first}-{last}" if first < last else source.choice([f"{first}", f"{first}", f"{first}-{first}", f"0{first}"])
-        words += source.choice([" ", ","]) + word if words else word
+        forms = [f"{first}", f"{first}", f"{first}-{first}", f"0{first}"] if first == last else [f"{first}-{last}"]
+        words += source.choice([" ", ","]) * bool(words) + source.choice(forms)
     return words.split(" ")
 
 

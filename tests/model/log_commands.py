@@ -159,8 +159,8 @@ def refuse_if(condition, name, why):
 
 
 def cut_entries(cut, data):
-    """The entries of a file, in blocks of a size or as lines without their line feed, and whether it ends inside a line that
-    is refused. A partial line may be an entry, or be left out."""
+    """The entries of a file, in blocks of a size or as lines without their line feed, and whether it ends inside a line
+    that is refused. A partial line may be an entry, or be left out."""
     if cut.isdigit():
         size = int(cut)
         return [data[at : at + size] for at in range(0, len(data), size)], False

@@ -1,4 +1,4 @@
-"""Models odd surroundings of `fohlazu`: files that can't be read or written, or that change, and arguments of all kinds."""
+"""Models odd surroundings of `fohlazu`: files that can't be read or written, or that change, and odd arguments."""
 
 import os
 import random
@@ -73,7 +73,8 @@ def unwritten(program):
 def arguments(program):
     """Arguments that aren't UTF-8, that ask for help or the version, and that are no command."""
     for command, words in COMMANDS.items():
-        yield f"{command}, a word that isn't UTF-8", faults(program.run([*words[:-1], b"\xff\xfe"], CONTENTS), 2, line=None)
+        ran = program.run([*words[:-1], b"\xff\xfe"], CONTENTS)
+        yield f"{command}, a word that isn't UTF-8", faults(ran, 2, line=None)
         yield f"{command} --help", helped(program.run([words[0], "--help"]), words[0].encode())
     yield "--help", helped(program.run(["--help"]), b"verify-consistency")
     yield "--version", helped(program.run(["--version"]), b"fohlazu ")
@@ -156,7 +157,8 @@ def changing(program):
         program.written.pop("file", None)
         is_refused = child.returncode in (1, 2) and not got and is_line(said)
         is_right = is_refused or (child.returncode, got) == (0, proof)
-        yield f"{change.__name__} a file while it is read", [] if is_right else [f"{child.returncode}, {got[:200]}, {said}"]
+        wrong = [] if is_right else [f"{child.returncode}, {got[:200]}, {said}"]
+        yield f"{change.__name__} a file while it is read", wrong
 
 
 def shrinking(program):

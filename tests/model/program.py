@@ -76,8 +76,8 @@ def printed(scheme, action, indices, matrices):
 
 
 def answered(words, data, is_unread=False, calls=None):
-    """What is printed before a fault, if any, and the fault. An unread input fails at its end. An output that takes so many
-    calls has a byte at each, and fails after them: a flush is the last."""
+    """What is printed before a fault, if any, and the fault. An unread input fails at its end. An output that takes so
+    many calls has a byte at each, and fails after them: a flush is the last."""
     try:
         scheme, greatest, action, indices = command_of(words)
         if is_unread:

@@ -1,5 +1,6 @@
 """Models the answers to cases of crates/rust_answers/data: a line of numbers, as the head of cases.txt says."""
 
+from functools import partial
 from itertools import accumulate, repeat
 
 from cases import Refused, refuse
@@ -39,8 +40,9 @@ class Line:
         self.numbers, self.words, self.is_bytes = list(map(int, numbers)), int(words), functions == "sha"
         is_salted = call[0] == "s" and call != "schedule"
         self.call = call[is_salted:]
-        self.scheme = Scheme(int(arity), int(cap_height), {"x": FIXED}.get(rule, rule), self.number() if is_salted else 0,
-                             Sha256 if self.is_bytes else lambda arity: WideFold(arity, self.words))
+        functions = Sha256 if self.is_bytes else partial(WideFold, words=self.words)
+        salts = self.number() if is_salted else 0
+        self.scheme = Scheme(int(arity), int(cap_height), {"x": FIXED}.get(rule, rule), salts, functions)
 
     def number(self):
         return self.numbers.pop(0)
@@ -115,6 +117,10 @@ def commit(line):
     return line.tree()[1].cap()
 
 
+def layers(line):
+    return line.tree()[1].layers
+
+
 def opened(line):
     queries, tree = line.tree()
     parts = line.scheme.opened(tree, queries)
@@ -141,12 +147,13 @@ def schedule(line):
 def replay(line):
     heights, index, siblings = line.heights(), line.number(), line.number()
     shape = line.scheme.shape(heights)
-    refuse(height_errors(heights), index_errors(heights, [index]), count_errors("WrongHeight", shape.siblings, siblings))
+    refuse(height_errors(heights), index_errors(heights, [index]))
+    refuse(count_errors("WrongHeight", shape.siblings, siblings))
     return shape.proof_steps, shape.positions(shape.cap_layer, index)
 
 
-CALLS = {"commit": commit, "large": commit, "layers": lambda line: line.tree()[1].layers, "open": opened, "prune": opened,
-         "verify": verify, "vprune": verify, "restore": restore, "schedule": schedule, "replay": replay}
+CALLS = {"commit": commit, "large": commit, "layers": layers, "open": opened, "prune": opened, "verify": verify,
+         "vprune": verify, "restore": restore, "schedule": schedule, "replay": replay}
 
 
 def answer(case):

@@ -77,8 +77,8 @@ def is_line(said):
 
 
 def faults(ran, status, printed=b"", line=""):
-    """What is wrong about a run, in lines. A line of standard error that ends in a space is the beginning of one; none at
-    all stands for any text."""
+    """What is wrong about a run, in lines. A line of standard error that ends in a space is the beginning of one; none
+    at all stands for any text."""
     if ran.status != status:
         yield f"status {ran.status}, expected {status}"
     if ran.printed != printed:
