@@ -6,11 +6,11 @@ from itertools import chain, product
 
 import geometry
 import notation
+from claims import Claim, checks_of, count_errors, extract, height_errors, index_errors, pruned_errors, refusal
+from claims import row_errors, width_errors
 from geometry import FIXED, LOWERED, Shape
 from nodes import Fold, Scheme, Sha256
 from notation import dimensions, matrices, numbers, print_numbers, print_row_sets, rows
-from claims import Claim, checks_of, count_errors, extract, height_errors, index_errors, pruned_errors, refusal
-from claims import row_errors, width_errors
 from salts import Generator, generator_of
 
 # There is no memory for a tree of so many rows.

@@ -2,9 +2,9 @@
 
 from collections import defaultdict
 
+from claims import copied, values_of
 from geometry import MAX_HEIGHT, MAX_NUMBER
 from nodes import WORD
-from claims import copied, values_of
 
 HEIGHTS = [0, 1, 2, 3, 4, 5, 6, 7, MAX_HEIGHT, MAX_HEIGHT + 1, 2 * MAX_HEIGHT, MAX_NUMBER]
 PARTS = ["roots", "dimensions", "dimensions", "index", "rows", "rows", "salts", "siblings"]

@@ -5,9 +5,9 @@ import random
 import log_cases
 import log_commands
 import logs
+from claims import Error
 from log_cases import printed
 from log_texts import checkpoint_text
-from claims import Error
 from running import faults
 
 MIB = 1 << 20

@@ -4,9 +4,9 @@ written."""
 import re
 from itertools import chain
 
+from claims import height_errors, index_errors
 from geometry import FIXED, LOWERED, MAX_NUMBER
 from nodes import WORD, Fold, Scheme, Sha256
-from claims import height_errors, index_errors
 
 USAGE = "usage: mmcs fold|sha256 2|4|8 CAP[f] commit|open I..|check I.."
 # The functions of a hash, and the greatest number of a row.

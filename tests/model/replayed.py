@@ -4,9 +4,9 @@ from functools import partial
 from itertools import accumulate, repeat
 
 from cases import Refused, refuse
+from claims import Claim, checks_of, claim_errors, count_errors, height_errors, index_errors, pruned_errors
 from geometry import FIXED
 from nodes import WORD, Fold, Scheme, Sha256
-from claims import Claim, checks_of, claim_errors, count_errors, height_errors, index_errors, pruned_errors
 from salts import Counting
 
 

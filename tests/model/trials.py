@@ -1,14 +1,12 @@
 """Models random users of the library: a batch of matrices, and cases of every kind about it."""
 
-import re
-
 import cases
 import notation
+from claims import Claim, refusal
 from damage import damaged
 from geometry import FIXED, LOWERED, MAX_NUMBER, expected_height, exponent
 from nodes import Fold, Scheme
 from notation import print_dimensions, print_numbers
-from claims import Claim
 from salts import generator_of
 
 
@@ -152,13 +150,6 @@ def opens_other(trial, honest, other):
     return any(place in theirs and theirs[place] != row for place, row in ours.items())
 
 
-def count_refused(answer):
-    """What a refusal counts as: what its text begins with, up to the first number."""
-    if answer.startswith("matrix"):
-        return "a height off the ladder" if "incompatible" in answer else "a size past the limit"
-    return re.split("[0-9:]", answer.removeprefix("malformed pruned proof: "), maxsplit=1)[0].strip()
-
-
 def count_accepted(trial, honest, other):
     """What a damaged opening that is accepted counts as; a collision is asked for, and looked at."""
     if opening_of(other) == opening_of(honest):
@@ -179,11 +170,9 @@ def add_damaged(trial, honest):
     other = damaged(trial.random, honest)
     if not is_written(other):
         return
-    line = line_of(other)
-    answer = cases.answers(line)[0][0]
-    accepted = answer == "accepted"
-    counted = count_accepted(trial, honest, other) if accepted else f"refused: {count_refused(answer)}"
-    trial.add(line, f"damaged, {counted}")
+    error = refusal(other)
+    counted = f"refused: {error.name}" if error else count_accepted(trial, honest, other)
+    trial.add(line_of(other), f"damaged, {counted}")
     add_restored(trial, other, "of the damaged")
     if trial.random.random() < 0.2 and other.dimensions == honest.dimensions:
         pair = trial.random.sample([honest, other], 2)
