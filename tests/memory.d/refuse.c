@@ -2,8 +2,8 @@
  *
  * Where the environment has REFUSE_ONCE=n, the nth request from the program's start on is refused, and where it has
  * REFUSE_FROM=n, so are all after it. Where it has REFUSE_REPORT=fd, a line is written to that file descriptor at the
- * end: how many requests there were, how many were refused, and how many bytes were asked for at a time, with those that
- * were held. */
+ * end: how many requests there were, how many were refused, and how many bytes were asked for at a time, with those
+ * that were held. */
 
 #include <errno.h>
 #include <stdint.h>

@@ -4,6 +4,7 @@ import os
 import random
 import signal
 import subprocess
+from pathlib import Path
 
 import log_commands
 from log_cases import printed
@@ -20,12 +21,7 @@ COMMANDS = {words.split()[0]: words.split() for words in (
     "seal --origin odd file", "prove new file 2 4", "verify new proof 2 4", "prove-consistency old new file",
     "verify-consistency old growth", "join --origin odd part0 part1")}
 # Arguments that are no command, or leave open what is wanted; the model refuses them as well.
-WRONG = """
-;bogus;seal;seal file file;seal --arity 2 file;seal --blocks 0 file;seal --blocks x file;seal --part --origin a file
-seal --partial --whole-lines file;seal --blocks 1 --partial file;prove new file;prove new file 0;prove new file -1
-prove new file 18446744073709551616;verify - -;verify --raw new proof;verify --raw new proof 2 4
-verify --blocks 3 new proof;verify --raw --blocks 3 new proof 2;verify-consistency old;join part0 part1;join --origin a
-"""
+WRONG = (Path(__file__).parent / "no-commands.txt").read_text().splitlines()
 UNWRITTEN = "the output cannot be written"
 # Bytes of a file that changes while it is read, and of one of which no more than its beginning is to be read.
 CHANGING, LONG = 300_000, 100_000_000
@@ -78,7 +74,7 @@ def arguments(program):
         yield f"{command} --help", helped(program.run([words[0], "--help"]), words[0].encode())
     yield "--help", helped(program.run(["--help"]), b"verify-consistency")
     yield "--version", helped(program.run(["--version"]), b"fohlazu ")
-    for words in WRONG.strip().replace("\n", ";").split(";"):
+    for words in WRONG:
         answer = log_commands.answer(words.split(), CONTENTS.get)
         is_wrong = [] if answer.expected() == (2, b"", None) else [f"the model answers {answer}"]
         yield f"fohlazu {words}", [*is_wrong, *faults(program.run(words.split(), CONTENTS), 2, line=None)]
