@@ -75,8 +75,7 @@ class Batch:
 
     def tree(self, scheme, generator=None, queries=()):
         """The tree over them, out of which these leaves are to be opened."""
-        wide = width_errors([width for width, _ in self.sizes], scheme.salts)
-        refuse(height_errors(self.heights), wide, index_errors(self.heights, queries))
+        refuse(height_errors(self.heights), width_errors(self.sizes, scheme.salts), index_errors(self.heights, queries))
         return scheme.tree(self.matrices(), generator)
 
 
@@ -91,6 +90,12 @@ def byte_rows(width, height):
 def refuse(*errors):
     for error in chain(*errors):
         raise Refused(error)
+
+
+def lawful(scheme, heights, queries=()):
+    """The shape of a tree of these heights, of which these leaves are asked for."""
+    refuse(height_errors(heights), index_errors(heights, queries))
+    return scheme.shape(heights)
 
 
 def answered(call, *arguments):
@@ -183,36 +188,33 @@ def builders(arity, batch):
 
 
 @case("shape", Scheme, numbers)
-def shape(scheme, found):
-    refuse(height_errors(found))
-    lengths = " ".join(f"{raw}/{width}" for raw, width in scheme.shape(found).lengths())
-    return f"{print_numbers(scheme.shape(found).proof_steps)} | {lengths}"
+def shape(scheme, heights):
+    own = lawful(scheme, heights)
+    lengths = " ".join(f"{raw}/{width}" for raw, width in own.lengths())
+    return f"{print_numbers(own.proof_steps)} | {lengths}"
 
 
 @case("schedule", Scheme, numbers)
-def schedule(scheme, found):
-    refuse(height_errors(found))
-    return print_numbers(scheme.shape(found).proof_steps)
+def schedule(scheme, heights):
+    return print_numbers(lawful(scheme, heights).proof_steps)
 
 
 @case("replay", Scheme, numbers, int, int)
-def replay(scheme, found, index, count):
-    own = scheme.shape(found)
-    refuse(height_errors(found), index_errors(found, [index]), count_errors("WrongHeight", own.siblings, count))
+def replay(scheme, heights, index, count):
+    own = lawful(scheme, heights, [index])
+    refuse(count_errors("WrongHeight", own.siblings, count))
     return f"{print_numbers(own.proof_steps)} | {print_numbers(own.positions(own.cap_layer, index))}"
 
 
 @case("authenticated", Scheme, numbers)
-def authenticated(scheme, found):
-    refuse(height_errors(found))
-    own = scheme.shape(found)
+def authenticated(scheme, heights):
+    own = lawful(scheme, heights)
     return " ".join("yes" if layer <= own.cap_layer else "no" for layer in own.layers)
 
 
 @case("pruned_len", Scheme, numbers, numbers)
-def pruned_len(scheme, found, queries):
-    refuse(height_errors(found), index_errors(found, queries))
-    return scheme.shape(found).boundary_len(queries)
+def pruned_len(scheme, heights, queries):
+    return lawful(scheme, heights, queries).boundary_len(queries)
 
 
 @case("open pruned salted_open salted_pruned sha256_open sha256_pruned", Fields, Scheme, Generator, Batch)
@@ -241,9 +243,8 @@ def salted_fork(scheme, generator, text):
 
 
 @case("leaves", Scheme, numbers)
-def leaves(scheme, found):
-    refuse(height_errors(found))
-    return f"{max(found)} accepted"
+def leaves(scheme, heights):
+    return f"{lawful(scheme, heights).tallest} accepted"
 
 
 @case("kept", int, numbers)

@@ -127,9 +127,9 @@ def row_errors(dimensions, rows):
             yield Error("WrongWidth", (matrix, width, len(row)))
 
 
-def width_errors(widths, salts):
+def width_errors(dimensions, salts):
     """Matrices that are too wide with their salts."""
-    for matrix, width in enumerate(widths):
+    for matrix, (width, _) in enumerate(dimensions):
         if width + salts > MAX_NUMBER:
             yield Error("TooLarge", (matrix, width))
 
@@ -141,7 +141,7 @@ def salt_errors(claim):
     for rows, own in zip(sets, salts):
         yield from row_errors(claim.dimensions, rows)
         yield from count_errors("WrongBatchSize", len(rows), len(own))
-    yield from width_errors([width for width, _ in claim.dimensions], claim.scheme.salts)
+    yield from width_errors(claim.dimensions, claim.scheme.salts)
 
 
 def leaf_errors(claim):

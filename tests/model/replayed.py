@@ -3,8 +3,8 @@
 from functools import partial
 from itertools import accumulate, repeat
 
-from cases import Refused, refuse
-from claims import Claim, checks_of, claim_errors, count_errors, height_errors, index_errors, pruned_errors
+from cases import Refused, lawful, refuse
+from claims import Claim, checks_of, claim_errors, count_errors, pruned_errors
 from geometry import FIXED
 from nodes import WORD, Fold, Scheme, Sha256
 from salts import Counting
@@ -92,8 +92,7 @@ class Line:
         generator = Counting(self.number(), self.number(), mask) if self.scheme.salts else None
         queries = {"open": lambda: [self.number()], "prune": self.row}.get(self.call, list)()
         matrices = self.drawn_matrices() if self.call == "large" else self.list(self.matrix)
-        heights = list(map(len, matrices))
-        refuse(height_errors(heights), index_errors(heights, queries))
+        lawful(self.scheme, list(map(len, matrices)), queries)
         return queries, self.scheme.tree(matrices, generator)
 
     def claim(self):
@@ -139,15 +138,12 @@ def restore(line):
 
 
 def schedule(line):
-    heights = line.heights()
-    refuse(height_errors(heights))
-    return line.scheme.shape(heights).proof_steps
+    return lawful(line.scheme, line.heights()).proof_steps
 
 
 def replay(line):
     heights, index, siblings = line.heights(), line.number(), line.number()
-    shape = line.scheme.shape(heights)
-    refuse(height_errors(heights), index_errors(heights, [index]))
+    shape = lawful(line.scheme, heights, [index])
     refuse(count_errors("WrongHeight", shape.siblings, siblings))
     return shape.proof_steps, shape.positions(shape.cap_layer, index)
 
