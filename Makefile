@@ -100,7 +100,6 @@ toolchain:
 documents:
 	@python3 tests/audit
 	@python3 tests/strength --check
-	@python3 tests/claims
 	@bash tests/documents
 
 check-quick: toolchain documents quick

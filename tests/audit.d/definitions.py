@@ -1,115 +1,130 @@
-"""The modules of definitions, crates/CRATE/specs/**.antt: their words, and what each word cites."""
+"""The modules of definitions, crates/CRATE/specs/**.antt, and which of their words some contracts need."""
 
 import re
+from dataclasses import dataclass
 
 NAME = r"[A-Za-z_][A-Za-z0-9_'-]*"
 PATH = re.compile(r"Rattle(?:\.[A-Za-z_][A-Za-z0-9_]*)+")
 KEYWORD = r"(?:abbrev|unfoldable|pub|record|data) +"
-DECLARATION = re.compile(rf"((?:{KEYWORD})+)?(?!{KEYWORD})({NAME})(?: |$)")
+DECLARATION = re.compile(rf"((?:{KEYWORD})*)(?!{KEYWORD})({NAME})(?: |$)")
 SIGNS = re.compile(rf"{KEYWORD}|[^\x00-\x7f]")  # how a word begins that is written in signs
+USE = re.compile(rf"(?:pub )?use ([\w.]+?)(?:\.\{{(.*)\}})?(?: as ({NAME}))?")
 CITED = re.compile(rf"(?<![.\w'-])({NAME})")
-FIELD = re.compile(rf"(?:pub +({NAME}) +:|[{{;] *({NAME}) +=)")
+FIELD = re.compile(rf"(?:pub +{NAME} +:|[{{;] *{NAME} +=)")
 
 
-class Unread(Exception):
-    """A place that the readers have no rule for."""
-
-
+@dataclass
 class Word:
-    """A word: its first and its last line, with its comment, the names in them, and the lines of the head of its block,
-    if it stands in one."""
+    """A word with its comment: its first and last line, the first and last of the head of its block, what it cites."""
 
-    def __init__(self, name, start, head, names):
-        self.name, self.start, self.end, self.head, self.names = name, start, start, head, set(names)
+    name: str
+    start: int
+    end: int
+    head: tuple | None
+    cited: list
 
 
 class Module:
     """A module: what its names stand for, and its words."""
 
-    def __init__(self, name, path, text):
-        self.name, self.path, self.lines = name, path, text.splitlines()
+    def __init__(self, path, text):
+        self.name, self.path, self.lines = ".".join(["Rattle", *path.with_suffix("").parts[1:]]), path, text.splitlines()
         self.uses = {}  # a name -> the module and the word for which it stands; no word for a module as a whole
-        self.used = []  # the line and the module of each use
+        self.used = []  # the modules that it uses
         self.words = {}  # a name -> its Word
-        self.words_of_variants = {}  # a constructor -> the name of its word
-        self.proofs = []  # the words that are declared as no definition
-        self._is_data = False
-        self._word, self._comment = None, None
-        self._base, self._head, self._parameters, self._in_head = 0, None, [], False
+        self.variants = {}  # a constructor -> the name of its word
+        self.proofs = []  # the words that are no definitions
+        word = comment = head = None
+        is_head, is_data, base, parameters = False, False, 0, []
         for number, line in enumerate(self.lines, 1):
-            self._read(number, line)
+            code = line.strip()
+            depth = len(line) - len(line.lstrip())
+            if not code or code.startswith("-- ----"):
+                comment = None
+            elif code.startswith("--"):
+                comment = comment or number
+            elif is_head or code.startswith("module _"):
+                head = (head[0] if is_head else number, number)
+                parameters = (parameters if is_head else []) + names_in(code)
+                is_head, base = not code.endswith(" where"), 2
+            elif use := USE.fullmatch(code):
+                self.used.append(use[1])
+                self.uses.update(names_of_use(*use.groups()))
+            elif not code.startswith("pub mod "):
+                if depth == 0:
+                    base, head, parameters = 0, None, []
+                declared = DECLARATION.match(code) if depth == base else None
+                if not declared and (word is None or depth == base and SIGNS.match(code)):
+                    raise ValueError(f"{path}:{number}: no rule says what this is")
+                if declared and not (word and declared[2] == word.name):
+                    word = self.words[declared[2]] = Word(declared[2], comment or number, number, head, [*parameters])
+                    is_data = "data " in declared[1]
+                    if declared[1].strip() in ("", "pub"):
+                        self.proofs.append((number, word.name))
+                elif is_data and depth == base + 2 and (variant := re.match(rf"({NAME}) :", code)):
+                    self.variants[variant[1]] = word.name
+                word.end = number
+                word.cited += names_in(code)
+                comment = None
 
     def meaning(self, name):
         """The module and the word for which a name stands here, if it is no bound name."""
-        if name in self.words:
-            return self.name, name
-        if name in self.words_of_variants:
-            return self.name, self.words_of_variants[name]
-        return self.uses.get(name)
-
-    def _read(self, number, line):
-        code = line.strip()
-        depth = len(line) - len(line.lstrip())
-        if code == "":
-            self._comment = None
-        elif code.startswith("--"):
-            self._comment = None if code.startswith("-- ----") else self._comment or number
-        elif self._in_head or code.startswith("module _"):
-            self._read_head(number, code)
-        elif re.match(r"(pub )?use ", code):
-            self._use(number, code)
-        elif not code.startswith("pub mod "):
-            self._base = min(self._base, depth)
-            if depth == 0:
-                self._head, self._parameters = None, []
-            self._read_code(number, code, depth)
-
-    def _read_head(self, number, code):
-        """The head of a block of words with common parameters."""
-        if not self._in_head:
-            self._head, self._parameters = (number, number), []
-        self._head = (self._head[0], number)
-        self._parameters = self._parameters + names_in(code)
-        self._in_head = not code.endswith(" where")
-        self._base = 2
-
-    def _use(self, number, code):
-        target, many, alias = re.fullmatch(
-            rf"(?:pub )?use ([\w.]+?)(?:\.\{{(.*)\}})?(?: as ({NAME}))?", code
-        ).groups()
-        self.used.append((number, target))
-        if many is None:
-            self.uses[alias or target.split(".")[-1]] = (target, None)
-        else:
-            self.uses.update(words_of_use(target, many))
-
-    def _read_code(self, number, code, depth):
-        declared = DECLARATION.match(code) if depth == self._base else None
-        if depth == self._base and not declared and SIGNS.match(code):
-            raise Unread(f"{self.path}:{number}")
-        if declared and (self._word is None or declared[2] != self._word.name):
-            self._word = Word(declared[2], self._comment or number, self._head, self._parameters)
-            self.words[declared[2]] = self._word
-            if declared[1] is None or declared[1].strip() == "pub":
-                self.proofs.append((number, declared[2]))
-            self._is_data = "data " in (declared[1] or "")
-        elif self._word is None:
-            raise Unread(f"{self.path}:{number}")
-        elif self._is_data and depth == self._base + 2 and (variant := re.match(rf"({NAME}) :", code)):
-            self.words_of_variants[variant[1]] = self._word.name
-        self._word.end = number
-        self._word.names.update(names_in(code))
-        self._comment = None
+        name = self.variants.get(name, name)
+        return (self.name, name) if name in self.words else self.uses.get(name)
 
 
-def words_of_use(target, many):
-    """What the names stand for that `use TARGET.{a, b as c}` brings."""
-    names = {}
-    for part in many.split(","):
-        word, _, alias = part.strip().partition(" as ")
-        if word:
-            names[alias or word] = (target, word)
-    return names
+class Needed:
+    """What contracts need: the words and types that they cite, and those on which these stand. Each has the place that
+    cites it first."""
+
+    def __init__(self, modules, crates):
+        self._modules, self._crates = modules, crates
+        self.words = {}  # (module, word) -> its place; no word is the module as a whole
+        self.types = {}  # (source, type) -> its place
+        self.unknown = {}  # what is found nowhere -> its place
+
+    def add(self, source, contract):
+        """Adds what a contract needs."""
+        waiting = [(f"{source}:{line}: the contract of {contract.item}", *cited) for line, *cited in contract.cited()]
+        while waiting:
+            waiting += self._note(*waiting.pop())
+
+    def of(self, module):
+        """The words of a module that are needed, in their order."""
+        return [word for name, word in module.words.items() if (module.name, name) in self.words]
+
+    def _note(self, place, target, name):
+        """Notes a word or a type that is cited at a place, and gives what it cites."""
+        target = module_of(self._modules, target)
+        parts = target.split(".")
+        if parts[0] != "Rattle" or parts[1] not in self._crates:
+            return []
+        if "declared" in parts:
+            names = [*parts[parts.index("declared") + 1:], name]
+            folders = [name for name in names if name and name[0].islower()]
+            self.types.setdefault((f"crates/{parts[1]}/src/{'/'.join(folders)}.rt", names[len(folders)]), place)
+            return []
+        module = self._modules.get(target)
+        name = module.variants.get(name, name) if module else name
+        if module is None or name not in (None, *module.words):
+            self.unknown.setdefault(f"{target}.{name}", place)
+            return []
+        if (target, name) in self.words:
+            return []
+        self.words[target, name] = place
+        if name is None:
+            return []
+        word = module.words[name]
+        meanings = [name.rsplit(".", 1) if "." in name else module.meaning(name) for name in word.cited]
+        return [(f"{module.path}:{word.start}: {name}", *meaning) for meaning in meanings if meaning]
+
+
+def names_of_use(target, many, alias):
+    """What the names stand for that `use TARGET.{a, b as c}` or `use TARGET as ALIAS` brings."""
+    if many is None:
+        return {alias or target.split(".")[-1]: (target, None)}
+    parts = [part.strip().partition(" as ") for part in many.split(",") if part.strip()]
+    return {alias or word: (target, word) for word, _, alias in parts}
 
 
 def module_of(modules, target):
@@ -124,16 +139,11 @@ def module_of(modules, target):
 
 def names_in(code):
     """The names that a line cites: no fields, but all paths in full."""
-    paths = PATH.findall(code)
-    code = FIELD.sub(" ", PATH.sub(" ", code.split(" -- ")[0]))
-    return CITED.findall(code) + paths
+    return CITED.findall(FIELD.sub(" ", PATH.sub(" ", code.split(" -- ")[0]))) + PATH.findall(code)
 
 
 def read_modules(top):
     """All modules of definitions below a folder, by name; their paths are those from there."""
-    modules = {}
-    for path in sorted(top.glob("crates/*/specs/**/*.antt")):
-        place = path.relative_to(top)
-        name = ".".join(("Rattle", *place.with_suffix("").parts[1:]))
-        modules[name] = Module(name, place, path.read_text(encoding="utf-8"))
-    return modules
+    paths = sorted(top.glob("crates/*/specs/**/*.antt"))
+    modules = [Module(path.relative_to(top), path.read_text(encoding="utf-8")) for path in paths]
+    return {module.name: module for module in modules}

@@ -1,26 +1,173 @@
-"""Which contracts are public: those of the sources that are not left out, and what these hand on of others."""
+"""The contracts in the sources, crates/CRATE/src/**.rt, laid out by `rt fmt`: what they cite, and which are public."""
 
+import re
+from collections import ChainMap, defaultdict
+from dataclasses import dataclass
 from functools import cache
 
-from contracts import Source
-from definitions import Unread
+from definitions import names_in, names_of_use
 
-TESTS = set("""callers library_tests log_commands_tests log_files_answers log_text_answers merkle_cases mmcs_cases
-    rust_answers test_fixtures tlog_answers tlog_entries_answers tlog_entries_tests tlog_tests
-    tlog_tree_tests""".split())
-# Crates, and modules that are private, whose functions are `pub` for other code of this repository alone.
-INTERNAL = set("""p3_merkle_core p3_merkle_digests p3_merkle_prover p3_merkle_verifier mmcs_engine
-    fohlazu/src/args fohlazu_c/src/verdict log_commands/src/files log_commands/src/texts log_commands/src/write
-    log_text/src/line log_text/src/text p3_hashes/src/many p3_merkle_tree/src/join""".split())
-# The modules of internal crates that are public as a whole.
+TESTS = re.compile(r"callers|test_fixtures|\w+_(?:tests|cases|answers)")
+# Crates whose functions are `pub` for other code of this repository alone, and their modules that are public.
+INTERNAL = set("p3_merkle_core p3_merkle_digests p3_merkle_prover p3_merkle_verifier mmcs_engine fohlazu".split())
 PUBLIC = set("""mmcs_engine/src/engine mmcs_engine/src/fault mmcs_engine/src/laws mmcs_engine/src/process
     p3_merkle_core/src/error p3_merkle_core/src/laws p3_merkle_prover/src/tree""".split())
 
+HEAD = re.compile(r"(pub(?:\([a-z]+\))? )?(?:(?:unsafe|final|const|extern \"C\") )*"
+                  r"(fn|impl|trait|struct|enum|use|type|ghost use|ghost)\b ?(\w*)")
+CLAUSE = re.compile(r" *(requires|ensures|decreases)(?: (\w+))? \{")
 
-def is_left_out(source):
-    """Whether a source has no public contract but those that others hand on."""
-    path = source.removeprefix("crates/").removesuffix(".rt")
-    return path not in PUBLIC and (path in INTERNAL or crate_of(source) in INTERNAL | TESTS)
+
+@dataclass
+class Block:
+    """The file as a whole (no kind), or a trait, an impl, a struct, and what names stand for in it. An impl of a trait
+    is of the kind `trait`."""
+
+    kind: str | None
+    title: str | None  # of an impl: its trait
+    owner: str | None
+    is_open: bool
+    uses: ChainMap
+
+
+@dataclass
+class Contract:
+    """A clause of a function, or a ghost member. `owner` is the function, the type or the trait that it belongs to."""
+
+    item: str
+    owner: str
+    block: Block
+    is_public: bool
+    line: int
+    lines: list
+    kind: str | None = None  # of a clause: `requires` or `ensures`
+    clause: str | None = None  # its name, if it has one
+    head: tuple | None = None  # the first and the last line of its function before the first clause
+
+    @property
+    def end(self):
+        return self.line + len(self.lines) - 1
+
+    def names(self):
+        """The names in it, each with its line, and with the word after it where it stands for a module."""
+        for number, text in enumerate(self.lines, self.line):
+            text = text.partition("{")[2] if number == self.line else text
+            after = dict(re.findall(r"(?<![\w.])(\w+)\.(\w+)", text))
+            yield from ((number, name, after.get(name)) for name in names_in(text))
+
+    def cited(self):
+        """Each word that is cited, with its line: (line, module, word). No word is a module as a whole."""
+        for number, name, after in self.names():
+            if "." in name:
+                yield number, *name.rsplit(".", 1)
+            elif meaning := self.block.uses.get(name):
+                yield number, meaning[0], meaning[1] or after
+
+    def renamed(self):
+        """The names that stand for words of another name: (name, module, word)."""
+        meanings = {name: self.block.uses.get(name, (None, None)) for _, name, _ in self.names()}
+        return {(name, *meaning) for name, meaning in meanings.items() if meaning[1] not in (None, name)}
+
+
+class Source:
+    """A source: its contracts, the laws of its traits, what it hands on, and its public names."""
+
+    def __init__(self, path):
+        self.path = path
+        self.lines = [line.partition("//")[0].rstrip() for line in path.read_text(encoding="utf-8").splitlines()]
+        self.contracts, self.handed_on, self.laws, self.names, self.aliases = [], [], set(), set(), {}
+        self.traits = set()
+        self.given = []  # what impls give for the ghost members of a trait: (trait, name, contract)
+        self._file = self._block = Block(None, None, None, True, ChainMap())
+        at = 0
+        while at < len(self.lines):
+            line = self.lines[at]
+            if line == "}":
+                self._block = self._file
+            found = HEAD.match(line, 0 if self._block is self._file else 4)
+            at = self._item(at, found) + 1 if found else at + 1
+
+    def _closing(self, at):
+        """The line of the brace that closes the first one of a line."""
+        depth = 0
+        while True:
+            depth += self.lines[at].count("{") - self.lines[at].count("}")
+            if depth == 0:
+                return at
+            at += 1
+
+    def _item(self, at, found):
+        """Reads the item at a line, and gives its last line, or that of its head."""
+        is_public, kind, name = found[1] == "pub ", found[2], found[3]
+        if kind == "fn":
+            return self._function(at, name, is_public)
+        if kind == "ghost":
+            return self._ghost(at, name)
+        ends, end = ";" if kind in ("use", "ghost use", "type") else (";", "{", "}"), at
+        while not self.lines[end].endswith(ends):
+            end += 1
+        text = " ".join(" ".join(self.lines[at:end + 1]).split())
+        if kind == "ghost use":
+            target, many, alias = re.fullmatch(r"ghost use (\S+?)(?:\.\{(.*)\})?(?: as (\w+))?;", text).groups()
+            self._block.uses.update(names_of_use(target, many, alias))
+        elif kind == "use" and is_public:
+            self.handed_on.append(re.sub(r"(?<=[{,]) | (?=\})", "", text.removeprefix("pub use ").rstrip(";")))
+        elif kind == "type" and is_public and self._block is self._file:
+            self.names.add(name)
+            self.aliases[name] = re.search(r"= (?:&|\[|\()*(\w+)", text)[1]
+        elif kind in ("impl", "trait", "struct", "enum") and self._block is self._file:
+            self._open(kind, name, text, is_public)
+        return end
+
+    def _open(self, kind, name, text, is_public):
+        title = owner = name
+        if kind == "impl":
+            head, changes = text.replace("->", ""), 1
+            while changes:
+                head, changes = re.subn(r"<[^<>]*>", "", head)
+            trait, _, own = re.split(r" where\b", head)[0].removeprefix("impl").rpartition(" for ")
+            title, owner = ((re.findall(r"\b[A-Za-z_]\w*", part) or [None])[-1] for part in (trait, own))
+            kind = "trait" if title else kind
+        elif kind == "trait":
+            self.traits.add(name)
+        if is_public:
+            self.names.add(owner)
+        if text.endswith("{"):
+            self._block = Block(kind, title, owner, is_public or text.startswith("impl"), self._file.uses.new_child())
+
+    def _function(self, at, name, is_public):
+        block, first, head = self._block, at, None
+        is_public = is_public or (block.kind == "trait" and block.is_open)
+        owner = block.owner or name
+        if is_public:
+            self.names.add(owner)
+        while True:
+            if clause := CLAUSE.match(self.lines[at]):
+                end, head = self._closing(at), head or (first + 1, at)
+                lines = self.lines[at:end + 1]
+                self.contracts.append(Contract(name, owner, block, is_public, at + 1, lines, *clause.groups(), head))
+                at = end
+            elif self.lines[at].endswith("{"):
+                return self.lines.index("}" if block is self._file else "    }", at)
+            if self.lines[at].endswith((";", "{}")):
+                return at
+            at += 1
+
+    def _ghost(self, at, name):
+        end, block = self._closing(at), self._block
+        if name == "invariant":  # it speaks of private fields, and promises a caller nothing
+            return end
+        contract = Contract(name, block.owner, block, block.is_open, at + 1, self.lines[at:end + 1])
+        text = " ".join(contract.lines).partition("{")[2]
+        if re.match(r" *ghost \w+ =", self.lines[at]):
+            self.given.append((block.title, name, contract))
+        else:
+            self.contracts.append(contract)
+            # A law speaks of values beside its own names; a relation is no law.
+            if block.kind == "trait" and not re.search(r"Type 0 *\};?$", text):
+                if re.search(r"(?<![\w.])[a-z_]", re.sub(r"\((?:\w+ )+:", "", text)):
+                    self.laws.add((block.title, name))
+        return end
 
 
 class Sources:
@@ -30,14 +177,14 @@ class Sources:
         self._top = top
         self.paths = [str(path.relative_to(top)) for path in sorted(top.glob("crates/*/src/**/*.rt"))]
         self.crates = {crate_of(path) for path in self.paths}
-        self._handed_on = {}  # a source -> the names of it that others hand on by `pub use`; `*` is all of it
-        self._own = {}  # a crate -> the public names of its sources that are not left out
+        self._handed_on = defaultdict(set)  # a source -> the names of it that others hand on; `*` is all of it
+        self._own = defaultdict(set)  # a crate -> the public names of its sources that are not left out
         self._laws = set()
         for path in self.paths:
-            if not is_left_out(path):
+            if not self.is_left_out(path):
                 source = self.read(path)
                 self._laws |= source.laws
-                self._own.setdefault(crate_of(path), set()).update(source.names)
+                self._own[crate_of(path)] |= source.names
                 for said in source.handed_on:
                     self._note(path, said)
 
@@ -46,43 +193,48 @@ class Sources:
         """A source."""
         return Source(self._top / path)
 
+    @cache
+    def _private(self, crate):
+        """The modules of a crate that are not public."""
+        roots = [self._top / f"crates/{crate}/src/{name}.rt" for name in ("lib", "main")]
+        return set(re.findall(r"^mod (\w+);", "".join(path.read_text() for path in roots if path.exists()), re.M))
+
+    def is_left_out(self, path):
+        """Whether a source has no public contract but those that others hand on."""
+        crate, module = crate_of(path), path.removeprefix("crates/").removesuffix(".rt")
+        is_private = module.split("/")[2] in self._private(crate)
+        return module not in PUBLIC and (crate in INTERNAL or bool(TESTS.fullmatch(crate)) or is_private)
+
     def public(self, path):
         """The public contracts of a source. What proves a law of a trait is none."""
-        if is_left_out(path) and path not in self._handed_on and crate_of(path) not in self._own:
-            return []
         source = self.read(path)
         contracts = [contract for contract in source.contracts if contract.is_public]
         contracts += [contract for trait, name, contract in source.given if (trait, name) not in self._laws]
-        if not is_left_out(path):
+        if not self.is_left_out(path):
             return contracts
         return [contract for contract in contracts if self._is_handed_on(path, contract)]
 
     def _is_handed_on(self, path, contract):
         """Whether a contract of a source that is left out is public all the same."""
-        names = self._handed_on.get(path, set())
+        names = self._handed_on[path]
         names = names | {self.read(path).aliases.get(name) for name in names}
-        if "*" in names or contract.owner in names:
-            return True
-        return contract.block.kind in ("impl", "trait") and contract.owner in self._own.get(crate_of(path), set())
+        is_of_block = contract.block.kind in ("impl", "trait")
+        return "*" in names or contract.owner in names or is_of_block and contract.owner in self._own[crate_of(path)]
 
     def _note(self, path, said):
         """Notes what a `pub use` in a source hands on."""
         head, _, many = said.partition("::{")
-        if "{" in many:
-            raise Unread(f"{path}: pub use {said}")
-        for name in filter(None, many.rstrip("}").split(",")) if many else [""]:
-            parts = [part.split(" as ")[0] for part in f"{head}::{name}".split("::")]
-            parts = [part for part in parts if part not in ("", "self", "*")]
+        for name in re.findall(r"\w[^,}]*", many) if many else [""]:
+            parts = [part for part in f"{head}::{name}".split("::") if part not in ("", "self", "*")]
             crate = parts[0] if parts[0] in self.crates else crate_of(path)
             rest = parts[1:] if parts[0] in (crate, "crate") else parts
             folder = f"crates/{crate}/src"
             if rest and f"{folder}/{'/'.join(rest)}.rt" not in self.paths:
-                source = f"{folder}/{'/'.join(rest[:-1])}.rt"
-                self._handed_on.setdefault(source, set()).add(rest[-1])
+                self._handed_on[f"{folder}/{'/'.join(rest[:-1])}.rt"].add(rest[-1])
                 continue
             for source in self.paths:
                 if f"{source[:-3]}/".startswith("/".join([folder, *rest, ""])):
-                    self._handed_on.setdefault(source, set()).add("*")
+                    self._handed_on[source].add("*")
 
 
 def crate_of(path):
