@@ -20,7 +20,7 @@ LIBRARY_FOR_C := libfohlazu.a libfohlazu.so
 FILES := $(PROGRAMS) $(LIBRARY_FOR_C)
 CPUS := x86-64-v2 x86-64-v3
 QUICK := $(PROGRAMS:%=build/quick/%)
-# What answers the cases of tests/fuzz, and the questions of tests/memory.
+# What answers the cases of tests/fuzz, and the questions of tests/memory and tests/peers.
 CASES := merkle_cases mmcs_cases tlog_answers tlog_entries_answers
 LIBRARIES := build/libraries.tar.zst
 
@@ -100,7 +100,7 @@ toolchain:
 documents:
 	@python3 tests/audit
 	@python3 tests/strength --check
-	@bash tests/documents
+	@python3 tests/documents
 
 check-quick: toolchain documents quick
 	@$(ALONE) python3 tests/quick
