@@ -1,7 +1,7 @@
 """The contracts in the sources, crates/CRATE/src/**.rt, laid out by `rt fmt`: what they cite, and which are public."""
 
 import re
-from collections import ChainMap, defaultdict
+from collections import defaultdict
 from dataclasses import dataclass
 from functools import cache
 
@@ -13,21 +13,22 @@ INTERNAL = set("p3_merkle_core p3_merkle_digests p3_merkle_prover p3_merkle_veri
 PUBLIC = set("""mmcs_engine/src/engine mmcs_engine/src/fault mmcs_engine/src/laws mmcs_engine/src/process
     p3_merkle_core/src/error p3_merkle_core/src/laws p3_merkle_prover/src/tree""".split())
 
-HEAD = re.compile(r"(pub(?:\([a-z]+\))? )?(?:(?:unsafe|final|const|extern \"C\") )*"
-                  r"(fn|impl|trait|struct|enum|use|type|ghost use|ghost)\b ?(\w*)")
+USE = re.compile(r"^ *ghost use (\S+?)(?:\.\{(.*?)\})?(?: as (\w+))?;", re.M | re.S)
+HANDED_ON = re.compile(r"^pub use ([\w:]+?)(?:::\{([^}]*)\})?;", re.M)
+ALIAS = re.compile(r"^pub type (\w+)[^;]*?= (?:&|\[|\()*(\w+)", re.M)
+ITEM = re.compile(r"(pub )?(?:pub\(\w+\) )?(?:(?:unsafe|final|const|extern \"C\") )*"
+                  r"(fn|impl|trait|struct|enum|ghost)\b(?! use) ?(\w*)")
 CLAUSE = re.compile(r" *(requires|ensures|decreases)(?: (\w+))? \{")
 
 
 @dataclass
 class Block:
-    """The file as a whole (no kind), or a trait, an impl, a struct, and what names stand for in it. An impl of a trait
-    is of the kind `trait`."""
+    """The file as a whole (no kind), or a trait, an impl, a struct. An impl of a trait is of the kind `trait`."""
 
     kind: str | None
     title: str | None  # of an impl: its trait
     owner: str | None
     is_open: bool
-    uses: ChainMap
 
 
 @dataclass
@@ -37,6 +38,7 @@ class Contract:
     item: str
     owner: str
     block: Block
+    uses: dict
     is_public: bool
     line: int
     lines: list
@@ -60,12 +62,12 @@ class Contract:
         for number, name, after in self.names():
             if "." in name:
                 yield number, *name.rsplit(".", 1)
-            elif meaning := self.block.uses.get(name):
+            elif meaning := self.uses.get(name):
                 yield number, meaning[0], meaning[1] or after
 
     def renamed(self):
         """The names that stand for words of another name: (name, module, word)."""
-        meanings = {name: self.block.uses.get(name, (None, None)) for _, name, _ in self.names()}
+        meanings = {name: self.uses.get(name, (None, None)) for _, name, _ in self.names()}
         return {(name, *meaning) for name, meaning in meanings.items() if meaning[1] not in (None, name)}
 
 
@@ -75,17 +77,21 @@ class Source:
     def __init__(self, path):
         self.path = path
         self.lines = [line.partition("//")[0].rstrip() for line in path.read_text(encoding="utf-8").splitlines()]
-        self.contracts, self.handed_on, self.laws, self.names, self.aliases = [], [], set(), set(), {}
-        self.traits = set()
+        text = "\n".join(self.lines)
+        self.handed_on, self.aliases = HANDED_ON.findall(text), dict(ALIAS.findall(text))
+        self.uses = {}
+        for target, many, alias in (found.groups() for found in USE.finditer(text)):
+            self.uses.update(names_of_use(target, many, alias))
+        self.contracts, self.laws, self.traits, self.names = [], set(), set(), set(self.aliases)
         self.given = []  # what impls give for the ghost members of a trait: (trait, name, contract)
-        self._file = self._block = Block(None, None, None, True, ChainMap())
+        self._file = self._block = Block(None, None, None, True)
         at = 0
         while at < len(self.lines):
-            line = self.lines[at]
-            if line == "}":
+            if self.lines[at] == "}":
                 self._block = self._file
-            found = HEAD.match(line, 0 if self._block is self._file else 4)
-            at = self._item(at, found) + 1 if found else at + 1
+            found = ITEM.match(self.lines[at], 0 if self._block is self._file else 4)
+            read = {"fn": self._function, "ghost": self._ghost}.get(found[2], self._open) if found else None
+            at = 1 + (read(at, found[3], bool(found[1]), found[2]) if found else at)
 
     def _closing(self, at):
         """The line of the brace that closes the first one of a line."""
@@ -96,46 +102,27 @@ class Source:
                 return at
             at += 1
 
-    def _item(self, at, found):
-        """Reads the item at a line, and gives its last line, or that of its head."""
-        is_public, kind, name = found[1] == "pub ", found[2], found[3]
-        if kind == "fn":
-            return self._function(at, name, is_public)
-        if kind == "ghost":
-            return self._ghost(at, name)
-        ends, end = ";" if kind in ("use", "ghost use", "type") else (";", "{", "}"), at
-        while not self.lines[end].endswith(ends):
+    def _open(self, at, name, is_public, kind):
+        """Opens the block of a trait, an impl, a struct or an enum, and gives the last line of its head."""
+        end, title, owner = at, name, name
+        while not self.lines[end].endswith((";", "{", "}")):
             end += 1
-        text = " ".join(" ".join(self.lines[at:end + 1]).split())
-        if kind == "ghost use":
-            target, many, alias = re.fullmatch(r"ghost use (\S+?)(?:\.\{(.*)\})?(?: as (\w+))?;", text).groups()
-            self._block.uses.update(names_of_use(target, many, alias))
-        elif kind == "use" and is_public:
-            self.handed_on.append(re.sub(r"(?<=[{,]) | (?=\})", "", text.removeprefix("pub use ").rstrip(";")))
-        elif kind == "type" and is_public and self._block is self._file:
-            self.names.add(name)
-            self.aliases[name] = re.search(r"= (?:&|\[|\()*(\w+)", text)[1]
-        elif kind in ("impl", "trait", "struct", "enum") and self._block is self._file:
-            self._open(kind, name, text, is_public)
-        return end
-
-    def _open(self, kind, name, text, is_public):
-        title = owner = name
         if kind == "impl":
-            head, changes = text.replace("->", ""), 1
+            head, changes = " ".join(self.lines[at:end + 1]).replace("->", ""), 1
             while changes:
                 head, changes = re.subn(r"<[^<>]*>", "", head)
             trait, _, own = re.split(r" where\b", head)[0].removeprefix("impl").rpartition(" for ")
             title, owner = ((re.findall(r"\b[A-Za-z_]\w*", part) or [None])[-1] for part in (trait, own))
-            kind = "trait" if title else kind
-        elif kind == "trait":
+        if kind == "trait":
             self.traits.add(name)
         if is_public:
             self.names.add(owner)
-        if text.endswith("{"):
-            self._block = Block(kind, title, owner, is_public or text.startswith("impl"), self._file.uses.new_child())
+        if self.lines[end].endswith("{"):
+            is_of_trait = kind == "impl" and title
+            self._block = Block("trait" if is_of_trait else kind, title, owner, is_public or kind == "impl")
+        return end
 
-    def _function(self, at, name, is_public):
+    def _function(self, at, name, is_public, _):
         block, first, head = self._block, at, None
         is_public = is_public or (block.kind == "trait" and block.is_open)
         owner = block.owner or name
@@ -144,8 +131,8 @@ class Source:
         while True:
             if clause := CLAUSE.match(self.lines[at]):
                 end, head = self._closing(at), head or (first + 1, at)
-                lines = self.lines[at:end + 1]
-                self.contracts.append(Contract(name, owner, block, is_public, at + 1, lines, *clause.groups(), head))
+                words = name, owner, block, self.uses, is_public, at + 1, self.lines[at:end + 1], *clause.groups(), head
+                self.contracts.append(Contract(*words))
                 at = end
             elif self.lines[at].endswith("{"):
                 return self.lines.index("}" if block is self._file else "    }", at)
@@ -153,20 +140,20 @@ class Source:
                 return at
             at += 1
 
-    def _ghost(self, at, name):
+    def _ghost(self, at, name, *_):
         end, block = self._closing(at), self._block
         if name == "invariant":  # it speaks of private fields, and promises a caller nothing
             return end
-        contract = Contract(name, block.owner, block, block.is_open, at + 1, self.lines[at:end + 1])
-        text = " ".join(contract.lines).partition("{")[2]
+        contract = Contract(name, block.owner, block, self.uses, block.is_open, at + 1, self.lines[at:end + 1])
         if re.match(r" *ghost \w+ =", self.lines[at]):
             self.given.append((block.title, name, contract))
-        else:
-            self.contracts.append(contract)
-            # A law speaks of values beside its own names; a relation is no law.
-            if block.kind == "trait" and not re.search(r"Type 0 *\};?$", text):
-                if re.search(r"(?<![\w.])[a-z_]", re.sub(r"\((?:\w+ )+:", "", text)):
-                    self.laws.add((block.title, name))
+            return end
+        self.contracts.append(contract)
+        # A law speaks of values beside its own names; a relation is no law.
+        text = " ".join(contract.lines).partition("{")[2]
+        if block.kind == "trait" and not re.search(r"Type 0 *\};?$", text):
+            if re.search(r"(?<![\w.])[a-z_]", re.sub(r"\((?:\w+ )+:", "", text)):
+                self.laws.add((block.title, name))
         return end
 
 
@@ -185,8 +172,9 @@ class Sources:
                 source = self.read(path)
                 self._laws |= source.laws
                 self._own[crate_of(path)] |= source.names
-                for said in source.handed_on:
-                    self._note(path, said)
+                for target, names in source.handed_on:
+                    for name in re.findall(r"\w+", names) or [None]:
+                        self._note(path, target.split("::"), name)
 
     @cache
     def read(self, path):
@@ -203,7 +191,7 @@ class Sources:
         """Whether a source has no public contract but those that others hand on."""
         crate, module = crate_of(path), path.removeprefix("crates/").removesuffix(".rt")
         is_private = module.split("/")[2] in self._private(crate)
-        return module not in PUBLIC and (crate in INTERNAL or bool(TESTS.fullmatch(crate)) or is_private)
+        return module not in PUBLIC and (crate in INTERNAL or is_private or TESTS.fullmatch(crate) is not None)
 
     def public(self, path):
         """The public contracts of a source. What proves a law of a trait is none."""
@@ -212,29 +200,20 @@ class Sources:
         contracts += [contract for trait, name, contract in source.given if (trait, name) not in self._laws]
         if not self.is_left_out(path):
             return contracts
-        return [contract for contract in contracts if self._is_handed_on(path, contract)]
+        names, own = self._handed_on[path], self._own[crate_of(path)]
+        names = names | {source.aliases.get(name) for name in names}
+        return [contract for contract in contracts if "*" in names or contract.owner in names or
+                contract.block.kind in ("impl", "trait") and contract.owner in own]
 
-    def _is_handed_on(self, path, contract):
-        """Whether a contract of a source that is left out is public all the same."""
-        names = self._handed_on[path]
-        names = names | {self.read(path).aliases.get(name) for name in names}
-        is_of_block = contract.block.kind in ("impl", "trait")
-        return "*" in names or contract.owner in names or is_of_block and contract.owner in self._own[crate_of(path)]
-
-    def _note(self, path, said):
-        """Notes what a `pub use` in a source hands on."""
-        head, _, many = said.partition("::{")
-        for name in re.findall(r"\w[^,}]*", many) if many else [""]:
-            parts = [part for part in f"{head}::{name}".split("::") if part not in ("", "self", "*")]
-            crate = parts[0] if parts[0] in self.crates else crate_of(path)
-            rest = parts[1:] if parts[0] in (crate, "crate") else parts
-            folder = f"crates/{crate}/src"
-            if rest and f"{folder}/{'/'.join(rest)}.rt" not in self.paths:
-                self._handed_on[f"{folder}/{'/'.join(rest[:-1])}.rt"].add(rest[-1])
-                continue
-            for source in self.paths:
-                if f"{source[:-3]}/".startswith("/".join([folder, *rest, ""])):
-                    self._handed_on[source].add("*")
+    def _note(self, path, target, name):
+        """Notes that a source hands on a module or a name of one."""
+        crate = target[0] if target[0] in self.crates else crate_of(path)
+        rest = [part for part in target if part not in (crate, "crate")] + [name] * bool(name)
+        source = f"crates/{crate}/src/{'/'.join(rest)}.rt"
+        if source in self.paths:
+            self._handed_on[source].add("*")
+        elif rest:
+            self._handed_on[f"crates/{crate}/src/{'/'.join(rest[:-1])}.rt"].add(rest[-1])
 
 
 def crate_of(path):

@@ -5,10 +5,7 @@ import fcntl
 import os
 import subprocess
 
-
-def check(is_so: bool, *found) -> None:
-    if not is_so:
-        raise ValueError(" ".join(map(str, found)))
+from script import check
 
 
 def await_lock(folder) -> None:

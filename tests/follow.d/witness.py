@@ -1,60 +1,33 @@
 """A witness on loopback, by C2SP's tlog-witness and tlog-cosignature from memory, with openssl and the tests' model: it
 cosigns a checkpoint of a log that it knows, if the log only grew since the last one that it cosigned."""
 
-import base64
-import hashlib
 import http.server
-import subprocess
 import threading
-from pathlib import Path
+from base64 import b64decode
 
 import log_texts
 import logs
+from keys import COSIGNED, Key, is_signature
 
 MOST_BYTES, MOST_REQUESTS, SECONDS = 100_000, 1000, 20
-# DER of a public key of Ed25519, ahead of its 32 bytes.
-HEAD = bytes.fromhex("302a300506032b6570032100")
-
-
-def openssl(*words, data=b""):
-    return subprocess.run(["openssl", *words], input=data, capture_output=True, timeout=SECONDS)
 
 
 class Witness:
     """Its key, the verifier keys of the logs that it knows by their origins, and the last size and root of each."""
 
-    def __init__(self, folder, name, known):
-        self.folder, self.name, self.known, self.last, self.time = Path(folder), name.encode(), known, {}, 1_700_000_000
-        openssl("genpkey", "-algorithm", "ed25519", "-out", self.folder / "key")
-        public = openssl("pkey", "-in", self.folder / "key", "-pubout", "-outform", "DER").stdout
-        key = b"\4" + public.removeprefix(HEAD)
-        self.key_id = hashlib.sha256(self.name + b"\n" + key).digest()[:4]
-        self.vkey = f"{name}+{self.key_id.hex()}+{base64.b64encode(key).decode()}"
-
-    def write(self, **files):
-        for name, data in files.items():
-            (self.folder / name).write_bytes(data)
+    def __init__(self, folder, name, seed, known):
+        self.folder, self.known, self.last, self.time = folder, known, {}, 1_700_000_000
+        self.key = Key(folder / "key", name, seed, COSIGNED)
 
     def is_signed(self, text, signatures, vkey):
         """Whether a line of signatures is by a log's key."""
         name, key_id, key = vkey.encode().split(b"+", 2)
         for line in signatures.splitlines():
             _, signer, raw = line.split(b" ")
-            raw = base64.b64decode(raw)
+            raw = b64decode(raw)
             if (signer, raw[:4].hex().encode()) == (name, key_id):
-                self.write(public=HEAD + base64.b64decode(key)[1:], text=text, signature=raw[4:])
-                paths = [self.folder / file for file in ("public", "text", "signature")]
-                return openssl("pkeyutl", "-verify", "-rawin", "-pubin", "-keyform", "DER", "-inkey", paths[0],
-                               "-in", paths[1], "-sigfile", paths[2]).returncode == 0
+                return is_signature(self.folder, b64decode(key)[1:], text, raw[4:])
         return False
-
-    def cosignature(self, text):
-        self.time += 1
-        self.write(text=b"cosignature/v1\ntime %d\n%s" % (self.time, text))
-        key, message = self.folder / "key", self.folder / "text"
-        signed = openssl("pkeyutl", "-sign", "-rawin", "-inkey", key, "-in", message).stdout
-        raw = self.key_id + self.time.to_bytes(8, "big") + signed
-        return "\u2014 ".encode() + self.name + b" " + base64.b64encode(raw) + b"\n"
 
     def answer(self, body):
         """The status, the type and the text of the answer to add-checkpoint."""
@@ -76,7 +49,8 @@ class Witness:
         if logs.consistency(old, size, digests, last_root, root) != logs.ACCEPTED:
             return 422, "text/plain", b"the proof fails\n"
         self.last[origin] = size, root
-        return 200, "text/plain", self.cosignature(text + b"\n")
+        self.time += 1
+        return 200, "text/plain", self.key.line(text + b"\n", self.time)
 
     def serve(self):
         """A server on a free port of this machine, in a thread of its own. The caller stops it."""
