@@ -10,25 +10,26 @@ from itertools import pairwise
 
 from sources import TESTS, crate_of
 
-PAGES = ("PROVED.md", "AUDIT.md", "MAP.md")
-
 
 def unknown_names(top, sources):
     """What is wrong with the names, in lines."""
-    words, parts = words_in(top), parts_in(top, sources)
-    for page in PAGES:
-        text = (top / "docs" / page).read_text(encoding="utf-8")
+    paths = [*top.glob("crates/*/src/**/*.rt"), *top.glob("crates/*/specs/**/*.antt")]
+    texts = {path: path.read_text(encoding="utf-8") for path in paths}
+    words = {part for path in paths for part in (path.relative_to(top).parts[1], path.stem)}
+    words.update(*(re.findall(r"\w+", text) for text in texts.values()))
+    parts = parts_in(sources, [text for path, text in texts.items() if path.suffix == ".antt"])
+    for page in "PROVED", "AUDIT", "MAP":
+        text = (top / f"docs/{page}.md").read_text(encoding="utf-8")
         for name in re.findall(r"`([\w.:/]+)`", text):
             is_other = "/" in name or name in words or re.fullmatch(r"\w\w?|\w\.\w+|[0-9a-f]{64}", name)
             if not is_other and not words.issuperset(filter(None, re.split(r"::|\.", name))):
-                yield f"docs/{page}: no source has {name}"
-        for claim in re.split(r"\n(?=- |\n)", text) if page == PAGES[0] else []:
-            for owner, name in claimed(" ".join(claim.split())):
-                if name not in parts[owner]:
-                    yield f"docs/{page}: {owner} has no {name}"
+                yield f"docs/{page}.md: no source has {name}"
+        for claim in re.split(r"\n(?=- |\n)", text) if page == "PROVED" else []:
+            claimed = claimed_parts(" ".join(claim.split()))
+            yield from (f"docs/{page}.md: {owner} has no {name}" for owner, name in claimed if name not in parts[owner])
 
 
-def claimed(claim):
+def claimed_parts(claim):
     """The parts that a claim names, each after what has it."""
     for path in re.findall(r"`(\w+(?:(?:::|\.)\w+)+)`", claim):
         yield from pairwise(re.split(r"::|\.", path))
@@ -38,20 +39,11 @@ def claimed(claim):
             yield from ((owner.split("::")[-1], name) for owner in owners for name in names if "." not in name)
 
 
-def words_in(top):
-    """All words of sources and definitions, and the names of their files and crates."""
-    words = set()
-    for path in [*top.glob("crates/*/src/**/*.rt"), *top.glob("crates/*/specs/**/*.antt")]:
-        words.update(re.findall(r"\w+", path.read_text(encoding="utf-8")), [path.relative_to(top).parts[1], path.stem])
-    return words
-
-
-def parts_in(top, sources):
+def parts_in(sources, definitions):
     """The parts of each crate, module, type, trait, call and record."""
     parts = defaultdict(set)
-    for path in top.glob("crates/*/specs/**/*.antt"):
-        records = re.findall(r"^ *pub record (\w+)(.*?)(?=^\S|^ *pub record|\Z)", path.read_text(), re.M | re.S)
-        for name, body in records:
+    for text in definitions:
+        for name, body in re.findall(r"^ *pub record (\w+)(.*?)(?=^\S|^ *pub record|\Z)", text, re.M | re.S):
             parts[name].update(re.findall(r"^\s+pub (\w+) :", body, re.M))
     for path in sources.paths:
         if not TESTS.fullmatch(crate := crate_of(path)):

@@ -28,7 +28,8 @@ class Module:
     """A module: what its names stand for, and its words."""
 
     def __init__(self, path, text):
-        self.name, self.path, self.lines = ".".join(["Rattle", *path.with_suffix("").parts[1:]]), path, text.splitlines()
+        self.name = ".".join(["Rattle", *path.with_suffix("").parts[1:]])
+        self.path, self.lines = path, text.splitlines()
         self.uses = {}  # a name -> the module and the word for which it stands; no word for a module as a whole
         self.used = []  # the modules that it uses
         self.words = {}  # a name -> its Word

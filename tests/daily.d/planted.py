@@ -5,7 +5,7 @@ import fcntl
 import os
 import subprocess
 
-from script import check
+from script import TOP, check
 
 
 def await_lock(folder) -> None:
@@ -47,7 +47,7 @@ def plant(play) -> None:
         return play.dir / f".{play.day}-{count:012}.begun"
 
     kept = play.dir / f"{play.day}-{size:012}.checkpoint"
-    signed = subprocess.run(["sh", play.share / "fohlazu-sign", key], input=text(size), capture_output=True, check=True)
+    signed = subprocess.run(["sh", TOP / "share/fohlazu-sign", key], input=text(size), capture_output=True, check=True)
     for why, path, planted, status, said in [
         ("a forged log", begun(size), text(size, rewritten), 1, b"put them back"),
         ("a smaller log", begun(known - 1), text(known - 1, rewritten), 1, b"put them back"),

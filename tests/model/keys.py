@@ -46,5 +46,5 @@ def is_signature(folder, public, message, signature):
     paths = [folder / name for name in ("public", "message", "signature")]
     for path, data in zip(paths, (PUBLIC + public, message, signature)):
         path.write_bytes(data)
-    words = ["-verify", "-rawin", "-pubin", "-keyform", "DER", "-inkey", paths[0], "-in", paths[1], "-sigfile", paths[2]]
-    return openssl("pkeyutl", *words).returncode == 0
+    words = ["-inkey", paths[0], "-in", paths[1], "-sigfile", paths[2]]
+    return openssl("pkeyutl", "-verify", "-rawin", "-pubin", "-keyform", "DER", *words).returncode == 0

@@ -68,7 +68,8 @@ class Notes:
 
     def changed(self, text, at):
         """A text with another byte at a place, and no NUL, which no argument has."""
-        return text[:at] + bytes([self.rng.choice([byte for byte in range(1, 256) if byte != text[at]])]) + text[at + 1:]
+        byte = self.rng.choice([byte for byte in range(1, 256) if byte != text[at]])
+        return text[:at] + bytes([byte]) + text[at + 1:]
 
     def damaged(self, vkey, note):
         """A note with a piece put in or in place of a byte, or with a line dropped, repeated or moved, a signature of
