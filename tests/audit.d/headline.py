@@ -39,44 +39,33 @@ def calls_in(document):
             yield Call(name, source, set(re.findall(r"\w+", named)), kind == "Trait")
 
 
-class Headline:
-    """The text, of the calls with their clauses, and the modules with the words that are needed."""
+def headline_of(audit):
+    """The lines of the text."""
+    def text_of(source):
+        return audit.sources.read(source).path.read_text(encoding="utf-8").splitlines()
 
-    def __init__(self, calls, sources, modules, types):
-        self.calls, self.sources, self.modules, self.types = calls, sources, modules, types
-
-    def lines(self):
-        """Its lines."""
-        yield from ["// docs/AUDIT.md says how this is read.", ""]
-        for call, clauses in self.calls:
-            yield f"// ==== {call.name}: {call.source}"
-            text = self._text(call.source)
-            yield from trait_of(call.name, text, clauses) if call.is_trait else contract_of(text, clauses)
-            renamed = sorted({name for clause in clauses for name in clause.renamed()})
-            yield from (f"    // {name} is {word} of {module}." for name, module, word in renamed)
-            yield ""
-        for module, words in self.modules:
-            if words:
-                yield from definitions_of(module, words)
-        traits = {call.name for call, _ in self.calls if call.is_trait}
-        for source, name in sorted(self._types()):
-            if name not in traits:
-                yield from type_of(name, source, self._text(source))
-
-    def _text(self, source):
-        return self.sources.read(source).path.read_text(encoding="utf-8").splitlines()
-
-    def _types(self):
-        """The types that the contracts and the definitions cite, and those that the heads of the calls name."""
-        types, named = set(self.types), set()
-        for call, clauses in self.calls:
-            if not call.is_trait:
-                first, last = clauses[0].head
-                named.update(re.findall(r"\w+", " ".join(self._text(call.source)[first - 1:last])))
-        for source in self.sources.paths:
-            found = re.findall(TYPE, "\n".join(self._text(source)), re.M)
-            types.update((source, name) for name in found if name in named)
-        return types
+    yield from ["// docs/AUDIT.md says how this is read.", ""]
+    named = set()  # by the heads of the calls
+    for call, clauses in audit.calls:
+        yield f"// ==== {call.name}: {call.source}"
+        text = text_of(call.source)
+        if call.is_trait:
+            yield from trait_of(call.name, text, clauses)
+        else:
+            yield from contract_of(text, clauses)
+            named.update(re.findall(r"\w+", " ".join(text[clauses[0].head[0] - 1:clauses[0].head[1]])))
+        renamed = sorted({name for clause in clauses for name in clause.renamed()})
+        yield from (f"    // {name} is {word} of {module}." for name, module, word in renamed)
+        yield ""
+    for module in audit.order:
+        if words := audit.headline.of(module):
+            yield from definitions_of(module, words)
+    texts = {source: text_of(source) for source in audit.sources.paths}
+    types = {(source, name) for source, text in texts.items() for name in re.findall(TYPE, "\n".join(text), re.M)}
+    types = {found for found in types if found[1] in named} | set(audit.headline.types)
+    for source, name in sorted(types):
+        if name not in {call.name for call, _ in audit.calls if call.is_trait}:
+            yield from type_of(name, source, texts[source])
 
 
 def contract_of(text, clauses):
