@@ -15,7 +15,7 @@ def openssl(*words):
 
 
 class Key:
-    """A key of a name from a seed of 32 bytes, in a file. `vkey` and `skey` are its verifier key and Go's private key."""
+    """A key of a name from a seed of 32 bytes, in a file; `vkey` is its verifier key, `skey` its private key for Go."""
 
     def __init__(self, path, name, seed, kind=SIGNED, public=None):
         text = b64encode(PRIVATE + seed).decode()
