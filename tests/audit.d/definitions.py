@@ -10,7 +10,6 @@ DECLARATION = re.compile(rf"((?:{KEYWORD})*)(?!{KEYWORD})({NAME})(?: |$)")
 SIGNS = re.compile(rf"{KEYWORD}|[^\x00-\x7f]")  # how a word begins that is written in signs
 USE = re.compile(rf"(?:pub )?use ([\w.]+?)(?:\.\{{(.*)\}})?(?: as ({NAME}))?")
 CITED = re.compile(rf"(?<![.\w'-])({NAME})")
-FIELD = re.compile(rf"(?:pub +{NAME} +:|[{{;] *{NAME} +=)")
 
 
 @dataclass
@@ -36,29 +35,28 @@ class Module:
         self.variants = {}  # a constructor -> the name of its word
         self.proofs = []  # the words that are no definitions
         word = comment = head = None
-        is_head, is_data, base, parameters = False, False, 0, []
+        is_head, is_data, base = False, False, 0
         for number, line in enumerate(self.lines, 1):
             code = line.strip()
             depth = len(line) - len(line.lstrip())
-            if not code or code.startswith("-- ----"):
+            if not code:
                 comment = None
             elif code.startswith("--"):
                 comment = comment or number
             elif is_head or code.startswith("module _"):
                 head = (head[0] if is_head else number, number)
-                parameters = (parameters if is_head else []) + names_in(code)
                 is_head, base = not code.endswith(" where"), 2
             elif use := USE.fullmatch(code):
                 self.used.append(use[1])
                 self.uses.update(names_of_use(*use.groups()))
             elif not code.startswith("pub mod "):
                 if depth == 0:
-                    base, head, parameters = 0, None, []
+                    base, head = 0, None
                 declared = DECLARATION.match(code) if depth == base else None
                 if not declared and (word is None or depth == base and SIGNS.match(code)):
                     raise ValueError(f"{path}:{number}: no rule says what this is")
                 if declared and not (word and declared[2] == word.name):
-                    word = self.words[declared[2]] = Word(declared[2], comment or number, number, head, [*parameters])
+                    word = self.words[declared[2]] = Word(declared[2], comment or number, number, head, [])
                     is_data = "data " in declared[1]
                     if declared[1].strip() in ("", "pub"):
                         self.proofs.append((number, word.name))
@@ -70,7 +68,6 @@ class Module:
 
     def meaning(self, name):
         """The module and the word for which a name stands here, if it is no bound name."""
-        name = self.variants.get(name, name)
         return (self.name, name) if name in self.words else self.uses.get(name)
 
 
@@ -139,8 +136,8 @@ def module_of(modules, target):
 
 
 def names_in(code):
-    """The names that a line cites: no fields, but all paths in full."""
-    return CITED.findall(FIELD.sub(" ", PATH.sub(" ", code.split(" -- ")[0]))) + PATH.findall(code)
+    """The names that a line cites, and all paths in full."""
+    return CITED.findall(PATH.sub(" ", code.split(" -- ")[0])) + PATH.findall(code)
 
 
 def read_modules(top):

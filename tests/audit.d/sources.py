@@ -51,23 +51,19 @@ class Contract:
         return self.line + len(self.lines) - 1
 
     def names(self):
-        """The names in it, each with its line, and with the word after it where it stands for a module."""
+        """The names in it, each with its line."""
         for number, text in enumerate(self.lines, self.line):
-            text = text.partition("{")[2] if number == self.line else text
-            after = dict(re.findall(r"(?<![\w.])(\w+)\.(\w+)", text))
-            yield from ((number, name, after.get(name)) for name in names_in(text))
+            yield from ((number, name) for name in names_in(text.partition("{")[2] if number == self.line else text))
 
     def cited(self):
         """Each word that is cited, with its line: (line, module, word). No word is a module as a whole."""
-        for number, name, after in self.names():
-            if "." in name:
-                yield number, *name.rsplit(".", 1)
-            elif meaning := self.uses.get(name):
-                yield number, meaning[0], meaning[1] or after
+        for number, name in self.names():
+            if meaning := name.rsplit(".", 1) if "." in name else self.uses.get(name):
+                yield number, *meaning
 
     def renamed(self):
         """The names that stand for words of another name: (name, module, word)."""
-        meanings = {name: self.uses.get(name, (None, None)) for _, name, _ in self.names()}
+        meanings = {name: self.uses.get(name, (None, None)) for _, name in self.names()}
         return {(name, *meaning) for name, meaning in meanings.items() if meaning[1] not in (None, name)}
 
 
@@ -149,11 +145,10 @@ class Source:
             self.given.append((block.title, name, contract))
             return end
         self.contracts.append(contract)
-        # A law speaks of values beside its own names; a relation is no law.
-        text = " ".join(contract.lines).partition("{")[2]
-        if block.kind == "trait" and not re.search(r"Type 0 *\};?$", text):
-            if re.search(r"(?<![\w.])[a-z_]", re.sub(r"\((?:\w+ )+:", "", text)):
-                self.laws.add((block.title, name))
+        # A law speaks of values beside its own names.
+        text = re.sub(r"\((?:\w+ )+:", "", " ".join(contract.lines).partition("{")[2])
+        if block.kind == "trait" and re.search(r"(?<![\w.])[a-z_]", text):
+            self.laws.add((block.title, name))
         return end
 
 
@@ -164,7 +159,7 @@ class Sources:
         self._top = top
         self.paths = [str(path.relative_to(top)) for path in sorted(top.glob("crates/*/src/**/*.rt"))]
         self.crates = {crate_of(path) for path in self.paths}
-        self._handed_on = defaultdict(set)  # a source -> the names of it that others hand on; `*` is all of it
+        self._handed_on = defaultdict(set)  # a source -> the names of it that others hand on
         self._own = defaultdict(set)  # a crate -> the public names of its sources that are not left out
         self._laws = set()
         for path in self.paths:
@@ -201,18 +196,14 @@ class Sources:
         if not self.is_left_out(path):
             return contracts
         names, own = self._handed_on[path], self._own[crate_of(path)]
-        names = names | {source.aliases.get(name) for name in names}
-        return [contract for contract in contracts if "*" in names or contract.owner in names or
+        return [contract for contract in contracts if contract.owner in names or
                 contract.block.kind in ("impl", "trait") and contract.owner in own]
 
     def _note(self, path, target, name):
-        """Notes that a source hands on a module or a name of one."""
+        """Notes that a source hands on a name of a module. A module that is handed on as a whole is one of PUBLIC."""
         crate = target[0] if target[0] in self.crates else crate_of(path)
         rest = [part for part in target if part not in (crate, "crate")] + [name] * bool(name)
-        source = f"crates/{crate}/src/{'/'.join(rest)}.rt"
-        if source in self.paths:
-            self._handed_on[source].add("*")
-        elif rest:
+        if rest:
             self._handed_on[f"crates/{crate}/src/{'/'.join(rest[:-1])}.rt"].add(rest[-1])
 
 
