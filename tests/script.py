@@ -10,7 +10,7 @@ import __main__
 TOP = Path(__file__).resolve().parent.parent
 NAME = Path(sys.argv[0]).name
 sys.dont_write_bytecode = True
-sys.path[:0] = [str(TOP / folder) for folder in ("tests/model", "tests/bindings.d", f"tests/{NAME}.d")]
+sys.path[:0] = [str(TOP / folder) for folder in ("tests/model", "tests/bindings.d", f"tests/{NAME}.d", "python")]
 
 
 class Wrong(Exception):

@@ -79,20 +79,6 @@ def of_entries(rng, most):
     return near(rng, log_size), log_size, indices, leaves, damaged(rng, nodes, pool)
 
 
-def forged_entries(rng, log):
-    """A question about several entries of a log under a hash of eight bits: how many entries it has, the indices, and
-    random leaf hashes, one for each index, and digests, which are accepted if some are found in 512 tries."""
-    size = rng.randint(1, len(log.leaves))
-    indices = [rng.randrange(size) for _ in range(rng.randint(1, 3))]
-    count = len(logs.ranges(indices, size))
-    for _ in range(512):
-        words = [bytes([rng.randrange(256), *bytes(31)]) for _ in range(size + count)]
-        leaves = [rng.choice([log.leaves, words])[index] for index in indices]
-        if logs.entries(size, indices, leaves, words[size:], log.root(0, size)) == "accepted":
-            break
-    return size, indices, leaves, words[size:]
-
-
 def questions(rng):
     """Questions without end."""
     while True:
