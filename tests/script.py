@@ -1,4 +1,8 @@
-"""What scripts of tests/ share: their words, how they end, and programs that are built. It makes tests/model known."""
+"""What scripts of tests/ share: their words, how they end, and programs that are built. It makes tests/model known.
+
+`make` builds a program where it is not built, after the word `quick` with no proof; FOHLAZU names another fohlazu. A
+script ends with status 1 where something is wrong, 2 where its words are, 3 where something is missing.
+"""
 
 import os
 import subprocess
@@ -18,7 +22,7 @@ class Wrong(Exception):
 
 
 def fail(why, status=1):
-    """Ends the script: with status 1 where something is wrong, 2 for wrong words, 3 where something is missing."""
+    """Ends the script."""
     print(f"{NAME}: {why}", file=sys.stderr)
     sys.exit(status)
 
@@ -26,6 +30,14 @@ def fail(why, status=1):
 def check(is_so, *found):
     if not is_so:
         raise Wrong(" ".join(map(str, found)))
+
+
+def run_script(main):
+    """Runs a script to its end."""
+    try:
+        main()
+    except Wrong as wrong:
+        fail(wrong)
 
 
 def arguments(is_right=lambda numbers: not numbers):
@@ -39,7 +51,7 @@ def arguments(is_right=lambda numbers: not numbers):
 
 
 def built(is_quick, name="fohlazu"):
-    """The path of a program, which `make` builds where it is not built; FOHLAZU names another fohlazu."""
+    """The path of a program."""
     if name == "fohlazu" and os.environ.get("FOHLAZU"):
         return Path(os.environ["FOHLAZU"]).resolve()
     path = TOP / ("build/quick" if is_quick else "build") / name
