@@ -80,26 +80,32 @@ class Source:
             self.uses.update(names_of_use(target, many, alias))
         self.contracts, self.laws, self.traits, self.names = [], set(), set(), set(self.aliases)
         self.given = []  # what impls give for the ghost members of a trait: (trait, name, contract)
-        self._file = self._block = Block(None, None, None, True)
-        at = 0
-        while at < len(self.lines):
-            if self.lines[at] == "}":
-                self._block = self._file
-            found = ITEM.match(self.lines[at], 0 if self._block is self._file else 4)
-            read = {"fn": self._function, "ghost": self._ghost}.get(found[2], self._open) if found else None
-            at = 1 + (read(at, found[3], bool(found[1]), found[2]) if found else at)
+        file = block = Block(None, None, None, True)
+        for at, line in enumerate(self.lines):
+            block = file if line == "}" else block
+            found = ITEM.match(line, 0 if block is file else 4)
+            if found and found[2] == "fn":
+                name, owner, first, head = found[3], block.owner or found[3], at + 1, None
+                is_public = bool(found[1]) or (block.kind == "trait" and block.is_open)
+                self.names |= {owner} if is_public else set()
+            elif found and found[2] == "ghost":
+                self._note(found[3], self._contract(at, found[3], block.owner, block, block.is_open))
+            elif found:
+                block = self._opened(at, found[3], bool(found[1]), found[2]) or block
+            elif clause := CLAUSE.match(line):
+                head = head or (first, at)
+                self.contracts.append(self._contract(at, name, owner, block, is_public, *clause.groups(), head))
 
-    def _closing(self, at):
-        """The line of the brace that closes the first one of a line."""
-        depth = 0
-        while True:
-            depth += self.lines[at].count("{") - self.lines[at].count("}")
-            if depth == 0:
-                return at
-            at += 1
+    def _contract(self, at, name, owner, block, is_public, *of_clause):
+        """The contract that begins at a line, up to the brace that closes its first one."""
+        depth, end = 0, at
+        while depth or end == at:
+            depth += self.lines[end].count("{") - self.lines[end].count("}")
+            end += 1
+        return Contract(name, owner, block, self.uses, is_public, at + 1, self.lines[at:end], *of_clause)
 
-    def _open(self, at, name, is_public, kind):
-        """Opens the block of a trait, an impl, a struct or an enum, and gives the last line of its head."""
+    def _opened(self, at, name, is_public, kind):
+        """The block of a trait, an impl, a struct or an enum at a line, if it opens one."""
         end, title, owner = at, name, name
         while not self.lines[end].endswith((";", "{", "}")):
             end += 1
@@ -109,47 +115,24 @@ class Source:
                 head, changes = re.subn(r"<[^<>]*>", "", head)
             trait, _, own = re.split(r" where\b", head)[0].removeprefix("impl").rpartition(" for ")
             title, owner = ((re.findall(r"\b[A-Za-z_]\w*", part) or [None])[-1] for part in (trait, own))
-        if kind == "trait":
-            self.traits.add(name)
-        if is_public:
-            self.names.add(owner)
-        if self.lines[end].endswith("{"):
-            is_of_trait = kind == "impl" and title
-            self._block = Block("trait" if is_of_trait else kind, title, owner, is_public or kind == "impl")
-        return end
+        self.traits |= {name} if kind == "trait" else set()
+        self.names |= {owner} if is_public else set()
+        if not self.lines[end].endswith("{"):
+            return None
+        return Block("trait" if kind == "impl" and title else kind, title, owner, is_public or kind == "impl")
 
-    def _function(self, at, name, is_public, _):
-        block, first, head = self._block, at, None
-        is_public = is_public or (block.kind == "trait" and block.is_open)
-        owner = block.owner or name
-        if is_public:
-            self.names.add(owner)
-        while True:
-            if clause := CLAUSE.match(self.lines[at]):
-                end, head = self._closing(at), head or (first + 1, at)
-                words = name, owner, block, self.uses, is_public, at + 1, self.lines[at:end + 1], *clause.groups(), head
-                self.contracts.append(Contract(*words))
-                at = end
-            elif self.lines[at].endswith("{"):
-                return self.lines.index("}" if block is self._file else "    }", at)
-            if self.lines[at].endswith((";", "{}")):
-                return at
-            at += 1
-
-    def _ghost(self, at, name, *_):
-        end, block = self._closing(at), self._block
-        if name == "invariant":  # it speaks of private fields, and promises a caller nothing
-            return end
-        contract = Contract(name, block.owner, block, self.uses, block.is_open, at + 1, self.lines[at:end + 1])
-        if re.match(r" *ghost \w+ =", self.lines[at]):
+    def _note(self, name, contract):
+        """Notes a ghost member. An invariant speaks of private fields, and promises a caller nothing."""
+        block, text = contract.block, " ".join(contract.lines).partition("{")
+        if name == "invariant":
+            return
+        if re.match(r" *ghost \w+ =", text[0]):
             self.given.append((block.title, name, contract))
-            return end
+            return
         self.contracts.append(contract)
         # A law speaks of values beside its own names.
-        text = re.sub(r"\((?:\w+ )+:", "", " ".join(contract.lines).partition("{")[2])
-        if block.kind == "trait" and re.search(r"(?<![\w.])[a-z_]", text):
+        if block.kind == "trait" and re.search(r"(?<![\w.])[a-z_]", re.sub(r"\((?:\w+ )+:", "", text[2])):
             self.laws.add((block.title, name))
-        return end
 
 
 class Sources:
