@@ -29,7 +29,8 @@ class Sumdb:
         self._process = subprocess.Popen([folder / "sumdb"], stdin=subprocess.PIPE, stdout=subprocess.PIPE)
 
     def ask(self, *words):
-        """The answer to a question, or None where Go refuses."""
+        """The answer to a question, or None where Go refuses. A proof is a list."""
+        words = [b"".join(word) if isinstance(word, list) else word for word in words]
         words = [word if isinstance(word, bytes) else str(word).encode() for word in words]
         self._process.stdin.write(b" ".join(map(b64encode, words)) + b"\n")
         self._process.stdin.flush()
