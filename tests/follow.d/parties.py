@@ -12,14 +12,10 @@ from script import TOP, check
 
 SHARE, ORIGIN, SECONDS, BLOCK = TOP / "share", "ledger.example", 120, 4096
 SHELL = os.environ.get("SHELL_OF_TESTS") or shutil.which("dash") or "sh"
-# What a run without its arguments prints: the comment at the top of the script.
-HEADER = "".join(line[1:].removeprefix(" ") for line in (SHARE / "fohlazu-follow").read_text().partition("set -eu")[0]
-                 .splitlines(True)[1:]).encode()
 PAGE = b"<html>\n\n<h1>404</h1>\n\n\xe2\x80\x94 not found\n"
-NOT_WHOLE = b" is no growth proof, or not whole: fetch it again ("
-# What is said of forgeries; of the others that they are refused.
-SAID = dict.fromkeys(["a cut proof", "nothing", "a page", "a carriage return", "not signed"], NOT_WHOLE)
-SAID["another old count"] = b" begins at "
+# What fohlazu-follow says of forgeries.
+REFUSED, NOT_WHOLE, BEGINS = b" is refused: ", b" is no growth proof, or not whole: fetch it again (", b" begins at "
+USAGE = b"fohlazu-follow DIR VKEY PROOF "
 
 
 def run(*words, data=b"", **settings):
@@ -81,7 +77,7 @@ class Operator:
         return printed(run(os.environ["FOHLAZU"], "prove-consistency", *words))
 
     def forged(self, old):
-        """What is refused after a checkpoint of so many entries, by why it is."""
+        """What is refused after a checkpoint of so many entries: why, what a witness answers, what is said, a proof."""
         size, text, source = len(self.lines), log_texts.consistency_text, self.source
         root, other = self.log.root(0, size), source.randbytes(32)
         rewritten = logs.Log([*self.lines[: old - 1], b"other", *self.lines[old:]])
@@ -89,25 +85,27 @@ class Operator:
         unsigned, false = (log_texts.checkpoint_text(ORIGIN.encode(), size, value) for value in (root, other))
         at, place = source.randrange(len(digests)), source.randrange(len(new) - 90, len(new) - 10)
         changed = new[:place] + (b"B" if new[place:place + 1] == b"A" else b"A") + new[place + 1:]
-        return {
-            "another key": text(old, digests, self.signed(size, root, self.other)),
-            "another name": text(old, digests, self.signed(size, root, origin="other.example")),
-            "not signed": text(old, digests, unsigned),
-            "another signature": text(old, digests, changed),
-            "another root than the signed one": text(old, digests, new.replace(unsigned, false)),
-            "a root of no log": text(old, digests, self.signed(size, other)),
-            "another digest": text(old, [*digests[:at], other, *digests[at + 1:]], new),
-            "a digest less": text(old, digests[:at] + digests[at + 1:], new),
-            "a digest more": text(old, [*digests, other], new),
-            "another old count": text(old + 1, digests, new),
-            "a smaller log": text(old, [], self.signed(old - 1, self.log.root(0, old - 1))),
-            "a rewritten log": text(old, rewritten.consistency(old, size),
-                                    self.signed(size, rewritten.root(0, size))),
-            "a cut proof": text(old, digests, new)[: -source.randint(1, 100)],
-            "nothing": b"",
-            "a page": PAGE,
-            "a carriage return": text(old, digests, new).replace(b"\n", b"\r\n"),
-        }
+        elsewhere, smaller = self.signed(size, root, origin="other.example"), self.log.root(0, old - 1)
+        true, with_another = text(old, digests, new), [*digests[:at], other, *digests[at + 1:]]
+        return [
+            ("another key", 403, REFUSED, text(old, digests, self.signed(size, root, self.other))),
+            ("another name", 404, REFUSED, text(old, digests, elsewhere)),
+            ("not signed", 403, NOT_WHOLE, text(old, digests, unsigned)),
+            ("another signature", 403, REFUSED, text(old, digests, changed)),
+            ("another root than the signed one", 403, REFUSED, text(old, digests, new.replace(unsigned, false))),
+            ("a root of no log", 422, REFUSED, text(old, digests, self.signed(size, other))),
+            ("another digest", 422, REFUSED, text(old, with_another, new)),
+            ("a digest less", 422, REFUSED, text(old, digests[:at] + digests[at + 1:], new)),
+            ("a digest more", 422, REFUSED, text(old, [*digests, other], new)),
+            ("another old count", 409, BEGINS, text(old + 1, digests, new)),
+            ("a smaller log", 400, REFUSED, text(old, [], self.signed(old - 1, smaller))),
+            ("a rewritten log", 422, REFUSED, text(old, rewritten.consistency(old, size),
+                                                   self.signed(size, rewritten.root(0, size)))),
+            ("a cut proof", 400, NOT_WHOLE, true[: -source.randint(1, 100)]),
+            ("nothing", 400, NOT_WHOLE, b""),
+            ("a page", 400, NOT_WHOLE, PAGE),
+            ("a carriage return", 400, NOT_WHOLE, true.replace(b"\n", b"\r\n")),
+        ]
 
     def histories(self, old):
         """A signed checkpoint of so many entries with another root, in two proofs, a true one and another."""
@@ -158,7 +156,7 @@ class Customer:
         before, ran = contents(self.folder), self.step(proof, words, **settings)
         lines = [line for line in ran.stderr.splitlines() if not line.startswith(b"cat: ")]
         is_said = len(lines) == 1 and lines[0].startswith(b"fohlazu-follow: ") and said in lines[0]
-        is_said |= ran.stderr == HEADER and words is not None and len(words) != 3
+        is_said |= ran.stderr.startswith(USAGE) and words is not None and len(words) != 3
         is_same = contents(self.folder) == before
         check(ran.returncode == status and not ran.stdout and is_said and is_same, why, ran, proof)
         self.counts["refused"] += 1
