@@ -1,4 +1,4 @@
-"""What scripts of tests/ share: their words, how they end, and programs that are built. It makes tests/model known.
+"""What scripts of tests/ share: the folders of their modules, their words, how they end, and programs that are built.
 
 `make` builds a program where it is not built, after the word `quick` with no proof; FOHLAZU names another fohlazu. A
 script ends with status 1 where something is wrong, 2 where its words are, 3 where something is missing.
@@ -14,7 +14,8 @@ import __main__
 TOP = Path(__file__).resolve().parent.parent
 NAME = Path(sys.argv[0]).name
 sys.dont_write_bytecode = True
-sys.path[:0] = [str(TOP / folder) for folder in ("tests/model", "tests/bindings.d", f"tests/{NAME}.d", "python")]
+FOLDERS = "tests/model", "tests/bindings.d", "tests/peers.d", f"tests/{NAME}.d", "python"
+sys.path[:0] = [str(TOP / folder) for folder in FOLDERS]
 
 
 class Wrong(Exception):

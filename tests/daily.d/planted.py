@@ -18,10 +18,10 @@ def await_lock(folder) -> None:
 
 def refuse(play, why: str, status: int, said: bytes) -> None:
     """A run that says so, and stores and signs nothing."""
-    before, signed, ran = play.stored(), play.signatures(), play.run()
+    before, signed, ran = play.stored(), play.signed.read_bytes(), play.run()
     check((ran.returncode, ran.stdout) == (status, b"") and said in ran.stderr, why, ran)
     check(ran.stderr.count(b"\n") == 1 and b".work" not in ran.stderr, why, ran)
-    check((play.stored(), play.signatures()) == (before, signed), why, "is stored or signed")
+    check((play.stored(), play.signed.read_bytes()) == (before, signed), why, "is stored or signed")
     play.counts["planted or restored files refused"] += 1
 
 

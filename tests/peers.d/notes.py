@@ -10,7 +10,7 @@ import golang
 import log_texts
 from keys import Key
 
-SOURCE = Path(__file__).resolve().parent.parent / "peers.d/sumdb.go"
+SOURCE = Path(__file__).resolve().parent / "sumdb.go"
 # Letters of names and of lines, with those that a shell or a regular expression could take for something else.
 NAME = "abcdefghijklmnopqrstuvwxyz0123456789.-_/\\*?[]$`'\"(){}<>|&;~#%^=@!:,é—\u3001\U0001f600\ufffd\x7f"
 LINE = NAME + "    ++\u00a0\u3000"
