@@ -27,7 +27,7 @@ pub returns-clause-verdict : goal.returns-clause-verdict
 returns-clause-verdict g c =
     let at = λ (ds : List Dimensions). params_of c.args.scheme.now (shape_of g.row.N ds) in
     let same = c.deref.ensures.value ∙ c.in_ok-cap.ensures.dimensions in
-    let shown = c.from.ensures in
+    let shown = c.from-honest.ensures in
     let is = subst (λ (z : List Dimensions × Opening _ _). IsExactVerdict
     (presented g.PW.Value.PartialEq.eq (at z.0) (roots_of c.in_ok-cap.cap) z.1) c.verify_batch-verdict.result)
     (λ i. (same i, opening_of c.args.index (row_lists (shown.0 i)) (shown.1 i).items))
@@ -45,14 +45,14 @@ returns-clause-compared g c =
     let cap = roots_of c.in_ok-cap.cap in
     let o = opening_borrowed c.args.index c.args.claimed in
     let u = opening_made c.args.index c.in_ok-opening.opening in
-    let r = c.extract_collision-collision.result in
+    let r = c.extract_collision-found.result in
     let accepted = c.in_ok-opening.ensures.opened.is_accepted cap c.in_ok-cap.ensures.committed in
-    let same = c.deref.ensures.value ∙ c.in_ok-cap.ensures.dimensions in
+    let same = c.deref-2.ensures.value ∙ c.in_ok-cap.ensures.dimensions in
     let lent = c.from-honest.ensures in
     let is = subst (λ (z : List Dimensions × Opening _ _). IsExtraction row_eq digest_eq rule (at z.0)
     (presented digest_eq (at z.0) cap o) (presented digest_eq (at z.0) cap z.1) (found_alone r))
     (λ i. (same i, opening_of c.args.index (row_lists (lent.0 i)) (lent.1 i).items))
-    c.extract_collision-collision.ensures in
+    c.extract_collision-found.ensures in
     let unrefused = accepted_unrefused row_eq digest_eq p cap g.met.P.PackedValue.eq_is_equality
     g.met.PW.PackedValue.eq_is_equality c.answers.ensures.single u accepted in
     compared row_eq digest_eq rule p cap o u refl unrefused accepted r is

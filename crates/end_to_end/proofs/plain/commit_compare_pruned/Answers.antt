@@ -54,8 +54,8 @@ returns-clause-compared g c =
     let q = pruned_made indices c.in_ok-opening.opening in
     let r = c.extract_collision_multi-found.result in
     let accepted = c.in_ok-opening.ensures.opened.is_accepted cap c.in_ok-cap.ensures.committed in
-    let same = c.deref.ensures.value ∙ c.in_ok-cap.ensures.dimensions in
-    let lent = c.deref-2.ensures.value in
+    let same = c.deref-3.ensures.value ∙ c.in_ok-cap.ensures.dimensions in
+    let lent = c.deref-4.ensures.value in
     let is = subst (λ (z : List Dimensions × PrunedOpening _ _). IsExtraction row_eq digest_eq rule (at z.0)
     (presented_pruned row_eq digest_eq (at z.0) cap p) (presented_pruned row_eq digest_eq (at z.0) cap z.1)
     (found_pair r))
