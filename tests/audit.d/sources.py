@@ -153,6 +153,8 @@ class Sources:
                 for target, names in source.handed_on:
                     for name in re.findall(r"\w+", names) or [None]:
                         self._note(path, target.split("::"), name)
+                    if target.split("::")[0] not in self.crates:
+                        self._own[crate_of(path)] |= set(re.findall(r"\w+", names))
 
     @cache
     def read(self, path):
