@@ -106,6 +106,7 @@ check-quick: toolchain documents quick
 	@$(ALONE) python3 tests/quick
 
 check: toolchain documents
+	@python3 tests/size
 	@$(ALONE) rt ci
 
 install: $(PROGRAMS:%=$(FROM)/%) $(LIBRARY)
