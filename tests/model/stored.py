@@ -34,26 +34,22 @@ def of_rust(line):
     return answers[-1], replayed.answer(case)
 
 
-def of_log(answer):
-    """A question that has its answer after a tab."""
-    return lambda line: (line.split("\t")[1], answer(line.split("\t")[0]))
+def of_logs(line):
+    """The same of a case about logs."""
+    question, _, expected = line.partition(" |")
+    return expected.strip(), log_answers.answer(question)
 
 
 # What answers the cases of each crate.
-ANSWERS = {"merkle_cases": of_library, "mmcs_cases": program.case_of, "rust_answers": of_rust,
-           "log_text_answers": of_log(log_answers.of_text), "log_files_answers": of_log(log_answers.of_file)}
-OF_LOGS = ["log_text_answers", "log_files_answers"]
+ANSWERS = {"merkle_cases": of_library, "mmcs_cases": program.case_of, "rust_answers": of_rust, "log_cases": of_logs}
 
 
 def lines_of(crate):
-    """The stored lines of a crate; a question about logs with its answer."""
+    """The stored lines of a crate."""
     folder = CRATES / crate
     if crate == "rust_answers":
         return [line for path in sorted((folder / "data").iterdir()) for line in path.read_text().split("\n")]
-    lines = (folder / "stdin").read_text().split("\n")
-    if crate in OF_LOGS:
-        return map("\t".join, zip(lines[:-1], (folder / "stdout").read_text().split("\n")))
-    return lines
+    return (folder / "stdin").read_text().split("\n")
 
 
 def tests(crate, is_quick):
@@ -61,7 +57,7 @@ def tests(crate, is_quick):
     for number, line in enumerate(lines_of(crate), 1):
         if line.strip() and not line.startswith("#") and not (is_quick and SLOW.search(line)):
             expected, answer = ANSWERS[crate](line)
-            kind = line.split("|")[0].strip() if crate == "merkle_cases" else "a case"
+            kind = re.match("[a-z_0-9]+", line)[0] if crate in ("merkle_cases", "log_cases") else "a case"
             yield f"{crate}: {kind}", [] if answer == expected else [f"line {number}: {line[:400]}",
                                                                      f"the model answers: {answer[:400]}"]
     if crate == "merkle_cases":

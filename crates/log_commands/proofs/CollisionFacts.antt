@@ -12,7 +12,7 @@ use Rattle.tlog.specs.{Rfc9162.leaf_hash, Rfc9162.root_of, Collisions.entries_of
 use Rattle.tlog.specs.Verdicts.{IsConsistent, consistency_refusal, size_limit}
 use Rattle.tlog.proofs.Accepted.{consistency_accepted}
 use Rattle.tlog.specs.declared.collision.Collision.{Collision}
-use Rattle.tlog_collisions.specs.Fixed.{RootsFixPrefix}
+use Rattle.tlog.specs.Fixed.{RootsFixPrefix}
 use Rattle.tlog_entries.specs.{Entries.entries_refusal, Fixed.RootFixesLeaves}
 use Rattle.tlog_entries.proofs.EntriesFacts.{unrefused}
 use Rattle.log_text.specs.Reading.{checkpoint_in, consistency_in, entries_in as proof_in}

@@ -22,7 +22,7 @@ use log_text::{Checkpoint, EntriesProof, Entry};
 use sha2::Sha256;
 use std::alloc::{AllocError, Global};
 use tlog::collision::{Collision, leaf_input};
-use tlog_collisions::prefix_collision;
+use tlog::prefix_collision;
 use tlog_entries::entries_collision;
 
 /// A collision, if `verify` prints entries of a proof under the checkpoint of a file, and one of them is not the file's

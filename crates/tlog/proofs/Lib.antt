@@ -9,3 +9,10 @@ pub mod Entries
 pub mod Begun
 pub mod Roots
 pub mod Powers
+pub mod TwoWalks
+pub mod Consistencies
+pub mod Halves
+pub mod Sides
+pub mod Lifts
+pub mod Composed
+pub mod Kept

@@ -1,2 +1,4 @@
 -- Definitions that only proofs, and calls that no public contract mentions, use.
 pub mod Inputs
+pub mod Nodes
+pub mod Lifts

@@ -4,4 +4,6 @@ pub mod Verdicts
 pub mod Laws
 pub mod Climbs
 pub mod Collisions
+pub mod Fixed
+pub mod Composed
 pub mod Inner

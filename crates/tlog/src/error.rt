@@ -1,5 +1,9 @@
-//! Why a proof is refused.
+//! Why a proof is refused, and why two are not composed.
+ghost use Rattle.std.specs.Prelude.{◌≡◌};
+ghost use Rattle.tlog.specs.declared.error.ComposeError.TheVariants.{OutOfMemory};
 
+use crate::collision::Collision;
+use std::alloc::{AllocError, AllocFailed};
 use thiserror::Error;
 
 /// Why a proof is refused: the first reason that applies, in the order of the variants.
@@ -26,4 +30,37 @@ pub enum ProofError {
     /// The proof leads to another root, in a proof of consistency another new one.
     #[error("the proof is of another root")]
     RootMismatch,
+}
+
+/// Why two proofs of consistency are not composed: the first reason that applies, in the order of the variants.
+#[derive(Debug, Drop, Error)]
+pub enum ComposeError {
+    /// The first proof is not accepted.
+    #[error("the first proof is refused: {0}")]
+    First(ProofError),
+    /// The second proof is not accepted.
+    #[error("the second proof is refused: {0}")]
+    Second(ProofError),
+    /// The hash function has a collision, by which both proofs compute one middle root.
+    #[error("two different byte strings have one hash")]
+    Collision(Collision),
+    /// Memory ran out.
+    #[error("out of memory")]
+    OutOfMemory,
+}
+
+impl From<AllocError> for ComposeError {
+    ghost from_gives = { λ _ error. error ≡ OutOfMemory };
+
+    fn from(_error: AllocError) -> ComposeError {
+        ComposeError::OutOfMemory
+    }
+}
+
+impl<T: Drop> From<AllocFailed<T>> for ComposeError {
+    ghost from_gives = { λ _ error. error ≡ OutOfMemory };
+
+    fn from(_error: AllocFailed<T>) -> ComposeError {
+        ComposeError::OutOfMemory
+    }
 }

@@ -8,7 +8,7 @@ use Rattle.p3_merkle_core.specs.Views.{shown_path, shown_paths}
 use Rattle.p3_merkle_core.specs.declared.pruning.AuthPath.{AuthPath}
 use Rattle.tlog.specs.Rfc9162.{Hash as HashFunction, root_of}
 use Rattle.tlog.specs.Verdicts.{size_limit}
-use Rattle.tlog_collisions.specs.Fixed.{RootFixesLeaf}
+use Rattle.tlog.specs.Fixed.{RootFixesLeaf}
 use Rattle.tlog_entries.specs.Entries.{AreIncluded, entries_opening}
 use Rattle.tlog_entries.specs.Fixed.{RootFixesLeaves}
 use Rattle.tlog_entries.specs.Inner.Paths.{siblings_of}

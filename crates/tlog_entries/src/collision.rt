@@ -1,7 +1,7 @@
 //! What an accepted proof of several entries shows of them, or else a collision of the hash function.
 ghost use Rattle.std.specs.Prelude.{◌≡◌, ◌↔◌, ◌<◌, ℕ, [], IfOk, IfSome, IsNone, length, slice_index, slice_index_or};
 ghost use Rattle.tlog.specs.Collisions.{IsCollision, entries_of};
-ghost use Rattle.tlog_collisions.specs.Fixed.{RootFixesLeaf};
+ghost use Rattle.tlog.specs.Fixed.{RootFixesLeaf};
 ghost use Rattle.tlog_entries.specs.Fixed.{RootFixesLeaves};
 ghost use Rattle.tlog_entries.specs.Inner.Paths.{siblings_of};
 ghost use Rattle.tlog_entries.specs.Instance.{present as present_in};
@@ -13,9 +13,8 @@ use crate::tree::{dimensions_of, log_scheme};
 use crate::verify::verify;
 use p3_merkle_core::pruning::MerkleAuthPath;
 use std::alloc::{AllocError, Global};
-use tlog::LogHash;
 use tlog::collision::{Collision, root};
-use tlog_collisions::leaf_collision;
+use tlog::{LogHash, leaf_collision};
 
 /// A collision, if one proof of several leaf hashes is accepted under the root of the entries, and one of them is not
 /// that of the entry at its index, counted from 0; else `None`. The hash function may be any whose values have 32 bytes.

@@ -10,7 +10,7 @@ use Rattle.p3_merkle_core.specs.Pruning.{pruned_of, restored_path, restored_path
 use Rattle.p3_merkle_mmcs.specs.Schemes.{params_of}
 use Rattle.tlog.specs.Collisions.{entries_of}
 use Rattle.tlog.specs.declared.collision.Collision.{Collision}
-use Rattle.tlog_collisions.specs.Fixed.{RootFixesLeaf}
+use Rattle.tlog.specs.Fixed.{RootFixesLeaf}
 use Rattle.tlog_entries.specs.Entries.{entries_opening}
 use Rattle.tlog_entries.specs.Fixed.{RootFixesLeaves}
 use Rattle.tlog_entries.specs.Inner.Paths.{siblings_of}

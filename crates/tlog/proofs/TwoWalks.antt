@@ -1,0 +1,182 @@
+-- Two walks of inclusion side by side: both end at one root.
+use Rattle.std.proofs.Common.{◌≡◌, ◌≢◌, ℕ, ◌+◌, ◌/◌, ◌%◌, ◌^◌, ◌<◌, ◌≤◌, sym, ap, ◌∙◌, arith, inl, inr}
+use Rattle.std.proofs.Common.{List, [], ◌∷◌, ◌++◌, length, drop, get_or, Some, true, false}
+use Rattle.std.proofs.Common.{Vec, Global}
+use Rattle.std.specs.Prelude.{◌==◌, Option, ◌↔◌, Bool, Result, Ok, Err, IsOk}
+use Rattle.std.specs.Cmp.Lexicographic.{bytes_decides}
+use Rattle.std.specs.Result.{is_err}
+use Rattle.std.specs.Int.{w64, trailing_zeros}
+use Rattle.std.proofs.lemmas.Bool.Decides.{leb_tells, eqb_tells, nat_tests}
+use Rattle.std.proofs.lemmas.Nat.Bits.{bit_at-trailing_zeros}
+use Rattle.std.proofs.lemmas.List.{at_drop_more, at_drop_all, get_or_default, get_or-map}
+use Rattle.tlog.specs.Collisions.{entries_of}
+use Rattle.tlog.specs.Fixed.{RootFixesEntry, RootFixesLeaf, RootFixesProof}
+use Rattle.tlog.specs.Rfc9162.{Hash, inclusion_walk, is_left, leaf_hash, node_hash, path_of, root_of}
+use Rattle.tlog.specs.Verdicts.{IsIncluded, is_same}
+use Rattle.tlog.proofs.Entries.{halves_equal, length-entries}
+use Rattle.tlog.proofs.Honest.{included}
+use Rattle.tlog.proofs.Walks.{inclusion_ends, inclusion_left, inclusion_right, inclusion_stops}
+
+-- where both walks stand: they lead to the root, and both values and the digests that are left are equal exactly if
+-- both
+-- leaf hashes and all digests are
+pub record Stand (hash : Hash) (leaf other_leaf : List ℕ) (P Q : List (List ℕ)) (root : List ℕ) (i fn sn : ℕ)
+    (r s : List ℕ) : Type 0 where
+  pub ends : inclusion_walk hash (drop i P) fn sn r ≡ Some (0, root)
+  pub other_ends : inclusion_walk hash (drop i Q) fn sn s ≡ Some (0, root)
+  pub same : r ≡ s → drop i P ≡ drop i Q → (leaf ≡ other_leaf) × (P ≡ Q)
+  pub alike : leaf ≡ other_leaf → P ≡ Q → r ≡ s
+
+not_zero : (hash : Hash) (P : List (List ℕ)) (i fn sn : ℕ) (r root : List ℕ) → i < length P →
+    inclusion_walk hash (drop i P) fn sn r ≡ Some (0, root) → 0 < sn
+not_zero hash P i fn sn r root h e = elim (eqb_tells sn 0) [
+  | inl (t, z) ↦ let no = sym (inclusion_stops hash P i fn sn r h z) ∙ e in absurd cc
+  | inr (f, other) ↦ omega arith
+]
+
+at_end : (hash : Hash) (P : List (List ℕ)) (i fn sn : ℕ) (r root : List ℕ) → length P ≤ i →
+    inclusion_walk hash (drop i P) fn sn r ≡ Some (0, root) → (sn ≡ 0) × (r ≡ root)
+at_end hash P i fn sn r root h e =
+    let both : ◌≡◌ {A = Option (ℕ × List ℕ)} (Some (sn, r)) (Some (0, root)) =
+    sym (inclusion_ends hash P i fn sn r h) ∙ e in
+    let pair : ◌≡◌ {A = ℕ × List ℕ} (sn, r) (0, root) = cc in
+    (ap (λ (x : ℕ × List ℕ). x.0) pair, ap (λ (x : ℕ × List ℕ). x.1) pair)
+
+-- the other proof is as long
+pub other_more : (hash : Hash) (leaf other_leaf : List ℕ) (P Q : List (List ℕ)) (root : List ℕ) (i fn sn : ℕ)
+    (r s : List ℕ) → Stand hash leaf other_leaf P Q root i fn sn r s → i < length P → (0 < sn) × (i < length Q)
+other_more hash leaf other_leaf P Q root i fn sn r s w h =
+    let some = not_zero hash P i fn sn r root h w.ends in
+    elim (leb_tells (length Q) i) [
+      | inl (t, all) ↦ let e = (at_end hash Q i fn sn s root all w.other_ends).0 in absurd (omega arith)
+      | inr (f, more) ↦ (some, omega arith)
+    ]
+
+-- at the end both questions are one
+pub at_root : (hash : Hash) (leaf other_leaf : List ℕ) (P Q : List (List ℕ)) (root : List ℕ) (i fn sn : ℕ)
+    (r s : List ℕ) → Stand hash leaf other_leaf P Q root i fn sn r s → length P ≤ i → (leaf ≡ other_leaf) × (P ≡ Q)
+at_root hash leaf other_leaf P Q root i fn sn r s w h =
+    let e = at_end hash P i fn sn r root h w.ends in
+    elim (leb_tells (length Q) i) [
+      | inr (f, more) ↦ let some = not_zero hash Q i fn sn s root (omega arith) w.other_ends in
+          let z = e.0 in absurd (omega arith)
+      | inl (t, all) ↦
+          let o = at_end hash Q i fn sn s root all w.other_ends in
+          w.same (e.1 ∙ sym o.1)
+          (at_drop_all (λ (x : List (List ℕ)). x) P i h ∙ sym (at_drop_all (λ (x : List (List ℕ)). x) Q i all))
+    ]
+
+-- a step up: a and b are hashed for one walk, c and d for the other
+step : (hash : Hash) (leaf other_leaf : List ℕ) (P Q : List (List ℕ)) (root : List ℕ) (i fn sn : ℕ) (r s : List ℕ) →
+    Stand hash leaf other_leaf P Q root i fn sn r s → i < length P → (up last : ℕ) (v w : List ℕ) →
+    inclusion_walk hash (drop (i + 1) P) up last v ≡ Some (0, root) →
+    inclusion_walk hash (drop (i + 1) Q) up last w ≡ Some (0, root) →
+    (v ≡ w → (r ≡ s) × (get_or P i [] ≡ get_or Q i [])) →
+    ((r ≡ s) → get_or P i [] ≡ get_or Q i [] → v ≡ w) →
+    Stand hash leaf other_leaf P Q root (i + 1) up last v w
+step hash leaf other_leaf P Q root i fn sn r s stand h up last v w ends other_ends apart again =
+    let more = (other_more hash leaf other_leaf P Q root i fn sn r s stand h).1 in
+    record {
+      ends = ends;
+      other_ends = other_ends;
+      same = λ e rest.
+          let both = apart e in
+          stand.same both.0
+          (at_drop_more (λ (x : List (List ℕ)). x) P i [] h ∙ rw (both.1, rest)
+          (sym (at_drop_more (λ (x : List (List ℕ)). x) Q i [] more)));
+      alike = λ e q. again (stand.alike e q) (ap (λ (x : List (List ℕ)). get_or x i []) q);
+    }
+
+pub step_left : (hash : Hash) (leaf other_leaf : List ℕ) (P Q : List (List ℕ)) (root : List ℕ) (i fn sn : ℕ)
+    (r s p q : List ℕ) → Stand hash leaf other_leaf P Q root i fn sn r s → i < length P → is_left fn sn ≡ true →
+    p ≡ get_or P i p → q ≡ get_or Q i q →
+    (node_hash hash p r ≡ node_hash hash q s → (p ≡ q) × (r ≡ s)) →
+    Stand hash leaf other_leaf P Q root (i + 1) (fn / 2 ^ trailing_zeros w64 fn / 2)
+    (sn / 2 ^ trailing_zeros w64 fn / 2) (node_hash hash p r) (node_hash hash q s)
+step_left hash leaf other_leaf P Q root i fn sn r s p q stand h l at_p at_q apart =
+    let both = other_more hash leaf other_leaf P Q root i fn sn r s stand h in
+    let some = both.0 in
+    let dp = at_p ∙ get_or_default P i p [] h in
+    let dq = at_q ∙ get_or_default Q i q [] both.1 in
+    let z : (sn == 0) ≡ false = grind (arith, nat_tests) in
+    step hash leaf other_leaf P Q root i fn sn r s stand h _ _ _ _
+    (rw dp (sym (inclusion_left hash P i fn sn r [] h z l) ∙ stand.ends))
+    (rw dq (sym (inclusion_left hash Q i fn sn s [] both.1 z l) ∙ stand.other_ends))
+    (λ e. let c = apart e in (c.1, sym dp ∙ c.0 ∙ dq))
+    (λ e g. rw (e, dp, dq, g))
+
+pub step_right : (hash : Hash) (leaf other_leaf : List ℕ) (P Q : List (List ℕ)) (root : List ℕ) (i fn sn : ℕ)
+    (r s p q : List ℕ) → Stand hash leaf other_leaf P Q root i fn sn r s → i < length P → is_left fn sn ≡ false →
+    p ≡ get_or P i p → q ≡ get_or Q i q →
+    (node_hash hash r p ≡ node_hash hash s q → (r ≡ s) × (p ≡ q)) →
+    Stand hash leaf other_leaf P Q root (i + 1) (fn / 2) (sn / 2) (node_hash hash r p) (node_hash hash s q)
+step_right hash leaf other_leaf P Q root i fn sn r s p q stand h l at_p at_q apart =
+    let both = other_more hash leaf other_leaf P Q root i fn sn r s stand h in
+    let some = both.0 in
+    let dp = at_p ∙ get_or_default P i p [] h in
+    let dq = at_q ∙ get_or_default Q i q [] both.1 in
+    let z : (sn == 0) ≡ false = grind (arith, nat_tests) in
+    step hash leaf other_leaf P Q root i fn sn r s stand h _ _ _ _
+    (rw dp (sym (inclusion_right hash P i fn sn r [] h z l) ∙ stand.ends))
+    (rw dq (sym (inclusion_right hash Q i fn sn s [] both.1 z l) ∙ stand.other_ends))
+    (λ e. let c = apart e in (c.0, sym dp ∙ c.1 ∙ dq))
+    (λ e g. rw (e, dp, dq, g))
+
+-- the children of what is hashed for a node
+pub children : (n : ℕ) (a b c d : List ℕ) → length a ≡ n → length c ≡ n → 1 ∷ (a ++ b) ≡ 1 ∷ (c ++ d) →
+    (a ≡ c) × (b ≡ d)
+children n a b c d la lc e = let rest : a ++ b ≡ c ++ d = cc in halves_equal n a b c d la lc rest
+
+-- nodes are shifted by less than their bits
+pub left_shift : (fn sn : ℕ) → fn < 2 ^ 64 → 0 < sn → is_left fn sn ≡ true → trailing_zeros w64 fn < 64
+left_shift fn sn fits some l = elim (eqb_tells fn 0) [
+  | inl (t, z) ↦
+      let odd : (fn % 2 == 1) ≡ false = grind (arith, nat_tests) in
+      let unlike : (fn == sn) ≡ false = grind (arith, nat_tests) in
+      let no = rw (odd, unlike) at l in absurd cc
+  | inr (f, other) ↦ (bit_at-trailing_zeros w64 fn (omega arith) fits).0
+]
+
+-- ---- under the root of entries
+
+-- an entry, as the code reads it
+pub leaf_at : (v : List (Vec ℕ Global)) (i : ℕ) (x : Vec ℕ Global) → i < length v → x ≡ get_or v i x →
+    get_or (entries_of v) i [] ≡ x.items
+leaf_at v i x h e =
+    get_or-map (λ (entry : Vec ℕ Global). entry.items) v i x [] h
+    ∙ ap (λ (entry : Vec ℕ Global). entry.items) (sym e)
+
+-- beside the honest proof another leaf hash is accepted exactly if the leaf hash is not fixed
+pub leaf_fixed : (hash : Hash) (v : List (Vec ℕ Global)) (index : ℕ) (leaf : List ℕ) (path : List (List ℕ))
+    (expected : List ℕ) (honest : List (List ℕ)) (root : List ℕ) → index < length v →
+    expected ≡ leaf_hash hash (get_or (entries_of v) index []) → honest ≡ path_of hash index (entries_of v) →
+    root ≡ root_of hash (entries_of v) → leaf ≢ expected →
+    RootFixesProof hash index (length v) leaf path expected honest root ↔ RootFixesLeaf hash (entries_of v) index leaf
+    path
+leaf_fixed hash v index leaf path expected honest root within e p r other =
+    let len = length-entries v in (
+      λ fixed small is.
+          let shown : IsIncluded hash index (length v) expected honest root = record {
+            within = within;
+            ends = rw (e, p, r, ← len) (included hash (leaf_hash hash) (entries_of v) index [] (omega arith) small);
+          } in
+          (fixed (omega arith) (rw (r, ← len) is) shown).0 ∙ e,
+      λ fixed small is honest_is. absurd (other (fixed (omega arith) (rw (r, ← len) at is) ∙ sym e)),
+    )
+
+-- with another leaf hash than that of the entry, the entry is another
+pub entry_fixed : (hash : Hash) (D : List (List ℕ)) (index : ℕ) (entry leaf : List ℕ) (path : List (List ℕ)) →
+    leaf ≡ leaf_hash hash entry → leaf ≢ leaf_hash hash (get_or D index []) →
+    RootFixesLeaf hash D index leaf path ↔ RootFixesEntry hash D index entry path
+entry_fixed hash D index entry leaf path e other = (
+  λ fixed small is. absurd (other (fixed small (rw e is))),
+  λ fixed small is. e ∙ ap (leaf_hash hash) (fixed small (rw e at is)),
+)
+
+-- a test that two byte strings are equal
+pub unequal : (x y : List ℕ) (b : Bool) → b ≡ is_same x y → b ≡ false → x ≢ y
+unequal x y b e f = λ same. let yes = (bytes_decides x y).1 same in absurd cc
+
+pub ok_of : {T E : Type 0} (r : Result T E) → is_err r ≡ false → IsOk r
+ok_of (Ok x) e = search
+ok_of (Err x) e = absurd cc

@@ -1,3 +1,0 @@
-pub mod Fixed
-pub mod Composed
-pub mod Inner
