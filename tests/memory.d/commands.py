@@ -18,7 +18,7 @@ FILES = {
     "blocks": BLOCKS, "blocks.1": BLOCKS[:64], "blocks.2": BLOCKS[64:128], "blocks.3": BLOCKS[128:],
 }
 # The kinds of cases that build nothing: they check openings, heights and indices, and extract collisions.
-CHECKS = re.compile(r"(salted_)?(verify|extract)(_pruned)?|restore|pruned_len|replay|schedule|authenticated|widths")
+CHECKS = re.compile(r"(salted_)?(verify|extract)(_pruned)?|restore|pruned_len|replay|schedule|authenticated")
 
 
 @dataclass(frozen=True)
@@ -47,10 +47,10 @@ def commands() -> list[Trial]:
 
 
 def stored(cases: Path, program: str) -> list[Trial]:
-    """The stored cases, but for those of heights, some of which are answered by `out of memory`."""
+    """The stored cases, but for those of heights and of mmcs, which may be answered by `out of memory`."""
     lines = [line for line in cases.read_text().splitlines() if line and not line.startswith("#")]
     trials = [Trial(program, line.split(" ")[0], (), line.encode() + b"\n") for line in lines]
-    return [trial for trial in trials if trial.kind != "heights"]
+    return [trial for trial in trials if not trial.kind.startswith(("heights", "mmcs"))]
 
 
 def shape(trial: Trial) -> tuple[str, ...]:

@@ -11,7 +11,7 @@ from claims import row_errors, width_errors
 from geometry import FIXED, LOWERED, Shape
 from nodes import Fold, Scheme, Sha256
 from notation import dimensions, matrices, numbers, print_numbers, print_row_sets, rows
-from salts import Generator, generator_of
+from salts import Generator
 
 # There is no memory for a tree of so many rows.
 MOST_ROWS = 1 << 40
@@ -28,12 +28,13 @@ class Fields:
     def __init__(self, line, rule):
         self.kind, *self.fields = (field.strip() for field in line.split("|"))
         self.rule, self.names_rule = rule, True
-        self.is_salted, self.is_sha256 = (self.kind.startswith(name) for name in ("salted", "sha256"))
+        self.is_salted, self.is_sha256 = (self.kind.startswith(name) for name in ("salted_", "sha256_"))
+        self.kind = self.kind.removeprefix("sha256_")
         self.is_pruned = self.kind.endswith("pruned") or self.kind == "restore"
 
     def read(self, reader=str):
         """What the next field, or the next fields, say."""
-        special = {Fields: lambda: self, Scheme: self.scheme, Batch: self.batch, Generator: self.generator}
+        special = {Fields: lambda: self, Scheme: self.scheme, Generator: self.generator}
         return special[reader]() if reader in special else reader(self.fields.pop(0))
 
     def scheme(self):
@@ -44,10 +45,7 @@ class Fields:
         return Scheme(arity, int(cap), rule, salts, Sha256 if self.is_sha256 else Fold)
 
     def generator(self):
-        return self.read(generator_of) if self.is_salted else None
-
-    def batch(self):
-        return Batch(self.read(), self.is_sha256)
+        return Generator(bytes([self.read(int)] * 32)) if self.is_salted else None
 
     def queries(self):
         return self.read(numbers) if self.is_pruned else self.read(int)
@@ -60,18 +58,15 @@ class Fields:
 
 
 class Batch:
-    """Matrices, or dimensions of such: their words are the numbers of their rows, or of SHA-256 the bytes 0, 1, 2 and
-    so on modulo 251."""
+    """Matrices, or dimensions of such: their words are 0, 1, 2 and so on modulo 251."""
 
-    def __init__(self, text, is_sha256=False):
-        self.is_sha256, self.given = is_sha256, None if text == "none" or "x" in text else matrices(text)
+    def __init__(self, text):
+        self.given = None if text == "none" or "x" in text else matrices(text)
         self.sizes = [(len(own[0]), len(own)) for own in self.given] if self.given else dimensions(text)
         self.heights = heights_in(self.sizes)
 
     def matrices(self):
-        if self.is_sha256:
-            return [byte_rows(width, height) for width, height in self.sizes]
-        return self.given or [[[row] * width for row in range(height)] for width, height in self.sizes]
+        return self.given or [numbered_rows(width, height) for width, height in self.sizes]
 
     def tree(self, scheme, generator=None, queries=()):
         """The tree over them, out of which these leaves are to be opened."""
@@ -83,7 +78,7 @@ def heights_in(sizes):
     return [height for _, height in sizes]
 
 
-def byte_rows(width, height):
+def numbered_rows(width, height):
     return [[place % 251 for place in range(row * width, (row + 1) * width)] for row in range(height)]
 
 
@@ -115,54 +110,8 @@ def case(kinds, *readers):
     return register
 
 
-case("hash", numbers)(Fold(2).hash)
-case("compress", int, numbers)(lambda arity, digests: Fold(arity).compress(digests))
 case("sha256", str)(lambda text: Sha256(2).hash(b"" if text == "-" else text.encode()).hex())
-case("sha256_rows", int)(lambda length: print_numbers([Sha256(2).hash(row) for row in byte_rows(length, 17)]))
-case("exponent", int)(geometry.exponent)
-case("steps", int, numbers)(lambda arity, heights: print_numbers(Shape(arity, heights).steps))
-case("commit sha256_commit", Scheme, Batch)(lambda scheme, batch: print_numbers(batch.tree(scheme).cap()))
-
-
-@case("sha256_groups", int)
-def sha256_groups(arity):
-    digests = list(map(bytes, byte_rows(32, 17 * arity)))
-    return print_numbers([Sha256(arity).compress(digests[at : at + arity]) for at in range(0, 17 * arity, arity)])
-
-
-@case("halving", int, int)
-def halving(tallest, height):
-    return f"{geometry.expected_height(tallest, height)} {geometry.halvings(tallest, height)}"
-
-
-@case("padding", int, numbers)
-def padding(arity, lengths):
-    return print_numbers([geometry.padded_len(length, arity) for length in lengths])
-
-
-@case("step", int, numbers, int)
-def step(arity, heights, start):
-    exponents = set(map(geometry.exponent, heights))
-    count, following = geometry.step_from(exponents, arity, start)
-    has_matrix = "matrix" if start in exponents else "none"
-    return f"{has_matrix} {'whole' if count == arity else 'bridge'} {count} {following}"
-
-
-@case("positions", int, numbers, int, int)
-def positions(arity, heights, layer, index):
-    return print_numbers(Shape(arity, heights).positions(layer, index))
-
-
-@case("siblings", int, numbers)
-def siblings(arity, heights):
-    shape = Shape(arity, heights)
-    return print_numbers([sum(step - 1 for step in shape.steps[:layer]) for layer in range(shape.levels + 1)])
-
-
-@case("widths", dimensions, rows)
-def widths(sizes, opened):
-    refuse(row_errors(sizes, opened))
-    return "accepted"
+case("commit", Scheme, Batch)(lambda scheme, batch: print_numbers(batch.tree(scheme).cap()))
 
 
 @case("heights", numbers)
@@ -174,17 +123,6 @@ def heights(found):
     checked = refusal(Claim(Scheme(2, 0, LOWERED), [], columns, 0, [[0] for _ in columns], []))
     answers = [str(answer or "accepted") for answer in (error, built, built, error, checked)]
     return answers[0] if len(set(answers)) == 1 else " | ".join(answers)
-
-
-@case("layers", int, Batch)
-def layers(arity, batch):
-    return "; ".join(map(print_numbers, batch.tree(Scheme(arity, 0, FIXED)).layers))
-
-
-@case("builders", int, Batch)
-def builders(arity, batch):
-    found = batch.tree(Scheme(arity, 0, FIXED)).layers
-    return f"{len(found)} {found[-1][0]}"
 
 
 @case("shape", Scheme, numbers)
@@ -217,14 +155,13 @@ def pruned_len(scheme, heights, queries):
     return lawful(scheme, heights, queries).boundary_len(queries)
 
 
-@case("open pruned salted_open salted_pruned sha256_open sha256_pruned", Fields, Scheme, Generator, Batch)
+@case("open pruned salted_open salted_pruned", Fields, Scheme, Generator, Batch)
 def opened(fields, scheme, generator, batch):
-    """The rows, salts and digests that are opened; of SHA-256 the digests alone, with salts the cap as well."""
+    """The rows, salts and digests that are opened; with salts the cap as well."""
     queries = fields.queries() if fields.is_pruned else [fields.queries()]
     tree = batch.tree(scheme, generator, queries)
-    parts = [] if fields.is_sha256 else scheme.opened(tree, queries)
     cap = [print_numbers(tree.cap())] if scheme.salts else []
-    return " | ".join([*cap, *map(print_row_sets, parts), print_numbers(tree.proof(queries))])
+    return " | ".join([*cap, *map(print_row_sets, scheme.opened(tree, queries)), print_numbers(tree.proof(queries))])
 
 
 def cap_over(scheme, generator, text):
@@ -233,23 +170,12 @@ def cap_over(scheme, generator, text):
 
 @case("salted_commits", Scheme, Generator, str)
 def salted_commits(scheme, generator, text):
-    return " / ".join(answered(cap_over, scheme, generator, batch.strip()) for batch in text.split("/"))
-
-
-@case("salted_fork", Scheme, Generator, str)
-def salted_fork(scheme, generator, text):
-    fork = generator.fork()
-    return " / ".join(answered(cap_over, scheme, source, text) for source in (generator, fork))
-
-
-@case("leaves", Scheme, numbers)
-def leaves(scheme, heights):
-    return f"{lawful(scheme, heights).tallest} accepted"
-
-
-@case("kept", int, numbers)
-def kept(_, found):
-    return f"{max(found)} | {notation.print_dimensions([(1, height) for height in found])}"
+    """A batch after `fork` is committed to with the salts of a fork."""
+    found = []
+    for batch in map(str.strip, text.split("/")):
+        source = generator.fork() if batch.startswith("fork ") else generator
+        found.append(answered(cap_over, scheme, source, batch.removeprefix("fork ")))
+    return " / ".join(found)
 
 
 @case("verify verify_pruned salted_verify salted_verify_pruned", Scheme, numbers, dimensions, Fields)
@@ -272,13 +198,6 @@ def extracted(scheme, roots, sizes, fields):
     *queries, name, first, second = found
     places = [print_numbers(queries)] if fields.is_pruned else []
     return " | ".join([*places, name, print_numbers(first), print_numbers(second)])
-
-
-@case("known", int, numbers, numbers, numbers, numbers)
-def known(arity, found, queries, known_layers, known_numbers):
-    nodes = list(zip(known_layers, known_numbers))
-    lists = [nodes[:place] + nodes[place + 1 :] for place in range(len(nodes))] + [nodes]
-    return " ".join("yes" if Shape(arity, found).suffices(queries, given) else "no" for given in lists)
 
 
 def batches(text):
@@ -306,7 +225,7 @@ def query_lists(text, count):
     return [list(one) for length in lengths for one in product(range(count), repeat=length)]
 
 
-@case("sweep salted_sweep sha256_sweep", Fields, Scheme, Generator, batches, str)
+@case("sweep salted_sweep", Fields, Scheme, Generator, batches, str)
 def sweep(fields, scheme, _, found, queries):
     """Lists of queries, digests of their proofs, openings that collide with a twin, and openings that do not.
 
@@ -316,7 +235,7 @@ def sweep(fields, scheme, _, found, queries):
     lists = digests = collisions = nones = 0
     for sizes in found:
         own = scheme.shape(heights_in(sizes))
-        has_twins = all(width >= 2 for width, _ in sizes)
+        has_twins = not fields.is_sha256 and all(width >= 2 for width, _ in sizes)
         authentic = sum(layer <= own.cap_layer for layer in own.layers)
         for one in query_lists(queries, own.tallest):
             lists, digests = lists + 1, digests + own.boundary_len(one)
@@ -324,7 +243,7 @@ def sweep(fields, scheme, _, found, queries):
                 collisions, nones = collisions + 2 * authentic, nones + 2 * (len(sizes) - authentic)
             elif has_twins:
                 nones += len(sizes)
-    return print_numbers([lists, digests] if fields.is_sha256 else [lists, digests, collisions, nones])
+    return print_numbers([lists, digests, collisions, nones])
 
 
 def answers(line):

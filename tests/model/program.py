@@ -106,6 +106,10 @@ def bytes_of(written):
                   ESCAPES.get(found[1], found[1]), written.encode())
 
 
+# How an empty word is written.
+QUOTED = '""'
+
+
 def escaped(data):
     """Bytes as they are written: what is not printed, quotes, backslashes and bars by their numbers."""
     text = "".join(chr(byte) if 32 <= byte < 127 and byte not in b'"\\|' else f"\\x{byte:02x}" for byte in data)
@@ -115,17 +119,17 @@ def escaped(data):
 def line_of(words, data):
     """The case of a command and an input, and how its answer is written."""
     answer = escaped(output(words, data).encode()).replace("\\x7c", "|")
-    return " ".join(word or '""' for word in words) + f' | "{escaped(data)}"', answer
+    return f'mmcs | {" ".join(word or QUOTED for word in words)} | "{escaped(data)}"', answer
 
 
 def case_of(line):
     """What its line says of the answer to a case, and what the model says."""
-    written, rest = line.split('| "', 1)
+    kind, rest = line.split(" | ", 1)
+    settings = {"is_unread": True} if kind == "mmcs_unread" else {}
+    if kind == "mmcs_unwritten":
+        calls, rest = rest.split(" | ", 1)
+        settings["calls"] = int(calls)
+    written, rest = rest.split('| "', 1)
     data, expected = map(bytes_of, rest.split('" | ', 1))
-    words = ["" if word == '""' else word for word in written.split()]
-    settings = {}
-    if words[:1] == ["unread"]:
-        words, settings = words[1:], {"is_unread": True}
-    elif words[:1] == ["unwritten"]:
-        words, settings = words[2:], {"calls": int(words[1])}
+    words = ["" if word == QUOTED else word for word in written.split()]
     return expected.decode(), output(words, data, **settings)

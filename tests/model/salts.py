@@ -70,9 +70,3 @@ class Counting:
     def salt(self):
         word, self.next = self.next, self.next + self.step
         return word & self.mask
-
-
-def generator_of(text):
-    """The generator that a field names: one whose salts are told at sight, or that of a key of one byte 32 times."""
-    counting = {"tens": (10, 10), "hundred": (100, 1)}
-    return Counting(*counting[text]) if text in counting else Generator(bytes([int(text)] * 32))

@@ -115,14 +115,11 @@ def add_tree(trial):
     if trial.scheme.salts:
         trial.add_honest(f"salted_open | {trial.batch} | {trial.index}")
         trial.add_honest(f"salted_pruned | {trial.batch} | {queries}")
-        trial.add_honest(f"salted_fork | {trial.batch}")
+        matrices = trial.batch.split(" | ")[-1]
+        trial.add_honest(f"salted_commits | {trial.batch} / fork {matrices} / {matrices}")
         return
     trial.add_honest(f"commit | {trial.batch}", print_numbers(trial.tree.cap()))
-    arity, _, matrices = trial.batch.split(" | ")
-    trial.add_honest(f"layers | {arity} | {matrices}")
     trial.add_honest(f"shape | {trial.head} | {trial.heights}")
-    if trial.random.random() < 0.3:
-        trial.add_honest(f"builders | {arity} | {print_dimensions(trial.dimensions)}")
     trial.add_honest(f"open | {trial.batch} | {trial.index}")
     trial.add_honest(f"pruned | {trial.batch} | {queries}")
 

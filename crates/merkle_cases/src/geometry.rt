@@ -1,151 +1,139 @@
-//! What heights alone decide: exponents, padded lengths, steps, positions and numbers of siblings.
+//! What heights alone decide, at any arity, and the shapes of trees.
 
-ghost use Rattle.std.specs.Prelude.{◌≤◌, IsTrue};
-ghost use Rattle.p3_merkle_core.specs.Geometry.{is_arity};
+ghost use Rattle.std.specs.Prelude.{◌≤◌};
 
-use crate::case::Case;
-use crate::fields::Fault;
-use crate::reader::Reader;
-use p3_merkle_core::geometry::{
-    MAX_HEIGHT, bits_reduced_of, check_widths, exponent_of, height_of_exponent, padded_len,
+use crate::case::{Case, Fault};
+use crate::matrices::matrices_by;
+use crate::scheme::{Cap, FoldScheme, fold_scheme};
+use p3_hashes::fold::{FoldCompress, FoldHash};
+use p3_merkle_core::steps::check_heights;
+use p3_merkle_tree::{BatchOpeningRef, CapRule, MerkleCap, MerkleTree, MerkleTreeError};
+use p3_support::matrix::Dimensions;
+use std::alloc::{AllocError, Global};
+use std::fmt::Write;
+use test_fixtures::matrices::Numbers;
+
+/// Answers a case of heights by a scheme:
+///
+/// - `schedule | ARITY | CAP | HEIGHTS | STEPS`: the steps from the leaves up to the cap, in children a node;
+/// - `replay | ARITY | CAP | HEIGHTS | INDEX | NUMBER OF SIBLINGS | STEPS | POSITIONS`: how the path of an index goes,
+///   as a clone of the answer shows it;
+/// - `authenticated | ARITY | CAP | HEIGHTS | ANSWERS`: of each matrix `yes` or `no`;
+/// - `pruned_len | ARITY | CAP | HEIGHTS | INDICES | DIGESTS`: how many digests a pruned proof of some indices has.
+pub fn geometry<const N: usize, const D: usize>(
+    case: &mut Case<'_>,
+    kind: &str,
+    scheme: &FoldScheme<N, D>,
+) -> Result<(), Fault>
+    requires { D ≤ 1 }
+{
+    let alloc = case.alloc;
+    let columns = case.columns()?;
+    match kind {
+        "schedule" => case.write(&scheme.proof_arity_schedule(alloc, &columns)?),
+        "replay" => {
+            let (index, siblings): (usize, usize) = case.read()?;
+            let path = scheme.replay_arity_and_positions(alloc, &columns, index, siblings)?;
+            let copy = path.clone()?;
+            case.list(&copy.arity_schedule)?;
+            case.list(&copy.query_positions)
+        }
+        "authenticated" => {
+            for matrix in 0..columns.len() {
+                let is_authenticated = scheme.is_authenticated(&columns, matrix)?;
+                case.answer.push_str(if matrix > 0 { " " } else { "" })?;
+                case.answer
+                    .push_str(if is_authenticated { "yes" } else { "no" })?;
+            }
+            Ok(())
+        }
+        "pruned_len" => {
+            let indices: Vec<usize> = case.read()?;
+            case.write(&scheme.pruned_len(alloc, &columns, &indices)?)
+        }
+        _ => Err(Fault::Unreadable("there is no such kind of case")),
+    }
+}
+
+/// `shape | ARITY | CAP | HEIGHTS | STEPS | LENGTHS`: the steps from the leaves up to the cap, and of each layer,
+/// leaves first, how many of its slots are nodes. The last node has no default digest.
+pub fn shape<const N: usize>(case: &mut Case<'_>, scheme: &FoldScheme<N, 1>) -> Result<(), Fault> {
+    let alloc = case.alloc;
+    let columns = case.columns()?;
+    case.write(&scheme.proof_arity_schedule(alloc, &columns)?)?;
+    let (_, tree) = scheme.commit(alloc, matrices_by(alloc, &columns)?)?;
+    case.answer.push_str(" |")?;
+    for below in (0..tree.num_layers()).rev() {
+        let layer = tree.cap(alloc, below)?;
+        let (mut nodes, slots) = (0_usize, layer.num_roots());
+        for (slot, digest) in layer.roots().iter().enumerate() {
+            if *digest != [0] {
+                nodes = slot.saturating_add(1);
+            }
+        }
+        write!(case.answer, " {nodes}/{slots}")?;
+    }
+    Ok(())
+}
+
+/// Matrices of these dimensions that take no memory for their rows, each word of which is the number of its row.
+pub fn tall_matrices(alloc: Global, dimensions: &[Dimensions]) -> Result<Vec<Numbers>, AllocError> {
+    let mut matrices = Vec::new(alloc);
+    for Dimensions { width, height } in dimensions {
+        let (words, rows) = (*width, *height);
+        matrices.push(Numbers { words, rows })?;
+    }
+    Ok(matrices)
+}
+
+/// The root alone.
+const ROOT: Cap = Cap {
+    height: 0,
+    rule: CapRule::Lowered,
 };
-use p3_merkle_core::steps::{StepUp, steps_of};
 
-/// `exponent | HEIGHT | EXPONENT`.
-pub fn exponent(case: &mut Case<'_>) -> Result<(), Fault> {
-    case.answer.number(exponent_of(case.fields.number()));
-    Ok(())
+/// What the check of an opening answers that has one word of each column, and no siblings.
+fn checked(alloc: Global, columns: &[Dimensions]) -> Result<Result<(), MerkleTreeError>, Fault> {
+    let mut rows = Vec::new(alloc);
+    for _column in columns {
+        rows.push(vec![in alloc; 0]?)?;
+    }
+    let (cap, siblings) = (MerkleCap::new(Vec::new(alloc)), Vec::new(alloc));
+    let opening = BatchOpeningRef::new(&rows, &siblings);
+    Ok(fold_scheme::<2>(ROOT).verify_batch(&cap, columns, 0, opening))
 }
 
-/// `halving | TALLEST HEIGHT | HEIGHT | EXPECTED HEIGHT, HALVINGS`: the height that is expected in the place of a
-/// height, and how many halvings lead there from the tallest.
-pub fn halving(case: &mut Case<'_>) -> Result<(), Fault> {
-    let tallest = case.fields.number();
-    let height = case.fields.number();
-    if tallest > MAX_HEIGHT {
-        return Err(Fault::Unreadable("the height is too great"));
+/// `heights | HEIGHTS | ERROR`: what each call that takes heights answers, where all answer alike, and else all their
+/// answers: of the test of heights, the commit, the tree, the schedule and the check of an opening.
+pub fn heights(case: &mut Case<'_>) -> Result<(), Fault> {
+    let alloc = case.alloc;
+    let columns = case.columns()?;
+    let scheme = fold_scheme::<2>(ROOT);
+    let tree: Result<MerkleTree<u32, u32, Numbers, 2, 1>, MerkleTreeError> = MerkleTree::new::<
+        u32,
+        u32,
+        FoldHash<1>,
+        FoldCompress<2, 1>,
+    >(
+        alloc,
+        &FoldHash::<1>,
+        &FoldCompress::<2, 1>,
+        tall_matrices(alloc, &columns)?,
+    );
+    let answers = [
+        check_heights(&columns),
+        scheme
+            .commit(alloc, tall_matrices(alloc, &columns)?)
+            .map(|_| ()),
+        tree.map(|_| ()),
+        scheme.proof_arity_schedule(alloc, &columns).map(|_| ()),
+        checked(alloc, &columns)?,
+    ];
+    if answers.iter().all(|answer| *answer == answers[0]) {
+        return case.verdict(&answers[0]);
     }
-    let expected = height_of_exponent(tallest, exponent_of(height));
-    case.answer
-        .numbers(&[expected, bits_reduced_of(tallest, height)]);
-    Ok(())
-}
-
-/// The longest layer whose padding is tried.
-const MAX_LEN: usize = 1 << 32;
-
-/// `padding | ARITY | LENGTHS | PADDED LENGTHS`.
-pub fn padding<const N: usize>(case: &mut Case<'_>) -> Result<(), Fault>
-    requires some { 1 ≤ N }
-    requires few { N ≤ 16 }
-{
-    for (place, len) in case.fields.numbers().iter().enumerate() {
-        if *len > MAX_LEN {
-            return Err(Fault::Unreadable("the length is too great"));
-        }
-        case.answer.separate(place, " ");
-        case.answer.number(padded_len(*len, N));
+    for answer in &answers {
+        case.verdict(answer)?;
     }
-    Ok(())
-}
-
-/// The step up from a layer of this exponent over those of some columns that are no taller: the first step of the tree
-/// over these and a column of that exponent.
-fn step_from(
-    reader: &mut Reader,
-    heights: &[usize],
-    arity: usize,
-    exponent: usize,
-) -> Result<StepUp, Fault>
-    requires { 2 ≤ arity }
-{
-    if exponent >= 64 {
-        return Err(Fault::Unreadable("the exponent is too great"));
-    }
-    let tallest = 1 << exponent;
-    let mut lower = reader.none();
-    reader.push(&mut lower, tallest);
-    for height in heights {
-        if *height <= tallest {
-            reader.push(&mut lower, *height);
-        }
-    }
-    let columns = reader.columns(&lower);
-    let steps = steps_of(&columns, arity);
-    if steps.num_levels == 0 {
-        return Err(Fault::Unreadable("there is no step"));
-    }
-    Ok(steps.step_up(steps.arity, 0, steps.exponent))
-}
-
-/// `step | ARITY | HEIGHTS | EXPONENT | matrix or none, bridge or whole, STEP, NEXT EXPONENT`: whether a column has
-/// that exponent, as the step of 2 that leads there says, and the step from there.
-pub fn step(case: &mut Case<'_>) -> Result<(), Fault> {
-    let arity = case.fields.number().max(2);
-    let heights = case.fields.numbers();
-    let exponent = case.fields.number();
-    let reader = &mut case.fields.reader;
-    let below = step_from(reader, &heights, 2, exponent.saturating_add(1))?;
-    let above = step_from(reader, &heights, arity, exponent)?;
-    case.answer
-        .push(if below.has_rows { "matrix " } else { "none " });
-    case.answer.push(if above.step < arity {
-        "bridge "
-    } else {
-        "whole "
-    });
-    case.answer.numbers(&[above.step, above.exponent]);
-    Ok(())
-}
-
-/// `steps | ARITY | HEIGHTS | STEPS`: all steps, at any arity of at least 2.
-pub fn steps(case: &mut Case<'_>) -> Result<(), Fault> {
-    let arity = case.fields.number().max(2);
-    let dimensions = case.fields.columns();
-    let steps = steps_of(&dimensions, arity);
-    case.answer
-        .numbers(&steps.schedule_below(case.alloc, steps.num_levels)?);
-    Ok(())
-}
-
-/// `positions | ARITY | HEIGHTS | LAYER | INDEX | POSITIONS`: the places of an index's ancestors below a layer, at any
-/// arity of at least 2.
-pub fn positions(case: &mut Case<'_>) -> Result<(), Fault> {
-    let arity = case.fields.number().max(2);
-    let dimensions = case.fields.columns();
-    let layer = case.fields.number();
-    let index = case.fields.number();
-    let steps = steps_of(&dimensions, arity);
-    if layer > steps.num_levels {
-        return Err(Fault::Unreadable("the layer is above the root"));
-    }
-    case.answer
-        .numbers(&steps.positions_below(case.alloc, layer, index)?);
-    Ok(())
-}
-
-/// `siblings | ARITY | HEIGHTS | NUMBERS`: how many siblings the levels below each layer have, from the leaves to the
-/// root.
-pub fn siblings<const N: usize>(case: &mut Case<'_>) -> Result<(), Fault>
-    requires arity { IsTrue (is_arity N) }
-    requires several { 2 ≤ N }
-{
-    let dimensions = case.fields.columns();
-    let steps = steps_of(&dimensions, N);
-    if steps.max_height > MAX_HEIGHT {
-        return Err(Fault::Unreadable("the height is too great"));
-    }
-    for layer in 0..=steps.num_levels {
-        case.answer.separate(layer, " ");
-        case.answer.number(steps.siblings_below(layer));
-    }
-    Ok(())
-}
-
-/// `widths | DIMENSIONS | ROWS | ANSWER`: whether rows have the widths of their matrices.
-pub fn widths(case: &mut Case<'_>) -> Result<(), Fault> {
-    let dimensions = case.fields.dimensions();
-    let rows = case.fields.rows();
-    case.answer.verdict(&check_widths(&dimensions, &rows));
     Ok(())
 }

@@ -1,214 +1,185 @@
 //! Reads cases from standard input, one a line, and says which are not answered as their line says.
 //!
 //! A line is a keyword, fields and the expected answer, with `|` between them. A blank line is no case, nor is one that
-//! begins with `#`. Trees are those of the fold functions with digests of one word, but for the kinds whose keyword
-//! begins with `sha256`. A new kind of case is a function that reads all its fields and then answers, and an arm of
-//! [`answer`], of [`answer_at`] where its first field is an arity, or of [`answered`] where any scheme answers it.
+//! begins with `#`. Trees are those of the fold functions with digests of one word; a keyword that begins with `salted_`
+//! has salts, and one that begins with `sha256_` SHA-256 over bytes. A new kind of case is a function that reads all its
+//! fields and then answers, and an arm of [`answer`], of [`answer_at`] where its first fields are an arity and a cap, or
+//! of [`answered`] where any scheme answers it.
 #![tactic(auto)]
 
 ghost use Rattle.std.specs.Prelude.{◌≤◌, IsTrue};
 ghost use Rattle.p3_merkle_core.specs.Geometry.{is_arity};
 
-mod answered;
-mod authenticated;
-mod batches;
-mod builders;
 mod case;
-mod committed;
-mod extract;
-mod fields;
+mod checked;
+mod engine;
+mod field;
 mod geometry;
-mod hash;
-mod heights;
-mod known;
-mod layers;
-mod open;
-mod openings;
-mod plain;
-mod pruned;
+mod matrices;
+mod opened;
 mod queries;
-mod reader;
-mod replay;
 mod salted;
 mod scheme;
 mod sha256;
 mod sweep;
-mod text;
-mod tried;
-mod twin;
-mod verify;
-mod widest;
 
-use crate::answered::answered;
-use crate::case::Case;
-use crate::fields::Fault;
-use crate::reader::NO_MEMORY;
-use crate::scheme::{ROOT, fold_scheme};
-use crate::text::Answer;
-use p3_merkle_tree::{CapRule, MerkleTreeError};
+use crate::case::{Case, Fault};
+use crate::field::Item;
+use crate::matrices::Word;
+use crate::scheme::{Cap, FoldScheme, Tried, fold_scheme, scheme_of};
+use p3_hashes::batched::Batched3;
+use p3_hashes::fold::{FoldCompress, FoldHash};
+use p3_hashes::lanes::U32x8;
+use p3_merkle_tree::CapRule;
 use std::alloc::Global;
 use std::io;
 use std::io::ErrorKind;
 use std::process::ExitCode;
 
-/// Writes what the calls of a kind of case answer at an arity.
-fn answer_at<const N: usize>(case: &mut Case<'_>, keyword: &str) -> Result<(), Fault>
-    requires arity { IsTrue (is_arity N) }
-    requires several { 2 ≤ N }
-    requires few { N ≤ 16 }
-{
-    match keyword {
-        "compress" => hash::compress::<N>(case),
-        "sha256_groups" => sha256::groups::<N>(case),
-        "sha256_commit" | "sha256_open" | "sha256_pruned" => sha256::tree::<N>(case, keyword),
-        "sha256_sweep" => sha256::sweep::<N>(case),
-        _ => answer_without_sha256::<N>(case, keyword),
-    }
-}
-
-/// The same of all kinds but those of SHA-256 and of a lone compression.
-fn answer_without_sha256<const N: usize>(case: &mut Case<'_>, keyword: &str) -> Result<(), Fault>
-    requires arity { IsTrue (is_arity N) }
-    requires several { 2 ≤ N }
-    requires few { N ≤ 16 }
-{
-    match keyword {
-        "padding" => geometry::padding::<N>(case),
-        "siblings" => geometry::siblings::<N>(case),
-        "authenticated" => authenticated::authenticated::<N>(case),
-        "schedule" => replay::schedule::<N>(case),
-        "replay" => replay::replay::<N>(case),
-        _ => answer_of_tree::<N>(case, keyword),
-    }
-}
-
-/// The same of the kinds that build a tree or take a pruned opening.
-fn answer_of_tree<const N: usize>(case: &mut Case<'_>, keyword: &str) -> Result<(), Fault>
+/// Answers a case of a kind that any scheme answers, by a scheme with this cap.
+fn answered<T: Word, X: Item + PartialEq, S: Tried<T, X>, const N: usize>(
+    case: &mut Case<'_>,
+    kind: &str,
+    cap: Cap,
+    scheme: &mut S,
+) -> Result<(), Fault>
     requires arity { IsTrue (is_arity N) }
     requires few { N ≤ 16 }
 {
-    match keyword {
-        "shape" => heights::shape::<N>(case),
-        "layers" => layers::layers::<N>(case),
-        "builders" => builders::builders::<N>(case),
-        "pruned_len" => pruned::pruned_len::<N>(case),
-        "restore" => pruned::restore::<N>(case),
-        _ => answer_of_scheme::<N>(case, keyword),
+    match kind {
+        "commit" => opened::commit::<T, X, S>(case, scheme),
+        "open" => opened::open::<T, X, S>(case, scheme),
+        "pruned" => opened::pruned::<T, X, S>(case, scheme),
+        "restore" => checked::restore::<T, X, S>(case, &*scheme),
+        "sweep" => sweep::sweep::<T, X, S, N>(case, cap, scheme),
+        "verify" => checked::verify::<T, X, S>(case, &*scheme),
+        "verify_pruned" => checked::verify_pruned::<T, X, S>(case, &*scheme),
+        "extract" => checked::extract::<T, X, S>(case, &*scheme),
+        "extract_pruned" => checked::extract_pruned::<T, X, S>(case, &*scheme),
+        _ => Err(Fault::Unreadable("there is no such kind of case")),
     }
 }
 
-/// The same of the kinds that schemes answer with salts and without.
-fn answer_of_scheme<const N: usize>(case: &mut Case<'_>, keyword: &str) -> Result<(), Fault>
+/// Fails where another scheme answers a settled case of a commit otherwise.
+fn check_commit<S: Tried<u32, [u32; 1]>>(
+    case: &Case<'_>,
+    mut again: Case<'_>,
+    scheme: &mut S,
+) -> Result<(), Fault> {
+    let outcome = opened::commit::<u32, [u32; 1], S>(&mut again, scheme);
+    case.check_alike(again, outcome)
+}
+
+/// Answers a case of a commit, alike by each way to build trees: one by one, in lanes, in batches of eight and of three.
+fn commit_alike<const N: usize>(case: &mut Case<'_>, cap: Cap) -> Result<(), Fault>
+    requires arity { IsTrue (is_arity N) }
+    requires few { N ≤ 16 }
+{
+    let (lanes, eights, threes) = (case.again(), case.again(), case.again());
+    let outcome = opened::commit::<u32, [u32; 1], _>(case, &mut fold_scheme::<N>(cap));
+    case.settle(outcome)?;
+    let (hash, compress) = (FoldHash::<1>, FoldCompress::<N, 1>);
+    let mut scheme = scheme_of::<U32x8, _, _, N, 1>(hash, compress, cap);
+    check_commit(&*case, lanes, &mut scheme)?;
+    let mut scheme = scheme_of::<u32, _, _, N, 1>(Batched3(hash), Batched3(compress), cap);
+    check_commit(&*case, threes, &mut scheme)?;
+    let mut scheme = scheme_of::<u32, _, _, N, 1>(FoldHash::<8>, FoldCompress::<N, 8>, cap);
+    check_commit(&*case, eights, &mut scheme)
+}
+
+/// Answers a case at an arity, with this cap.
+fn answer_at<const N: usize>(case: &mut Case<'_>, keyword: &str, cap: Cap) -> Result<(), Fault>
     requires arity { IsTrue (is_arity N) }
     requires few { N ≤ 16 }
 {
     if let Some(kind) = keyword.strip_prefix("salted_") {
-        return salted::salted::<N>(case, kind);
+        return salted::salted::<N>(case, kind, cap);
     }
-    let cap = if keyword == "kept" {
-        ROOT
-    } else {
-        case.fields.cap()
-    };
-    answered::<_, N>(case, keyword, cap, &mut fold_scheme::<N>(cap))
-}
-
-/// Writes what the calls of a kind of case answer to the fields of a line.
-fn answer(case: &mut Case<'_>) -> Result<(), Fault> {
-    match case.fields.take() {
-        "hash" => hash::hash(case),
-        "sha256" => sha256::message(case),
-        "sha256_rows" => sha256::rows(case),
-        "exponent" => geometry::exponent(case),
-        "halving" => geometry::halving(case),
-        "step" => geometry::step(case),
-        "steps" => geometry::steps(case),
-        "positions" => geometry::positions(case),
-        "widths" => geometry::widths(case),
-        "heights" => heights::heights(case),
-        "known" => known::known(case),
-        keyword => answer_at_next(case, keyword),
+    if let Some(kind) = keyword.strip_prefix("sha256_") {
+        return sha256::sha256::<N>(case, kind, cap);
+    }
+    let mut scheme = fold_scheme::<N>(cap);
+    match keyword {
+        "schedule" | "replay" | "authenticated" | "pruned_len" => {
+            geometry::geometry::<N, 1>(case, keyword, &scheme)
+        }
+        "shape" => geometry::shape::<N>(case, &scheme),
+        "commit" => commit_alike::<N>(case, cap),
+        kind => answered::<u32, [u32; 1], _, N>(case, kind, cap, &mut scheme),
     }
 }
 
-/// Writes what the calls of a kind of case answer at the arity that the next field is.
-fn answer_at_next(case: &mut Case<'_>, keyword: &str) -> Result<(), Fault> {
-    match case.fields.take() {
-        "2" => answer_at::<2>(case, keyword),
-        "4" => answer_at::<4>(case, keyword),
-        "8" => answer_at::<8>(case, keyword),
-        // No case has the other kinds at this arity, so they are not compiled for it.
-        "16" => answer_without_sha256::<16>(case, keyword),
-        "4611686018427387904" => widest::widest(case, keyword),
+/// The greatest arity.
+const WIDEST: usize = 4_611_686_018_427_387_904;
+
+/// Answers a case of heights at the greatest arity. Digests have no words there, since no group of others fits in
+/// memory.
+fn answer_at_widest(case: &mut Case<'_>, keyword: &str, cap: Cap) -> Result<(), Fault> {
+    let (hash, compress) = (FoldHash::<1>, FoldCompress::<WIDEST, 1>);
+    let scheme: FoldScheme<WIDEST, 0> = scheme_of(hash, compress, cap);
+    geometry::geometry::<WIDEST, 0>(case, keyword, &scheme)
+}
+
+/// Answers a case whose first fields are an arity and a cap.
+fn answer_of_tree(case: &mut Case<'_>, keyword: &str) -> Result<(), Fault> {
+    let (arity, cap) = (case.take(), case.cap()?);
+    match arity {
+        "2" => answer_at::<2>(case, keyword, cap),
+        "4" => answer_at::<4>(case, keyword, cap),
+        "8" => answer_at::<8>(case, keyword, cap),
+        "16" => answer_at::<16>(case, keyword, cap),
+        "4611686018427387904" => answer_at_widest(case, keyword, cap),
         _ => Err(Fault::Unreadable("the arity is not 2, 4, 8, 16 or 2^62")),
     }
 }
 
-/// The answer that a line expects: what is left of its fields.
-fn expected(case: &Case<'_>) -> Answer {
-    let mut expected = Answer::new(case.alloc);
-    for (place, field) in case.fields.rest().iter().enumerate() {
-        expected.separate(place, " | ");
-        expected.push(field.trim());
+/// Answers a case.
+fn answer(case: &mut Case<'_>) -> Result<(), Fault> {
+    match case.take() {
+        "heights" => geometry::heights(case),
+        "sha256" => sha256::message(case),
+        "mmcs" => engine::engine(case, "mmcs"),
+        "mmcs_unread" => engine::engine(case, "unread"),
+        "mmcs_unwritten" => engine::engine(case, "unwritten"),
+        keyword => answer_of_tree(case, keyword),
     }
-    expected
 }
 
-/// Answers a case: by an answer, or by the text of what is refused or wrong. Else why it can't be read.
-fn answer_or_refuse(case: &mut Case<'_>) -> Result<(), &'static str> {
-    let answered = answer(case);
-    if let Some(reason) = case.fields.reader.fault() {
-        return Err(reason);
+/// What a case is answered by this rule where its cap names none, if that is not what its line says; and whether the
+/// line speaks of each rule.
+fn wrong_by(alloc: Global, line: &str, rule: CapRule) -> Result<(Option<String>, bool), Fault> {
+    let mut case = Case::of(alloc, line, rule);
+    let outcome = answer(&mut case);
+    case.settle(outcome)?;
+    let expected = case.rest.trim();
+    if expected.is_empty() {
+        return Err(Fault::Unreadable("the answer is missing"));
     }
-    if let Err(fault) = answered {
-        // What has been written before a refusal is no part of it.
-        case.answer = Answer::new(case.alloc);
-        match &fault {
-            Fault::Refused(MerkleTreeError::OutOfMemory) => return Err(NO_MEMORY),
-            Fault::Refused(error) => case.answer.error(error),
-            Fault::Wrong(way) => case.answer.push(way),
-            Fault::Unreadable(reason) => return Err(reason),
-        }
-    }
-    Ok(())
+    let is_right = case.answer.as_str() == expected;
+    let is_for_any_rule = case.is_for_any_rule;
+    Ok((
+        if is_right { None } else { Some(case.answer) },
+        is_for_any_rule,
+    ))
 }
 
-/// Whether a case is answered as its line says.
-fn is_as_expected(case: &mut Case<'_>) -> Result<bool, &'static str> {
-    answer_or_refuse(case)?;
-    let expected = expected(case);
-    if case.answer.is_cut() || expected.is_cut() {
-        return Err(NO_MEMORY);
+/// What a case is answered, if that is not what its line says.
+fn wrong_answer(alloc: Global, line: &str) -> Result<Option<String>, Fault> {
+    match wrong_by(alloc, line, CapRule::Lowered)? {
+        (None, true) => Ok(wrong_by(alloc, line, CapRule::Fixed)?.0),
+        (wrong, _) => Ok(wrong),
     }
-    if expected.as_str().is_empty() {
-        return Err("the answer is missing");
-    }
-    Ok(case.answer.as_str() == expected.as_str())
-}
-
-/// What the case of a line is answered, where that is not what its line says. Where its cap names no rule, it has to be
-/// answered so under each.
-fn wrong_answer(alloc: Global, pieces: &[&str]) -> Result<Option<Answer>, &'static str> {
-    let mut case = Case::of(alloc, pieces, CapRule::Lowered);
-    let mut is_right = is_as_expected(&mut case)?;
-    if is_right && case.fields.is_for_any_rule() {
-        case = Case::of(alloc, pieces, CapRule::Fixed);
-        is_right = is_as_expected(&mut case)?;
-    }
-    Ok(if is_right { None } else { Some(case.answer) })
 }
 
 /// Checks a case, and prints its line where it is wrong or can't be read. Fails where memory ran out.
 fn is_right(rt: &HostRuntime, number: usize, line: &str) -> io::Result<bool> {
-    let pieces: Vec<&str> = line.split('|').collect(rt.alloc())?;
-    match wrong_answer(rt.alloc(), &pieces) {
+    match wrong_answer(rt.alloc(), line) {
         Ok(None) => return Ok(true),
-        Ok(Some(got)) => {
-            let got = got.as_str();
-            println!(rt; "line {number}: {line}\n  is answered: {got}")?
+        Ok(Some(got)) => println!(rt; "line {number}: {line}\n  is answered: {got}")?,
+        Err(Fault::Unreadable(reason)) => {
+            println!(rt; "line {number}: {line}\n  can't be read: {reason}")?
         }
-        Err(reason) if reason == NO_MEMORY => return Err(io::Error::from(ErrorKind::OutOfMemory)),
-        Err(reason) => println!(rt; "line {number}: {line}\n  can't be read: {reason}")?,
+        Err(_) => return Err(io::Error::from(ErrorKind::OutOfMemory)),
     }
     Ok(false)
 }

@@ -1,63 +1,88 @@
-//! Lists of queries: written out, all of one length, or random ones.
+//! Batches of matrices and lists of queries: written out, or all of a kind, or random ones.
 
-use crate::reader::Reader;
+use crate::case::Fault;
+use crate::field::Item;
+use p3_merkle_core::steps::check_heights;
+use p3_support::matrix::Dimensions;
 use rand_chacha::ChaCha20Rng;
 use rand_core::{Rng, SeedableRng};
+use std::alloc::{AllocError, Global};
 
-/// The lists in a text, with `;` between them.
-fn written_lists(reader: &mut Reader, text: &str) -> Vec<Vec<usize>> {
-    let mut lists = reader.none();
-    for list in text.split(';') {
-        let list = reader.numbers(list.trim());
-        reader.push(&mut lists, list);
+/// Each batch of one or two matrices of this width that a tree can have, with heights up to `tallest`.
+fn lawful_batches(
+    alloc: Global,
+    tallest: usize,
+    width: usize,
+) -> Result<Vec<Vec<Dimensions>>, Fault> {
+    let mut batches = Vec::new(alloc);
+    for height in 0..=tallest {
+        // A second height of 0 is no matrix.
+        for second in 0..=tallest {
+            let mut batch = Vec::new(alloc);
+            batch.push(Dimensions { width, height })?;
+            if second > 0 {
+                let height = second;
+                batch.push(Dimensions { width, height })?;
+            }
+            if check_heights(&batch).is_ok() {
+                batches.push(batch)?;
+            }
+        }
     }
-    lists
+    Ok(batches)
+}
+
+/// The batches that a text names: dimensions with `;` between the batches, or `lawful TALLEST WIDTH`.
+pub fn batches_in(alloc: Global, text: &str) -> Result<Vec<Vec<Dimensions>>, Fault> {
+    let Some(numbers) = text.strip_prefix("lawful ") else {
+        return Vec::parse(alloc, text);
+    };
+    match Vec::parse(alloc, numbers)?.as_slice() {
+        [tallest, width] => lawful_batches(alloc, *tallest, *width),
+        _ => Err(Fault::Unreadable("lawful batches are not TALLEST WIDTH")),
+    }
 }
 
 /// The list of so many of some leaves that are the digits of this number, the last digit first. The base is how many
 /// leaves there are.
-fn list_numbered(reader: &mut Reader, leaves: usize, len: usize, number: usize) -> Vec<usize> {
+fn list_numbered(
+    alloc: Global,
+    leaves: usize,
+    len: usize,
+    number: usize,
+) -> Result<Vec<usize>, AllocError> {
     let base = leaves.max(1);
-    let mut list = reader.none();
+    let mut list = Vec::new(alloc);
     let mut rest = number;
     for _query in 0..len {
-        reader.push(&mut list, rest % base);
+        list.push(rest % base)?;
         rest /= base;
     }
-    list
+    Ok(list)
 }
 
-/// Every list of so many of some leaves.
-fn every_list(reader: &mut Reader, leaves: usize, len: usize) -> Vec<Vec<usize>> {
-    let mut lists = reader.none();
-    for number in 0..leaves.saturating_pow(len.min(64) as u32) {
-        let list = list_numbered(reader, leaves, len, number);
-        reader.push(&mut lists, list);
-    }
-    lists
-}
-
-/// Every list of at most so many of some leaves.
-fn lists_up_to(reader: &mut Reader, leaves: usize, longest: usize) -> Vec<Vec<usize>> {
-    let mut lists = reader.none();
-    for len in 0..longest.saturating_add(1) {
-        for list in every_list(reader, leaves, len) {
-            reader.push(&mut lists, list);
+/// Every list of some leaves whose length is at least `shortest` and at most `longest`.
+fn every_list(
+    alloc: Global,
+    leaves: usize,
+    shortest: usize,
+    longest: usize,
+) -> Result<Vec<Vec<usize>>, AllocError> {
+    let mut lists = Vec::new(alloc);
+    for len in shortest..=longest {
+        for number in 0..leaves.saturating_pow(len.min(64) as u32) {
+            lists.push(list_numbered(alloc, leaves, len, number)?)?;
         }
     }
-    lists
+    Ok(lists)
 }
 
 /// The generator of a seed of one byte.
-pub fn generator_of(reader: &mut Reader, seed: usize) -> ChaCha20Rng {
-    let byte = match u8::try_from(seed) {
-        Ok(byte) => byte,
-        Err(_) => {
-            reader.fail("the seed is no byte");
-            0
-        }
-    };
-    ChaCha20Rng::from_seed([byte; 32])
+pub fn generator(seed: usize) -> Result<ChaCha20Rng, Fault> {
+    match u8::try_from(seed) {
+        Ok(byte) => Ok(ChaCha20Rng::from_seed([byte; 32])),
+        Err(_) => Err(Fault::Unreadable("the seed is no byte")),
+    }
 }
 
 /// A random number below `end`, which is at least 1.
@@ -65,56 +90,42 @@ fn below(rng: &mut ChaCha20Rng, end: usize) -> usize {
     rng.next_u64() as usize % end.max(1)
 }
 
-/// A random list of `shortest` to `longest` of some leaves.
+/// A random list of some leaves, whose length is at least `shortest` and at most `longest`.
 fn random_list(
-    reader: &mut Reader,
+    alloc: Global,
     rng: &mut ChaCha20Rng,
     leaves: usize,
     shortest: usize,
     longest: usize,
-) -> Vec<usize> {
+) -> Result<Vec<usize>, AllocError> {
     let lengths = longest.saturating_sub(shortest).saturating_add(1);
-    let len = shortest.saturating_add(below(rng, lengths));
-    let mut list = reader.none();
-    for _query in 0..len {
-        reader.push(&mut list, below(rng, leaves));
+    let mut list = Vec::new(alloc);
+    for _query in 0..shortest.saturating_add(below(rng, lengths)) {
+        list.push(below(rng, leaves))?;
     }
-    list
-}
-
-/// Random lists of some leaves, by four numbers: the seed, how many lists, and the least and the greatest length.
-fn random_lists(reader: &mut Reader, leaves: usize, numbers: [usize; 4]) -> Vec<Vec<usize>> {
-    let [seed, count, shortest, longest] = numbers;
-    let mut rng = generator_of(reader, seed);
-    let mut lists = reader.none();
-    for _list in 0..count {
-        let list = random_list(reader, &mut rng, leaves, shortest, longest);
-        reader.push(&mut lists, list);
-    }
-    lists
+    Ok(list)
 }
 
 /// The lists that a text names, over so many leaves: lists with `;` between them; `every LENGTH`; `up to LENGTH`; or
 /// `random SEED LISTS SHORTEST LONGEST`, with lengths between these two.
-pub fn lists_of(reader: &mut Reader, text: &str, leaves: usize) -> Vec<Vec<usize>> {
+pub fn lists_in(alloc: Global, text: &str, leaves: usize) -> Result<Vec<Vec<usize>>, Fault> {
     if let Some(len) = text.strip_prefix("every ") {
-        let len = reader.number(len.trim());
-        return every_list(reader, leaves, len);
+        let len = usize::parse(alloc, len)?;
+        return Ok(every_list(alloc, leaves, len, len)?);
     }
     if let Some(longest) = text.strip_prefix("up to ") {
-        let longest = reader.number(longest.trim());
-        return lists_up_to(reader, leaves, longest);
+        return Ok(every_list(alloc, leaves, 0, usize::parse(alloc, longest)?)?);
     }
-    let Some(words) = text.strip_prefix("random ") else {
-        return written_lists(reader, text);
+    let Some(numbers) = text.strip_prefix("random ") else {
+        return Vec::parse(alloc, text);
     };
-    match reader.numbers(words).as_slice() {
-        [seed, count, shortest, longest] => {
-            random_lists(reader, leaves, [*seed, *count, *shortest, *longest])
-        }
-        _ => {
-            reader.fail("random lists are not SEED LISTS SHORTEST LONGEST");
-            reader.none()
-        }
+    let [seed, count, shortest, longest] = *Vec::parse(alloc, numbers)?.as_slice() else {
+        return Err(Fault::Unreadable("random lists are not SEED LISTS SHORTEST LONGEST"));
+    };
+    let mut rng = generator(seed)?;
+    let mut lists = Vec::new(alloc);
+    for _list in 0..count {
+        lists.push(random_list(alloc, &mut rng, leaves, shortest, longest)?)?;
     }
+    Ok(lists)
 }

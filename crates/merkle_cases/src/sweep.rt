@@ -3,25 +3,21 @@
 ghost use Rattle.std.specs.Prelude.{◌≤◌, IsTrue};
 ghost use Rattle.p3_merkle_core.specs.Geometry.{is_arity};
 
-use crate::batches::batches_of;
-use crate::case::Case;
-use crate::committed::{Committed, OpenedLeaves, accepted, accepted_leaves, commit_shown};
-use crate::fields::{Fault, Fields};
-use crate::openings::LentLeaves;
-use crate::queries::lists_of;
-use crate::reader::Reader;
-use crate::scheme::{Cap, FoldCap, fold_scheme};
-use crate::text::Answer;
-use crate::tried::{FoldCollision, Tried};
-use crate::twin::{collides_at, twin_places, twin_rows, twin_sets};
+use crate::case::{Case, Fault};
+use crate::field::Item;
+use crate::matrices::{Word, matrices_by, twin_sets};
+use crate::opened::{Committed, accepted, accepted_leaves, commit_shown};
+use crate::queries::{batches_in, lists_in};
+use crate::scheme::{Cap, FoldScheme, Tried, fold_scheme};
+use p3_merkle_core::geometry::exponent_of;
 use p3_merkle_core::steps::steps_of;
-use p3_merkle_tree::{BatchOpening, BatchOpeningRef, MerkleTreeError, Place};
+use p3_merkle_tree::{BatchOpeningRef, InputPair, MerkleTreeError, Place};
 use p3_support::matrix::Dimensions;
 use std::alloc::Global;
 
 /// What a sweep has tried.
 #[derive(Clone, Copy)]
-pub struct Counts {
+struct Counts {
     lists: usize,
     digests: usize,
     collisions: usize,
@@ -29,215 +25,126 @@ pub struct Counts {
 }
 
 impl Counts {
-    /// Nothing yet.
-    pub fn none() -> Counts {
-        Counts {
-            lists: 0,
-            digests: 0,
-            collisions: 0,
-            nones: 0,
-        }
-    }
-
-    /// One more list of queries, whose proof has so many digests.
-    pub fn add_list(&mut self, digests: usize) {
-        self.lists = self.lists.saturating_add(1);
-        self.digests = self.digests.saturating_add(digests);
-    }
-
-    /// Two more openings beside their twins of each matrix, of the leaves of these queries and of the first one alone,
-    /// which collide at these places, or nowhere. Where there is no query, one more that collides nowhere.
-    fn add_twins(&mut self, indices: &[usize], places: &[Option<Place>]) {
-        for place in places {
-            if indices.is_empty() {
-                self.nones = self.nones.saturating_add(1);
-            } else if place.is_none() {
-                self.nones = self.nones.saturating_add(2);
-            } else {
-                self.collisions = self.collisions.saturating_add(2);
+    /// Counts what an opening and its twin lead to. Fails where it is no collision at this place, or any where there is
+    /// none.
+    fn compare<T, X>(
+        &mut self,
+        found: Option<&InputPair<T, X>>,
+        place: Option<&Place>,
+    ) -> Result<(), Fault> {
+        match (found, place) {
+            (Some(InputPair::Words { place: found, .. }), Some(place)) if *found == *place => {
+                self.collisions = self.collisions.saturating_add(1);
             }
+            (None, None) => self.nones = self.nones.saturating_add(1),
+            _ => return Err(Fault::Wrong("an opening collides elsewhere with its twin")),
+        }
+        Ok(())
+    }
+}
+
+/// The place of a check at which the rows of a matrix of this exponent are hashed; none where its layer is above the
+/// cap. The leaves have the other exponent, and the steps lead from them up to the cap.
+fn place_of(leaves: usize, steps: &[usize], rows: usize) -> Option<Place> {
+    if leaves == rows {
+        return Some(Place::Leaf);
+    }
+    let mut exponent = leaves;
+    for (level, step) in steps.iter().enumerate() {
+        exponent = exponent.saturating_sub(exponent_of(*step));
+        if exponent == rows {
+            return Some(Place::Rows(level));
         }
     }
-
-    /// Writes `LISTS DIGESTS`.
-    pub fn write_lists(&self, answer: &mut Answer) {
-        answer.numbers(&[self.lists, self.digests]);
-    }
-
-    /// Writes `LISTS DIGESTS COLLISIONS NONES`.
-    pub fn write(&self, answer: &mut Answer) {
-        answer.numbers(&[self.lists, self.digests, self.collisions, self.nones]);
-    }
+    None
 }
 
-/// What the opening of a leaf and the same with the twin of its row of a matrix lead to.
-fn leaf_collision<S: Tried>(
+/// That place for each of some matrices; no place at all where some rows have no twin.
+fn twin_places<T: Word, const N: usize>(
     alloc: Global,
-    scheme: &S,
-    committed: &Committed<FoldCap, S::ProverData>,
-    index: usize,
-    leaf: &BatchOpening<u32, S::Proof>,
-    matrix: usize,
-) -> Result<Option<FoldCollision>, MerkleTreeError> {
-    let rows = twin_rows(alloc, &leaf.opened_values, matrix)?;
-    let twin = BatchOpeningRef::new(&rows, &leaf.opening_proof);
-    let Committed {
-        cap,
-        dimensions,
-        ..
-    } = committed;
-    scheme.extract(
-        alloc,
-        cap,
-        dimensions,
-        [index, index],
-        BatchOpeningRef::from(leaf),
-        twin,
-    )
+    plain: &FoldScheme<N, 1>,
+    dimensions: &[Dimensions],
+) -> Result<Vec<Option<Place>>, MerkleTreeError> {
+    let steps = plain.proof_arity_schedule(alloc, dimensions)?;
+    let leaves = steps_of(dimensions, 2).exponent;
+    let mut places = Vec::new(alloc);
+    for Dimensions { width, height } in dimensions {
+        if !T::HAS_TWINS || *width < 2 {
+            return Ok(Vec::new(alloc));
+        }
+        places.push(place_of(leaves, &steps, exponent_of(*height)))?;
+    }
+    Ok(places)
 }
 
-/// Fails where a leaf collides with its twin of a matrix elsewhere than at this place of the matrix.
-fn check_leaf_twins<S: Tried>(
+/// How many paths of a list of queries are compared, each with that of its leaf opened by itself.
+const MOST_PATHS: usize = 64;
+
+/// Fails where the paths that a proof restores are not those of its leaves, where the scheme restores any.
+fn check_paths<T: Word, X: Item + PartialEq, S: Tried<T, X>>(
     alloc: Global,
     scheme: &S,
-    committed: &Committed<FoldCap, S::ProverData>,
-    index: usize,
-    places: &[Option<Place>],
+    committed: &Committed<T, X, S::ProverData>,
+    indices: &[usize],
+    opening: &(Vec<Vec<Vec<T>>>, S::MultiProof),
 ) -> Result<(), Fault> {
-    let leaf = accepted(alloc, scheme, committed, index)?;
-    for (matrix, place) in places.iter().enumerate() {
-        let found = leaf_collision(alloc, scheme, committed, index, &leaf, matrix)?;
-        if !collides_at(found.as_ref(), place.as_ref()) {
-            return Err(Fault::Wrong("a leaf collides elsewhere with its twin"));
+    let leaves = (indices, opening.0.as_slice(), &opening.1);
+    let Some(paths) = scheme.restore(alloc, &committed.statement.dimensions, leaves)? else {
+        return Ok(());
+    };
+    if paths.len() != indices.len() {
+        return Err(Fault::Wrong("a proof has another number of paths"));
+    }
+    for (index, path) in indices.iter().zip(&paths).take(MOST_PATHS) {
+        let (_, proof) = accepted::<T, X, S>(alloc, scheme, committed, *index)?.unpack();
+        if path.leaf_index != *index || path.siblings.as_slice() != S::siblings(&proof) {
+            return Err(Fault::Wrong("a path is not that of its leaf"));
         }
     }
     Ok(())
 }
 
-/// What the opening of several leaves and the same with the twins of their rows of a matrix lead to.
-fn collision_of_twins<S: Tried>(
+/// Compares the opening of some leaves, and that of the first of them by itself, with the twins of each matrix, whose
+/// rows collide at these places.
+fn compare_twins<T: Word, X: Item, S: Tried<T, X>>(
     alloc: Global,
     scheme: &S,
-    committed: &Committed<FoldCap, S::ProverData>,
+    committed: &Committed<T, X, S::ProverData>,
     indices: &[usize],
-    leaves: &OpenedLeaves<u32, S::MultiProof>,
-    matrix: usize,
-) -> Result<Option<(usize, usize, FoldCollision)>, MerkleTreeError> {
-    let (own, proof) = leaves;
-    let rows = twin_sets(alloc, own, matrix)?;
-    let Committed {
-        cap,
-        dimensions,
-        ..
-    } = committed;
-    let honest = LentLeaves {
-        indices,
-        rows: own,
-        proof,
-    };
-    let twin = LentLeaves {
-        indices,
-        rows: &rows,
-        proof,
-    };
-    scheme.extract_multi(alloc, cap, dimensions, honest, twin)
-}
-
-/// The same of the leaves of some queries that are opened by one proof: the first of them collides, and nothing does
-/// where there is no query.
-fn check_twins<S: Tried>(
-    alloc: Global,
-    scheme: &S,
-    committed: &Committed<FoldCap, S::ProverData>,
-    indices: &[usize],
-    leaves: &OpenedLeaves<u32, S::MultiProof>,
-    places: &[Option<Place>],
-) -> Result<(), Fault> {
-    for (matrix, place) in places.iter().enumerate() {
-        let place = if indices.is_empty() {
-            None
-        } else {
-            place.as_ref()
-        };
-        let found = collision_of_twins(alloc, scheme, committed, indices, leaves, matrix)?;
-        let is_right = match &found {
-            Some((0, 0, collision)) => collides_at(Some(collision), place),
-            Some(_) => false,
-            None => place.is_none(),
-        };
-        if !is_right {
-            return Err(Fault::Wrong("leaves collide elsewhere with their twins"));
-        }
-    }
-    Ok(())
-}
-
-/// How many digests open the leaves of some queries. Fails where their opening, or its twins or those of its first
-/// leaf, are not as they should be.
-fn check_list<S: Tried>(
-    alloc: Global,
-    scheme: &S,
-    committed: &Committed<FoldCap, S::ProverData>,
-    indices: &[usize],
-    places: &[Option<Place>],
-) -> Result<usize, Fault> {
-    let leaves = accepted_leaves(alloc, scheme, committed, indices)?;
-    let digests = scheme.check_paths(alloc, committed, indices, &leaves)?;
-    check_twins(alloc, scheme, committed, indices, &leaves, places)?;
-    if let Some(index) = indices.first() {
-        check_leaf_twins(alloc, scheme, committed, *index, places)?;
-    }
-    Ok(digests)
-}
-
-/// Opens the leaves of each list of queries, and counts.
-fn count_lists<S: Tried>(
-    alloc: Global,
-    scheme: &S,
-    committed: &Committed<FoldCap, S::ProverData>,
-    lists: &[Vec<usize>],
+    opening: &(Vec<Vec<Vec<T>>>, S::MultiProof),
     places: &[Option<Place>],
     counts: &mut Counts,
 ) -> Result<(), Fault> {
-    for indices in lists {
-        counts.add_list(check_list(alloc, scheme, committed, indices, places)?);
-        counts.add_twins(indices, places);
+    let (statement, (rows, proof)) = (&committed.statement, opening);
+    for (matrix, place) in places.iter().enumerate() {
+        let twins = twin_sets(alloc, rows, matrix)?;
+        let honest = (indices, rows.as_slice(), proof);
+        let twin = (indices, twins.as_slice(), proof);
+        let found = match scheme.extract_multi(alloc, statement, honest, twin)? {
+            Some((0, 0, collision)) => Some(collision),
+            Some(_) => return Err(Fault::Wrong("other queries collide than the first")),
+            None => None,
+        };
+        let (Some(index), Some(twin)) = (indices.first(), twins.first()) else {
+            counts.compare(found.as_ref(), None)?;
+            continue;
+        };
+        counts.compare(found.as_ref(), place.as_ref())?;
+        let leaf = accepted::<T, X, S>(alloc, scheme, committed, *index)?;
+        let twin = BatchOpeningRef::new(twin, &leaf.opening_proof);
+        let honest = BatchOpeningRef::from(&leaf);
+        let found = scheme.extract(alloc, statement, (*index, honest), (*index, twin))?;
+        counts.compare(found.as_ref(), place.as_ref())?;
     }
     Ok(())
-}
-
-/// What a sweep goes over.
-#[derive(Drop)]
-pub struct Plan<'a> {
-    /// The dimensions of the matrices of each batch.
-    pub batches: Vec<Vec<Dimensions>>,
-    /// Which lists of queries are opened of each.
-    queries: &'a str,
-}
-
-impl<'a> Plan<'a> {
-    /// What the next two fields name: batches and queries.
-    pub fn of(fields: &mut Fields<'a>) -> Plan<'a> {
-        let batches = fields.take();
-        let queries = fields.take();
-        Plan {
-            batches: batches_of(&mut fields.reader, batches),
-            queries,
-        }
-    }
-
-    /// The lists of queries that are opened of matrices of these dimensions.
-    pub fn lists(&self, reader: &mut Reader, dimensions: &[Dimensions]) -> Vec<Vec<usize>> {
-        lists_of(reader, self.queries, steps_of(dimensions, 2).max_height)
-    }
 }
 
 /// `sweep | ARITY | CAP | BATCHES | QUERIES | LISTS DIGESTS COLLISIONS NONES`: of each batch of matrices, many lists of
 /// queries are opened and accepted, and without salts restored; and so is the first leaf of each. Where all rows have
 /// twins, each opening is compared with its twin, matrix by matrix. How many lists there are, how many digests their
 /// proofs have, how many openings collide with a twin, and how many do not, since the matrix is not authenticated or
-/// there is no query. With salts: `salted_sweep | ARITY | CAP | SALTS A ROW | GENERATOR | BATCHES | QUERIES | ..`.
-pub fn sweep<S: Tried, const N: usize>(
+/// there is no query. With salts: `salted_sweep | ARITY | CAP | SALTS A ROW | SEED | BATCHES | QUERIES | ..`.
+pub fn sweep<T: Word, X: Item + PartialEq, S: Tried<T, X>, const N: usize>(
     case: &mut Case<'_>,
     cap: Cap,
     scheme: &mut S,
@@ -245,23 +152,45 @@ pub fn sweep<S: Tried, const N: usize>(
     requires arity { IsTrue (is_arity N) }
     requires few { N ≤ 16 }
 {
-    let plan = Plan::of(&mut case.fields);
-    let mut counts = Counts::none();
-    for dimensions in &plan.batches {
-        let lists = plan.lists(&mut case.fields.reader, dimensions);
-        let matrices = case.fields.reader.numbered(dimensions);
-        let committed = commit_shown(case.alloc, scheme, matrices)?;
-        let steps = fold_scheme::<N>(cap).proof_arity_schedule(case.alloc, dimensions)?;
-        let places = twin_places(case.alloc, dimensions, &steps)?;
-        count_lists(
-            case.alloc,
-            &*scheme,
-            &committed,
-            &lists,
-            &places,
-            &mut counts,
-        )?;
+    let alloc = case.alloc;
+    let batches = batches_in(alloc, case.take())?;
+    let queries = case.take();
+    let plain = fold_scheme::<N>(cap);
+    let mut counts = Counts {
+        lists: 0,
+        digests: 0,
+        collisions: 0,
+        nones: 0,
+    };
+    for dimensions in &batches {
+        let matrices = matrices_by(alloc, dimensions)?;
+        let committed = commit_shown::<T, X, S>(alloc, scheme, matrices)?;
+        let places = twin_places::<T, N>(alloc, &plain, dimensions)?;
+        for indices in &lists_in(alloc, queries, scheme.get_max_height(&committed.tree))? {
+            let opening = accepted_leaves::<T, X, S>(alloc, &*scheme, &committed, indices)?;
+            let digests = S::digests(&opening.1).len();
+            if plain.pruned_len(alloc, dimensions, indices)? != digests {
+                return Err(Fault::Wrong("a proof has another number of digests"));
+            }
+            counts.lists = counts.lists.saturating_add(1);
+            counts.digests = counts.digests.saturating_add(digests);
+            check_paths::<T, X, S>(alloc, &*scheme, &committed, indices, &opening)?;
+            compare_twins::<T, X, S>(
+                alloc,
+                &*scheme,
+                &committed,
+                indices,
+                &opening,
+                &places,
+                &mut counts,
+            )?;
+        }
     }
-    counts.write(&mut case.answer);
-    Ok(())
+    let Counts {
+        lists,
+        digests,
+        collisions,
+        nones,
+    } = counts;
+    case.list(&[lists, digests, collisions, nones])
 }
