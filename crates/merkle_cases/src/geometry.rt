@@ -11,7 +11,7 @@ use p3_merkle_tree::{BatchOpeningRef, CapRule, MerkleCap, MerkleTree, MerkleTree
 use p3_support::matrix::Dimensions;
 use std::alloc::{AllocError, Global};
 use std::fmt::Write;
-use test_fixtures::matrices::Numbers;
+use library_tests::matrices::Numbers;
 
 /// Answers a case of heights by a scheme:
 ///

@@ -1,23 +1,52 @@
 //! A case: its line, and the answer of each scheme that takes it.
 
-ghost use Rattle.std.specs.Prelude.{◌≤◌};
+ghost use Rattle.std.specs.Prelude.{◌≤◌, IsTrue};
+ghost use Rattle.p3_merkle_tree.specs.Geometry.{is_arity};
 
+use crate::builders::{fold, sha};
 use crate::large::matrices_of;
 use crate::numbers::{Fault, Numbers};
-use crate::plain::{plain_fold, plain_sha};
-use crate::salted::{salted_fold, salted_sha};
-use crate::scheme::{Answer, Case};
+use crate::scheme::Answer;
 use p3_merkle_tree::CapRule;
 use std::alloc::Global;
 
-/// The answer if the others are the same.
-pub fn agreed(answer: Answer, others: &[Answer]) -> Answer {
-    for other in others {
-        if *other != answer {
-            return Err(Fault::Disputed);
-        }
+/// A case without its hash and its arity.
+#[derive(Clone, Copy)]
+pub struct Case<'c, 'n> {
+    /// The name of the call, without the `s` of a salted one.
+    pub call: &'c str,
+    /// The salts, if the scheme has some.
+    pub salts: Option<Salts>,
+    /// The cap height of the scheme.
+    pub cap_height: usize,
+    /// The rule of the cap.
+    pub rule: CapRule,
+    /// The arguments of the call.
+    pub arguments: Numbers<'n>,
+}
+
+/// The salts of a scheme: each is `step` more than the one before, and `last` is the one before the first.
+#[derive(Clone, Copy)]
+pub struct Salts {
+    /// How many a row has.
+    pub a_row: u64,
+    /// By how much they grow.
+    pub step: u64,
+    /// What the first one is a step above.
+    pub last: u64,
+}
+
+/// The salts that arguments begin with: how many a row has, the first one and the step. Calls that only verify draw
+/// none, and have the first of these numbers alone.
+fn salts_of(call: &str, numbers: &mut Numbers<'_>) -> Result<Salts, Fault> {
+    let a_row = numbers.number()?;
+    let (mut first, mut step) = (0, 0);
+    if call != "verify" && call != "vprune" {
+        first = numbers.number()?;
+        step = numbers.number()?;
     }
-    answer
+    let last = first.wrapping_sub(step);
+    Ok(Salts { a_row, step, last })
 }
 
 /// The numbers that words are.
@@ -26,74 +55,22 @@ fn numbers_in(alloc: Global, words: &[&str]) -> Answer {
     for word in words {
         match word.parse::<u64>() {
             Ok(number) => numbers.push(number)?,
-            Err(_) => return Err(Fault::Number),
+            Err(_) => return Err(Fault::NoCase),
         }
     }
     Ok(numbers)
 }
 
-/// The answer of each builder by the fold functions with digests of `D` words, at the arity that a word is.
-fn fold_at<const D: usize>(arity: &str, case: &Case<'_, '_>) -> Answer
-    requires { D ≤ 32 }
-{
-    if case.is_salted {
-        return match arity {
-            "2" => salted_fold::<2, D>(case),
-            "4" => salted_fold::<4, D>(case),
-            "8" => salted_fold::<8, D>(case),
-            _ => Err(Fault::Scheme),
-        };
-    }
-    match arity {
-        "2" => plain_fold::<2, D>(case),
-        "4" => plain_fold::<4, D>(case),
-        "8" => plain_fold::<8, D>(case),
-        _ => Err(Fault::Scheme),
-    }
-}
-
-/// The answer by SHA-256 at the arity that a word is.
-fn sha_at(arity: &str, case: &Case<'_, '_>) -> Answer {
-    if case.is_salted {
-        return match arity {
-            "2" => salted_sha::<2>(case),
-            "4" => salted_sha::<4>(case),
-            "8" => salted_sha::<8>(case),
-            _ => Err(Fault::Scheme),
-        };
-    }
-    match arity {
-        "2" => plain_sha::<2>(case),
-        "4" => plain_sha::<4>(case),
-        "8" => plain_sha::<8>(case),
-        _ => Err(Fault::Scheme),
-    }
-}
-
 /// The answer by a hash, with digests of so many words.
-fn answer_at(hash: &str, digest_len: &str, arity: &str, case: &Case<'_, '_>) -> Answer {
+fn answer_at<const N: usize>(hash: &str, digest_len: &str, case: &Case<'_, '_>) -> Answer
+    requires arity { IsTrue (is_arity N) }
+    requires few_children { N ≤ 16 }
+{
     match digest_len {
-        "1" if hash == "fold" => fold_at::<1>(arity, case),
-        "2" if hash == "fold" => fold_at::<2>(arity, case),
-        "32" if hash == "sha" => sha_at(arity, case),
-        _ => Err(Fault::Scheme),
-    }
-}
-
-/// The rule that a word is.
-fn rule_of(word: &str) -> Result<CapRule, Fault> {
-    match word {
-        "x" => Ok(CapRule::Fixed),
-        "l" => Ok(CapRule::Lowered),
-        _ => Err(Fault::Rule),
-    }
-}
-
-/// A call without the `s` of a salted one, and whether it is salted.
-fn call_of(word: &str) -> (&str, bool) {
-    match word.strip_prefix('s') {
-        Some("chedule") | None => (word, false),
-        Some(call) => (call, true),
+        "1" if hash == "fold" => fold::<N, 1>(case),
+        "2" if hash == "fold" => fold::<N, 2>(case),
+        "32" if hash == "sha" => sha::<N>(case),
+        _ => Err(Fault::NoCase),
     }
 }
 
@@ -101,25 +78,41 @@ fn call_of(word: &str) -> (&str, bool) {
 pub fn answer_to(alloc: Global, line: &str) -> Answer {
     let words: Vec<&str> = line.split_ascii_whitespace().collect(alloc)?;
     let [call, hash, digest_len, arity, cap_height, rule, words @ ..] = words.as_slice() else {
-        return Err(Fault::TooShort);
+        return Err(Fault::NoCase);
     };
     let Ok(cap_height) = cap_height.parse::<usize>() else {
-        return Err(Fault::Number);
+        return Err(Fault::NoCase);
     };
-    let rule = rule_of(rule)?;
-    let (mut call, is_salted) = call_of(call);
+    let rule = match *rule {
+        "x" => CapRule::Fixed,
+        "l" => CapRule::Lowered,
+        _ => return Err(Fault::NoCase),
+    };
     let mut numbers = numbers_in(alloc, words)?;
+    let mut call = *call;
     if call == "large" {
-        numbers = matrices_of(alloc, &numbers, *hash == "sha")?;
+        numbers = matrices_of(Numbers::new(alloc, &numbers), *hash == "sha")?;
         call = "commit";
     }
-    let arguments = Numbers::new(alloc, &numbers);
+    let mut arguments = Numbers::new(alloc, &numbers);
+    let salts = match call.strip_prefix('s') {
+        Some("chedule") | None => None,
+        Some(salted) => {
+            call = salted;
+            Some(salts_of(call, &mut arguments)?)
+        }
+    };
     let case = Case {
         call,
-        is_salted,
+        salts,
         cap_height,
         rule,
         arguments,
     };
-    answer_at(hash, digest_len, arity, &case)
+    match *arity {
+        "2" => answer_at::<2>(hash, digest_len, &case),
+        "4" => answer_at::<4>(hash, digest_len, &case),
+        "8" => answer_at::<8>(hash, digest_len, &case),
+        _ => Err(Fault::NoCase),
+    }
 }

@@ -1,9 +1,8 @@
 //! Matrices whose words are computed: those of matrix k, from 0, are the states of a xorshift generator after k + 1.
 
-use crate::numbers::{Fault, FromNumbers, Numbers};
+use crate::numbers::Numbers;
 use crate::scheme::Answer;
 use p3_support::matrix::Dimensions;
-use std::alloc::Global;
 
 /// The state of the generator after this one.
 fn next_state(state: u32) -> u32 {
@@ -13,11 +12,10 @@ fn next_state(state: u32) -> u32 {
 }
 
 /// The arguments of a commitment to matrices of these dimensions, with words of 32 bits, or bytes: the highest 8 bits.
-pub fn matrices_of(alloc: Global, dimensions: &[u64], are_bytes: bool) -> Answer {
-    let mut numbers = Numbers::new(alloc, dimensions);
-    let dimensions: Vec<Dimensions> = Vec::read(&mut numbers)?;
+pub fn matrices_of(mut numbers: Numbers<'_>, are_bytes: bool) -> Answer {
+    let dimensions = numbers.dimensions()?;
     numbers.end()?;
-    let mut matrices = Vec::new(alloc);
+    let mut matrices = Vec::new(numbers.alloc);
     matrices.push(dimensions.len() as u64)?;
     let mut seed: u32 = 0;
     for Dimensions { width, height } in &dimensions {

@@ -6,17 +6,16 @@
 //! with its answer, and the status is then 1. After the last line of a file that has such lines comes their number.
 #![tactic(auto)]
 
+mod builders;
 mod case;
 mod large;
 mod numbers;
-mod plain;
-mod salted;
 mod scheme;
 mod table;
 mod text;
 
 use crate::case::answer_to;
-use crate::text::Shown;
+use crate::text::text_of;
 use sha2::{Digest, Sha256};
 use std::alloc::Global;
 use std::fs::File;
@@ -24,68 +23,37 @@ use std::io::{BufRead, BufReader, BufWriter, Read, Write};
 use std::process::ExitCode;
 use std::{env, io};
 
-/// How many lines were checked.
-#[derive(Drop)]
-struct Counts {
-    cases: usize,
-    wrong: usize,
-    /// How many have two answers.
-    differing: usize,
-}
-
-/// Answers or checks a line.
-fn answer_line<W: Write>(
-    alloc: Global,
-    line: &str,
-    counts: &mut Counts,
-    out: &mut W,
-) -> io::Result<()> {
-    let Some((case, expected)) = line.split_once(" | ") else {
-        let answer = answer_to(alloc, line);
-        return writeln!(out, "{}", Shown(&answer));
-    };
-    counts.cases = counts.cases.saturating_add(1);
-    let expected = match expected.split_once(" | ") {
-        Some((_, here)) => {
-            counts.differing = counts.differing.saturating_add(1);
-            here
-        }
-        None => expected,
-    };
-    let answer = answer_to(alloc, case);
-    let answer = format!(in alloc; "{}", Shown(&answer))?;
-    if answer.as_str() != expected {
-        counts.wrong = counts.wrong.saturating_add(1);
-        writeln!(out, "{line}\n  is answered {answer}")?;
-    }
-    Ok(())
-}
-
 /// Answers or checks each line of a reader, and returns how many are wrong.
 fn answer_lines<R: Read + Drop, W: Write>(
     alloc: Global,
     reader: R,
     out: &mut W,
 ) -> io::Result<usize> {
-    let mut counts = Counts {
-        cases: 0,
-        wrong: 0,
-        differing: 0,
-    };
+    let (mut cases, mut wrong, mut differing) = (0_usize, 0_usize, 0_usize);
     let mut lines_read = Sha256::new();
     for line in BufReader::new(alloc, reader)?.lines(alloc) {
         let line = line?;
         lines_read.update(line.as_bytes());
         lines_read.update(b"\n".as_slice());
-        if !line.is_empty() && !line.starts_with('#') {
-            answer_line(alloc, line.as_str(), &mut counts, out)?;
+        if line.is_empty() || line.starts_with('#') {
+            continue;
+        }
+        let Some((case, mut expected)) = line.split_once(" | ") else {
+            let answer = text_of(alloc, &answer_to(alloc, line.as_str()))?;
+            writeln!(out, "{answer}")?;
+            continue;
+        };
+        let answer = text_of(alloc, &answer_to(alloc, case))?;
+        cases = cases.saturating_add(1);
+        if let Some((_, here)) = expected.split_once(" | ") {
+            differing = differing.saturating_add(1);
+            expected = here;
+        }
+        if answer.as_str() != expected {
+            wrong = wrong.saturating_add(1);
+            writeln!(out, "{line}\n  is answered {answer}")?;
         }
     }
-    let Counts {
-        cases,
-        wrong,
-        differing,
-    } = counts;
     if cases > 0 {
         write!(
             out,

@@ -2,8 +2,8 @@
 
 ghost use Rattle.rust_answers.specs.Tables.{height_in, row_in, width_in, length-row_in};
 
-use crate::numbers::{Fault, FromNumbers, Numbers};
-use p3_support::matrix::{Matrix, RowMajorMatrix};
+use crate::numbers::{Fault, Numbers, Part};
+use p3_support::matrix::{Dimensions, Matrix, RowMajorMatrix};
 
 /// A matrix.
 #[derive(Drop)]
@@ -59,18 +59,26 @@ fn table_of<T: Drop>(words: Vec<T>, height: usize, width: usize) -> Result<Table
     }
     match RowMajorMatrix::try_new(words, width) {
         Ok(rows) => Ok(Table::Rows(rows)),
-        Err(_) => Err(Fault::TooShort),
+        Err(_) => Err(Fault::NoCase),
     }
 }
 
-impl<T: FromNumbers + Copy> FromNumbers for Table<T> {
-    fn read(numbers: &mut Numbers<'_>) -> Result<Table<T>, Fault> {
-        let height = usize::read(numbers)?;
-        let width = usize::read(numbers)?;
-        let mut words = Vec::new(numbers.alloc);
-        for _ in 0..height.saturating_mul(width) {
-            words.push(T::read(numbers)?)?;
-        }
-        table_of(words, height, width)
+/// A matrix, `HEIGHT WIDTH WORDS..`.
+fn table_in<T: Part>(numbers: &mut Numbers<'_>) -> Result<Table<T>, Fault> {
+    let Dimensions { width, height } = numbers.sizes()?;
+    let mut words = Vec::new(numbers.alloc);
+    for _ in 0..height.saturating_mul(width) {
+        words.push(T::read(numbers)?)?;
     }
+    table_of(words, height, width)
+}
+
+/// The list of matrices at the end of a case.
+pub fn tables_in<T: Part>(numbers: &mut Numbers<'_>) -> Result<Vec<Table<T>>, Fault> {
+    let mut tables = Vec::new(numbers.alloc);
+    for _ in 0..usize::read(numbers)? {
+        tables.push(table_in(numbers)?)?;
+    }
+    numbers.end()?;
+    Ok(tables)
 }

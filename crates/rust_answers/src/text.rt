@@ -2,76 +2,41 @@
 
 use crate::numbers::Fault;
 use crate::scheme::Answer;
-use p3_merkle_tree::{MerkleTreeError, PrunedProofError};
-use std::fmt;
-use std::fmt::{Formatter, Write};
+use std::alloc::Global;
+use std::fmt::Write;
+use std::io;
 
-/// `ok` and the numbers; `err`, the name of the error and its fields; or `bad` and why there is no answer.
-#[derive(Clone, Copy)]
-pub struct Shown<'a>(pub &'a Answer);
-
-impl fmt::Display for Shown<'_> {
-    fn fmt<W: Write>(&self, f: &mut Formatter<W>) -> fmt::Result {
-        match self.0 {
-            Ok(numbers) => {
-                f.write_str("ok")?;
-                for number in numbers {
-                    write!(f, " {number}")?;
-                }
-                Ok(())
+/// `ok` and the numbers; `err`, the name of the error and its fields, of a malformed pruned proof the inner one; or
+/// `bad` and why there is none.
+pub fn text_of(alloc: Global, answer: &Answer) -> io::Result<String> {
+    let mut text = String::new(alloc);
+    match answer {
+        Ok(numbers) => {
+            text.push_str("ok")?;
+            for number in numbers {
+                write!(text, " {number}")?;
             }
-            Err(Fault::Refused(error)) => refusal(error, f),
-            Err(fault) => write!(f, "bad {fault:?}"),
         }
+        Err(Fault::Refused(error)) => {
+            text.push_str("err")?;
+            let error = format!(in alloc; "{error:?}")?;
+            let error = error.as_str();
+            let inner = error.strip_prefix("MalformedPrunedProof(");
+            for word in inner.unwrap_or(error).split_ascii_whitespace() {
+                push_if_shown(&mut text, word)?;
+            }
+        }
+        Err(fault) => write!(text, "bad {fault:?}")?,
     }
+    Ok(text)
 }
 
-/// Writes `err`, the name of an error and its fields; of a malformed pruned proof the inner one.
-fn refusal<W: Write>(error: &MerkleTreeError, f: &mut Formatter<W>) -> fmt::Result {
-    match error {
-        MerkleTreeError::WrongBatchSize { expected, got } => write!(
-            f,
-            "err WrongBatchSize {expected} {got}"
-        ),
-        MerkleTreeError::WrongWidth {
-            matrix,
-            expected,
-            got,
-        } => write!(f, "err WrongWidth {matrix} {expected} {got}"),
-        MerkleTreeError::WrongHeight {
-            expected_proof_len,
-            num_siblings,
-        } => write!(f, "err WrongHeight {expected_proof_len} {num_siblings}"),
-        MerkleTreeError::IncompatibleHeights {
-            height,
-            max_height,
-            expected_height,
-            bits_reduced,
-        } => write!(
-            f,
-            "err IncompatibleHeights {height} {max_height} {expected_height} {bits_reduced}"
-        ),
-        MerkleTreeError::IndexOutOfBounds { max_height, index } => write!(
-            f,
-            "err IndexOutOfBounds {max_height} {index}"
-        ),
-        MerkleTreeError::EmptyBatch => f.write_str("err EmptyBatch"),
-        MerkleTreeError::CapMismatch => f.write_str("err CapMismatch"),
-        MerkleTreeError::MalformedPrunedProof(error) => match error {
-            PrunedProofError::SiblingCountMismatch { expected, got } => write!(
-                f,
-                "err SiblingCountMismatch {expected} {got}"
-            ),
-            PrunedProofError::InconsistentDuplicateOpenings { slot } => write!(
-                f,
-                "err InconsistentDuplicateOpenings {slot}"
-            ),
-            PrunedProofError::InconsistentGroupOpening { slot, matrix } => write!(
-                f,
-                "err InconsistentGroupOpening {slot} {matrix}"
-            ),
-        },
-        MerkleTreeError::TooLarge { matrix, size } => write!(f, "err TooLarge {matrix} {size}"),
-        MerkleTreeError::OutOfMemory => f.write_str("err OutOfMemory"),
+/// Adds a word of an error if it is a variant or a number. Fields begin with a small letter.
+fn push_if_shown(text: &mut String, word: &str) -> io::Result<()> {
+    let is_shown = |first: &u8| first.is_ascii_uppercase() || first.is_ascii_digit();
+    if word.as_bytes().first().is_some_and(is_shown) {
+        let word = word.trim_end_matches(',');
+        write!(text, " {word}")?;
     }
+    Ok(())
 }

@@ -1,103 +1,67 @@
-//! The parts of cases and answers: unsigned decimal numbers, each list after its length.
+//! The parts of cases and answers: unsigned decimal numbers, each list after its length, a digest without.
 
-use std::fmt::Write;
-use std::str::SplitAsciiWhitespace;
+use std::fmt::Display;
+use std::str::{FromStr, SplitAsciiWhitespace};
 
 use p3_matrix::Dimensions;
 use p3_matrix::dense::RowMajorMatrix;
 
-/// A part of a case.
-pub trait Read: Sized {
-    /// `None`: these tokens are no such part.
-    fn read(tokens: &mut SplitAsciiWhitespace) -> Option<Self>;
-}
+/// A part of a case, or `bad`: its tokens are no such part.
+pub type Part<T> = Result<T, &'static str>;
 
-/// A part of an answer.
-pub trait Show {
-    /// Appends its tokens, each after a space.
-    fn show(&self, answer: &mut String);
-}
+/// The tokens of a line.
+pub struct Tokens<'a>(pub SplitAsciiWhitespace<'a>);
 
-macro_rules! numbers {
-    ($($number:ty),*) => {$(
-        impl Read for $number {
-            fn read(tokens: &mut SplitAsciiWhitespace) -> Option<Self> {
-                tokens.next()?.parse().ok()
-            }
-        }
+impl<'a> Tokens<'a> {
+    pub fn word(&mut self) -> Part<&'a str> {
+        self.0.next().ok_or("bad")
+    }
 
-        impl Show for $number {
-            fn show(&self, answer: &mut String) {
-                write!(answer, " {self}").expect("a string takes any text");
-            }
-        }
-    )*};
-}
+    pub fn number<T: FromStr>(&mut self) -> Part<T> {
+        self.word()?.parse().map_err(|_| "bad")
+    }
 
-numbers!(u8, u32, usize);
+    pub fn list<T>(&mut self, item: impl Fn(&mut Self) -> Part<T>) -> Part<Vec<T>> {
+        (0..self.number()?).map(|_: usize| item(self)).collect()
+    }
 
-impl<T: Read> Read for Vec<T> {
-    fn read(tokens: &mut SplitAsciiWhitespace) -> Option<Self> {
-        (0..usize::read(tokens)?).map(|_| T::read(tokens)).collect()
+    pub fn row<T: FromStr>(&mut self) -> Part<Vec<T>> {
+        self.list(Self::number)
+    }
+
+    pub fn rows<T: FromStr>(&mut self) -> Part<Vec<Vec<T>>> {
+        self.list(Self::row)
+    }
+
+    pub fn digests<T: FromStr, const D: usize>(&mut self) -> Part<Vec<[T; D]>> {
+        self.list(|tokens| (0..D).map(|_| tokens.number()).collect::<Part<Vec<T>>>()?.try_into().map_err(|_| "bad"))
+    }
+
+    pub fn size(&mut self) -> Part<Dimensions> {
+        let (height, width) = (self.number()?, self.number()?);
+        Ok(Dimensions { width, height })
+    }
+
+    /// `bad` for rows without columns, which a `RowMajorMatrix` can't have.
+    pub fn matrices<T: FromStr + Clone + Default + Send + Sync>(&mut self) -> Part<Vec<RowMajorMatrix<T>>> {
+        self.list(|tokens| {
+            let Dimensions { width, height } = tokens.size()?;
+            let count = height.checked_mul(width).filter(|_| width > 0 || height == 0).ok_or("bad")?;
+            let values = (0..count).map(|_| tokens.number()).collect::<Part<_>>()?;
+            Ok(RowMajorMatrix::new(values, width))
+        })
     }
 }
 
-impl<T: Show> Show for Vec<T> {
-    fn show(&self, answer: &mut String) {
-        self.len().show(answer);
-        self.iter().for_each(|item| item.show(answer));
-    }
+/// The text of a list, each token after a space.
+pub fn list<T>(items: &[T], text: impl Fn(&T) -> String) -> String {
+    format!(" {}{}", items.len(), items.iter().map(text).collect::<String>())
 }
 
-/// A digest has no length in front.
-impl<T: Read, const D: usize> Read for [T; D] {
-    fn read(tokens: &mut SplitAsciiWhitespace) -> Option<Self> {
-        (0..D).map(|_| T::read(tokens)).collect::<Option<Vec<_>>>()?.try_into().ok()
-    }
+pub fn row<T: Display>(row: &[T]) -> String {
+    list(row, |word| format!(" {word}"))
 }
 
-impl<T: Show, const D: usize> Show for [T; D] {
-    fn show(&self, answer: &mut String) {
-        self.iter().for_each(|word| word.show(answer));
-    }
-}
-
-macro_rules! tuples {
-    ($(($($part:ident)*))*) => {$(
-        impl<$($part: Read),*> Read for ($($part,)*) {
-            fn read(tokens: &mut SplitAsciiWhitespace) -> Option<Self> {
-                Some(($($part::read(tokens)?,)*))
-            }
-        }
-    )*};
-}
-
-tuples!((A B) (A B C) (A B C D) (A B C D E));
-
-impl<A: Show, B: Show> Show for (A, B) {
-    fn show(&self, answer: &mut String) {
-        self.0.show(answer);
-        self.1.show(answer);
-    }
-}
-
-/// A verdict.
-impl Show for () {
-    fn show(&self, _: &mut String) {}
-}
-
-impl Read for Dimensions {
-    fn read(tokens: &mut SplitAsciiWhitespace) -> Option<Self> {
-        let (height, width) = Read::read(tokens)?;
-        Some(Self { width, height })
-    }
-}
-
-/// `None` for rows without columns, which a `RowMajorMatrix` can't have.
-impl<T: Read + Clone + Default + Send + Sync> Read for RowMajorMatrix<T> {
-    fn read(tokens: &mut SplitAsciiWhitespace) -> Option<Self> {
-        let Dimensions { width, height } = Read::read(tokens)?;
-        let values = (0..height.checked_mul(width)?).map(|_| T::read(tokens)).collect::<Option<_>>()?;
-        (width > 0 || height == 0).then(|| Self::new(values, width))
-    }
+pub fn digests<T: Display, const D: usize>(digests: &[[T; D]]) -> String {
+    list(digests, |digest| digest.iter().map(|word| format!(" {word}")).collect())
 }
