@@ -1,6 +1,7 @@
 //! What heights alone decide, at any arity, and the shapes of trees.
 
-ghost use Rattle.std.specs.Prelude.{◌≤◌};
+ghost use Rattle.std.specs.Prelude.{◌%◌, ◌^◌, ◌≤◌, replicate};
+ghost use Rattle.std.proofs.lemmas.List.{length-replicate};
 
 use crate::case::{Case, Fault};
 use crate::matrices::matrices_by;
@@ -8,10 +9,38 @@ use crate::scheme::{Cap, FoldScheme, fold_scheme};
 use p3_hashes::fold::{FoldCompress, FoldHash};
 use p3_merkle_core::steps::check_heights;
 use p3_merkle_tree::{BatchOpeningRef, CapRule, MerkleCap, MerkleTree, MerkleTreeError};
-use p3_support::matrix::Dimensions;
+use p3_support::matrix::{Dimensions, Matrix};
 use std::alloc::{AllocError, Global};
 use std::fmt::Write;
-use library_tests::matrices::Numbers;
+
+/// A matrix whose every word is the number of its row, from 0. It takes no memory, whatever its height.
+#[derive(Clone, Copy, Debug)]
+pub struct Numbers {
+    words: usize,
+    rows: usize,
+}
+
+impl Matrix<u32> for Numbers {
+    ghost height_of = { λ m. m.rows };
+
+    ghost width_of = { λ m. m.words };
+
+    ghost row_of = { λ m r. replicate m.words (r % 2 ^ 32) };
+
+    fn height(&self) -> usize {
+        self.rows
+    }
+
+    fn width(&self) -> usize {
+        self.words
+    }
+
+    fn get(&self, row: usize, column: usize) -> u32 {
+        (row % 4_294_967_296) as u32
+    }
+
+    ghost length_row_of = { λ m r h. length-replicate m.words (r % 2 ^ 32) };
+}
 
 /// Answers a case of heights by a scheme:
 ///

@@ -1,4 +1,6 @@
-//! Answers cases, one a line of the files that are its arguments, or of standard input if there are none. The head of
+//! Answers of the Rust crate, and tests that no line of a file of cases can say.
+//!
+//! The program answers cases, one a line of the files that are its arguments, or of standard input if there are none. The head of
 //! data/cases.txt says what a case is.
 //!
 //! A line without an answer is answered by a line. `CASE | RUST` and `CASE | RUST | HERE` are checked: the answer has
@@ -6,11 +8,24 @@
 //! with its answer, and the status is then 1. After the last line of a file that has such lines comes their number.
 #![tactic(auto)]
 
+#[cfg(test)]
+mod accepted;
+#[cfg(test)]
+mod any_scheme;
 mod builders;
 mod case;
+mod counting;
 mod large;
+#[cfg(test)]
+mod matrices;
+#[cfg(test)]
+mod noting;
 mod numbers;
+#[cfg(test)]
+mod reasons;
 mod scheme;
+#[cfg(test)]
+mod support;
 mod table;
 mod text;
 

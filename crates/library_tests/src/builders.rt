@@ -5,9 +5,9 @@ ghost use Rattle.std.specs.Mem.{type_size};
 ghost use Rattle.p3_merkle_tree.specs.Geometry.{is_arity};
 
 use crate::case::{Case, Salts};
+use crate::counting::Counting;
 use crate::numbers::Fault;
 use crate::scheme::{Answer, Word, answer_to_plain, answer_to_shared};
-use library_tests::counting::Counting;
 use p3_hashes::batched::Batched3;
 use p3_hashes::fold::{FoldCompress, FoldHash};
 use p3_hashes::lanes::{Lanes, U32x8};
