@@ -118,6 +118,7 @@ ORIGIN = f"(?! )[^{OUT}\x7f]{{1,100}}(?<! )"
 NUMBER = "(0|[1-9][0-9]{0,18})"
 BASE64 = "(?:[A-Za-z0-9+/]{4})*(?:[A-Za-z0-9+/][AQgw]==|[A-Za-z0-9+/]{2}[AEIMQUYcgkosw048]=)?"
 DIGEST = "[A-Za-z0-9+/]{42}[AEIMQUYcgkosw048]="  # base64 of 32 bytes
+EXTENSION = f"(?!{DIGEST}$)[^{OUT}]+"
 SIGNATURE = f"\u2014 [^{OUT} +]+ (?=.{{8}})(?!.{{6}}==(?m:$)){BASE64}"  # base64 of at least 5 bytes
 
 class Text:
@@ -151,7 +152,7 @@ def parse_checkpoint(note: bytes, where: str = "") -> Checkpoint:
     origin, _ = text.line("the origin: 1 to 100 characters, no control character, and no space first or last", ORIGIN)
     size, root = text.line("the number of entries, up to 2^62", NUMBER)[1][0], text.digest()
     while not text.stands(b"", b"\n"):
-        text.line("text without control characters, a blank line or the end", f"[^{OUT}]+")
+        text.line("no further digest, but text without control characters, a blank line or the end", EXTENSION)
     if not text.stands(b""):
         text.line("a blank line", "")
         for _ in range(100):

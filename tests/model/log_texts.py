@@ -100,7 +100,7 @@ def checkpoint(text, is_part=False):
     size, root = lines.read(number), lines.read(digest)
     line = None
     while line != b"" and lines.start < len(text):
-        line = lines.read(lambda line: line if is_text(line) else None)
+        line = lines.read(lambda line: line if is_text(line) and digest(line) is None else None)
     # A blank line ends the extension, and one to a hundred signatures follow.
     for count in range(100 if line == b"" else 0):
         if count == 0 or lines.start < len(text):

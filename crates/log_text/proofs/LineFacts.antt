@@ -173,8 +173,8 @@ pub is_solid : (expected : Expected) → (expected ≡ Extension) ⊎ (expected 
     is_line expected bytes ≡ true → (1 ≤ length bytes) × IsPlain bytes
 unfolding is_line
 is_solid Extension kind bytes is =
-    let (some, text) = and_parts (nat_le 1 (length bytes)) (is_text bytes) is in
-    (leb-true 1 (length bytes) some, text_plain bytes text)
+    let (some, rest) = and_parts (nat_le 1 (length bytes)) _ is in
+    (leb-true 1 (length bytes) some, text_plain bytes (and_parts (is_text bytes) _ rest).0)
 is_solid Signature kind bytes is = signature_text bytes is
 is_solid other (inl kind) bytes is = cc
 is_solid other (inr kind) bytes is = cc

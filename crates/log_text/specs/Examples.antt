@@ -12,7 +12,7 @@ use Rattle.log_text.specs.Reading.{log_origin_by, many, part_in, signatures_by}
 use Rattle.log_text.specs.Texts.{checkpoint_text, consistency_text, entries_text, line, CheckpointFields}
 use Rattle.log_text.specs.Texts.{ConsistencyFields, EntriesFields}
 use Rattle.log_text.specs.declared.error.Expected.TheVariants.{Digest, DigestOrBlank, End, EntryBytes, EntryHead}
-use Rattle.log_text.specs.declared.error.Expected.TheVariants.{NotPart, OldSize, PartOrigin, Signature, Size}
+use Rattle.log_text.specs.declared.error.Expected.TheVariants.{Extension, NotPart, OldSize, PartOrigin, Signature, Size}
 use Rattle.log_text.specs.declared.error.Found.TheVariants.{ByteOrderMark, CarriageReturn, NoLineFeed, Other, TextEnd}
 
 -- what the examples open
@@ -150,6 +150,11 @@ byte_order_mark = refl
 pub no_signature : checkpoint_in (journal_lines ++ line []) ≡ Err (wrong_line 5 Signature TextEnd)
 unfolding on_literals
 no_signature = refl
+
+-- a second checkpoint below the first one
+pub two_checkpoints : checkpoint_in (journal_lines ++ journal_lines) ≡ Err (wrong_line 6 Extension Other)
+unfolding on_literals
+two_checkpoints = refl
 
 pub two_blank_lines : checkpoint_in (journal_lines ++ line [] ++ line a_signature ++ line [] ++ line a_signature)
     ≡ Err (wrong_line 6 End Other)

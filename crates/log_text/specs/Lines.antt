@@ -1,7 +1,7 @@
 -- What a line says. A value is read from its own spelling and from nothing else.
 use Rattle.std.specs.Prelude.{ℕ, ◌+◌, ◌-◌, ◌^◌, ◌==◌, ◌&&◌, not, nat_eq, nat_le, nat_lt, Bool, false, decimal}
 use Rattle.std.specs.Prelude.{if◌then◌else◌, List, ◌∷◌, [], length, take, drop, position, slice_index, codes}
-use Rattle.std.specs.Prelude.{option_map, Option, None, Some}
+use Rattle.std.specs.Prelude.{is_some, option_map, Option, None, Some}
 use Rattle.std.specs.Cmp.Lexicographic.{pointwise}
 use Rattle.std.specs.List.{list_all}
 use Rattle.std.specs.Option.{option_and_then, option_map_or}
@@ -100,10 +100,11 @@ is_signature line = option_map_or (λ rest. option_map_or is_signed (cut_at 32 r
 abbrev pub part_origin : List ℕ
 part_origin = codes "fohlazu part 1"
 
--- whether a line is what is expected, of the kinds that say nothing else; an extension line is text and not blank
+-- whether a line is what is expected, of the kinds that say nothing else; an extension line is text, not blank, and no
+-- digest, as a second checkpoint has
 unfoldable pub is_line : Expected → List ℕ → Bool
 is_line PartOrigin line = pointwise nat_eq line part_origin
-is_line Extension line = nat_le 1 (length line) && is_text line
+is_line Extension line = nat_le 1 (length line) && (is_text line && not (is_some (digest_of line)))
 is_line Signature line = is_signature line
 is_line ProofVersion line = pointwise nat_eq line (codes "fohlazu proof 1")
 is_line Blank line = length line == 0

@@ -63,7 +63,7 @@ pub enum Expected {
     #[error("the base64 of 32 bytes")]
     Digest,
     /// An extension line, or what may follow instead.
-    #[error("text without control characters, a blank line or the end")]
+    #[error("no further digest, but text without control characters, a blank line or the end")]
     Extension,
     #[error("a signature, `— NAME BASE64`, after the blank line")]
     Signature,

@@ -130,7 +130,7 @@ fn is_line(expected: Expected, line: &[u8]) -> bool
 {
     match expected {
         Expected::PartOrigin => line == PART_ORIGIN.as_bytes(),
-        Expected::Extension => !line.is_empty() && is_text(line),
+        Expected::Extension => !line.is_empty() && is_text(line) && digest_of(line).is_none(),
         Expected::Signature => is_signature(line),
         Expected::ProofVersion => line == b"fohlazu proof 1".as_slice(),
         Expected::Blank => line.is_empty(),
