@@ -114,7 +114,7 @@ def check_question(size: int, numbers: Iterable[int], digests: Iterable[bytes]) 
 
 # ---- texts: C2SP's tlog-checkpoint, signed-note and tlog-witness, and proofs of entries
 OUT = "\0-\x1f\udc80-\udcff"  # what no text has: control characters, and bytes that are not UTF-8
-ORIGIN = f"(?! )[^{OUT}\x7f]{{1,100}}(?<! )"
+ORIGIN = f"(?![ \ufeff])[^{OUT}\x7f]{{1,100}}(?<! )"
 NUMBER = "(0|[1-9][0-9]{0,18})"
 BASE64 = "(?:[A-Za-z0-9+/]{4})*(?:[A-Za-z0-9+/][AQgw]==|[A-Za-z0-9+/]{2}[AEIMQUYcgkosw048]=)?"
 DIGEST = "[A-Za-z0-9+/]{42}[AEIMQUYcgkosw048]="  # base64 of 32 bytes

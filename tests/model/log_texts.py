@@ -24,7 +24,7 @@ def is_origin(line):
     if not is_text(line) or b"\x7f" in line:
         return False
     text = line.decode()
-    return 1 <= len(text) <= 100 and text[0] != " " and text[-1] != " "
+    return 1 <= len(text) <= 100 and text[0] not in " \ufeff" and text[-1] != " "
 
 
 def number(line):

@@ -3,13 +3,13 @@ use Rattle.std.proofs.Common.{◌≡◌, ◌≤◌, ◌^◌, ◌-◌, ◌==◌, 
 use Rattle.std.proofs.Common.{Option, Some, None, refl, sym, ap, ◌∙◌, subst, arith, inl, inr, ◌⊎◌, if◌then◌else◌, not}
 use Rattle.std.proofs.Common.{codes, decimal, nat_eq, nat_le, slice_index, All, eqb-true, leb-true}
 use Rattle.std.specs.Cmp.Lexicographic.{pointwise, bytes_decides}
-use Rattle.std.specs.{List.list_all, Option.option_map_or, Str.chars, Str.is_utf8, Str.IsUtf8}
+use Rattle.std.specs.{List.list_all, List.starts_with, Option.option_map_or, Str.chars, Str.is_utf8, Str.IsUtf8}
 use Rattle.std.proofs.lemmas.{Str.IsUtf8-from_is_utf8, List.nil_from_length}
 use Rattle.std.proofs.lemmas.Bool.{and_parts, Decides.Decides-and, Decides.Decides-eqb, Decides.Decides-not}
 use Rattle.std.proofs.lemmas.List.Elements.{All-append, All-cons, All-nil, All-weaker}
 use lib.Utf8.{encode}
-use Rattle.log_text.specs.Lines.{after, base64, base64_bytes, cut_at, dash, digest_of, head_of, is_key_name, is_line}
-use Rattle.log_text.specs.Lines.{is_origin, is_signature, is_signed, is_text, number_after, part_origin}
+use Rattle.log_text.specs.Lines.{after, base64, base64_bytes, byte_order_mark, cut_at, dash, digest_of, head_of}
+use Rattle.log_text.specs.Lines.{is_key_name, is_line, is_origin, is_signature, is_signed, is_text, number_after, part_origin}
 use Rattle.log_text.specs.Reading.{digest_by, line_by, line_that, log_origin_by}
 use Rattle.log_text.specs.{Texts.digest_line, Texts.line, Texts.IsDigest, declared.error.Expected.Expected}
 use Rattle.log_text.specs.declared.error.Expected.TheVariants.{Blank, Digest, DigestOrBlank, EntryHead, Extension}
@@ -101,7 +101,8 @@ pub origin_parts : (origin : List ℕ) → is_origin origin ≡ true →
 unfolding is_origin
 origin_parts origin is =
     let (utf8, a) = and_parts (is_utf8 origin) _ is in
-    let (some, b) = and_parts (nat_le 1 (length origin)) _ a in
+    let (unmarked, marked) = and_parts (not (starts_with nat_eq origin byte_order_mark)) _ a in
+    let (some, b) = and_parts (nat_le 1 (length origin)) _ marked in
     let (first, c) = and_parts (not (slice_index origin 0 == 32)) _ b in
     let (last, d) = and_parts (not (slice_index origin (length origin - 1) == 32)) _ c in
     let (few, all) = and_parts (nat_le (length (chars origin)) 100) _ d in (

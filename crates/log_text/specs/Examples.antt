@@ -46,9 +46,9 @@ base64s = (refl, refl, refl)
 -- an origin has no space at an end; characters beyond ASCII count once
 pub origins : (is_origin (codes "journal example") ≡ true) × (is_origin (codes " journal") ≡ false)
     × (is_origin (codes "journal ") ≡ false) × (is_origin [] ≡ false) × (is_origin (195 ∷ 169 ∷ []) ≡ true)
-    × (is_origin (195 ∷ []) ≡ false)
+    × (is_origin (195 ∷ []) ≡ false) × (is_origin (239 ∷ 187 ∷ 191 ∷ codes "journal") ≡ false)
 unfolding on_literals
-origins = (refl, refl, refl, refl, refl, refl)
+origins = (refl, refl, refl, refl, refl, refl, refl)
 
 -- a signature has at least 5 bytes, and its name has no `+`
 pub signatures : (is_signature (dash ++ codes "witness AAAAAAA=") ≡ true)

@@ -3,7 +3,7 @@ use Rattle.std.specs.Prelude.{ℕ, ◌+◌, ◌-◌, ◌^◌, ◌==◌, ◌&&◌
 use Rattle.std.specs.Prelude.{if◌then◌else◌, List, ◌∷◌, [], length, take, drop, position, slice_index, codes}
 use Rattle.std.specs.Prelude.{is_some, option_map, Option, None, Some}
 use Rattle.std.specs.Cmp.Lexicographic.{pointwise}
-use Rattle.std.specs.List.{list_all}
+use Rattle.std.specs.List.{list_all, starts_with}
 use Rattle.std.specs.Option.{option_and_then, option_map_or}
 use Rattle.std.specs.Result.{result_ok}
 use Rattle.std.specs.Str.{chars, is_utf8}
@@ -72,12 +72,16 @@ digest_of line = option_and_then (λ bytes. if length bytes == 32 then Some byte
 unfoldable pub is_text : List ℕ → Bool
 is_text bytes = is_utf8 bytes && list_all (λ b. nat_le 32 b) bytes
 
--- an origin: 1 to 100 characters, none below U+0020 nor U+007F, no space first or last
+-- a byte order mark in UTF-8
+abbrev pub byte_order_mark : List ℕ
+byte_order_mark = 239 ∷ 187 ∷ 191 ∷ []
+
+-- an origin: 1 to 100 characters, none below U+0020 nor U+007F, no byte order mark first, no space first or last
 unfoldable pub is_origin : List ℕ → Bool
 is_origin text =
-    is_utf8 text && (nat_le 1 (length text) && (not (slice_index text 0 == 32) &&
+    is_utf8 text && (not (starts_with nat_eq text byte_order_mark) && (nat_le 1 (length text) && (not (slice_index text 0 == 32) &&
     (not (slice_index text (length text - 1) == 32) && (nat_le (length (chars text)) 100 &&
-    list_all (λ b. nat_le 32 b && not (b == 127)) text))))
+    list_all (λ b. nat_le 32 b && not (b == 127)) text)))))
 
 -- the name of a key: text that is not empty, without a space or `+`
 unfoldable pub is_key_name : List ℕ → Bool

@@ -6,7 +6,7 @@ use Rattle.std.specs.List.{count_by, starts_with}
 use Rattle.std.specs.Option.{option_map_or}
 use Rattle.std.specs.Result.{result_map_both}
 use Rattle.std.specs.Cmp.Lexicographic.{pointwise}
-use Rattle.log_text.specs.Lines.{cut_at, digest_of, head_of, is_line, is_origin, number_after, part_origin, passing}
+use Rattle.log_text.specs.Lines.{byte_order_mark, cut_at, digest_of, head_of, is_line, is_origin, number_after, part_origin, passing}
 use Rattle.log_text.specs.Texts.{CheckpointFields, ConsistencyFields, EntriesFields, EntryFields}
 use Rattle.log_text.specs.declared.error.Expected.{Expected}
 use Rattle.log_text.specs.declared.error.Expected.TheVariants.{Blank, Digest, DigestCount, DigestOrBlank, End}
@@ -157,7 +157,7 @@ line_at text left = count_by (λ b. b == 10) (take (length text - left) text) + 
 -- feed, a line that ends in a carriage return ahead of its line feed, or something else
 abbrev pub found_in : List ℕ → List ℕ → Found
 found_in above below =
-    if (length above == 0) && starts_with nat_eq below (239 ∷ 187 ∷ 191 ∷ []) then ByteOrderMark
+    if (length above == 0) && starts_with nat_eq below byte_order_mark then ByteOrderMark
     else if length below == 0 then TextEnd
     else option_map_or (λ cut. if slice_index cut.0 (length cut.0 - 1) == 13 then CarriageReturn else Other)
     (cut_at 10 below) NoLineFeed

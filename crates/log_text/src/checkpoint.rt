@@ -72,12 +72,16 @@ impl<'a> Checkpoint<'a> {
     }
 }
 
-/// Whether this may be an origin: 1 to 100 characters, none below U+0020 nor U+007F, and no space first or last.
+/// Whether this may be an origin: 1 to 100 characters, none below U+0020 nor U+007F, no byte order mark first, and no
+/// space first or last.
 #[tactic(auto, unfolding(crate::specs::Lines::is_origin))]
 pub fn is_origin(text: &str) -> bool
     ensures { result ≡ is_origin text.now }
 {
     let bytes = text.as_bytes();
+    if bytes.starts_with(b"\xef\xbb\xbf") {
+        return false;
+    }
     let len = bytes.len();
     if len == 0 || bytes[0] == b' ' || bytes[len - 1] == b' ' {
         return false;
