@@ -14,16 +14,12 @@ use tlog_entries::EntriesError;
 /// Why a command stops. It prints as one line, without the name of an input.
 #[derive(Clone, Copy, Debug, Error)]
 pub enum Error {
-    /// What an input says is refused.
     #[error("{1}")]
     Refused(Source, Refusal),
-    /// An input cannot be read.
     #[error("cannot be read")]
     Read(Source),
-    /// The output cannot be written.
     #[error("the output cannot be written")]
     Write,
-    /// Memory ran out.
     #[error("out of memory")]
     OutOfMemory,
 }
@@ -31,24 +27,18 @@ pub enum Error {
 /// An input of a command.
 #[derive(Clone, Copy, Debug)]
 pub enum Source {
-    /// The checkpoint of the file.
     Checkpoint,
-    /// The old checkpoint.
     Old,
-    /// The new checkpoint.
     New,
     /// A part of a file, by its place among the parts, counted from 0.
     Part(usize),
-    /// The file.
     File,
-    /// The proof.
     Proof,
 }
 
 /// Why an input is refused.
 #[derive(Clone, Copy, Debug, Error)]
 pub enum Refusal {
-    /// A wrong line of a text.
     #[error("{0}")]
     Line(WrongLine),
     /// A wrong line of the checkpoint that a consistency proof contains.
@@ -57,29 +47,21 @@ pub enum Refusal {
     /// A requested entry that the checkpoint does not have.
     #[error("it has {size} entries, and no entry {number}")]
     NumberPastEnd {
-        /// The number of the entry.
         number: usize,
-        /// How many entries the checkpoint has.
         size: usize,
     },
     /// A checkpoint with more entries than are proved at once, where all are requested.
     #[error("more than 100000000 entries at once")]
     TooManyNumbers,
-    /// A file that ends inside a line.
     #[error("ends inside a line: `--whole-lines` leaves it out, `--partial` takes it as an entry")]
     EndsInsideLine,
-    /// More entries than a log may have.
     #[error("more than 2^62 entries")]
     TooManyEntries,
-    /// A file with fewer entries than the checkpoint.
     #[error("it has {got} of the {expected} entries of the checkpoint")]
     TooFewEntries {
-        /// How many entries the file has.
         got: usize,
-        /// How many the checkpoint has.
         expected: usize,
     },
-    /// A file with other entries than the checkpoint.
     #[error("its entries are not those that were sealed in the checkpoint: they were changed, or it is cut otherwise")]
     OtherEntries,
     /// A file that begins with other entries than those of the old checkpoint.
@@ -88,7 +70,6 @@ pub enum Refusal {
     /// A proof with another entry where one is requested.
     #[error("entry {0}, where {1} is requested: without numbers `verify` prints those that it has")]
     OtherNumber(usize, usize),
-    /// A proof that ends before a requested entry.
     #[error("no entry {0}, which is requested: without numbers `verify` prints those that it has")]
     MissingEntry(usize),
     /// A proof with an entry behind all that are requested.
@@ -104,18 +85,14 @@ pub enum Refusal {
     /// A new checkpoint of another log than the old one.
     #[error("its origin is not that of the old checkpoint")]
     OtherOrigin,
-    /// A new checkpoint with fewer entries than the old one.
     #[error("it has {new} entries, fewer than the {old} of the old checkpoint: are both exchanged?")]
     SmallerSize {
-        /// How many entries the old checkpoint has.
         old: usize,
-        /// How many the new one has.
         new: usize,
     },
     /// Two checkpoints of one log and one size with different roots.
     #[error("two histories of one log, with one size and different roots: keep both checkpoints as evidence")]
     TwoHistories,
-    /// A consistency proof from another old size.
     #[error("it is a proof from {got} entries, and the old checkpoint has {expected}")]
     OtherOldSize {
         /// The size that the proof begins with.
@@ -129,9 +106,7 @@ pub enum Refusal {
     /// A part whose size does not fit the first one's.
     #[error("{size} entries: all parts have one size, a power of two ({first} in the first), the last may have fewer")]
     PartSize {
-        /// How many entries the part has.
         size: usize,
-        /// How many the first one has.
         first: usize,
     },
 }

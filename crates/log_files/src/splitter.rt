@@ -21,7 +21,6 @@ use tlog_tree::leaf_hashes;
 /// The entries of a file, as far as its bytes have come.
 #[derive(Drop)]
 pub(crate) struct Splitter<'a> {
-    /// How the file is cut.
     cut: Cut,
     /// How many entries are read at most. What follows them is left out.
     limit: usize,
@@ -29,7 +28,6 @@ pub(crate) struct Splitter<'a> {
     count: usize,
     /// The one that has not ended.
     open_entry: OpenEntry,
-    /// Those that are wanted.
     pub(crate) wanted: WantedEntries<'a>,
 }
 

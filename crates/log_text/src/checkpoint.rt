@@ -28,7 +28,6 @@ pub struct Checkpoint<'a> {
     pub origin: &'a str,
     /// How many entries there are: up to 2^62.
     pub size: usize,
-    /// The root of their tree.
     pub root: [u8; 32],
 }
 
@@ -56,11 +55,8 @@ impl<'a> Checkpoint<'a> {
         part_by(text).map_err(|stop| error_of(text, stop))
     }
 
-    /// Prints the origin, the size and the root. It is read again if the origin is one, and the size at most 2^62.
-    ///
-    /// # Errors
-    ///
-    /// `AllocError` if memory runs out.
+    /// Prints the origin, the size and the root; `AllocError` if memory runs out. It is read again if the origin is
+    /// one, and the size at most 2^62.
     pub fn to_text(&self, alloc: Global) -> Result<Vec<u8>, AllocError>
         ensures { IfOk result (λ text. text.items ≡ checkpoint_text (checkpoint_fields self.now)) }
     {

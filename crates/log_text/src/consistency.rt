@@ -37,11 +37,8 @@ impl<'a> ConsistencyProof<'a> {
         consistency_by(alloc, text).map_err(|stop| error_of(text, stop))
     }
 
-    /// Prints the proof. It is read again if the old size is at most 2^62, and there are at most 63 digests.
-    ///
-    /// # Errors
-    ///
-    /// `AllocError` if memory runs out.
+    /// Prints the proof; `AllocError` if memory runs out. It is read again if the old size is at most 2^62, and there
+    /// are at most 63 digests.
     pub fn to_text(&self, alloc: Global) -> Result<Vec<u8>, AllocError>
         ensures { IfOk result (λ text. text.items ≡ consistency_text (consistency_fields self.now)) }
     {

@@ -17,7 +17,6 @@ use std::alloc::{AllocError, Global};
 pub struct EntriesProof {
     /// The entries, in the order of the query.
     pub entries: Vec<Entry>,
-    /// The digests.
     pub digests: Vec<[u8; 32]>,
 }
 
@@ -43,12 +42,8 @@ impl EntriesProof {
         entries_by(alloc, text).map_err(|stop| error_of(text, stop))
     }
 
-    /// Prints the proof. It is read again if its numbers, lengths and counts are at most 2^62, and the numbers from 1
-    /// on.
-    ///
-    /// # Errors
-    ///
-    /// `AllocError` if memory runs out.
+    /// Prints the proof; `AllocError` if memory runs out. It is read again if its numbers, lengths and counts are at
+    /// most 2^62, and the numbers from 1 on.
     pub fn to_text(&self, alloc: Global) -> Result<Vec<u8>, AllocError>
         ensures { IfOk result (λ text. text.items ≡ entries_text (entries_fields self.now)) }
     {
