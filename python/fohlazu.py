@@ -150,7 +150,7 @@ def parse_checkpoint(note: bytes, where: str = "") -> Checkpoint:
     if len(note) > 10**6: raise text.refused("a text of at most 1000000 bytes")
     if is_part: raise text.refused("the origin of a log, not that of a part, which only `join` takes")
     origin, _ = text.line("the origin: 1 to 100 characters, no control character, and no space first or last", ORIGIN)
-    size, root = text.line("the number of entries, up to 2^62", NUMBER)[1][0], text.digest()
+    size, root = text.line("a checkpoint's number of entries, up to 2^62", NUMBER)[1][0], text.digest()
     while not text.stands(b"", b"\n"):
         text.line("no further digest, but text without control characters, a blank line or the end", EXTENSION)
     if not text.stands(b""):
@@ -164,7 +164,7 @@ def parse_checkpoint(note: bytes, where: str = "") -> Checkpoint:
 def parse_entries(proof: bytes) -> tuple[list[tuple[int, bytes]], list[bytes]]:
     """The entries of a proof, each with its number, and the digests."""
     text, entries = Text(proof), []
-    text.line("`fohlazu proof 1`", "fohlazu proof 1")
+    text.line("a proof of entries, which begins with `fohlazu proof 1`", "fohlazu proof 1")
     for _ in range(*text.line("`entries COUNT`", f"entries {NUMBER}")[1]):
         number, length = text.line("`entry NUMBER LENGTH`", f"entry (?!0){NUMBER} {NUMBER}")[1]
         end = text.at + length
@@ -178,7 +178,7 @@ def parse_entries(proof: bytes) -> tuple[list[tuple[int, bytes]], list[bytes]]:
 def parse_consistency(proof: bytes) -> tuple[int, list[bytes], bytes]:
     """The old size of a consistency proof, its digests, and the new checkpoint as it is published."""
     text, digests = Text(proof), list[bytes]()
-    _, [old_size] = text.line("`old SIZE`", f"old {NUMBER}")
+    _, [old_size] = text.line("a consistency proof, which begins with `old SIZE`", f"old {NUMBER}")
     while len(digests) < 63 and not text.stands(b"\n"):
         digests.append(text.digest("the base64 of 32 bytes, or a blank line"))
     text.line("a blank line", "")

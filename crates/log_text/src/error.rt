@@ -24,9 +24,7 @@ pub enum TextError {
 pub struct WrongLine {
     /// Its number, counted from 1: one more than there are line feeds ahead of it.
     pub line: usize,
-    /// What is expected there.
     pub expected: Expected,
-    /// What stands there.
     pub found: Found,
 }
 
@@ -41,7 +39,6 @@ pub enum Found {
     NoLineFeed,
     #[error(", but the line ends in a carriage return and a line feed")]
     CarriageReturn,
-    /// Anything else.
     #[error("")]
     Other,
 }
@@ -56,9 +53,9 @@ pub enum Expected {
     /// The origin of a log, where that of a part is.
     #[error("the origin of a log, not that of a part, which only `join` takes")]
     NotPart,
-    #[error("`fohlazu part 1`")]
+    #[error("a part, which begins with `fohlazu part 1`")]
     PartOrigin,
-    #[error("the number of entries, up to 2^62")]
+    #[error("a checkpoint's number of entries, up to 2^62")]
     Size,
     #[error("the base64 of 32 bytes")]
     Digest,
@@ -67,7 +64,7 @@ pub enum Expected {
     Extension,
     #[error("a signature, `— NAME BASE64`, after the blank line")]
     Signature,
-    #[error("`fohlazu proof 1`")]
+    #[error("a proof of entries, which begins with `fohlazu proof 1`")]
     ProofVersion,
     #[error("`entries COUNT`")]
     EntryCount,
@@ -77,7 +74,7 @@ pub enum Expected {
     EntryBytes(usize),
     #[error("`digests COUNT`")]
     DigestCount,
-    #[error("`old SIZE`")]
+    #[error("a consistency proof, which begins with `old SIZE`")]
     OldSize,
     #[error("the base64 of 32 bytes, or a blank line")]
     DigestOrBlank,
@@ -92,7 +89,6 @@ pub enum Expected {
 pub(crate) enum Stop {
     /// Something else stands at the front of the last `left` bytes than is expected there.
     Missing { left: usize, expected: Expected },
-    /// Memory ran out.
     Memory,
 }
 
