@@ -317,7 +317,7 @@ def main() -> int:
         printed = answer(checkpoint, proof, args)
         status, where = 2, ""
         try: write(1, printed)
-        except OSError: raise Refused("the output cannot be written") from None
+        except OSError as error: raise Refused(f"standard output: {error.strerror} (os error {error.errno})") from None
         if args.command != "verify" or args.numbers: return 0
         status, why = 0, "entry numbers were not compared: check that they are those you requested"
     except Refused as refused: why = f"{where}{WORDS[args.command].get(refused.reason, refused)}"

@@ -22,7 +22,7 @@ COMMANDS = {words.split()[0]: words.split() for words in (
     "verify-consistency old growth", "join --origin odd part0 part1")}
 # Arguments that are no command, or leave open what is wanted; the model refuses them as well.
 WRONG = (Path(__file__).parent / "no-commands.txt").read_text().splitlines()
-UNWRITTEN = "the output cannot be written"
+UNWRITTEN = "standard output: "
 # Bytes of a file that changes while it is read, and of one of which no more than its beginning is to be read.
 CHANGING, LONG = 300_000, 100_000_000
 

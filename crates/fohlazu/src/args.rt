@@ -5,6 +5,7 @@ ghost use Rattle.log_commands.specs.Commands.{IsLawful};
 
 use crate::escaped::Escaped;
 use crate::input::{Input, Notes};
+use crate::output::is_same_file;
 use clap::{Arg, ArgMatches, Command as Syntax, arg, value_parser};
 use log_commands::prove::MOST_NUMBERS;
 use log_commands::{Command, Cut, PART_ORIGIN, PartialLine, Print, Source};
@@ -61,13 +62,10 @@ pub(crate) enum ArgsError<'a> {
     /// The arguments are not as the help says, or they ask for it.
     #[error("{0}")]
     Clap(#[from] clap::Error),
-    /// They are refused for another reason.
     #[error("{0}")]
     Refused(&'static str),
-    /// One of them is refused.
     #[error("{0}: {1}")]
     Word(Escaped<'a>, &'static str),
-    /// Memory ran out.
     #[error("out of memory")]
     OutOfMemory(#[from(alloc)] AllocError),
 }
@@ -104,6 +102,13 @@ pub(crate) fn parse_args<'a>(
     let names = args.input_names(alloc)?;
     if names.iter().filter(|name| **name == "-").count() > 1 {
         return Err(ArgsError::Refused("`-` is standard input, once at most"));
+    }
+    let output = args.output().unwrap_or("/dev/stdout");
+    for name in names {
+        if is_same_file(rt, output, name) {
+            let why = "it is the output too: write another file with `-o`, then rename that";
+            return Err(ArgsError::Word(Escaped(name), why));
+        }
     }
     let command = args.command(alloc, name)?;
     let lacks_numbers = matches!(command, Command::Verify { numbers: None, .. });
@@ -203,7 +208,7 @@ impl<'a> Args<'a> {
     }
 
     /// What all inputs are called.
-    pub(crate) fn input_names(&self, alloc: Global) -> Result<Vec<&'a str>, AllocError> {
+    fn input_names(&self, alloc: Global) -> Result<Vec<&'a str>, AllocError> {
         let mut names = Vec::new(alloc);
         for id in ["CHECKPOINT", "OLD", "NEW", "FILE", "PROOF", "PART"] {
             names.extend_from_slice(self.found.get_strs(id).unwrap_or(&[]))?;

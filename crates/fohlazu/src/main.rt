@@ -64,11 +64,6 @@ fn run_to_file(
         Ok(output) => output,
         Err(error) => return refuse_output(rt, name, error),
     };
-    match args.input_names(rt.alloc()) {
-        Ok(inputs) if !inputs.iter().any(|input| output.is(input)) => {}
-        Ok(_) => return refuse(rt, "the output is one of the inputs"),
-        Err(_) => return refuse(rt, "out of memory"),
-    }
     let done = run(rt.alloc(), command, &mut output);
     let replaced = if done.is_ok() {
         output.finish()
@@ -98,6 +93,7 @@ fn finish(rt: &HostRuntime, args: &Args<'_>, notes: &Notes, done: Result<(), Err
     let _ = match (name, error, notes.failure.get()) {
         (Some(name), Error::Read(_), Some(failure)) => eprintln!(rt; "fohlazu: {name}: {failure}"),
         (Some(name), _, _) => eprintln!(rt; "fohlazu: {name}: {error}"),
+        (None, Error::Write, Some(failure)) => eprintln!(rt; "fohlazu: standard output: {failure}"),
         (None, _, _) => eprintln!(rt; "fohlazu: {error}"),
     };
     ExitCode::from(error.status())

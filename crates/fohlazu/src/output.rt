@@ -47,16 +47,6 @@ impl<'a> Replacement<'a> {
         })
     }
 
-    /// Whether it replaces the file of this name, or by `-` that of standard input.
-    pub(crate) fn is(&self, name: &str) -> bool {
-        let name = if name == "-" { "/dev/stdin" } else { name };
-        let replaced = fs::metadata(self.rt, self.place.as_path());
-        match (replaced, fs::metadata(self.rt, name)) {
-            (Ok(old), Ok(input)) => old.dev() == input.dev() && old.ino() == input.ino(),
-            _ => false,
-        }
-    }
-
     /// Puts the file in its place, with the mode of what it replaces, and makes sure that the disk has it.
     pub(crate) fn finish(mut self) -> io::Result<()> {
         self.file()?;
@@ -123,6 +113,15 @@ impl Write for Replacement<'_> {
     }
 }
 
+/// Whether an output is the regular file that an input is. The input `-` is standard input.
+pub(crate) fn is_same_file(rt: &HostRuntime, output: &str, input: &str) -> bool {
+    let input = if input == "-" { "/dev/stdin" } else { input };
+    match (fs::metadata(rt, output), fs::metadata(rt, input)) {
+        (Ok(one), Ok(other)) => one.is_file() && one.dev() == other.dev() && one.ino() == other.ino(),
+        _ => false,
+    }
+}
+
 /// Standard output. It takes the line of progress away first, which may stand on the same terminal.
 #[derive(Drop)]
 pub(crate) struct StandardOutput<'a>(pub(crate) &'a HostRuntime, pub(crate) &'a Notes);
@@ -130,11 +129,15 @@ pub(crate) struct StandardOutput<'a>(pub(crate) &'a HostRuntime, pub(crate) &'a 
 impl Write for StandardOutput<'_> {
     fn write(&mut self, buf: &[u8]) -> io::Result<usize> {
         self.1.clear_progress(self.0);
-        self.0.stdout().write(buf)
+        let done = self.0.stdout().write(buf);
+        self.1.failure.set(done.err());
+        done
     }
 
     fn flush(&mut self) -> io::Result<()> {
-        self.0.stdout().flush()
+        let done = self.0.stdout().flush();
+        self.1.failure.set(done.err());
+        done
     }
 }
 
