@@ -251,16 +251,17 @@ def parse_args(words: list[str]) -> argparse.Namespace:
     parser.add_argument("files", nargs=2, help="a checkpoint and a proof; - is standard input")
     parser.add_argument("numbers", nargs="*", help="those of the entries, as 3, 3-7, 3,7 or all")
     args = parser.parse_intermixed_args(words)
-    words, args.numbers = args.numbers, []
-    for word in ",".join(words).split(",") if words not in ([], ["all"]) else []:
+    words, args.is_all, args.numbers = args.numbers, args.numbers == ["all"], []
+    for word in ",".join(words).split(",") if words and not args.is_all else []:
         ends = re.fullmatch("0*([0-9]{1,19})(?:-0*([0-9]{1,19}))?", word)
         first, last = (int(ends[1]), int(ends[2] or ends[1])) if ends else (0, 0)
         is_range = 1 <= first <= last <= 1 << 62 and len(args.numbers) + last - first < 10**8
         if not is_range: parser.error(f"{word}: no number of an entry, as 3, 3-7 or 3,7")
         args.numbers.extend(range(first, last + 1))
-    options, count = len(args.blocks) + len(args.raw), len(args.numbers)
+    options, count = len(args.blocks) + len(args.raw), len(args.numbers) + args.is_all
     if args.files == ["-", "-"]: parser.error("`-` is standard input, once at most")
-    is_wrong = options > 1 or max([0, *args.blocks]) > 1 << 30 or args.blocks and not count or args.raw and count != 1
+    is_wrong = options > 1 or max([0, *args.blocks]) > 1 << 30 or args.blocks and not count
+    is_wrong = is_wrong or args.raw and len(args.numbers) != 1
     if is_wrong or args.command != "verify" and options + count: parser.error("too many arguments, or too few")
     return args
 
@@ -277,7 +278,8 @@ def answer_verify(checkpoint: Checkpoint, proof: bytes, args: argparse.Namespace
     entries, digests = parse_entries(proof)
     numbers, block = [number for number, _ in entries], sum(args.blocks)
     hint = "without numbers `verify` prints those that it has"
-    for got, expected in itertools.zip_longest(numbers, args.numbers or numbers):
+    every = range(1, max(checkpoint.size, 1) + 1)
+    for got, expected in itertools.zip_longest(numbers, every if args.is_all else args.numbers or numbers):
         if expected is None: raise Refused(f"entry {got}, which is not requested: {hint}")
         if got is None: raise Refused(f"no entry {expected}, which is requested: {hint}")
         if got != expected: raise Refused(f"entry {got}, where {expected} is requested: {hint}")
@@ -289,7 +291,8 @@ def answer_verify(checkpoint: Checkpoint, proof: bytes, args: argparse.Namespace
     leaves = [leaf_hash(data) for _, data in entries]
     verify_entries(checkpoint.size, [number - 1 for number in numbers], leaves, digests, checkpoint.root)
     if block or args.raw: return b"".join(data for _, data in entries)
-    return b"".join((b"" if args.numbers else b"%d\t" % number) + data + b"\n" for number, data in entries)
+    is_any = not (args.numbers or args.is_all)
+    return b"".join((b"%d\t" % number if is_any else b"") + data + b"\n" for number, data in entries)
 
 def answer_verify_consistency(old: Checkpoint, proof: bytes, args: argparse.Namespace) -> bytes:
     size, digests, note = parse_consistency(proof)
@@ -318,7 +321,7 @@ def main() -> int:
         status, where = 2, ""
         try: write(1, printed)
         except OSError as error: raise Refused(f"standard output: {error.strerror} (os error {error.errno})") from None
-        if args.command != "verify" or args.numbers: return 0
+        if args.command != "verify" or args.numbers or args.is_all: return 0
         status, why = 0, "entry numbers were not compared: check that they are those you requested"
     except Refused as refused: why = f"{where}{WORDS[args.command].get(refused.reason, refused)}"
     except OSError as error: why = f"{error.filename or '-'}: {error.strerror} (os error {error.errno})"

@@ -186,17 +186,20 @@ def verifies(source, limit, few):
         cut = []
     else:
         data, cut, checkpoint, size = sealed(source, limit)
-        numbers = numbers_of(source, size)
+        numbers = numbers_of(source, size) if source.randrange(4) else [*range(1, size + 1)]
         proof = printed(["prove", *cut, "c", "log", *map(str, numbers)], {"c": checkpoint, "log": data})
     contents = {"checkpoint": published(source, checkpoint), "proof": proof}
     ways = cut if cut[:1] == ["--blocks"] else []
     words = ["verify", *ways, "checkpoint", "proof"]
     found, digests = log_texts.entries(proof)
     kind = "entries" if ways or all(b"\n" not in data for _, data in found) else "line feeds inside"
-    everything = source.choice([[], ["all"]])
+    size = log_texts.checkpoint(checkpoint)[1]
+    is_every = len(numbers) == size and numbers == [*range(1, size + 1)]
+    everything = ["all"] if is_every and source.randrange(2) else []
     yield from whole_and_damaged(source, kind, [*words, *spelled(source, numbers)], contents, few)
-    if not ways:
+    if everything or not ways:
         yield from whole_and_damaged(source, f"all {kind}", [*words, *everything], contents, few)
+    yield Case("all", [*words, "all"], contents)
     yield Case("other numbers", [*words, *near(source, numbers)], contents)
     for _ in range(few or SAMPLE):
         yield Case("strange numbers", [*words, *strange(source, max(numbers))], contents)

@@ -126,9 +126,11 @@ def command_of(words):
         raise Refused(2, None, "no origin")
     try:
         told.ranges = ranges(getattr(told, "NUMBER", []))
+        told.is_all = getattr(told, "NUMBER", []) == ["all"]
     except ValueError:
         raise Refused(2, None, "no numbers") from None
-    if command == "verify" and ((told.blocks and not told.ranges) or (told.raw and sum(map(len, told.ranges)) != 1)):
+    told.is_any = command == "verify" and not told.ranges and not told.is_all
+    if command == "verify" and ((told.blocks and told.is_any) or (told.raw and sum(map(len, told.ranges)) != 1)):
         raise Refused(2, None, "no numbers, or too many")
     return command, told
 
@@ -226,7 +228,8 @@ def verify(told, inputs):
     _, size, root = inputs.read(2, told.CHECKPOINT, text, log_texts.checkpoint)
     found, digests = inputs.read(1, told.PROOF, proof, log_texts.entries)
     names = [name for name, _ in found]
-    wanted = [*islice(chain(*told.ranges), len(names) + 1)]
+    each = [range(1, max(size, 1) + 1)] if told.is_all else told.ranges
+    wanted = [*islice(chain(*each), len(names) + 1)]
     refuse_if(wanted and names != wanted, told.PROOF, other_number(names, wanted))
     for name, data in found:
         refuse_if(not is_printable(told, size, name, data), told.PROOF, f"entry {name} is no line, or no block of this "
@@ -235,7 +238,7 @@ def verify(told, inputs):
     verdict = logs.entries(size, [name - 1 for name in names], leaves, digests, root)
     refuse_if(verdict != "accepted", told.PROOF, ENTRIES.get(verdict))
     end = b"" if told.blocks or told.raw else b"\n"
-    return b"".join((b"" if told.ranges else b"%d\t" % name) + data + end for name, data in found)
+    return b"".join((b"%d\t" % name if told.is_any else b"") + data + end for name, data in found)
 
 
 def compare(name, old, new):
@@ -293,6 +296,6 @@ def answer(words, contents):
     try:
         command, told = command_of(words)
         printed = ANSWERS[command](told, Inputs(contents))
-        return Answer(0, printed, None, UNCOMPARED if command == "verify" and not told.ranges else "")
+        return Answer(0, printed, None, UNCOMPARED if told.is_any else "")
     except Refused as refused:
         return Answer(refused.status, b"", refused)

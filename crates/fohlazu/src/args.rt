@@ -8,7 +8,7 @@ use crate::input::{Input, Notes};
 use crate::output::is_same_file;
 use clap::{Arg, ArgMatches, Command as Syntax, arg, value_parser};
 use log_commands::prove::MOST_NUMBERS;
-use log_commands::{Command, Cut, PART_ORIGIN, PartialLine, Print, Source};
+use log_commands::{Command, Cut, PART_ORIGIN, PartialLine, Print, Requested, Source};
 use std::alloc::{AllocError, Global};
 use std::path::Path;
 use thiserror::Error;
@@ -111,11 +111,9 @@ pub(crate) fn parse_args<'a>(
         }
     }
     let command = args.command(alloc, name)?;
-    let lacks_numbers = matches!(command, Command::Verify { numbers: None, .. });
-    notes.lacks_numbers.set(lacks_numbers);
     if !command.is_lawful() {
         let why = if matches!(command, Command::Verify { .. }) {
-            "--raw takes the number of one entry, and --blocks takes numbers"
+            "--raw takes the number of one entry, and --blocks takes numbers or all"
         } else {
             "an origin has 1 to 100 characters, no control character, no space first or last: --origin sets it"
         };
@@ -183,7 +181,7 @@ impl<'a> Args<'a> {
                 print: self.print(),
                 checkpoint: self.input("CHECKPOINT"),
                 proof: self.input("PROOF"),
-                numbers: self.numbers(alloc)?,
+                entries: self.requested(alloc)?,
             },
             "prove-consistency" => Command::ProveConsistency {
                 cut: self.cut(),
@@ -232,10 +230,10 @@ impl<'a> Args<'a> {
         Ok(parts)
     }
 
-    /// The numbers of entries, or none for all.
+    /// The numbers of entries, or `None` for `all`.
     fn numbers(&self, alloc: Global) -> Result<Option<Vec<usize>>, ArgsError<'a>> {
         let words = self.found.get_strs("NUMBER").unwrap_or(&[]);
-        if words.is_empty() || words == ["all"].as_slice() {
+        if words == ["all"].as_slice() {
             return Ok(None);
         }
         let mut numbers = Vec::with_capacity(alloc, words.len())?;
@@ -243,6 +241,16 @@ impl<'a> Args<'a> {
             add_numbers(&mut numbers, word)?;
         }
         Ok(Some(numbers))
+    }
+
+    /// The entries that are requested of a proof.
+    fn requested(&self, alloc: Global) -> Result<Requested, ArgsError<'a>> {
+        if self.found.get_strs("NUMBER").is_none() {
+            self.notes.lacks_numbers.set(true);
+            return Ok(Requested::Any);
+        }
+        let numbers = self.numbers(alloc)?;
+        Ok(numbers.map_or(Requested::All, Requested::Numbers))
     }
 
     /// The origin: that of a part, the one that is given, or `localhost/` and the file's name.
@@ -363,7 +371,7 @@ fn argument<'a>(alloc: Global, id: &str) -> Result<Arg<'a>, AllocError> {
         "PART" =>
             arg!(in alloc; <PART> ... "The parts, in order; all but the last have 2^k entries, with one k"),
         "NUMBER" =>
-            arg!(in alloc; [NUMBER] ... "The entries, as 3, 3-7 or 3,7; else all, each after its number"),
+            arg!(in alloc; [NUMBER] ... "The entries, as 3, 3-7, 3,7 or all; else any, each after its number"),
         _ => arg!(in alloc; <NUMBER> ... "The entries, as 3, 3-7, 3,7 or all, counted from 1"),
     })
 }

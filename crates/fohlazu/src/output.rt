@@ -117,7 +117,9 @@ impl Write for Replacement<'_> {
 pub(crate) fn is_same_file(rt: &HostRuntime, output: &str, input: &str) -> bool {
     let input = if input == "-" { "/dev/stdin" } else { input };
     match (fs::metadata(rt, output), fs::metadata(rt, input)) {
-        (Ok(one), Ok(other)) => one.is_file() && one.dev() == other.dev() && one.ino() == other.ino(),
+        (Ok(one), Ok(other)) => one.is_file()
+            && one.dev() == other.dev()
+            && one.ino() == other.ino(),
         _ => false,
     }
 }

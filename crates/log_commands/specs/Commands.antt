@@ -8,7 +8,7 @@ use Rattle.log_files.specs.Entries.{IsCut}
 use Rattle.log_files.specs.declared.cut.Cut.{Cut}
 use Rattle.log_commands.specs.Outcomes.{and_then, bytes_from, compared, join_outcome, numbers_under, prove_growth}
 use Rattle.log_commands.specs.Outcomes.{prove_under, requested, seal_outcome, verify_consistency_outcome}
-use Rattle.log_commands.specs.Outcomes.{verify_outcome}
+use Rattle.log_commands.specs.Outcomes.{verify_requested}
 use Rattle.log_commands.specs.declared.error.Error.{Error}
 use Rattle.log_commands.specs.declared.error.Error.TheVariants.{OutOfMemory, Write}
 use Rattle.log_commands.specs.declared.error.Source.TheVariants.{Checkpoint, File, New, Old, Part, Proof}
@@ -17,6 +17,8 @@ use Rattle.log_commands.specs.declared.command.Command.TheVariants.{Join, Prove,
 use Rattle.log_commands.specs.declared.command.Command.TheVariants.{VerifyConsistency}
 use Rattle.log_commands.specs.declared.verify.Print.{Print}
 use Rattle.log_commands.specs.declared.verify.Print.TheVariants.{Blocks, Lines, Raw}
+use Rattle.log_commands.specs.declared.verify.Requested.{Requested}
+use Rattle.log_commands.specs.declared.verify.Requested.TheVariants.{All as AllEntries, Any, Numbers}
 
 -- ---- what can be run
 
@@ -24,19 +26,20 @@ use Rattle.log_commands.specs.declared.verify.Print.TheVariants.{Blocks, Lines, 
 abbrev pub AreNumbers : List ℕ → Type 0
 AreNumbers numbers = (0 < length numbers) × All (λ number. 1 ≤ number) numbers
 
--- entries without their numbers are printed if these are requested; raw bytes, if one is
-abbrev pub IsPrint : Print → Option (List ℕ) → Type 0
-IsPrint Lines None = Unit {0}
-IsPrint Lines (Some numbers) = AreNumbers numbers
-IsPrint (Blocks size) (Some numbers) = AreNumbers numbers × ((1 ≤ size) × (size ≤ 2 ^ 30))
-IsPrint Raw (Some numbers) = AreNumbers numbers × (length numbers ≡ 1)
-IsPrint print None = ⊥
+-- any entries are printed as lines; blocks, if they are requested; raw bytes, if one number is
+abbrev pub IsPrint : Print → Requested → Type 0
+IsPrint Lines (Numbers numbers) = AreNumbers numbers.items
+IsPrint Lines requested = Unit {0}
+IsPrint (Blocks size) (Numbers numbers) = AreNumbers numbers.items × ((1 ≤ size) × (size ≤ 2 ^ 30))
+IsPrint (Blocks size) AllEntries = (1 ≤ size) × (size ≤ 2 ^ 30)
+IsPrint Raw (Numbers numbers) = AreNumbers numbers.items × (length numbers.items ≡ 1)
+IsPrint print requested = ⊥
 
 -- a lawful origin, blocks of 1 to 2 ^ 30 bytes, and numbers from 1 on where there are any
 abbrev pub IsLawful : {Src : Type 0} → Command Src → Type 0
 IsLawful (Seal origin cut file) = (is_origin (string_bytes origin) ≡ true) × IsCut cut
 IsLawful (Prove cut checkpoint file numbers) = IsCut cut × IfSome (option_map (λ ns. ns.items) numbers) AreNumbers
-IsLawful (Verify print checkpoint proof numbers) = IsPrint print (option_map (λ ns. ns.items) numbers)
+IsLawful (Verify print checkpoint proof requested) = IsPrint print requested
 IsLawful (ProveConsistency cut old new file) = IsCut cut
 IsLawful (VerifyConsistency old proof) = Unit {0}
 IsLawful (Join origin parts) = is_origin (string_bytes origin) ≡ true
@@ -84,10 +87,10 @@ prove_entries cut checkpoint file numbers =
     and_then (bytes_from Checkpoint checkpoint) (λ text. and_then (numbers_under numbers text)
     (prove_file cut (Some text) file))
 
-abbrev pub verify_proof : Print → (checkpoint proof : Option (List ℕ)) → Option (List ℕ) → Result (List ℕ) Error
-verify_proof print checkpoint proof numbers =
+abbrev pub verify_proof : Print → (checkpoint proof : Option (List ℕ)) → Requested → Result (List ℕ) Error
+verify_proof print checkpoint proof requested =
     and_then (bytes_from Checkpoint checkpoint) (λ text. and_then (bytes_from Proof proof) (λ shown.
-    verify_outcome print text shown numbers))
+    verify_requested print text shown requested))
 
 abbrev pub prove_file_growth : Cut → (old new file : Option (List ℕ)) → Result (List ℕ) Error
 prove_file_growth cut old new file =
@@ -109,9 +112,9 @@ HasOutcome remaining (Seal origin cut file) outcome =
 HasOutcome remaining (Prove cut checkpoint file numbers) outcome =
     HoldsOfInput (remaining checkpoint) (λ text. HoldsOfInput (remaining file) (λ bytes.
     outcome ≡ prove_entries cut text bytes (option_map (λ ns. ns.items) numbers)))
-HasOutcome remaining (Verify print checkpoint proof numbers) outcome =
+HasOutcome remaining (Verify print checkpoint proof requested) outcome =
     HoldsOfInput (remaining checkpoint) (λ text. HoldsOfInput (remaining proof) (λ shown.
-    outcome ≡ verify_proof print text shown (option_map (λ ns. ns.items) numbers)))
+    outcome ≡ verify_proof print text shown requested))
 HasOutcome remaining (ProveConsistency cut old new file) outcome =
     HoldsOfInput (remaining old) (λ one. HoldsOfInput (remaining new) (λ other. HoldsOfInput (remaining file) (λ bytes.
     outcome ≡ prove_file_growth cut one other bytes)))

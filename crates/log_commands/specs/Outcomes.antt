@@ -31,6 +31,8 @@ use Rattle.log_commands.specs.declared.error.Source.{Source}
 use Rattle.log_commands.specs.declared.error.Source.TheVariants.{Checkpoint, File, New, Old, Part, Proof}
 use Rattle.log_commands.specs.declared.verify.Print.{Print}
 use Rattle.log_commands.specs.declared.verify.Print.TheVariants.{Blocks, Lines, Raw}
+use Rattle.log_commands.specs.declared.verify.Requested.{Requested}
+use Rattle.log_commands.specs.declared.verify.Requested.TheVariants.{All, Any, Numbers}
 
 -- ---- steps
 
@@ -185,15 +187,32 @@ printed Lines false e = decimal e.number ++ 9 ∷ (e.bytes ++ 10 ∷ [])
 printed (Blocks len) is_requested e = e.bytes
 printed Raw is_requested e = e.bytes
 
--- verify: the entries of a proof, if it is accepted under a checkpoint
-abbrev pub verify_outcome : Print → List ℕ → List ℕ → Option (List ℕ) → Result (List ℕ) Error
-verify_outcome print checkpoint proof numbers =
-    and_then (said_by Checkpoint (checkpoint_in checkpoint)) (λ c. and_then (said_by Proof (proof_in proof)) (λ p.
+-- the numbers that those of a proof are compared with, if any, under a checkpoint of so many entries
+abbrev pub numbers_in : Requested → ℕ → Option (List ℕ)
+numbers_in Any size = None
+numbers_in All size = Some (all_numbers size)
+numbers_in (Numbers numbers) size = Some numbers.items
+
+-- verify under a checkpoint: the entries of a proof, if it is accepted
+abbrev pub verify_under : Print → CheckpointFields → List ℕ → Option (List ℕ) → Result (List ℕ) Error
+verify_under print c proof numbers =
+    and_then (said_by Proof (proof_in proof)) (λ p.
     ok_unless (first_some (
     numbers_refusal numbers p.entries
     ∷ first_of (entry_refusal print c.size) p.entries
     ∷ proof_refusal c p
-    ∷ [])) (flat_map (printed print (is_some numbers)) p.entries)))
+    ∷ [])) (flat_map (printed print (is_some numbers)) p.entries))
+
+-- verify: any entries, or those of some numbers
+abbrev pub verify_outcome : Print → List ℕ → List ℕ → Option (List ℕ) → Result (List ℕ) Error
+verify_outcome print checkpoint proof numbers =
+    and_then (said_by Checkpoint (checkpoint_in checkpoint)) (λ c. verify_under print c proof numbers)
+
+-- verify: the requested entries
+abbrev pub verify_requested : Print → List ℕ → List ℕ → Requested → Result (List ℕ) Error
+verify_requested print checkpoint proof requested =
+    and_then (said_by Checkpoint (checkpoint_in checkpoint))
+    (λ c. verify_under print c proof (numbers_in requested c.size))
 
 -- ---- prove-consistency and verify-consistency
 

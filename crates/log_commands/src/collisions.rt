@@ -15,7 +15,7 @@ ghost use Rattle.log_commands.specs.declared.verify.Print.TheVariants.{Raw};
 use crate::error::{Error, Source};
 use crate::files::read_under;
 use crate::texts::{read_checkpoint, read_consistency, read_entries};
-use crate::verify::{Print, indices_of, leaves_of, verify};
+use crate::verify::{Print, Requested, indices_of, leaves_of, verify};
 use crate::verify_consistency::verify_consistency;
 use log_files::{Cut, ReadLog};
 use log_text::{Checkpoint, EntriesProof, Entry};
@@ -46,7 +46,7 @@ pub fn file_entries_collision(
         ⊎ ((verify_outcome Raw checkpoint.now proof.now None ≡ Err error)
         ⊎ (IsCheckpointOfFile cut file.now checkpoint.now → ⊥))) }
 {
-    verify(alloc, Print::Raw, checkpoint, proof, None)?;
+    verify(alloc, Print::Raw, checkpoint, proof, &Requested::Any)?;
     let entries = read_entries_under(alloc, Source::Checkpoint, cut, checkpoint, file)?;
     let proof = read_entries(alloc, proof)?;
     Ok(proved_collision(alloc, &entries, &proof)?)

@@ -14,7 +14,7 @@ use crate::prove::{numbers_of, prove};
 use crate::prove_consistency::prove_consistency;
 use crate::seal::seal;
 use crate::texts::read_text;
-use crate::verify::{Print, verify};
+use crate::verify::{Print, Requested, verify};
 use crate::verify_consistency::verify_consistency;
 use crate::write::write_text;
 use log_files::Cut;
@@ -27,65 +27,48 @@ use std::io::{Read, Write};
 pub enum Command<Src> {
     /// Prints the checkpoint of a file, or with the origin `PART_ORIGIN` of a part of a file.
     Seal {
-        /// The name of the log.
         origin: String,
-        /// How the file is cut into entries.
         cut: Cut,
-        /// The file.
         file: Src,
     },
     /// Prints a proof of entries of a file.
     Prove {
-        /// How the file is cut into entries.
         cut: Cut,
         /// The checkpoint of the file, which may have grown since.
         checkpoint: Src,
-        /// The file.
         file: Src,
         /// The numbers of the entries, counted from 1: all of the checkpoint without.
         numbers: Option<Vec<usize>>,
     },
     /// Prints the entries of a proof that is accepted.
     Verify {
-        /// How they are printed.
         print: Print,
-        /// The checkpoint.
         checkpoint: Src,
-        /// The proof.
         proof: Src,
-        /// The numbers of the entries that are requested: all of the proof without.
-        numbers: Option<Vec<usize>>,
+        entries: Requested,
     },
     /// Prints a proof that the file of a new checkpoint begins with the entries of an old one.
     ProveConsistency {
-        /// How the file is cut into entries.
         cut: Cut,
-        /// The old checkpoint.
         old: Src,
-        /// The new checkpoint.
         new: Src,
-        /// The file.
         file: Src,
     },
     /// Prints the new checkpoint of such a proof, if it is accepted.
     VerifyConsistency {
-        /// The old checkpoint.
         old: Src,
-        /// The proof.
         proof: Src,
     },
     /// Prints the checkpoint of a file whose parts are sealed.
     Join {
-        /// The name of the log.
         origin: String,
-        /// The parts, in their order.
         parts: Vec<Src>,
     },
 }
 
 impl<Src> Command<Src> {
-    /// Whether it can be run: an origin is one, a block has 1 to 2^30 bytes, and requested entries are at least one and
-    /// numbered from 1. Entries as lines alone are verified without numbers, and one entry as raw bytes.
+    /// Whether it can be run: an origin is one, a block has 1 to 2^30 bytes, and numbers are at least one and from 1 on.
+    /// Any entries are printed as lines alone, and raw bytes of one number.
     pub fn is_lawful(&self) -> bool
         ensures { Decides result (IsLawful self.now) }
     {
@@ -94,7 +77,7 @@ impl<Src> Command<Src> {
             Command::Prove { cut, numbers, .. } => {
                 is_cut(*cut) && numbers.as_deref().is_none_or(are_numbers)
             }
-            Command::Verify { print, numbers, .. } => is_print(*print, numbers),
+            Command::Verify { print, entries, .. } => is_print(*print, entries),
             Command::ProveConsistency { cut, .. } => is_cut(*cut),
             Command::VerifyConsistency { .. } => true,
             Command::Join { origin, .. } => is_origin(origin),
@@ -119,19 +102,26 @@ fn are_numbers(numbers: &[usize]) -> bool
     !numbers.is_empty() && numbers.iter().all(|number| 1 <= *number)
 }
 
-/// Whether entries of these numbers may be printed so.
-fn is_print(print: Print, numbers: &Option<Vec<usize>>) -> bool
-    ensures { Decides result (IsPrint print (option_map (λ ns. ns.items) numbers.now)) }
+/// Whether requested entries may be printed so.
+fn is_print(print: Print, requested: &Requested) -> bool
+    ensures { Decides result (IsPrint print requested.now) }
 {
-    let Some(numbers) = numbers else {
-        return print == Print::Lines;
-    };
-    let fits = match print {
-        Print::Lines => true,
-        Print::Blocks(size) => is_cut(Cut::Blocks(size)),
-        Print::Raw => numbers.len() == 1,
-    };
-    are_numbers(numbers) && fits
+    match requested {
+        Requested::Any => print == Print::Lines,
+        Requested::All => match print {
+            Print::Lines => true,
+            Print::Blocks(size) => is_cut(Cut::Blocks(size)),
+            Print::Raw => false,
+        },
+        Requested::Numbers(numbers) => {
+            let fits = match print {
+                Print::Lines => true,
+                Print::Blocks(size) => is_cut(Cut::Blocks(size)),
+                Print::Raw => numbers.len() == 1,
+            };
+            are_numbers(numbers) && fits
+        }
+    }
 }
 
 /// Runs a command: reads its inputs one after another, and writes what it answers.
@@ -181,11 +171,11 @@ fn answer<Src: Read + Drop>(alloc: Global, command: Command<Src>) -> Result<Vec<
             print,
             mut checkpoint,
             mut proof,
-            numbers,
+            entries,
         } => {
             let checkpoint = read_text(alloc, Source::Checkpoint, &mut checkpoint)?;
             let proof = read_text(alloc, Source::Proof, &mut proof)?;
-            verify(alloc, print, &checkpoint, &proof, numbers.as_deref())
+            verify(alloc, print, &checkpoint, &proof, &entries)
         }
         Command::ProveConsistency {
             cut,

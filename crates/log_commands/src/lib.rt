@@ -19,4 +19,4 @@ pub use command::{Command, run};
 pub use error::{Error, Refusal, Source};
 pub use log_files::{Cut, PartialLine};
 pub use log_text::{PART_ORIGIN, is_key_name, is_origin};
-pub use verify::Print;
+pub use verify::{Print, Requested};

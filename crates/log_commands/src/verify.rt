@@ -1,12 +1,12 @@
 //! Verifies proofs of entries.
 
-ghost use Rattle.std.specs.Prelude.{◌≡◌, ◌-◌, ◌++◌, ◌⊎◌, IfOk, MatchResult, None, OnOk, Some, flat_map, map, option_map};
+ghost use Rattle.std.specs.Prelude.{◌≡◌, ◌-◌, ◌++◌, ◌⊎◌, IfOk, MatchResult, None, OnOk, Some, flat_map, map, is_some, ℕ};
 ghost use Rattle.sha2.specs.Sha256.{sha256};
 ghost use Rattle.p3_merkle_core.specs.Refusals.{first_of};
 ghost use Rattle.tlog.specs.Rfc9162.{leaf_hash as leaf_hash_by};
 ghost use Rattle.log_text.specs.Texts.{checkpoint_fields, entries_fields, entry_fields};
-ghost use Rattle.log_commands.specs.Outcomes.{bytes_in, entry_refusal, Gives, is_printable, numbers_refusal};
-ghost use Rattle.log_commands.specs.Outcomes.{printed, proof_refusal, verify_outcome};
+ghost use Rattle.log_commands.specs.Outcomes.{all_numbers, bytes_in, entry_refusal, Gives, is_printable, numbers_in};
+ghost use Rattle.log_commands.specs.Outcomes.{numbers_refusal, printed, proof_refusal, verify_requested};
 ghost use Rattle.log_commands.specs.declared.error.Error.TheVariants.{OutOfMemory};
 
 use crate::error::{Error, Refusal, Source};
@@ -27,8 +27,19 @@ pub enum Print {
     Raw,
 }
 
-/// The entries of a proof, as they are printed, if it is accepted under a checkpoint: those of these numbers, in this
-/// order, or all that it has. Signatures are not checked.
+/// The entries that are requested of a proof.
+#[derive(Drop)]
+pub enum Requested {
+    /// Those that it has.
+    Any,
+    /// All of the checkpoint, in their order.
+    All,
+    /// Those of these numbers, in this order.
+    Numbers(Vec<usize>),
+}
+
+/// The entries of a proof, as they are printed, if it is accepted under a checkpoint and they are the requested ones.
+/// Signatures are not checked.
 ///
 /// # Errors
 ///
@@ -43,27 +54,68 @@ pub fn verify(
     print: Print,
     checkpoint: &[u8],
     proof: &[u8],
-    numbers: Option<&[usize]>,
+    requested: &Requested,
 ) -> Result<Vec<u8>, Error>
-    ensures { Gives bytes_in result
-        (verify_outcome print checkpoint.now proof.now (option_map (λ ns. ns.now) numbers.entry)) }
+    ensures { Gives bytes_in result (verify_requested print checkpoint.now proof.now requested.now) }
 {
     let checkpoint = read_checkpoint(Source::Checkpoint, checkpoint)?;
     let proof = read_entries(alloc, proof)?;
-    check_requested(numbers, &proof.entries)?;
+    check_requested(requested, checkpoint.size, &proof.entries)?;
     check_entries(print, checkpoint.size, &proof.entries)?;
     check_proof(alloc, &checkpoint, &proof)?;
-    Ok(text_of(alloc, print, numbers.is_some(), &proof.entries)?)
+    Ok(text_of(alloc, print, is_compared(requested), &proof.entries)?)
 }
 
-/// Checks that entries are the requested ones, in their order, if numbers are requested.
-fn check_requested(numbers: Option<&[usize]>, entries: &[Entry]) -> Result<(), Error>
-    ensures { let refusal = numbers_refusal (option_map (λ ns. ns.now) numbers.entry) (map entry_fields entries.now) in
+/// Whether the numbers of entries are compared.
+fn is_compared(requested: &Requested) -> bool
+    ensures { (size : ℕ) → result ≡ is_some (numbers_in requested.now size) }
+{
+    !matches!(requested, Requested::Any)
+}
+
+/// Checks that entries are the requested ones of a log of so many, in their order.
+fn check_requested(requested: &Requested, size: usize, entries: &[Entry]) -> Result<(), Error>
+    ensures { let refusal = numbers_refusal (numbers_in requested.now size) (map entry_fields entries.now) in
         MatchResult result (λ ok. refusal ≡ None) (λ error. refusal ≡ Some error) }
 {
-    let Some(mut rest) = numbers else {
-        return Ok(());
-    };
+    match requested {
+        Requested::Any => Ok(()),
+        Requested::All => check_all(size, entries),
+        Requested::Numbers(numbers) => check_numbers(numbers, entries),
+    }
+}
+
+/// Checks that entries are all of a log of so many, in their order.
+#[tactic(auto, using(crate::proofs::LoopFacts::counted))]
+fn check_all(size: usize, entries: &[Entry]) -> Result<(), Error>
+    ensures { let refusal = numbers_refusal (Some (all_numbers size)) (map entry_fields entries.now) in
+        MatchResult result (λ ok. refusal ≡ None) (λ error. refusal ≡ Some error) }
+{
+    let mut left = size.max(1);
+    let mut checked = 0;
+    for entry in entries {
+        let got = entry.number;
+        if left == 0 {
+            return Err(Error::Refused(Source::Proof, Refusal::UnrequestedEntry(got)));
+        }
+        left -= 1;
+        checked += 1;
+        if got != checked {
+            return Err(Error::Refused(Source::Proof, Refusal::OtherNumber(got, checked)));
+        }
+    }
+    if left > 0 {
+        return Err(Error::Refused(Source::Proof, Refusal::MissingEntry(checked + 1)));
+    }
+    Ok(())
+}
+
+/// Checks that entries are those of these numbers, in their order.
+fn check_numbers(numbers: &[usize], entries: &[Entry]) -> Result<(), Error>
+    ensures { let refusal = numbers_refusal (Some numbers.now) (map entry_fields entries.now) in
+        MatchResult result (λ ok. refusal ≡ None) (λ error. refusal ≡ Some error) }
+{
+    let mut rest = numbers;
     for entry in entries {
         let got = entry.number;
         let Some((&expected, more)) = rest.split_first() else {

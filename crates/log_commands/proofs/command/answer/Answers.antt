@@ -49,8 +49,7 @@ pub returns-in_ok-proof-in-Verify : goal.returns-in_ok-proof-in-Verify
 returns-in_ok-proof-in-Verify g c =
     let text = c.in_ok-checkpoint-in-Verify in
     let shown = c.in_ok-proof-in-Verify in
-    let h = rw (c.deref-in-Verify.ensures.value, c.deref-in-Verify-2.ensures.value, c.as_deref.ensures.value)
-    at c.verify.ensures in
+    let h = rw (c.deref-in-Verify.ensures.value, c.deref-in-Verify-2.ensures.value) at c.verify.ensures in
     rw c.in-Verify.is (
       _,
       (Some text.checkpoint.items, text.ensures.bytes, (Some shown.proof.items, shown.ensures.bytes, refl)),
