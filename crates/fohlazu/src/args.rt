@@ -70,7 +70,6 @@ pub(crate) enum ArgsError<'a> {
     OutOfMemory(#[from(alloc)] AllocError),
 }
 
-/// The arguments of a command.
 #[derive(Drop)]
 pub(crate) struct Args<'a> {
     rt: &'a HostRuntime,
@@ -149,7 +148,6 @@ fn check_options(words: &[String]) -> Result<(), ArgsError<'_>> {
 }
 
 impl<'a> Args<'a> {
-    /// What an input is called.
     pub(crate) fn name_of(&self, source: Source) -> &'a str {
         let (id, k) = match source {
             Source::Checkpoint => ("CHECKPOINT", 0),
@@ -163,7 +161,6 @@ impl<'a> Args<'a> {
         names.and_then(|names| names.get(k).copied()).unwrap_or("")
     }
 
-    /// The command of this name.
     fn command(&self, alloc: Global, name: &str) -> Result<Command<Input<'a>>, ArgsError<'a>> {
         Ok(match name {
             "seal" => Command::Seal {
@@ -205,7 +202,6 @@ impl<'a> Args<'a> {
         self.found.get_str("output").filter(|name| *name != "-")
     }
 
-    /// What all inputs are called.
     fn input_names(&self, alloc: Global) -> Result<Vec<&'a str>, AllocError> {
         let mut names = Vec::new(alloc);
         for id in ["CHECKPOINT", "OLD", "NEW", "FILE", "PROOF", "PART"] {
@@ -214,14 +210,12 @@ impl<'a> Args<'a> {
         Ok(names)
     }
 
-    /// An input that is required.
     fn input(&self, id: &str) -> Input<'a> {
         let shows_progress = id == "FILE" && !self.found.get_flag("quiet");
         let name = self.found.get_str(id).unwrap_or("");
         Input::new(self.rt, name, shows_progress, self.notes)
     }
 
-    /// The parts.
     fn parts(&self, alloc: Global) -> Result<Vec<Input<'a>>, AllocError> {
         let mut parts = Vec::new(alloc);
         for name in self.found.get_strs("PART").unwrap_or(&[]) {
@@ -280,7 +274,6 @@ impl<'a> Args<'a> {
         }
     }
 
-    /// How entries are printed.
     fn print(&self) -> Print {
         match self.found.get_one("blocks") {
             Some(bytes) => Print::Blocks(bytes),
@@ -315,7 +308,6 @@ fn range_of(range: &str) -> Result<(usize, usize), &'static str>
     Ok((first, last))
 }
 
-/// The number of an entry.
 fn number_of(word: &str) -> Result<usize, &'static str> {
     if word.is_empty() || !word.bytes().all(|byte| byte.is_ascii_digit()) {
         return Err("no number of an entry, as 3, 3-7, 3,7 or all");
@@ -327,7 +319,6 @@ fn number_of(word: &str) -> Result<usize, &'static str> {
     }
 }
 
-/// What the program takes.
 fn program<'a>(alloc: Global) -> Result<Syntax<'a>, AllocError> {
     let mut program = Syntax::new(alloc, "fohlazu")
         .bin_name("fohlazu")?
@@ -348,7 +339,6 @@ fn program<'a>(alloc: Global) -> Result<Syntax<'a>, AllocError> {
     Ok(program)
 }
 
-/// An argument.
 fn argument<'a>(alloc: Global, id: &str) -> Result<Arg<'a>, AllocError> {
     Ok(match id {
         "origin" => arg!(in alloc; --origin <ORIGIN> "The log's name, if not `localhost/FILE`"),

@@ -42,7 +42,6 @@ pub(crate) struct Input<'a> {
 }
 
 impl<'a> Input<'a> {
-    /// The input of this name, with or without progress.
     pub(crate) fn new(
         rt: &'a HostRuntime,
         name: &'a str,
@@ -58,7 +57,6 @@ impl<'a> Input<'a> {
         }
     }
 
-    /// Reads the next bytes.
     fn read_next(&mut self, buf: &mut [u8]) -> io::Result<usize>
         ensures { IfOk result (λ count. IsPrefixLen count buf.new) }
     {

@@ -78,14 +78,12 @@ impl<'a> Replacement<'a> {
         folder.sync_all()
     }
 
-    /// Removes the file that is written.
     fn remove(&self) {
         if let Some((name, _)) = &self.written {
             let _ = fs::remove_file(self.rt, name.as_path());
         }
     }
 
-    /// The file that is written.
     fn file(&mut self) -> io::Result<&mut File> {
         if self.written.is_none() {
             let mode = self.mode.unwrap_or(0o666);
@@ -143,7 +141,6 @@ impl Write for StandardOutput<'_> {
     }
 }
 
-/// The folder of a file.
 fn folder_of(path: Path<'_>) -> Path<'_> {
     match path.parent() {
         Some(folder) if !folder.as_str().is_empty() => folder,
