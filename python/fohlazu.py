@@ -152,7 +152,7 @@ def parse_checkpoint(note: bytes, where: str = "") -> Checkpoint:
     origin, _ = text.line("the origin: 1 to 100 characters, no control character, and no space first or last", ORIGIN)
     size, root = text.line("a checkpoint's number of entries, up to 2^62", NUMBER)[1][0], text.digest()
     while not text.stands(b"", b"\n"):
-        text.line("no further digest, but text without control characters, a blank line or the end", EXTENSION)
+        text.line("the end, a blank line, or plain text that is no digest: are there two checkpoints?", EXTENSION)
     if not text.stands(b""):
         text.line("a blank line", "")
         for _ in range(100):
@@ -280,8 +280,8 @@ def answer_verify(checkpoint: Checkpoint, proof: bytes, args: argparse.Namespace
     hint = "without numbers `verify` prints those that it has"
     every = range(1, max(checkpoint.size, 1) + 1)
     for got, expected in itertools.zip_longest(numbers, every if args.is_all else args.numbers or numbers):
-        if expected is None: raise Refused(f"entry {got}, which is not requested: {hint}")
-        if got is None: raise Refused(f"no entry {expected}, which is requested: {hint}")
+        if expected is None: raise Refused(f"entry {got} stands after all that are requested: {hint}")
+        if got is None: raise Refused(f"it ends where entry {expected} is requested: {hint}")
         if got != expected: raise Refused(f"entry {got}, where {expected} is requested: {hint}")
     hint = "give `--blocks` as for `seal`, or `--raw` to print one entry"
     for number, data in entries:

@@ -183,7 +183,8 @@ def entries_of(told, data, limit):
 def tree_under(told, data, size, root):
     """The tree of the entries of a checkpoint, and these."""
     found = entries_of(told, data, size)
-    refuse_if(len(found) < size, told.FILE, f"it has {len(found)} of the {size} entries of the checkpoint")
+    refuse_if(len(found) < size, told.FILE, f"it has {len(found)} of the {size} entries of the checkpoint: "
+              "entries are missing, or it is cut otherwise")
     log = logs.Log(found)
     refuse_if(log.root(0, size) != root, told.FILE, "its entries are not those that were sealed in the checkpoint: "
               "they were changed, or it is cut otherwise")
@@ -219,7 +220,7 @@ def other_number(names, wanted):
     same = os.path.commonprefix([names, wanted])
     name, want = ([*all[len(same):], None][0] for all in (names, wanted))
     why = f"entry {name}, where {want} is requested" if name and want else (
-        f"entry {name}, which is not requested" if name else f"no entry {want}, which is requested")
+        f"entry {name} stands after all that are requested" if name else f"it ends where entry {want} is requested")
     return f"{why}: without numbers `verify` prints those that it has"
 
 

@@ -140,7 +140,7 @@ fn check_options(words: &[String]) -> Result<(), ArgsError<'_>> {
         let is_known = name == "--help"
             || ids.split(' ').any(|id| name.strip_prefix("--") == Some(id.trim_end_matches('!')));
         if word.len() > 1 && word.starts_with('-') && !is_known {
-            let why = "no such option here: `--` goes ahead of names with a dash";
+            let why = "no such option here: `./` goes ahead of a name with a dash";
             return Err(ArgsError::Word(Escaped(word), why));
         }
     }

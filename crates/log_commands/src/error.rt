@@ -57,7 +57,7 @@ pub enum Refusal {
     EndsInsideLine,
     #[error("more than 2^62 entries")]
     TooManyEntries,
-    #[error("it has {got} of the {expected} entries of the checkpoint")]
+    #[error("it has {got} of the {expected} entries of the checkpoint: entries are missing, or it is cut otherwise")]
     TooFewEntries {
         got: usize,
         expected: usize,
@@ -70,10 +70,10 @@ pub enum Refusal {
     /// A proof with another entry where one is requested.
     #[error("entry {0}, where {1} is requested: without numbers `verify` prints those that it has")]
     OtherNumber(usize, usize),
-    #[error("no entry {0}, which is requested: without numbers `verify` prints those that it has")]
+    #[error("it ends where entry {0} is requested: without numbers `verify` prints those that it has")]
     MissingEntry(usize),
     /// A proof with an entry behind all that are requested.
-    #[error("entry {0}, which is not requested: without numbers `verify` prints those that it has")]
+    #[error("entry {0} stands after all that are requested: without numbers `verify` prints those that it has")]
     UnrequestedEntry(usize),
     /// A proof with an entry that a file of lines, or of such blocks, does not have.
     #[error("entry {0} is no line, or no block of this size: give `--blocks` as for `seal`, or \

@@ -60,7 +60,7 @@ pub enum Expected {
     #[error("the base64 of 32 bytes")]
     Digest,
     /// An extension line, or what may follow instead.
-    #[error("no further digest, but text without control characters, a blank line or the end")]
+    #[error("the end, a blank line, or plain text that is no digest: are there two checkpoints?")]
     Extension,
     #[error("a signature, `— NAME BASE64`, after the blank line")]
     Signature,
