@@ -7,7 +7,7 @@ from damage import damaged
 from geometry import FIXED, LOWERED, MAX_NUMBER, expected_height, exponent
 from nodes import Fold, Scheme
 from notation import print_dimensions, print_numbers
-from salts import generator_of
+from salts import Generator
 
 
 def heights_of(random, tallest):
@@ -35,8 +35,8 @@ class Trial:
         most = 1 + size // 3 if size < 60 else 39
         self.dimensions = [(random.randint(1, most), height) for height in heights]
         matrices = [[words_of(random, width) for _ in range(height)] for width, height in self.dimensions]
-        seed = str(random.randrange(256))
-        self.tree = self.scheme.tree(matrices, generator_of(seed) if is_salted else None)
+        seed = random.randrange(256)
+        self.tree = self.scheme.tree(matrices, Generator(bytes([seed] * 32)) if is_salted else None)
         leaves = self.tree.shape.tallest
         self.queries = [random.randrange(leaves) for _ in range(random.choice([0, 1, 2, 3, 5, 9]))]
         self.index = random.randrange(leaves)
