@@ -183,11 +183,11 @@ def entries_of(told, data, limit):
 def tree_under(told, data, size, root):
     """The tree of the entries of a checkpoint, and these."""
     found = entries_of(told, data, size)
-    refuse_if(len(found) < size, told.FILE, f"it has {len(found)} of the {size} entries of the checkpoint: "
-              "entries are missing, or it is cut otherwise")
+    refuse_if(len(found) < size, told.FILE, f"it has {len(found)} entries, and the checkpoint {size}: "
+              "some are missing, or give `--blocks` as for `seal`")
     log = logs.Log(found)
-    refuse_if(log.root(0, size) != root, told.FILE, "its entries are not those that were sealed in the checkpoint: "
-              "they were changed, or it is cut otherwise")
+    refuse_if(log.root(0, size) != root, told.FILE, "its entries are not those of the checkpoint: "
+              "some changed, or give `--blocks` as for `seal`")
     return log, found
 
 
@@ -219,9 +219,10 @@ def other_number(names, wanted):
     """What is said of the first place where the entries of a proof are not the requested ones."""
     same = os.path.commonprefix([names, wanted])
     name, want = ([*all[len(same):], None][0] for all in (names, wanted))
-    why = f"entry {name}, where {want} is requested" if name and want else (
-        f"entry {name} stands after all that are requested" if name else f"it ends where entry {want} is requested")
-    return f"{why}: without numbers `verify` prints those that it has"
+    why = f"it has entry {name} where {want} is requested" if name and want else (
+        f"it has entry {name} after all that are requested" if name else
+        f"it has no entry for the last request, {want}")
+    return f"{why}: request all its entries, in its order, or none"
 
 
 def verify(told, inputs):

@@ -105,7 +105,7 @@ pub(crate) fn parse_args<'a>(
     let output = args.output().unwrap_or("/dev/stdout");
     for name in names {
         if is_same_file(rt, output, name) {
-            let why = "it is the output too: write another file with `-o`, then rename that";
+            let why = "it is the output too, which `>` empties: choose another output";
             return Err(ArgsError::Word(Escaped(name), why));
         }
     }
@@ -140,7 +140,8 @@ fn check_options(words: &[String]) -> Result<(), ArgsError<'_>> {
         let is_known = name == "--help"
             || ids.split(' ').any(|id| name.strip_prefix("--") == Some(id.trim_end_matches('!')));
         if word.len() > 1 && word.starts_with('-') && !is_known {
-            let why = "no such option here: `./` goes ahead of a name with a dash";
+            let why =
+                "no such option here, and no number: a file of this name is `./` and the name";
             return Err(ArgsError::Word(Escaped(word), why));
         }
     }

@@ -57,23 +57,23 @@ pub enum Refusal {
     EndsInsideLine,
     #[error("more than 2^62 entries")]
     TooManyEntries,
-    #[error("it has {got} of the {expected} entries of the checkpoint: entries are missing, or it is cut otherwise")]
+    #[error("it has {got} entries, and the checkpoint {expected}: some are missing, or give `--blocks` as for `seal`")]
     TooFewEntries {
         got: usize,
         expected: usize,
     },
-    #[error("its entries are not those that were sealed in the checkpoint: they were changed, or it is cut otherwise")]
+    #[error("its entries are not those of the checkpoint: some changed, or give `--blocks` as for `seal`")]
     OtherEntries,
     /// A file that begins with other entries than those of the old checkpoint.
     #[error("its first entries are not those of the old checkpoint")]
     OtherOldEntries,
     /// A proof with another entry where one is requested.
-    #[error("entry {0}, where {1} is requested: without numbers `verify` prints those that it has")]
+    #[error("it has entry {0} where {1} is requested: request all its entries, in its order, or none")]
     OtherNumber(usize, usize),
-    #[error("it ends where entry {0} is requested: without numbers `verify` prints those that it has")]
+    #[error("it has no entry for the last request, {0}: request all its entries, in its order, or none")]
     MissingEntry(usize),
     /// A proof with an entry behind all that are requested.
-    #[error("entry {0} stands after all that are requested: without numbers `verify` prints those that it has")]
+    #[error("it has entry {0} after all that are requested: request all its entries, in its order, or none")]
     UnrequestedEntry(usize),
     /// A proof with an entry that a file of lines, or of such blocks, does not have.
     #[error("entry {0} is no line, or no block of this size: give `--blocks` as for `seal`, or \
