@@ -187,7 +187,7 @@ def by_commands(call):
     """What is answered of files: why a command refuses a text or a file, or `none`."""
 
     def answer(cut, *data):
-        told = SimpleNamespace(OLD=0, CHECKPOINT=0, PROOF=1, FILE=2, ranges=[], raw=True)
+        told = SimpleNamespace(OLD=0, CHECKPOINT=0, PROOF=1, FILE=2, ranges=[], raw=True, is_all=False, is_any=True)
         told.blocks = int(cut) if cut.isdigit() else None
         told.partial, told.whole_lines = cut == "include", cut == "leave-out"
         try:
