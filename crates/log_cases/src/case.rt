@@ -125,7 +125,7 @@ impl<'a> Case<'a> {
     /// Answers by the first four bytes of a digest, or `-` where there is none.
     pub fn push_short(&mut self, digest: Option<[u8; 32]>) -> Result<()> {
         match digest {
-            Some([a, b, c, d, ..]) => self.push_hex(&[a, b, c, d]),
+            Some(digest) => self.push_hex(&digest[..4]),
             None => Ok(self.answer.push_str("- ")?),
         }
     }
