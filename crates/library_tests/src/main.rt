@@ -1,7 +1,7 @@
 //! Answers of the Rust crate, and tests that no line of a file of cases can say.
 //!
-//! The program answers cases, one a line of the files that are its arguments, or of standard input if there are none. The head of
-//! data/cases.txt says what a case is.
+//! The program answers cases, one a line of the files that are its arguments, or of standard input if there are none.
+//! The head of data/cases.txt says what a case is.
 //!
 //! A line without an answer is answered by a line. `CASE | RUST` and `CASE | RUST | HERE` are checked: the answer has
 //! to be that of the Rust crate or, where the two differ, the last one. A line that is answered otherwise is printed
