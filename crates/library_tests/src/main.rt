@@ -21,7 +21,6 @@ mod matrices;
 #[cfg(test)]
 mod noting;
 mod numbers;
-#[cfg(test)]
 mod reasons;
 mod scheme;
 #[cfg(test)]
