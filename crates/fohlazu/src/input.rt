@@ -1,7 +1,6 @@
 //! Inputs by their names.
 
-ghost use Rattle.std.specs.Counts.{IsPrefixLen};
-ghost use Rattle.std.specs.Prelude.{IfOk};
+ghost use Rattle.std.specs.{Counts.IsPrefixLen, Prelude.IfOk};
 
 use crate::progress::Progress;
 use std::cell::Cell;

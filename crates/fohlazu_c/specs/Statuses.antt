@@ -1,9 +1,8 @@
 -- What the calls return of a verdict.
 use Rattle.std.specs.Prelude.{ℤ, pos, Option, Some, None}
 use Rattle.tlog.specs.declared.error.ProofError.{ProofError}
-use Rattle.tlog.specs.declared.error.ProofError.TheVariants.{SizeTooLarge, IndexPastEnd, SmallerNewSize}
-use Rattle.tlog.specs.declared.error.ProofError.TheVariants.{TooFewDigests, TooManyDigests, OldRootMismatch}
-use Rattle.tlog.specs.declared.error.ProofError.TheVariants.{RootMismatch}
+use Rattle.tlog.specs.declared.error.ProofError.TheVariants.{SizeTooLarge, IndexPastEnd, SmallerNewSize, TooFewDigests}
+use Rattle.tlog.specs.declared.error.ProofError.TheVariants.{TooManyDigests, OldRootMismatch, RootMismatch}
 
 -- 0 without a refusal, else the number of its reason
 abbrev pub status_of : Option ProofError → ℤ

@@ -10,9 +10,8 @@ use Rattle.p3_merkle_core.specs.Refusals.{first_of, first_some, ok_unless}
 use Rattle.p3_merkle_core.proofs.Pruned.NoneFacts.{map_none, none_parts}
 use Rattle.tlog.specs.{Rfc9162.leaf_hash, Rfc9162.root_of, Collisions.entries_of}
 use Rattle.tlog.specs.Verdicts.{IsConsistent, consistency_refusal, size_limit}
+use Rattle.tlog.specs.{declared.collision.Collision.Collision, Fixed.RootsFixPrefix}
 use Rattle.tlog.proofs.Accepted.{consistency_accepted}
-use Rattle.tlog.specs.declared.collision.Collision.{Collision}
-use Rattle.tlog.specs.Fixed.{RootsFixPrefix}
 use Rattle.tlog_entries.specs.{Entries.entries_refusal, Fixed.RootFixesLeaves}
 use Rattle.tlog_entries.proofs.EntriesFacts.{unrefused}
 use Rattle.log_text.specs.Reading.{checkpoint_in, consistency_in, entries_in as proof_in}

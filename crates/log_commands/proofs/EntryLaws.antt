@@ -1,11 +1,10 @@
 -- Proofs of entries are made, and are accepted.
 use Rattle.std.proofs.Common.{◌≡◌, ◌≤◌, ◌<◌, ◌-◌, ◌∙◌, ℕ, List, [], ◌∷◌, ap, arith, get_or, length, map, refl, subst}
 use Rattle.std.proofs.Common.{sym, take, None, Some, Ok, Option, ◌^◌, Bool, true, is_some, All, map-id, le-leb}
-use Rattle.std.proofs.Common.{get_or-take, inl, inr, ne_eqb, ◌↔◌}
-use Rattle.std.proofs.lemmas.{Bool.cases_eq, Bool.eq-eqb, Simd.map-map, List.Folds.flat_map-map, List.get_or-map}
-use Rattle.std.proofs.lemmas.List.{length-map}
-use Rattle.std.specs.{List.flat_map, Option.option_map}
+use Rattle.std.proofs.{Common.get_or-take, Common.inl, Common.inr, Common.ne_eqb, Common.◌↔◌, lemmas.Bool.cases_eq}
+use Rattle.std.proofs.lemmas.{Bool.eq-eqb, Simd.map-map, List.Folds.flat_map-map, List.get_or-map, List.length-map}
 use Rattle.std.proofs.lemmas.List.Elements.{All-drop, All-head, All-map, All-tail, All-take}
+use Rattle.std.specs.{List.flat_map, Option.option_map}
 use Rattle.p3_merkle_core.specs.Refusals.{first_of, ok_unless}
 use Rattle.sha2.specs.Sha256.{sha256}
 use Rattle.tlog.specs.{Rfc9162.leaf_hash, Rfc9162.root_of, Verdicts.size_limit}

@@ -14,10 +14,9 @@ use Rattle.tlog_entries.specs.{Entries.is_node, Entries.proof_nodes, Instance.lo
 use Rattle.log_text.specs.{Texts.CheckpointFields, Texts.EntryFields, Reading.checkpoint_in}
 use Rattle.log_files.specs.{Entries.entry_at, Entries.wanted_of, declared.cut.Cut.Cut, declared.reading.ReadLog.ReadLog}
 use Rattle.log_text.proofs.NoteLaws.{notes}
-use Rattle.log_commands.specs.{Commands.AreNumbers, Commands.HoldsOfInput}
-use Rattle.log_commands.specs.Inner.{entry_of, HasEntries, ReadsAs}
-use Rattle.log_commands.specs.Outcomes.{all_numbers, bytes_in, Gives, and_then, bytes_from, entries_under}
-use Rattle.log_commands.specs.Outcomes.{number_refusal, said_by}
+use Rattle.log_commands.specs.{Commands.AreNumbers, Commands.HoldsOfInput, Inner.entry_of, Inner.HasEntries}
+use Rattle.log_commands.specs.{Inner.ReadsAs, Outcomes.all_numbers}
+use Rattle.log_commands.specs.Outcomes.{bytes_in, Gives, and_then, bytes_from, entries_under, number_refusal, said_by}
 use Rattle.log_commands.specs.declared.error.{Error.Error, Source.Source, Source.TheVariants.File}
 use Rattle.log_commands.proofs.FileFacts.{goes, stops, whole}
 use Rattle.log_commands.proofs.LawFacts.{are_under, said_ok, stepped}

@@ -2,11 +2,10 @@
 use Rattle.std.proofs.Common.{◌≡◌, ◌≤◌, ◌<◌, ◌+◌, ◌^◌, ◌==◌, ◌∙◌, ℕ, zero, suc, List, [], ◌∷◌, ◌++◌, ap, arith, eq-eqb}
 use Rattle.std.proofs.Common.{get_or, inl, inr, length, map, refl, subst, sym, append-nil, None, Ok, All, true, false}
 use Rattle.std.proofs.Common.{nat_le, eqb-true, le-leb, leb-true, ne_eqb}
+use Rattle.std.proofs.lemmas.{Bool.and_parts, Bool.cases_eq, Simd.map-map, List.length-map, List.map-append}
+use Rattle.std.proofs.lemmas.List.{Sums.sum-map, Concat.length-flat_map, Elements.All-cons, Elements.All-map}
+use Rattle.std.proofs.lemmas.List.{Elements.All-nil, FromFn.get_or-range_with_len, FromFn.length-range_with_len}
 use Rattle.std.specs.{Int.is_power_of_two, List.concat, List.flat_map, List.range_with_len, List.sum}
-use Rattle.std.proofs.lemmas.{Bool.and_parts, Bool.cases_eq, Simd.map-map}
-use Rattle.std.proofs.lemmas.List.{length-map, map-append, Sums.sum-map, Concat.length-flat_map}
-use Rattle.std.proofs.lemmas.List.Elements.{All-cons, All-map, All-nil}
-use Rattle.std.proofs.lemmas.List.FromFn.{get_or-range_with_len, length-range_with_len}
 use Rattle.p3_merkle_core.specs.Refusals.{ok_unless, unless}
 use Rattle.p3_merkle_core.proofs.Shapes.LeastFacts.{n_below_pow}
 use Rattle.p3_merkle_core.proofs.Pruned.NoneFacts.{none_parts, range_none, unless_none}

@@ -5,10 +5,8 @@ ghost use Rattle.sha2.specs.Sha256.{sha256};
 ghost use Rattle.tlog.specs.Rfc9162.{root_of};
 ghost use Rattle.log_files.specs.Entries.{IsCut};
 ghost use Rattle.log_text.specs.Texts.{checkpoint_fields};
-ghost use Rattle.tlog_tree.specs.Builders.{IsBuilderOf};
-ghost use Rattle.tlog_tree.specs.Trees.{all_there, values_at};
-ghost use Rattle.log_commands.specs.Commands.{HoldsOfInput};
-ghost use Rattle.log_commands.specs.Inner.{HasEntries, ReadsAs};
+ghost use Rattle.tlog_tree.specs.{Builders.IsBuilderOf, Trees.all_there, Trees.values_at};
+ghost use Rattle.log_commands.specs.{Commands.HoldsOfInput, Inner.HasEntries, Inner.ReadsAs};
 ghost use Rattle.log_commands.specs.Outcomes.{and_then, bytes_from, entries_read, entries_under, tree_refusal};
 ghost use Rattle.log_commands.specs.declared.error.Source.TheVariants.{File};
 

@@ -7,12 +7,10 @@ ghost use Rattle.tlog.specs.Verdicts.{size_limit};
 ghost use Rattle.tlog_entries.specs.Entries.{proof_nodes};
 ghost use Rattle.log_files.specs.Entries.{IsCut, entry_at, wanted_of};
 ghost use Rattle.log_text.specs.Texts.{checkpoint_fields, entries_text, entry_fields};
-ghost use Rattle.log_commands.specs.Commands.{AreNumbers, HoldsOfInput};
-ghost use Rattle.log_commands.specs.Inner.{entry_of, HasEntries};
+ghost use Rattle.log_commands.specs.{Commands.AreNumbers, Commands.HoldsOfInput, Inner.entry_of, Inner.HasEntries};
 ghost use Rattle.log_commands.specs.Outcomes.{all_numbers, and_then, bytes_from, bytes_in, Gives, number_refusal};
 ghost use Rattle.log_commands.specs.Outcomes.{numbers_under, proof_over, prove_under, requested};
-ghost use Rattle.log_commands.specs.declared.error.Error.{Error};
-ghost use Rattle.log_commands.specs.declared.error.Source.TheVariants.{File};
+ghost use Rattle.log_commands.specs.declared.error.{Error.Error, Source.TheVariants.File};
 
 use crate::error::{Error, Refusal, Source};
 use crate::files::{digests_of, read_under};

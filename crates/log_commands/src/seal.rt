@@ -1,8 +1,7 @@
 //! Seals a file.
 
 ghost use Rattle.log_files.specs.Entries.{IsCut};
-ghost use Rattle.log_commands.specs.Commands.{HoldsOfInput, seal_file};
-ghost use Rattle.log_commands.specs.Outcomes.{bytes_in, Gives};
+ghost use Rattle.log_commands.specs.{Commands.HoldsOfInput, Commands.seal_file, Outcomes.bytes_in, Outcomes.Gives};
 
 use crate::error::Error;
 use crate::files::{read_file, size_and_root};

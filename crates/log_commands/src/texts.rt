@@ -3,8 +3,7 @@
 ghost use Rattle.std.specs.Prelude.{◌≡◌, ◌⊎◌, IfErr, IfOk, MatchResult, None, Some};
 ghost use Rattle.log_text.specs.Reading.{checkpoint_in, consistency_in, entries_in};
 ghost use Rattle.log_text.specs.Texts.{checkpoint_fields, consistency_fields, entries_fields};
-ghost use Rattle.log_commands.specs.Commands.{IsReadAs};
-ghost use Rattle.log_commands.specs.Outcomes.{Gives, growth_refusal, said_by};
+ghost use Rattle.log_commands.specs.{Commands.IsReadAs, Outcomes.Gives, Outcomes.growth_refusal, Outcomes.said_by};
 ghost use Rattle.log_commands.specs.declared.error.Error.TheVariants.{OutOfMemory, Read as FailedRead};
 ghost use Rattle.log_commands.specs.declared.error.Source.TheVariants.{Proof};
 

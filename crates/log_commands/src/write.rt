@@ -1,8 +1,7 @@
 //! Writes the output.
 
 ghost use Rattle.std.specs.Prelude.{◌≡◌, IfErr, Ok};
-ghost use Rattle.log_commands.specs.Commands.{EndsIn};
-ghost use Rattle.log_commands.specs.declared.error.Error.TheVariants.{Write as FailedWrite};
+ghost use Rattle.log_commands.specs.{Commands.EndsIn, declared.error.Error.TheVariants.Write as FailedWrite};
 
 use crate::error::Error;
 use std::io::{ErrorKind, Write};

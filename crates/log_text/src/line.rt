@@ -1,16 +1,13 @@
 //! Lines of a text, and what they say.
 
 ghost use Rattle.std.specs.Prelude.{◌≡◌, ◌≤◌, ◌<◌, ◌^◌, ◌⊎◌, Err, IfErr, IfOk, IfSome, Ok, Some, length, option_map};
-ghost use Rattle.std.specs.Prelude.{take};
-ghost use Rattle.std.specs.Option.{SomeIff};
-ghost use Rattle.std.specs.Result.{result_map_both};
+ghost use Rattle.std.specs.{Prelude.take, Option.SomeIff, Result.result_map_both};
 ghost use Rattle.std.specs.Str.Parse.{IsNumeral, digits_value};
 ghost use Rattle.base64.specs.Decode.{decoded_estimate};
 ghost use Rattle.log_text.specs.Lines.{base64_bytes, cut_at, digest_of, is_key_name, is_line, is_signature, is_text};
 ghost use Rattle.log_text.specs.Lines.{number_after, number_of};
 ghost use Rattle.log_text.specs.Reading.{at_blank, at_text_end, digest_by, digests_by, ended, line_by, line_that, many};
-ghost use Rattle.log_text.specs.Inner.Rests.{rest_of};
-ghost use Rattle.log_text.specs.declared.error.Stop.TheVariants.{Memory};
+ghost use Rattle.log_text.specs.{Inner.Rests.rest_of, declared.error.Stop.TheVariants.Memory};
 
 use crate::checkpoint::PART_ORIGIN;
 use crate::error::{Expected, Stop, missing};

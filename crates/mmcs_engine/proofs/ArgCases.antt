@@ -1,21 +1,14 @@
 -- Words are a command, or they are none.
 use Rattle.std.proofs.Common.{◌≡◌, ◌<◌, ◌^◌, ◌⊎◌, ⊎_elim, inl, inr, Bool, true, false, Decides, ℕ, List, [], ◌∷◌, ◌++◌}
 use Rattle.std.proofs.Common.{length, map, sym, refl, ap, subst, arith, append-nil}
-use Rattle.std.specs.Prelude.{nat_eq, All}
-use Rattle.std.specs.Str.Parse.{AllDigits, digits_value}
-use Rattle.std.specs.Char.{digit_value}
-use Rattle.std.specs.Cmp.Lexicographic.{bytes_decides, pointwise}
-use Rattle.std.proofs.lemmas.Bool.{cases_eq, cases_lt, false≢true}
-use Rattle.std.proofs.lemmas.List.{length_push}
+use Rattle.std.proofs.lemmas.{Bool.cases_eq, Bool.cases_lt, Bool.false≢true, List.length_push}
 use Rattle.std.proofs.lemmas.List.Elements.{All-nil, All-cons, All-head, All-tail}
+use Rattle.std.specs.{Prelude.nat_eq, Prelude.All, Str.Parse.AllDigits, Str.Parse.digits_value, Char.digit_value}
+use Rattle.std.specs.Cmp.Lexicographic.{bytes_decides, pointwise}
 use Rattle.p3_merkle_core.specs.declared.cap.CapRule.TheVariants.{Lowered, Fixed}
-use Rattle.mmcs_engine.specs.declared.command.Action.{Action}
-use Rattle.mmcs_engine.specs.declared.command.Action.TheVariants.{Commit, Open, Check}
-use Rattle.mmcs_engine.specs.declared.command.Arity.{Arity}
-use Rattle.mmcs_engine.specs.declared.command.Arity.TheVariants.{Two, Four, Eight}
-use Rattle.mmcs_engine.specs.declared.command.CapChoice.{CapChoice}
-use Rattle.mmcs_engine.specs.declared.command.Command.{Command}
-use Rattle.mmcs_engine.specs.declared.command.HashName.{HashName}
+use Rattle.mmcs_engine.specs.declared.command.Action.{Action, TheVariants.Commit, TheVariants.Open, TheVariants.Check}
+use Rattle.mmcs_engine.specs.declared.command.Arity.{Arity, TheVariants.Two, TheVariants.Four, TheVariants.Eight}
+use Rattle.mmcs_engine.specs.declared.command.{CapChoice.CapChoice, Command.Command, HashName.HashName}
 use Rattle.mmcs_engine.specs.declared.command.HashName.TheVariants.{Fold, Sha256}
 use Rattle.mmcs_engine.specs.Numbers.{IsNumberBelow}
 use Rattle.mmcs_engine.specs.Args.{action_arg, arity_arg, hash_arg, AreArgs, IsCapArg, IsNumberArg, MayFollow}

@@ -1,25 +1,16 @@
 -- Arguments of commands.
 use Rattle.std.proofs.Common.{eqb, get_or, ◌≡◌, ◌<◌, ◌≤◌, ◌+◌, ◌-◌, Bool, true, false, MatchBool, Decides, ℕ, List, []}
 use Rattle.std.proofs.Common.{◌∷◌, ◌++◌, length, take, drop, Option, String, string_bytes, sym, refl, ap, ◌∙◌, subst}
-use Rattle.std.proofs.Common.{arith, append-nil}
-use Rattle.std.specs.Prelude.{map, nat_eq, All, IfSome, IfNone}
-use Rattle.std.specs.Bool.{then_some}
-use Rattle.std.specs.List.{AllWithin, HoldsAt}
-use Rattle.std.specs.Cmp.Lexicographic.{bytes_decides, pointwise}
-use Rattle.std.proofs.lemmas.Bool.{false≢true}
+use Rattle.std.proofs.{Common.arith, Common.append-nil, lemmas.Bool.false≢true}
 use Rattle.std.proofs.lemmas.List.{take_all, take-append-drop, map_more, map-append}
 use Rattle.std.proofs.lemmas.List.Elements.{All-map, All-from_all_within, All-get_or}
-use Rattle.std.specs.Char.{digit_value}
-use Rattle.std.specs.Str.Parse.{AllDigits, digits_value}
-use Rattle.p3_merkle_core.specs.declared.cap.CapRule.{CapRule}
-use Rattle.p3_merkle_core.specs.declared.cap.CapRule.TheVariants.{Lowered, Fixed}
-use Rattle.mmcs_engine.specs.declared.command.Action.{Action}
-use Rattle.mmcs_engine.specs.declared.command.Action.TheVariants.{Commit, Open, Check}
-use Rattle.mmcs_engine.specs.declared.command.Arity.{Arity}
-use Rattle.mmcs_engine.specs.declared.command.Arity.TheVariants.{Two, Four, Eight}
-use Rattle.mmcs_engine.specs.declared.command.CapChoice.{CapChoice}
-use Rattle.mmcs_engine.specs.declared.command.Command.{Command}
-use Rattle.mmcs_engine.specs.declared.command.HashName.{HashName}
+use Rattle.std.specs.Prelude.{map, nat_eq, All, IfSome, IfNone}
+use Rattle.std.specs.{Bool.then_some, List.AllWithin, List.HoldsAt, Cmp.Lexicographic.bytes_decides}
+use Rattle.std.specs.{Cmp.Lexicographic.pointwise, Char.digit_value, Str.Parse.AllDigits, Str.Parse.digits_value}
+use Rattle.p3_merkle_core.specs.declared.cap.CapRule.{CapRule, TheVariants.Lowered, TheVariants.Fixed}
+use Rattle.mmcs_engine.specs.declared.command.Action.{Action, TheVariants.Commit, TheVariants.Open, TheVariants.Check}
+use Rattle.mmcs_engine.specs.declared.command.Arity.{Arity, TheVariants.Two, TheVariants.Four, TheVariants.Eight}
+use Rattle.mmcs_engine.specs.declared.command.{CapChoice.CapChoice, Command.Command, HashName.HashName}
 use Rattle.mmcs_engine.specs.declared.command.HashName.TheVariants.{Fold, Sha256}
 use Rattle.mmcs_engine.specs.Args.{action_arg, arity_arg, hash_arg, rule_mark, texts_of, AreNoCommand, AreArgs}
 use Rattle.mmcs_engine.specs.Args.{IsCapArg, IsNumberArg, MayFollow}

@@ -1,8 +1,7 @@
 -- A line that is not blank has numbers.
 use Rattle.std.proofs.Common.{◌≡◌, ℕ, ◌<◌, Bool, true, false, ◌&&◌, List, [], ◌∷◌, length, sym, refl, ap, ◌∙◌, arith}
-use Rattle.std.proofs.lemmas.List.{length-map}
+use Rattle.std.proofs.lemmas.List.{length-map, Elements.All-nil, Elements.All-cons}
 use Rattle.std.specs.Str.Parse.{digits_value}
-use Rattle.std.proofs.lemmas.List.Elements.{All-nil, All-cons}
 use Rattle.mmcs_engine.specs.Input.{is_gap, is_blank, numerals_of, numbers_of}
 use Rattle.mmcs_engine.proofs.Runs.{run_skips, first_run}
 

@@ -1,13 +1,11 @@
 -- Lines that are rows of one matrix.
 use Rattle.std.proofs.Common.{◌≡◌, ℕ, ◌<◌, ◌⊎◌, ⊎_elim, false, List, [], ◌∷◌, ◌++◌, length, map, sym, refl, ap, ◌∙◌}
 use Rattle.std.proofs.Common.{subst, arith, append-nil}
-use Rattle.std.specs.Prelude.{All, flat_map}
-use Rattle.std.proofs.lemmas.List.{length_push}
-use Rattle.std.proofs.lemmas.List.Concat.{flat_map-append}
+use Rattle.std.proofs.lemmas.List.{length_push, Concat.flat_map-append}
 use Rattle.std.proofs.lemmas.List.Elements.{All-nil, All-cons, All-head, All-tail, All-push, All-map}
-use Rattle.mmcs_engine.specs.Numbers.{IsNumberBelow}
-use Rattle.mmcs_engine.specs.Input.{is_blank, numerals_of, numbers_of, IsMatrix}
-use Rattle.mmcs_engine.specs.Inner.Blocks.{IsBlock}
+use Rattle.std.specs.Prelude.{All, flat_map}
+use Rattle.mmcs_engine.specs.{Numbers.IsNumberBelow, Input.is_blank, Input.numerals_of, Input.numbers_of}
+use Rattle.mmcs_engine.specs.{Input.IsMatrix, Inner.Blocks.IsBlock}
 use Rattle.mmcs_engine.proofs.BlankFacts.{row_has_number}
 
 -- what holds of the images holds of the elements' images

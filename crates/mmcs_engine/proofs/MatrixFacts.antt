@@ -1,23 +1,15 @@
 -- A stored matrix by its rows.
 use Rattle.std.proofs.Common.{◌≡◌, ℕ, ◌+◌, ◌-◌, ◌*◌, ◌/◌, ◌<◌, ◌≤◌, cond, nat_lt, List, [], ◌∷◌, length, map, take, sym}
 use Rattle.std.proofs.Common.{ap, ◌∙◌, refl, arith, inl, inr}
-use Rattle.std.specs.Prelude.{slice_index_or, flat_map}
-use Rattle.std.specs.List.{AllZip}
-use Rattle.p3_support.specs.declared.matrix.RowMajorMatrix.{RowMajorMatrix}
-use Rattle.p3_support.specs.Batches.{dimensions_in}
-use Rattle.p3_support.specs.Lists.{message}
-use Rattle.p3_support.specs.RowMajor.{values_of, row_width, row_count}
 use Rattle.std.proofs.lemmas.Bool.{cases_lt, lt-ltb, le-ltb}
-use Rattle.std.proofs.lemmas.List.{drop_all, length-map, get_or-map, map-id}
-use Rattle.std.proofs.lemmas.List.Elements.{All-get_or}
-use Rattle.std.proofs.Math.Nat.{mul-div_cancel, mul-le-mul_right}
-use Rattle.std.proofs.Math.Seq.{take-nil}
-use Rattle.mmcs_engine.specs.Input.{numbers_of, StandsFor}
-use Rattle.mmcs_engine.specs.Inner.Blocks.{IsBlock}
-use Rattle.p3_merkle_core.specs.Nodes.{shape, Matrix}
-use Rattle.p3_merkle_core.specs.Views.{matrix_of}
-use Rattle.mmcs_engine.specs.Matrices.{matrix_of_rows}
+use Rattle.std.proofs.lemmas.List.{drop_all, length-map, get_or-map, map-id, Elements.All-get_or}
+use Rattle.std.proofs.Math.{Nat.mul-div_cancel, Nat.mul-le-mul_right, Seq.take-nil}
+use Rattle.std.specs.{Prelude.slice_index_or, Prelude.flat_map, List.AllZip}
+use Rattle.p3_support.specs.{declared.matrix.RowMajorMatrix.RowMajorMatrix, Batches.dimensions_in, Lists.message}
+use Rattle.p3_support.specs.RowMajor.{values_of, row_width, row_count}
+use Rattle.mmcs_engine.specs.{Input.numbers_of, Input.StandsFor, Inner.Blocks.IsBlock, Matrices.matrix_of_rows}
 use Rattle.mmcs_engine.specs.Inner.Stored.{stored_batch, stored_matrix}
+use Rattle.p3_merkle_core.specs.{Nodes.shape, Nodes.Matrix, Views.matrix_of}
 use Rattle.mmcs_engine.proofs.RowsCut.{length_of_rows, row_range}
 
 module _ {W : Type 0} (value : W → ℕ) where

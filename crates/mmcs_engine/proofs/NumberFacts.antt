@@ -1,10 +1,7 @@
 -- What the bytes of a number are.
 use Rattle.std.proofs.Common.{◌≡◌, ℕ, ◌^◌, List, Option, Some, None, Result, Ok, Err, sym, ◌∙◌}
-use Rattle.std.specs.Option.{SomeIff}
-use Rattle.std.specs.Result.{MatchResult, result_ok}
-use Rattle.std.specs.Str.{IsUtf8}
-use Rattle.std.proofs.lemmas.Str.{IsUtf8-from_ascii}
-use Rattle.std.proofs.lemmas.Fmt.{IsAscii-from_digits}
+use Rattle.std.proofs.lemmas.{Str.IsUtf8-from_ascii, Fmt.IsAscii-from_digits}
+use Rattle.std.specs.{Option.SomeIff, Result.MatchResult, Result.result_ok, Str.IsUtf8}
 use Rattle.mmcs_engine.specs.Numbers.{IsNumberBelow}
 
 -- bytes that are no text are no number

@@ -1,14 +1,10 @@
 -- Lines behind lines.
 use Rattle.std.proofs.Common.{◌≡◌, ℕ, ◌+◌, ◌<◌, List, [], ◌++◌, length, get_or, take, map, sym, ap, ◌∙◌, append_assoc}
-use Rattle.std.specs.Prelude.{codes, flat_map}
-use Rattle.std.proofs.lemmas.List.{flat_map_more, get_or-map, length-map, take_more}
-use Rattle.std.proofs.lemmas.Simd.{map-map}
-use Rattle.std.specs.declared.vec.Vec.{Vec}
+use Rattle.std.proofs.lemmas.{List.flat_map_more, List.get_or-map, List.length-map, List.take_more, Simd.map-map}
+use Rattle.std.specs.{Prelude.codes, Prelude.flat_map, declared.vec.Vec.Vec}
 use Rattle.p3_support.specs.Shown.{row_lists, row_sets}
-use Rattle.p3_merkle_core.specs.Nodes.{Batch}
-use Rattle.p3_merkle_core.specs.Openings.{honest_rows}
-use Rattle.mmcs_engine.specs.Text.{labelled, row_line}
-use Rattle.mmcs_engine.specs.Inner.Alike.{opened_lines}
+use Rattle.p3_merkle_core.specs.{Nodes.Batch, Openings.honest_rows}
+use Rattle.mmcs_engine.specs.{Text.labelled, Text.row_line, Inner.Alike.opened_lines}
 
 -- what is opened of one more index
 pub queries_more : {T : Type 0} (value : T → ℕ) (b : Batch T) (sets : List (List (List T))) (indices : List ℕ)

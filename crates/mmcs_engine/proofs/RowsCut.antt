@@ -1,10 +1,9 @@
 -- Rows of one width, one after another, cut apart again.
 use Rattle.std.proofs.Common.{◌≡◌, ℕ, suc, zero, ◌+◌, ◌-◌, ◌*◌, List, [], ◌∷◌, ◌++◌, length, get_or, take, drop, map}
 use Rattle.std.proofs.Common.{sym, ap, ◌∙◌, arith, length-append}
+use Rattle.std.proofs.{lemmas.List.Elements.All-head, lemmas.List.Elements.All-tail, Math.Nat.add-mul, Math.Nat.one-mul}
+use Rattle.std.proofs.Math.{Nat.zero-mul, Seq.drop-append-add, Seq.take-append_seam, Seq.drop-nil, Seq.take-nil}
 use Rattle.std.specs.Prelude.{All, flat_map, slice_range, slice_index_or}
-use Rattle.std.proofs.lemmas.List.Elements.{All-head, All-tail}
-use Rattle.std.proofs.Math.Nat.{add-mul, one-mul, zero-mul}
-use Rattle.std.proofs.Math.Seq.{drop-append-add, take-append_seam, drop-nil, take-nil}
 
 module _ {X : Type 0} (row : X → List ℕ) (width : ℕ) where
   -- all the values

@@ -1,11 +1,8 @@
 -- The runs between elements that pass a test, taken from the front.
 use Rattle.std.proofs.Common.{◌≡◌, ◌<◌, Bool, true, false, cond, not, eqb, List, [], ◌∷◌, ◌++◌, length, refl, ap, ◌∙◌}
-use Rattle.std.proofs.Common.{arith, length-append}
-use Rattle.std.specs.Prelude.{All, filter}
-use Rattle.std.specs.List.{slice_split, onto_first}
-use Rattle.std.proofs.Math.Dec.{eqb-suc-zero}
-use Rattle.std.proofs.lemmas.List.Splits.{slice_split_none, slice_split_at}
-use Rattle.std.proofs.lemmas.List.Elements.{All-nil, All-head, All-tail}
+use Rattle.std.proofs.{Common.arith, Common.length-append, Math.Dec.eqb-suc-zero, lemmas.List.Splits.slice_split_none}
+use Rattle.std.proofs.lemmas.List.{Splits.slice_split_at, Elements.All-nil, Elements.All-head, Elements.All-tail}
+use Rattle.std.specs.{Prelude.All, Prelude.filter, List.slice_split, List.onto_first}
 use Rattle.mmcs_engine.specs.Input.{runs_between}
 
 -- whether a run has an element

@@ -1,10 +1,9 @@
 -- Lines behind lines, and digits of words.
 use Rattle.std.proofs.Common.{◌≡◌, ℕ, zero, suc, ◌+◌, ◌/◌, ◌%◌, ◌<◌, ◌≤◌, List, [], ◌∷◌, ◌++◌, length, get_or, take}
 use Rattle.std.proofs.Common.{drop, map, refl, sym, ap, ◌∙◌, ◌-◌, add-one, add-suc, add-zero, arith}
-use Rattle.std.proofs.Math.ListN.{drop_of_length-le}
-use Rattle.std.proofs.Math.Seq.{take-length}
-use Rattle.std.specs.Prelude.{flat_map}
+use Rattle.std.proofs.Math.{ListN.drop_of_length-le, Seq.take-length}
 use Rattle.std.proofs.lemmas.List.{drop-append-le, flat_map_more, length-append, map_more}
+use Rattle.std.specs.Prelude.{flat_map}
 use Rattle.mmcs_engine.specs.Text.{hex_digit, hex_word}
 
 -- one more item, whose text comes behind the others'

@@ -1,26 +1,21 @@
 //! Runs a command: arguments and an input give an output.
 
 ghost use Rattle.std.specs.Prelude.{◌≡◌, ◌⊎◌, ℕ, ◌++◌, ◌<◌, ◌↔◌, All, Ok, Err, IfOk, IfErr, IfSome, None, OnOk};
-ghost use Rattle.std.specs.Prelude.{flat_map, length, map, IsTrue};
-ghost use Rattle.std.specs.Io.KnownBytes.{Appends};
-ghost use Rattle.p3_support.specs.Batches.{greatest};
-ghost use Rattle.p3_support.specs.Shown.{roots_of, row_sets};
+ghost use Rattle.std.specs.{Prelude.flat_map, Prelude.length, Prelude.map, Prelude.IsTrue, Io.KnownBytes.Appends};
+ghost use Rattle.p3_support.specs.{Batches.greatest, Shown.roots_of, Shown.row_sets};
 ghost use Rattle.p3_merkle_core.specs.Geometry.{heights, shape_of};
-ghost use Rattle.p3_merkle_core.specs.Nodes.{shape, Batch};
-ghost use Rattle.p3_merkle_core.specs.Openings.{honest_rows};
-ghost use Rattle.p3_merkle_core.specs.Pruning.{pruned_len};
+ghost use Rattle.p3_merkle_core.specs.{Nodes.shape, Nodes.Batch, Openings.honest_rows, Pruning.pruned_len};
 ghost use Rattle.p3_merkle_core.specs.Refusals.{pruned_len_refusal, AnswersUnlessMemory};
 ghost use Rattle.p3_merkle_core.specs.declared.error.MerkleTreeError.TheVariants.{OutOfMemory};
 ghost use Rattle.p3_merkle_prover.specs.Parts.{layers_of, tree_batch};
 ghost use Rattle.p3_merkle_mmcs.specs.Committed.{Commits};
 ghost use Rattle.p3_merkle_mmcs.specs.Schemes.{cap_height_of, cap_layer_of, cap_rule_of, functions_of};
 ghost use Rattle.mmcs_engine.specs.declared.fault.Fault.TheVariants.{Usage, Read, Tree, Write};
-ghost use Rattle.mmcs_engine.specs.Inner.Stored.{stored_batch};
-ghost use Rattle.mmcs_engine.specs.Text.{digest_lines, hex_lines, ok_line};
+ghost use Rattle.mmcs_engine.specs.{Inner.Stored.stored_batch, Text.digest_lines, Text.hex_lines, Text.ok_line};
 ghost use Rattle.mmcs_engine.specs.Args.{arity_number, texts_of, AreNoCommand};
 ghost use Rattle.mmcs_engine.specs.Program.{layer_of_cap, text_of, IsAnswer, IsReply, IsReported, Prints};
-ghost use Rattle.mmcs_engine.specs.Inner.Alike.{batch_in_numbers, is_taken_arity, opened_lines};
-ghost use Rattle.mmcs_engine.specs.Inner.Alike.{opened_text, IsSchemeOf};
+ghost use Rattle.mmcs_engine.specs.Inner.Alike.{batch_in_numbers, is_taken_arity, opened_lines, opened_text};
+ghost use Rattle.mmcs_engine.specs.Inner.Alike.{IsSchemeOf};
 
 use crate::command::{Action, Args, Arity, HashName};
 use crate::fault::Fault;

@@ -1,12 +1,10 @@
 -- Vectors of eight lanes, by what each lane holds.
 use Rattle.std.proofs.Common.{◌≡◌, ℕ, zero, suc, ◌+◌, ◌-◌, ◌<◌, set, inl, inr, List, [], map, length, slice_index}
 use Rattle.std.proofs.Common.{slice_index_or, get_or, refl, sym, ap, ◌∙◌, arith}
-use Rattle.std.proofs.Math.ListN as ListN
 use Rattle.std.proofs.lemmas.List.{get_or-map, length-map, get_or-replicate, get_or-set_same, get_or-set_other}
-use Rattle.std.proofs.lemmas.Bool.{cases_eq, cases_lt}
-use Rattle.std.proofs.lemmas.Simd.{get_or-zip2, length-zip2}
-use Rattle.std.specs.Prelude.{replicate}
-use Rattle.std.specs.Simd.Lanes.{zip2}
+use Rattle.std.proofs.lemmas.{Bool.cases_eq, Bool.cases_lt, Simd.get_or-zip2, Simd.length-zip2}
+use Rattle.std.proofs.Math.ListN as ListN
+use Rattle.std.specs.{Prelude.replicate, Simd.Lanes.zip2}
 use Rattle.p3_hashes.specs.Inner.Lanes.{lane}
 
 -- a vector of eight lanes, of which lane j holds f j

@@ -1,7 +1,6 @@
 -- Where the messages lie that have one length and lie one after another.
 use Rattle.std.proofs.Common.{Bool, false, ◌==◌, ◌≡◌, ℕ, ◌+◌, ◌*◌, ◌/◌, ◌<◌, ◌≤◌, ◌∙◌, sym, arith}
-use Rattle.std.proofs.lemmas.Bool.{eqb-false}
-use Rattle.std.proofs.Math.Nat.{mul-div-le, mul-div_cancel, mul-le-mul_right}
+use Rattle.std.proofs.{lemmas.Bool.eqb-false, Math.Nat.mul-div-le, Math.Nat.mul-div_cancel, Math.Nat.mul-le-mul_right}
 
 -- what is not empty has a place
 pub some_place : {b : Bool} (n : ℕ) → b ≡ (n == 0) → b ≡ false → 0 < n

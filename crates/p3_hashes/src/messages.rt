@@ -6,8 +6,7 @@ ghost use Rattle.std.specs.Prelude.{◌≡◌, List, ℕ, [], ◌+◌, ◌*◌, 
 ghost use Rattle.std.specs.Prelude.{slice_index_or};
 ghost use Rattle.sha2.specs.Sha256.{digest_bytes, final_hash, initial_hash_256, padded_message, sha256, word_at};
 ghost use Rattle.p3_support.specs.Lists.{message};
-ghost use Rattle.p3_hashes.specs.Inner.Inputs.{IsPadding};
-ghost use Rattle.p3_hashes.specs.Inner.Lanes.{lane};
+ghost use Rattle.p3_hashes.specs.Inner.{Inputs.IsPadding, Lanes.lane};
 
 use crate::block::{compress_eight, compress_prepared, round_inputs};
 use crate::consts::INITIAL;

@@ -15,10 +15,9 @@
 //!   share a place if they reach one node there.
 
 ghost use Rattle.std.specs.Prelude.{◌≡◌, ◌↔◌, IsTrue};
-ghost use Rattle.p3_merkle_core.specs.Refusals.{IsEquality};
-ghost use Rattle.p3_merkle_core.specs.Views.{IsSamePair, shown_opening, shown_path, shown_pruned};
-ghost use Rattle.p3_merkle_core.specs.Laws.{AnswerIsExtraction, AnsweredAsEachPath, BatchHasDimensions};
-ghost use Rattle.p3_merkle_core.specs.Laws.{BoundaryIsAlone, BoundaryIsLeast};
+ghost use Rattle.p3_merkle_core.specs.{Refusals.IsEquality, Views.IsSamePair, Views.shown_opening, Views.shown_path};
+ghost use Rattle.p3_merkle_core.specs.{Views.shown_pruned, Laws.AnswerIsExtraction};
+ghost use Rattle.p3_merkle_core.specs.Laws.{AnsweredAsEachPath, BatchHasDimensions, BoundaryIsAlone, BoundaryIsLeast};
 ghost use Rattle.p3_merkle_core.specs.Laws.{BoundaryIsSmallest, BoundaryNodesAreApart, BoundaryNodesAreHeld};
 ghost use Rattle.p3_merkle_core.specs.Laws.{BoundarySuffices, CappedIsEachAccepted, FixedIsBelowRoot, HonestIsAccepted};
 ghost use Rattle.p3_merkle_core.specs.Laws.{HonestNodesAreRestored, HonestPathsAreRestored, HonestPathsInOrder};
@@ -27,9 +26,9 @@ ghost use Rattle.p3_merkle_core.specs.Laws.{LastDifferenceCollides, LastInputIsR
 ghost use Rattle.p3_merkle_core.specs.Laws.{MatricesHaveLayers, OkIsAccepted, OkIsCapped, OkIsEachAccepted};
 ghost use Rattle.p3_merkle_core.specs.Laws.{OkIsRestorable, OkOrCapMismatch, OneIndexIsBound, OwnOpeningIsHonest};
 ghost use Rattle.p3_merkle_core.specs.Laws.{OwnPrunedOpeningIsHonest, PrunedAnswerIsExtraction, RefusedUnderEachCap};
-ghost use Rattle.p3_merkle_core.specs.Laws.{OneHeightIsEnough, OneHeightNodesAreChildren};
-ghost use Rattle.p3_merkle_core.specs.Laws.{RootIsAlone, RowsAreAncestors, RowsAreBound, RulesAgree};
-ghost use Rattle.p3_merkle_core.specs.Laws.{ScheduleStopsAtCap, TestedIsArity, UnrefusedIsLawful, WalkEnds};
+ghost use Rattle.p3_merkle_core.specs.Laws.{OneHeightIsEnough, OneHeightNodesAreChildren, RootIsAlone};
+ghost use Rattle.p3_merkle_core.specs.Laws.{RowsAreAncestors, RowsAreBound, RulesAgree, ScheduleStopsAtCap};
+ghost use Rattle.p3_merkle_core.specs.Laws.{TestedIsArity, UnrefusedIsLawful, WalkEnds};
 
 use crate::collision::{Collision, InputPair, Place};
 use crate::error::{MerkleTreeError, PrunedProofError};

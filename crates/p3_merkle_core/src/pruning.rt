@@ -8,13 +8,11 @@
 //! - The exponent of a height is its log2, rounded up. A matrix belongs to the layer of its exponent.
 //! - Rows agree if queries of one index have one row set, and queries under a node one row of each matrix of its layer.
 
-ghost use Rattle.std.specs.Prelude.{◌≡◌, ℕ, ◌+◌, ◌-◌, ◌*◌, ◌/◌, ◌%◌, ◌^◌, ◌<◌, ◌≤◌, ◌⊎◌, ◌++◌, Some, None, List};
-ghost use Rattle.std.specs.Prelude.{[], All, IfOk, MatchResult, length, map, remove, slice_index, slice_index_or, true};
-ghost use Rattle.std.specs.Cmp.Lexicographic.{pointwise};
-ghost use Rattle.std.specs.List.Sorted.{IsStrictlyIncreasing};
+ghost use Rattle.std.specs.Prelude.{◌≡◌, ℕ, ◌+◌, ◌-◌, ◌*◌, ◌/◌, ◌%◌, ◌^◌, ◌<◌, ◌≤◌, ◌⊎◌, ◌++◌, Some, None, List, []};
+ghost use Rattle.std.specs.Prelude.{All, IfOk, MatchResult, length, map, remove, slice_index, slice_index_or, true};
+ghost use Rattle.std.specs.{Cmp.Lexicographic.pointwise, List.Sorted.IsStrictlyIncreasing};
 ghost use Rattle.p3_support.specs.Batches.{heights_of, greatest};
-ghost use Rattle.p3_support.specs.Lists.{is_among};
-ghost use Rattle.p3_support.specs.Shown.{row_lists, row_sets};
+ghost use Rattle.p3_support.specs.{Lists.is_among, Shown.row_lists, Shown.row_sets};
 ghost use Rattle.p3_merkle_core.specs.Geometry.{height_limit, shape_of, IsArity};
 ghost use Rattle.p3_merkle_core.specs.Inner.Agreement.{distinct, early_refusal, layers_refusal, matrices_with};
 ghost use Rattle.p3_merkle_core.specs.Inner.Agreement.{nodes_refusal, opened_of, opened_with, rows_refusal, slot_rows};

@@ -2,23 +2,19 @@
 
 ghost use Rattle.std.specs.Prelude.{◌≡◌, ◌<◌, All, IfErr, IfOk, List, map};
 ghost use Rattle.p3_merkle_prover.specs.Parts.{layers_of, matrices_of, tree_batch};
-ghost use Rattle.p3_merkle_core.specs.Commitments.{HaveProof, IsCommitment};
-ghost use Rattle.p3_merkle_core.specs.Gate.{gate_refusal};
+ghost use Rattle.p3_merkle_core.specs.{Commitments.HaveProof, Commitments.IsCommitment, Gate.gate_refusal};
 ghost use Rattle.p3_merkle_core.specs.Geometry.{heights, shape_of, IsLawful, halved_index};
-ghost use Rattle.p3_merkle_core.specs.Nodes.{shape};
-ghost use Rattle.p3_merkle_core.specs.Openings.{opening_of};
-ghost use Rattle.p3_merkle_core.specs.Checks.{IsAccepted};
-ghost use Rattle.p3_merkle_core.specs.Presented.{IsExactVerdict, IsVerdict};
-ghost use Rattle.p3_merkle_core.specs.Pruning.{pruned_of, IsPrunedAccepted};
+ghost use Rattle.p3_merkle_core.specs.{Nodes.shape, Openings.opening_of, Checks.IsAccepted, Presented.IsExactVerdict};
+ghost use Rattle.p3_merkle_core.specs.{Presented.IsVerdict, Pruning.pruned_of, Pruning.IsPrunedAccepted};
 ghost use Rattle.p3_merkle_core.specs.Refusals.{pruned_refusal_under, refusal_under, AnswersUnlessMemory};
 ghost use Rattle.p3_merkle_core.specs.declared.error.MerkleTreeError.TheVariants.{OutOfMemory};
+ghost use Rattle.p3_merkle_core.specs.Views.{heights_in, multi_made, opening_made};
 ghost use Rattle.p3_merkle_mmcs.specs.Committed.{presented_all, presented_one, Commits, Opens, OpensPruned};
 ghost use Rattle.p3_merkle_mmcs.specs.Inner.CommitmentLaws.{at_same, each_shown, row_in_matrix, same_is_equivalence};
 ghost use Rattle.p3_merkle_mmcs.specs.Inner.CommitmentLaws.{shown_rows_fit, tallest_at_index};
 ghost use Rattle.p3_merkle_mmcs.specs.Schemes.{cap_layer_of, functions_of, params_of, IsSameScheme};
 ghost use Rattle.p3_support.specs.Batches.{dimensions_in, greatest, rows_in};
 ghost use Rattle.p3_support.specs.Shown.{roots_of, row_lists, row_sets};
-ghost use Rattle.p3_merkle_core.specs.Views.{heights_in, multi_made, opening_made};
 
 use crate::mmcs::MerkleTreeMmcs;
 use p3_merkle_core::error::MerkleTreeError;

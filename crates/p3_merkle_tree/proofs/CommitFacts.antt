@@ -2,15 +2,10 @@
 use Rattle.std.proofs.Common.{◌≡◌, ◌⊎◌, ◌*◌, ◌+◌, ℕ, List, [], ◌∷◌, ap, refl, inl, inr, None, Option, Result}
 use Rattle.std.specs.Prelude.{Ok, Err, IfErr, IfOk, IsErr, OnOk}
 use Rattle.rand_core.specs.Stream.{Stream}
-use Rattle.p3_support.specs.Salts.{after_words}
-use Rattle.p3_support.specs.Batches.{heights_of}
-use Rattle.p3_support.specs.declared.matrix.Dimensions.{Dimensions}
-use Rattle.p3_merkle_core.specs.Refusals.{AnswersUnlessMemory}
-use Rattle.p3_merkle_core.specs.Nodes.{Matrix, dimensions_of}
-use Rattle.p3_merkle_core.specs.declared.error.MerkleTreeError.{MerkleTreeError}
-use Rattle.p3_merkle_core.specs.declared.error.MerkleTreeError.TheVariants.{OutOfMemory}
-use Rattle.p3_merkle_tree.specs.Salted.{salted_matrices}
-use Rattle.p3_merkle_tree.specs.SaltedOpenings.{widened}
+use Rattle.p3_support.specs.{Salts.after_words, Batches.heights_of, declared.matrix.Dimensions.Dimensions}
+use Rattle.p3_merkle_core.specs.{Refusals.AnswersUnlessMemory, Nodes.Matrix, Nodes.dimensions_of}
+use Rattle.p3_merkle_core.specs.declared.error.MerkleTreeError.{MerkleTreeError, TheVariants.OutOfMemory}
+use Rattle.p3_merkle_tree.specs.{Salted.salted_matrices, SaltedOpenings.widened}
 
 -- a matrix keeps its height beside its salts
 pub widened_heights : (e : ℕ) (ds : List Dimensions) → heights_of (widened e ds) ≡ heights_of ds

@@ -1,21 +1,13 @@
 -- What the answer to two salted openings means.
-use Rattle.std.proofs.Common.{◌≡◌, ◌∙◌, ◌⊎◌, ℕ, Bool, List, ap, inl, inr}
-use Rattle.std.proofs.Common.{sym, Some, Option, Result}
+use Rattle.std.proofs.Common.{◌≡◌, ◌∙◌, ◌⊎◌, ℕ, Bool, List, ap, inl, inr, sym, Some, Option, Result}
 use Rattle.std.specs.Prelude.{Ok, Err, IfOk, IsErr}
-use Rattle.std.specs.Option.{option_or, unwrap_or}
-use Rattle.std.specs.Result.{result_err}
+use Rattle.std.specs.{Option.option_or, Option.unwrap_or, Result.result_err}
 use Rattle.p3_support.specs.declared.matrix.Dimensions.{Dimensions}
-use Rattle.p3_merkle_core.specs.Checks.{Input, Params}
-use Rattle.p3_merkle_core.specs.Extraction.{IsExtraction, first_difference}
-use Rattle.p3_merkle_core.specs.Geometry.{IsArity}
-use Rattle.p3_merkle_core.specs.Presented.{Presented}
-use Rattle.p3_merkle_core.specs.Refusals.{AnswersUnlessMemory, IsEquality}
-use Rattle.p3_merkle_core.specs.Views.{found_alone, found_pair}
-use Rattle.p3_merkle_core.specs.declared.cap.CapRule.{CapRule}
-use Rattle.p3_merkle_core.specs.declared.cap.CapRule.TheVariants.{Lowered}
-use Rattle.p3_merkle_core.specs.declared.collision.InputPair.{InputPair}
-use Rattle.p3_merkle_core.specs.declared.error.MerkleTreeError.{MerkleTreeError}
-use Rattle.p3_merkle_core.specs.declared.error.MerkleTreeError.TheVariants.{OutOfMemory}
+use Rattle.p3_merkle_core.specs.{Checks.Input, Checks.Params, Extraction.IsExtraction, Extraction.first_difference}
+use Rattle.p3_merkle_core.specs.{Geometry.IsArity, Presented.Presented, Refusals.AnswersUnlessMemory}
+use Rattle.p3_merkle_core.specs.{Refusals.IsEquality, Views.found_alone, Views.found_pair, declared.cap.CapRule.CapRule}
+use Rattle.p3_merkle_core.specs.declared.{cap.CapRule.TheVariants.Lowered, collision.InputPair.InputPair}
+use Rattle.p3_merkle_core.specs.declared.error.MerkleTreeError.{MerkleTreeError, TheVariants.OutOfMemory}
 use Rattle.p3_merkle_core.proofs.Collisions.ExtractionFacts.{AllAuthenticated, extracted}
 use Rattle.p3_merkle_tree.specs.SaltedOpenings.{SaltedOpening, SaltedPruned}
 use Rattle.p3_merkle_tree.specs.SaltedPresented.{presented_salted, presented_salted_pruned}

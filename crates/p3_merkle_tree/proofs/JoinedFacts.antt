@@ -1,9 +1,8 @@
 -- Rows followed by their salts tell both.
 use Rattle.std.proofs.Common.{◌≡◌, ◌∙◌, ℕ, zero, suc, List, [], ◌∷◌, ◌++◌, ap, arith, drop, length, map, refl, sym}
-use Rattle.std.proofs.Common.{take}
-use Rattle.std.specs.Prelude.{slice_index_or}
-use Rattle.std.proofs.lemmas.List.{ext_get_or, length-map}
+use Rattle.std.proofs.{Common.take, lemmas.List.ext_get_or, lemmas.List.length-map}
 use Rattle.std.proofs.Math.Seq.{drop-append_seam, take-append_seam}
+use Rattle.std.specs.Prelude.{slice_index_or}
 use Rattle.p3_merkle_tree.specs.SaltedOpenings.{salted_rows, salted_sets}
 
 -- of equal joined lists whose fronts are equally long, the fronts are equal, and the rests

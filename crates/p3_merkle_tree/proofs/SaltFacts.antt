@@ -2,15 +2,10 @@
 use Rattle.std.proofs.Common.{◌≡◌, ◌↔◌, ℕ, ◌+◌, ◌<◌, ◌≤◌, ◌^◌, ◌⊎◌, inl, inr, List, [], ◌∷◌, ◌++◌, refl, sym, ap, ◌∙◌}
 use Rattle.std.proofs.Common.{length, get_or, map, zip, None, Some, nat_le, nat_lt, append-nil, append_assoc, eq-eqb}
 use Rattle.std.proofs.Common.{arith, eqb, false, Option}
-use Rattle.std.specs.List.{position_or_len}
-use Rattle.std.specs.Option.{option_map, option_or}
 use Rattle.std.proofs.lemmas.Bool.{cases_lt, cond-false, cond-true, le-ltb, lt-ltb, leb-false, le-leb, lt-leb}
-use Rattle.std.proofs.lemmas.List.{get_or-map, length-map, map-append}
-use Rattle.std.proofs.lemmas.List.Sums.{fails_before_first, position_or_len_is}
-use Rattle.p3_support.specs.declared.matrix.Dimensions.{Dimensions}
-use Rattle.p3_support.specs.Batches.{widths_of}
-use Rattle.p3_support.specs.Shown.{row_lists, row_sets}
-use Rattle.std.specs.declared.vec.Vec.{Vec}
+use Rattle.std.proofs.lemmas.List.{get_or-map, length-map, map-append, Sums.fails_before_first, Sums.position_or_len_is}
+use Rattle.std.specs.{List.position_or_len, Option.option_map, Option.option_or, declared.vec.Vec.Vec}
+use Rattle.p3_support.specs.{declared.matrix.Dimensions.Dimensions, Batches.widths_of, Shown.row_lists, Shown.row_sets}
 use Rattle.p3_merkle_core.specs.Refusals.{first_of, first_some, size_refusal}
 use Rattle.p3_merkle_core.specs.declared.error.MerkleTreeError.{MerkleTreeError}
 use Rattle.p3_merkle_core.specs.declared.error.MerkleTreeError.TheVariants.{TooLarge, WrongBatchSize}

@@ -1,20 +1,14 @@
 -- What is not refused of rows and salts is accepted, and the other way round.
-use Rattle.std.proofs.Common.{◌≡◌, ◌↔◌, ℕ, Bool, List, [], ◌∷◌, refl, sym, ap, ◌∙◌, arith, inl}
-use Rattle.std.proofs.Common.{inr, length, map, zip, None, Some, Option, Result, eqb}
-use Rattle.std.specs.Prelude.{Ok, Err, IsErr}
-use Rattle.std.specs.List.{AllZip}
-use Rattle.std.specs.Option.{option_or}
-use Rattle.std.proofs.lemmas.Bool.{eqb-true}
-use Rattle.std.proofs.lemmas.List.{length-map}
-use Rattle.p3_support.specs.declared.matrix.Dimensions.{Dimensions}
-use Rattle.p3_merkle_core.specs.Openings.{Opening}
-use Rattle.p3_support.specs.Batches.{widths_of}
-use Rattle.p3_merkle_core.specs.Pruning.{PrunedOpening}
-use Rattle.p3_merkle_core.specs.Geometry.{IsArity}
+use Rattle.std.proofs.Common.{◌≡◌, ◌↔◌, ℕ, Bool, List, [], ◌∷◌, refl, sym, ap, ◌∙◌, arith, inl, inr, length, map, zip}
+use Rattle.std.proofs.Common.{None, Some, Option, Result, eqb}
+use Rattle.std.proofs.lemmas.{Bool.eqb-true, List.length-map}
+use Rattle.std.specs.{Prelude.Ok, Prelude.Err, Prelude.IsErr, List.AllZip, Option.option_or}
+use Rattle.p3_support.specs.{declared.matrix.Dimensions.Dimensions, Batches.widths_of}
+use Rattle.p3_merkle_core.specs.{Openings.Opening, Pruning.PrunedOpening, Geometry.IsArity}
 use Rattle.p3_merkle_core.specs.Refusals.{AnswersUnlessMemory, IsEquality, first_of, pruned_refusal_under}
 use Rattle.p3_merkle_core.specs.Refusals.{refusal_under, row_width_refusal, size_refusal, width_refusal, ok_unless}
-use Rattle.p3_merkle_core.specs.declared.error.MerkleTreeError.{MerkleTreeError}
-use Rattle.p3_merkle_core.specs.declared.error.MerkleTreeError.TheVariants.{WrongBatchSize}
+use Rattle.p3_merkle_core.specs.declared.error.MerkleTreeError.{MerkleTreeError, TheVariants.WrongBatchSize}
+use Rattle.p3_merkle_core.specs.Checks.{Params}
 use Rattle.p3_merkle_core.proofs.Pruned.NoneFacts.{fit_from, none_of_both, none_parts, unless_none}
 use Rattle.p3_merkle_core.proofs.Pruned.Unrefused.{each_width, size_none}
 use Rattle.p3_merkle_core.proofs.Checks.Verdicts.{accepted_answer, accepted_from, pruned_accepted}
@@ -25,7 +19,6 @@ use Rattle.p3_merkle_tree.specs.SaltRefusals.{salted_sets_refusal, widening_refu
 use Rattle.p3_merkle_tree.specs.SaltedOpenings.{HaveSalts, IsSaltedAccepted, IsSaltedPrunedAccepted}
 use Rattle.p3_merkle_tree.specs.SaltedOpenings.{SaltedOpening, SaltedPruned, joined, joined_sets, widened}
 use Rattle.p3_merkle_tree.specs.SaltedPresented.{presented_salted, presented_salted_pruned}
-use Rattle.p3_merkle_core.specs.Checks.{Params}
 use Rattle.p3_merkle_core.proofs.Collisions.ExtractionFacts.{IsPresentation}
 
 -- ---- rows and salts

@@ -1,29 +1,21 @@
 -- Rows of pairs, taken apart where the left matrix ends.
 use Rattle.std.proofs.Common.{◌≡◌, ℕ, zero, suc, ◌+◌, ◌/◌, ◌^◌, ◌<◌, cond, nat_lt, List, [], ◌∷◌, ◌++◌, map, refl, ap}
 use Rattle.std.proofs.Common.{sym, subst, ◌∙◌, arith, length, get_or, take, drop, All}
-use Rattle.std.specs.List.{AllZip}
-use Rattle.std.proofs.lemmas.Bool.{lt-ltb}
-use Rattle.std.proofs.lemmas.List.{get_or_default, length-map, take-append-drop}
-use Rattle.std.proofs.lemmas.Simd.{map-map}
+use Rattle.std.proofs.lemmas.{Bool.lt-ltb, List.get_or_default, List.length-map, List.take-append-drop, Simd.map-map}
 use Rattle.std.proofs.Math.Seq.{drop-append_seam, take-append_seam}
-use Rattle.p3_support.specs.declared.matrix.Matrix.{Ghosts}
-use Rattle.p3_support.specs.declared.pair.HorizontalPair.{HorizontalPair}
-use Rattle.p3_support.specs.Pairs.{left_of, pair_row, right_of}
-use Rattle.p3_merkle_core.specs.Views.{matrix_of}
-use Rattle.p3_support.specs.Batches.{heights_of, greatest, widths_of}
-use Rattle.p3_merkle_core.specs.Geometry.{IsLawful, bits_reduced, heights}
+use Rattle.std.specs.List.{AllZip}
+use Rattle.p3_support.specs.declared.{matrix.Matrix.Ghosts, pair.HorizontalPair.HorizontalPair}
+use Rattle.p3_support.specs.{Pairs.left_of, Pairs.pair_row, Pairs.right_of, Batches.heights_of, Batches.greatest}
+use Rattle.p3_support.specs.{Batches.widths_of, declared.matrix.Dimensions.Dimensions}
+use Rattle.p3_merkle_core.specs.{Views.matrix_of, Geometry.IsLawful, Geometry.bits_reduced, Geometry.heights}
 use Rattle.p3_merkle_core.specs.Nodes.{Batch, Matrix, dimensions_of, shape}
 use Rattle.p3_merkle_core.specs.Pruning.{pruned_of, IsPrunedAccepted}
-use Rattle.p3_merkle_core.specs.Openings.{honest_rows, opening_of}
-use Rattle.p3_merkle_core.specs.Checks.{IsAccepted, Params}
+use Rattle.p3_merkle_core.specs.{Openings.honest_rows, Openings.opening_of, Checks.IsAccepted, Checks.Params}
 use Rattle.p3_merkle_prover.proofs.RowFacts.{row_inside}
 use Rattle.p3_merkle_tree.specs.SaltedOpenings.{CanWiden, HaveSalts, IsSaltedAccepted, IsSaltedPrunedAccepted}
-use Rattle.p3_merkle_tree.specs.SaltedOpenings.{SaltedOpening, SaltedPruned, salted_rows, salted_sets}
+use Rattle.p3_merkle_tree.specs.SaltedOpenings.{SaltedOpening, SaltedPruned, salted_rows, salted_sets, widened}
 use Rattle.p3_merkle_tree.specs.Inner.SaltedParts.{salt_parts, unsalted_parts, pair_matrix}
-use Rattle.p3_merkle_tree.specs.SaltedOpenings.{widened}
-use Rattle.p3_merkle_tree.specs.SaltedTrees.{HaveSaltColumns, left_batch, right_batch}
-use Rattle.p3_merkle_tree.specs.SaltedTrees.{unsalted_dimensions}
-use Rattle.p3_support.specs.declared.matrix.Dimensions.{Dimensions}
+use Rattle.p3_merkle_tree.specs.SaltedTrees.{HaveSaltColumns, left_batch, right_batch, unsalted_dimensions}
 
 -- ---- rows that are taken apart
 

@@ -1,22 +1,15 @@
 //! Commitments to salted matrices: heights and widths are checked, salts are drawn, and the plain scheme commits.
 
 ghost use Rattle.std.specs.Prelude.{◌≡◌, ◌≤◌, ◌⊎◌, IfErr, IfOk, OnOk, map};
-ghost use Rattle.p3_support.specs.Batches.{dimensions_in, heights_of};
-ghost use Rattle.p3_merkle_core.specs.Geometry.{IsLawful};
-ghost use Rattle.p3_merkle_core.specs.Refusals.{AnswersUnlessMemory};
+ghost use Rattle.p3_support.specs.{Batches.dimensions_in, Batches.heights_of, Pairs.left_of, Shown.roots_of};
+ghost use Rattle.p3_merkle_core.specs.{Geometry.IsLawful, Refusals.AnswersUnlessMemory};
 ghost use Rattle.p3_merkle_core.specs.Views.{batch_of, matrix_of};
+ghost use Rattle.p3_merkle_core.specs.{Nodes.shape, declared.error.MerkleTreeError.TheVariants.OutOfMemory};
 ghost use Rattle.p3_merkle_prover.specs.Parts.{matrices_of, tree_batch};
-ghost use Rattle.p3_merkle_core.specs.Nodes.{shape};
-ghost use Rattle.p3_merkle_core.specs.declared.error.MerkleTreeError.TheVariants.{OutOfMemory};
-ghost use Rattle.p3_support.specs.Pairs.{left_of};
-ghost use Rattle.p3_support.specs.Shown.{roots_of};
-ghost use Rattle.p3_merkle_tree.specs.HidingSchemes.{generator_of};
-ghost use Rattle.p3_merkle_tree.specs.Salted.{after_salts, salted_batch, salted_matrices, IsAfterSome};
-ghost use Rattle.p3_merkle_tree.specs.SaltRefusals.{salted_commit_refusal};
-ghost use Rattle.p3_merkle_tree.specs.SaltedOpenings.{widened, CanWiden};
-ghost use Rattle.p3_merkle_tree.specs.SaltedOpened.{CommitsSalted, Draws};
-ghost use Rattle.p3_merkle_tree.specs.SaltedTrees.{HaveSaltColumns};
-ghost use Rattle.p3_merkle_tree.specs.Inner.SaltedParts.{pair_matrix};
+ghost use Rattle.p3_merkle_tree.specs.{HidingSchemes.generator_of, Salted.after_salts, Salted.salted_batch};
+ghost use Rattle.p3_merkle_tree.specs.{Salted.salted_matrices, Salted.IsAfterSome, SaltRefusals.salted_commit_refusal};
+ghost use Rattle.p3_merkle_tree.specs.{SaltedOpenings.widened, SaltedOpenings.CanWiden, SaltedOpened.CommitsSalted};
+ghost use Rattle.p3_merkle_tree.specs.{SaltedOpened.Draws, SaltedTrees.HaveSaltColumns, Inner.SaltedParts.pair_matrix};
 
 use crate::hiding_mmcs::{MerkleTreeHidingMmcs, SaltedTree};
 use crate::join::widened_dimensions;

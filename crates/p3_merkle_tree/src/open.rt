@@ -2,13 +2,9 @@
 //! has one row of each matrix, a salt set one list of salts for each row.
 
 ghost use Rattle.std.specs.Prelude.{◌≡◌, ◌<◌, All, IfOk, None, map};
-ghost use Rattle.p3_merkle_core.specs.Geometry.{heights};
-ghost use Rattle.p3_support.specs.Batches.{greatest};
-ghost use Rattle.p3_merkle_core.specs.Nodes.{shape};
-ghost use Rattle.p3_merkle_core.specs.Refusals.{AnswersUnlessMemory};
+ghost use Rattle.p3_merkle_core.specs.{Geometry.heights, Nodes.shape, Refusals.AnswersUnlessMemory};
+ghost use Rattle.p3_support.specs.{Batches.greatest, Pairs.left_of, Shown.row_lists, Shown.row_sets};
 ghost use Rattle.p3_merkle_prover.specs.Parts.{matrices_of, tree_batch};
-ghost use Rattle.p3_support.specs.Pairs.{left_of};
-ghost use Rattle.p3_support.specs.Shown.{row_lists, row_sets};
 ghost use Rattle.p3_merkle_tree.specs.HidingSchemes.{salted_made, salted_pruned_made};
 ghost use Rattle.p3_merkle_tree.specs.Inner.SaltedParts.{left_widths, salt_parts, unsalted_parts};
 ghost use Rattle.p3_merkle_tree.specs.SaltedOpened.{OpensSalted, OpensSaltedPruned};

@@ -1,11 +1,8 @@
 -- An opening of the right form is answered by the cap's entry.
 use Rattle.std.proofs.Common.{◌≡◌, ℕ, Bool, List, ap, sym, ◌∙◌, length, Option, None}
-use Rattle.std.specs.Option.{option_or}
-use Rattle.std.specs.Cmp.Lexicographic.{pointwise}
+use Rattle.std.specs.{Option.option_or, Cmp.Lexicographic.pointwise}
 use Rattle.p3_merkle_core.specs.Geometry.{Shape, ancestor}
-use Rattle.p3_merkle_core.specs.Nodes.{Functions}
-use Rattle.p3_merkle_core.specs.Openings.{Opening}
-use Rattle.p3_merkle_core.specs.Checks.{path_digest, params}
+use Rattle.p3_merkle_core.specs.{Nodes.Functions, Openings.Opening, Checks.path_digest, Checks.params}
 use Rattle.p3_merkle_core.specs.Refusals.{answer_under, form_refusal, is_entry, unless, ok_unless}
 use Rattle.p3_merkle_core.specs.declared.error.MerkleTreeError.TheVariants.{CapMismatch}
 

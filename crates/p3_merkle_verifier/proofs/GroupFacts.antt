@@ -1,11 +1,10 @@
 -- One more digest: of a group, of a pair, of a query's rows.
 use Rattle.std.proofs.Common.{◌≡◌, ◌∙◌, ℕ, suc, ◌-◌, ◌*◌, ◌/◌, ◌≤◌, List, [], ◌∷◌, ◌++◌, map, ap, sym, arith, length}
 use Rattle.std.proofs.Common.{length-drop, get_or, drop, replicate, take, zip}
-use Rattle.std.specs.List.{range_with_len}
 use Rattle.std.proofs.Math.Nat.{div-mul-le_self, mul-le-mul_left, mul-suc, mul_comm}
-use Rattle.std.proofs.lemmas.List.{get_or-map, length-map, length-take-le}
-use Rattle.std.proofs.lemmas.List.FromFn.{fill_by_all}
+use Rattle.std.proofs.lemmas.List.{get_or-map, length-map, length-take-le, FromFn.fill_by_all}
 use Rattle.std.proofs.lemmas.Slice.Zip.{get_or-zip, length-zip}
+use Rattle.std.specs.List.{range_with_len}
 use Rattle.p3_merkle_digests.specs.Inner.Slots.{IsFilled}
 use Rattle.p3_merkle_verifier.specs.Inner.NodeDigests.{group_digest, pair_digest}
 

@@ -1,12 +1,10 @@
 -- One level of the check of an opening.
 use Rattle.std.proofs.Common.{insert, ◌≡◌, ℕ, zero, suc, ◌+◌, ◌-◌, ◌%◌, ◌<◌, ◌≤◌, add-suc, true, false, eqb, List, []}
 use Rattle.std.proofs.Common.{◌∷◌, refl, ap, sym, ◌∙◌, arith, map, zip, None, Some}
+use Rattle.std.proofs.lemmas.{Bool.cond_both, List.Folds.flat_map-map}
 use Rattle.std.specs.List.{filter, flat_map}
-use Rattle.std.proofs.lemmas.Bool.{cond_both}
-use Rattle.std.proofs.lemmas.List.Folds.{flat_map-map}
 use Rattle.p3_merkle_core.specs.Geometry.{Shape, IsArity, exponent, heights, is_bridge, layer_exponent, step, has_rows}
-use Rattle.p3_merkle_core.specs.Nodes.{Functions, padded}
-use Rattle.p3_merkle_core.specs.Openings.{Opening}
+use Rattle.p3_merkle_core.specs.{Nodes.Functions, Nodes.padded, Openings.Opening}
 use Rattle.p3_merkle_core.specs.Checks.{layer_words, path_digest, siblings_below, words_of_exponent}
 use Rattle.p3_merkle_core.proofs.Checks.Completeness.{reached_leaf, reached_next}
 use Rattle.p3_merkle_core.proofs.Shapes.SiblingFacts.{siblings_next, siblings_start}

@@ -1,8 +1,6 @@
 -- What is found shows the first place, or the first pair of places, at which two inputs differ.
 use Rattle.std.proofs.Common.{◌≡◌, ℕ, ◌<◌, List, sym, Option, Some, None}
-use Rattle.p3_merkle_core.specs.Extraction.{first_pair}
-use Rattle.p3_merkle_core.specs.Checks.{Input}
-use Rattle.p3_merkle_core.specs.Views.{inputs_in}
+use Rattle.p3_merkle_core.specs.{Extraction.first_pair, Checks.Input, Views.inputs_in}
 use Rattle.p3_merkle_core.specs.declared.collision.InputPair.{InputPair}
 use Rattle.p3_merkle_verifier.specs.Inner.Collisions.{Shows}
 use Rattle.p3_merkle_verifier.specs.Inner.QueryPairs.{first_place, ShowsAt, ShowsPair}

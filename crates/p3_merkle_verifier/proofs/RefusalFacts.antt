@@ -1,17 +1,12 @@
 -- Why a pruned opening is refused under a cap: by its form, else by the cap.
-use Rattle.std.proofs.Common.{◌≡◌, ◌∙◌, ◌⊎◌, ℕ, Bool, List, [], length, refl, ap, sym, subst, inl, inr}
-use Rattle.std.proofs.Common.{IsErrAnd, None, Some, Ok, Err, Option, Result}
+use Rattle.std.proofs.Common.{◌≡◌, ◌∙◌, ◌⊎◌, ℕ, Bool, List, [], length, refl, ap, sym, subst, inl, inr, IsErrAnd, None}
+use Rattle.std.proofs.{Common.Some, Common.Ok, Common.Err, Common.Option, Common.Result, lemmas.List.length-replicate}
 use Rattle.std.specs.Option.{option_or}
-use Rattle.std.proofs.lemmas.List.{length-replicate}
 use Rattle.p3_support.specs.Shown.{row_sets}
-use Rattle.p3_merkle_core.specs.Checks.{params}
-use Rattle.p3_merkle_core.specs.Geometry.{Shape}
-use Rattle.p3_merkle_core.specs.Inner.Agreement.{opened_with}
-use Rattle.p3_merkle_core.specs.Nodes.{Functions}
+use Rattle.p3_merkle_core.specs.{Checks.params, Geometry.Shape, Inner.Agreement.opened_with, Nodes.Functions}
 use Rattle.p3_merkle_core.specs.Pruning.{PrunedOpening}
 use Rattle.p3_merkle_core.specs.Refusals.{AnswersUnlessMemory, cap_refusal, pruned_refusal}
-use Rattle.p3_merkle_core.specs.declared.error.MerkleTreeError.{MerkleTreeError}
-use Rattle.p3_merkle_core.specs.declared.error.MerkleTreeError.TheVariants.{OutOfMemory}
+use Rattle.p3_merkle_core.specs.declared.error.MerkleTreeError.{MerkleTreeError, TheVariants.OutOfMemory}
 use Rattle.p3_merkle_verifier.specs.Inner.RestoredLevels.{opened_by, pruned_in, tree_of}
 use Rattle.p3_merkle_verifier.specs.declared.openings.PrunedOpeningRef.{PrunedOpeningRef}
 use Rattle.p3_merkle_verifier.specs.declared.openings.RestorableOpening.{RestorableOpening}

@@ -1,10 +1,8 @@
 -- Each slot's first query is under its leaf.
 use Rattle.std.proofs.Common.{◌≡◌, ◌∙◌, ℕ, suc, ◌<◌, true, List, [], ◌∷◌, arith, length, map, refl, sym, get_or}
-use Rattle.p3_merkle_core.specs.Inner.Agreement.{first_query}
+use Rattle.p3_merkle_core.specs.{Inner.Agreement.first_query, Geometry.Shape, Geometry.ancestor}
 use Rattle.p3_support.specs.Lists.{is_among}
-use Rattle.p3_merkle_core.specs.Geometry.{Shape, ancestor}
-use Rattle.p3_merkle_core.proofs.Pruned.LeadFacts.{first_there}
-use Rattle.p3_merkle_core.proofs.Shapes.StepFacts.{anc_start}
+use Rattle.p3_merkle_core.proofs.{Pruned.LeadFacts.first_there, Shapes.StepFacts.anc_start}
 use Rattle.p3_merkle_verifier.specs.Inner.RestoredLevels.{node_of_query}
 
 pub queried_by_firsts : (s : Shape) (indices xs : List ℕ) →

@@ -4,10 +4,8 @@
 
 ghost use Rattle.std.specs.Prelude.{◌≡◌, IsTrue, length, replicate};
 ghost use Rattle.p3_merkle_core.specs.Refusals.{IsEquality};
-ghost use Rattle.p3_merkle_verifier.specs.Inner.Checks.{functions_of, opening_in, shape_in, AgreeBelow};
-ghost use Rattle.p3_merkle_verifier.specs.Inner.Checks.{AgreeOnLevel};
-ghost use Rattle.p3_merkle_verifier.specs.Inner.Collisions.{first_words, second_words};
-ghost use Rattle.p3_merkle_verifier.specs.Inner.Paths.{CanReach};
+ghost use Rattle.p3_merkle_verifier.specs.Inner.Checks.{functions_of, opening_in, shape_in, AgreeBelow, AgreeOnLevel};
+ghost use Rattle.p3_merkle_verifier.specs.Inner.{Collisions.first_words, Collisions.second_words, Paths.CanReach};
 
 use crate::checker::Checker;
 use crate::extraction::RowPair;

@@ -6,20 +6,16 @@
 //! digests. Matrices belong to a layer by the exponents of their heights: log2, rounded up.
 
 ghost use Rattle.std.specs.Prelude.{◌≡◌, zip, IfOk, length, replicate};
-ghost use Rattle.std.specs.Cmp.Lexicographic.{pointwise};
-ghost use Rattle.std.specs.Option.{option_or};
-ghost use Rattle.p3_support.specs.Batches.{heights_of};
-ghost use Rattle.p3_support.specs.Shown.{row_lists};
+ghost use Rattle.std.specs.{Cmp.Lexicographic.pointwise, Option.option_or};
+ghost use Rattle.p3_support.specs.{Batches.heights_of, Shown.row_lists};
 ghost use Rattle.p3_merkle_core.specs.Checks.{digests_at, words_at, words_of_exponent};
 ghost use Rattle.p3_merkle_core.specs.Extraction.{difference_of, input_eq, last_difference};
 ghost use Rattle.p3_merkle_core.specs.Geometry.{layer_exponent, shape_of};
 ghost use Rattle.p3_merkle_core.specs.Refusals.{refusal_under, AnswersUnlessMemory};
-ghost use Rattle.p3_merkle_verifier.specs.Inner.Checks.{functions_of, leaf_difference, opening_in, params_in};
-ghost use Rattle.p3_merkle_verifier.specs.Inner.Checks.{shape_in, ShowsLevel};
-ghost use Rattle.p3_merkle_verifier.specs.Inner.Collisions.{first_rows, first_words, inputs_above, second_rows};
-ghost use Rattle.p3_merkle_verifier.specs.Inner.Collisions.{second_words};
-ghost use Rattle.p3_merkle_verifier.specs.Inner.Collisions.{IsDifference, Shows};
-ghost use Rattle.p3_merkle_verifier.specs.Inner.Paths.{CanReach};
+ghost use Rattle.p3_merkle_verifier.specs.Inner.Checks.{functions_of, leaf_difference, opening_in, params_in, shape_in};
+ghost use Rattle.p3_merkle_verifier.specs.Inner.{Checks.ShowsLevel, Collisions.first_rows, Collisions.first_words};
+ghost use Rattle.p3_merkle_verifier.specs.Inner.Collisions.{inputs_above, second_rows, second_words, IsDifference};
+ghost use Rattle.p3_merkle_verifier.specs.Inner.{Collisions.Shows, Paths.CanReach};
 
 use crate::checker::Checker;
 use crate::openings::{OpenedRows, OpeningRef};

@@ -1,9 +1,7 @@
 -- Values made from the words of a stream: one more, and all.
 use Rattle.std.proofs.Common.{◌≡◌, ℕ, zero, suc, ◌+◌, ◌*◌, ◌/◌, ◌<◌, ◌≤◌, List, ◌∷◌, ◌++◌, refl, sym, ap, ◌∙◌, arith}
-use Rattle.std.proofs.Common.{append_assoc, map}
-use Rattle.std.specs.Prelude.{Option, Some}
-use Rattle.std.specs.Option.{SomeIff}
-use Rattle.std.proofs.Math.Nat.{mul-div_cancel}
+use Rattle.std.proofs.{Common.append_assoc, Common.map, Math.Nat.mul-div_cancel}
+use Rattle.std.specs.{Prelude.Option, Prelude.Some, Option.SomeIff}
 use Rattle.rand_core.specs.Stream.{Stream, next_u64}
 use Rattle.p3_support.specs.Salts.{after_words, salts}
 

@@ -1,8 +1,7 @@
 -- Lists that are filled place by place.
 use Rattle.std.proofs.Common.{◌≡◌, ℕ, ◌+◌, ◌-◌, ◌<◌, ◌≤◌, List, ◌++◌, length, take, get_or, set, ap, ◌∙◌, arith, inl}
-use Rattle.std.proofs.Common.{inr}
-use Rattle.std.proofs.lemmas.List.{get_or-set_same, get_or-set_other, get_or-append_right, length-take-le}
-use Rattle.std.proofs.lemmas.Bool.{cases_eq, cases_lt}
+use Rattle.std.proofs.{Common.inr, lemmas.List.get_or-set_same, lemmas.List.get_or-set_other}
+use Rattle.std.proofs.lemmas.{List.get_or-append_right, List.length-take-le, Bool.cases_eq, Bool.cases_lt}
 use lib.ListN.{get_or-append}
 use borrow.Rule.Slice.PartMut.{put_mid, post_of}
 

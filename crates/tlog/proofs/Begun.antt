@@ -1,9 +1,7 @@
 -- A proof of consistency, as the way up from the node where it begins.
 use Rattle.std.proofs.Common.{◌≡◌, ℕ, List, [], ◌∷◌, refl, sym, ◌∙◌, arith, true, false}
-use Rattle.std.specs.Prelude.{Bool}
-use Rattle.std.specs.Int.{is_power_of_two}
-use Rattle.tlog.specs.Climbs.{Begins, climb_end}
-use Rattle.tlog.specs.Rfc9162.{Hash, consistency_end, consistency_from}
+use Rattle.std.specs.{Prelude.Bool, Int.is_power_of_two}
+use Rattle.tlog.specs.{Climbs.Begins, Climbs.climb_end, Rfc9162.Hash, Rfc9162.consistency_end, Rfc9162.consistency_from}
 use Rattle.tlog.proofs.Honest.{end-at}
 
 -- the way up is the walk of the standard's algorithm

@@ -1,17 +1,14 @@
 -- The verifiers' walks from layer to layer, along honest paths.
-use Rattle.std.proofs.Common.{◌≡◌, ℕ, zero, suc, ◌+◌, ◌-◌, ◌*◌, ◌/◌, ◌%◌, ◌^◌, ◌<◌, ◌≤◌, refl, sym, ap, ◌∙◌, arith}
-use Rattle.std.proofs.Common.{inl, inr}
-use Rattle.std.proofs.Common.{List, [], ◌∷◌, ◌++◌, length, get_or, Some}
-use Rattle.std.specs.Prelude.{◌==◌, Bool, true, false, ◌⊎◌}
-use Rattle.std.specs.Int.{w64, trailing_zeros}
+use Rattle.std.proofs.Common.{◌≡◌, ℕ, zero, suc, ◌+◌, ◌-◌, ◌*◌, ◌/◌, ◌%◌, ◌^◌, ◌<◌, ◌≤◌, refl, sym, ap, ◌∙◌, arith, inl}
+use Rattle.std.proofs.Common.{inr, List, [], ◌∷◌, ◌++◌, length, get_or, Some}
 use Rattle.std.proofs.lemmas.Bool.Decides.{eqb_tells, leb_tells, nat_tests}
 use Rattle.std.proofs.Math.Nat.{mul-div-mul_left, pow-succ'}
+use Rattle.std.specs.{Prelude.◌==◌, Prelude.Bool, Prelude.true, Prelude.false, Prelude.◌⊎◌, Int.w64, Int.trailing_zeros}
 use Rattle.tlog.specs.Rfc9162.{Hash, consistency_walk, inclusion_walk, is_left, mth, mth_within, node_hash, path}
 use Rattle.tlog.specs.Rfc9162.{path_within}
-use Rattle.tlog.proofs.Bits.{half_double, zeros_of_double, zeros_of_odd}
-use Rattle.tlog.proofs.Walks.{consistency_left, consistency_right}
-use Rattle.tlog.proofs.Layers.{above, above-both, above-only, itself, length-above, mth_above, path-above}
-use Rattle.tlog.proofs.Layers.{sibling, sibling-left, sibling-none, sibling-right}
+use Rattle.tlog.proofs.{Bits.half_double, Bits.zeros_of_double, Bits.zeros_of_odd, Walks.consistency_left}
+use Rattle.tlog.proofs.{Walks.consistency_right, Layers.above, Layers.above-both, Layers.above-only, Layers.itself}
+use Rattle.tlog.proofs.Layers.{length-above, mth_above, path-above, sibling, sibling-left, sibling-none, sibling-right}
 
 -- n is i + i, or one more
 pub parity : (n : ℕ) → ((i : ℕ) × (n ≡ i + i)) ⊎ ((i : ℕ) × (n ≡ suc (i + i)))

@@ -2,22 +2,14 @@
 use Rattle.std.proofs.Common.{◌≡◌, ℕ, zero, suc, ◌+◌, ◌-◌, ◌*◌, ◌/◌, ◌^◌, ◌<◌, ◌≤◌, refl, sym, ap, ◌∙◌, arith, inl, inr}
 use Rattle.std.proofs.Common.{List, [], ◌∷◌, Some, None, true, false}
 use Rattle.std.specs.Prelude.{Option, Result, Ok, Err}
-use Rattle.std.specs.Result.{IfErr, IsErrAnd}
-use Rattle.std.specs.Int.{w64, trailing_ones, is_power_of_two}
+use Rattle.std.specs.{Result.IfErr, Result.IsErrAnd, Int.w64, Int.trailing_ones, Int.is_power_of_two}
 use Rattle.std.proofs.lemmas.Nat.Bits.{bit_at-trailing_ones}
 use Rattle.std.proofs.Math.Nat.{div-div-eq-div-mul, mul_left_comm, pow-succ'}
 use Rattle.tlog.specs.Climbs.{Begins, climb_end}
-use Rattle.tlog.specs.Rfc9162.{Hash}
-use Rattle.tlog.specs.Verdicts.{IsConsistent}
-use Rattle.tlog.specs.declared.error.ProofError.{ProofError}
-use Rattle.tlog.proofs.Begun.{begun}
-use Rattle.tlog.proofs.Bits.{ones_of_double, ones_of_odd}
-use Rattle.tlog.proofs.Climbs.{parity}
-use Rattle.tlog.specs.Composed.{IsReason}
+use Rattle.tlog.specs.{Rfc9162.Hash, Verdicts.IsConsistent, declared.error.ProofError.ProofError, Composed.IsReason}
 use Rattle.tlog.specs.declared.error.ComposeError.{ComposeError}
-use Rattle.tlog.proofs.Consistencies.{bare_unchanged}
-use Rattle.tlog.proofs.Lifts.{bare_end}
-use Rattle.tlog.proofs.Sides.{IsWhole, more_nodes}
+use Rattle.tlog.proofs.{Begun.begun, Bits.ones_of_double, Bits.ones_of_odd, Climbs.parity, Consistencies.bare_unchanged}
+use Rattle.tlog.proofs.{Lifts.bare_end, Sides.IsWhole, Sides.more_nodes}
 
 -- ---- the node where a proof begins is the last whole one
 

@@ -1,14 +1,11 @@
 -- Walks up to a root, by the children of the root: the last digest is the root of the other half.
 use Rattle.std.proofs.Common.{◌≡◌, ℕ, zero, suc, ◌+◌, ◌-◌, ◌/◌, ◌%◌, ◌^◌, ◌<◌, ◌≤◌, refl, sym, ap, subst, ◌∙◌, arith, inl, inr}
 use Rattle.std.proofs.Common.{List, [], ◌∷◌, ◌++◌, Some, true, false}
-use Rattle.std.specs.Prelude.{◌==◌, ◌↔◌, ◌⊎◌, Option}
-use Rattle.std.specs.Int.{w64, trailing_zeros}
+use Rattle.std.specs.{Prelude.◌==◌, Prelude.◌↔◌, Prelude.◌⊎◌, Prelude.Option, Int.w64, Int.trailing_zeros}
 use Rattle.std.proofs.lemmas.Bool.Decides.{eqb_tells, nat_tests}
 use Rattle.tlog.specs.Rfc9162.{Hash, consistency_walk, is_left, node_hash, split}
-use Rattle.tlog.proofs.Bits.{zeros_of_odd}
-use Rattle.tlog.proofs.Climbs.{parity, skip_more}
-use Rattle.tlog.proofs.Splits.{split_is, split_of_half, split_of_two}
-use Rattle.tlog.proofs.Walks.{consistency_left, consistency_right}
+use Rattle.tlog.proofs.{Bits.zeros_of_odd, Climbs.parity, Climbs.skip_more, Splits.split_is, Splits.split_of_half}
+use Rattle.tlog.proofs.{Splits.split_of_two, Walks.consistency_left, Walks.consistency_right}
 
 -- the walk uses up its digests at the root
 abbrev pub Ends : Hash → List (List ℕ) → ℕ → ℕ → List ℕ → List ℕ → List ℕ → List ℕ → Type 0

@@ -1,22 +1,17 @@
 -- Honest proofs are accepted.
 use Rattle.std.proofs.Common.{◌≡◌, ℕ, zero, suc, ◌+◌, ◌-◌, ◌/◌, ◌^◌, ◌<◌, ◌≤◌, refl, sym, ap, subst, ◌∙◌, arith, inl}
-use Rattle.std.proofs.Common.{inr}
-use Rattle.std.proofs.Common.{List, [], ◌∷◌, ◌++◌, length, take, drop, get_or, Some}
-use Rattle.std.specs.Prelude.{◌==◌, Bool, true, false, nat_le, Option, ◌⊎◌}
-use Rattle.std.specs.Int.{w64, trailing_ones, is_power_of_two}
+use Rattle.std.proofs.Common.{inr, List, [], ◌∷◌, ◌++◌, length, take, drop, get_or, Some}
 use Rattle.std.proofs.lemmas.Bool.Decides.{eqb_tells, leb_tells, nat_tests}
 use Rattle.std.proofs.lemmas.List.{get_or-drop, get_or-take, length-take-le, length-drop, take_all}
 use Rattle.std.proofs.Math.Nat.{div-div-eq-div-mul, pow-succ'}
-use Rattle.std.specs.Prelude.{nat_lt}
-use Rattle.tlog.specs.Rfc9162.{node_hash}
-use Rattle.tlog.specs.Rfc9162.{Hash, consistency_end, consistency_from, consistency_proof, consistency_walk}
-use Rattle.tlog.specs.Rfc9162.{inclusion_end, leaf_hash, proof_of, root_of}
-use Rattle.tlog.specs.Verdicts.{IsConsistent, size_limit}
-use Rattle.tlog.specs.Rfc9162.{mth, mth_within, path, path_within, split, subproof, subproof_within}
+use Rattle.std.specs.Prelude.{◌==◌, Bool, true, false, nat_le, Option, ◌⊎◌, nat_lt}
+use Rattle.std.specs.Int.{w64, trailing_ones, is_power_of_two}
+use Rattle.tlog.specs.Rfc9162.{node_hash, Hash, consistency_end, consistency_from, consistency_proof, consistency_walk}
+use Rattle.tlog.specs.Rfc9162.{inclusion_end, leaf_hash, proof_of, root_of, mth, mth_within, path, path_within, split}
+use Rattle.tlog.specs.{Rfc9162.subproof, Rfc9162.subproof_within, Verdicts.IsConsistent, Verdicts.size_limit}
 use Rattle.tlog.proofs.Bits.{ones_of_double, ones_of_odd, power_of_double, power_of_odd, power_of_one}
-use Rattle.tlog.proofs.Splits.{split_is, split_parity}
-use Rattle.tlog.proofs.Layers.{above, above-drop, above-take, itself, length-above, mth-above, mth_above, parts_of}
-use Rattle.tlog.proofs.Layers.{mth-more, path-above, path-more}
+use Rattle.tlog.proofs.{Splits.split_is, Splits.split_parity, Layers.above, Layers.above-drop, Layers.above-take}
+use Rattle.tlog.proofs.Layers.{itself, length-above, mth-above, mth_above, parts_of, mth-more, path-above, path-more}
 use Rattle.tlog.proofs.Climbs.{as_inclusion, climb, parity, path_above}
 
 -- ---- inclusion

@@ -1,17 +1,12 @@
 -- A leaf hash that is kept as the tree grows.
-use Rattle.std.proofs.Common.{◌≡◌, ◌≢◌, ℕ, ◌-◌, ◌/◌, ◌^◌, ◌≤◌, refl, ap, arith, inl, inr}
-use Rattle.std.proofs.Common.{List, [], ◌∷◌, Some, true, false}
+use Rattle.std.proofs.Common.{◌≡◌, ◌≢◌, ℕ, ◌-◌, ◌/◌, ◌^◌, ◌≤◌, refl, ap, arith, inl, inr, List, [], ◌∷◌, Some, true}
+use Rattle.std.proofs.{Common.false, lemmas.Bool.Decides.eqb_tells}
 use Rattle.std.specs.Prelude.{Bool, Result, Ok, Err, IsOk, ◌↔◌}
-use Rattle.std.specs.Result.{is_err}
-use Rattle.std.specs.Int.{w64, trailing_zeros}
-use Rattle.std.proofs.lemmas.Bool.Decides.{eqb_tells}
-use Rattle.tlog.specs.Climbs.{climb_end}
-use Rattle.tlog.specs.Rfc9162.{Hash, consistency_walk, inclusion_walk, is_left, node_hash}
-use Rattle.tlog.specs.Verdicts.{IsConsistent, IsIncluded, size_limit}
-use Rattle.tlog.proofs.Climbs.{as_inclusion}
-use Rattle.tlog.specs.Fixed.{GrowthKeepsLeaf, RootFixesProof}
-use Rattle.tlog.specs.Inner.Lifts.{Lifts}
-use Rattle.tlog.proofs.Consistencies.{bare_unchanged}
+use Rattle.std.specs.{Result.is_err, Int.w64, Int.trailing_zeros}
+use Rattle.tlog.specs.{Climbs.climb_end, Rfc9162.Hash, Rfc9162.consistency_walk, Rfc9162.inclusion_walk}
+use Rattle.tlog.specs.{Rfc9162.is_left, Rfc9162.node_hash, Verdicts.IsConsistent, Verdicts.IsIncluded}
+use Rattle.tlog.specs.{Verdicts.size_limit, Fixed.GrowthKeepsLeaf, Fixed.RootFixesProof, Inner.Lifts.Lifts}
+use Rattle.tlog.proofs.{Climbs.as_inclusion, Consistencies.bare_unchanged}
 
 pub not_ok : {T E : Type 0} (r : Result T E) → is_err r ≡ true → IsOk r → ⊥
 not_ok (Ok x) e ok = absurd cc

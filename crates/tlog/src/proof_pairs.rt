@@ -1,7 +1,6 @@
 //! Two accepted proofs of one question that differ, or else a collision of the hash function.
 ghost use Rattle.std.specs.Prelude.{◌↔◌, IfOk, IfSome, IsNone};
-ghost use Rattle.tlog.specs.Collisions.{IsCollision};
-ghost use Rattle.tlog.specs.Fixed.{NewRootFixesProof, RootFixesProof};
+ghost use Rattle.tlog.specs.{Collisions.IsCollision, Fixed.NewRootFixesProof, Fixed.RootFixesProof};
 ghost use Rattle.tlog.specs.Inner.Nodes.{HashFixesChildren};
 
 use crate::collision::{Collision, node_input};

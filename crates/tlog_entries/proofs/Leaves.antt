@@ -1,8 +1,7 @@
 -- MTH and PATH of entries are those of their leaf hashes.
 use Rattle.std.proofs.Common.{◌≡◌, ℕ, zero, suc, ◌-◌, ◌≤◌, List, [], ◌∷◌, length, map, take, drop, refl, sym, ap, ◌∙◌}
-use Rattle.std.proofs.Common.{arith, ◌++◌}
+use Rattle.std.proofs.{Common.arith, Common.◌++◌, lemmas.List.drop-map, lemmas.List.length-map, lemmas.List.take-map}
 use Rattle.std.specs.Prelude.{true, false, nat_lt}
-use Rattle.std.proofs.lemmas.List.{drop-map, length-map, take-map}
 use Rattle.tlog.specs.Rfc9162.{Hash as HashFunction, mth, mth_within, path, path_within, split}
 use Rattle.tlog.proofs.Layers.{itself, mth-more, path-more}
 

@@ -1,21 +1,15 @@
 -- The walk of inclusion past one level, along siblings some of which are absent.
-use Rattle.std.proofs.Common.{◌≡◌, ℕ, suc, ◌+◌, ◌-◌, ◌*◌, ◌/◌, ◌%◌, ◌^◌, ◌<◌, ◌≤◌, true, false, List, [], ◌∷◌}
-use Rattle.std.proofs.Common.{Some, insert, refl, sym, ap, ◌∙◌, arith, inl, inr}
-use Rattle.std.specs.Prelude.{◌==◌}
-use Rattle.std.specs.Int.{w64, trailing_zeros}
-use Rattle.std.proofs.lemmas.Bool.{cases_eq, cases_lt}
-use Rattle.std.proofs.lemmas.Bool.Decides.{nat_tests}
-use Rattle.std.proofs.lemmas.Nat.{pow_pos}
-use Rattle.std.proofs.Math.Nat.{div-div-eq-div-mul, div-le_self, div-mul-le_self, le-div_iff_mul-le, mul-div-mul_left}
-use Rattle.std.proofs.Math.Nat.{pow-succ', pow-suc}
+use Rattle.std.proofs.Common.{◌≡◌, ℕ, suc, ◌+◌, ◌-◌, ◌*◌, ◌/◌, ◌%◌, ◌^◌, ◌<◌, ◌≤◌, true, false, List, [], ◌∷◌, Some}
+use Rattle.std.proofs.Common.{insert, refl, sym, ap, ◌∙◌, arith, inl, inr}
+use Rattle.std.proofs.lemmas.Bool.{cases_eq, cases_lt, Decides.nat_tests}
+use Rattle.std.proofs.{lemmas.Nat.pow_pos, Math.Nat.div-div-eq-div-mul}
+use Rattle.std.proofs.Math.Nat.{div-le_self, div-mul-le_self, le-div_iff_mul-le, mul-div-mul_left, pow-succ', pow-suc}
+use Rattle.std.specs.{Prelude.◌==◌, Int.w64, Int.trailing_zeros}
 use Rattle.tlog.specs.Rfc9162.{Hash as HashFunction, inclusion_walk, is_left, node_hash}
 use Rattle.tlog.proofs.Bits.{half_double, zeros_of_double, zeros_of_odd}
-use Rattle.tlog.proofs.Climbs.{parity}
-use Rattle.tlog.proofs.Walks.{inclusion_left, inclusion_right}
-use Rattle.tlog_entries.specs.Nodes.{parent_digest}
-use Rattle.tlog_entries.specs.Instance.{sibling_slot, IsFilled, present}
-use Rattle.tlog_entries.specs.declared.node.Node.{Node}
-use Rattle.tlog_entries.specs.declared.node.Node.TheVariants.{Absent, Hash}
+use Rattle.tlog.proofs.{Climbs.parity, Walks.inclusion_left, Walks.inclusion_right}
+use Rattle.tlog_entries.specs.{Nodes.parent_digest, Instance.sibling_slot, Instance.IsFilled, Instance.present}
+use Rattle.tlog_entries.specs.declared.node.Node.{Node, TheVariants.Absent, TheVariants.Hash}
 
 -- past a left sibling
 past_left : (hash : HashFunction) (value : List ℕ) (path : List (List ℕ)) (i last : ℕ) (r : List ℕ) → i ≤ 2 ^ 62 →

@@ -1,16 +1,12 @@
 //! The nodes whose digests a proof of several entries has, and the padding beside them.
 ghost use Rattle.std.specs.Prelude.{◌≡◌, ℕ, List, [], length, slice_index_or, ◌+◌, ◌*◌, ◌^◌, ◌<◌, ◌≤◌, ◌++◌, All, IfOk};
 ghost use Rattle.std.specs.Prelude.{filter, map, not};
-ghost use Rattle.p3_merkle_core.specs.Geometry.{levels};
-ghost use Rattle.p3_merkle_core.specs.Inner.Agreement.{IsAscending};
-ghost use Rattle.p3_merkle_core.specs.Pruning.{boundary};
+ghost use Rattle.p3_merkle_core.specs.{Geometry.levels, Inner.Agreement.IsAscending, Pruning.boundary};
 ghost use Rattle.p3_support.specs.Lists.{is_among};
-ghost use Rattle.tlog.specs.Rfc9162.{Hash};
-ghost use Rattle.tlog.specs.Verdicts.{size_limit};
+ghost use Rattle.tlog.specs.{Rfc9162.Hash, Verdicts.size_limit};
 ghost use Rattle.tlog_tree.specs.Trees.{all_there, leaves_root, values_at};
 ghost use Rattle.tlog_entries.specs.Entries.{AreIncluded, is_node as is_node_by, proof_nodes};
-ghost use Rattle.tlog_entries.specs.Inner.Siblings.{sibling};
-ghost use Rattle.tlog_entries.specs.Instance.{log_shape};
+ghost use Rattle.tlog_entries.specs.{Inner.Siblings.sibling, Instance.log_shape};
 
 use crate::tree::dimensions_of;
 use p3_merkle_core::pruning::distinct_indices;

@@ -1,12 +1,10 @@
 //! Entries and their proof as a pruned opening of a log's tree.
 ghost use Rattle.std.specs.Prelude.{◌≡◌, ◌<◌, All, IfOk, MatchResult, None, Some, filter, length, map};
 ghost use Rattle.p3_merkle_core.specs.Views.{pruned_made};
-ghost use Rattle.p3_support.specs.Answers.{AnswersUnless};
-ghost use Rattle.p3_support.specs.Shown.{row_sets};
+ghost use Rattle.p3_support.specs.{Answers.AnswersUnless, Shown.row_sets};
 ghost use Rattle.tlog_entries.specs.Entries.{digests_refusal, entries_opening, form_refusal, indices_refusal};
 ghost use Rattle.tlog_entries.specs.Entries.{is_node as is_node_by, with_padding as with_padding_of};
-ghost use Rattle.tlog_entries.specs.Instance.{leaf_row};
-ghost use Rattle.tlog_entries.specs.declared.error.EntriesError.TheVariants.{OutOfMemory};
+ghost use Rattle.tlog_entries.specs.{Instance.leaf_row, declared.error.EntriesError.TheVariants.OutOfMemory};
 
 use crate::boundary::{boundary_slots, is_node};
 use crate::error::EntriesError;

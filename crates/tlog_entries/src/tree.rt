@@ -2,9 +2,8 @@
 ghost use Rattle.std.specs.Prelude.{◌≡◌, ℕ, ◌<◌, ◌∷◌, [], map};
 ghost use Rattle.p3_merkle_mmcs.specs.Schemes.{params_of};
 ghost use Rattle.p3_support.specs.Lists.{lane_of};
-ghost use Rattle.tlog_entries.specs.Instance.{log_dimensions, log_params, log_shape};
-ghost use Rattle.tlog_entries.specs.Nodes.{last_word, parent_digest, parent};
-ghost use Rattle.tlog_entries.specs.declared.node.Node.TheVariants.{Absent};
+ghost use Rattle.tlog_entries.specs.{Instance.log_dimensions, Instance.log_params, Instance.log_shape, Nodes.last_word};
+ghost use Rattle.tlog_entries.specs.{Nodes.parent_digest, Nodes.parent, declared.node.Node.TheVariants.Absent};
 
 use crate::node::Node;
 use p3_merkle_mmcs::mmcs::MerkleTreeMmcs;

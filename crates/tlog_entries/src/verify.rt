@@ -4,8 +4,7 @@ ghost use Rattle.sha2.specs.Sha256.{sha256};
 ghost use Rattle.p3_support.specs.Answers.{AnswersUnless};
 ghost use Rattle.tlog.specs.Verdicts.{size_limit};
 ghost use Rattle.tlog_entries.specs.Entries.{AreIncluded, entries_refusal};
-ghost use Rattle.tlog_entries.specs.Inner.Meanings.{IsMeaning};
-ghost use Rattle.tlog_entries.specs.declared.error.EntriesError.TheVariants.{OutOfMemory};
+ghost use Rattle.tlog_entries.specs.{Inner.Meanings.IsMeaning, declared.error.EntriesError.TheVariants.OutOfMemory};
 
 use crate::error::EntriesError;
 use crate::node::Node;

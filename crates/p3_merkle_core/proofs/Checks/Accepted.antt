@@ -1,17 +1,14 @@
 -- An honest opening is accepted under its cap.
 use Rattle.std.proofs.Common.{get_or, ◌≡◌, ℕ, suc, ◌<◌, ◌≤◌, nat_lt, nat_le, cond, List, [], ◌∷◌, map, refl, ap, sym}
 use Rattle.std.proofs.Common.{◌∙◌, arith, length, Some, All}
+use Rattle.std.proofs.lemmas.{Bool.cond_both, Bool.ltb-true, List.FromFn.length-map-range_with_len}
+use Rattle.std.proofs.lemmas.{List.FromFn.get_or-map-range_with_len, Option.slice_get-get_or}
 use Rattle.std.specs.Int.{next_multiple_of}
-use Rattle.std.proofs.lemmas.Bool.{cond_both, ltb-true}
-use Rattle.std.proofs.lemmas.List.FromFn.{length-map-range_with_len, get_or-map-range_with_len}
-use Rattle.std.proofs.lemmas.Option.{slice_get-get_or}
 use Rattle.p3_merkle_core.specs.Geometry.{ancestor, raw_len, layer_len, padded_len, halved_index, heights}
-use Rattle.p3_support.specs.Batches.{greatest, heights_of, widths_of}
 use Rattle.p3_merkle_core.specs.Nodes.{Functions, Batch, Matrix, shape, node, layer, dimensions_of, HasFullRows}
-use Rattle.p3_merkle_core.specs.Openings.{honest}
-use Rattle.p3_merkle_core.specs.Checks.{IsAccepted, params}
-use Rattle.p3_merkle_core.proofs.Shapes.LadderFacts.{row_below}
-use Rattle.p3_merkle_core.proofs.Shapes.RawFacts.{anc_below}
+use Rattle.p3_merkle_core.specs.{Openings.honest, Checks.IsAccepted, Checks.params}
+use Rattle.p3_support.specs.Batches.{greatest, heights_of, widths_of}
+use Rattle.p3_merkle_core.proofs.Shapes.{LadderFacts.row_below, RawFacts.anc_below}
 use Rattle.p3_merkle_core.proofs.Checks.Completeness.{IsHonest, honest_reaches, honest_count}
 use Rattle.p3_merkle_core.proofs.Checks.CheckFacts.{accepted_by_walk}
 

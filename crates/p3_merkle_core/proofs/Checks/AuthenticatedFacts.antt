@@ -1,21 +1,14 @@
 -- Rows of authenticated matrices are those of the layers up to the cap.
 use Rattle.std.proofs.Common.{◌≡◌, ◌↔◌, ℕ, ◌<◌, ◌≤◌, true, eqb, List, ap, sym, ◌∙◌, arith, length, get_or, eq-eqb}
+use Rattle.std.proofs.lemmas.{Bool.eqb-true, Bool.leb-true, Bool.le-leb, List.length-map}
 use Rattle.std.specs.Prelude.{IsTrue}
-use Rattle.std.proofs.lemmas.Bool.{eqb-true, leb-true, le-leb}
-use Rattle.std.proofs.lemmas.List.{length-map}
 use Rattle.p3_merkle_core.specs.Geometry.{Shape, IsArity, heights, exponent, layer_exponent, layer_of, levels, ancestor}
-use Rattle.p3_merkle_core.specs.Geometry.{halved_index}
-use Rattle.p3_support.specs.Batches.{greatest}
-use Rattle.p3_merkle_core.specs.Nodes.{Functions}
-use Rattle.p3_merkle_core.specs.Openings.{Opening}
+use Rattle.p3_merkle_core.specs.{Geometry.halved_index, Nodes.Functions, Openings.Opening}
 use Rattle.p3_merkle_core.specs.Checks.{AgreeWhereShared, IsAccepted, is_authenticated, layer_rows, opened_row, params}
-use Rattle.p3_merkle_core.proofs.Shapes.LeastFacts.{least_bound}
-use Rattle.p3_merkle_core.proofs.Shapes.ShapeFacts.{widths_in_pairs}
-use Rattle.p3_merkle_core.proofs.Shapes.LadderFacts.{layer_of_is, row_is_anc}
-use Rattle.p3_merkle_core.proofs.Pruned.Unrefused.{kept_same}
-use Rattle.p3_merkle_core.proofs.Pruned.Answered.{same_kept}
-use Rattle.p3_merkle_core.proofs.Checks.Binding.{rows_bound}
-use Rattle.p3_merkle_core.proofs.Checks.SameIndex.{same_at_one_index}
+use Rattle.p3_support.specs.Batches.{greatest}
+use Rattle.p3_merkle_core.proofs.Shapes.{LeastFacts.least_bound, ShapeFacts.widths_in_pairs, LadderFacts.layer_of_is}
+use Rattle.p3_merkle_core.proofs.{Shapes.LadderFacts.row_is_anc, Pruned.Unrefused.kept_same, Pruned.Answered.same_kept}
+use Rattle.p3_merkle_core.proofs.Checks.{Binding.rows_bound, SameIndex.same_at_one_index}
 
 -- an accepted opening has a row for each matrix
 rows_in_pairs : {T W : Type 0} (f : Functions T W) (s : Shape) (t : ℕ) (cap : List (List W)) (o : Opening T W) →

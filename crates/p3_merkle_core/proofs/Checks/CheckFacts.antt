@@ -1,19 +1,16 @@
 -- What a check ends in: the digest of its last input, which is the one that the walk reaches.
 use Rattle.std.proofs.Common.{◌≡◌, ℕ, zero, suc, ◌<◌, true, false, List, [], ◌∷◌, ◌++◌, map, refl, ap, sym, ◌∙◌, inl}
 use Rattle.std.proofs.Common.{inr, drop, length, Some, slice_get}
-use Rattle.std.proofs.lemmas.Bool.{cases_Bool}
-use Rattle.std.proofs.lemmas.List.{append_assoc}
+use Rattle.std.proofs.lemmas.{Bool.cases_Bool, List.append_assoc}
 use Rattle.p3_merkle_core.specs.Geometry.{Shape, IsLawful, ancestor, has_rows, heights, widths}
-use Rattle.p3_support.specs.Batches.{greatest}
-use Rattle.p3_merkle_core.specs.Nodes.{Functions, pair, padded}
-use Rattle.p3_merkle_core.specs.Openings.{Opening}
+use Rattle.p3_merkle_core.specs.{Nodes.Functions, Nodes.pair, Nodes.padded, Openings.Opening}
 use Rattle.p3_merkle_core.specs.Checks.{Input, IsAccepted, check_digest, group_at, input_digest, inputs, inputs_at}
 use Rattle.p3_merkle_core.specs.Checks.{last_input, last_of, layer_words, path_digest, siblings_below, params}
 use Rattle.p3_merkle_core.specs.Checks.{leaf_input, words_at, digests_at, Content, Words, Digests}
+use Rattle.p3_merkle_core.specs.declared.collision.Place.{Place, TheVariants.Group, TheVariants.Rows, TheVariants.Pair}
+use Rattle.p3_support.specs.Batches.{greatest}
 use Rattle.p3_merkle_core.proofs.Lists.ListFacts.{joined_more}
 use Rattle.p3_merkle_core.proofs.Checks.Completeness.{reached_next, reached_leaf}
-use Rattle.p3_merkle_core.specs.declared.collision.Place.{Place}
-use Rattle.p3_merkle_core.specs.declared.collision.Place.TheVariants.{Group, Rows, Pair}
 
 -- ---- what inputs are made of
 

@@ -10,8 +10,7 @@ use Rattle.p3_merkle_core.specs.Nodes.{Functions, Batch, Matrix, shape, at_layer
 use Rattle.p3_merkle_core.specs.Nodes.{with_rows, node, dimensions_of}
 use Rattle.p3_merkle_core.specs.Openings.{honest, honest_rows, Opening, siblings_by, children_by}
 use Rattle.p3_merkle_core.specs.Checks.{siblings_below, layer_words, group_at, path_digest}
-use Rattle.p3_merkle_core.proofs.Shapes.LadderFacts.{row_is_anc_at, row_below}
-use Rattle.p3_merkle_core.proofs.Shapes.RawFacts.{anc_below}
+use Rattle.p3_merkle_core.proofs.Shapes.{LadderFacts.row_is_anc_at, LadderFacts.row_below, RawFacts.anc_below}
 use Rattle.p3_merkle_core.proofs.Checks.PathFacts.{path_length, path_group}
 
 -- an index below M of a lawful batch, checked up to layer t

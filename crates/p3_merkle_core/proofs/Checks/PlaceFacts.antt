@@ -2,10 +2,8 @@
 use Rattle.std.proofs.Common.{ℕ, zero, suc, ◌+◌, ◌-◌, List, [], ◌∷◌, ◌++◌, refl, inl, inr, eq-eqb}
 use Rattle.std.proofs.lemmas.Bool.{cases_Bool, cases_eq, ne_eqb}
 use Rattle.p3_merkle_core.specs.Geometry.{Shape, has_rows}
-use Rattle.p3_merkle_core.specs.Nodes.{Functions}
-use Rattle.p3_merkle_core.specs.Openings.{Opening}
-use Rattle.p3_merkle_core.specs.Checks.{Input, IsAtOnePlace, IsLastDifference, IsLastShared, inputs, inputs_at}
-use Rattle.p3_merkle_core.specs.Checks.{meeting_level, params}
+use Rattle.p3_merkle_core.specs.{Nodes.Functions, Openings.Opening, Checks.Input, Checks.IsAtOnePlace}
+use Rattle.p3_merkle_core.specs.Checks.{IsLastDifference, IsLastShared, inputs, inputs_at, meeting_level, params}
 use Rattle.p3_merkle_core.proofs.Checks.CheckFacts.{inputs_with_rows, inputs_alone}
 use Rattle.p3_merkle_core.proofs.Lists.ListFacts.{joined, joined_more}
 

@@ -2,16 +2,13 @@
 -- to the cap layer.
 use Rattle.std.proofs.Common.{◌≡◌, ◌↔◌, ℕ, zero, suc, ◌-◌, ◌<◌, ◌≤◌, List, ◌++◌, refl, ap, sym, ◌∙◌, subst, arith}
 use Rattle.std.proofs.Common.{length, take, drop, insert, replicate, flat_map, eq-eqb}
-use Rattle.std.proofs.lemmas.List.{take_all}
-use Rattle.std.proofs.lemmas.List.Edits.{length-insert}
+use Rattle.std.proofs.lemmas.List.{take_all, Edits.length-insert}
 use Rattle.p3_merkle_core.specs.Geometry.{Shape, IsArity, step, ancestor, position_in_group}
-use Rattle.p3_merkle_core.specs.Nodes.{Functions}
-use Rattle.p3_merkle_core.specs.Openings.{Opening}
+use Rattle.p3_merkle_core.specs.{Nodes.Functions, Openings.Opening}
 use Rattle.p3_merkle_core.specs.Checks.{IsAccepted, inputs, inputs_at, shared_inputs, group_at, path_digest}
 use Rattle.p3_merkle_core.specs.Checks.{layer_words, layer_rows, siblings_at, siblings_below, params}
 use Rattle.p3_merkle_core.proofs.Checks.CheckFacts.{full_group, group_first, same_group}
-use Rattle.p3_merkle_core.proofs.Checks.Completeness.{reached_leaf, reached_next}
-use Rattle.p3_merkle_core.proofs.Checks.PathFacts.{joined_same}
+use Rattle.p3_merkle_core.proofs.Checks.{Completeness.reached_leaf, Completeness.reached_next, PathFacts.joined_same}
 use Rattle.p3_merkle_core.proofs.Collisions.Extraction.{same_ends, siblings_full, in_group}
 use Rattle.p3_merkle_core.proofs.Checks.Binding.{insert_same, take_more_of, level_shared, rows_bound}
 use Rattle.p3_merkle_core.proofs.Lists.ListFacts.{joined, joined_more}

@@ -1,15 +1,12 @@
 -- The last difference of two checks: there is none exactly if they agree wherever they share a place, and else it is a
 -- collision.
 use Rattle.std.proofs.Common.{◌≡◌, ◌≢◌, ◌↔◌, ℕ, ◌+◌, ◌-◌, Bool, List, [], ◌∷◌, refl, ap, sym, ◌∙◌, arith, inl, inr}
-use Rattle.std.proofs.Common.{length, Option, Some, None, eq-eqb}
-use Rattle.std.specs.Option.{option_or}
-use Rattle.std.specs.Cmp.Lexicographic.{pointwise_decides}
-use Rattle.std.proofs.lemmas.Bool.{cases_Bool, cases_eq, cond-false, and_parts, and_from, eqb-true, ne_eqb, true≢false}
-use Rattle.std.proofs.lemmas.Bool.{false≢true}
+use Rattle.std.proofs.{Common.length, Common.Option, Common.Some, Common.None, Common.eq-eqb, lemmas.Bool.cases_Bool}
+use Rattle.std.proofs.lemmas.Bool.{cases_eq, cond-false, and_parts, and_from, eqb-true, ne_eqb, true≢false, false≢true}
+use Rattle.std.specs.{Option.option_or, Cmp.Lexicographic.pointwise_decides}
 use Rattle.p3_merkle_core.specs.Geometry.{IsArity, Shape}
 use Rattle.p3_merkle_core.specs.declared.collision.Place.TheVariants.{Leaf, Group, Rows, Pair}
-use Rattle.p3_merkle_core.specs.Nodes.{Functions}
-use Rattle.p3_merkle_core.specs.Openings.{Opening}
+use Rattle.p3_merkle_core.specs.{Nodes.Functions, Openings.Opening}
 use Rattle.p3_merkle_core.specs.Checks.{AgreeWhereShared, Input, IsAccepted, IsLastDifference, inputs_at, shared_inputs}
 use Rattle.p3_merkle_core.specs.Checks.{meeting_level, params, Params, Words, Digests, HasDigests}
 use Rattle.p3_merkle_core.specs.Refusals.{unless, IsEquality}
@@ -17,8 +14,7 @@ use Rattle.p3_merkle_core.specs.Extraction.{difference_of, input_eq, last_differ
 use Rattle.p3_merkle_core.proofs.Pruned.NoneFacts.{none_parts, unless_none, none_unless, none_of_both}
 use Rattle.p3_merkle_core.proofs.Collisions.Extraction.{collides, level_lengths}
 use Rattle.p3_merkle_core.proofs.Checks.InputFacts.{of_last_difference, shared_full}
-use Rattle.p3_merkle_core.proofs.Checks.PlaceFacts.{at_one_place}
-use Rattle.p3_merkle_core.proofs.Checks.Binding.{pieces_long}
+use Rattle.p3_merkle_core.proofs.Checks.{PlaceFacts.at_one_place, Binding.pieces_long}
 
 -- ---- the test on inputs
 

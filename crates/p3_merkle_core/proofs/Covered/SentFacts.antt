@@ -1,15 +1,13 @@
 -- The digests that are sent belong to the boundary nodes, in order.
 use Rattle.std.proofs.Common.{◌≡◌, ℕ, ◌+◌, ◌<◌, ◌≤◌, true, false, cond, eqb, ◌&&◌, List, [], ◌∷◌, map, refl, ap, sym}
 use Rattle.std.proofs.Common.{◌∙◌, arith, inl, inr, length, filter, take, drop, zip, eq-eqb}
-use Rattle.std.specs.List.{find, range_with_len, take-map, drop-map}
-use Rattle.std.specs.Option.{unwrap_or, option_map}
+use Rattle.std.specs.{List.find, List.range_with_len, List.take-map, List.drop-map, Option.unwrap_or, Option.option_map}
 use Rattle.std.proofs.lemmas.Bool.{cases_Bool, eqb-true, and_parts, and_from, or_cases, true≢false, false_from_ne_true}
-use Rattle.p3_merkle_core.specs.Geometry.{Shape, layer_len}
-use Rattle.p3_merkle_core.specs.Nodes.{Functions}
+use Rattle.p3_merkle_core.specs.{Geometry.Shape, Geometry.layer_len, Nodes.Functions}
 use Rattle.p3_merkle_core.specs.Pruning.{PrunedOpening, is_boundary, boundary_at, boundary, is_in, sent_digest}
+use Rattle.p3_merkle_core.specs.Checks.{params}
 use Rattle.p3_merkle_core.proofs.Lists.ListFacts.{tally, joined_piece}
 use Rattle.p3_merkle_core.proofs.Covered.Sufficient.{same, listed_once}
-use Rattle.p3_merkle_core.specs.Checks.{params}
 
 -- ---- nodes that stand once
 

@@ -1,26 +1,19 @@
 -- The children that a walk takes are the values of the definitions.
-use Rattle.std.proofs.Common.{◌≡◌, ℕ, suc, ◌-◌, ◌*◌, ◌<◌, ◌≤◌, Bool, not, cond, List, [], ◌∷◌, ◌++◌, map, refl, ap}
-use Rattle.std.proofs.Common.{sym, ◌∙◌, arith, inl, inr, length, filter, get_or, take, drop}
-use Rattle.std.specs.List.{flat_map, range_with_len, take-map}
-use Rattle.std.specs.Cmp.{both_ways}
+use Rattle.std.proofs.Common.{◌≡◌, ℕ, suc, ◌-◌, ◌*◌, ◌<◌, ◌≤◌, Bool, not, cond, List, [], ◌∷◌, ◌++◌, map, refl, ap, sym}
+use Rattle.std.proofs.Common.{◌∙◌, arith, inl, inr, length, filter, get_or, take, drop}
 use Rattle.std.proofs.lemmas.Bool.{cases_Bool}
-use Rattle.std.proofs.lemmas.List.{length-map, map-append}
-use Rattle.std.proofs.lemmas.List.Elements.{filter-append, filter_agree}
+use Rattle.std.proofs.lemmas.List.{length-map, map-append, Elements.filter-append, Elements.filter_agree}
+use Rattle.std.specs.{List.flat_map, List.range_with_len, List.take-map, Cmp.both_ways}
 use Rattle.p3_merkle_core.specs.Inner.Children.{AreChildren, IsFamily, beside, children_under, unknown_count}
-use Rattle.p3_support.specs.Batches.{greatest}
-use Rattle.p3_support.specs.Lists.{is_among}
 use Rattle.p3_merkle_core.specs.Geometry.{Shape, step, layer_len, heights, height_limit}
-use Rattle.p3_merkle_core.specs.Nodes.{Functions}
-use Rattle.p3_merkle_core.specs.Pruning.{CanQuery, PrunedOpening, is_covered, is_boundary, boundary_at}
-use Rattle.p3_merkle_core.specs.Inner.Covered.{covered_at}
-use Rattle.p3_merkle_core.specs.Pruning.{boundary, sent_digest, restored_node, value_of}
-use Rattle.p3_merkle_core.proofs.Lists.ListFacts.{length-joined_le}
-use Rattle.p3_merkle_core.proofs.Lists.RisingFacts.{by_groups, listed_at}
+use Rattle.p3_merkle_core.specs.{Nodes.Functions, Pruning.CanQuery, Pruning.PrunedOpening, Pruning.is_covered}
+use Rattle.p3_merkle_core.specs.Pruning.{is_boundary, boundary_at, boundary, sent_digest, restored_node, value_of}
+use Rattle.p3_merkle_core.specs.{Inner.Covered.covered_at, Checks.params}
+use Rattle.p3_support.specs.{Batches.greatest, Lists.is_among}
+use Rattle.p3_merkle_core.proofs.Lists.{ListFacts.length-joined_le, RisingFacts.by_groups, RisingFacts.listed_at}
 use Rattle.p3_merkle_core.proofs.Covered.CoveredFacts.{listed_covered, covered_listed, covered_by_groups}
 use Rattle.p3_merkle_core.proofs.Covered.CoveredFacts.{boundary_by_lists, covered_count, group_fits, counted_at}
-use Rattle.p3_merkle_core.proofs.Covered.SentFacts.{sent_level}
-use Rattle.p3_merkle_core.proofs.Covered.ChildFacts.{children_length}
-use Rattle.p3_merkle_core.specs.Checks.{params}
+use Rattle.p3_merkle_core.proofs.Covered.{SentFacts.sent_level, ChildFacts.children_length}
 
 -- ---- lists
 

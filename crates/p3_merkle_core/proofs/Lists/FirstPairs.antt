@@ -1,11 +1,8 @@
 -- The first pair of places at which something is found.
 use Rattle.std.proofs.Common.{◌≡◌, ◌↔◌, ◌⊎◌, ℕ, zero, suc, ◌+◌, ◌<◌, ◌≤◌, refl, ap, sym, ◌∙◌, arith, inl, inr, Option}
-use Rattle.std.proofs.Common.{Some, None}
-use Rattle.std.specs.List.{range_with_len}
-use Rattle.std.specs.Option.{option_or, option_map}
-use Rattle.std.proofs.lemmas.Bool.{cases_eq}
-use Rattle.p3_merkle_core.specs.Refusals.{first_of}
-use Rattle.p3_merkle_core.specs.Extraction.{first_pair}
+use Rattle.std.proofs.{Common.Some, Common.None, lemmas.Bool.cases_eq}
+use Rattle.std.specs.{List.range_with_len, Option.option_or, Option.option_map}
+use Rattle.p3_merkle_core.specs.{Refusals.first_of, Extraction.first_pair}
 use Rattle.p3_merkle_core.proofs.Pruned.NoneFacts.{map_none, none_map, range_none}
 use Rattle.p3_merkle_core.proofs.Pruned.Unrefused.{all_in_range}
 

@@ -2,10 +2,9 @@
 use Rattle.std.proofs.Common.{◌≡◌, ℕ, zero, suc, ◌+◌, ◌-◌, ◌<◌, ◌≤◌, List, [], ◌∷◌, refl, ap, arith, inl, inr, length}
 use Rattle.std.proofs.Common.{get_or, take, drop, insert, remove, length-append, length-take, length-drop, cond, Bool}
 use Rattle.std.proofs.Common.{map, ◌++◌, sym, ◌∙◌, append-nil}
+use Rattle.std.proofs.lemmas.{Bool.cases_eq, Bool.cases_Bool, List.drop_at}
+use Rattle.std.proofs.lemmas.List.{drop-append-le, take-append-le, take_all, append_assoc, Recursion.is_count_by}
 use Rattle.std.specs.List.{count_by, flat_map, range_with_len}
-use Rattle.std.proofs.lemmas.Bool.{cases_eq, cases_Bool}
-use Rattle.std.proofs.lemmas.List.{drop_at, drop-append-le, take-append-le, take_all, append_assoc}
-use Rattle.std.proofs.lemmas.List.Recursion.{is_count_by}
 
 -- values from s on
 pub map_shift : {Y : Type 0} (v : ℕ → Y) (s a n : ℕ) → map (λ i. v (s + i)) (range_with_len a n)

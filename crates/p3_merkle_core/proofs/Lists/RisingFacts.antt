@@ -2,16 +2,12 @@
 use Rattle.std.proofs.Common.{◌≡◌, ℕ, zero, suc, ◌+◌, ◌-◌, ◌*◌, ◌/◌, ◌%◌, ◌<◌, ◌≤◌, Bool, true, false, not, eqb, ◌||◌}
 use Rattle.std.proofs.Common.{List, [], ◌∷◌, ◌++◌, map, refl, ap, sym, ◌∙◌, arith, inl, inr, length, filter, get_or}
 use Rattle.std.proofs.Common.{eq-eqb, AllPairs, length-append}
-use Rattle.std.specs.List.{list_any, range_with_len, dedup, dedup_from, flat_map}
-use Rattle.std.specs.List.Sorted.{IsStrictlyIncreasing}
 use Rattle.std.proofs.lemmas.Bool.{cases_Bool, cases_eq, cases_lt, eqb-true, eqb-false, or_cases, or_left, or_right}
-use Rattle.std.proofs.lemmas.Bool.{true≢false, false_from_ne_true}
-use Rattle.std.proofs.lemmas.Nat.{div-mul-add}
+use Rattle.std.proofs.lemmas.{Bool.true≢false, Bool.false_from_ne_true, Nat.div-mul-add}
 use Rattle.std.proofs.Math.Nat.{mul_comm, mul-le-mul_left}
-use Rattle.std.proofs.lemmas.List.Folds.{list_any-append, list_any_at}
-use Rattle.std.proofs.lemmas.List.Filters.{length-filter_both}
-use Rattle.std.proofs.lemmas.List.FromFn.{length-range_with_len}
-use Rattle.std.proofs.lemmas.List.Kept.{AllPairs-from_increasing}
+use Rattle.std.proofs.lemmas.List.{Folds.list_any-append, Folds.list_any_at, Filters.length-filter_both}
+use Rattle.std.proofs.lemmas.List.{FromFn.length-range_with_len, Kept.AllPairs-from_increasing}
+use Rattle.std.specs.List.{list_any, range_with_len, dedup, dedup_from, flat_map, Sorted.IsStrictlyIncreasing}
 use Rattle.p3_merkle_core.specs.Inner.Agreement.{IsAscending}
 
 -- ---- ascending lists

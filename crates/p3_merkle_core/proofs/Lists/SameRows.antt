@@ -1,7 +1,6 @@
 -- Tests of equality of rows and of row sets, which the code has as lists of lists.
 use Rattle.std.proofs.Common.{rules, ◌≡◌, ◌↔◌, IsTrue, List, [], ◌∷◌, Bool, ◌&&◌, refl, ap, map}
-use Rattle.std.specs.declared.vec.Vec.{Vec}
-use Rattle.std.specs.Cmp.Lexicographic.{pointwise, pointwise_decides}
+use Rattle.std.specs.{declared.vec.Vec.Vec, Cmp.Lexicographic.pointwise, Cmp.Lexicographic.pointwise_decides}
 use Rattle.p3_support.specs.Shown.{row_lists, row_sets}
 use Rattle.p3_merkle_core.specs.Refusals.{IsEquality}
 

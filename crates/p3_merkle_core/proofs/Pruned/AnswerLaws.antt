@@ -4,14 +4,11 @@ use Rattle.std.specs.Prelude.{Ok}
 use Rattle.p3_merkle_core.specs.Geometry.{Shape, IsArity}
 use Rattle.p3_merkle_core.specs.Nodes.{Functions, Batch, shape, layer, HasFullRows}
 use Rattle.p3_merkle_core.specs.Pruning.{PrunedOpening, opening_at, honest_query, IsHonestQuery}
-use Rattle.p3_merkle_core.specs.Refusals.{answer_under, pruned_answer}
-use Rattle.p3_merkle_core.specs.Refusals.{pruned_answer_under, IsEquality}
-use Rattle.p3_merkle_core.proofs.Pruned.Answered.{restorable}
-use Rattle.p3_merkle_core.proofs.Covered.Restoration.{honest_capped}
-use Rattle.p3_merkle_core.proofs.Pruned.HonestAnswered.{honest_restorable}
-use Rattle.p3_merkle_core.proofs.Covered.Equivalence.{equivalent}
-use Rattle.p3_merkle_core.proofs.Checks.Verdicts.{accepted_from, accepted_answer, pruned_accepted}
+use Rattle.p3_merkle_core.specs.Refusals.{answer_under, pruned_answer, pruned_answer_under, IsEquality}
 use Rattle.p3_merkle_core.specs.Checks.{params}
+use Rattle.p3_merkle_core.proofs.{Pruned.Answered.restorable, Covered.Restoration.honest_capped}
+use Rattle.p3_merkle_core.proofs.{Pruned.HonestAnswered.honest_restorable, Covered.Equivalence.equivalent}
+use Rattle.p3_merkle_core.proofs.Checks.Verdicts.{accepted_from, accepted_answer, pruned_accepted}
 
 pub answered_alike : {T W : Type 0} (row_eq : T → T → Bool) (digest_eq : W → W → Bool) (f : Functions T W) (s : Shape)
     (t : ℕ) (cap : List (List W)) (p : PrunedOpening T W) →

@@ -1,28 +1,22 @@
 -- A pruned opening that is not refused has lawful heights, indices below M, rows of their widths, and its rows agree.
 use Rattle.std.proofs.Common.{◌≡◌, ℕ, suc, ◌<◌, ◌≤◌, Bool, true, eqb, List, [], ◌∷◌, map, refl, ap, sym, ◌∙◌, arith}
 use Rattle.std.proofs.Common.{inl, inr, length, get_or, None, filter, zip}
-use Rattle.std.specs.Prelude.{Ok, Decides}
-use Rattle.std.specs.Cmp.Lexicographic.{pointwise, pointwise_decides}
-use Rattle.std.proofs.lemmas.Bool.{cases_Bool, eqb-true}
-use Rattle.std.proofs.lemmas.List.{length-map, get_or_default}
+use Rattle.std.proofs.lemmas.{Bool.cases_Bool, Bool.eqb-true, List.length-map, List.get_or_default}
+use Rattle.std.specs.{Prelude.Ok, Prelude.Decides, Cmp.Lexicographic.pointwise, Cmp.Lexicographic.pointwise_decides}
 use Rattle.p3_merkle_core.proofs.Shapes.ShapeFacts.{widths_in_pairs}
-use Rattle.p3_support.specs.Lists.{is_among}
-use Rattle.p3_support.specs.Batches.{greatest}
+use Rattle.p3_merkle_core.proofs.Pruned.NoneFacts.{none_parts, unless_none, verdict_ok, kept_none, range_none}
+use Rattle.p3_merkle_core.proofs.Pruned.NoneFacts.{paired_none, below_from, fit_from}
+use Rattle.p3_merkle_core.proofs.{Pruned.SlotFacts.queried_at, Shapes.GateFacts.gate_lawful}
+use Rattle.p3_support.specs.{Lists.is_among, Batches.greatest}
 use Rattle.p3_merkle_core.specs.Geometry.{Shape, exponent, layer_exponent, ancestor, heights, widths}
-use Rattle.p3_merkle_core.specs.Gate.{gate_refusal}
-use Rattle.p3_merkle_core.specs.Pruning.{PrunedOpening, boundary, IsRestorable}
+use Rattle.p3_merkle_core.specs.{Gate.gate_refusal, Pruning.PrunedOpening, Pruning.boundary, Pruning.IsRestorable}
 use Rattle.p3_merkle_core.specs.Refusals.{first_of, first_some, lead, matrices_at, slots_below, slot_of, size_refusal}
 use Rattle.p3_merkle_core.specs.Refusals.{idle_refusal, queries_refusal, duplicate_refusal, digest_count_refusal}
 use Rattle.p3_merkle_core.specs.Refusals.{width_refusal, row_refusal, group_refusal, pruned_refusal, pruned_answer}
-use Rattle.p3_merkle_core.specs.Refusals.{rows_of}
-use Rattle.p3_merkle_core.specs.declared.error.PrunedProofError.TheVariants.{SiblingCountMismatch}
+use Rattle.p3_merkle_core.specs.{Refusals.rows_of, declared.error.PrunedProofError.TheVariants.SiblingCountMismatch}
 use Rattle.p3_merkle_core.specs.declared.error.PrunedProofError.TheVariants.{InconsistentDuplicateOpenings}
 use Rattle.p3_merkle_core.specs.declared.error.PrunedProofError.TheVariants.{InconsistentGroupOpening}
 use Rattle.p3_merkle_core.specs.declared.error.MerkleTreeError.TheVariants.{WrongBatchSize, MalformedPrunedProof}
-use Rattle.p3_merkle_core.proofs.Pruned.NoneFacts.{none_parts, unless_none, verdict_ok, kept_none, range_none}
-use Rattle.p3_merkle_core.proofs.Pruned.NoneFacts.{paired_none, below_from, fit_from}
-use Rattle.p3_merkle_core.proofs.Pruned.SlotFacts.{queried_at}
-use Rattle.p3_merkle_core.proofs.Shapes.GateFacts.{gate_lawful}
 
 -- none of the reasons holds
 record HasNoFault {T W : Type 0} (row_eq : T → T → Bool) (s : Shape) (t : ℕ) (p : PrunedOpening T W) : Type 0 where

@@ -1,8 +1,7 @@
 -- The honest pruned opening is restorable, so it is not refused.
 use Rattle.std.proofs.Common.{◌≡◌, ℕ, ◌<◌, ◌≤◌, eqb, List, [], ◌∷◌, map, refl, ap, sym, ◌∙◌, arith, inl, inr, length}
 use Rattle.std.proofs.Common.{get_or, filter, zip}
-use Rattle.std.proofs.lemmas.Bool.{cases_Bool, eqb-true}
-use Rattle.std.proofs.lemmas.List.{length-map, get_or-map}
+use Rattle.std.proofs.lemmas.{Bool.cases_Bool, Bool.eqb-true, List.length-map, List.get_or-map}
 use Rattle.p3_merkle_core.specs.Geometry.{exponent, layer_exponent, halved_index, heights}
 use Rattle.p3_support.specs.Batches.{greatest, heights_of}
 use Rattle.p3_merkle_core.specs.Nodes.{Functions, Batch, Matrix, shape, node, dimensions_of, HasFullRows}

@@ -1,31 +1,20 @@
 -- The lowest slot under a node, and the rows that are compared with its rows.
-use Rattle.std.proofs.Common.{◌++◌, All, ◌≡◌, ◌≢◌, ℕ, zero, suc, ◌+◌, ◌-◌, ◌/◌, ◌^◌, ◌<◌, ◌≤◌, Bool, true, false, eqb, List}
-use Rattle.std.proofs.Common.{[], ◌∷◌, map, refl, ap, sym, ◌∙◌, arith, inl, inr, length, filter, get_or, eq-eqb, Option}
-use Rattle.std.proofs.Common.{None, Some, Vec, drop, drop-cons, add-one, not}
-use Rattle.std.specs.List.{list_any, range_with_len}
-use Rattle.std.specs.Option.{option_or}
-use Rattle.std.proofs.lemmas.Bool.{not-false, not-true}
-use Rattle.std.proofs.lemmas.Bool.{cases_Bool, eqb-true, eqb-false, false_from_ne_true, ne_eqb, true≢false, cases_lt}
-use Rattle.std.proofs.lemmas.List.Folds.{list_any_at}
-use Rattle.std.specs.Cmp.{IsEquivalence}
-use Rattle.std.specs.Cmp.Lexicographic.{pointwise}
-use Rattle.std.specs.List.Sorted.{IsStrictlyIncreasing}
-use Rattle.std.proofs.lemmas.Cmp.{lists_equiv}
+use Rattle.std.proofs.Common.{◌++◌, All, ◌≡◌, ◌≢◌, ℕ, zero, suc, ◌+◌, ◌-◌, ◌/◌, ◌^◌, ◌<◌, ◌≤◌, Bool, true, false, eqb}
+use Rattle.std.proofs.Common.{List, [], ◌∷◌, map, refl, ap, sym, ◌∙◌, arith, inl, inr, length, filter, get_or, eq-eqb}
+use Rattle.std.proofs.Common.{Option, None, Some, Vec, drop, drop-cons, add-one, not}
+use Rattle.std.proofs.lemmas.Bool.{not-false, not-true, cases_Bool, eqb-true, eqb-false, false_from_ne_true, ne_eqb}
+use Rattle.std.proofs.lemmas.{Bool.true≢false, Bool.cases_lt, List.Folds.list_any_at, Cmp.lists_equiv}
 use Rattle.std.proofs.lemmas.List.{append_assoc, drop_all, get_or_default, get_or-map, length-map}
-use Rattle.p3_support.specs.Shown.{row_lists, row_sets}
-use Rattle.p3_support.specs.Lists.{is_among}
-use Rattle.p3_support.specs.Batches.{greatest, heights_of}
-use Rattle.p3_merkle_core.specs.Geometry.{Shape, ancestor, exponent, heights, layer_exponent, IsArity}
-use Rattle.p3_merkle_core.proofs.Shapes.LadderFacts.{shifted_is_anc}
-use Rattle.p3_merkle_core.proofs.Shapes.LevelFacts.{exponent_low}
-use Rattle.p3_merkle_core.proofs.Shapes.StepFacts.{anc_start}
+use Rattle.std.specs.{List.list_any, List.range_with_len, Option.option_or, Cmp.IsEquivalence}
+use Rattle.std.specs.{Cmp.Lexicographic.pointwise, List.Sorted.IsStrictlyIncreasing}
+use Rattle.p3_support.specs.{Shown.row_lists, Shown.row_sets, Lists.is_among, Batches.greatest, Batches.heights_of}
 use Rattle.p3_support.specs.declared.matrix.Dimensions.{Dimensions}
-use Rattle.p3_merkle_core.specs.Refusals.{first_of}
-use Rattle.p3_merkle_core.specs.Inner.Agreement.{first_query, matrices_with, row_fault, rows_refusal, slot_rows}
-use Rattle.p3_merkle_core.specs.Inner.Agreement.{nodes_refusal, IsAscending}
-use Rattle.p3_merkle_core.specs.declared.error.MerkleTreeError.{MerkleTreeError}
-use Rattle.p3_merkle_core.specs.declared.error.MerkleTreeError.TheVariants.{MalformedPrunedProof}
+use Rattle.p3_merkle_core.specs.Geometry.{Shape, ancestor, exponent, heights, layer_exponent, IsArity}
+use Rattle.p3_merkle_core.specs.{Refusals.first_of, Inner.Agreement.first_query, Inner.Agreement.matrices_with}
+use Rattle.p3_merkle_core.specs.Inner.Agreement.{row_fault, rows_refusal, slot_rows, nodes_refusal, IsAscending}
+use Rattle.p3_merkle_core.specs.declared.error.MerkleTreeError.{MerkleTreeError, TheVariants.MalformedPrunedProof}
 use Rattle.p3_merkle_core.specs.declared.error.PrunedProofError.TheVariants.{InconsistentGroupOpening}
+use Rattle.p3_merkle_core.proofs.Shapes.{LadderFacts.shifted_is_anc, LevelFacts.exponent_low, StepFacts.anc_start}
 use Rattle.p3_merkle_core.proofs.Lists.RisingFacts.{listed_at, listed_in, none_kept, rising_from}
 use Rattle.p3_merkle_core.proofs.Pruned.SlotFacts.{first_place, rising_order, set_read}
 

@@ -1,15 +1,13 @@
 -- The slots of queries, by a walk over the queries in the order of their indices.
-use Rattle.std.proofs.Common.{◌≡◌, ◌∙◌, ℕ, ◌+◌, ◌-◌, ◌<◌, ◌≤◌, ◌⊎◌, ◌++◌, ◌∷◌, [], List, arith, ap, sym, eqb}
-use Rattle.std.proofs.Common.{get_or, inl, inr, length, length-append, map, refl, set, take}
-use Rattle.std.specs.List.{dedup, range_with_len}
-use Rattle.std.specs.List.Sorted.{IsPermutation, IsSorted}
-use Rattle.std.specs.Ordering.{nat_cmp, ordering_then}
-use Rattle.std.proofs.lemmas.Bool.{cases_eq}
-use Rattle.std.proofs.lemmas.List.{get_or-map, get_or-set_same, get_or-set_other, get_or_append_left, length-map}
-use Rattle.std.proofs.lemmas.List.{get_or_default, length-set, take_all}
+use Rattle.std.proofs.Common.{◌≡◌, ◌∙◌, ℕ, ◌+◌, ◌-◌, ◌<◌, ◌≤◌, ◌⊎◌, ◌++◌, ◌∷◌, [], List, arith, ap, sym, eqb, get_or}
+use Rattle.std.proofs.Common.{inl, inr, length, length-append, map, refl, set, take}
+use Rattle.std.proofs.lemmas.{Bool.cases_eq, List.get_or-map, List.get_or-set_same, List.get_or-set_other}
+use Rattle.std.proofs.lemmas.List.{get_or_append_left, length-map, get_or_default, length-set, take_all}
 use Rattle.std.proofs.lemmas.List.FromFn.{get_or-map-range_with_len, length-map-range_with_len}
 use Rattle.std.proofs.lemmas.List.Sorted.{All-permutation, Contains-permutation}
 use Rattle.std.proofs.Math.Seq.{get_or-append_seam}
+use Rattle.std.specs.List.{dedup, range_with_len, Sorted.IsPermutation, Sorted.IsSorted}
+use Rattle.std.specs.Ordering.{nat_cmp, ordering_then}
 use Rattle.p3_merkle_core.specs.Inner.Agreement.{distinct, AreSlots, AreSorted, IsSlot}
 use Rattle.p3_merkle_core.proofs.Lists.DedupFacts.{dropped, stays}
 use Rattle.p3_merkle_core.proofs.Pruned.SlotFacts.{found_at, sorted_by_index}

@@ -1,11 +1,9 @@
 -- Exponents with the next one below them: what a step from there is, and whether a matrix has the one above.
 use Rattle.std.proofs.Common.{◌≡◌, ℕ, ◌+◌, ◌-◌, ◌<◌, ◌≤◌, ◌&&◌, nat_lt, cond, true, false, Bool, List, [], ◌∷◌, refl}
 use Rattle.std.proofs.Common.{ap, sym, ◌∙◌, arith, inl, inr}
-use Rattle.std.specs.Prelude.{◌==◌}
-use Rattle.std.specs.List.{list_any}
+use Rattle.std.specs.{Prelude.◌==◌, List.list_any}
 use Rattle.std.proofs.lemmas.Bool.{cases_Bool, cases_lt, cases_eq, eq-eqb, ne_eqb, lt-ltb, le-ltb, true≢false}
-use Rattle.p3_merkle_core.specs.Geometry.{exponent}
-use Rattle.p3_merkle_core.specs.Inner.Exponents.{next_below}
+use Rattle.p3_merkle_core.specs.{Geometry.exponent, Inner.Exponents.next_below}
 use Rattle.p3_merkle_core.proofs.Shapes.StepFacts.{whole_step_falls}
 
 -- what a height below x counts for, and one from there on

@@ -2,8 +2,7 @@
 use Rattle.std.proofs.Common.{◌≡◌, ℕ, zero, suc, ◌+◌, ◌-◌, ◌<◌, ◌≤◌, arith, inl, inr, add-suc}
 use Rattle.p3_merkle_core.specs.Geometry.{Shape, IsArity, layer_exponent, levels}
 use Rattle.p3_merkle_core.proofs.Shapes.StepFacts.{next_exponent, next_falls}
-use Rattle.p3_merkle_core.proofs.Shapes.LadderFacts.{step_cases}
-use Rattle.p3_merkle_core.proofs.Shapes.RawFacts.{positive_below}
+use Rattle.p3_merkle_core.proofs.Shapes.{LadderFacts.step_cases, RawFacts.positive_below}
 
 pub exponents_fall : (s : Shape) (l k : ℕ) → layer_exponent s (l + k) ≤ layer_exponent s l
 exponents_fall s l zero = let z : l + 0 ≡ l = omega arith in rw z (omega arith)

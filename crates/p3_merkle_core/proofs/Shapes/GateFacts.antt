@@ -7,8 +7,7 @@ use Rattle.std.proofs.lemmas.Bool.{cond-true, cond-false, ne_eqb, eqb-false}
 use Rattle.std.proofs.lemmas.List.Sums.{fails_before_first, position_or_len_is}
 use Rattle.std.proofs.lemmas.List.{get_or_default, get_or-map, length-map}
 use Rattle.p3_merkle_core.specs.Geometry.{height_limit, expected_height, IsLawful}
-use Rattle.p3_support.specs.Batches.{greatest, heights_of}
-use Rattle.p3_support.specs.declared.matrix.Dimensions.{Dimensions}
+use Rattle.p3_support.specs.{Batches.greatest, Batches.heights_of, declared.matrix.Dimensions.Dimensions}
 use Rattle.p3_merkle_core.specs.Gate.{first_too_large, first_off_ladder, gate_refusal, height_refusal_of}
 use Rattle.p3_merkle_core.specs.declared.error.MerkleTreeError.TheVariants.{EmptyBatch}
 use Rattle.p3_merkle_core.proofs.Shapes.LeastFacts.{le_tallest}

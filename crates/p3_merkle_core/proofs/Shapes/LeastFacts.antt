@@ -2,11 +2,8 @@
 use Rattle.std.proofs.Common.{◌≡◌, ℕ, zero, suc, ◌+◌, ◌-◌, ◌*◌, ◌^◌, ◌<◌, ◌≤◌, Bool, true, false, nat_le, List, [], ◌∷◌}
 use Rattle.std.proofs.Common.{refl, ap, sym, ◌∙◌, arith, inl, inr, ◌⊎◌, length, get_or}
 use Rattle.std.proofs.lemmas.Bool.{cases_lt, cases_Bool, false≢true, le-leb, lt-leb, leb-true, leb-false}
-use Rattle.std.proofs.Math.Nat.{two-pow-succ}
-use Rattle.std.proofs.lemmas.Nat.{pow_pos}
-use Rattle.std.proofs.Math.Pow.{pow_mono}
-use Rattle.p3_merkle_core.specs.Geometry.{least, exponent}
-use Rattle.p3_merkle_core.specs.Inner.Shapes.{least_height, shortest}
+use Rattle.std.proofs.{Math.Nat.two-pow-succ, lemmas.Nat.pow_pos, Math.Pow.pow_mono}
+use Rattle.p3_merkle_core.specs.{Geometry.least, Geometry.exponent, Inner.Shapes.least_height, Inner.Shapes.shortest}
 use Rattle.p3_support.specs.Batches.{greatest}
 
 pub least_is : (p : ℕ → Bool) (bound k : ℕ) → k ≤ bound → ((j : ℕ) → j < k → p j ≡ false) → (k < bound → p k ≡ true) →

@@ -1,18 +1,14 @@
 -- What is known of the layer above a layer.
-use Rattle.std.proofs.Common.{◌≡◌, ℕ, zero, suc, ◌/◌, ◌^◌, ◌≤◌, ◌&&◌, Bool, cond, nat_lt, ap, sym}
-use Rattle.std.proofs.Common.{◌∙◌, arith, inl, inr}
+use Rattle.std.proofs.Common.{◌≡◌, ℕ, zero, suc, ◌/◌, ◌^◌, ◌≤◌, ◌&&◌, Bool, cond, nat_lt, ap, sym, ◌∙◌, arith, inl, inr}
 use Rattle.std.proofs.Math.Pow.{pow_mono}
 use Rattle.p3_merkle_core.specs.Geometry.{Shape, heights, exponent, has_rows, layer_exponent, is_bridge, levels}
 use Rattle.p3_merkle_core.specs.Geometry.{raw_len, grouped_len_of, padded_len, height_limit, step, IsArity, IsLawful}
-use Rattle.p3_merkle_core.specs.Geometry.{height_at}
+use Rattle.p3_merkle_core.specs.{Geometry.height_at, Inner.Levels.IsBelowTop, Inner.Levels.IsLevel}
 use Rattle.p3_support.specs.Batches.{greatest}
 use Rattle.p3_merkle_core.proofs.Shapes.GateFacts.{tallest_fits, none_large_from_lawful}
-use Rattle.p3_merkle_core.proofs.Shapes.LeastFacts.{exponent_le}
-use Rattle.p3_merkle_core.proofs.Shapes.LadderFacts.{step_cases}
+use Rattle.p3_merkle_core.proofs.Shapes.{LeastFacts.exponent_le, LadderFacts.step_cases}
 use Rattle.p3_merkle_core.proofs.Shapes.RawFacts.{filled, children_fit, raw_at}
-use Rattle.p3_merkle_core.proofs.Shapes.SiblingFacts.{step_is}
-use Rattle.p3_merkle_core.proofs.Shapes.StepFacts.{layer_start}
-use Rattle.p3_merkle_core.specs.Inner.Levels.{IsBelowTop, IsLevel}
+use Rattle.p3_merkle_core.proofs.Shapes.{SiblingFacts.step_is, StepFacts.layer_start}
 
 -- no lawful height is above the limit
 pub low : (s : Shape) → IsLawful (heights s) → greatest (heights s) ≤ height_limit

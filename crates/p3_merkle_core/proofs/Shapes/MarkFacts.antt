@@ -1,17 +1,12 @@
 -- Bits that tell the exponents of heights: each height sets the bit of its own.
 use Rattle.std.proofs.Common.{◌≡◌, ℕ, suc, ◌+◌, ◌-◌, ◌*◌, ◌<◌, ◌≤◌, ◌%◌, ◌^◌, max, nat_lt, cond, bit_or, List, length}
 use Rattle.std.proofs.Common.{ap, ◌∙◌, arith, inl, inr, drop, drop-cons, get_or}
-use Rattle.std.specs.Int.Count.{leading_of_zero, leading_unique}
-use Rattle.std.proofs.lemmas.Bool.{cases_lt, lt-ltb, le-ltb}
-use Rattle.std.specs.Int.Bits.{or_zero_r}
-use Rattle.std.proofs.lemmas.Grind.{pow_more}
+use Rattle.std.proofs.lemmas.{Bool.cases_lt, Bool.lt-ltb, Bool.le-ltb, Grind.pow_more}
 use Rattle.std.proofs.lemmas.Nat.{le_or_l, le_or_r, leading_length, or_lt, or_mod, pow-add, pow_below, pow_pos}
-use Rattle.std.proofs.Math.Nat.{mod-eq_of_lt, mod-lt, mul-mod_left, zero-mod}
-use Rattle.std.proofs.Math.Pow.{pow_mono}
-use Rattle.p3_support.specs.Batches.{heights_of}
-use Rattle.p3_support.specs.declared.matrix.Dimensions.{Dimensions}
-use Rattle.p3_merkle_core.specs.Geometry.{exponent}
-use Rattle.p3_merkle_core.specs.Inner.Exponents.{digits, next_below}
+use Rattle.std.proofs.Math.{Nat.mod-eq_of_lt, Nat.mod-lt, Nat.mul-mod_left, Nat.zero-mod, Pow.pow_mono}
+use Rattle.std.specs.Int.{Count.leading_of_zero, Count.leading_unique, Bits.or_zero_r}
+use Rattle.p3_support.specs.{Batches.heights_of, declared.matrix.Dimensions.Dimensions}
+use Rattle.p3_merkle_core.specs.{Geometry.exponent, Inner.Exponents.digits, Inner.Exponents.next_below}
 
 -- a number that has k digits
 digits_are : (a k : ℕ) → k ≤ 64 → a < 2 ^ k → 2 ^ k ≤ 2 * a + 1 → digits a ≡ k

@@ -1,12 +1,10 @@
 -- Steps that are kept level by level.
 use Rattle.std.proofs.Common.{◌≡◌, ℕ, suc, ◌+◌, ◌-◌, ◌<◌, cond, eqb, List, refl, ap, sym, ◌∙◌, arith, length, get_or}
 use Rattle.std.proofs.Common.{get_or-take, take, set, map}
+use Rattle.std.proofs.lemmas.List.{take_more_set, FromFn.map-range_with_len_more, FromFn.get_or-map-range_with_len}
 use Rattle.std.specs.List.{list_any, range_with_len}
-use Rattle.std.proofs.lemmas.List.{take_more_set}
-use Rattle.std.proofs.lemmas.List.FromFn.{map-range_with_len_more, get_or-map-range_with_len}
 use Rattle.p3_merkle_core.specs.Geometry.{Shape, exponent, has_rows, heights, is_bridge, layer_exponent}
-use Rattle.p3_merkle_core.specs.Inner.Steps.{level_step}
-use Rattle.p3_merkle_core.specs.declared.steps.LevelStep.{LevelStep}
+use Rattle.p3_merkle_core.specs.{Inner.Steps.level_step, declared.steps.LevelStep.LevelStep}
 use Rattle.p3_merkle_core.proofs.Shapes.StepFacts.{next_exponent}
 
 -- one that is read

@@ -1,9 +1,8 @@
 -- Quotients that are rounded up.
 use Rattle.std.proofs.Common.{◌≡◌, ℕ, suc, ◌*◌, ◌/◌, ◌%◌, ◌<◌, ◌≤◌, arith, inl, inr, sym, ap, ◌∙◌}
+use Rattle.std.proofs.{lemmas.Bool.cases_eq, lemmas.Bool.cases_lt, Math.Nat.div-add-mod}
+use Rattle.std.proofs.Math.Nat.{div-one, mod-lt, mod-one, mul_assoc, mul_comm, mul-le-mul_left, mul-suc, suc-mul}
 use Rattle.std.specs.Int.{div_ceil}
-use Rattle.std.proofs.lemmas.Bool.{cases_eq, cases_lt}
-use Rattle.std.proofs.Math.Nat.{div-add-mod, div-one, mod-lt, mod-one, mul_assoc, mul_comm, mul-le-mul_left, mul-suc}
-use Rattle.std.proofs.Math.Nat.{suc-mul}
 
 -- a quotient that is rounded up covers the number
 pub ceil_covers : (x a : ℕ) → 0 < a → x ≤ div_ceil x a * a

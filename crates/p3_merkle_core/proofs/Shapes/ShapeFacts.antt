@@ -1,6 +1,5 @@
 -- Heights and widths are as many as the dimensions.
-use Rattle.std.proofs.Common.{◌≡◌, sym, ◌∙◌, length}
-use Rattle.std.proofs.lemmas.List.{length-map}
+use Rattle.std.proofs.{Common.◌≡◌, Common.sym, Common.◌∙◌, Common.length, lemmas.List.length-map}
 use Rattle.p3_merkle_core.specs.Geometry.{Shape, heights, widths}
 
 pub length-heights : (s : Shape) → length (heights s) ≡ length s.dimensions

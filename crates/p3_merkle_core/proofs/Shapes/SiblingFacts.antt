@@ -1,16 +1,11 @@
 -- How many siblings the levels have, and that their count fits.
 use Rattle.std.proofs.Common.{◌≡◌, ℕ, zero, suc, ◌+◌, ◌-◌, ◌*◌, ◌^◌, ◌<◌, ◌≤◌, refl, arith}
-use Rattle.std.proofs.lemmas.Bool.{cond_both}
-use Rattle.std.proofs.lemmas.Nat.{pow_pos}
-use Rattle.std.proofs.Math.Nat.{mul-le-mul_left, suc-mul}
-use Rattle.std.proofs.Math.Pow.{pow_mono}
+use Rattle.std.proofs.lemmas.{Bool.cond_both, Nat.pow_pos}
+use Rattle.std.proofs.Math.{Nat.mul-le-mul_left, Nat.suc-mul, Pow.pow_mono}
 use Rattle.p3_merkle_core.specs.Geometry.{Shape, heights, exponent, layer_exponent, is_bridge, step, levels}
-use Rattle.p3_merkle_core.specs.Geometry.{leaves_under, height_limit, IsArity}
+use Rattle.p3_merkle_core.specs.{Geometry.leaves_under, Geometry.height_limit, Geometry.IsArity, Checks.siblings_below}
 use Rattle.p3_support.specs.Batches.{greatest}
-use Rattle.p3_merkle_core.specs.Checks.{siblings_below}
-use Rattle.p3_merkle_core.proofs.Shapes.LeastFacts.{exponent_le}
-use Rattle.p3_merkle_core.proofs.Shapes.StepFacts.{step_above_1}
-use Rattle.p3_merkle_core.proofs.Shapes.LadderFacts.{exact}
+use Rattle.p3_merkle_core.proofs.Shapes.{LeastFacts.exponent_le, StepFacts.step_above_1, LadderFacts.exact}
 use Rattle.p3_merkle_core.proofs.Shapes.RawFacts.{positive_below}
 
 pub siblings_next : (s : Shape) (l : ℕ) → siblings_below s (suc l) ≡ siblings_below s l + (step s l - 1)

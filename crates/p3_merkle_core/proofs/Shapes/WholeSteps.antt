@@ -1,14 +1,10 @@
 -- The end of the walk: above the lowest layer that a matrix belongs to, each step is a whole one, without rows.
 use Rattle.std.proofs.Common.{◌≡◌, ℕ, zero, suc, ◌+◌, ◌-◌, ◌*◌, ◌<◌, ◌≤◌, cond, false, List, length, get_or, map, take}
 use Rattle.std.proofs.Common.{ap, sym, ◌∙◌, arith, refl}
+use Rattle.std.proofs.{lemmas.List.take_more, lemmas.List.FromFn.map-range_with_len_more, Math.Nat.suc-mul}
 use Rattle.std.specs.List.{range_with_len}
-use Rattle.std.proofs.lemmas.List.{take_more}
-use Rattle.std.proofs.lemmas.List.FromFn.{map-range_with_len_more}
-use Rattle.std.proofs.Math.Nat.{suc-mul}
 use Rattle.p3_merkle_core.specs.Geometry.{Shape, exponent, heights, is_bridge}
-use Rattle.p3_merkle_core.specs.Inner.Exponents.{next_below}
-use Rattle.p3_merkle_core.specs.Inner.Steps.{level_step}
-use Rattle.p3_merkle_core.specs.declared.steps.LevelStep.{LevelStep}
+use Rattle.p3_merkle_core.specs.{Inner.Exponents.next_below, Inner.Steps.level_step, declared.steps.LevelStep.LevelStep}
 use Rattle.p3_merkle_core.proofs.Shapes.ExponentFacts.{next_not_had, next_stays, none_over}
 use Rattle.p3_merkle_core.proofs.Shapes.OwnedSteps.{level_is}
 use Rattle.p3_merkle_core.proofs.Shapes.StepFacts.{IsAt, at_more, whole_step_falls}

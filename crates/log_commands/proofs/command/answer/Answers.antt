@@ -1,9 +1,8 @@
 -- Each command reads its inputs and is answered by its own call.
 use Rattle.std.proofs.Common.{ap, inl, inr, ⊎_elim, None, Some, refl, string_bytes, subst, sym, List, ℕ, Result}
 use Rattle.std.proofs.lemmas.Result.{err_from_is_err_and}
-use Rattle.log_commands.specs.Commands.{prove_file}
-use Rattle.log_commands.specs.Outcomes.{and_then, bytes_in, Gives, join_outcome}
-use Rattle.log_commands.specs.declared.error.Error.{Error}
+use Rattle.log_commands.specs.{Commands.prove_file, Outcomes.and_then, Outcomes.bytes_in, Outcomes.Gives}
+use Rattle.log_commands.specs.{Outcomes.join_outcome, declared.error.Error.Error}
 use Rattle.log_commands.specs.declared.error.Source.TheVariants.{Checkpoint, New, Old, Proof}
 use Rattle.log_commands.proofs.InputFacts.{unread_gives}
 use Rattle.log_commands.proofs.command.answer.Goals as goal

@@ -1,9 +1,8 @@
 -- Each turn checks one size.
 use Rattle.std.proofs.Common.{ap, get_or, length, sym}
 use Rattle.p3_merkle_core.specs.Refusals.{unless}
-use Rattle.log_commands.specs.Outcomes.{part_refusal, sizes_refusal}
-use Rattle.log_commands.specs.declared.error.{Error.TheVariants.Refused, Source.TheVariants.Part}
-use Rattle.log_commands.specs.declared.error.Refusal.TheVariants.{PartSize}
+use Rattle.log_commands.specs.{Outcomes.part_refusal, Outcomes.sizes_refusal, declared.error.Error.TheVariants.Refused}
+use Rattle.log_commands.specs.declared.error.{Source.TheVariants.Part, Refusal.TheVariants.PartSize}
 use Rattle.log_commands.proofs.LoopFacts.{found_or, kept_or, next_place}
 use Rattle.log_commands.proofs.join.check_each.Goals as goal
 

@@ -1,8 +1,7 @@
 -- Each turn is one number more.
 use Rattle.std.proofs.Common.{◌∙◌, sym, ap, subst, ℕ, List, map}
+use Rattle.std.proofs.lemmas.{List.take_all, Result.err_from_is_err_and}
 use Rattle.std.specs.Str.Parse.{digits_value}
-use Rattle.std.proofs.lemmas.List.{take_all}
-use Rattle.std.proofs.lemmas.Result.{err_from_is_err_and}
 use Rattle.mmcs_engine.specs.Args.{IsNumberArg, texts_of}
 use Rattle.mmcs_engine.proofs.ArgFacts.{indices_more, number_at}
 use Rattle.mmcs_engine.proofs.NumberFacts.{number_read, number_missed}

@@ -1,23 +1,17 @@
 -- The tree is that of the matrices that were given.
 use Rattle.std.proofs.Common.{◌≡◌, ◌∙◌, ℕ, ◌<◌, All, IfOk, Err, None, rules, sym, ap, subst}
 use Rattle.std.proofs.lemmas.Result.{err_from_is_err_and}
-use Rattle.p3_support.specs.Batches.{greatest}
-use Rattle.p3_support.specs.Shown.{roots_of}
-use Rattle.p3_merkle_core.specs.Commitments.{IsCommitment}
-use Rattle.p3_merkle_core.specs.Geometry.{heights}
-use Rattle.p3_merkle_core.specs.Nodes.{shape, Batch}
+use Rattle.p3_support.specs.{Batches.greatest, Shown.roots_of}
+use Rattle.p3_merkle_core.specs.{Commitments.IsCommitment, Geometry.heights, Nodes.shape, Nodes.Batch}
 use Rattle.p3_merkle_core.specs.Pruning.{pruned_len}
 use Rattle.p3_merkle_core.specs.Refusals.{pruned_len_refusal, queries_refusal, AnswersUnlessMemory}
 use Rattle.p3_merkle_prover.specs.Parts.{layers_of, tree_batch}
 use Rattle.p3_merkle_mmcs.specs.Schemes.{cap_layer_of, params_of}
-use Rattle.mmcs_engine.specs.Inner.Stored.{stored_batch}
-use Rattle.mmcs_engine.specs.Text.{ok_line}
-use Rattle.mmcs_engine.specs.Inner.Alike.{opened_text}
+use Rattle.mmcs_engine.specs.{Inner.Stored.stored_batch, Text.ok_line, Inner.Alike.opened_text}
 use Rattle.mmcs_engine.proofs.GateFacts.{heights_refused, indices_refused, none_refused}
 use Rattle.mmcs_engine.proofs.TreesInNumbers.{check_printed, commit_printed, open_printed, stored_shape}
-use Rattle.mmcs_engine.proofs.engine.act.Given.{Over}
+use Rattle.mmcs_engine.proofs.engine.act.{Given.Over, Goals.After-check_indices}
 use Rattle.mmcs_engine.proofs.engine.act.Goals as goal
-use Rattle.mmcs_engine.proofs.engine.act.Goals.{After-check_indices}
 
 abbrev batch_given : (g : Over) → After-check_indices g → Batch g.row.W.Denot
 batch_given g c = stored_batch g.row.N c.args.matrices.items

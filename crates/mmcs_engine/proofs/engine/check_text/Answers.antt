@@ -1,12 +1,8 @@
 -- The tree is the scheme's own, so that its opening is accepted, and has as many digests as it should.
-use Rattle.std.proofs.Common.{◌∙◌, Err, ap, refl}
-use Rattle.std.proofs.lemmas.Result.{err_from_is_err_and}
+use Rattle.std.proofs.{Common.◌∙◌, Common.Err, Common.ap, Common.refl, lemmas.Result.err_from_is_err_and}
 use Rattle.p3_support.specs.Shown.{roots_of, row_sets}
-use Rattle.p3_merkle_core.specs.Commitments.{cap_over}
-use Rattle.p3_merkle_core.specs.Geometry.{shape_of}
-use Rattle.p3_merkle_core.specs.Nodes.{shape}
-use Rattle.p3_merkle_core.specs.Pruning.{pruned_len, pruned_of}
-use Rattle.p3_merkle_core.specs.Views.{pruned_borrowed, pruned_made}
+use Rattle.p3_merkle_core.specs.{Commitments.cap_over, Geometry.shape_of, Nodes.shape, Pruning.pruned_len}
+use Rattle.p3_merkle_core.specs.{Pruning.pruned_of, Views.pruned_borrowed, Views.pruned_made}
 use Rattle.p3_merkle_prover.specs.Parts.{tree_batch}
 use Rattle.p3_merkle_mmcs.specs.Schemes.{cap_layer_of, params_of}
 use Rattle.mmcs_engine.specs.Text.{ok_line}

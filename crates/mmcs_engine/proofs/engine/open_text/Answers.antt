@@ -2,11 +2,9 @@
 use Rattle.std.proofs.Common.{◌∙◌, ◌++◌, ap, map, rules}
 use Rattle.std.specs.Prelude.{flat_map}
 use Rattle.p3_support.specs.Shown.{row_sets}
-use Rattle.p3_merkle_core.specs.Openings.{honest_rows}
-use Rattle.p3_merkle_core.specs.Pruning.{PrunedOpening}
+use Rattle.p3_merkle_core.specs.{Openings.honest_rows, Pruning.PrunedOpening}
 use Rattle.p3_merkle_prover.specs.Parts.{tree_batch}
-use Rattle.mmcs_engine.specs.Text.{digest_lines}
-use Rattle.mmcs_engine.specs.Inner.Alike.{opened_lines}
+use Rattle.mmcs_engine.specs.{Text.digest_lines, Inner.Alike.opened_lines}
 use Rattle.mmcs_engine.proofs.OpenedLines.{sets_long}
 use Rattle.mmcs_engine.proofs.engine.open_text.Goals as goal
 

@@ -1,8 +1,6 @@
-use Rattle.std.proofs.Common.{◌∙◌, Err, ap}
-use Rattle.std.proofs.lemmas.Result.{err_from_is_err_and}
+use Rattle.std.proofs.{Common.◌∙◌, Common.Err, Common.ap, lemmas.Result.err_from_is_err_and}
 use Rattle.p3_merkle_core.specs.Nodes.{shape}
-use Rattle.mmcs_engine.specs.Inner.Stored.{stored_batch}
-use Rattle.mmcs_engine.specs.Inner.Alike.{batch_in_numbers}
+use Rattle.mmcs_engine.specs.Inner.{Stored.stored_batch, Alike.batch_in_numbers}
 use Rattle.mmcs_engine.proofs.TreesInNumbers.{shape_in_numbers, stored_in_numbers}
 use Rattle.mmcs_engine.proofs.ReplyFacts.{reply_fault, reply_text}
 use Rattle.mmcs_engine.proofs.engine.reply_with_scheme.Goals as goal

@@ -1,6 +1,5 @@
 use Rattle.std.proofs.Common.{ℕ, List, Err, ap, subst, ◌∙◌}
-use Rattle.std.specs.Prelude.{OnOk}
-use Rattle.std.specs.Io.KnownBytes.{Appends}
+use Rattle.std.specs.{Prelude.OnOk, Io.KnownBytes.Appends}
 use Rattle.std.proofs.lemmas.Result.{err_from_is_err_and}
 use Rattle.mmcs_engine.proofs.ReplyFacts.{failed_answer, written_answer}
 use Rattle.mmcs_engine.proofs.engine.run.Goals as goal

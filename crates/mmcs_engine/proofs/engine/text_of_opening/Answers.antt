@@ -1,8 +1,7 @@
 use Rattle.std.proofs.Common.{◌++◌, ◌∙◌, [], ap, sym, map, length, append_assoc, refl, arith}
 use Rattle.std.specs.Prelude.{codes, flat_map}
 use Rattle.std.proofs.lemmas.List.{length-map, take_all}
-use Rattle.mmcs_engine.specs.Text.{hex_lines, labelled, row_line}
-use Rattle.mmcs_engine.specs.Inner.Alike.{opened_lines}
+use Rattle.mmcs_engine.specs.{Text.hex_lines, Text.labelled, Text.row_line, Inner.Alike.opened_lines}
 use Rattle.mmcs_engine.proofs.OpenedLines.{queries_more, rows_opened}
 use Rattle.mmcs_engine.proofs.engine.text_of_opening.Goals as goal
 

@@ -1,18 +1,15 @@
 -- Each turn is one line of the input.
 use Rattle.std.proofs.Common.{◌≡◌, ◌+◌, ◌==◌, ◌<◌, ◌≤◌, List, ℕ, length, drop, get_or, map, sym, refl, ◌∙◌, subst, inl}
-use Rattle.std.proofs.Common.{arith, rules}
-use Rattle.std.specs.Prelude.{IfNone, IfSome}
-use Rattle.std.specs.List.{slice_split}
-use Rattle.std.proofs.lemmas.Result.{err_from_is_err_and}
+use Rattle.std.proofs.{Common.arith, Common.rules, lemmas.Result.err_from_is_err_and}
+use Rattle.std.specs.{Prelude.IfNone, Prelude.IfSome, List.slice_split}
 use Rattle.mmcs_engine.specs.Input.{pieces_of}
 use Rattle.mmcs_engine.proofs.InputFacts.{LinesSoFar, lines_fit, lines_start, lines_blank, lines_ended, lines_row}
 use Rattle.mmcs_engine.proofs.InputFacts.{lines_refused, lines_end, lines_end_block, next_piece, pieces_all, pieces_cut}
 use Rattle.mmcs_engine.proofs.InputFacts.{pieces_more, seen_is}
 use Rattle.mmcs_engine.proofs.MatrixFacts.{Shows, matrices_found}
-use Rattle.mmcs_engine.proofs.input.read_matrices.Given.{Over}
+use Rattle.mmcs_engine.proofs.input.read_matrices.{Given.Over, Goals.After-cut_line}
+use Rattle.mmcs_engine.proofs.input.read_matrices.Goals.{in-Some-take_matrix-2+in_ok-push-2, in_default-take_matrix-2}
 use Rattle.mmcs_engine.proofs.input.read_matrices.Goals as goal
-use Rattle.mmcs_engine.proofs.input.read_matrices.Goals.{After-cut_line, in-Some-take_matrix-2+in_ok-push-2}
-use Rattle.mmcs_engine.proofs.input.read_matrices.Goals.{in_default-take_matrix-2}
 
 -- this turn's piece is the next one of the input
 turn : (g : Over) (c : After-cut_line g) → (c.loop-rest.line < length (slice_split (λ b. b == 10) c.args.input.now)) ×

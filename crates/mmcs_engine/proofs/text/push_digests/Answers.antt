@@ -1,7 +1,6 @@
 -- Each turn is one line more.
 use Rattle.std.proofs.Common.{◌++◌, ◌∙◌, ap, sym, map, append-nil}
-use Rattle.std.proofs.lemmas.List.{take_all}
-use Rattle.std.proofs.lemmas.Result.{err_from_is_err_and}
+use Rattle.std.proofs.lemmas.{List.take_all, Result.err_from_is_err_and}
 use Rattle.mmcs_engine.specs.Text.{hex_line, hex_lines}
 use Rattle.mmcs_engine.proofs.TextFacts.{texts_more}
 use Rattle.mmcs_engine.proofs.text.push_digests.Goals as goal

@@ -1,11 +1,9 @@
 -- The message of a place ends within the words.
 use Rattle.std.proofs.Common.{arith, ℕ, ◌≡◌, ◌+◌, ◌*◌, ◌<◌, ◌≤◌, ◌≢◌, ◌∙◌, length, []}
-use Rattle.std.proofs.Math.Nat.{mul-le-mul_right}
-use Rattle.std.proofs.lemmas.List.{length-set, get_or-set_other}
+use Rattle.std.proofs.{Math.Nat.mul-le-mul_right, lemmas.List.length-set, lemmas.List.get_or-set_other}
 use Rattle.p3_hashes.specs.Fold.{fold_hash}
 use Rattle.p3_support.specs.Lists.{message}
-use Rattle.p3_hashes.proofs.Lanewise.{filled_more}
-use Rattle.p3_hashes.proofs.eights.hash_rest.Given.{Over}
+use Rattle.p3_hashes.proofs.{Lanewise.filled_more, eights.hash_rest.Given.Over}
 use Rattle.p3_hashes.proofs.eights.hash_rest.Goals as goal
 
 inside : (g : Over) (c : goal.In-loop-i g) → (c.loop-i.i + 1) * c.args.width ≤ length c.args.messages.now

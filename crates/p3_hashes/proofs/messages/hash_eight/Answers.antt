@@ -1,6 +1,5 @@
 use Rattle.std.proofs.Common.{◌≡◌, ◌≢◌, ℕ, List, [], ◌+◌, ◌<◌, ◌∙◌, ap, length, inl, inr, arith}
-use Rattle.std.proofs.lemmas.Bool.{cases_eq}
-use Rattle.std.proofs.lemmas.List.{get_or-set_same, get_or-set_other, length-set}
+use Rattle.std.proofs.lemmas.{Bool.cases_eq, List.get_or-set_same, List.get_or-set_other, List.length-set}
 use Rattle.sha2.specs.Sha256.{digest_bytes, sha256}
 use Rattle.p3_support.specs.Lists.{message}
 use Rattle.p3_hashes.proofs.Padding.{length-eight, message_of_part, messages_inside}

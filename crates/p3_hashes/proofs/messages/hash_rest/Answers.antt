@@ -3,9 +3,7 @@ use Rattle.std.proofs.Common.{arith, ◌≡◌, ◌+◌, ◌*◌, ◌<◌, ◌�
 use Rattle.std.proofs.lemmas.List.{length-set, get_or-set_other}
 use Rattle.sha2.specs.Sha256.{sha256}
 use Rattle.p3_support.specs.Lists.{message}
-use Rattle.p3_hashes.proofs.Lanewise.{filled_more}
-use Rattle.p3_hashes.proofs.Padding.{messages_inside}
-use Rattle.p3_hashes.proofs.messages.hash_rest.Given.{Over}
+use Rattle.p3_hashes.proofs.{Lanewise.filled_more, Padding.messages_inside, messages.hash_rest.Given.Over}
 use Rattle.p3_hashes.proofs.messages.hash_rest.Goals as goal
 
 inside : (g : Over) (c : goal.In-loop-i g) → (c.loop-i.i + 1) * c.args.width ≤ length c.args.messages.now

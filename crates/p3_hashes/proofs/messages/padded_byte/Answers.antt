@@ -1,8 +1,7 @@
 -- A byte of the message, the mark behind it, or a zero.
 use Rattle.std.proofs.Common.{◌≡◌, ◌<◌, ◌+◌, ◌∙◌, sym, length, arith}
 use Rattle.p3_support.specs.Lists.{message}
-use Rattle.p3_hashes.proofs.Padding.{byte_at, byte_mark, byte_of_message, byte_zero}
-use Rattle.p3_hashes.proofs.Padding.{length-message, messages_inside}
+use Rattle.p3_hashes.proofs.Padding.{byte_at, byte_mark, byte_of_message, byte_zero, length-message, messages_inside}
 use Rattle.p3_hashes.proofs.Padding.{zeros, zeros_fill}
 use Rattle.p3_hashes.proofs.messages.padded_byte.Goals as goal
 

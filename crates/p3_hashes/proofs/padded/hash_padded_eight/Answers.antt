@@ -2,8 +2,7 @@ use Rattle.std.proofs.Common.{◌≡◌, ℕ, List, [], ◌*◌, ◌/◌, ◌<�
 use Rattle.std.proofs.lemmas.List.{length-set}
 use Rattle.sha2.specs.Sha256.{digest_bytes, hash_after, initial_hash_256, padded_message, sha256}
 use Rattle.p3_support.specs.Lists.{message}
-use Rattle.p3_hashes.proofs.Lanewise.{filled_more}
-use Rattle.p3_hashes.proofs.Padding.{length-message}
+use Rattle.p3_hashes.proofs.{Lanewise.filled_more, Padding.length-message}
 use Rattle.p3_hashes.proofs.padded.hash_padded_eight.Goals as goal
 
 -- how many blocks the padded message has

@@ -2,8 +2,7 @@ use Rattle.std.proofs.Common.{◌≡◌, ℕ, List, [], ◌+◌, ◌*◌, ◌<�
 use Rattle.std.proofs.lemmas.List.{length-set}
 use Rattle.sha2.specs.Sha256.{word_at}
 use Rattle.p3_support.specs.Lists.{message}
-use Rattle.p3_hashes.proofs.Lanewise.{filled_more, lane_word}
-use Rattle.p3_hashes.proofs.Padding.{byte_at, word_same}
+use Rattle.p3_hashes.proofs.{Lanewise.filled_more, Lanewise.lane_word, Padding.byte_at, Padding.word_same}
 use Rattle.p3_hashes.proofs.padded.load_block.Goals as goal
 
 -- a word of a message, among all of them

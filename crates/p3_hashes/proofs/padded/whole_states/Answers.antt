@@ -1,8 +1,7 @@
 use Rattle.std.proofs.Common.{◌≡◌, ℕ, List, ◌+◌, ◌*◌, ◌∙◌, refl, sym, ap, add-one, take, drop, arith}
 use Rattle.sha2.specs.Sha256.{compress, hash_after, initial_hash_256}
 use Rattle.p3_support.specs.Lists.{message}
-use Rattle.p3_hashes.proofs.Lanewise.{each_lane}
-use Rattle.p3_hashes.proofs.Padding.{word_of_block}
+use Rattle.p3_hashes.proofs.{Lanewise.each_lane, Padding.word_of_block}
 use Rattle.p3_hashes.proofs.padded.whole_states.Goals as goal
 
 pub loop-t-init : goal.loop-t-init

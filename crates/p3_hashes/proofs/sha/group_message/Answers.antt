@@ -1,7 +1,6 @@
 use Rattle.std.proofs.Common.{rules, ◌≡◌, ◌<◌, ◌+◌, ◌++◌, [], ◌∙◌, ap, length, take, get_or, append-nil}
+use Rattle.std.proofs.lemmas.List.{get_or_default, take_more, Folds.concat-append}
 use Rattle.std.specs.List.{concat}
-use Rattle.std.proofs.lemmas.List.{get_or_default, take_more}
-use Rattle.std.proofs.lemmas.List.Folds.{concat-append}
 use Rattle.p3_hashes.proofs.sha.group_message.Goals as goal
 
 pub loop-digest-preserved : goal.loop-digest-preserved

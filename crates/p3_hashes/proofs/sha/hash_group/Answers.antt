@@ -1,8 +1,7 @@
 -- One more digest.
 use Rattle.std.proofs.Common.{rules, ◌≡◌, ◌<◌, ◌+◌, ◌++◌, [], length, take, get_or, append-nil}
+use Rattle.std.proofs.lemmas.List.{take_more, Folds.concat-append}
 use Rattle.std.specs.List.{concat}
-use Rattle.std.proofs.lemmas.List.{take_more}
-use Rattle.std.proofs.lemmas.List.Folds.{concat-append}
 use Rattle.p3_hashes.proofs.sha.hash_group.Goals as goal
 
 pub loop-digest-preserved : goal.loop-digest-preserved

@@ -1,16 +1,11 @@
 -- Each call answers one part of the definition, in its order.
 use Rattle.std.proofs.Common.{◌≡◌, ◌+◌, ◌<◌, ◌∙◌, ℕ, All, ap, arith, drop, get_or, sym, inl, inr, length, refl, []}
-use Rattle.std.proofs.Common.{None, Some}
+use Rattle.std.proofs.{Common.None, Common.Some, lemmas.List.length-map, lemmas.Result.err_from_is_err_and}
 use Rattle.std.specs.Prelude.{slice_index_or}
-use Rattle.std.proofs.lemmas.List.{length-map}
-use Rattle.std.proofs.lemmas.Result.{err_from_is_err_and}
-use Rattle.p3_support.specs.Shown.{row_lists, row_sets}
-use Rattle.p3_support.specs.Batches.{greatest, heights_of}
-use Rattle.p3_merkle_core.specs.Geometry.{shape_of}
-use Rattle.p3_merkle_core.specs.Refusals.{first_of, width_refusal}
+use Rattle.p3_support.specs.{Shown.row_lists, Shown.row_sets, Batches.greatest, Batches.heights_of}
+use Rattle.p3_merkle_core.specs.{Geometry.shape_of, Refusals.first_of, Refusals.width_refusal}
 use Rattle.p3_merkle_core.specs.Inner.Agreement.{distinct, first_query, layers_refusal}
-use Rattle.p3_merkle_core.proofs.Lists.RisingFacts.{increasing_from}
-use Rattle.p3_merkle_core.proofs.Pruned.AgreeFacts.{firsts_inside}
+use Rattle.p3_merkle_core.proofs.{Lists.RisingFacts.increasing_from, Pruned.AgreeFacts.firsts_inside}
 use Rattle.p3_merkle_core.proofs.Pruned.LeadFacts.{all_fit, firsts_next, found_or, kept_or}
 use Rattle.p3_merkle_core.proofs.Pruned.SlotFacts.{all_below, distinct_bounded, distinct_rising, set_read}
 use Rattle.p3_merkle_core.proofs.Pruned.PrunedFacts.{asked_from, full_from, late_from, pruned_counted, pruned_late}

@@ -1,7 +1,6 @@
 -- Each turn compares a query with the first one of its index.
 use Rattle.std.proofs.Common.{◌∙◌, Some, not, false, refl, ap, sym, arith}
-use Rattle.p3_merkle_core.specs.Refusals.{duplicate_refusal}
-use Rattle.p3_merkle_core.specs.Inner.Agreement.{opened_of}
+use Rattle.p3_merkle_core.specs.{Refusals.duplicate_refusal, Inner.Agreement.opened_of}
 use Rattle.p3_support.specs.Shown.{row_sets}
 use Rattle.p3_merkle_core.proofs.Pruned.SlotFacts.{first_inside, own_set, queried_at, repeat_turn, sets_compared}
 use Rattle.p3_merkle_core.proofs.Pruned.SortedFacts.{slot_read}

@@ -1,22 +1,18 @@
 -- Each turn keeps one step of the walk.
 use Rattle.std.proofs.Common.{◌≡◌, ◌<◌, ◌≤◌, ◌+◌, ◌*◌, ◌%◌, ◌^◌, ap, arith, bit_or, cond, length, length-set, max}
-use Rattle.std.proofs.Common.{nat_lt, refl, sym, ◌∙◌}
+use Rattle.std.proofs.{Common.nat_lt, Common.refl, Common.sym, Common.◌∙◌, lemmas.Bool.le-ltb, lemmas.Nat.pow_below}
+use Rattle.std.proofs.{Math.Nat.mod-eq_of_lt, lemmas.List.get_or-replicate, lemmas.List.get_or-set_other}
 use Rattle.std.specs.Int.{div_ceil}
-use Rattle.std.proofs.lemmas.Bool.{le-ltb}
-use Rattle.std.proofs.lemmas.Nat.{pow_below}
-use Rattle.std.proofs.Math.Nat.{mod-eq_of_lt}
-use Rattle.std.proofs.lemmas.List.{get_or-replicate, get_or-set_other}
 use Rattle.p3_support.specs.Batches.{heights_of}
 use Rattle.p3_merkle_core.specs.Inner.Exponents.{digits, next_below}
-use Rattle.p3_merkle_core.proofs.Shapes.ExponentFacts.{some_below}
-use Rattle.p3_merkle_core.proofs.Shapes.MarkFacts.{more_bits, no_bits, one_more}
-use Rattle.p3_merkle_core.proofs.Shapes.QuotientFacts.{ceil_below, ceil_covers, ceil_le_self}
-use Rattle.p3_merkle_core.proofs.Shapes.WholeSteps.{none, whole_steps, IsWalked}
-use Rattle.p3_merkle_core.specs.Geometry.{exponent, shape_of}
-use Rattle.p3_merkle_core.proofs.Shapes.OwnedSteps.{kept_more, level_is}
+use Rattle.p3_merkle_core.proofs.Shapes.{ExponentFacts.some_below, MarkFacts.more_bits, MarkFacts.no_bits}
+use Rattle.p3_merkle_core.proofs.Shapes.{MarkFacts.one_more, QuotientFacts.ceil_below, QuotientFacts.ceil_covers}
+use Rattle.p3_merkle_core.proofs.Shapes.{QuotientFacts.ceil_le_self, WholeSteps.none, WholeSteps.whole_steps}
+use Rattle.p3_merkle_core.proofs.Shapes.{WholeSteps.IsWalked, OwnedSteps.kept_more, OwnedSteps.level_is}
 use Rattle.p3_merkle_core.proofs.Shapes.StepFacts.{at_start, at_more, at_end, layer_start, next_falls, whole_step_falls}
 use Rattle.p3_merkle_core.proofs.Shapes.LeastFacts.{exponent_le}
 use Rattle.p3_merkle_core.proofs.steps.steps_of.Goals.{then-bit, else-bit}
+use Rattle.p3_merkle_core.specs.Geometry.{exponent, shape_of}
 use Rattle.p3_merkle_core.proofs.steps.steps_of.Goals as goal
 
 pub loop-matrix-init : goal.loop-matrix-init

@@ -1,7 +1,6 @@
 -- One more matrix.
 use Rattle.std.proofs.Common.{sym, ap, ◌∙◌, ◌++◌, ◌∷◌, [], take, inl, refl}
-use Rattle.std.proofs.lemmas.Result.{err_from_is_err_and}
-use Rattle.std.proofs.lemmas.List.{take_more, map-append, take_all}
+use Rattle.std.proofs.lemmas.{Result.err_from_is_err_and, List.take_more, List.map-append, List.take_all}
 use Rattle.p3_merkle_prover.proofs.opener.matrix_refs.Goals as goal
 
 pub loop-matrix-preserved : goal.loop-matrix-preserved

@@ -1,7 +1,6 @@
 -- Each turn reads one more row set.
 use Rattle.std.proofs.Common.{arith, inl, refl, ◌∙◌, ap, map}
-use Rattle.std.proofs.lemmas.Result.{err_from_is_err_and}
-use Rattle.std.proofs.lemmas.List.{take_all}
+use Rattle.std.proofs.lemmas.{Result.err_from_is_err_and, List.take_all}
 use Rattle.p3_merkle_core.specs.Openings.{honest_rows}
 use Rattle.p3_merkle_prover.specs.Parts.{tree_batch}
 use Rattle.p3_merkle_prover.proofs.BoundaryFacts.{sets_more}

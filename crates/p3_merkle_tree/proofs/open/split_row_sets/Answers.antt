@@ -1,7 +1,6 @@
 -- Each turn adds the parts of one more set; the pairs are the matrices of the tree.
 use Rattle.std.proofs.Common.{◌∙◌, ap, append-nil, arith, map}
-use Rattle.std.proofs.lemmas.List.{nil_from_length}
-use Rattle.std.proofs.lemmas.Result.{IfOk-from_err}
+use Rattle.std.proofs.lemmas.{List.nil_from_length, Result.IfOk-from_err}
 use Rattle.std.specs.Vec.Iter.{into_iter_items}
 use Rattle.p3_support.specs.Shown.{row_lists, row_sets}
 use Rattle.p3_merkle_tree.proofs.DrawFacts.{same_more}

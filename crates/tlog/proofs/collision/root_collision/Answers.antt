@@ -2,11 +2,9 @@ use Rattle.std.proofs.Common.{sym, ap, ◌∙◌, arith}
 use Rattle.std.specs.Cmp.Lexicographic.{bytes_decides}
 use Rattle.tlog.specs.Collisions.{entries_of}
 use Rattle.tlog.proofs.Accepted.{different, equal}
-use Rattle.tlog.proofs.Entries.{left_entries, length-entries, right_entries}
-use Rattle.tlog.proofs.Entries.{root_is_hashed}
-use Rattle.tlog.proofs.Entries.{same_halves, same_list}
-use Rattle.tlog.proofs.collision.root_collision.Goals as goal
+use Rattle.tlog.proofs.Entries.{left_entries, length-entries, right_entries, root_is_hashed, same_halves, same_list}
 use Rattle.tlog.proofs.collision.root_collision.Goals.{then-are_equal-2, else-are_equal-2}
+use Rattle.tlog.proofs.collision.root_collision.Goals as goal
 
 pub returns-then-ne-2-clause-collision : goal.returns-then-ne-2-clause-collision
 returns-then-ne-2-clause-collision g c =

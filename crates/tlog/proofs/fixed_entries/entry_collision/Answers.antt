@@ -1,10 +1,7 @@
-use Rattle.std.proofs.Common.{refl, sym, ap, ◌∙◌, arith}
+use Rattle.std.proofs.{Common.refl, Common.sym, Common.ap, Common.◌∙◌, Common.arith, lemmas.Result.IfOk-weaker}
 use Rattle.std.specs.Cmp.Lexicographic.{bytes_decides}
-use Rattle.std.proofs.lemmas.Result.{IfOk-weaker}
-use Rattle.tlog.specs.Collisions.{entries_of}
-use Rattle.tlog.specs.Rfc9162.{leaf_hash}
-use Rattle.tlog.proofs.Accepted.{different}
-use Rattle.tlog.proofs.Entries.{length-entries}
+use Rattle.tlog.specs.{Collisions.entries_of, Rfc9162.leaf_hash}
+use Rattle.tlog.proofs.{Accepted.different, Entries.length-entries}
 use Rattle.tlog.proofs.TwoWalks.{entry_fixed, leaf_at, ok_of, unequal}
 use Rattle.tlog.proofs.fixed_entries.entry_collision.Goals as goal
 

@@ -1,6 +1,5 @@
-use Rattle.std.proofs.Common.{refl, sym, ap, ◌∙◌}
+use Rattle.std.proofs.{Common.refl, Common.sym, Common.ap, Common.◌∙◌, lemmas.Result.IfOk-weaker}
 use Rattle.std.specs.Cmp.Lexicographic.{bytes_decides}
-use Rattle.std.proofs.lemmas.Result.{IfOk-weaker}
 use Rattle.tlog.specs.Rfc9162.{leaf_hash}
 use Rattle.tlog.proofs.TwoWalks.{leaf_at, leaf_fixed, unequal}
 use Rattle.tlog.proofs.fixed_entries.leaf_collision.Goals as goal

@@ -1,6 +1,5 @@
-use Rattle.std.proofs.Common.{sym, ◌∙◌, arith}
+use Rattle.std.proofs.{Common.sym, Common.◌∙◌, Common.arith, lemmas.Result.IfOk-weaker}
 use Rattle.std.specs.Cmp.Lexicographic.{bytes_decides}
-use Rattle.std.proofs.lemmas.Result.{IfOk-weaker}
 use Rattle.tlog.proofs.Consistencies.{differ, same_root}
 use Rattle.tlog.proofs.fixed_entries.prefix_collision.Goals as goal
 

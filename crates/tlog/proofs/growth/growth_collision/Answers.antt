@@ -1,10 +1,7 @@
-use Rattle.std.proofs.Common.{◌<◌, ◌∙◌, refl, sym, arith}
+use Rattle.std.proofs.{Common.◌<◌, Common.◌∙◌, Common.refl, Common.sym, Common.arith, lemmas.Result.IfOk-weaker}
 use Rattle.std.specs.Cmp.Lexicographic.{bytes_decides}
-use Rattle.std.proofs.lemmas.Result.{IfOk-weaker}
-use Rattle.tlog.proofs.Composed.{begins_layer, begins_whole}
-use Rattle.tlog.proofs.Consistencies.{begun_end}
-use Rattle.tlog.proofs.Kept.{lifted_included, not_kept, not_ok, same_included}
-use Rattle.tlog.proofs.TwoWalks.{ok_of, unequal}
+use Rattle.tlog.proofs.{Composed.begins_layer, Composed.begins_whole, Consistencies.begun_end, Kept.lifted_included}
+use Rattle.tlog.proofs.{Kept.not_kept, Kept.not_ok, Kept.same_included, TwoWalks.ok_of, TwoWalks.unequal}
 use Rattle.tlog.proofs.growth.growth_collision.Goals as goal
 
 pub returns-then-is_err-clause-none : goal.returns-then-is_err-clause-none

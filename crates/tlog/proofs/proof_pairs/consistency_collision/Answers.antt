@@ -1,7 +1,5 @@
-use Rattle.std.proofs.Common.{refl, sym, ◌∙◌, arith, inl}
-use Rattle.std.proofs.lemmas.Result.{IfOk-weaker}
-use Rattle.tlog.proofs.Consistencies.{fixed_from, no_digests}
-use Rattle.tlog.proofs.TwoWalks.{ok_of}
+use Rattle.std.proofs.{Common.refl, Common.sym, Common.◌∙◌, Common.arith, Common.inl, lemmas.Result.IfOk-weaker}
+use Rattle.tlog.proofs.{Consistencies.fixed_from, Consistencies.no_digests, TwoWalks.ok_of}
 use Rattle.tlog.proofs.proof_pairs.consistency_collision.Goals as goal
 
 pub returns-then-old_size-eq0-clause-none : goal.returns-then-old_size-eq0-clause-none

@@ -2,13 +2,10 @@
 use Rattle.std.proofs.Common.{rules, ◌≡◌, ◌∙◌, ap, length, List}
 use Rattle.std.specs.Bool.{Decides}
 use Rattle.std.proofs.lemmas.Result.{err_from_is_err_and}
-use Rattle.p3_support.specs.Shown.{row_sets}
-use Rattle.p3_support.specs.declared.matrix.Dimensions.{Dimensions}
-use Rattle.p3_merkle_core.specs.Geometry.{shape_of}
-use Rattle.p3_merkle_core.specs.Pruning.{pruned_of}
+use Rattle.p3_support.specs.{Shown.row_sets, declared.matrix.Dimensions.Dimensions}
+use Rattle.p3_merkle_core.specs.{Geometry.shape_of, Pruning.pruned_of}
 use Rattle.p3_merkle_mmcs.specs.Schemes.{params_of}
-use Rattle.tlog_entries.specs.contracts.node.NodePartialEq.TheImpl.{ghosts as node}
-use Rattle.tlog_entries.specs.declared.node.Node.{Node}
+use Rattle.tlog_entries.specs.{contracts.node.NodePartialEq.TheImpl.ghosts as node, declared.node.Node.Node}
 use Rattle.tlog_entries.proofs.EntriesFacts.{form_from, form_kept}
 use Rattle.tlog_entries.proofs.VerdictFacts.{meaning_kept, verdict_is}
 use Rattle.tlog_entries.proofs.verify.verify.Goals as goal

@@ -1,5 +1,4 @@
-use Rattle.std.proofs.Common.{refl, inr}
-use Rattle.std.proofs.lemmas.Result.{err_from_is_err_and}
+use Rattle.std.proofs.{Common.refl, Common.inr, lemmas.Result.err_from_is_err_and}
 use Rattle.mmcs_engine.proofs.command.Args.parse.Goals as goal
 
 -- the arguments were a command before memory was asked for

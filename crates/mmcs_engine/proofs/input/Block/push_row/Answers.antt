@@ -1,7 +1,6 @@
 use Rattle.std.proofs.Common.{◌≡◌, ◌+◌, [], length, map, sym, ap, ◌∙◌, inl, inr, refl, arith}
 use Rattle.std.proofs.lemmas.List.Elements.{All-get_or}
-use Rattle.mmcs_engine.specs.Input.{numbers_of}
-use Rattle.mmcs_engine.specs.declared.input.Block.{Block}
+use Rattle.mmcs_engine.specs.{Input.numbers_of, declared.input.Block.Block}
 use Rattle.mmcs_engine.proofs.BlockFacts.{block_more}
 use Rattle.mmcs_engine.proofs.input.Block.push_row.Goals as goal
 use Rattle.mmcs_engine.proofs.input.Block.push_row.Goals.{then-self-eq0, else-self-eq0}

@@ -1,7 +1,6 @@
 use Rattle.std.proofs.Common.{rules, ◌∙◌, sym, ap, length, []}
+use Rattle.std.proofs.lemmas.{List.FromFn.fill_by_all, Simd.map-map}
 use Rattle.std.specs.List.{range_with_len}
-use Rattle.std.proofs.lemmas.List.FromFn.{fill_by_all}
-use Rattle.std.proofs.lemmas.Simd.{map-map}
 use Rattle.p3_hashes.specs.Fold.{fold_hash}
 use Rattle.p3_support.specs.Lists.{message}
 use Rattle.p3_hashes.proofs.Parts.{part_of, parts_whole, some_place}

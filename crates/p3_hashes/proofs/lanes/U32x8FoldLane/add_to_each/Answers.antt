@@ -1,6 +1,5 @@
 use Rattle.std.proofs.Common.{ℕ, ◌+◌, ◌%◌, ◌^◌, ◌<◌, ◌∙◌, ap, length, replicate, slice_index_or}
-use Rattle.std.proofs.lemmas.Simd.{length-zip2, get_or-zip2}
-use Rattle.std.proofs.lemmas.List.{get_or-replicate}
+use Rattle.std.proofs.lemmas.{Simd.length-zip2, Simd.get_or-zip2, List.get_or-replicate}
 use Rattle.p3_hashes.proofs.lanes.U32x8FoldLane.add_to_each.Goals as goal
 
 pub invariant_of-result : goal.invariant_of-result

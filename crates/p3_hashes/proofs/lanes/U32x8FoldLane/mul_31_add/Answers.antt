@@ -1,7 +1,6 @@
 use Rattle.std.proofs.Common.{ℕ, ◌+◌, ◌*◌, ◌%◌, ◌^◌, ◌<◌, ◌∙◌, sym, ap, length, replicate, slice_index_or}
+use Rattle.std.proofs.lemmas.{Simd.length-zip2, Simd.get_or-zip2, List.get_or-replicate}
 use Rattle.std.specs.Simd.Lanes.{zip2}
-use Rattle.std.proofs.lemmas.Simd.{length-zip2, get_or-zip2}
-use Rattle.std.proofs.lemmas.List.{get_or-replicate}
 use Rattle.p3_hashes.proofs.FoldSteps.{taken_in}
 use Rattle.p3_hashes.proofs.lanes.U32x8FoldLane.mul_31_add.Goals as goal
 

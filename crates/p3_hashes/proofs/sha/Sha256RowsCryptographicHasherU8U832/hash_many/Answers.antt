@@ -1,8 +1,7 @@
 -- Each place has the digest of its message.
 use Rattle.std.proofs.Common.{arith, ◌+◌, ◌*◌, ◌≤◌, ◌/◌, ◌∙◌, sym, ap, length, []}
+use Rattle.std.proofs.lemmas.{List.FromFn.fill_by_all, Simd.map-map}
 use Rattle.std.specs.List.{range_with_len}
-use Rattle.std.proofs.lemmas.List.FromFn.{fill_by_all}
-use Rattle.std.proofs.lemmas.Simd.{map-map}
 use Rattle.p3_hashes.specs.Sha.{sha256_rows}
 use Rattle.p3_support.specs.Lists.{message}
 use Rattle.p3_hashes.proofs.Parts.{part_inside, part_of, some_place}

@@ -2,8 +2,7 @@
 use Rattle.std.proofs.Common.{◌≡◌, ◌-◌, ap, cond, false, true, sym, ◌∙◌}
 use Rattle.p3_merkle_core.specs.Geometry.{is_bridge, layer_exponent, shape_of}
 use Rattle.p3_merkle_core.specs.declared.steps.LevelStep.{LevelStep}
-use Rattle.p3_merkle_core.proofs.Shapes.OwnedSteps.{kept_at}
-use Rattle.p3_merkle_core.proofs.Shapes.StepFacts.{next_exponent}
+use Rattle.p3_merkle_core.proofs.Shapes.{OwnedSteps.kept_at, StepFacts.next_exponent}
 use Rattle.p3_merkle_core.proofs.steps.Steps.step_up.Goals as goal
 
 pub returns-then-is_bridge : goal.returns-then-is_bridge

@@ -1,8 +1,7 @@
 -- What the calls promise of this scheme gives what the trait promises of all.
 use Rattle.std.proofs.Common.{◌≡◌}
 use Rattle.p3_merkle_core.specs.declared.error.MerkleTreeError.TheVariants.{OutOfMemory}
-use Rattle.p3_merkle_mmcs.proofs.CommitmentFacts.{answers_by_definition, kept_by_errors, memory_alone}
-use Rattle.p3_merkle_mmcs.proofs.CommitmentFacts.{no_error_when_ok}
+use Rattle.p3_merkle_mmcs.proofs.CommitmentFacts.{answers_by_definition, kept_by_errors, memory_alone, no_error_when_ok}
 use Rattle.p3_merkle_mmcs.specs.Committed.{presented_one}
 use Rattle.p3_support.specs.Shown.{roots_of}
 use Rattle.p3_merkle_mmcs.proofs.scheme_trait.MerkleTreeMmcsMmcsValue.TheImpl.Goals as goal

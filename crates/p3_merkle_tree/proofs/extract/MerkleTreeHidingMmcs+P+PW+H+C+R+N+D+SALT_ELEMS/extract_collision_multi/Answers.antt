@@ -1,18 +1,13 @@
 -- Each refusal in its order; else the plain extraction from rows followed by their salts.
 use Rattle.std.proofs.Common.{◌≡◌, ◌∙◌, ◌⊎◌, List, Option, ap, length, refl, rules, subst, sym, Some}
-use Rattle.std.specs.Prelude.{Err, IfOk}
-use Rattle.std.specs.Option.{option_or, unwrap_or}
+use Rattle.std.specs.{Prelude.Err, Prelude.IfOk, Option.option_or, Option.unwrap_or}
 use Rattle.p3_merkle_core.specs.Extraction.{difference_of, first_pair}
-use Rattle.p3_merkle_core.specs.Geometry.{shape_of}
-use Rattle.p3_merkle_core.specs.Pruning.{opening_at, pruned_of}
-use Rattle.p3_merkle_core.specs.Refusals.{AnswersUnlessMemory, pruned_refusal_under}
-use Rattle.p3_merkle_core.specs.Views.{found_pair, pruned_borrowed}
-use Rattle.p3_merkle_core.specs.declared.error.MerkleTreeError.{MerkleTreeError}
-use Rattle.p3_merkle_core.specs.declared.error.MerkleTreeError.TheVariants.{OutOfMemory}
+use Rattle.p3_merkle_core.specs.{Geometry.shape_of, Pruning.opening_at, Pruning.pruned_of, Refusals.AnswersUnlessMemory}
+use Rattle.p3_merkle_core.specs.{Refusals.pruned_refusal_under, Views.found_pair, Views.pruned_borrowed}
+use Rattle.p3_merkle_core.specs.declared.error.MerkleTreeError.{MerkleTreeError, TheVariants.OutOfMemory}
 use Rattle.p3_merkle_core.proofs.Collisions.ExtractionFacts.{all_authenticated}
 use Rattle.p3_merkle_mmcs.specs.Schemes.{cap_height_of, cap_rule_of, params_of}
-use Rattle.p3_support.specs.declared.matrix.Dimensions.{Dimensions}
-use Rattle.p3_support.specs.Shown.{roots_of, row_sets}
+use Rattle.p3_support.specs.{declared.matrix.Dimensions.Dimensions, Shown.roots_of, Shown.row_sets}
 use Rattle.p3_merkle_tree.specs.HidingSchemes.{plain_of, salted_pruned_borrowed}
 use Rattle.p3_merkle_tree.specs.SaltRefusals.{salted_pruned_refusal_under, salted_sets_refusal}
 use Rattle.p3_merkle_tree.specs.SaltedOpenings.{joined_sets, salted_sets, widened}

@@ -1,16 +1,12 @@
 -- Rows followed by their salts are answered by the plain check; the answer says what is accepted.
 use Rattle.std.proofs.Common.{◌∙◌, List, ap, rules, subst, sym}
-use Rattle.p3_support.specs.declared.matrix.Dimensions.{Dimensions}
-use Rattle.p3_merkle_core.specs.Geometry.{shape_of}
-use Rattle.p3_merkle_core.specs.Openings.{opening_of}
-use Rattle.p3_merkle_core.specs.Refusals.{AnswersUnlessMemory, refusal_under}
-use Rattle.p3_merkle_core.specs.Views.{opening_borrowed}
+use Rattle.p3_support.specs.{declared.matrix.Dimensions.Dimensions, Shown.roots_of, Shown.row_lists}
+use Rattle.p3_merkle_core.specs.{Geometry.shape_of, Openings.opening_of, Refusals.AnswersUnlessMemory}
+use Rattle.p3_merkle_core.specs.{Refusals.refusal_under, Views.opening_borrowed}
 use Rattle.p3_merkle_mmcs.specs.Schemes.{params_of}
 use Rattle.p3_merkle_mmcs.proofs.VerdictFacts.{verdict_by}
-use Rattle.p3_support.specs.Shown.{roots_of, row_lists}
 use Rattle.p3_merkle_tree.specs.HidingSchemes.{plain_of, salted_borrowed, salted_params_of}
-use Rattle.p3_merkle_tree.specs.SaltRefusals.{salted_rows_refusal}
-use Rattle.p3_merkle_tree.specs.SaltedOpenings.{joined, salted_rows}
+use Rattle.p3_merkle_tree.specs.{SaltRefusals.salted_rows_refusal, SaltedOpenings.joined, SaltedOpenings.salted_rows}
 use Rattle.p3_merkle_tree.specs.SaltedPresented.{presented_salted}
 use Rattle.p3_merkle_tree.proofs.SaltedAnswers.{refusal_joined, refused_before, said, salted_accepted}
 use Rattle.p3_merkle_tree.proofs.verify.MerkleTreeHidingMmcs+P+PW+H+C+R+N+D+SALT_ELEMS.verify_batch.Goals as goal

@@ -1,17 +1,13 @@
 -- The answer says what is accepted.
 use Rattle.std.proofs.Common.{◌∙◌, List, ap, rules, subst, sym}
-use Rattle.p3_support.specs.declared.matrix.Dimensions.{Dimensions}
-use Rattle.p3_merkle_core.specs.Geometry.{shape_of}
-use Rattle.p3_merkle_core.specs.Pruning.{pruned_of}
-use Rattle.p3_merkle_core.specs.Refusals.{AnswersUnlessMemory, pruned_refusal_under}
-use Rattle.p3_merkle_core.specs.Views.{pruned_borrowed}
+use Rattle.p3_support.specs.{declared.matrix.Dimensions.Dimensions, Shown.roots_of, Shown.row_sets}
+use Rattle.p3_merkle_core.specs.{Geometry.shape_of, Pruning.pruned_of, Refusals.AnswersUnlessMemory}
+use Rattle.p3_merkle_core.specs.{Refusals.pruned_refusal_under, Views.pruned_borrowed}
 use Rattle.p3_merkle_mmcs.specs.Schemes.{params_of}
 use Rattle.p3_merkle_mmcs.proofs.VerdictFacts.{verdict_by}
-use Rattle.p3_support.specs.Shown.{roots_of, row_sets}
 use Rattle.p3_merkle_tree.specs.HidingSchemes.{plain_of, salted_pruned_borrowed, salted_params_of}
-use Rattle.p3_merkle_tree.specs.SaltRefusals.{salted_sets_refusal}
-use Rattle.p3_merkle_tree.specs.SaltedOpenings.{joined_sets, salted_sets}
-use Rattle.p3_merkle_tree.specs.SaltedPresented.{presented_salted_pruned}
+use Rattle.p3_merkle_tree.specs.{SaltRefusals.salted_sets_refusal, SaltedOpenings.joined_sets}
+use Rattle.p3_merkle_tree.specs.{SaltedOpenings.salted_sets, SaltedPresented.presented_salted_pruned}
 use Rattle.p3_merkle_tree.proofs.SaltedAnswers.{refusal_joined_sets, refused_before, salted_pruned_accepted}
 use Rattle.p3_merkle_tree.proofs.verify.MerkleTreeHidingMmcs+P+PW+H+C+R+N+D+SALT_ELEMS.verify_multi_batch.Goals as goal
 

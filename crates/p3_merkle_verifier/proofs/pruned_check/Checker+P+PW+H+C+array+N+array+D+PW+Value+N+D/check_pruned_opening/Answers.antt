@@ -1,9 +1,7 @@
 -- The refusal is that of the form, else of the cap.
 use Rattle.std.proofs.Common.{◌∙◌, ap, subst, Option}
-use Rattle.p3_merkle_core.specs.Geometry.{shape_of}
-use Rattle.p3_merkle_core.specs.Refusals.{AnswersUnlessMemory}
-use Rattle.p3_merkle_core.specs.declared.error.MerkleTreeError.{MerkleTreeError}
-use Rattle.p3_merkle_core.specs.declared.steps.Steps.{Steps}
+use Rattle.p3_merkle_core.specs.{Geometry.shape_of, Refusals.AnswersUnlessMemory}
+use Rattle.p3_merkle_core.specs.declared.{error.MerkleTreeError.MerkleTreeError, steps.Steps.Steps}
 use Rattle.p3_merkle_verifier.specs.Inner.Checks.{functions_of, shape_in}
 use Rattle.p3_merkle_verifier.proofs.RefusalFacts.{cap_refusal_alike, refusal_of_cap}
 use Rattle.p3_merkle_verifier.proofs.pruned_check.Checker+P+PW+H+C+array+N+array+D+PW+Value+N+D.check_pruned_opening.Goals as goal

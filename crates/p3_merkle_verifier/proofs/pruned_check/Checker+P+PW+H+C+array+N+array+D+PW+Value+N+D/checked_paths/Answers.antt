@@ -1,7 +1,6 @@
 -- The refusal is that of the form, else of the cap; the paths are those of the layers.
 use Rattle.std.proofs.Common.{◌∙◌, ap, sym}
-use Rattle.p3_merkle_core.specs.Geometry.{shape_of}
-use Rattle.p3_merkle_core.specs.declared.steps.Steps.{Steps}
+use Rattle.p3_merkle_core.specs.{Geometry.shape_of, declared.steps.Steps.Steps}
 use Rattle.p3_merkle_verifier.specs.Inner.Checks.{functions_of, shape_in}
 use Rattle.p3_merkle_verifier.proofs.RefusalFacts.{cap_refusal_alike, refusal_of_cap, refused_by_cap}
 use Rattle.p3_merkle_verifier.proofs.pruned_check.Checker+P+PW+H+C+array+N+array+D+PW+Value+N+D.checked_paths.Goals as goal

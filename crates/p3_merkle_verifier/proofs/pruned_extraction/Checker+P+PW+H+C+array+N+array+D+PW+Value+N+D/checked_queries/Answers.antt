@@ -1,7 +1,6 @@
 -- What is restored of an opening that is accepted can be compared.
 use Rattle.std.proofs.Common.{refl}
-use Rattle.p3_merkle_verifier.specs.Inner.Checks.{functions_of, shape_in}
-use Rattle.p3_merkle_verifier.specs.Inner.RestoredLevels.{pruned_in}
+use Rattle.p3_merkle_verifier.specs.Inner.{Checks.functions_of, Checks.shape_in, RestoredLevels.pruned_in}
 use Rattle.p3_merkle_verifier.specs.declared.pruned_extraction.RestoredQueries.{RestoredQueries}
 use Rattle.p3_merkle_verifier.proofs.QueryFacts.{comparable, consistent, leaves_known, restored}
 use Rattle.p3_merkle_verifier.proofs.pruned_extraction.Checker+P+PW+H+C+array+N+array+D+PW+Value+N+D.checked_queries.Goals as goal

@@ -1,6 +1,5 @@
 -- The first opening's refusal, else the second's, else the first pair that differs.
-use Rattle.p3_merkle_verifier.specs.Inner.Checks.{functions_of, shape_in}
-use Rattle.p3_merkle_verifier.specs.Inner.RestoredLevels.{pruned_in}
+use Rattle.p3_merkle_verifier.specs.Inner.{Checks.functions_of, Checks.shape_in, RestoredLevels.pruned_in}
 use Rattle.p3_merkle_verifier.proofs.QueryFacts.{found_in_both}
 use Rattle.p3_merkle_verifier.proofs.pruned_extraction.Checker+P+PW+H+C+array+N+array+D+PW+Value+N+D.pruned_extraction.Goals as goal
 

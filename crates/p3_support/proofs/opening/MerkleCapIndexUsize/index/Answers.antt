@@ -1,5 +1,4 @@
-use Rattle.std.proofs.Common.{rules}
-use Rattle.std.proofs.lemmas.Option.{gets}
+use Rattle.std.proofs.{Common.rules, lemmas.Option.gets}
 use Rattle.p3_support.proofs.opening.MerkleCapIndexUsize.index.Goals as goal
 
 pub returns : goal.returns
