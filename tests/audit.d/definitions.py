@@ -47,8 +47,9 @@ class Module:
                 head = (head[0] if is_head else number, number)
                 is_head, base = not code.endswith(" where"), 2
             elif use := USE.fullmatch(code):
-                self.used.append(use[1])
-                self.uses.update(names_of_use(*use.groups()))
+                names = names_of_use(*use.groups())
+                self.used += [target for target, _ in names.values()]
+                self.uses.update(names)
             elif not code.startswith("pub mod "):
                 if depth == 0:
                     base, head = 0, None
@@ -118,11 +119,12 @@ class Needed:
 
 
 def names_of_use(target, many, alias):
-    """What the names stand for that `use TARGET.{a, b as c}` or `use TARGET as ALIAS` brings."""
+    """What the names stand for that `use TARGET.{a, b as c, d.e}` or `use TARGET as ALIAS` brings."""
     if many is None:
         return {alias or target.split(".")[-1]: (target, None)}
     parts = [part.strip().partition(" as ") for part in many.split(",") if part.strip()]
-    return {alias or word: (target, word) for word, _, alias in parts}
+    paths = [(f"{target}.{path}".rpartition("."), alias) for path, _, alias in parts]
+    return {alias or word: (module, word) for (module, _, word), alias in paths}
 
 
 def module_of(modules, target):
