@@ -20,8 +20,8 @@ LIBRARY_FOR_C := libfohlazu.a libfohlazu.so
 FILES := $(PROGRAMS) $(LIBRARY_FOR_C)
 CPUS := x86-64-v2 x86-64-v3
 QUICK := $(PROGRAMS:%=build/quick/%)
-# What answers the cases of tests/fuzz, and the questions of tests/memory and tests/peers.
-CASES := merkle_cases log_cases
+# What answers the cases of tests/fuzz and tests/rust/compare, and the questions of tests/memory and tests/peers.
+CASES := merkle_cases log_cases library_tests
 LIBRARIES := build/libraries.tar.zst
 
 # This processor: x86-64-v3 where each has what that adds to x86-64-v2. Linux calls lzcnt by the name abm.
@@ -85,7 +85,7 @@ $(addprefix build/x86-64-%/,$(LIBRARY_FOR_C)): tools/build $(call sources_of,foh
 $(FILES:%=build/%): build/%: build/$(CPU)/% build/cpu
 	@cp $< build/partial && mv -f build/partial $@
 
-$(LIBRARIES): tools/build $(call sources_of,callers,$(ALL))
+$(LIBRARIES): tools/build share/rattle-with $(call sources_of,callers,$(ALL))
 	$(kit)
 	@bash tools/build libraries
 
@@ -154,7 +154,7 @@ help:
 #: make quick        the programs with no proof, in build/quick/: two minutes
 #: make check-quick  what can be tried with no proof: documents, tests, stored runs, random cases; 15 minutes
 #: make check        the gate: documents, then every proof, test and refused edit; 80 to 170 processor minutes
-#: make libraries    the proved libraries, for share/rattle-with: a crate over them is checked in a minute
+#: make libraries    the proved libraries, with rattle-with: a crate over them is checked in a minute
 #: make dist         archives of the programs and of the libraries, with their checksums, in build/dist/
 #: make documents    compares docs/ with the sources: seconds. `tests/audit write` and `tests/strength` write what of it
 #:                   is generated
