@@ -3,10 +3,7 @@ pub mod InputFacts
 pub mod PathFacts
 pub mod OneHeightFacts
 pub mod CheckFacts
-pub mod PlaceFacts
 pub mod Completeness
-pub mod Accepted
-pub mod AuthenticatedFacts
 pub mod Binding
 pub mod SameIndex
 pub mod Verdicts

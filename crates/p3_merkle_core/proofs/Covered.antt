@@ -4,7 +4,6 @@ pub mod CoveredFacts
 pub mod ClimbFacts
 pub mod ChildFacts
 pub mod ValueFacts
-pub mod SentFacts
 pub mod KeptFacts
 pub mod Sufficient
 pub mod Minimal

@@ -3,6 +3,4 @@ pub mod ListFacts
 pub mod RisingFacts
 pub mod DedupFacts
 pub mod GroupFacts
-pub mod FirstPairs
 pub mod ViewFacts
-pub mod SameRows

@@ -8,4 +8,3 @@ pub mod NoneFacts
 pub mod Answered
 pub mod Unrefused
 pub mod HonestAnswered
-pub mod AnswerLaws

@@ -1,13 +1,9 @@
 //! Heights, widths and lengths of layers, computed from the dimensions of matrices. Nothing here allocates.
-//!
-//! Heights are lawful if each is the tallest one halved, and each time rounded up, some number of times. The slots of a
-//! layer are its nodes, then default digests as padding.
 
 ghost use Rattle.std.specs.Prelude.{◌≡◌, ◌/◌, ◌%◌, ◌^◌, ◌<◌, ◌≤◌, Some, None, MatchResult, map};
 ghost use Rattle.p3_support.specs.Batches.{heights_of, greatest};
-ghost use Rattle.p3_merkle_core.specs.Gate.{first_too_large};
 ghost use Rattle.p3_merkle_core.specs.Geometry.{bits_reduced, exponent, height_at, height_limit, padded_len};
-ghost use Rattle.p3_merkle_core.specs.{Inner.Shapes.shortest, Refusals.width_refusal};
+ghost use Rattle.p3_merkle_core.specs.{Gate.first_too_large, Refusals.width_refusal, Inner.Shapes.shortest};
 
 use crate::error::MerkleTreeError;
 use p3_support::matrix::Dimensions;
@@ -68,12 +64,12 @@ pub fn height_of_exponent(max_height: usize, exponent: usize) -> usize
     (max_height.saturating_sub(1) >> exponent_of(max_height).saturating_sub(exponent)) + 1
 }
 
-/// The position of the first matrix whose height is above [`MAX_HEIGHT`], if there is one. `max_height` must be the
-/// tallest height: where it is within the limit, no other height is read.
+/// The position of the first matrix whose height is above [`MAX_HEIGHT`]. `max_height` must be the tallest height.
 pub(crate) fn first_too_large_of(dimensions: &[Dimensions], max_height: usize) -> Option<usize>
     requires { max_height ≡ greatest (heights_of dimensions.now) }
     ensures { result ≡ first_too_large (heights_of dimensions.now) }
 {
+    // Where the tallest height is within the limit, no other is read.
     if max_height <= MAX_HEIGHT {
         return None;
     }
@@ -93,20 +89,17 @@ pub fn check_widths<T>(dimensions: &[Dimensions], rows: &[Vec<T>]) -> Result<(),
     ensures { MatchResult result (λ ok. width_refusal dimensions.now (map (λ r. r.items) rows.now) ≡ None)
         (λ e. width_refusal dimensions.now (map (λ r. r.items) rows.now) ≡ Some e) }
 {
-    if rows.len() != dimensions.len() {
-        return Err(MerkleTreeError::WrongBatchSize {
-            expected: dimensions.len(),
-            got: rows.len(),
-        });
+    let (expected, got) = (dimensions.len(), rows.len());
+    if got != expected {
+        return Err(MerkleTreeError::WrongBatchSize { expected, got });
     }
     for matrix in 0..dimensions.len() {
-        let row = &rows[matrix];
-        let expected = dimensions[matrix].width;
-        if row.len() != expected {
+        let (expected, got) = (dimensions[matrix].width, rows[matrix].len());
+        if got != expected {
             return Err(MerkleTreeError::WrongWidth {
                 matrix,
                 expected,
-                got: row.len(),
+                got,
             });
         }
     }

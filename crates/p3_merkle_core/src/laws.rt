@@ -2,14 +2,9 @@
 //! that `==` on errors, openings, proofs, paths and collisions is equality of values. The laws hold for every hash,
 //! every compression, every batch and every opening. The contracts of the crates above cite the same definitions.
 //!
-//! - The exponent of a height is its log2, rounded up. Heights are lawful if each is the tallest one halved, and each
-//!   time rounded up, some number of times.
-//! - Layer 0 is the leaves. A matrix belongs to the layer of its exponent; the cap is one layer, and authenticates the
-//!   matrices of its own layer and of those below it.
 //! - The honest opening of an index has the rows and siblings that the batch's own tree has.
-//! - A node is covered if it is a queried leaf or above one. The boundary is the children of covered nodes that are not
-//!   covered themselves: a pruned opening has their digests. It restores if its form is right and its rows agree: then
-//!   it gives the digest of each covered node, and the path of each query.
+//! - A pruned opening restores if its form is right and its rows agree: then it gives the digest of each covered node,
+//!   and the path of each query.
 //! - The check of an opening has an input at each place of its path: the words hashed at the leaf; on each level the
 //!   digests of a group and, if matrices belong to the layer above, their words and the digests of a pair. Two checks
 //!   share a place if they reach one node there.
@@ -98,8 +93,7 @@ pub fn place_eq(a: &Place, b: &Place) -> bool
     *a == *b
 }
 
-/// If `==` on `T` and on `X` is equality of values, `==` holds of input pairs exactly if both are of one variant, with
-/// the same place and the same inputs.
+/// `==` of input pairs is equality of variant, place and inputs if `==` on `T` and on `X` is equality of values.
 fn input_pair_eq<T: Eq, X: Eq>(a: &InputPair<T, X>, b: &InputPair<T, X>) -> bool
     ensures { IsEquality T.eq → IsEquality X.eq → IsTrue result ↔ IsSamePair a.now b.now }
 {

@@ -1,12 +1,7 @@
 //! Pruned openings: their form, whether their rows agree, the nodes that they cover, and the paths that are read from
 //! their layers. Nothing here needs a cap or a hash.
-//!
-//! - A query is the index of a leaf. Its row set has one row of each matrix. The slot of an index is its position among
-//!   the distinct indices, ascending.
-//! - A node is covered if it is a queried leaf or above one. The boundary is the children of covered nodes that are not
-//!   covered themselves: a proof has their digests.
-//! - The exponent of a height is its log2, rounded up. A matrix belongs to the layer of its exponent.
-//! - Rows agree if queries of one index have one row set, and queries under a node one row of each matrix of its layer.
+//! The row set of a query has one row of each matrix. The slot of an index is its position among the distinct indices,
+//! ascending. Rows agree if queries of one index have one row set, and those under a node one row of each matrix there.
 
 ghost use Rattle.std.specs.Prelude.{◌≡◌, ℕ, ◌+◌, ◌-◌, ◌*◌, ◌/◌, ◌%◌, ◌^◌, ◌<◌, ◌≤◌, ◌⊎◌, ◌++◌, Some, None, List, []};
 ghost use Rattle.std.specs.Prelude.{All, IfOk, MatchResult, length, map, remove, slice_index, slice_index_or, true};
@@ -14,14 +9,13 @@ ghost use Rattle.std.specs.{Cmp.Lexicographic.pointwise, List.Sorted.IsStrictlyI
 ghost use Rattle.p3_support.specs.Batches.{heights_of, greatest};
 ghost use Rattle.p3_support.specs.{Lists.is_among, Shown.row_lists, Shown.row_sets};
 ghost use Rattle.p3_merkle_core.specs.Geometry.{height_limit, shape_of, IsArity};
+ghost use Rattle.p3_merkle_core.specs.Refusals.{digest_count_refusal, duplicate_refusal, pruned_refusal};
+ghost use Rattle.p3_merkle_core.specs.Refusals.{queries_refusal, AnswersUnlessMemory};
 ghost use Rattle.p3_merkle_core.specs.Inner.Agreement.{distinct, early_refusal, layers_refusal, matrices_with};
 ghost use Rattle.p3_merkle_core.specs.Inner.Agreement.{nodes_refusal, opened_of, opened_with, rows_refusal, slot_rows};
 ghost use Rattle.p3_merkle_core.specs.Inner.Agreement.{AreDistinctOf, AreSlots, AreSorted, IsAscending};
 ghost use Rattle.p3_merkle_core.specs.Inner.Children.{levels_in, siblings_on_path, place_among, AreChildren, AreLinked};
-ghost use Rattle.p3_merkle_core.specs.Inner.Children.{IsFamily};
-ghost use Rattle.p3_merkle_core.specs.Refusals.{digest_count_refusal, duplicate_refusal, pruned_refusal};
-ghost use Rattle.p3_merkle_core.specs.Refusals.{queries_refusal, AnswersUnlessMemory};
-ghost use Rattle.p3_merkle_core.specs.declared.error.MerkleTreeError.TheVariants.{OutOfMemory};
+ghost use Rattle.p3_merkle_core.specs.{Inner.Children.IsFamily, declared.error.MerkleTreeError.TheVariants.OutOfMemory};
 
 use crate::error::{MerkleTreeError, PrunedProofError};
 use crate::geometry::{check_widths, exponent_of, parent_of, position_of};
@@ -113,8 +107,7 @@ pub fn check_indices(max_height: usize, indices: &[usize]) -> Result<(), MerkleT
     }
 }
 
-/// The distinct indices, ascending, and the slot of each query, in query order. `indices` has the index of each query,
-/// and `sorted` has each query as its index and its position, ascending.
+/// The distinct `indices`, ascending, and the slot of each query. `sorted` has each index with its query, ascending.
 fn distinct_slots(
     alloc: Global,
     sorted: &[(usize, usize)],
@@ -160,8 +153,7 @@ fn distinct_queries_of(alloc: Global, queries: &[usize]) -> Result<DistinctQueri
     })
 }
 
-/// Checks that each query has the row set of the first query of its index, else `InconsistentDuplicateOpenings`. `rows`
-/// has the row set of each of `indices`, and `queried` their slots.
+/// Checks that each query has the row set of the first query of its index.
 fn check_repeats<T: Eq>(
     indices: &[usize],
     rows: &[Vec<Vec<T>>],
@@ -183,9 +175,7 @@ fn check_repeats<T: Eq>(
     Ok(())
 }
 
-/// Checks that `rows` and `first_rows` have the same row of each of `matrices`, which are positions in both: else
-/// `InconsistentGroupOpening` for the first that differs. `rows` is the row set of `slot`, and `first_rows` that of the
-/// first slot under the same node. `slot` is only reported.
+/// Checks that `slot` and the first slot under the same node have the same row of each of `matrices`.
 fn check_same_rows<T: Eq>(
     matrices: &[usize],
     slot: usize,
@@ -211,10 +201,7 @@ fn check_same_rows<T: Eq>(
     Ok(())
 }
 
-/// Checks that slots under one node of a layer have the same rows of `matrices`, the positions of the layer's matrices,
-/// else `InconsistentGroupOpening`. Each slot is compared with the first one under its node. `indices` are distinct and
-/// ascending; `first_queries` has the first query of each, whose row set in `rows` is compared. A node's number is an
-/// index without its lowest `bits` bits.
+/// Checks that slots under one node, whose indices differ in the lowest `bits` bits alone, have the same rows.
 fn check_rows_under_nodes<T: Eq>(
     matrices: &[usize],
     indices: &[usize],
@@ -262,8 +249,7 @@ fn list_matrices(
     Ok(())
 }
 
-/// Checks that slots under one node have the same rows of the matrices of its layer, layer by layer up to layer
-/// `cap_layer`, else `InconsistentGroupOpening`. `rows` has the row set of each query, with a row for each matrix.
+/// Checks that slots under one node have the same rows of the matrices of its layer, up to layer `cap_layer`.
 fn check_shared_rows<T: Eq>(
     alloc: Global,
     steps: &Steps<'_>,
@@ -285,17 +271,17 @@ fn check_shared_rows<T: Eq>(
         (row_sets rows.now) in
         AnswersUnlessMemory result refusal }
 {
-    let mut matrices = Vec::new(alloc);
+    let mut listed = Vec::new(alloc);
     let mut exponent = steps.exponent;
     // No two slots are under one leaf, so the first layer to look at is the one above the leaves.
     for level in 0..cap_layer {
         let up = steps.step_up(steps.arity, level, exponent);
         exponent = up.exponent;
         if up.has_rows {
-            list_matrices(&mut matrices, steps.dimensions, exponent)?;
+            list_matrices(&mut listed, steps.dimensions, exponent)?;
             let bits = steps.exponent - exponent;
             check_rows_under_nodes(
-                &matrices,
+                &listed,
                 &queried.indices,
                 bits,
                 &queried.first_queries,
@@ -355,8 +341,7 @@ pub fn check_pruned<T: Eq>(
     Ok(queried)
 }
 
-/// Checks, in this order: the heights; that there is a row set for each index; that there is no digest where there is
-/// no index; and that each index is below the tallest height. It does not allocate.
+/// Checks the heights, the number of row sets, that no digest comes without an index, and the indices.
 fn check_queries(
     steps: &Steps<'_>,
     indices: &[usize],
@@ -369,11 +354,9 @@ fn check_queries(
     ensures low { IfOk result (λ ok. greatest (heights_of steps.now.dimensions.now) ≤ height_limit) }
 {
     check_heights(steps.dimensions)?;
-    if num_row_sets != indices.len() {
-        return Err(MerkleTreeError::WrongBatchSize {
-            expected: indices.len(),
-            got: num_row_sets,
-        });
+    let (expected, got) = (indices.len(), num_row_sets);
+    if got != expected {
+        return Err(MerkleTreeError::WrongBatchSize { expected, got });
     }
     if indices.is_empty() {
         check_digest_count(0, num_digests)?;
@@ -443,8 +426,7 @@ pub fn children_of<X: Copy>(
     Ok(children)
 }
 
-/// The place of `node` among ascending nodes, of which it must be one. The search begins at the place `start`, or at 0
-/// if the node is before it, and takes a step for each node that it passes.
+/// The place of `node` among ascending nodes. The search begins at the place `start`, or at 0 if the node is before it.
 fn place_of(nodes: &[usize], start: usize, node: usize) -> usize
     requires ascending { IsStrictlyIncreasing nodes.now }
     requires among { is_among nodes.now node ≡ true }

@@ -1,11 +1,6 @@
 //! The steps of a tree, from the leaves to the root, and the covered nodes of its layers. The steps are computed once
 //! and stored; all other code reads them. Only the two `clone`s and the two calls that return a list allocate.
-//!
-//! - Layer 0 is the leaves; level `l` leads from layer `l` to layer `l + 1`. The step of a level is how many children
-//!   each node above it has: the arity, or 2 if a step of the arity would pass over a matrix's layer (a bridge step).
-//! - The exponent of a height is its log2, rounded up. That of layer 0 is the tallest height's, and each step takes its
-//!   own log2 from it, down to the root's 0. A matrix belongs to the layer of its exponent.
-//! - Heights are lawful if each is the tallest one halved, and each time rounded up, some number of times.
+//! The exponent of layer 0 is the tallest height's, and each step takes its own log2 from it, down to the root's 0.
 
 ghost use Rattle.std.specs.Prelude.{◌≡◌, suc, ◌-◌, ◌/◌, ◌<◌, ◌≤◌, ◌==◌, ◌↔◌, if◌then◌else◌, length, map, All, take};
 ghost use Rattle.std.specs.Prelude.{IfOk, IsOk, MatchResult, None, Some};
@@ -15,9 +10,8 @@ ghost use Rattle.p3_merkle_core.specs.{Caps.cap_layer, Checks.siblings_below, Ga
 ghost use Rattle.p3_merkle_core.specs.Geometry.{exponent, has_rows, is_bridge, layer_exponent, levels, height_limit};
 ghost use Rattle.p3_merkle_core.specs.Geometry.{positions_below, schedule_below, shape_of, step, IsArity, IsLawful};
 ghost use Rattle.p3_merkle_core.specs.Inner.{Agreement.distinct, Agreement.IsAscending, Covered.AreCovered};
-ghost use Rattle.p3_merkle_core.specs.Inner.Exponents.{AreExponents, AreMarked};
 ghost use Rattle.p3_merkle_core.specs.Inner.{Levels.IsBelowTop, Levels.IsLevel, Shapes.shortest, Steps.IsWalk};
-ghost use Rattle.p3_merkle_core.specs.Pruning.{pruned_len};
+ghost use Rattle.p3_merkle_core.specs.{Inner.Exponents.AreExponents, Inner.Exponents.AreMarked, Pruning.pruned_len};
 
 use crate::cap::CapRule;
 use crate::error::MerkleTreeError;
@@ -44,7 +38,6 @@ struct Exponents {
 /// Which exponents the matrices have, as a bit mask, so that the matrices are read once for all layers.
 #[derive(Clone, Copy)]
 struct MatrixExponents<'a> {
-    /// The dimensions of the matrices.
     pub dimensions: &'a [Dimensions],
     /// Bit `e` is set where a matrix has the exponent `e`. The exponent 64 has no bit: it is below no layer's.
     pub bits: usize,
@@ -52,8 +45,7 @@ struct MatrixExponents<'a> {
 }
 
 impl<'a> MatrixExponents<'a> {
-    /// The exponents on which the steps above a layer depend: the layer's own, `layer`, which must be at most 64, and
-    /// the end of the matrices' lower ones.
+    /// The exponents on which the steps above a layer of the exponent `layer` depend.
     fn exponents_at(&self, layer: usize) -> Exponents
         requires { layer ≤ 64 }
         ensures layer { result.layer ≡ layer }
@@ -80,8 +72,7 @@ struct LevelStep {
     pub has_rows: bool,
 }
 
-/// The step above a layer, with whether matrices belong to the layer that it leads to, and the exponents there. The
-/// layer is below the root, and has these `exponents`, of at most 64. The arity must be at least 2.
+/// The step above a layer with these `exponents`, and the exponents above it. The layer is below the root.
 fn next_step(
     matrices: &MatrixExponents<'_>,
     arity: usize,
@@ -112,10 +103,7 @@ fn next_step(
     let above = if has_rows {
         matrices.exponents_at(layer)
     } else {
-        Exponents {
-            layer,
-            lower_end: exponents.lower_end,
-        }
+        Exponents { layer, ..exponents }
     };
     let level = LevelStep {
         is_bridge,
@@ -214,10 +202,8 @@ pub fn check_heights(dimensions: &[Dimensions]) -> Result<(), MerkleTreeError>
         return Err(MerkleTreeError::EmptyBatch);
     }
     if let Some(matrix) = first_too_large_of(dimensions, max_height) {
-        return Err(MerkleTreeError::TooLarge {
-            matrix,
-            size: dimensions[matrix].height,
-        });
+        let size = dimensions[matrix].height;
+        return Err(MerkleTreeError::TooLarge { matrix, size });
     }
     // A height that equals the last lawful one is not checked again: short matrices often have one height.
     let mut lawful_height = max_height;
@@ -263,22 +249,15 @@ impl OwnedSteps {
         ensures dimensions { result.dimensions.items ≡ dimensions.items }
         ensures arity { result.arity ≡ arity }
     {
-        let Steps {
-            max_height,
-            min_height,
-            exponent,
-            num_levels,
-            of_level,
-            ..
-        } = steps_of(&dimensions, arity);
+        let steps = steps_of(&dimensions, arity);
         OwnedSteps {
-            dimensions,
             arity,
-            max_height,
-            min_height,
-            exponent,
-            num_levels,
-            of_level,
+            max_height: steps.max_height,
+            min_height: steps.min_height,
+            exponent: steps.exponent,
+            num_levels: steps.num_levels,
+            of_level: steps.of_level,
+            dimensions,
         }
     }
 
@@ -307,15 +286,7 @@ impl OwnedSteps {
         ensures dimensions { IfOk result (λ kept. kept.dimensions.items ≡ self.now.dimensions.items) }
         ensures arity { IfOk result (λ kept. kept.arity ≡ self.now.arity) }
     {
-        Ok(OwnedSteps {
-            dimensions: self.dimensions.clone()?,
-            arity: self.arity,
-            max_height: self.max_height,
-            min_height: self.min_height,
-            exponent: self.exponent,
-            num_levels: self.num_levels,
-            of_level: self.of_level,
-        })
+        Ok(OwnedSteps::new(self.dimensions.clone()?, self.arity))
     }
 }
 
@@ -327,12 +298,11 @@ impl<'a> Steps<'a> {
         ensures { result ≡ cap_layer (shape_of self.now.arity self.now.dimensions.now) rule cap_height }
     {
         // No step above the layer of the shortest matrix is a bridge step.
-        let max_cap_height = match rule {
+        let max_cap = match rule {
             CapRule::Lowered => exponent_of(self.min_height).div_ceil(exponent_of(self.arity)),
             CapRule::Fixed => self.num_levels,
         };
-        self.num_levels
-            .saturating_sub(cap_height.min(max_cap_height))
+        self.num_levels.saturating_sub(cap_height.min(max_cap))
     }
 
     /// The step of a level, in children per node. The level must be below the root.
@@ -358,22 +328,12 @@ impl<'a> Steps<'a> {
         ensures rows { result.has_rows ≡ has_rows (shape_of arity self.now.dimensions.now) (suc level) }
         ensures exponent { result.exponent ≡ layer_exponent (shape_of arity self.now.dimensions.now) (suc level) }
     {
-        let LevelStep {
-            is_bridge,
-            has_rows,
-        } = self.of_level[level];
-        if is_bridge {
-            StepUp {
-                step: 2,
-                has_rows,
-                exponent: exponent.saturating_sub(1),
-            }
-        } else {
-            StepUp {
-                step: arity,
-                has_rows,
-                exponent: exponent.saturating_sub(exponent_of(arity)),
-            }
+        let kept = self.of_level[level];
+        let step = if kept.is_bridge { 2 } else { arity };
+        StepUp {
+            step,
+            has_rows: kept.has_rows,
+            exponent: exponent.saturating_sub(exponent_of(step)),
         }
     }
 
@@ -560,9 +520,8 @@ impl<'a> Covered<'a> {
         ensures rows { let s = shape_of self.old.steps.now.arity self.old.steps.now.dimensions.now in
             result.has_rows ≡ has_rows s self.new.layer }
     {
-        let up = self
-            .steps
-            .step_up(self.steps.arity, self.layer, self.exponent);
+        let steps = self.steps;
+        let up = steps.step_up(steps.arity, self.layer, self.exponent);
         let below = self.nodes.len();
         replace_by_parents(&mut self.nodes, up.step);
         self.layer += 1;

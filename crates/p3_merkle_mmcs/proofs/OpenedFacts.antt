@@ -9,7 +9,7 @@ use Rattle.p3_merkle_core.specs.{Geometry.heights, Geometry.levels, Nodes.Functi
 use Rattle.p3_merkle_core.specs.{Opened.IsPrunedOpened, Openings.Opening, Openings.honest, Openings.opening_in_layers}
 use Rattle.p3_merkle_core.specs.Pruning.{IsHonestQuery, IsPrunedAccepted, PrunedOpening, boundary, honest_query}
 use Rattle.p3_merkle_core.specs.Pruning.{pruned_in_layers, restored_paths}
-use Rattle.p3_merkle_core.proofs.Checks.{Accepted.honest_accepted, Completeness.IsHonest}
+use Rattle.p3_merkle_core.proofs.Checks.{CheckFacts.honest_accepted, Completeness.IsHonest}
 use Rattle.p3_merkle_core.proofs.Checks.OwnNodes.{honest_restored_paths, own_opening_is, own_pruned_opening_is}
 use Rattle.p3_merkle_core.proofs.Covered.{Equivalence.equivalent, Restoration.honest_capped, Sufficient.count_least}
 use Rattle.p3_merkle_core.proofs.Pruned.HonestAnswered.{honest_restorable}

@@ -4,7 +4,7 @@ use Rattle.std.proofs.Common.{get_or, length-drop, length-take, map, refl, sym, 
 use Rattle.std.proofs.lemmas.{Bool.cases_lt, List.take_all, Nat.pow_pos}
 use Rattle.std.proofs.Math.Nat.{le-div_iff_mul-le, pow-succ'}
 use Rattle.p3_merkle_core.specs.{Geometry.layer_len, Geometry.levels, Commitments.cap_over, Nodes.node}
-use Rattle.p3_merkle_core.proofs.Shapes.RootFacts.{root_alone}
+use Rattle.p3_merkle_core.proofs.Shapes.FallFacts.{root_alone}
 use Rattle.std.specs.List.{range_with_len}
 use Rattle.p3_merkle_core.proofs.Checks.OneHeightFacts.{leaf_of, next_of, padding_of}
 use Rattle.tlog.specs.Rfc9162.{Hash as HashFunction, mth, mth_within}

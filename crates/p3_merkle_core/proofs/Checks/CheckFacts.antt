@@ -1,16 +1,22 @@
--- What a check ends in: the digest of its last input, which is the one that the walk reaches.
+-- What a check ends in: the digest of its last input, which is the one that the walk reaches. An honest opening is
+-- accepted under its cap.
 use Rattle.std.proofs.Common.{◌≡◌, ℕ, zero, suc, ◌<◌, true, false, List, [], ◌∷◌, ◌++◌, map, refl, ap, sym, ◌∙◌, inl}
-use Rattle.std.proofs.Common.{inr, drop, length, Some, slice_get}
-use Rattle.std.proofs.lemmas.{Bool.cases_Bool, List.append_assoc}
-use Rattle.p3_merkle_core.specs.Geometry.{Shape, IsLawful, ancestor, has_rows, heights, widths}
-use Rattle.p3_merkle_core.specs.{Nodes.Functions, Nodes.pair, Nodes.padded, Openings.Opening}
+use Rattle.std.proofs.Common.{inr, drop, length, Some, slice_get, get_or, ◌≤◌, nat_lt, nat_le, cond, arith, All}
+use Rattle.std.proofs.lemmas.{Bool.cases_Bool, Bool.cond_both, Bool.ltb-true, Option.slice_get-get_or}
+use Rattle.std.proofs.lemmas.List.{append_assoc, FromFn.length-map-range_with_len, FromFn.get_or-map-range_with_len}
+use Rattle.p3_merkle_core.specs.Geometry.{Shape, IsLawful, ancestor, has_rows, heights, widths, raw_len, layer_len}
+use Rattle.p3_merkle_core.specs.{Geometry.padded_len, Geometry.halved_index, Nodes.Functions}
+use Rattle.p3_merkle_core.specs.Nodes.{pair, padded, Batch, Matrix, shape, node, layer, dimensions_of, HasFullRows}
+use Rattle.p3_merkle_core.specs.Openings.{Opening, honest}
 use Rattle.p3_merkle_core.specs.Checks.{Input, IsAccepted, check_digest, group_at, input_digest, inputs, inputs_at}
 use Rattle.p3_merkle_core.specs.Checks.{last_input, last_of, layer_words, path_digest, siblings_below, params}
 use Rattle.p3_merkle_core.specs.Checks.{leaf_input, words_at, digests_at, Content, Words, Digests}
 use Rattle.p3_merkle_core.specs.declared.collision.Place.{Place, TheVariants.Group, TheVariants.Rows, TheVariants.Pair}
-use Rattle.p3_support.specs.Batches.{greatest}
-use Rattle.p3_merkle_core.proofs.Lists.ListFacts.{joined_more}
-use Rattle.p3_merkle_core.proofs.Checks.Completeness.{reached_next, reached_leaf}
+use Rattle.p3_support.specs.Batches.{greatest, heights_of, widths_of}
+use Rattle.p3_merkle_core.proofs.{Lists.ListFacts.joined_more, Checks.Completeness.reached_next}
+use Rattle.p3_merkle_core.proofs.Checks.Completeness.{reached_leaf, IsHonest, honest_reaches, honest_count}
+use Rattle.p3_merkle_core.proofs.Shapes.{LadderFacts.row_below, RawFacts.anc_below}
+use Rattle.std.specs.Int.{next_multiple_of}
 
 -- ---- what inputs are made of
 
@@ -46,9 +52,8 @@ pub inputs_with_rows : {T W : Type 0} (f : Functions T W) (s : Shape) (o : Openi
     (pair f s.arity (f.compression (full_group f s o l)) (f.hash (layer_words s o.rows (suc l)))) ∷ []
 inputs_with_rows f s o l e = rw e refl
 
-pub inputs_alone : {T W : Type 0} (f : Functions T W) (s : Shape) (o : Opening T W) (l : ℕ) → has_rows s (suc l)
-    ≡ false →
-    inputs_at f s o l ≡ digests_at (Group l) (full_group f s o l) ∷ []
+pub inputs_alone : {T W : Type 0} (f : Functions T W) (s : Shape) (o : Opening T W) (l : ℕ) →
+    has_rows s (suc l) ≡ false → inputs_at f s o l ≡ digests_at (Group l) (full_group f s o l) ∷ []
 inputs_alone f s o l e = rw e refl
 
 -- the N digests are its first input
@@ -64,9 +69,8 @@ same_group {T} f s o l group others e =
 -- ---- the last of them
 
 -- the last input, after which no other stands, has the digest that the walk reaches
-last_reached : {T W : Type 0} (f : Functions T W) (s : Shape) (t : ℕ) (o : Opening T W) →
-    (before : List (Input T W)) × (x : Input T W) × (inputs (params f s t) o ≡ before ++ x ∷ []) ×
-    (input_digest f x ≡ path_digest f s o t)
+last_reached : {T W : Type 0} (f : Functions T W) (s : Shape) (t : ℕ) (o : Opening T W) → (before : List (Input T W)) ×
+    (x : Input T W) × (inputs (params f s t) o ≡ before ++ x ∷ []) × (input_digest f x ≡ path_digest f s o t)
 last_reached f s zero o = ([], leaf_input s o, refl, sym (reached_leaf f s o))
 last_reached f s (suc t) o =
     let below = inputs (params f s t) o in
@@ -131,3 +135,36 @@ accepted_by_walk f s t cap o lawful rows_fit count in_range entry =
       authentic = entry
           ∙ ap (λ d. Some d) (walk_reaches f s t o);
     }
+
+pub padded_ge : (r n : ℕ) → r ≤ padded_len r n
+padded_ge r n =
+    cond_both (nat_le r 1) r (cond (nat_lt r n) n (next_multiple_of r n)) (λ x. r ≤ x) (λ e. omega arith)
+    (λ e. cond_both (nat_lt r n) n (next_multiple_of r n) (λ x. r ≤ x) (λ h. omega (arith, ltb-true r n h))
+    (λ h. omega arith))
+
+pub lengths_are : {T : Type 0} (row : ℕ → ℕ) (ms : List (Matrix T)) →
+    All (λ m. (j : ℕ) → j < m.height → length (m.row j) ≡ m.width) ms →
+    All (λ h. row h < h) (heights_of (dimensions_of ms)) →
+    map length (map (λ m. m.row (row m.height)) ms) ≡ widths_of (dimensions_of ms)
+lengths_are row [] e low = refl
+lengths_are row (m ∷ ms) e low =
+    rw (
+      e 0 m (omega arith) (row m.height) (low 0 0 (omega arith)),
+      lengths_are row ms (λ k d h. e (suc k) d (omega arith)) (λ k d h. low (suc k) d (omega arith)),
+    ) refl
+
+pub honest_accepted : {T W : Type 0} (f : Functions T W) (b : Batch T) (t i : ℕ) → IsHonest b t i → HasFullRows b →
+    IsAccepted (params f (shape b) t) (layer f b t) (honest f b t i)
+honest_accepted f b t i w widths =
+    let s = shape b in
+    let j = ancestor s t i in
+    let below = anc_below s w.well_shaped i w.below t w.in_tree in
+    let in_layer : j < layer_len s t = omega (arith, padded_ge (raw_len s t) b.arity) in
+    accepted_by_walk f s t (layer f b t) (honest f b t i) w.lawful
+    (lengths_are (λ h. halved_index (greatest (heights s)) h i) b.matrices widths
+    (λ k d h. row_below s (get_or (heights s) k d) i (w.lawful.on_ladder k d h) w.below))
+    (honest_count f b t i w) w.below
+    (slice_get-get_or (layer f b t) j f.default_digest
+    (omega (arith, length-map-range_with_len (node f b t) 0 (layer_len s t)))
+    ∙ ap (λ d. Some d) (get_or-map-range_with_len (node f b t) 0 (layer_len s t) j j f.default_digest in_layer
+    (omega arith) ∙ sym (honest_reaches f b t i w t (omega arith))))

@@ -5,11 +5,11 @@ use Rattle.std.specs.List.{list_all}
 use Rattle.std.proofs.lemmas.Bool.{cond-true, cases_Bool, lt-ltb, eqb-true}
 use Rattle.p3_merkle_core.specs.Geometry.{Shape, IsLawful, exponent, layer_exponent, levels, ancestor, halved_index}
 use Rattle.p3_merkle_core.specs.Geometry.{heights, expected_height, raw_len, has_rows, IsArity}
-use Rattle.p3_support.specs.Batches.{greatest, heights_of}
-use Rattle.p3_merkle_core.specs.Nodes.{Functions, Batch, Matrix, shape, at_layer, joined_rows, compress_padded, row_digest}
-use Rattle.p3_merkle_core.specs.Nodes.{with_rows, node, dimensions_of}
+use Rattle.p3_merkle_core.specs.Nodes.{Functions, Batch, Matrix, shape, at_layer, joined_rows, compress_padded}
+use Rattle.p3_merkle_core.specs.Nodes.{row_digest, with_rows, node, dimensions_of}
 use Rattle.p3_merkle_core.specs.Openings.{honest, honest_rows, Opening, siblings_by, children_by}
 use Rattle.p3_merkle_core.specs.Checks.{siblings_below, layer_words, group_at, path_digest}
+use Rattle.p3_support.specs.Batches.{greatest, heights_of}
 use Rattle.p3_merkle_core.proofs.Shapes.{LadderFacts.row_is_anc_at, LadderFacts.row_below, RawFacts.anc_below}
 use Rattle.p3_merkle_core.proofs.Checks.PathFacts.{path_length, path_group}
 
@@ -84,8 +84,8 @@ node_leaf f b j h = cond-true (nat_lt j (raw_len (shape b) 0)) (f.hash (joined_r
     (lt-ltb j (raw_len (shape b) 0) h)
 
 pub node_next : {T W : Type 0} (f : Functions T W) (b : Batch T) (l j : ℕ) → j < raw_len (shape b) (suc l) →
-    node f b (suc l) j
-    ≡ with_rows f b.arity (has_rows (shape b) (suc l)) (compress_padded f b.arity (children_by (node f b) (shape b) l j))
+    node f b (suc l) j ≡ with_rows f b.arity (has_rows (shape b) (suc l))
+    (compress_padded f b.arity (children_by (node f b) (shape b) l j))
     (row_digest f (at_layer b (suc l)) j)
 unfolding node
 node_next f b l j h =

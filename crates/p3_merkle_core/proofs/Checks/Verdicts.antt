@@ -5,7 +5,12 @@ use Rattle.std.specs.{Prelude.Ok, Prelude.Decides, Cmp.Lexicographic.pointwise, 
 use Rattle.std.specs.{List.list_all, Option.unwrap_or, Option.option_map, Option.option_or}
 use Rattle.std.proofs.lemmas.Bool.{and_parts, and_from, eqb-true, ltb-true, lt-ltb, true≢false}
 use Rattle.std.proofs.lemmas.List.{length-map}
-use Rattle.p3_merkle_core.proofs.Shapes.ShapeFacts.{length-widths}
+use Rattle.p3_merkle_core.proofs.Checks.CheckFacts.{accepted_walk, accepted_by_walk}
+use Rattle.p3_merkle_core.proofs.Covered.Equivalence.{query_covered, rows_under_is, equivalent}
+use Rattle.p3_merkle_core.proofs.Pruned.Answered.{restorable}
+use Rattle.p3_merkle_core.proofs.Pruned.NoneFacts.{none_parts, unless_none, none_unless, verdict_ok, rows_fit_from}
+use Rattle.p3_merkle_core.proofs.Pruned.Unrefused.{unrefused, size_none, each_width}
+use Rattle.p3_merkle_core.proofs.Shapes.{GateFacts.gate_lawful, LeastFacts.length-widths}
 use Rattle.p3_support.specs.Batches.{greatest}
 use Rattle.p3_merkle_core.specs.Geometry.{Shape, IsArity, ancestor, heights, widths, IsLawful}
 use Rattle.p3_merkle_core.specs.{Gate.gate_refusal, Nodes.Functions, Openings.Opening}
@@ -16,12 +21,6 @@ use Rattle.p3_merkle_core.specs.Refusals.{row_width_refusal, refusal_under, answ
 use Rattle.p3_merkle_core.specs.Refusals.{pruned_answer_under, form_refusal, ok_unless}
 use Rattle.p3_merkle_core.specs.declared.error.MerkleTreeError.TheVariants.{WrongBatchSize, WrongHeight}
 use Rattle.p3_merkle_core.specs.declared.error.MerkleTreeError.TheVariants.{IndexOutOfBounds, CapMismatch}
-use Rattle.p3_merkle_core.proofs.Pruned.NoneFacts.{none_parts, unless_none, none_unless, verdict_ok, rows_fit_from}
-use Rattle.p3_merkle_core.proofs.Pruned.Answered.{restorable}
-use Rattle.p3_merkle_core.proofs.Pruned.Unrefused.{unrefused, size_none, each_width}
-use Rattle.p3_merkle_core.proofs.Covered.Equivalence.{query_covered, rows_under_is, equivalent}
-use Rattle.p3_merkle_core.proofs.Checks.CheckFacts.{accepted_walk, accepted_by_walk}
-use Rattle.p3_merkle_core.proofs.Shapes.GateFacts.{gate_lawful}
 
 -- ---- entries
 

@@ -30,8 +30,7 @@ same_ends (x ∷ xs) (y ∷ ys) cs ds e same =
 
 -- a last difference of two joined lists is one of their ends, or their ends are equal and it is one of their fronts
 last_of_joined : {X : Type 0} (xs ys cs ds : List X) (x y : X) → length xs ≡ length ys →
-    IsLastDifference (xs ++ cs) (ys ++ ds) x y →
-    IsLastDifference cs ds x y ⊎ ((cs ≡ ds) × IsLastDifference xs ys x y)
+    IsLastDifference (xs ++ cs) (ys ++ ds) x y → IsLastDifference cs ds x y ⊎ ((cs ≡ ds) × IsLastDifference xs ys x y)
 last_of_joined [] [] cs ds x y e d = inl d
 last_of_joined [] (b ∷ ys) cs ds x y e d = absurd (omega arith)
 last_of_joined (a ∷ xs) [] cs ds x y e d = absurd (omega arith)
@@ -141,8 +140,7 @@ pub in_group : (s : Shape) (l i : ℕ) → IsArity s.arity → position_in_group
 in_group s l i w = let a = step_above_1 s l w.above_1 in omega arith
 
 levels_collide : {T W : Type 0} (f : Functions T W) (s : Shape) (o u : Opening T W) (m t : ℕ) → Meet s o u m t →
-    (n : ℕ) → m + n ≤ t → (x y : Input T W) →
-    path_digest f s o (m + n) ≡ path_digest f s u (m + n) →
+    (n : ℕ) → m + n ≤ t → (x y : Input T W) → path_digest f s o (m + n) ≡ path_digest f s u (m + n) →
     IsLastDifference (joined (λ k. inputs_at f s o (m + k)) n) (joined (λ k. inputs_at f s u (m + k)) n) x y →
     input_digest f x ≡ input_digest f y
 levels_collide f s o u m t w zero h x y e d = absurd d

@@ -13,12 +13,11 @@ use Rattle.p3_merkle_core.specs.{Extraction.first_pair, Presented.Presented, Pre
 use Rattle.p3_merkle_core.specs.{Presented.presented_pruned, Views.found_alone, Views.found_pair, Views.inputs_in}
 use Rattle.p3_merkle_core.specs.declared.{collision.InputPair.InputPair, cap.CapRule.CapRule}
 use Rattle.p3_merkle_core.specs.declared.{cap.CapRule.TheVariants.Lowered, error.MerkleTreeError.MerkleTreeError}
-use Rattle.p3_merkle_core.proofs.Checks.AuthenticatedFacts.{authenticated_at_one_index, authenticated_bound}
-use Rattle.p3_merkle_core.proofs.{Shapes.CapFacts.none_out, Collisions.Extracted.difference_collides}
-use Rattle.p3_merkle_core.proofs.{Collisions.Extracted.no_difference, Lists.FirstPairs.no_pair}
-use Rattle.p3_merkle_core.proofs.{Lists.FirstPairs.one_pair, Pruned.NoneFacts.none_of_both, Pruned.NoneFacts.none_parts}
-use Rattle.p3_merkle_core.proofs.{Pruned.NoneFacts.verdict_ok, Shapes.ShapeFacts.widths_in_pairs}
+use Rattle.p3_merkle_core.proofs.Checks.SameIndex.{authenticated_at_one_index, authenticated_bound}
 use Rattle.p3_merkle_core.proofs.Checks.Verdicts.{accepted_answer, accepted_from, pruned_accepted}
+use Rattle.p3_merkle_core.proofs.Collisions.Extracted.{difference_collides, no_difference, no_pair, one_pair}
+use Rattle.p3_merkle_core.proofs.Pruned.NoneFacts.{none_of_both, none_parts, verdict_ok}
+use Rattle.p3_merkle_core.proofs.Shapes.{CapFacts.none_out, LeastFacts.widths_in_pairs}
 
 -- ---- what is presented
 
@@ -261,8 +260,7 @@ module _ {T W : Type 0} (row_eq : T → T → Bool) (digest_eq : W → W → Boo
   -- the answer to two openings of one index each is an extraction
   pub extracted_one : (first second : Presented T W) (o u : Opening T W) → IsEquality row_eq → IsEquality digest_eq →
       IsArity c.shape.arity → (rule ≡ Lowered → AllAuthenticated c.shape c.layer) → IsPresentation c cap first →
-      IsPresentation c cap second →
-      first.queries ≡ 1 → second.queries ≡ 1 → first.query 0 ≡ o → second.query 0 ≡ u →
+      IsPresentation c cap second → first.queries ≡ 1 → second.queries ≡ 1 → first.query 0 ≡ o → second.query 0 ≡ u →
       (r : Result (Option (InputPair T (List W))) MerkleTreeError) →
       AnswersUnlessMemory r (option_or first.refusal second.refusal) →
       IfOk r (λ found. option_map inputs_in found ≡ difference_of row_eq digest_eq c o u) →

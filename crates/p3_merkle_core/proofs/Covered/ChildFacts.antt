@@ -1,12 +1,11 @@
 -- The values of the children of covered nodes, as a walk over them takes them.
-use Rattle.std.proofs.Common.{◌≡◌, ℕ, zero, suc, ◌+◌, ◌-◌, ◌*◌, ◌/◌, ◌%◌, ◌^◌, ◌<◌, ◌≤◌, Bool, true, false, not, cond}
+use Rattle.std.proofs.Common.{◌≡◌, ℕ, zero, suc, ◌+◌, ◌-◌, ◌*◌, ◌/◌, ◌%◌, ◌<◌, ◌≤◌, Bool, true, false, not, cond}
 use Rattle.std.proofs.Common.{List, [], ◌∷◌, ◌++◌, refl, ap, sym, ◌∙◌, arith, inl, inr, length, filter, get_or, take}
-use Rattle.std.proofs.Common.{append-nil, length-append}
-use Rattle.std.proofs.lemmas.Bool.{cases_Bool, cases_eq, not_from_false, false_from_ne_true}
-use Rattle.std.proofs.lemmas.List.{take_more, length-take-le, take_all, Concat.get_or-flat_map}
-use Rattle.std.proofs.lemmas.List.{Filters.length-filter_both, Filters.length-filter_more, FromFn.length-range_with_len}
-use Rattle.std.proofs.{lemmas.List.FromFn.get_or-range_with_len, Math.Nat.mul_comm, Math.Nat.div-lt_iff_lt-mul}
-use Rattle.std.proofs.lemmas.Nat.{div-mul-add, mod-mul-add, mul-add-lt}
+use Rattle.std.proofs.{Common.append-nil, Common.length-append, Math.Nat.mul_comm, Math.Nat.div-lt_iff_lt-mul}
+use Rattle.std.proofs.lemmas.{Nat.div-mul-add, Nat.mod-mul-add, Nat.mul-add-lt, Grind.common_steps, Bool.cases_Bool}
+use Rattle.std.proofs.lemmas.{Bool.cases_eq, Bool.not_from_false, Bool.false_from_ne_true, List.take_more}
+use Rattle.std.proofs.lemmas.List.{length-take-le, take_all, Concat.get_or-flat_map, FromFn.length-range_with_len}
+use Rattle.std.proofs.lemmas.List.{FromFn.get_or-range_with_len, Filters.length-filter_both, Filters.length-filter_more}
 use Rattle.std.specs.List.{range_with_len}
 use Rattle.p3_merkle_core.specs.Inner.Children.{AreChildren, IsFamily, beside, children_under, unknown_count}
 use Rattle.p3_support.specs.Lists.{is_among}
@@ -17,12 +16,7 @@ use Rattle.p3_merkle_core.proofs.Lists.RisingFacts.{listed_at}
 pub children_length : (n : ℕ) (parents : List ℕ) → length (children_under n parents) ≡ n * length parents
 children_length n [] = omega arith
 children_length n (p ∷ parents) =
-    omega (
-      arith,
-      length-append (range_with_len (n * p) n) (children_under n parents),
-      length-range_with_len (n * p) n,
-      children_length n parents,
-    )
+    grind (arith, common_steps, children_length n parents, length-append, length-range_with_len)
 
 before : (n : ℕ) (parents : List ℕ) (i : ℕ) → i ≤ length parents → length (children_under n (take i parents)) ≡ n * i
 before n parents i h = children_length n (take i parents) ∙ ap (λ k. n * k) (length-take-le i parents h)
@@ -58,12 +52,7 @@ pub record IsPlaced (n : ℕ) (parents : List ℕ) (place child : ℕ) : Type 0 
 pub placed_at : (n i : ℕ) (parents : List ℕ) (first child : ℕ) → first ≡ n * get_or parents i 0 → i < length parents →
     first ≤ child → child < first + n → IsPlaced n parents (n * i + (child - first)) child
 placed_at n i parents first child is h above below =
-    let k = child - first in
-    let small : k < n = omega arith in
-    record {
-      inside = rw (mul_comm n i) (mul-add-lt i n k (length parents) h small);
-      child_is = rw (mul_comm n i, div-mul-add i n k small, mod-mul-add i n k small) (omega arith);
-    }
+    grind (arith, common_steps, mul_comm, div-mul-add, mod-mul-add, mul-add-lt)
 
 -- ---- what stands beside
 
@@ -74,12 +63,8 @@ beside_none p (j ∷ js) = refl
 beside_more : {X : Type 0} (p : ℕ → Bool) (js : List ℕ) (xs : List X) (x : X) → length xs < length js →
     beside p js (xs ++ x ∷ []) ≡ beside p js xs ++ cond (p (get_or js (length xs) 0)) (x ∷ []) []
 beside_more p [] xs x h = absurd (omega arith)
-beside_more {X} p (j ∷ js) [] x h =
-    let z = beside_none {X = X} p js in
-    elim (cases_Bool (p j)) [ inl t ↦ rw t (ap (λ ys. x ∷ ys) z) | inr f ↦ rw f z ]
-beside_more p (j ∷ js) (y ∷ xs) x h =
-    let rest = beside_more p js xs x (omega arith) in
-    elim (cases_Bool (p j)) [ inl t ↦ rw t (ap (λ ys. y ∷ ys) rest) | inr f ↦ rw f rest ]
+beside_more {X} p (j ∷ js) [] x h = grind (arith, common_steps, cases_Bool, beside_none)
+beside_more p (j ∷ js) (y ∷ xs) x h = grind (arith, common_steps, beside_more p js xs x (omega arith))
 
 -- what passes stands in a filter behind what passed before it
 filter_at : (p : ℕ → Bool) (xs : List ℕ) (i : ℕ) → i < length xs → p (get_or xs i 0) ≡ true →
@@ -87,9 +72,7 @@ filter_at : (p : ℕ → Bool) (xs : List ℕ) (i : ℕ) → i < length xs → p
     (get_or (filter p xs) (length (filter p (take i xs))) 0 ≡ get_or xs i 0)
 filter_at p [] i h t = absurd (omega arith)
 filter_at p (x ∷ xs) zero h t = rw t (omega arith, refl)
-filter_at p (x ∷ xs) (suc i) h t =
-    let rest = filter_at p xs i (omega arith) t in
-    elim (cases_Bool (p x)) [ inl y ↦ rw y (omega (arith, rest.0), rest.1) | inr n ↦ rw n rest ]
+filter_at p (x ∷ xs) (suc i) h t = grind (arith, common_steps, filter_at p xs i (omega arith) t)
 
 -- ---- the walk
 
@@ -103,47 +86,7 @@ pub record IsWalked {X : Type 0} (covered js : List ℕ) (digests sent : List X)
 
 pub walk_start : {X : Type 0} (covered js : List ℕ) (digests sent values : List X) → values ≡ [] →
     IsWalked covered js digests sent 0 0 values
-walk_start {X} covered js digests sent values e =
-    record {
-      count = refl;
-      each = rw e refl;
-      ins = rw e (beside_none {X = X} (is_among covered) js);
-      outs = rw e (beside_none {X = X} (λ j. not (is_among covered j)) js);
-    }
-
--- a child that is covered is the next covered node
-next_known : {X : Type 0} (n : ℕ) (parents covered : List ℕ) (digests sent : List X) →
-    IsFamily n parents covered digests sent → (place known : ℕ) (values : List X) → place < n * length parents →
-    IsWalked covered (children_under n parents) digests sent place known values →
-    is_among covered (get_or (children_under n parents) place 0) ≡ true →
-    (known < length covered) × (get_or covered known 0 ≡ get_or (children_under n parents) place 0)
-next_known n parents covered digests sent w place known values h k t =
-    let js = children_under n parents in
-    let at = filter_at (is_among covered) js place (omega (arith, children_length n parents)) t in
-    rw (
-      k.count,
-      ← ap (λ (xs : List ℕ). (length (filter (is_among covered) (take place js)) < length xs) ×
-          (get_or xs (length (filter (is_among covered) (take place js))) 0 ≡ get_or js place 0)) w.in_order,
-    ) at
-
--- how many of the first children are covered, and how many are not
-split_at : {X : Type 0} (n : ℕ) (parents covered : List ℕ) (digests sent : List X) (place known : ℕ) (values : List X) →
-    place ≤ n * length parents →
-    IsWalked covered (children_under n parents) digests sent place known values →
-    length (filter (λ j. not (is_among covered j)) (take place (children_under n parents))) + known ≡ place
-split_at n parents covered digests sent place known values h k =
-    let js = children_under n parents in
-    let both = length-filter_both (is_among covered) (λ j. not (is_among covered j)) (λ j. refl) (take place js) in
-    omega (arith, k.count, both, length-take-le place js (omega (arith, children_length n parents)))
-
--- how many children are not covered
-pub unknown_is : {X : Type 0} (n : ℕ) (parents covered : List ℕ) (digests sent : List X) →
-    IsFamily n parents covered digests sent →
-    length (filter (λ j. not (is_among covered j)) (children_under n parents)) ≡ unknown_count n parents covered
-unknown_is n parents covered digests sent w =
-    let js = children_under n parents in
-    let both = length-filter_both (is_among covered) (λ j. not (is_among covered j)) (λ j. refl) js in
-    omega (arith, both, ap length w.in_order, children_length n parents)
+walk_start {X} covered js digests sent values e = grind (arith, common_steps, beside_none)
 
 -- a place among the digests that were sent, for a child that is not the next covered node
 pub record IsSent (place known count : ℕ) : Type 0 where
@@ -151,115 +94,95 @@ pub record IsSent (place known count : ℕ) : Type 0 where
   pub below : place - known < count
   pub within : place - known ≤ count
 
-uncovered : {X : Type 0} (n : ℕ) (parents covered : List ℕ) (digests sent : List X) →
-    IsFamily n parents covered digests sent → (place known : ℕ) (values : List X) → place < n * length parents →
-    IsWalked covered (children_under n parents) digests sent place known values →
-    (known < length covered → get_or covered known 0 ≡ n * get_or parents (place / n) 0 + place % n → ⊥) →
-    is_among covered (get_or (children_under n parents) place 0) ≡ false
-uncovered n parents covered digests sent w place known values h k other =
-    false_from_ne_true (is_among covered (get_or (children_under n parents) place 0))
-    (λ t. let next = next_known n parents covered digests sent w place known values h k t in
-    other next.0 (next.1 ∙ child_at n parents place h))
-
-pub is_sent : {X : Type 0} (n : ℕ) (parents covered : List ℕ) (digests sent : List X) →
-    IsFamily n parents covered digests sent → (place known : ℕ) (values : List X) → place < n * length parents →
-    IsWalked covered (children_under n parents) digests sent place known values →
-    (known < length covered → get_or covered known 0 ≡ n * get_or parents (place / n) 0 + place % n → ⊥) →
-    IsSent place known (length sent)
-is_sent n parents covered digests sent w place known values h k other =
-    let js = children_under n parents in
-    let f = uncovered n parents covered digests sent w place known values h k other in
-    let split = split_at n parents covered digests sent place known values (omega arith) k in
-    let kept = filter_at (λ j. not (is_among covered j)) js place (omega (arith, children_length n parents))
-    (not_from_false (is_among covered (get_or js place 0)) f) in
-    let inside : place - known < length sent =
-    omega (arith, kept.0, unknown_is n parents covered digests sent w, w.enough) in
-    record {
-      behind = omega arith;
-      below = inside;
-      within = omega arith;
-    }
-
--- a covered child's digest is there, and there may be one more
-pub record IsCounted (known count : ℕ) : Type 0 where
-  pub inside : known < count
-  pub within : known ≤ count
-  pub more : known + 1 < 2 ^ 64
-
 -- there is no next one
 pub none_next : {P : Type 0} (known count : ℕ) → count ≤ known → known < count → P
 none_next known count h k = absurd (omega arith)
 
--- one value more: of a covered child
-pub known_more : {X : Type 0} (n : ℕ) (parents covered : List ℕ) (digests sent : List X) →
-    IsFamily n parents covered digests sent → (place known : ℕ) (values : List X) → place < n * length parents →
-    IsWalked covered (children_under n parents) digests sent place known values → known < length covered →
-    get_or covered known 0 ≡ n * get_or parents (place / n) 0 + place % n →
-    (x : X) (more_known : ℕ) (more : List X) →
-    x ≡ get_or digests known x → more_known ≡ known + 1 → more ≡ values ++ x ∷ [] →
-    IsWalked covered (children_under n parents) digests sent (place + 1) more_known more
-known_more {X} n parents covered digests sent w place known values h k below is x more_known more read more_is items =
-    let js = children_under n parents in
-    let long : place < length js = omega (arith, children_length n parents) in
-    let j = get_or js place 0 in
-    let same : get_or covered known 0 ≡ j = is ∙ sym (child_at n parents place h) in
-    let t : is_among covered j ≡ true = ap (is_among covered) (sym same) ∙ listed_at covered known 0 below in
-    let split = split_at n parents covered digests sent place known values (omega arith) k in
-    let z : (place + 1) - (known + 1) ≡ place - known = omega arith in
-    let next : take (known + 1) digests ≡ take known digests ++ x ∷ [] =
-    take_more digests known x (omega (arith, w.one_each))
-    ∙ ap (λ (y : X). take known digests ++ y ∷ []) (sym read) in
-    rw (more_is, items)
-    record {
-      count = let counted = length-filter_more (is_among covered) js place 0 long in let m = rw t at counted in
-          omega (arith, m, k.count);
-      each = omega (arith, length-append values (x ∷ []), k.each);
-      ins = beside_more (is_among covered) js values x (omega (arith, k.each)) ∙ rw (k.each, t, k.ins) (sym next);
-      outs = beside_more (λ j. not (is_among covered j)) js values x (omega (arith, k.each))
-          ∙ rw (k.each, t, k.outs, z) (append-nil (take (place - known) sent));
-    }
+module _ {X : Type 0} (n : ℕ) (parents covered : List ℕ) (digests sent : List X)
+    (w : IsFamily n parents covered digests sent) (place known : ℕ) (values : List X) (h : place < n * length parents)
+    (k : IsWalked covered (children_under n parents) digests sent place known values) where
+  -- a child that is covered is the next covered node
+  next_known : is_among covered (get_or (children_under n parents) place 0) ≡ true →
+      (known < length covered) × (get_or covered known 0 ≡ get_or (children_under n parents) place 0)
+  next_known t = grind (arith, common_steps, children_length, filter_at)
 
--- and of another
-pub unknown_more : {X : Type 0} (n : ℕ) (parents covered : List ℕ) (digests sent : List X) →
-    IsFamily n parents covered digests sent → (place known : ℕ) (values : List X) → place < n * length parents →
-    IsWalked covered (children_under n parents) digests sent place known values →
-    (known < length covered → get_or covered known 0 ≡ n * get_or parents (place / n) 0 + place % n → ⊥) →
-    (x : X) (more_known : ℕ) (more : List X) →
-    x ≡ get_or sent (place - known) x → more_known ≡ known → more ≡ values ++ x ∷ [] →
-    IsWalked covered (children_under n parents) digests sent (place + 1) more_known more
-unknown_more {X} n parents covered digests sent w place known values h k other x more_known more read more_is items =
-    let js = children_under n parents in
-    let long : place < length js = omega (arith, children_length n parents) in
-    let f = uncovered n parents covered digests sent w place known values h k other in
-    let left = is_sent n parents covered digests sent w place known values h k other in
-    let z : (place + 1) - known ≡ place - known + 1 = omega (arith, left.behind) in
-    let next : take (place - known + 1) sent ≡ take (place - known) sent ++ x ∷ [] =
-    take_more sent (place - known) x left.below ∙ ap (λ (y : X). take (place - known) sent ++ y ∷ []) (sym read) in
-    rw (more_is, items)
-    record {
-      count = let counted = length-filter_more (is_among covered) js place 0 long in let m = rw f at counted in
-          omega (arith, m, k.count);
-      each = omega (arith, length-append values (x ∷ []), k.each);
-      ins = beside_more (is_among covered) js values x (omega (arith, k.each))
-          ∙ rw (k.each, f, k.ins) (append-nil (take known digests));
-      outs = beside_more (λ j. not (is_among covered j)) js values x (omega (arith, k.each))
-          ∙ rw (k.each, f, k.outs, z) (sym next);
-    }
+  -- how many of the first children are covered, and how many are not
+  split_at : length (filter (λ j. not (is_among covered j)) (take place (children_under n parents))) + known ≡ place
+  split_at = grind (arith, common_steps, length-take-le, length-filter_both, children_length)
+
+  -- how many children are not covered
+  unknown_is : length (filter (λ j. not (is_among covered j)) (children_under n parents))
+      ≡ unknown_count n parents covered
+  unknown_is = grind (arith, common_steps, length-filter_both, children_length)
+
+  uncovered : (known < length covered → get_or covered known 0 ≡ n * get_or parents (place / n) 0 + place % n → ⊥) →
+      is_among covered (get_or (children_under n parents) place 0) ≡ false
+  uncovered other = false_from_ne_true (is_among covered (get_or (children_under n parents) place 0))
+      (λ t. let next = next_known t in other next.0 (next.1 ∙ child_at n parents place h))
+
+  pub is_sent : (known < length covered → get_or covered known 0 ≡ n * get_or parents (place / n) 0 + place % n → ⊥) →
+      IsSent place known (length sent)
+  is_sent other =
+      let js = children_under n parents in
+      let split = split_at in
+      let kept = filter_at (λ j. not (is_among covered j)) js place (omega (arith, children_length n parents))
+      (not_from_false (is_among covered (get_or js place 0)) (uncovered other)) in
+      let inside : place - known < length sent = omega (arith, kept.0, unknown_is, w.enough) in
+      record { behind = omega arith; below = inside; within = omega arith }
+
+  -- one value more: of a covered child
+  pub known_more : known < length covered → get_or covered known 0 ≡ n * get_or parents (place / n) 0 + place % n →
+      (x : X) (more_known : ℕ) (more : List X) → x ≡ get_or digests known x → more_known ≡ known + 1 →
+      more ≡ values ++ x ∷ [] → IsWalked covered (children_under n parents) digests sent (place + 1) more_known more
+  known_more below is x more_known more read more_is items =
+      let js = children_under n parents in
+      let long : place < length js = omega (arith, children_length n parents) in
+      let j = get_or js place 0 in
+      let same : get_or covered known 0 ≡ j = is ∙ sym (child_at n parents place h) in
+      let t : is_among covered j ≡ true = ap (is_among covered) (sym same) ∙ listed_at covered known 0 below in
+      let split = split_at in
+      let z : (place + 1) - (known + 1) ≡ place - known = omega arith in
+      let next : take (known + 1) digests ≡ take known digests ++ x ∷ [] =
+      take_more digests known x (omega (arith, w.one_each))
+      ∙ ap (λ (y : X). take known digests ++ y ∷ []) (sym read) in
+      rw (more_is, items)
+      record {
+        count = let counted = length-filter_more (is_among covered) js place 0 long in let m = rw t at counted in
+            omega (arith, m, k.count);
+        each = omega (arith, length-append values (x ∷ []), k.each);
+        ins = beside_more (is_among covered) js values x (omega (arith, k.each)) ∙ rw (k.each, t, k.ins) (sym next);
+        outs = beside_more (λ j. not (is_among covered j)) js values x (omega (arith, k.each))
+            ∙ rw (k.each, t, k.outs, z) (append-nil (take (place - known) sent));
+      }
+
+  -- and of another
+  pub unknown_more :
+      (known < length covered → get_or covered known 0 ≡ n * get_or parents (place / n) 0 + place % n → ⊥) →
+      (x : X) (more_known : ℕ) (more : List X) → x ≡ get_or sent (place - known) x → more_known ≡ known →
+      more ≡ values ++ x ∷ [] → IsWalked covered (children_under n parents) digests sent (place + 1) more_known more
+  unknown_more other x more_known more read more_is items =
+      let js = children_under n parents in
+      let long : place < length js = omega (arith, children_length n parents) in
+      let f = uncovered other in
+      let left = is_sent other in
+      let z : (place + 1) - known ≡ place - known + 1 = omega (arith, left.behind) in
+      let next : take (place - known + 1) sent ≡ take (place - known) sent ++ x ∷ [] =
+      take_more sent (place - known) x left.below ∙ ap (λ (y : X). take (place - known) sent ++ y ∷ []) (sym read) in
+      rw (more_is, items)
+      record {
+        count = let counted = length-filter_more (is_among covered) js place 0 long in let m = rw f at counted in
+            omega (arith, m, k.count);
+        each = omega (arith, length-append values (x ∷ []), k.each);
+        ins = beside_more (is_among covered) js values x (omega (arith, k.each))
+            ∙ rw (k.each, f, k.ins) (append-nil (take known digests));
+        outs = beside_more (λ j. not (is_among covered j)) js values x (omega (arith, k.each))
+            ∙ rw (k.each, f, k.outs, z) (sym next);
+      }
 
 -- the whole walk
 pub walk_end : {X : Type 0} (n : ℕ) (parents covered : List ℕ) (digests sent : List X) →
     IsFamily n parents covered digests sent → (place known : ℕ) (values : List X) → n * length parents ≤ place →
-    place ≤ n * length parents →
-    IsWalked covered (children_under n parents) digests sent place known values →
+    place ≤ n * length parents → IsWalked covered (children_under n parents) digests sent place known values →
     AreChildren n parents covered digests sent values
 walk_end n parents covered digests sent w place known values past inside k =
-    let e : place ≡ n * length parents = omega arith in
-    let js = children_under n parents in
-    let long : length js ≤ place = omega (arith, children_length n parents) in
-    let all : known ≡ length covered = k.count ∙ rw (take_all place js long) (ap length w.in_order) in
-    let rest : place - known ≡ unknown_count n parents covered = rw (e, all) refl in
-    record {
-      each = k.each ∙ e;
-      known = k.ins ∙ take_all known digests (omega (arith, w.one_each));
-      unknown = k.outs ∙ ap (λ m. take m sent) rest;
-    }
+    grind (arith, common_steps, take_all, children_length)

@@ -1,12 +1,12 @@
 -- The covered nodes of a layer, ascending: those of the leaves, those of the layer above, and what is left of their
 -- groups.
-use Rattle.std.proofs.Common.{◌≡◌, ℕ, zero, suc, ◌+◌, ◌*◌, ◌/◌, ◌^◌, ◌<◌, ◌≤◌, Bool, true, not, eqb, cond, nat_le}
-use Rattle.std.proofs.Common.{nat_lt, ◌||◌, List, [], ◌∷◌, map, refl, ap, sym, ◌∙◌, arith, inl, inr, length, filter}
-use Rattle.std.proofs.Common.{All, eq-eqb}
-use Rattle.std.proofs.lemmas.Bool.{cases_eq, cond_both, and_parts, and_from, or_cases, or_left, or_right, eqb-true}
-use Rattle.std.proofs.lemmas.Bool.{true≢false, both_ways, not-true, not_from_false, false_from_ne_true}
+use Rattle.std.proofs.Common.{◌≡◌, ℕ, zero, suc, ◌+◌, ◌*◌, ◌/◌, ◌^◌, ◌<◌, ◌≤◌, Bool, true, not, eqb, ◌||◌, List, []}
+use Rattle.std.proofs.Common.{◌∷◌, map, refl, ap, sym, ◌∙◌, arith, inl, inr, length, filter, All, eq-eqb}
+use Rattle.std.proofs.lemmas.Grind.{common_steps}
+use Rattle.std.proofs.lemmas.Bool.{cases_eq, and_parts, and_from, or_cases, or_left, or_right, eqb-true, true≢false}
+use Rattle.std.proofs.lemmas.Bool.{both_ways, not-true, not_from_false, false_from_ne_true}
 use Rattle.std.proofs.{lemmas.List.length-map, lemmas.List.length-append, Math.Nat.mul-le-mul_left, Math.Pow.pow_mono}
-use Rattle.std.specs.{Int.next_multiple_of, List.dedup, List.range_with_len}
+use Rattle.std.specs.{List.dedup, List.range_with_len}
 use Rattle.p3_merkle_core.specs.Geometry.{Shape, step, ancestor, raw_len, layer_len, padded_len}
 use Rattle.p3_merkle_core.specs.Geometry.{leaves_under, levels, layer_exponent, exponent, heights, height_limit}
 use Rattle.p3_support.specs.Batches.{greatest}
@@ -16,7 +16,7 @@ use Rattle.p3_merkle_core.proofs.Shapes.{LeastFacts.exponent_le, LadderFacts.lev
 use Rattle.p3_merkle_core.proofs.Shapes.RawFacts.{children_fit, filled, positive_below}
 use Rattle.p3_merkle_core.proofs.Shapes.StepFacts.{anc_next, anc_start, step_above_1}
 use Rattle.p3_merkle_core.proofs.{Lists.ListFacts.joined_more, Covered.Under.covered_up}
-use Rattle.p3_merkle_core.proofs.{Covered.Sufficient.covered_below, Checks.Accepted.padded_ge}
+use Rattle.p3_merkle_core.proofs.{Covered.Sufficient.covered_below, Checks.CheckFacts.padded_ge}
 use Rattle.p3_merkle_core.proofs.Lists.RisingFacts.{is_listed, rising_filter, filter_is, listed_in, listed_there}
 use Rattle.p3_merkle_core.proofs.Lists.RisingFacts.{by_groups, groups_are, groups_count, listed_dedup, listed_map}
 use Rattle.p3_merkle_core.proofs.Lists.RisingFacts.{map_lists, rising_dedup, rising_length}
@@ -37,9 +37,7 @@ listed_covered s queries l j h = (listed_in (is_covered s queries l) 0 (layer_le
 
 pub covered_listed : (s : Shape) (queries : List ℕ) (t : ℕ) → CanQuery s queries t → (l j : ℕ) → l ≤ t →
     is_covered s queries l j ≡ true → is_listed (covered_at s queries l) j ≡ true
-covered_listed s queries t w l j h c =
-    listed_there (is_covered s queries l) 0 (layer_len s l) j c (omega arith)
-    (omega (arith, covered_below s queries t w l j h c, padded_ge (raw_len s l) s.arity))
+covered_listed s queries t w l j h c = grind (arith, common_steps, covered_below, padded_ge, listed_there)
 
 -- the children of a covered node are slots of the layer below
 pub group_fits : (s : Shape) (queries : List ℕ) (t : ℕ) → CanQuery s queries t → (l : ℕ) → l < t → (g : ℕ) →
@@ -131,14 +129,7 @@ pub boundary_by_groups : (s : Shape) (queries : List ℕ) (t : ℕ) → CanQuery
     by_groups (step s l) (λ j. not (is_covered s queries l j)) (covered_at s queries (suc l))
     ≡ filter (is_boundary s queries l) (range_with_len 0 (layer_len s l))
 boundary_by_groups s queries t w l h =
-    let two = step_above_1 s l w.well_shaped.above_1 in
-    groups_are (step s l) (omega arith) (λ j. not (is_covered s queries l j)) (is_boundary s queries l)
-    (covered_at s queries (suc l)) (layer_len s l)
-    (rising_filter (is_covered s queries (suc l)) 0 (layer_len s (suc l))) (group_fits s queries t w l h)
-    (λ j b. let p = and_parts (is_covered s queries (suc l) (j / step s l)) (not (is_covered s queries l j)) b in
-    (covered_listed s queries t w (suc l) (j / step s l) (omega arith) p.0, p.1))
-    (λ j g c. and_from (is_covered s queries (suc l) (j / step s l)) (not (is_covered s queries l j))
-    (listed_covered s queries (suc l) (j / step s l) g) c)
+    grind (arith, common_steps, and_parts, rising_filter, groups_are, listed_covered, covered_listed, group_fits)
 
 -- the same by what is listed below
 pub boundary_by_lists : (s : Shape) (queries : List ℕ) (t : ℕ) → CanQuery s queries t → (l : ℕ) → l < t →
@@ -229,9 +220,7 @@ covered_few s queries t w l h =
     omega arith
 
 pub padded_le : (r n : ℕ) → 0 < n → padded_len r n ≤ r + n
-padded_le r n h =
-    cond_both (nat_le r 1) r (cond (nat_lt r n) n (next_multiple_of r n)) (λ x. x ≤ r + n) (λ e. omega arith)
-    (λ e. cond_both (nat_lt r n) n (next_multiple_of r n) (λ x. x ≤ r + n) (λ e. omega arith) (λ e. omega arith))
+padded_le r n h = grind (arith, common_steps)
 
 pub counted_at : (s : Shape) (queries : List ℕ) (t : ℕ) → CanQuery s queries t → greatest (heights s) ≤ height_limit →
     (l : ℕ) → l < t → IsCounted s queries l

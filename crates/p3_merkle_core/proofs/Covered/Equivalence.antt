@@ -1,7 +1,7 @@
 -- A pruned opening is accepted exactly if each query is with its restored path.
 use Rattle.std.proofs.Common.{◌≡◌, ◌==◌, ◌↔◌, ℕ, zero, suc, ◌<◌, ◌≤◌, true, eqb, List, [], ◌∷◌, map, refl, ap, sym, ◌∙◌}
-use Rattle.std.proofs.Common.{arith, inl, inr, length, get_or, All, Some, eq-eqb, zip, flat_map}
-use Rattle.std.proofs.lemmas.{Bool.cases_Bool, Bool.cond-true, Bool.eqb-true, Bool.true≢false, List.Folds.list_any_at}
+use Rattle.std.proofs.Common.{arith, inl, inr, length, get_or, All, Some, zip, flat_map}
+use Rattle.std.proofs.lemmas.{Grind.common_steps, Bool.cases_Bool, Bool.cond-true, Bool.eqb-true, Bool.true≢false}
 use Rattle.std.specs.{List.find, Option.unwrap_or, Option.option_map}
 use Rattle.p3_merkle_core.specs.Geometry.{Shape, IsLawful, ancestor, heights, widths, has_rows, IsArity}
 use Rattle.p3_support.specs.Batches.{greatest}
@@ -19,17 +19,15 @@ unfolding restored_node
 restored_leaf f s t p j = refl
 
 pub restored_next : {T W : Type 0} (f : Functions T W) (s : Shape) (t : ℕ) (p : PrunedOpening T W) (l j : ℕ) →
-    restored_node (params f s t) p (suc l) j
-    ≡ with_rows f s.arity (has_rows s (suc l)) (compress_padded f s.arity (group_values s (value_of (params f s t) p) l j))
+    restored_node (params f s t) p (suc l) j ≡ with_rows f s.arity (has_rows s (suc l))
+    (compress_padded f s.arity (group_values s (value_of (params f s t) p) l j))
     (f.hash (layer_words s (first_rows (λ i. ancestor s (suc l) i == j) p) (suc l)))
 unfolding restored_node
 restored_next f s t p l j = refl
 
 pub query_covered : (s : Shape) (indices : List ℕ) (k l : ℕ) → k < length indices →
     is_covered s indices l (ancestor s l (get_or indices k 0)) ≡ true
-query_covered s indices k l h =
-    let j = ancestor s l (get_or indices k 0) in
-    list_any_at (λ i. eqb (ancestor s l i) j) indices k 0 h (eq-eqb j j refl)
+query_covered s indices k l h = grind (arith, common_steps)
 
 -- the rows that stand for a covered node are those of some query under it
 pub rows_under_is : {T : Type 0} (s : Shape) (indices : List ℕ) (rows : List (List (List T))) (l j : ℕ) → length rows
@@ -63,9 +61,7 @@ pub path_reaches : {T W : Type 0} (f : Functions T W) (s : Shape) (t : ℕ) (p :
     IsAgreed s t p → (k : ℕ) → k < length p.indices → (l : ℕ) → l ≤ t →
     path_digest f s (opening_at (params f s t) p k) l
     ≡ restored_node (params f s t) p l (ancestor s l (get_or p.indices k 0))
-path_reaches f s t p w a k h zero le =
-    reached_leaf f s (opening_at (params f s t) p k) ∙ ap f.hash (rows_agree s t p a k 0 h le)
-    ∙ sym (restored_leaf f s t p (ancestor s 0 (get_or p.indices k 0)))
+path_reaches f s t p w a k h zero le = grind (arith, common_steps, reached_leaf, restored_leaf, rows_agree)
 path_reaches f s t p w a k h (suc l) le =
     let o = opening_at (params f s t) p k in
     let i = get_or p.indices k 0 in

@@ -2,21 +2,20 @@
 use Rattle.std.proofs.Common.{◌≡◌, ℕ, zero, suc, ◌+◌, ◌-◌, ◌*◌, ◌/◌, ◌%◌, ◌<◌, ◌≤◌, true, eqb, nat_lt, List, [], ◌∷◌}
 use Rattle.std.proofs.Common.{◌++◌, map, refl, ap, sym, ◌∙◌, arith, add-one, inl, inr, length, filter, get_or, take}
 use Rattle.std.proofs.Common.{drop, remove, subst, length-drop, eq-eqb, append_assoc, drop-cons, fold}
-use Rattle.std.proofs.lemmas.Bool.{cases_lt, eqb-true, or_cases, or_left, or_right, true≢false, lt-ltb, le-ltb}
-use Rattle.std.proofs.lemmas.List.{Kept.AllPairs-from_increasing, map-append, take-append-le, take_all, take_more}
-use Rattle.std.proofs.lemmas.List.{get_or-map, get_or_default, length-map, map_more, get_or-drop}
-use Rattle.std.proofs.lemmas.List.{Folds.Any-from_list_any, Edits.get_or-remove_above, Edits.get_or-remove_below}
-use Rattle.std.proofs.lemmas.List.{Edits.length-remove, FromFn.length-range_with_len, FromFn.map-range_with_len_more}
-use Rattle.std.proofs.lemmas.{List.FromFn.take-map-range_with_len, List.Sums.fold-append, Simd.map-map}
 use Rattle.std.proofs.Math.{Nat.div-div-eq-div-mul, Nat.mul-le-mul_left, Nat.mul-suc, Seq.drop-append-add}
+use Rattle.std.proofs.lemmas.Bool.{cases_lt, eqb-true, or_cases, or_left, or_right, true≢false, lt-ltb, le-ltb}
+use Rattle.std.proofs.lemmas.{Grind.common_steps, List.map-append, List.take-append-le, List.take_all, List.take_more}
+use Rattle.std.proofs.lemmas.List.{get_or-map, get_or_default, length-map, get_or-drop, Edits.get_or-remove_above}
+use Rattle.std.proofs.lemmas.List.{Edits.get_or-remove_below, Edits.length-remove, Folds.Any-from_list_any}
+use Rattle.std.proofs.lemmas.List.FromFn.{length-range_with_len, map-range_with_len_more, take-map-range_with_len}
+use Rattle.std.proofs.lemmas.{List.Kept.AllPairs-from_increasing, List.Sums.fold-append, Simd.map-map}
 use Rattle.std.specs.List.{enumerate_from, flat_map, range_with_len, take-map, drop-map, Sorted.IsStrictlyIncreasing}
 use Rattle.p3_merkle_core.specs.Inner.Children.{children_at, children_under, node_over, siblings_on_path, paths_out_of}
 use Rattle.p3_merkle_core.specs.Inner.Children.{levels_in, place_among, siblings_out_of, AreLinked, IsLinked}
 use Rattle.p3_merkle_core.specs.declared.pruning.CoveredLayer.{CoveredLayer}
 use Rattle.p3_merkle_core.specs.Geometry.{Shape, step, ancestor, layer_len, leaves_under, schedule_below}
-use Rattle.p3_merkle_core.specs.Nodes.{Functions}
-use Rattle.p3_merkle_core.specs.Pruning.{CanQuery, PrunedOpening, is_covered, value_of, restored_path, restored_paths}
-use Rattle.p3_merkle_core.specs.{Inner.Covered.covered_at, Checks.params}
+use Rattle.p3_merkle_core.specs.{Nodes.Functions, Pruning.CanQuery, Pruning.PrunedOpening, Pruning.is_covered}
+use Rattle.p3_merkle_core.specs.{Pruning.value_of, Pruning.restored_paths, Inner.Covered.covered_at, Checks.params}
 use Rattle.p3_support.specs.Lists.{is_among}
 use Rattle.p3_merkle_core.proofs.{Covered.CoveredFacts.covered_listed, Lists.ListFacts.joined}
 use Rattle.p3_merkle_core.proofs.Checks.PathFacts.{joined_same, piece}
@@ -40,8 +39,7 @@ place_rising a [] k r h = absurd (omega arith)
 place_rising a (x ∷ xs) zero r h = let f = le-ltb x x (omega arith) in
     rw f (ap length (none_below x (suc x) xs (omega arith) r.1))
 place_rising a (x ∷ xs) (suc k) r h =
-    let t = lt-ltb x (get_or xs k 0) (rising_at (suc x) xs k r.1 (omega arith)) in
-    rw t (ap suc (place_rising (suc x) xs k r.1 (omega arith)))
+    grind (arith, common_steps, place_rising (suc x) xs k r.1 (omega arith), lt-ltb, rising_at)
 
 -- a number of an ascending list stands at its place
 pub placed : (xs : List ℕ) (k p : ℕ) → IsStrictlyIncreasing xs → k < length xs → get_or xs k 0 ≡ p →
@@ -57,9 +55,7 @@ found_at xs x h =
 -- and a listed one is found there
 pub at_place : (xs : List ℕ) (x : ℕ) → IsStrictlyIncreasing xs → is_among xs x ≡ true →
     (place_among xs x < length xs) × (get_or xs (place_among xs x) 0 ≡ x)
-at_place xs x up h =
-    let at = found_at xs x h in
-    rw (placed xs at.0 x up at.1 at.2) (at.1, at.2)
+at_place xs x up h = grind (arith, common_steps, placed, found_at)
 
 -- what is at most a listed number stands no later
 pub not_past : (xs : List ℕ) (x k : ℕ) → IsStrictlyIncreasing xs → is_among xs x ≡ true → k < length xs →
@@ -109,11 +105,7 @@ linked_siblings below above j slot link h is = rw (link.parents j h, is) refl
 group_of : (n : ℕ) (parents : List ℕ) (k : ℕ) → k < length parents → take n (drop (n * k) (children_under n parents))
     ≡ range_with_len (n * get_or parents k 0) n
 group_of n [] k h = absurd (omega arith)
-group_of n (p ∷ parents) zero h =
-    let z : n * 0 ≡ 0 = omega arith in
-    let here = range_with_len (n * p) n in
-    let long = length-range_with_len (n * p) n in
-    rw z (take-append-le n here (children_under n parents) (omega arith) ∙ take_all n here (omega arith))
+group_of n (p ∷ parents) zero h = grind (arith, common_steps, take-append-le, take_all, length-range_with_len)
 group_of n (p ∷ parents) (suc k) h =
     let here = range_with_len (n * p) n in
     let e : n * suc k ≡ length here + n * k = omega (arith, length-range_with_len (n * p) n) in
@@ -212,15 +204,11 @@ path_more view levels i k node level old new h is w more =
 pub link_at : {X : Type 0} (layers : List (CoveredLayer X)) (level : ℕ) (above : CoveredLayer X) → 0 < level →
     level < length layers → AreLinked layers → above ≡ get_or layers level above →
     IsLinked (get_or layers (level - 1) above) above
-link_at {X} layers level above some h linked is =
-    let up : level - 1 + 1 ≡ level = omega arith in
-    subst (λ (z : CoveredLayer X). IsLinked (get_or layers (level - 1) above) z)
-    (ap (λ (k : ℕ). get_or layers k above) up ∙ sym is) (linked (level - 1) (omega arith) above)
+link_at {X} layers level above some h linked is = grind (arith, common_steps)
 
 -- a path that stands at a node of one layer, and its turn to the next
 pub path_turn : {X : Type 0} (layers : List (CoveredLayer X)) (level slot node index : ℕ) (above : CoveredLayer X)
-    (old new : List X) → 0 < level → level < length layers → AreLinked layers →
-    above ≡ get_or layers level above →
+    (old new : List X) → 0 < level → level < length layers → AreLinked layers → above ≡ get_or layers level above →
     IsOnPath (levels_in layers) index (level - 1) old node →
     is_among (get_or layers (level - 1) above).covered.nodes.items node ≡ true →
     slot ≡ place_among above.covered.nodes.items (node / above.step) →
@@ -243,9 +231,7 @@ path_turn {X} layers level slot node index above old new some h linked is_above 
 pub view_more : {X Y : Type 0} (view : X → Y) (f : ℕ → Y) (made : List ℕ) (k : ℕ) (old new : List X) (added : X) →
     k < length made → map view old ≡ map f (take k made) → new ≡ old ++ added ∷ [] → view added ≡ f (get_or made k 0) →
     map view new ≡ map f (take (k + 1) made)
-view_more view f made k old new added h so_far is last =
-    ap (map view) is ∙ map-append view old (added ∷ []) ∙ ap (λ ys. ys ++ view added ∷ []) so_far
-    ∙ ap (λ y. map f (take k made) ++ y ∷ []) last ∙ sym (map_more f made k 0 h)
+view_more view f made k old new added h so_far is last = grind (arith, common_steps)
 
 -- and one of all
 pub view_at : {X Y : Type 0} (view : X → Y) (f : ℕ → Y) (made : List ℕ) (all : List X) (k : ℕ) (x : X) →
@@ -304,7 +290,8 @@ enumerated h level a (suc n) = ap (λ ys. h (a, level a) ++ ys) (enumerated h le
 
 -- the path of a queried leaf out of such levels
 path_kept : {X : Type 0} (s : Shape) (queries : List ℕ) (t : ℕ) → CanQuery s queries t → (v : ℕ → ℕ → X) (i : ℕ) →
-    is_among queries i ≡ true → siblings_on_path (map (level_of s queries v) (range_with_len 0 t)) i ≡ joined (piece s v i) t
+    is_among queries i ≡ true →
+    siblings_on_path (map (level_of s queries v) (range_with_len 0 t)) i ≡ joined (piece s v i) t
 path_kept s queries t w v i q =
     let levels = map (level_of s queries v) (range_with_len 0 t) in
     enumerated (kept_siblings levels i) (level_of s queries v) 0 t
@@ -326,8 +313,4 @@ pub paths_restored : {T W : Type 0} (f : Functions T W) (s : Shape) (t : ℕ) (p
     CanQuery s p.indices t → (levels : List (List ℕ × ℕ × List (List W))) → levels
     ≡ map (level_of s p.indices (value_of (params f s t) p)) (range_with_len 0 t) →
     paths_out_of levels p.indices ≡ restored_paths (params f s t) p
-paths_restored f s t p w levels are =
-    rw are (same_paths
-    (λ i. (i, siblings_on_path (map (level_of s p.indices (value_of (params f s t) p)) (range_with_len 0 t)) i))
-    (λ i. (i, restored_path (params f s t) p i)) p.indices
-    (λ i q. ap (λ path. (i, path)) (path_kept s p.indices t w (value_of (params f s t) p) i q)))
+paths_restored f s t p w levels are = grind (arith, common_steps, path_kept, same_paths)

@@ -1,10 +1,10 @@
 -- No set of uncovered nodes that suffices has fewer members than the boundary.
-use Rattle.std.proofs.Common.{◌≡◌, ℕ, zero, suc, ◌+◌, ◌-◌, ◌*◌, ◌/◌, ◌%◌, ◌<◌, ◌≤◌, Bool, true, false, not, eqb, nat_le}
+use Rattle.std.proofs.Common.{◌≡◌, ℕ, zero, suc, ◌+◌, ◌-◌, ◌*◌, ◌/◌, ◌<◌, ◌≤◌, Bool, true, false, not, eqb, nat_le}
 use Rattle.std.proofs.Common.{◌&&◌, List, [], ◌∷◌, ◌++◌, map, refl, sym, ◌∙◌, arith, inl, inr, ◌⊎◌, length, filter}
-use Rattle.std.proofs.Common.{eq-eqb, subst, ◌≢◌, ap}
-use Rattle.std.specs.List.{range_with_len, count_by}
+use Rattle.std.proofs.{Common.eq-eqb, Common.subst, Common.◌≢◌, Common.ap, lemmas.Grind.common_steps}
 use Rattle.std.proofs.lemmas.Bool.{cases_Bool, eqb-true, and_parts, and_from, or_cases, or_left, or_right, leb-true}
 use Rattle.std.proofs.lemmas.Bool.{not-true, both_ways, true≢false, false_from_ne_true}
+use Rattle.std.specs.List.{range_with_len, count_by}
 use Rattle.p3_merkle_core.specs.Geometry.{Shape, step, layer_len, IsArity}
 use Rattle.p3_merkle_core.specs.Pruning.{up, is_under, is_covered, is_boundary, boundary_at, boundary, is_in, IsKnown}
 use Rattle.p3_merkle_core.specs.Pruning.{Suffices, IsUncovered, IsGivenUnder}
@@ -41,14 +41,7 @@ known_counts s w queries given (suc l) j (inr k) bare =
 child_known : (s : Shape) → IsArity s.arity → (queries : List ℕ) (t : ℕ) (given : List (ℕ × ℕ)) →
     IsUncovered s queries t given → (l j : ℕ) → l < t → is_covered s queries (suc l) (j / step s l) ≡ true →
     IsKnown s queries given (suc l) (j / step s l) → IsKnown s queries given l j
-child_known s w queries t given un l j h parent is =
-    let n = step s l in
-    let two = step_above_1 s l w.above_1 in
-    elim is [
-      | inl known ↦
-          absurd (both_ways (is_covered s queries (suc l) (j / n)) (un (suc l) (j / n) (omega arith) known) parent)
-      | inr k ↦ let e : n * (j / n) + j % n ≡ j = omega arith in rw e at (k.1 (j % n) (omega arith))
-    ]
+child_known s w queries t given un l j h parent is = grind (arith, common_steps)
 
 -- each covered node, d layers below the cap layer
 covered_known : (s : Shape) → IsArity s.arity → (queries : List ℕ) (t : ℕ) (given : List (ℕ × ℕ)) →
@@ -86,16 +79,7 @@ layer_tally s x p l a n = tally (above s x) (map (λ j. (l, j)) (filter p (range
 layer_zero : (s : Shape) (m k : ℕ) (p : ℕ → Bool) (l a n : ℕ) → up s m k (l - m) < a → layer_tally s (m, k) p l a n ≡ 0
 unfolding tally layer_tally
 layer_zero s m k p l a zero h = refl
-layer_zero s m k p l a (suc n) h =
-    let rest = layer_zero s m k p l (a + 1) n (omega arith) in
-    elim (cases_Bool (p a)) [
-      | inl t ↦
-          let u : is_under s l a (m, k) ≡ false = false_from_ne_true (is_under s l a (m, k)) (λ e.
-          let q = and_parts (nat_le m l) (eqb (up s m k (l - m)) a) (sym (under_is s l a m k) ∙ e) in
-          let r = eqb-true (up s m k (l - m)) a q.1 in omega arith) in
-          rw (t, u) (omega (arith, rest))
-      | inr f ↦ rw f rest
-    ]
+layer_zero s m k p l a (suc n) h = grind (arith, common_steps, layer_zero s m k p l (a + 1) n (omega arith), under_is)
 
 layer_one : (s : Shape) (m k : ℕ) (p : ℕ → Bool) (l a n : ℕ) →
     (layer_tally s (m, k) p l a n ≡ 0) ⊎ ((layer_tally s (m, k) p l a n ≡ 1) × (m ≤ l) × (p (up s m k (l - m)) ≡ true))
@@ -175,12 +159,7 @@ under_boundary : (s : Shape) (queries : List ℕ) (t : ℕ) (given : List (ℕ �
     under_all s (boundary s queries t) given ≤ length given
 under_boundary s queries t [] = omega (arith, under_none s (boundary s queries t))
 under_boundary s queries t ((m, k) ∷ given) =
-    let more = under_more s (boundary s queries t) (m, k) given in
-    let rest = under_boundary s queries t given in
-    elim (boundary_one s queries m k t) [
-      | inl z ↦ omega (arith, more, rest, z)
-      | inr o ↦ omega (arith, more, rest, o.0)
-    ]
+    grind (arith, common_steps, under_boundary s queries t given, boundary_one, under_more)
 
 -- nodes that have a member under each are no more than the members, and fewer if one is no member itself
 enough_under : (s : Shape) (nodes given : List (ℕ × ℕ)) →
@@ -226,14 +205,7 @@ in_layer s queries p m a (suc n) l j e =
 in_append : (xs ys : List (ℕ × ℕ)) (l j : ℕ) → is_in (xs ++ ys) l j ≡ true → (is_in xs l j ≡ true) ⊎
     (is_in ys l j ≡ true)
 in_append [] ys l j e = inr e
-in_append ((m, k) ∷ xs) ys l j e =
-    elim (or_cases (eqb m l && eqb k j) (is_in (xs ++ ys) l j) e) [
-      | inl same ↦ inl (or_left (eqb m l && eqb k j) (is_in xs l j) same)
-      | inr other ↦ elim (in_append xs ys l j other) [
-        | inl a ↦ inl (or_right (eqb m l && eqb k j) (is_in xs l j) a)
-        | inr b ↦ inr b
-      ]
-    ]
+in_append ((m, k) ∷ xs) ys l j e = grind (arith, common_steps)
 
 pub in_boundary : (s : Shape) (queries : List ℕ) (t l j : ℕ) → is_in (boundary s queries t) l j ≡ true →
     (l < t) × (is_boundary s queries l j ≡ true)

@@ -5,17 +5,16 @@ use Rattle.std.proofs.lemmas.Bool.{cases_Bool, cond-true, cond-false, eqb-true, 
 use Rattle.std.proofs.lemmas.List.{length-map, get_or-map, FromFn.length-map-range_with_len}
 use Rattle.std.proofs.lemmas.{List.FromFn.get_or-map-range_with_len, Option.slice_get-get_or}
 use Rattle.std.specs.{List.find, Option.unwrap_or, Option.option_map}
-use Rattle.p3_merkle_core.specs.Geometry.{step, ancestor, raw_len, layer_len, position_in_group}
-use Rattle.p3_merkle_core.specs.Nodes.{Functions, Batch, shape, node, layer}
 use Rattle.p3_merkle_core.specs.Openings.{honest_rows, siblings_by, children_by, level_siblings}
+use Rattle.p3_merkle_core.specs.{Nodes.Functions, Nodes.Batch, Nodes.shape, Nodes.node, Nodes.layer, Checks.params}
 use Rattle.p3_merkle_core.specs.Pruning.{is_covered, boundary, is_in, sent_digest, restored_node, value_of}
 use Rattle.p3_merkle_core.specs.Pruning.{restored_path, honest_query, IsHonestQuery, IsCapped, first_rows}
+use Rattle.p3_merkle_core.specs.Geometry.{step, ancestor, raw_len, layer_len, position_in_group}
 use Rattle.p3_merkle_core.proofs.Checks.Completeness.{IsHonest, rows_are, row_digest_is, node_leaf, node_next}
-use Rattle.p3_merkle_core.proofs.Checks.Accepted.{padded_ge}
+use Rattle.p3_merkle_core.proofs.Checks.CheckFacts.{padded_ge}
 use Rattle.p3_merkle_core.proofs.Covered.Sufficient.{covered_below, child_listed}
 use Rattle.p3_merkle_core.proofs.Checks.PathFacts.{joined_same, map_same, group_values, piece}
 use Rattle.p3_merkle_core.proofs.Covered.Equivalence.{restored_leaf, restored_next, query_covered, rows_under_is}
-use Rattle.p3_merkle_core.specs.Checks.{params}
 
 -- what was sent for a node that is listed
 pub found : {X : Type 0} (given : List (ℕ × ℕ)) (g : ℕ × ℕ → X) (d : X) (l j : ℕ) → is_in given l j ≡ true →

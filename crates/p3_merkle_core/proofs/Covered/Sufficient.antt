@@ -1,9 +1,9 @@
 -- The boundary suffices, and a set of no more nodes that suffices has its members.
 use Rattle.std.proofs.Common.{◌≡◌, ℕ, zero, suc, ◌+◌, ◌*◌, ◌/◌, ◌<◌, ◌≤◌, Bool, true, false, not, eqb, ◌&&◌, ◌||◌, List}
 use Rattle.std.proofs.Common.{[], ◌∷◌, map, refl, sym, ◌∙◌, arith, inl, inr, length, filter, eq-eqb, All, ap, subst}
-use Rattle.std.proofs.lemmas.Bool.{cases_Bool, cases_eq, eqb-true, and_parts, and_from, or_cases, or_left, or_right}
-use Rattle.std.proofs.lemmas.Bool.{or_parts, not_from_false, true≢false, cases_lt, not-true}
-use Rattle.std.proofs.{lemmas.List.Folds.list_any-append, Math.Nat.mul-le-mul_left}
+use Rattle.std.proofs.lemmas.{List.Folds.list_any-append, Grind.common_steps, Bool.cases_Bool, Bool.cases_eq}
+use Rattle.std.proofs.lemmas.Bool.{eqb-true, and_parts, and_from, or_cases, or_left, or_right, or_parts, not_from_false}
+use Rattle.std.proofs.{lemmas.Bool.true≢false, lemmas.Bool.cases_lt, lemmas.Bool.not-true, Math.Nat.mul-le-mul_left}
 use Rattle.std.specs.List.{list_any, range_with_len}
 use Rattle.p3_merkle_core.specs.Geometry.{Shape, step, ancestor, raw_len, layer_len, heights, IsArity}
 use Rattle.p3_support.specs.Batches.{greatest}
@@ -16,8 +16,7 @@ use Rattle.p3_merkle_core.proofs.{Covered.Minimal.in_boundary, Lists.ListFacts.t
 -- ---- a covered node
 
 pub covered_query : (s : Shape) (queries : List ℕ) (l j : ℕ) → All (λ q. q < greatest (heights s)) queries →
-    is_covered s queries l j ≡ true →
-    (q : ℕ) × (q < greatest (heights s)) × (ancestor s l q ≡ j)
+    is_covered s queries l j ≡ true → (q : ℕ) × (q < greatest (heights s)) × (ancestor s l q ≡ j)
 covered_query s [] l j below c = absurd (true≢false (sym c))
 covered_query s (q ∷ queries) l j below c =
     elim (or_cases (eqb (ancestor s l q) j) (is_covered s queries l j) c) [
@@ -27,10 +26,7 @@ covered_query s (q ∷ queries) l j below c =
 
 pub covered_below : (s : Shape) (queries : List ℕ) (t : ℕ) → CanQuery s queries t → (l j : ℕ) → l ≤ t →
     is_covered s queries l j ≡ true → j < raw_len s l
-covered_below s queries t w l j h c =
-    let q = covered_query s queries l j w.below c in
-    let b = anc_below s w.well_shaped q.0 q.1 l (omega (arith, w.in_tree)) in
-    let e = q.2 in rw (← e) b
+covered_below s queries t w l j h c = grind (arith, common_steps, anc_below, covered_query)
 
 -- ---- what the boundary lists
 
@@ -111,12 +107,7 @@ same (m, k) (l, j) = eqb l m && eqb j k
 tally_le : {X : Type 0} (p q : X → Bool) → ((x : X) → p x ≡ true → q x ≡ true) → (xs : List X) → tally p xs ≤ tally q xs
 unfolding tally
 tally_le p q h [] = omega arith
-tally_le p q h (x ∷ xs) =
-    let rest = tally_le p q h xs in
-    elim (cases_Bool (p x)) [
-      | inl t ↦ let u = h x t in rw (t, u) (omega arith)
-      | inr f ↦ rw f (omega arith)
-    ]
+tally_le p q h (x ∷ xs) = grind (arith, common_steps, tally_le p q h xs)
 
 tally_none : {X : Type 0} (p : X → Bool) (xs : List X) → list_any p xs ≡ false → tally p xs ≡ 0
 unfolding tally
@@ -215,19 +206,7 @@ only_the_boundary s w queries t given un enough few l j =
 pub boundary_least : (s : Shape) (queries : List ℕ) (t : ℕ) → CanQuery s queries t →
     IsLeast s queries t (pruned_len s queries t)
 boundary_least s queries t w =
-    let nodes = boundary s queries t in
-    record {
-      counted = refl;
-      uncovered = λ l j le e.
-          (let b = in_boundary s queries t l j e in
-          not-true (is_covered s queries l j)
-          (and_parts (is_covered s queries (suc l) (j / step s l)) (not (is_covered s queries l j)) b.1).1);
-      suffices = boundary_suffices s queries t w;
-      others_longer = λ given un enough. elim (cases_lt (length nodes) (length given)) [
-        | inl longer ↦ inr longer
-        | inr few ↦ inl (only_the_boundary s w.well_shaped queries t given un enough few)
-      ];
-    }
+    grind (arith, common_steps, and_parts, cases_lt, not-true, in_boundary, boundary_suffices, only_the_boundary)
 
 -- so is a number that is its length
 pub count_least : (s : Shape) (queries : List ℕ) (t count : ℕ) → CanQuery s queries t → count ≡ pruned_len s queries t →

@@ -1,8 +1,8 @@
 -- How many elements of a list pass, and which nodes stand under a node.
 use Rattle.std.proofs.Common.{◌≡◌, ℕ, suc, ◌+◌, ◌-◌, ◌*◌, ◌/◌, ◌<◌, ◌≤◌, Bool, true, eqb, nat_le, ◌&&◌, List, [], ◌∷◌}
 use Rattle.std.proofs.Common.{◌++◌, refl, ap, sym, ◌∙◌, arith, inl, inr, eq-eqb}
-use Rattle.std.proofs.lemmas.Bool.{cases_Bool, eqb-true, and_parts, and_from, or_cases, or_left, or_right, le-leb}
-use Rattle.std.proofs.{lemmas.Bool.leb-true, lemmas.Bool.true≢false, lemmas.Nat.div-mul-add, Math.Nat.mul_comm}
+use Rattle.std.proofs.{Math.Nat.mul_comm, lemmas.Grind.common_steps, lemmas.Nat.div-mul-add, lemmas.Bool.eqb-true}
+use Rattle.std.proofs.lemmas.Bool.{and_parts, and_from, or_cases, or_left, or_right, le-leb, leb-true, true≢false}
 use Rattle.p3_merkle_core.specs.Geometry.{Shape, step, ancestor}
 use Rattle.p3_merkle_core.specs.Pruning.{is_covered, is_in, up, is_under}
 use Rattle.p3_merkle_core.proofs.{Shapes.StepFacts.anc_next, Lists.ListFacts.tally}
@@ -14,17 +14,7 @@ pub tally_two : {X : Type 0} (p q r : X → Bool) → ((x : X) → p x ≡ true 
     (xs : List X) → tally p xs + tally q xs ≤ tally r xs
 unfolding tally
 tally_two p q r pr qr pq [] = omega arith
-tally_two p q r pr qr pq (x ∷ xs) =
-    let rest = tally_two p q r pr qr pq xs in
-    elim (cases_Bool (p x)) [
-      | inl a ↦
-          let c = pr x a in
-          elim (cases_Bool (q x)) [ inl b ↦ absurd (pq x a b) | inr b ↦ rw (a, b, c) (omega arith) ]
-      | inr a ↦ elim (cases_Bool (q x)) [
-        | inl b ↦ let c = qr x b in rw (a, b, c) (omega arith)
-        | inr b ↦ rw (a, b) (omega arith)
-      ]
-    ]
+tally_two p q r pr qr pq (x ∷ xs) = grind (arith, common_steps, tally_two p q r pr qr pq xs)
 
 pub tally_append : {X : Type 0} (p : X → Bool) (xs ys : List X) → tally p (xs ++ ys) ≡ tally p xs + tally p ys
 unfolding tally
@@ -40,26 +30,17 @@ under_self s l j = let z : l - l ≡ 0 = omega arith in
 
 pub up_next : (s : Shape) (m k l : ℕ) → m ≤ l → up s m k (suc l - m) ≡ up s m k (l - m) / step s l
 unfolding up
-up_next s m k l h =
-    let a : suc l - m ≡ suc (l - m) = omega arith in
-    let b : m + (l - m) ≡ l = omega arith in
-    rw (a, b) refl
+up_next s m k l h = grind (arith, common_steps)
 
 pub under_parent : (s : Shape) (l j c : ℕ) → c / step s l ≡ j → (x : ℕ × ℕ) → is_under s l c x ≡ true →
     is_under s (suc l) j x ≡ true
 unfolding is_under
 under_parent s l j c e (m, k) h =
-    let p = and_parts (nat_le m l) (eqb (up s m k (l - m)) c) h in
-    let le = leb-true m l p.0 in
-    let is = eqb-true (up s m k (l - m)) c p.1 in
-    and_from (nat_le m (suc l)) (eqb (up s m k (suc l - m)) j) (le-leb m (suc l) (omega arith))
-    (eq-eqb (up s m k (suc l - m)) j (up_next s m k l le ∙ ap (λ n. n / step s l) is ∙ e))
+    grind (arith, common_steps, eq-eqb, eqb-true, and_parts, and_from, le-leb, leb-true, up_next)
 
 pub under_one : (s : Shape) (l c d : ℕ) (x : ℕ × ℕ) → is_under s l c x ≡ true → is_under s l d x ≡ true → c ≡ d
 unfolding is_under
-under_one s l c d (m, k) h g =
-    sym (eqb-true (up s m k (l - m)) c (and_parts (nat_le m l) (eqb (up s m k (l - m)) c) h).1)
-    ∙ eqb-true (up s m k (l - m)) d (and_parts (nat_le m l) (eqb (up s m k (l - m)) d) g).1
+under_one s l c d (m, k) h g = grind (arith, common_steps)
 
 pub child_parent : (s : Shape) (l j i : ℕ) → i < step s l → (step s l * j + i) / step s l ≡ j
 child_parent s l j i h = let e : step s l * j ≡ j * step s l = mul_comm (step s l) j in

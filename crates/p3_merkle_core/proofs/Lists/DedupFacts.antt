@@ -1,7 +1,7 @@
 -- A list with repeats dropped, and one more element.
 use Rattle.std.proofs.Common.{◌≡◌, ◌∙◌, ℕ, zero, suc, ◌+◌, ◌-◌, ◌<◌, ◌≤◌, true, false, eqb, cond, List, [], ◌∷◌, ◌++◌}
-use Rattle.std.proofs.Common.{refl, ap, sym, arith, inl, inr, length, get_or, take, add-one, append-nil, eq-eqb}
-use Rattle.std.proofs.lemmas.{Bool.cases_Bool, Bool.eqb-true, Bool.ne_eqb, List.take_more}
+use Rattle.std.proofs.Common.{refl, ap, sym, arith, length, get_or, take, add-one, append-nil, eq-eqb}
+use Rattle.std.proofs.lemmas.{Grind.common_steps, Bool.ne_eqb, List.take_more}
 use Rattle.std.specs.List.{dedup, dedup_from}
 
 -- the last element of x and those behind it
@@ -12,16 +12,8 @@ last_from x (y ∷ ys) = last_from y ys
 -- one more element stays if it is not the one before it
 from_more : (x : ℕ) (ys : List ℕ) (z : ℕ) → dedup_from eqb x (ys ++ z ∷ [])
     ≡ dedup_from eqb x ys ++ cond (eqb z (last_from x ys)) [] (z ∷ [])
-from_more x [] z =
-    elim (cases_Bool (eqb z x)) [
-      | inl t ↦ rw t refl
-      | inr f ↦ rw f refl
-    ]
-from_more x (y ∷ ys) z =
-    elim (cases_Bool (eqb y x)) [
-      | inl t ↦ let e : y ≡ x = eqb-true y x t in rw (t, e) (from_more x ys z)
-      | inr f ↦ rw f (ap (λ xs. x ∷ xs) (from_more y ys z))
-    ]
+from_more x [] z = grind (arith, common_steps)
+from_more x (y ∷ ys) z = grind (arith, common_steps, from_more x ys z, from_more y ys z)
 
 last_at : (x : ℕ) (ys : List ℕ) (k : ℕ) → k ≤ length ys → last_from x (take k ys) ≡ get_or (x ∷ ys) k 0
 last_at x [] zero h = refl

@@ -1,10 +1,9 @@
 -- What writes of a value and others into slots leave.
-use Rattle.std.proofs.Common.{◌≡◌, ℕ, zero, suc, ◌+◌, ◌-◌, ◌<◌, ◌≤◌, List, [], ◌∷◌, ◌++◌, refl, ap, sym, ◌∙◌, arith, length}
-use Rattle.std.proofs.Common.{get_or, take, drop, set, insert, replicate, cond, nat_lt, inl, inr, length-append}
-use Rattle.std.proofs.Common.{length-take, length-drop, length-set, get_or-set_same}
-use Rattle.std.proofs.lemmas.Bool.{cases_lt, lt-ltb, le-ltb}
-use Rattle.std.proofs.lemmas.List.{drop_more, take_more, take_all, append_assoc, set_at, drop-set-lt, length-take-le}
-use Rattle.std.proofs.lemmas.List.{drop-replicate, ext_get_or, length-replicate}
+use Rattle.std.proofs.{lemmas.Grind.common_steps, Common.◌≡◌, Common.ℕ, Common.zero, Common.suc, Common.◌+◌}
+use Rattle.std.proofs.Common.{◌-◌, ◌<◌, ◌≤◌, List, [], ◌∷◌, ◌++◌, refl, sym, ◌∙◌, arith, length, get_or, take, drop}
+use Rattle.std.proofs.Common.{set, insert, replicate, cond, nat_lt, length-append, length-take, length-drop, length-set}
+use Rattle.std.proofs.{Common.get_or-set_same, lemmas.Bool.le-ltb}
+use Rattle.std.proofs.lemmas.List.{drop_more, set_at, length-take-le, drop-replicate, ext_get_or, length-replicate}
 use Rattle.std.proofs.lemmas.List.Edits.{get_or-insert_at, get_or-insert_below, get_or-insert_above}
 use Rattle.p3_merkle_core.specs.Nodes.{padded}
 
@@ -15,10 +14,7 @@ slot_of p k = cond (nat_lt k p) k (k + 1)
 module _ {X : Type 0} (first whole : List X) (n : ℕ) (x : X) (in_whole : n < length whole) (in_first : n < length first)
     (is : get_or whole n x ≡ x) where
   one_more : take n whole ++ x ∷ drop (n + 1) first ≡ take (n + 1) whole ++ drop (n + 1) first
-  one_more =
-      sym (append_assoc (take n whole) (x ∷ []) (drop (n + 1) first))
-      ∙ ap (λ (z : List X). z ++ drop (n + 1) first)
-      (sym (take_more whole n x in_whole ∙ ap (λ y. take n whole ++ y ∷ []) is))
+  one_more = grind (arith, common_steps)
 
   -- a write of the next element
   put_next : set (take n whole ++ drop n first) n x ≡ take (n + 1) whole ++ drop (n + 1) first
@@ -43,55 +39,30 @@ module _ {X : Type 0} (slots others : List X) (p : ℕ) (v : X) (h : p ≤ lengt
       (omega (arith, length-set slots p v)) (get_or-insert_at others p v v h)
       (get_or-set_same slots p v v (omega arith)))
 
-  pub put_first : set slots p v ≡ take (slot_of p 0) (insert others p v) ++ drop (slot_of p 0) (set slots p v)
-  put_first =
-      elim (cases_lt 0 p) [
-        | inl t ↦ rw (lt-ltb 0 p t) refl
-        | inr f ↦ rw (le-ltb 0 p f) (at_value 0 (omega arith))
-      ]
-
   -- one more of those before the value
   pub put_before : (k : ℕ) (x : X) → k < length others → x ≡ get_or others k x → k < p →
       set (take (slot_of p k) (insert others p v) ++ drop (slot_of p k) (set slots p v)) k x
       ≡ take (slot_of p (k + 1)) (insert others p v) ++ drop (slot_of p (k + 1)) (set slots p v)
   put_before k x below is t =
-      let read : get_or (insert others p v) k x ≡ x = get_or-insert_below others p v x k t h ∙ sym is in
-      let next = put_next (set slots p v) (insert others p v) k x (omega (arith, whole_long))
-      (omega (arith, length-set slots p v)) read in
-      elim (cases_lt (k + 1) p) [
-        | inl more ↦ rw (lt-ltb k p t, lt-ltb (k + 1) p more) next
-        | inr last ↦ rw (lt-ltb k p t, le-ltb (k + 1) p last) (next ∙ at_value (k + 1) (omega arith))
-      ]
+      grind (arith, common_steps, length-set, get_or-insert_below, put_next, whole_long, at_value)
 
   -- one more of those behind it
   pub put_behind : (k : ℕ) (x : X) → k < length others → x ≡ get_or others k x → p ≤ k →
       set (take (slot_of p k) (insert others p v) ++ drop (slot_of p k) (set slots p v)) (k + 1) x
       ≡ take (slot_of p (k + 1)) (insert others p v) ++ drop (slot_of p (k + 1)) (set slots p v)
-  put_behind k x below is f =
-      let read : get_or (insert others p v) (k + 1) x ≡ x = get_or-insert_above others p v x k f h ∙ sym is in
-      let after : p ≤ k + 1 = omega arith in
-      rw (le-ltb k p f, le-ltb (k + 1) p after)
-      (put_next (set slots p v) (insert others p v) (k + 1) x (omega (arith, whole_long))
-      (omega (arith, length-set slots p v)) read)
+  put_behind k x below is f = grind (arith, common_steps, length-set, le-ltb, get_or-insert_above, put_next, whole_long)
 
   -- and then all are there
   pub put_all : take (slot_of p (length others)) (insert others p v) ++ drop (slot_of p (length others)) (set slots p v)
       ≡ insert others p v ++ drop (length others + 1) slots
-  put_all =
-      rw (
-        le-ltb (length others) p h,
-        take_all (length others + 1) (insert others p v) (omega (arith, whole_long)),
-        drop-set-lt (length others + 1) slots p v (omega arith),
-      ) refl
+  put_all = grind (arith, common_steps)
 
 -- what all writes leave of default digests
 pub group_around_is : {X : Type 0} (n : ℕ) (default_element v : X) (others : List X) (p : ℕ) → p ≤ length others →
     insert others p v ++ drop (length others + 1) (replicate n default_element)
     ≡ padded n default_element (insert others p v)
 group_around_is n default_element v others p h =
-    let size : length (insert others p v)
-    ≡ length others + 1 = simp (length-append, length-take, length-drop) (omega arith) in
-    rw (size, drop-replicate (length others + 1) n default_element) refl
+    grind (arith, common_steps, length-append, length-take, length-drop, drop-replicate)
 
 -- behind the children every slot has the default digest
 default_behind : {X : Type 0} (d : X) (xs : List X) (r k : ℕ) → get_or (xs ++ replicate r d) k d ≡ get_or xs k d

@@ -1,18 +1,16 @@
 -- Facts on lists: pieces that are joined, an element taken out and put back, how many elements pass.
-use Rattle.std.proofs.Common.{◌≡◌, ℕ, zero, suc, ◌+◌, ◌-◌, ◌<◌, ◌≤◌, List, [], ◌∷◌, refl, ap, arith, inl, inr, length}
-use Rattle.std.proofs.Common.{get_or, take, drop, insert, remove, length-append, length-take, length-drop, cond, Bool}
-use Rattle.std.proofs.Common.{map, ◌++◌, sym, ◌∙◌, append-nil}
-use Rattle.std.proofs.lemmas.{Bool.cases_eq, Bool.cases_Bool, List.drop_at}
-use Rattle.std.proofs.lemmas.List.{drop-append-le, take-append-le, take_all, append_assoc, Recursion.is_count_by}
+use Rattle.std.proofs.{lemmas.Grind.common_steps, Common.◌≡◌, Common.ℕ, Common.zero, Common.suc}
+use Rattle.std.proofs.Common.{◌+◌, ◌-◌, ◌<◌, ◌≤◌, List, [], ◌∷◌, refl, ap, arith, inl, inr, length, get_or, take, drop}
+use Rattle.std.proofs.Common.{insert, remove, length-append, length-take, length-drop, cond, Bool, map, ◌++◌}
+use Rattle.std.proofs.{Common.append-nil, lemmas.Bool.cases_eq, lemmas.Bool.cases_Bool, lemmas.List.drop_at}
+use Rattle.std.proofs.lemmas.List.{drop-append-le, take-append-le, take_all, Recursion.is_count_by}
 use Rattle.std.specs.List.{count_by, flat_map, range_with_len}
 
 -- values from s on
 pub map_shift : {Y : Type 0} (v : ℕ → Y) (s a n : ℕ) → map (λ i. v (s + i)) (range_with_len a n)
     ≡ map v (range_with_len (s + a) n)
 map_shift v s a zero = refl
-map_shift v s a (suc n) =
-    let e : s + (a + 1) ≡ (s + a) + 1 = omega arith in
-    ap (λ ys. v (s + a) ∷ ys) (rw e at (map_shift v s (a + 1) n))
+map_shift v s a (suc n) = grind (arith, common_steps, map_shift v s (a + 1) n)
 
 -- ---- pieces that are joined
 
@@ -23,10 +21,7 @@ joined g n = flat_map g (range_with_len 0 n)
 more_from : {A : Type 0} (g : ℕ → List A) (a n : ℕ) → flat_map g (range_with_len a (suc n))
     ≡ flat_map g (range_with_len a n) ++ g (a + n)
 more_from g a zero = let z : a + 0 ≡ a = omega arith in rw z (append-nil (g a))
-more_from g a (suc n) =
-    let e : (a + 1) + n ≡ a + suc n = omega arith in
-    ap (λ ys. g a ++ ys) (rw e at (more_from g (a + 1) n))
-    ∙ sym (append_assoc (g a) (flat_map g (range_with_len (a + 1) n)) (g (a + suc n)))
+more_from g a (suc n) = grind (arith, common_steps, more_from g (a + 1) n)
 
 -- one more piece
 pub joined_more : {A : Type 0} (g : ℕ → List A) (n : ℕ) → joined g (suc n) ≡ joined g n ++ g n

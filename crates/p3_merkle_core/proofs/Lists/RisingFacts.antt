@@ -1,12 +1,10 @@
 -- Ascending lists of numbers: there is one of the numbers that pass a test, in groups, and with repeats dropped.
-use Rattle.std.proofs.Common.{◌≡◌, ℕ, zero, suc, ◌+◌, ◌-◌, ◌*◌, ◌/◌, ◌%◌, ◌<◌, ◌≤◌, Bool, true, false, not, eqb, ◌||◌}
-use Rattle.std.proofs.Common.{List, [], ◌∷◌, ◌++◌, map, refl, ap, sym, ◌∙◌, arith, inl, inr, length, filter, get_or}
-use Rattle.std.proofs.Common.{eq-eqb, AllPairs, length-append}
-use Rattle.std.proofs.lemmas.Bool.{cases_Bool, cases_eq, cases_lt, eqb-true, eqb-false, or_cases, or_left, or_right}
-use Rattle.std.proofs.lemmas.{Bool.true≢false, Bool.false_from_ne_true, Nat.div-mul-add}
-use Rattle.std.proofs.Math.Nat.{mul_comm, mul-le-mul_left}
-use Rattle.std.proofs.lemmas.List.{Folds.list_any-append, Folds.list_any_at, Filters.length-filter_both}
-use Rattle.std.proofs.lemmas.List.{FromFn.length-range_with_len, Kept.AllPairs-from_increasing}
+use Rattle.std.proofs.Common.{◌≡◌, ℕ, zero, suc, ◌+◌, ◌*◌, ◌/◌, ◌%◌, ◌<◌, ◌≤◌, Bool, true, false, not, eqb, List, []}
+use Rattle.std.proofs.Common.{◌∷◌, ◌++◌, map, refl, ap, sym, ◌∙◌, arith, inl, inr, length, filter, get_or, eq-eqb}
+use Rattle.std.proofs.{Common.AllPairs, Common.length-append, Math.Nat.mul-le-mul_left, lemmas.Grind.common_steps}
+use Rattle.std.proofs.lemmas.Bool.{cases_Bool, cases_eq, eqb-true, eqb-false, or_cases, or_left, or_right, true≢false}
+use Rattle.std.proofs.lemmas.{Bool.false_from_ne_true, List.Filters.length-filter_both, List.Folds.list_any-append}
+use Rattle.std.proofs.lemmas.List.{Folds.list_any_at, Kept.AllPairs-from_increasing, FromFn.length-range_with_len}
 use Rattle.std.specs.List.{list_any, range_with_len, dedup, dedup_from, flat_map, Sorted.IsStrictlyIncreasing}
 use Rattle.p3_merkle_core.specs.Inner.Agreement.{IsAscending}
 
@@ -125,16 +123,7 @@ listed_there p a (suc n) j h low high =
 
 pub rising_filter : (p : ℕ → Bool) (a n : ℕ) → IsRising a (filter p (range_with_len a n))
 rising_filter p a zero = tt
-rising_filter p a (suc n) =
-    let rest = rising_filter p (a + 1) n in
-    elim (cases_Bool (p a)) [
-      | inl t ↦ rw t (
-        omega arith,
-        rising_lower (suc a) (a + 1) (filter p (range_with_len (a + 1) n)) (omega arith)
-            rest,
-      )
-      | inr f ↦ rw f (rising_lower a (a + 1) (filter p (range_with_len (a + 1) n)) (omega arith) rest)
-    ]
+rising_filter p a (suc n) = grind (arith, common_steps, rising_filter p (a + 1) n, cases_Bool, rising_lower)
 
 -- ---- all and nothing of a range
 
@@ -165,9 +154,7 @@ abbrev pub by_groups : ℕ → (ℕ → Bool) → List ℕ → List ℕ
 by_groups n p places = flat_map (λ g. filter p (range_with_len (n * g) n)) places
 
 pub place_of : (n g j : ℕ) → n * g ≤ j → j < n * g + n → j / n ≡ g
-place_of n g j low high =
-    let e : j ≡ g * n + (j - n * g) = omega (arith, mul_comm n g) in
-    ap (λ z. z / n) e ∙ div-mul-add g n (j - n * g) (omega arith)
+place_of n g j low high = grind (arith, common_steps)
 
 rising_append : (a b : ℕ) (xs ys : List ℕ) → a ≤ b → IsRising a xs → ((j : ℕ) → is_listed xs j ≡ true → j < b) →
     IsRising b ys → IsRising a (xs ++ ys)
@@ -240,17 +227,7 @@ pub groups_count : (n : ℕ) (p : ℕ → Bool) (places : List ℕ) →
     length (by_groups n (λ j. not (p j)) places) + length (by_groups n p places) ≡ n * length places
 groups_count n p [] = omega arith
 groups_count n p (g ∷ places) =
-    let out = filter (λ j. not (p j)) (range_with_len (n * g) n) in
-    let here = filter p (range_with_len (n * g) n) in
-    let both = length-filter_both p (λ j. not (p j)) (λ j. refl) (range_with_len (n * g) n) in
-    omega (
-      arith,
-      both,
-      length-range_with_len (n * g) n,
-      length-append out (by_groups n (λ j. not (p j)) places),
-      length-append here (by_groups n p places),
-      groups_count n p places,
-    )
+    grind (arith, common_steps, groups_count n p places, length-append, length-filter_both, length-range_with_len)
 
 -- ---- repeats that are dropped
 
@@ -262,12 +239,7 @@ IsClimbing a (x ∷ xs) = (a ≤ x) × IsClimbing x xs
 dedup_rising : (k : ℕ) (xs : List ℕ) → IsClimbing k xs → IsRising k (dedup_from eqb k xs)
 dedup_rising k [] w = (omega arith, tt)
 dedup_rising k (x ∷ xs) w =
-    elim (cases_Bool (eqb x k)) [
-      | inl t ↦ let e = eqb-true x k t in rw t (dedup_rising k xs (rw e at w.1))
-      | inr f ↦
-          let ne = eqb-false x k f in
-          rw f (omega arith, rising_lower (suc k) x (dedup_from eqb x xs) (omega (arith, w.0)) (dedup_rising x xs w.1))
-    ]
+    grind (arith, common_steps, dedup_rising x xs w.1, cases_Bool, eqb-true, eqb-false, rising_lower)
 
 climbing_from : (a : ℕ) (xs : List ℕ) → (0 < length xs → a ≤ get_or xs 0 0) → IsAscending xs → IsClimbing a xs
 climbing_from a [] low up = tt
@@ -286,39 +258,20 @@ rising_once (x ∷ xs) up =
 
 dedup_lists : (k : ℕ) (xs : List ℕ) (j : ℕ) → is_listed (dedup_from eqb k xs) j ≡ is_listed (k ∷ xs) j
 dedup_lists k [] j = refl
-dedup_lists k (x ∷ xs) j =
-    elim (cases_Bool (eqb x k)) [
-      | inl t ↦
-          let e = eqb-true x k t in
-          rw (t, e, dedup_lists k xs j)
-          (elim (eqb k j) as (λ b. (b || is_listed xs j) ≡ (b || (b || is_listed xs j))) [
-            | true ↦ refl
-            | false ↦ refl
-          ])
-      | inr f ↦ rw f (ap (λ b. eqb k j || b) (dedup_lists x xs j))
-    ]
+dedup_lists k (x ∷ xs) j = grind (arith, common_steps, dedup_lists k xs j, dedup_lists x xs j)
 
 pub listed_dedup : (xs : List ℕ) (j : ℕ) → is_listed (dedup eqb xs) j ≡ is_listed xs j
 listed_dedup [] j = refl
 listed_dedup (x ∷ xs) j = dedup_lists x xs j
 
 pub div_mono : (n a b : ℕ) → 0 < n → a ≤ b → a / n ≤ b / n
-div_mono n a b some h =
-    elim (cases_lt (b / n) (a / n)) [
-      | inl l ↦
-          let m : n * suc (b / n) ≤ n * (a / n) = mul-le-mul_left n l in
-          let whole : n * (b / n) + b % n ≡ b = omega arith in
-          let small : b % n < n = omega arith in
-          let start : n * (a / n) + a % n ≡ a = omega arith in
-          absurd (omega arith)
-      | inr g ↦ g
-    ]
+div_mono n a b some h = grind (arith, common_steps)
 
 climbing_map : (n : ℕ) → 0 < n → (a b : ℕ) (xs : List ℕ) → b ≤ a → IsRising a xs →
     IsClimbing (b / n) (map (λ j. j / n) xs)
 climbing_map n some a b [] le r = tt
 climbing_map n some a b (x ∷ xs) le r =
-    (div_mono n b x some (omega (arith, r.0)), climbing_map n some (suc x) x xs (omega arith) r.1)
+    grind (arith, common_steps, climbing_map n some (suc x) x xs (omega arith) r.1, div_mono)
 
 pub rising_dedup : (n : ℕ) → 0 < n → (xs : List ℕ) → IsRising 0 xs → IsRising 0 (dedup eqb (map (λ j. j / n) xs))
 rising_dedup n some [] r = tt
@@ -364,5 +317,4 @@ increasing_from a [] r k h = absurd (omega arith)
 increasing_from a (x ∷ []) r k h = absurd (omega arith)
 increasing_from a (x ∷ y ∷ xs) r zero h = omega (arith, r.1.0)
 increasing_from a (x ∷ y ∷ xs) r (suc k) h =
-    let e : suc k + 1 ≡ suc (k + 1) = omega arith in
-    rw e (increasing_from (suc x) (y ∷ xs) r.1 k (omega arith))
+    grind (arith, common_steps, increasing_from (suc x) (y ∷ xs) r.1 k (omega arith))

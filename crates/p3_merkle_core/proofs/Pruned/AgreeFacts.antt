@@ -121,10 +121,9 @@ layer_is row_eq s l firsts indices sets is e below =
 
 -- layer by layer and slot by slot, the answer is that of the definition
 pub groups_are : {T : Type 0} (row_eq : T → T → Bool) (s : Shape) (t : ℕ) (firsts indices : List ℕ)
-    (sets : List (List (List T))) → firsts ≡ map (first_query indices) (distinct indices) → length indices
-    ≡ length sets →
-    greatest indices < greatest (heights s) → layers_refusal row_eq s t (distinct indices) firsts sets
-    ≡ group_refusal row_eq s t (opened_of indices sets)
+    (sets : List (List (List T))) → firsts ≡ map (first_query indices) (distinct indices) →
+    length indices ≡ length sets → greatest indices < greatest (heights s) →
+    layers_refusal row_eq s t (distinct indices) firsts sets ≡ group_refusal row_eq s t (opened_of indices sets)
 groups_are row_eq s t firsts indices sets is e below =
     same_walk (layer_fault row_eq s (distinct indices) firsts sets)
     (λ l. first_of (λ i. first_of (row_refusal row_eq s (opened_of indices sets) l i) (matrices_at s l))

@@ -3,10 +3,9 @@ use Rattle.std.proofs.Common.{◌≡◌, ℕ, suc, ◌<◌, ◌≤◌, Bool, tru
 use Rattle.std.proofs.Common.{inl, inr, length, get_or, None, filter, zip}
 use Rattle.std.proofs.lemmas.{Bool.cases_Bool, Bool.eqb-true, List.length-map, List.get_or_default}
 use Rattle.std.specs.{Prelude.Ok, Prelude.Decides, Cmp.Lexicographic.pointwise, Cmp.Lexicographic.pointwise_decides}
-use Rattle.p3_merkle_core.proofs.Shapes.ShapeFacts.{widths_in_pairs}
-use Rattle.p3_merkle_core.proofs.Pruned.NoneFacts.{none_parts, unless_none, verdict_ok, kept_none, range_none}
-use Rattle.p3_merkle_core.proofs.Pruned.NoneFacts.{paired_none, below_from, fit_from}
-use Rattle.p3_merkle_core.proofs.{Pruned.SlotFacts.queried_at, Shapes.GateFacts.gate_lawful}
+use Rattle.p3_merkle_core.proofs.Pruned.{SlotFacts.queried_at, NoneFacts.none_parts, NoneFacts.unless_none}
+use Rattle.p3_merkle_core.proofs.Pruned.NoneFacts.{verdict_ok, kept_none, range_none, paired_none, below_from, fit_from}
+use Rattle.p3_merkle_core.proofs.Shapes.{LeastFacts.widths_in_pairs, GateFacts.gate_lawful}
 use Rattle.p3_support.specs.{Lists.is_among, Batches.greatest}
 use Rattle.p3_merkle_core.specs.Geometry.{Shape, exponent, layer_exponent, ancestor, heights, widths}
 use Rattle.p3_merkle_core.specs.{Gate.gate_refusal, Pruning.PrunedOpening, Pruning.boundary, Pruning.IsRestorable}
@@ -76,8 +75,7 @@ rows_are_first row_eq s t p dec w k h =
     (MalformedPrunedProof (InconsistentDuplicateOpenings (slot_of p.indices i))) one)
 
 rows_fit_first : {T W : Type 0} (row_eq : T → T → Bool) (s : Shape) (t : ℕ) (p : PrunedOpening T W) →
-    HasNoFault row_eq s t p →
-    (k : ℕ) → k < length p.indices → map length (rows_of p (get_or p.indices k 0)) ≡ widths s
+    HasNoFault row_eq s t p → (k : ℕ) → k < length p.indices → map length (rows_of p (get_or p.indices k 0)) ≡ widths s
 rows_fit_first row_eq s t p w k h =
     let i = get_or p.indices k 0 in
     let below = below_from (greatest (heights s)) p.indices w.index k 0 h in
@@ -124,8 +122,7 @@ same_kept x (h ∷ hs) (u ∷ us) (v ∷ vs) a b e =
     ]
 
 pub restorable : {T W : Type 0} (row_eq : T → T → Bool) (s : Shape) (t : ℕ) (p : PrunedOpening T W) →
-    ((x y : T) → Decides (row_eq x y) (x ≡ y)) →
-    pruned_answer row_eq s t p ≡ Ok tt → IsRestorable s t p
+    ((x y : T) → Decides (row_eq x y) (x ≡ y)) → pruned_answer row_eq s t p ≡ Ok tt → IsRestorable s t p
 restorable row_eq s t p dec e =
     let w = no_fault row_eq s t p (verdict_ok (pruned_refusal row_eq s t p) e) in
     let first = rows_are_first row_eq s t p dec w in

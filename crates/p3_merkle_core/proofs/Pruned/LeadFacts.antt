@@ -1,19 +1,18 @@
 -- The lowest slot under a node, and the rows that are compared with its rows.
 use Rattle.std.proofs.Common.{◌++◌, All, ◌≡◌, ◌≢◌, ℕ, zero, suc, ◌+◌, ◌-◌, ◌/◌, ◌^◌, ◌<◌, ◌≤◌, Bool, true, false, eqb}
 use Rattle.std.proofs.Common.{List, [], ◌∷◌, map, refl, ap, sym, ◌∙◌, arith, inl, inr, length, filter, get_or, eq-eqb}
-use Rattle.std.proofs.Common.{Option, None, Some, Vec, drop, drop-cons, add-one, not}
-use Rattle.std.proofs.lemmas.Bool.{not-false, not-true, cases_Bool, eqb-true, eqb-false, false_from_ne_true, ne_eqb}
+use Rattle.std.proofs.Common.{Option, None, Some, Vec, drop, drop-cons, add-one}
+use Rattle.std.proofs.lemmas.Bool.{cases_Bool, eqb-true, eqb-false, false_from_ne_true, ne_eqb}
 use Rattle.std.proofs.lemmas.{Bool.true≢false, Bool.cases_lt, List.Folds.list_any_at, Cmp.lists_equiv}
 use Rattle.std.proofs.lemmas.List.{append_assoc, drop_all, get_or_default, get_or-map, length-map}
 use Rattle.std.specs.{List.list_any, List.range_with_len, Option.option_or, Cmp.IsEquivalence}
-use Rattle.std.specs.{Cmp.Lexicographic.pointwise, List.Sorted.IsStrictlyIncreasing}
+use Rattle.std.specs.{List.Sorted.IsStrictlyIncreasing}
 use Rattle.p3_support.specs.{Shown.row_lists, Shown.row_sets, Lists.is_among, Batches.greatest, Batches.heights_of}
 use Rattle.p3_support.specs.declared.matrix.Dimensions.{Dimensions}
 use Rattle.p3_merkle_core.specs.Geometry.{Shape, ancestor, exponent, heights, layer_exponent, IsArity}
 use Rattle.p3_merkle_core.specs.{Refusals.first_of, Inner.Agreement.first_query, Inner.Agreement.matrices_with}
 use Rattle.p3_merkle_core.specs.Inner.Agreement.{row_fault, rows_refusal, slot_rows, nodes_refusal, IsAscending}
-use Rattle.p3_merkle_core.specs.declared.error.MerkleTreeError.{MerkleTreeError, TheVariants.MalformedPrunedProof}
-use Rattle.p3_merkle_core.specs.declared.error.PrunedProofError.TheVariants.{InconsistentGroupOpening}
+use Rattle.p3_merkle_core.specs.declared.error.MerkleTreeError.{MerkleTreeError}
 use Rattle.p3_merkle_core.proofs.Shapes.{LadderFacts.shifted_is_anc, LevelFacts.exponent_low, StepFacts.anc_start}
 use Rattle.p3_merkle_core.proofs.Lists.RisingFacts.{listed_at, listed_in, none_kept, rising_from}
 use Rattle.p3_merkle_core.proofs.Pruned.SlotFacts.{first_place, rising_order, set_read}
@@ -63,7 +62,8 @@ first_slot_before nodes k first l e = ap (λ i. get_or nodes i 0) e
     ∙ first_there nodes (get_or nodes (k - 1) 0) (listed_at nodes (k - 1) 0 (omega arith))
 
 pub first_slot_kept : (nodes : List ℕ) (k first : ℕ) → k < length nodes → first
-    ≡ first_query nodes (get_or nodes (k - 1) 0) → get_or nodes k 0 ≡ get_or nodes first 0 → first ≡ first_query nodes (get_or nodes k 0)
+    ≡ first_query nodes (get_or nodes (k - 1) 0) → get_or nodes k 0 ≡ get_or nodes first 0 →
+    first ≡ first_query nodes (get_or nodes k 0)
 first_slot_kept nodes k first l e same =
     e ∙ ap (first_query nodes) (sym (first_slot_before nodes k first l e) ∙ sym same)
 
@@ -106,28 +106,6 @@ matrices_inside hs x n e k d h =
     let ms = matrices_with hs x in
     let inside = listed_in p 0 (length hs) (get_or ms k 0) (listed_at ms k 0 h) in
     omega (arith, inside.0, get_or_default ms k d 0 h)
-
-pub row_read : {T A : Type 0} (rows : List (Vec T A)) (m : ℕ) (v : Vec T A) → m < length rows → v ≡ get_or rows m v →
-    get_or (row_lists rows) m [] ≡ v.items
-row_read rows m v h e = get_or-map (λ row. row.items) rows m v [] h ∙ ap (λ row. row.items) (sym e)
-
--- a row that is that of the first slot, and one that is not
-pub same_row : {T A : Type 0} (row_eq : T → T → Bool) (k : ℕ) (rows first : List (Vec T A)) (m : ℕ)
-    (row theirs : Vec T A) → m < length rows → m < length first → row ≡ get_or rows m row → theirs
-    ≡ get_or first m theirs → false ≡ not (pointwise row_eq row.items theirs.items) →
-    row_fault row_eq k (row_lists rows) (row_lists first) m ≡ None
-same_row row_eq k rows first m row theirs h l is_row is_theirs same =
-    let e = not-false (pointwise row_eq row.items theirs.items) (sym same) in
-    rw (row_read rows m row h is_row, row_read first m theirs l is_theirs, e) refl
-
-pub other_row : {T A : Type 0} (row_eq : T → T → Bool) (k : ℕ) (rows first : List (Vec T A)) (m : ℕ)
-    (row theirs : Vec T A) → m < length rows → m < length first → row ≡ get_or rows m row → theirs
-    ≡ get_or first m theirs → true ≡ not (pointwise row_eq row.items theirs.items) →
-    row_fault row_eq k (row_lists rows) (row_lists first) m
-    ≡ Some (MalformedPrunedProof (InconsistentGroupOpening k m))
-other_row row_eq k rows first m row theirs h l is_row is_theirs other =
-    let e = not-true (pointwise row_eq row.items theirs.items) (sym other) in
-    rw (row_read rows m row h is_row, row_read first m theirs l is_theirs, e) refl
 
 -- ---- the slots of a layer
 
@@ -207,7 +185,8 @@ no_matrix row_eq hs x nodes firsts sets none =
 pub slot_read : {T : Type 0} (row_eq : T → T → Bool) (matrices nodes firsts : List ℕ)
     (sets : List (List (List T))) (k first : ℕ) (mine theirs : List (List T)) (o : Option MerkleTreeError) →
     mine ≡ slot_rows firsts sets k → theirs ≡ slot_rows firsts sets first → first
-    ≡ first_query nodes (get_or nodes k 0) → rows_refusal row_eq matrices k mine theirs ≡ o → slot_fault row_eq matrices nodes firsts sets k ≡ o
+    ≡ first_query nodes (get_or nodes k 0) → rows_refusal row_eq matrices k mine theirs ≡ o →
+    slot_fault row_eq matrices nodes firsts sets k ≡ o
 slot_read row_eq matrices nodes firsts sets k first mine theirs o is_mine is_theirs is_first e =
     ap (λ f. rows_refusal row_eq matrices k (slot_rows firsts sets k) (slot_rows firsts sets f)) (sym is_first)
     ∙ ap (λ rows. rows_refusal row_eq matrices k (slot_rows firsts sets k) rows) (sym is_theirs)

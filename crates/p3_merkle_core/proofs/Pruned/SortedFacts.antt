@@ -1,11 +1,10 @@
 -- The slots of queries, by a walk over the queries in the order of their indices.
 use Rattle.std.proofs.Common.{◌≡◌, ◌∙◌, ℕ, ◌+◌, ◌-◌, ◌<◌, ◌≤◌, ◌⊎◌, ◌++◌, ◌∷◌, [], List, arith, ap, sym, eqb, get_or}
 use Rattle.std.proofs.Common.{inl, inr, length, length-append, map, refl, set, take}
-use Rattle.std.proofs.lemmas.{Bool.cases_eq, List.get_or-map, List.get_or-set_same, List.get_or-set_other}
-use Rattle.std.proofs.lemmas.List.{get_or_append_left, length-map, get_or_default, length-set, take_all}
+use Rattle.std.proofs.{Math.Seq.get_or-append_seam, lemmas.Bool.cases_eq, lemmas.List.get_or-map}
+use Rattle.std.proofs.lemmas.List.{get_or-set_same, get_or-set_other, get_or_append_left, length-map, get_or_default}
+use Rattle.std.proofs.lemmas.List.{length-set, take_all, Sorted.All-permutation, Sorted.Contains-permutation}
 use Rattle.std.proofs.lemmas.List.FromFn.{get_or-map-range_with_len, length-map-range_with_len}
-use Rattle.std.proofs.lemmas.List.Sorted.{All-permutation, Contains-permutation}
-use Rattle.std.proofs.Math.Seq.{get_or-append_seam}
 use Rattle.std.specs.List.{dedup, range_with_len, Sorted.IsPermutation, Sorted.IsSorted}
 use Rattle.std.specs.Ordering.{nat_cmp, ordering_then}
 use Rattle.p3_merkle_core.specs.Inner.Agreement.{distinct, AreSlots, AreSorted, IsSlot}
@@ -18,9 +17,8 @@ with_index indices k = (get_or indices k 0, k)
 
 -- what a sort of the queries leaves
 pub sorted_from : (indices : List ℕ) (queries sorted : List (ℕ × ℕ)) → map (λ q. q.0) queries ≡ indices →
-    queries ≡ map (λ k. (get_or indices k 0, k)) (range_with_len 0 (length indices)) →
-    IsPermutation queries sorted → IsSorted (λ x y. ordering_then (nat_cmp x.0 y.0) (nat_cmp x.1 y.1)) sorted →
-    AreSorted sorted indices
+    queries ≡ map (λ k. (get_or indices k 0, k)) (range_with_len 0 (length indices)) → IsPermutation queries sorted →
+    IsSorted (λ x y. ordering_then (nat_cmp x.0 y.0) (nat_cmp x.1 y.1)) sorted → AreSorted sorted indices
 sorted_from indices queries sorted is are moved up =
     let n = length indices in
     let long : length queries ≡ n = ap length are ∙ length-map-range_with_len (with_index indices) 0 n in
@@ -136,8 +134,8 @@ slots_all sorted queries are k previous own slots h w =
     }
 
 -- a slot, as the code reads it
-pub slot_read : (slots queries : List ℕ) (k v : ℕ) → AreSlots slots queries → k < length queries → v ≡ get_or slots k v →
-    IsSlot queries (get_or queries k 0) v
+pub slot_read : (slots queries : List ℕ) (k v : ℕ) → AreSlots slots queries → k < length queries →
+    v ≡ get_or slots k v → IsSlot queries (get_or queries k 0) v
 slot_read slots queries k v are h read =
     let is : get_or slots k 0 ≡ v = sym (read ∙ get_or_default slots k v 0 (omega (arith, are.one_each))) in
     rw is at (are.each k h)

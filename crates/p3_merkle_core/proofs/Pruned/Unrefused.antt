@@ -1,16 +1,14 @@
 -- A restorable pruned opening is not refused.
 use Rattle.std.proofs.Common.{◌≡◌, ℕ, zero, suc, ◌+◌, ◌<◌, ◌≤◌, Bool, true, false, eqb, nat_lt, ◌&&◌, List, [], ◌∷◌}
 use Rattle.std.proofs.Common.{map, refl, ap, sym, ◌∙◌, arith, inl, inr, length, get_or, drop, All, Option, None, filter}
-use Rattle.std.proofs.Common.{zip, find, eq-eqb}
+use Rattle.std.proofs.{Common.zip, Common.find, Common.eq-eqb, lemmas.List.length-map}
+use Rattle.std.proofs.lemmas.Bool.{cases_Bool, cond-false, eqb-true, lt-ltb, ne_eqb, and_parts, and_from, true≢false}
 use Rattle.std.specs.{Prelude.Ok, Prelude.Decides, Cmp.Lexicographic.pointwise, Cmp.Lexicographic.pointwise_decides}
 use Rattle.std.specs.{List.range_with_len, List.enumerate_from, Option.unwrap_or, Option.option_map}
-use Rattle.std.proofs.lemmas.Bool.{cases_Bool, cond-false, eqb-true, lt-ltb, ne_eqb, and_parts, and_from, true≢false}
-use Rattle.std.proofs.lemmas.List.{length-map}
 use Rattle.p3_support.specs.{declared.matrix.Dimensions.Dimensions, Lists.is_among, Batches.greatest, Batches.widths_of}
-use Rattle.p3_merkle_core.proofs.Shapes.{ShapeFacts.widths_in_pairs, LeastFacts.least_passes, LeastFacts.least_bound}
-use Rattle.p3_merkle_core.proofs.Lists.ListFacts.{joined_more}
-use Rattle.p3_merkle_core.proofs.Pruned.NoneFacts.{none_of_both, none_unless}
-use Rattle.p3_merkle_core.proofs.{Pruned.SlotFacts.queried_at, Shapes.GateFacts.gate_lawful}
+use Rattle.p3_merkle_core.proofs.Pruned.{NoneFacts.none_of_both, NoneFacts.none_unless, SlotFacts.queried_at}
+use Rattle.p3_merkle_core.proofs.Shapes.{GateFacts.gate_lawful, LeastFacts.widths_in_pairs, LeastFacts.least_passes}
+use Rattle.p3_merkle_core.proofs.{Shapes.LeastFacts.least_bound, Lists.ListFacts.joined_more}
 use Rattle.p3_merkle_core.specs.Geometry.{Shape, exponent, layer_exponent, ancestor, least, layer_len, heights}
 use Rattle.p3_merkle_core.specs.Pruning.{PrunedOpening, is_boundary, boundary, boundary_at, IsRestorable}
 use Rattle.p3_merkle_core.specs.Refusals.{first_of, lead, matrices_at, slots_below, slot_of, unless, size_refusal}
@@ -107,8 +105,7 @@ width_none dimensions rows e =
 
 -- the first row set of a queried index is that of a query of it
 first_is : {T : Type 0} (indices : List ℕ) (rows : List (List (List T))) (i : ℕ) → length rows ≡ length indices →
-    is_among indices i ≡ true →
-    (k : ℕ) × (k < length indices) × (get_or indices k 0 ≡ i) ×
+    is_among indices i ≡ true → (k : ℕ) × (k < length indices) × (get_or indices k 0 ≡ i) ×
     (unwrap_or (option_map (λ (j, r). r) (find (λ (j, r). eqb j i) (zip indices rows))) [] ≡ get_or rows k [])
 first_is [] rows i e c = absurd (true≢false (sym c))
 first_is (j ∷ indices) [] i e c = absurd (omega arith)
@@ -151,8 +148,7 @@ kept_same x (h ∷ hs) (u ∷ us) (v ∷ vs) a b e (suc m) l t =
     ]
 
 pub unrefused : {T W : Type 0} (row_eq : T → T → Bool) (s : Shape) (t : ℕ) (p : PrunedOpening T W) →
-    ((x y : T) → Decides (row_eq x y) (x ≡ y)) →
-    IsRestorable s t p → pruned_answer row_eq s t p ≡ Ok tt
+    ((x y : T) → Decides (row_eq x y) (x ≡ y)) → IsRestorable s t p → pruned_answer row_eq s t p ≡ Ok tt
 unrefused row_eq s t p dec w =
     let top = greatest (heights s) in
     let some = w.lawful.some_above_0 in

@@ -1,10 +1,10 @@
 -- How far below the root a cap may be under the lowered rule: all steps above the layer of the shortest matrix are
 -- whole.
-use Rattle.std.proofs.Common.{◌≡◌, ℕ, zero, suc, ◌+◌, ◌-◌, ◌*◌, ◌<◌, ◌≤◌, true, false, eqb, nat_lt, ◌&&◌, List, [], ◌∷◌}
-use Rattle.std.proofs.Common.{min, refl, ap, sym, ◌∙◌, arith, inl, inr, add-suc, length, get_or}
+use Rattle.std.proofs.Common.{◌≡◌, ℕ, zero, suc, ◌+◌, ◌-◌, ◌*◌, ◌<◌, ◌≤◌, true, false, eqb, List, [], ◌∷◌, min, refl}
+use Rattle.std.proofs.Common.{ap, sym, ◌∙◌, arith, inl, inr, add-suc, length, get_or}
 use Rattle.std.proofs.lemmas.Bool.{and_right, cases_eq, cases_lt, cond-false, eq-eqb, eqb-true, le-leb, le-ltb}
-use Rattle.std.proofs.lemmas.{Bool.leb-true, Bool.ne_eqb, List.Folds.Any-from_list_any, List.Folds.list_any_at}
-use Rattle.std.proofs.{lemmas.List.Folds.list_any_none, Math.Nat.suc-mul}
+use Rattle.std.proofs.{lemmas.Bool.leb-true, lemmas.Bool.ne_eqb, Math.Nat.suc-mul, lemmas.List.Folds.Any-from_list_any}
+use Rattle.std.proofs.lemmas.{List.Folds.list_any_at, List.Folds.list_any_none, Grind.common_steps}
 use Rattle.std.specs.{Prelude.All, Prelude.IsTrue, Int.div_ceil}
 use Rattle.p3_merkle_core.specs.{Caps.cap_layer, Caps.levels_above_rows, Geometry.Shape, Geometry.IsArity}
 use Rattle.p3_merkle_core.specs.Geometry.{exponent, has_rows, heights, is_bridge, layer_below_root, layer_exponent}
@@ -22,11 +22,7 @@ use Rattle.p3_merkle_core.proofs.Shapes.{LadderFacts.layer_of_is, LadderFacts.le
 module _ (s : Shape) (w : IsArity s.arity) (x : ℕ) (low : All (λ h. x ≤ exponent h) (heights s)) where
   -- none is a bridge step
   pub no_bridge_from : (y : ℕ) → y ≤ x → is_bridge s y ≡ false
-  no_bridge_from y le =
-      list_any_none (λ h. nat_lt (y - exponent s.arity) (exponent h) && nat_lt (exponent h) y) (heights s)
-      (λ k d inside.
-      let e = exponent (get_or (heights s) k d) in
-      and_right (nat_lt (y - exponent s.arity) e) (nat_lt e y) (le-ltb e y (omega (arith, low k d inside))))
+  no_bridge_from y le = grind (arith, common_steps, and_right, le-ltb, list_any_none)
 
   -- so each takes as much as the arity has
   pub whole_steps : (l : ℕ) → layer_exponent s l ≡ x → (k : ℕ) → layer_exponent s (l + k) ≡ x - k * exponent s.arity
@@ -62,9 +58,7 @@ module _ (s : Shape) (w : IsArity s.arity) (x : ℕ) (low : All (λ h. x ≤ exp
 -- no layer has rows whose exponent is below those of all matrices
 pub no_rows_below : (s : Shape) (x l : ℕ) → All (λ h. x ≤ exponent h) (heights s) → layer_exponent s l < x →
     has_rows s l ≡ false
-no_rows_below s x l low less =
-    list_any_none (λ h. eqb (exponent h) (layer_exponent s l)) (heights s) (λ k d inside.
-    ne_eqb (exponent (get_or (heights s) k d)) (layer_exponent s l) (λ e. omega (arith, low k d inside)))
+no_rows_below s x l low less = grind (arith, common_steps, ne_eqb, list_any_none)
 
 -- a matrix's layer has rows
 has_own_rows : (s : Shape) → IsArity s.arity → (k : ℕ) → k < length (heights s) →

@@ -1,10 +1,85 @@
--- Exponents with the next one below them: what a step from there is, and whether a matrix has the one above.
-use Rattle.std.proofs.Common.{◌≡◌, ℕ, ◌+◌, ◌-◌, ◌<◌, ◌≤◌, ◌&&◌, nat_lt, cond, true, false, Bool, List, [], ◌∷◌, refl}
-use Rattle.std.proofs.Common.{ap, sym, ◌∙◌, arith, inl, inr}
-use Rattle.std.specs.{Prelude.◌==◌, List.list_any}
-use Rattle.std.proofs.lemmas.Bool.{cases_Bool, cases_lt, cases_eq, eq-eqb, ne_eqb, lt-ltb, le-ltb, true≢false}
-use Rattle.p3_merkle_core.specs.{Geometry.exponent, Inner.Exponents.next_below}
-use Rattle.p3_merkle_core.proofs.Shapes.StepFacts.{whole_step_falls}
+-- Exponents with the next one below them: what a step from there is, and whether a matrix has the one above; the bits
+-- that tell which exponents there are; and the steps that are kept level by level.
+use Rattle.std.proofs.Common.{◌≡◌, ℕ, suc, ◌+◌, ◌-◌, ◌*◌, ◌<◌, ◌≤◌, ◌%◌, ◌^◌, max, nat_lt, cond, bit_or, List, length}
+use Rattle.std.proofs.Common.{ap, ◌∙◌, arith, inl, inr, drop, get_or, ◌&&◌, true, false, Bool, [], ◌∷◌, refl, sym, eqb}
+use Rattle.std.proofs.Common.{get_or-take, take, set, map, zero}
+use Rattle.std.proofs.Math.{Nat.mod-eq_of_lt, Nat.mod-lt, Nat.mul-mod_left, Nat.zero-mod, Nat.suc-mul, Pow.pow_mono}
+use Rattle.std.proofs.lemmas.Bool.{cases_lt, lt-ltb, le-ltb, cases_Bool, cases_eq, eq-eqb, ne_eqb, true≢false}
+use Rattle.std.proofs.lemmas.{Grind.common_steps, Grind.pow_more, List.take_more_set, List.take_more}
+use Rattle.std.proofs.lemmas.List.FromFn.{map-range_with_len_more, get_or-map-range_with_len}
+use Rattle.std.proofs.lemmas.Nat.{le_or_l, le_or_r, leading_length, or_lt, or_mod, pow-add, pow_below, pow_pos}
+use Rattle.std.specs.Int.Count.{leading_of_zero, leading_unique}
+use Rattle.std.specs.{Int.Bits.or_zero_r, Prelude.◌==◌, List.list_any, List.range_with_len}
+use Rattle.p3_support.specs.{Batches.heights_of, declared.matrix.Dimensions.Dimensions}
+use Rattle.p3_merkle_core.specs.Geometry.{exponent, Shape, has_rows, heights, is_bridge, layer_exponent}
+use Rattle.p3_merkle_core.specs.Inner.Exponents.{digits, next_below}
+use Rattle.p3_merkle_core.specs.{Inner.Steps.level_step, declared.steps.LevelStep.LevelStep}
+use Rattle.p3_merkle_core.proofs.Shapes.StepFacts.{whole_step_falls, next_exponent, IsAt, at_more}
+
+-- a number that has k digits
+digits_are : (a k : ℕ) → k ≤ 64 → a < 2 ^ k → 2 ^ k ≤ 2 * a + 1 → digits a ≡ k
+digits_are a k fits below above = omega (arith, leading_unique 64 a (64 - k) k (omega arith) below above)
+
+-- where its digits end
+digits_end : (a : ℕ) → a < 2 ^ 64 → (a < 2 ^ digits a) × (2 ^ digits a ≤ 2 * a + 1)
+digits_end a small =
+    let (n, sum, below, above) = leading_length 64 a small in
+    let is : n ≡ digits a = omega (arith, sum) in
+    (rw is at below, rw is at above)
+
+-- the bit e makes as many digits as it needs, at least
+or_digits : (c e x : ℕ) → x ≤ 64 → c < 2 ^ x → e < x → digits (bit_or c (2 ^ e)) ≡ max (e + 1) (digits c)
+or_digits c e x small low below =
+    let n = digits c in
+    let (under, over) = digits_end c (omega (arith, low, pow_mono {i = x} {j = 64} small)) in
+    elim (cases_lt n (e + 1)) [
+      | inl more ↦
+          digits_are (bit_or c (2 ^ e)) (e + 1) (omega arith)
+          (or_lt (e + 1) c (2 ^ e) (omega (arith, under, pow_mono {i = n} {j = e + 1} (omega (arith, more))))
+          (pow_below e (e + 1) (omega arith)))
+          (omega (arith, le_or_r c (2 ^ e), pow_more 2 e))
+          ∙ omega (arith, more)
+      | inr few ↦
+          digits_are (bit_or c (2 ^ e)) n (omega arith)
+          (or_lt n c (2 ^ e) under (pow_below e n (omega (arith, few))))
+          (omega (arith, over, le_or_l c (2 ^ e)))
+          ∙ omega (arith, few)
+    ]
+
+-- with the bit e, the bits below x reach as far as e or as far as before
+pub more_bits : (m e x : ℕ) → x ≤ 64 →
+    digits (bit_or m (2 ^ e) % 2 ^ x) ≡ max (cond (nat_lt e x) (e + 1) 0) (digits (m % 2 ^ x))
+more_bits m e x small =
+    let c = m % 2 ^ x in
+    let parts = ap digits (or_mod m (2 ^ e) x) in
+    elim (cases_lt e x) [
+      | inl below ↦
+          omega (
+            arith,
+            parts ∙ ap (λ b. digits (bit_or c b)) (mod-eq_of_lt (pow_below e x below)),
+            or_digits c e x small (mod-lt m (pow_pos x)) below,
+            ap (λ b. cond b (e + 1) 0) (lt-ltb e x below),
+          )
+      | inr above ↦
+          let none : 2 ^ e % 2 ^ x ≡ 0 =
+          ap (λ n. n % 2 ^ x) (ap (λ n. 2 ^ n) (omega (arith, above)) ∙ pow-add 2 (e - x) x)
+          ∙ mul-mod_left (2 ^ (e - x)) (2 ^ x) in
+          omega (
+            arith,
+            parts ∙ ap (λ b. digits (bit_or c b)) none ∙ ap digits (or_zero_r c),
+            ap (λ b. cond b (e + 1) 0) (le-ltb e x above),
+          )
+    ]
+
+-- no bits, no digits
+pub no_bits : (x : ℕ) → digits (0 % 2 ^ x) ≡ 0
+no_bits x = ap digits (zero-mod (2 ^ x)) ∙ omega (arith, leading_of_zero 64)
+
+-- what the bits reach with those of one more matrix, where a is what they reached before, and b with its bit
+pub one_more : (ds : List Dimensions) (i : ℕ) (d : Dimensions) (e x a b all : ℕ) → i < length ds →
+    e ≡ exponent (get_or ds i d).height → b ≡ max (cond (nat_lt e x) (e + 1) 0) a →
+    max a (next_below x (heights_of (drop i ds))) ≡ all → max b (next_below x (heights_of (drop (i + 1) ds))) ≡ all
+one_more ds i d e x a b all there is step kept = grind (arith, common_steps)
 
 -- what a height below x counts for, and one from there on
 counted : (x h : ℕ) → exponent h < x → (cond (nat_lt (exponent h) x) (exponent h + 1) 0) ≡ exponent h + 1
@@ -16,11 +91,7 @@ passed x h above = rw (le-ltb (exponent h) x above) refl
 -- it is at most x
 pub next_low : (x : ℕ) (hs : List ℕ) → next_below x hs ≤ x
 next_low x [] = omega arith
-next_low x (h ∷ hs) =
-    elim (cases_lt (exponent h) x) [
-      | inl below ↦ omega (arith, counted x h below, next_low x hs)
-      | inr above ↦ omega (arith, passed x h above, next_low x hs)
-    ]
+next_low x (h ∷ hs) = grind (arith, common_steps, next_low x hs)
 
 -- so x is above 0 where there is one
 pub some_below : (x n : ℕ) (hs : List ℕ) → n ≡ next_below x hs → 0 < n → 0 < x
@@ -65,20 +136,12 @@ some_over a x (h ∷ hs) high =
 -- so the next one tells whether a step is a bridge step
 pub bridge_told : (a x n : ℕ) (hs : List ℕ) (b : Bool) → n ≡ next_below x hs → b ≡ nat_lt 1 (n - a) → b
     ≡ list_any (λ h. nat_lt a (exponent h) && nat_lt (exponent h) x) hs
-bridge_told a x n hs b is test =
-    elim (cases_lt 1 (n - a)) [
-      | inl more ↦ test ∙ lt-ltb 1 (n - a) more ∙ sym (some_over a x hs (omega (arith, is, more)))
-      | inr few ↦ test ∙ le-ltb 1 (n - a) few ∙ sym (none_over a x hs (omega (arith, is, few)))
-    ]
+bridge_told a x n hs b is test = grind (arith, common_steps, cases_lt, lt-ltb, le-ltb, none_over, some_over)
 
 -- and no exponent lies between where a step leads and where it starts
 pub none_skipped : (a x n : ℕ) (hs : List ℕ) → n ≡ next_below x hs →
     list_any (λ h. nat_lt a (exponent h) && nat_lt (exponent h) x) hs ≡ false → n ≤ a + 1
-none_skipped a x n hs is none =
-    elim (cases_lt (a + 1) n) [
-      | inl more ↦ absurd (true≢false (sym (some_over a x hs (omega (arith, is, more))) ∙ none))
-      | inr few ↦ omega (arith, few)
-    ]
+none_skipped a x n hs is none = grind (arith, common_steps, cases_lt, true≢false, some_over)
 
 -- a matrix has the exponent y below x, if it is the next one
 pub next_had : (x y : ℕ) (hs : List ℕ) → y < x → next_below x hs ≡ y + 1 → list_any (λ h. exponent h == y) hs ≡ true
@@ -143,3 +206,61 @@ step_found arity x e a n y r hs two some is_e is_a is_n is_r is_y =
           let low = none_skipped (x - exponent arity) x n hs is_n (sym bridge ∙ f) in
           record { bridge = bridge; layer = layer; down = omega (arith, to, whole); between = omega (arith, to, low) }
     ]
+
+-- one that is read
+pub kept_at : (s : Shape) (kept : List LevelStep) (n l : ℕ) (none : LevelStep) → take n kept
+    ≡ map (level_step s) (range_with_len 0 n) → l < n → get_or kept l none ≡ level_step s l
+kept_at s kept n l none all below = grind (arith, common_steps, get_or-take, get_or-map-range_with_len)
+
+-- and whether it is a bridge step
+pub bridge_at : (s : Shape) (kept : List LevelStep) (n l : ℕ) (none : LevelStep) → take n kept
+    ≡ map (level_step s) (range_with_len 0 n) → l < n →
+    (get_or kept l none).is_bridge ≡ is_bridge s (layer_exponent s l)
+bridge_at s kept n l none all below = ap (λ (step : LevelStep). step.is_bridge) (kept_at s kept n l none all below)
+
+-- one more that is written
+pub kept_more : (s : Shape) (kept : List LevelStep) (n : ℕ) (more : LevelStep) → take n kept
+    ≡ map (level_step s) (range_with_len 0 n) → n < length kept → more ≡ level_step s n →
+    take (n + 1) (set kept n more) ≡ map (level_step s) (range_with_len 0 (n + 1))
+kept_more s kept n more all room is = take_more_set kept n more room ∙ rw (all, is) refl
+    ∙ sym (map-range_with_len_more (level_step s) 0 n n (omega arith))
+
+-- what the walk finds at layer l, whose exponent is x: the next one has y
+pub level_is : (s : Shape) (l x y : ℕ) (found : LevelStep) → x ≡ layer_exponent s l → found.is_bridge ≡ is_bridge s x →
+    y ≡ cond (is_bridge s x) (x - 1) (x - exponent s.arity) →
+    found.has_rows ≡ list_any (λ h. eqb (exponent h) y) (heights s) → found ≡ level_step s l
+level_is s l x y found at bridge next rows = grind (arith, common_steps, next_exponent)
+
+-- a whole step to a layer without rows
+abbrev pub none : LevelStep
+none = record { is_bridge = false; has_rows = false }
+
+-- m steps are kept, and lead to the root
+pub record IsWalked (s : Shape) (kept : List LevelStep) (m : ℕ) : Type 0 where
+  pub at_root : IsAt s m 0
+  pub all : take m kept ≡ map (level_step s) (range_with_len 0 m)
+
+-- from layer n with the exponent x, under which no height has one, k whole steps are left; they are kept already
+pub whole_steps : (s : Shape) (k n x m : ℕ) (kept : List LevelStep) → m ≡ n + k → 2 ≤ s.arity → m ≤ length kept →
+    IsAt s n x → next_below x (heights s) ≡ 0 → x ≤ k * exponent s.arity →
+    ((j : ℕ) → j < k → j * exponent s.arity < x) → ((l : ℕ) → n ≤ l → l < length kept → get_or kept l none ≡ none) →
+    take n kept ≡ map (level_step s) (range_with_len 0 n) → IsWalked s kept m
+whole_steps s zero n x m kept is two room at last covers least rest all = grind (arith, common_steps)
+whole_steps s (suc k) n x m kept is two room at last covers least rest all =
+    let e = exponent s.arity in
+    let hs = heights s in
+    let some : 0 < x = omega (arith, least 0 (omega arith)) in
+    let falls = whole_step_falls s.arity two in
+    let flat : is_bridge s x ≡ false = none_over (x - e) x hs (omega (arith, last)) in
+    let next : x - e ≡ cond (is_bridge s x) (x - 1) (x - e) = sym (ap (λ b. cond b (x - 1) (x - e)) flat) in
+    let bare = next_not_had x (x - e) hs (omega (arith, some, falls)) (omega (arith, last)) in
+    let found : none ≡ level_step s n = level_is s n x (x - e) none at.at_x (sym flat) next (sym bare) in
+    whole_steps s k (n + 1) (x - e) m kept (omega (arith, is)) two room
+    (at_more s n x (x - e) two at some next)
+    (next_stays x (x - e) hs (omega arith) (omega (arith, last)) ∙ last)
+    (omega (arith, covers, suc-mul k e))
+    (λ j below. omega (arith, least (suc j) (omega (arith, below)), suc-mul j e))
+    (λ l above. rest l (omega (arith, above)))
+    (take_more kept n none (omega (arith, is, room))
+    ∙ rw (all, rest n (omega arith) (omega (arith, is, room)), found) refl
+    ∙ sym (map-range_with_len_more (level_step s) 0 n n (omega arith)))

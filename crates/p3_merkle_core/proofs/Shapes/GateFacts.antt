@@ -1,24 +1,18 @@
 -- There is no refusal exactly if the heights are lawful.
-use Rattle.std.proofs.Common.{◌≡◌, ℕ, zero, suc, ◌<◌, ◌≤◌, Bool, false, not, eqb, nat_lt, List, [], ◌∷◌, refl, sym, ◌∙◌}
+use Rattle.std.proofs.Common.{◌≡◌, ℕ, zero, suc, ◌<◌, ◌≤◌, Bool, false, nat_lt, List, [], ◌∷◌, refl, sym, ◌∙◌}
 use Rattle.std.proofs.Common.{arith, inl, inr, length, get_or, Some, None, All, position, find, eq-eqb, ◌↔◌, Option}
-use Rattle.std.specs.List.{position_or_len}
+use Rattle.std.proofs.lemmas.Grind.{common_steps}
 use Rattle.std.proofs.lemmas.Bool.{cases_lt, cases_Bool, ltb-false, le-ltb, lt-ltb, eqb-true, not-false, not_from_true}
-use Rattle.std.proofs.lemmas.Bool.{cond-true, cond-false, ne_eqb, eqb-false}
-use Rattle.std.proofs.lemmas.List.Sums.{fails_before_first, position_or_len_is}
-use Rattle.std.proofs.lemmas.List.{get_or_default, get_or-map, length-map}
+use Rattle.std.proofs.lemmas.{Bool.cond-true, Bool.cond-false, Bool.ne_eqb, Bool.eqb-false, List.get_or_default}
+use Rattle.std.proofs.lemmas.List.{get_or-map, length-map, Sums.fails_before_first, Sums.position_or_len_is}
+use Rattle.std.specs.List.{position_or_len}
 use Rattle.p3_merkle_core.specs.Geometry.{height_limit, expected_height, IsLawful}
 use Rattle.p3_support.specs.{Batches.greatest, Batches.heights_of, declared.matrix.Dimensions.Dimensions}
 use Rattle.p3_merkle_core.specs.Gate.{first_too_large, first_off_ladder, gate_refusal, height_refusal_of}
-use Rattle.p3_merkle_core.specs.declared.error.MerkleTreeError.TheVariants.{EmptyBatch}
 use Rattle.p3_merkle_core.proofs.Shapes.LeastFacts.{le_tallest}
 
 position_none : {X : Type 0} (p : X → Bool) (xs : List X) → position p xs ≡ None → All (λ x. p x ≡ false) xs
-position_none p xs e k d h =
-    elim (cases_lt (position_or_len p xs) (length xs)) [
-      | inl l ↦ let s = cond-true (nat_lt (position_or_len p xs) (length xs)) (Some (position_or_len p xs)) None
-          (lt-ltb (position_or_len p xs) (length xs) l) in cc
-      | inr g ↦ fails_before_first p xs k d (omega arith)
-    ]
+position_none p xs e k d h = grind (arith, common_steps, cases_lt, lt-ltb, cond-true, fails_before_first)
 
 position_none_from : {X : Type 0} (p : X → Bool) (d : X) (xs : List X) → All (λ x. p x ≡ false) xs → position p xs
     ≡ None
@@ -59,24 +53,14 @@ pub tallest_fits : (hs : List ℕ) → first_too_large hs ≡ None → greatest 
 tallest_fits hs e = tallest_reached hs height_limit (none_too_large hs e)
 
 on_ladder : (m : ℕ) (hs : List ℕ) → first_off_ladder m hs ≡ None → All (λ h. h ≡ expected_height m h) hs
-on_ladder m hs e k d h =
-    let x = get_or hs k d in
-    eqb-true x (expected_height m x)
-    (not-false (eqb x (expected_height m x)) (find_none (λ h. not (eqb h (expected_height m h))) hs e k d h))
+on_ladder m hs e k d h = grind (arith, common_steps, eqb-true, not-false, find_none)
 
 pub lawful_from_none : (hs : List ℕ) → (greatest hs ≡ 0 → ⊥) → first_too_large hs ≡ None →
     first_off_ladder (greatest hs) hs ≡ None → IsLawful hs
-lawful_from_none hs some large off =
-    record {
-      some_above_0 = omega arith;
-      none_too_large = none_too_large hs large;
-      on_ladder = on_ladder (greatest hs) hs off;
-    }
+lawful_from_none hs some large off = grind (arith, common_steps, none_too_large, on_ladder)
 
 pub none_large_from_lawful : (hs : List ℕ) → IsLawful hs → first_too_large hs ≡ None
-none_large_from_lawful hs w =
-    position_none_from (λ h. nat_lt height_limit h) 0 hs
-    (λ k d h. le-ltb height_limit (get_or hs k d) (w.none_too_large k d h))
+none_large_from_lawful hs w = grind (arith, common_steps, le-ltb, position_none_from, none_too_large)
 
 -- none is too large, where the greatest is not
 pub none_large_up_to : (hs : List ℕ) → greatest hs ≤ height_limit → first_too_large hs ≡ None
@@ -86,10 +70,7 @@ none_large_up_to hs low =
     (omega (arith, low, le_tallest hs k, get_or_default hs k d 0 h)))
 
 pub none_off_from_lawful : (hs : List ℕ) → IsLawful hs → first_off_ladder (greatest hs) hs ≡ None
-none_off_from_lawful hs w =
-    find_none_from (λ h. not (eqb h (expected_height (greatest hs) h))) hs
-    (λ k d h. not_from_true (eqb (get_or hs k d) (expected_height (greatest hs) (get_or hs k d)))
-    (eq-eqb (get_or hs k d) (expected_height (greatest hs) (get_or hs k d)) (w.on_ladder k d h)))
+none_off_from_lawful hs w = grind (arith, common_steps, eq-eqb, not_from_true, find_none_from, on_ladder)
 
 -- a lawful height, as the code reads it, is the expected one
 pub expected_there : (dimensions : List Dimensions) (k : ℕ) → k < length dimensions → IsLawful (heights_of dimensions) →
@@ -106,24 +87,10 @@ refusal_parts m hs None None e = (refl, refl)
 
 lawful_from : (hs : List ℕ) → gate_refusal hs ≡ None → IsLawful hs
 lawful_from hs e =
-    let m = greatest hs in
-    let rest = height_refusal_of m hs (first_too_large hs) (first_off_ladder m hs) in
-    elim (cases_Bool (eqb m 0)) [
-      | inl t ↦ absurd (let s = cond-true (eqb m 0) (Some EmptyBatch) rest t in cc)
-      | inr f ↦
-          let p = refusal_parts m hs (first_too_large hs) (first_off_ladder m hs)
-          (sym (cond-false (eqb m 0) (Some EmptyBatch) rest f) ∙ e) in
-          lawful_from_none hs (eqb-false m 0 f) p.0 p.1
-    ]
+    grind (arith, common_steps, cases_Bool, cond-true, cond-false, eqb-false, lawful_from_none, refusal_parts)
 
 gate_none : (hs : List ℕ) → IsLawful hs → gate_refusal hs ≡ None
-gate_none hs w =
-    let m = greatest hs in
-    let a = none_large_from_lawful hs w in
-    let b = none_off_from_lawful hs w in
-    let some = w.some_above_0 in
-    cond-false (eqb m 0) (Some EmptyBatch) (height_refusal_of m hs (first_too_large hs) (first_off_ladder m hs))
-    (ne_eqb m 0 (λ z. omega arith)) ∙ rw (a, b) refl
+gate_none hs w = grind (arith, common_steps, cond-false, ne_eqb, none_large_from_lawful, none_off_from_lawful)
 
 -- the gate refuses nothing exactly if the heights are lawful
 pub gate_lawful : (hs : List ℕ) → (gate_refusal hs ≡ None) ↔ IsLawful hs

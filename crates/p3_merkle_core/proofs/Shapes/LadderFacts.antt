@@ -1,14 +1,14 @@
 -- How the walk ends, what its steps multiply to, and that each matrix has its layer.
 use Rattle.std.proofs.Common.{◌≡◌, ℕ, zero, suc, ◌+◌, ◌-◌, ◌*◌, ◌/◌, ◌^◌, ◌<◌, ◌≤◌, Bool, true, false, eqb, nat_lt}
 use Rattle.std.proofs.Common.{◌&&◌, ap, sym, ◌∙◌, arith, inl, inr, ◌⊎◌, length, get_or}
-use Rattle.std.proofs.lemmas.Bool.{cond-true, cond-false, cases_Bool, cases_lt, cases_eq, eq-eqb, and_from, lt-ltb}
-use Rattle.std.proofs.lemmas.{Bool.false≢true, Bool.eqb-true, List.Folds.list_any_at, Nat.pow-add, Nat.pow_pos}
-use Rattle.std.proofs.Math.Nat.{mul_assoc, two-pow-succ, mul-le-mul_left, mul-div_cancel, div-eq_of_lt}
-use Rattle.std.proofs.Math.{Nat.le-div_iff_mul-le, Nat.div-mul-le_self, Nat.sub-zero, Pow.pow_mono}
+use Rattle.std.proofs.Math.Nat.{mul_assoc, two-pow-succ, mul-le-mul_left, mul-div_cancel, div-eq_of_lt, sub-zero}
+use Rattle.std.proofs.{Math.Pow.pow_mono, lemmas.Bool.cond-true}
+use Rattle.std.proofs.lemmas.Bool.{cond-false, cases_Bool, cases_lt, cases_eq, eq-eqb, and_from, lt-ltb, false≢true}
+use Rattle.std.proofs.lemmas.{Bool.eqb-true, Grind.common_steps, List.Folds.list_any_at, Nat.pow-add, Nat.pow_pos}
 pub use Rattle.p3_merkle_core.specs.Geometry.{IsArity, heights}
 pub use Rattle.p3_support.specs.Batches.{greatest}
 use Rattle.p3_merkle_core.specs.Geometry.{Shape, exponent, layer_exponent, is_bridge, step, levels, leaves_under}
-use Rattle.p3_merkle_core.specs.Geometry.{ancestor, halved_index, layer_of, bits_reduced, expected_height}
+use Rattle.p3_merkle_core.specs.Geometry.{ancestor, halved_index, layer_of, expected_height}
 use Rattle.p3_merkle_core.proofs.Shapes.LeastFacts.{least_le, least_passes, least_bound, exponent_covers, exponent_mono}
 use Rattle.p3_merkle_core.proofs.Shapes.{LeastFacts.le_tallest, StepFacts.next_exponent, StepFacts.whole_step_falls}
 
@@ -17,46 +17,20 @@ pub step_cases : (s : Shape) (l : ℕ) →
     ((is_bridge s (layer_exponent s l) ≡ true) × (layer_exponent s (suc l) ≡ layer_exponent s l - 1) × (step s l ≡ 2))
     ⊎ ((is_bridge s (layer_exponent s l) ≡ false) × (layer_exponent s (suc l) ≡ layer_exponent s l - exponent s.arity) ×
     (step s l ≡ s.arity))
-step_cases s l =
-    let x = layer_exponent s l in
-    elim (cases_Bool (is_bridge s x)) [
-      | inl t ↦ inl (
-        t,
-        next_exponent s l ∙ cond-true (is_bridge s x) (x - 1) (x - exponent s.arity) t,
-        cond-true (is_bridge s x) 2 s.arity t,
-      )
-      | inr f ↦ inr (
-        f,
-        next_exponent s l ∙ cond-false (is_bridge s x) (x - 1) (x - exponent s.arity) f,
-        cond-false (is_bridge s x) 2 s.arity f,
-      )
-    ]
+step_cases s l = grind (arith, common_steps, cond-true, cond-false, cases_Bool, next_exponent)
 
 falls : (s : Shape) → IsArity s.arity → (l : ℕ) → (layer_exponent s l ≡ 0) ⊎
     (layer_exponent s l + l ≤ exponent (greatest (heights s)))
 unfolding layer_exponent
 falls s w zero = inr (omega arith)
-falls s w (suc l) =
-    let k = whole_step_falls s.arity w.above_1 in
-    elim (cases_eq (layer_exponent s l) 0) [
-      | inl z ↦ elim (step_cases s l) [ inl b ↦ inl (omega (arith, b.1)) | inr b ↦ inl (omega (arith, b.1)) ]
-      | inr nz ↦ elim (falls s w l) [
-        | inl z ↦ absurd (nz z)
-        | inr h ↦ elim (step_cases s l) [ inl b ↦ inr (omega (arith, b.1)) | inr b ↦ inr (omega (arith, b.1)) ]
-      ]
-    ]
+falls s w (suc l) = grind (arith, common_steps, falls s w l, cases_eq, whole_step_falls, step_cases)
 
 -- the walk ends at the exponent 0, after at most as many steps as the tallest exponent
 pub levels_le : (s : Shape) → levels s ≤ exponent (greatest (heights s))
 levels_le s = least_le (λ l. eqb (layer_exponent s l) 0) (exponent (greatest (heights s)))
 
 pub exponent_at_levels : (s : Shape) → IsArity s.arity → layer_exponent s (levels s) ≡ 0
-exponent_at_levels s w =
-    let p : ℕ → Bool = λ l. eqb (layer_exponent s l) 0 in
-    elim (cases_lt (levels s) (exponent (greatest (heights s)))) [
-      | inl l ↦ eqb-true (layer_exponent s (levels s)) 0 (least_passes p (exponent (greatest (heights s))) l)
-      | inr g ↦ elim (falls s w (levels s)) [ inl z ↦ z | inr h ↦ omega arith ]
-    ]
+exponent_at_levels s w = grind (arith, common_steps, cases_lt, eqb-true, least_passes, falls)
 
 pub whole_power : (s : Shape) → IsArity s.arity → (x : ℕ) → s.arity * 2 ^ (x - exponent s.arity)
     ≡ 2 ^ (exponent s.arity + (x - exponent s.arity))
@@ -135,12 +109,7 @@ reached_or_below : (s : Shape) (i : ℕ) → i < length (heights s) → (l : ℕ
     ((k : ℕ) × (k ≤ l) × (layer_exponent s k ≡ exponent (get_or (heights s) i 0))) ⊎
     (exponent (get_or (heights s) i 0) < layer_exponent s l)
 unfolding layer_exponent
-reached_or_below s i h zero =
-    elim (cases_eq (exponent (greatest (heights s))) (exponent (get_or (heights s) i 0))) [
-      | inl e ↦ inl (0, omega arith, e)
-      | inr ne ↦ inr (omega
-          (arith, exponent_mono (get_or (heights s) i 0) (greatest (heights s)) (le_tallest (heights s) i)))
-    ]
+reached_or_below s i h zero = grind (arith, common_steps, cases_eq, exponent_mono, le_tallest)
 reached_or_below s i h (suc l) =
     elim (reached_or_below s i h l) [
       | inl k ↦ inl (k.0, omega (arith, k.1), k.2)
@@ -202,24 +171,14 @@ shifted_is_anc s w l index below le =
 pub row_is_anc_at : (s : Shape) → IsArity s.arity → (height index l : ℕ) → height ≤ greatest (heights s) →
     index < greatest (heights s) → layer_exponent s l ≡ exponent height →
     halved_index (greatest (heights s)) height index ≡ ancestor s l index
-row_is_anc_at s w height index l in_reach below is =
-    let le = exponent_mono height (greatest (heights s)) in_reach in
-    ap (λ x. index / 2 ^ (exponent (greatest (heights s)) - x)) (sym is)
-    ∙ shifted_is_anc s w l index below (omega arith)
+row_is_anc_at s w height index l in_reach below is = grind (arith, common_steps, exponent_mono, shifted_is_anc)
 
 pub row_is_anc : (s : Shape) → IsArity s.arity → (i index : ℕ) → i < length (heights s) → index < greatest (heights s) →
     halved_index (greatest (heights s)) (get_or (heights s) i 0) index
     ≡ ancestor s (layer_of s (get_or (heights s) i 0)) index
-row_is_anc s w i index h below =
-    row_is_anc_at s w (get_or (heights s) i 0) index (layer_of s (get_or (heights s) i 0)) (le_tallest (heights s) i)
-    below (layer_of_is s w i h)
+row_is_anc s w i index h below = grind (arith, common_steps, le_tallest, layer_of_is, row_is_anc_at)
 
 -- and the matrix has it
 pub row_below : (s : Shape) (h index : ℕ) → h ≡ expected_height (greatest (heights s)) h →
     index < greatest (heights s) → halved_index (greatest (heights s)) h index < h
-row_below s h index e below =
-    let k = 2 ^ bits_reduced (greatest (heights s)) h in
-    let m = div-mul-le_self index k in
-    let le : index / k ≤ (greatest (heights s) - 1) / k =
-    (le-div_iff_mul-le (pow_pos (bits_reduced (greatest (heights s)) h))).1 (omega arith) in
-    omega arith
+row_below s h index e below = grind (arith, common_steps)

@@ -1,9 +1,11 @@
--- What `least`, `exponent`, `tallest` and `shortest` are.
+-- What `least`, `exponent`, `tallest` and `shortest` are, and how many heights and widths there are.
 use Rattle.std.proofs.Common.{◌≡◌, ℕ, zero, suc, ◌+◌, ◌-◌, ◌*◌, ◌^◌, ◌<◌, ◌≤◌, Bool, true, false, nat_le, List, [], ◌∷◌}
 use Rattle.std.proofs.Common.{refl, ap, sym, ◌∙◌, arith, inl, inr, ◌⊎◌, length, get_or}
+use Rattle.std.proofs.lemmas.Grind.{common_steps}
 use Rattle.std.proofs.lemmas.Bool.{cases_lt, cases_Bool, false≢true, le-leb, lt-leb, leb-true, leb-false}
-use Rattle.std.proofs.{Math.Nat.two-pow-succ, lemmas.Nat.pow_pos, Math.Pow.pow_mono}
-use Rattle.p3_merkle_core.specs.{Geometry.least, Geometry.exponent, Inner.Shapes.least_height, Inner.Shapes.shortest}
+use Rattle.std.proofs.{Math.Nat.two-pow-succ, lemmas.Nat.pow_pos, Math.Pow.pow_mono, lemmas.List.length-map}
+use Rattle.p3_merkle_core.specs.Geometry.{least, exponent, Shape, heights, widths}
+use Rattle.p3_merkle_core.specs.Inner.Shapes.{least_height, shortest}
 use Rattle.p3_support.specs.Batches.{greatest}
 
 pub least_is : (p : ℕ → Bool) (bound k : ℕ) → k ≤ bound → ((j : ℕ) → j < k → p j ≡ false) → (k < bound → p k ≡ true) →
@@ -63,12 +65,7 @@ exponent_is h m above below =
 
 pub exponent_covers : (h : ℕ) → h ≤ 2 ^ exponent h
 unfolding exponent
-exponent_covers h =
-    let p : ℕ → Bool = λ k. nat_le h (2 ^ k) in
-    elim (cases_lt (least p h) h) [
-      | inl l ↦ leb-true h (2 ^ least p h) (least_passes p h l)
-      | inr g ↦ omega (arith, n_below_pow h, pow_mono {i = h} {j = least p h} g)
-    ]
+exponent_covers h = grind (arith, common_steps, cases_lt, leb-true, pow_mono, least_passes, n_below_pow)
 
 pub below_exponent : (h j : ℕ) → j < exponent h → 2 ^ j < h
 unfolding exponent
@@ -121,3 +118,12 @@ exponent_from_leading h a z m is sum below above =
     ≡ m = exponent_is h m (omega arith)
     (λ j l. omega (arith, two-pow-succ j, pow_mono {i = suc j} {j = m} l, pow_pos j)) in
     omega arith
+
+pub length-heights : (s : Shape) → length (heights s) ≡ length s.dimensions
+length-heights s = length-map s.dimensions (λ d. d.height)
+
+pub length-widths : (s : Shape) → length (widths s) ≡ length s.dimensions
+length-widths s = length-map s.dimensions (λ d. d.width)
+
+pub widths_in_pairs : (s : Shape) → length (widths s) ≡ length (heights s)
+widths_in_pairs s = length-widths s ∙ sym (length-heights s)

@@ -1,14 +1,13 @@
 -- What is known of the layer above a layer.
 use Rattle.std.proofs.Common.{◌≡◌, ℕ, zero, suc, ◌/◌, ◌^◌, ◌≤◌, ◌&&◌, Bool, cond, nat_lt, ap, sym, ◌∙◌, arith, inl, inr}
-use Rattle.std.proofs.Math.Pow.{pow_mono}
+use Rattle.std.proofs.{Math.Pow.pow_mono, lemmas.Grind.common_steps}
 use Rattle.p3_merkle_core.specs.Geometry.{Shape, heights, exponent, has_rows, layer_exponent, is_bridge, levels}
 use Rattle.p3_merkle_core.specs.Geometry.{raw_len, grouped_len_of, padded_len, height_limit, step, IsArity, IsLawful}
 use Rattle.p3_merkle_core.specs.{Geometry.height_at, Inner.Levels.IsBelowTop, Inner.Levels.IsLevel}
 use Rattle.p3_support.specs.Batches.{greatest}
 use Rattle.p3_merkle_core.proofs.Shapes.GateFacts.{tallest_fits, none_large_from_lawful}
-use Rattle.p3_merkle_core.proofs.Shapes.{LeastFacts.exponent_le, LadderFacts.step_cases}
-use Rattle.p3_merkle_core.proofs.Shapes.RawFacts.{filled, children_fit, raw_at}
-use Rattle.p3_merkle_core.proofs.Shapes.{SiblingFacts.step_is, StepFacts.layer_start}
+use Rattle.p3_merkle_core.proofs.Shapes.{LeastFacts.exponent_le, LadderFacts.step_cases, SiblingFacts.step_is}
+use Rattle.p3_merkle_core.proofs.Shapes.{StepFacts.layer_start, RawFacts.filled, RawFacts.children_fit, RawFacts.raw_at}
 
 -- no lawful height is above the limit
 pub low : (s : Shape) → IsLawful (heights s) → greatest (heights s) ≤ height_limit
@@ -45,9 +44,7 @@ small_at {s} {l} w = let h = w.in_tree in small s w.arity w.lawful l (omega arit
 pub grouped_is : {s : Shape} {l x r : ℕ} (g : ℕ) (b : Bool) → IsBelowTop s l x r → b
     ≡ is_bridge s (layer_exponent s l) → g ≡ cond (b && nat_lt r s.arity) (2 ^ x) (padded_len r s.arity) → g
     ≡ grouped_len_of s x r
-grouped_is {s} {l} {x} {r} g b w is_b is_g =
-    is_g ∙ ap (λ z. cond (z && nat_lt r s.arity) (2 ^ x) (padded_len r s.arity))
-    (is_b ∙ ap (is_bridge s) (sym w.at_x))
+grouped_is {s} {l} {x} {r} g b w is_b is_g = grind (arith, common_steps)
 
 -- the nodes above
 nodes_above : {s : Shape} {l x r : ℕ} (n g : ℕ) → IsBelowTop s l x r → n ≡ step s l → g ≡ grouped_len_of s x r → g / n

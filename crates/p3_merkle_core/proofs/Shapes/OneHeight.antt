@@ -1,16 +1,14 @@
 -- Trees over matrices of one height: their steps, lengths and cap layers, and what their nodes are.
 use Rattle.std.proofs.Common.{◌≡◌, ℕ, zero, suc, ◌+◌, ◌-◌, ◌*◌, ◌/◌, ◌^◌, ◌<◌, ◌≤◌, true, false, nat_le, nat_lt, List}
-use Rattle.std.proofs.Common.{[], ◌∷◌, ◌++◌, map, length, filter, get_or, refl, sym, ap, ◌∙◌, arith, inl, inr, cond}
-use Rattle.std.proofs.Common.{◌&&◌, min, append-nil}
+use Rattle.std.proofs.Common.{[], ◌∷◌, map, length, filter, get_or, refl, sym, ap, ◌∙◌, arith, inl, inr, cond, ◌&&◌}
+use Rattle.std.proofs.Math.Nat.{mul_comm, mul-div_cancel_left, mul-le-mul_left, pow-succ', pow-zero, suc-mul}
+use Rattle.std.proofs.{Math.Pow.pow_mono, lemmas.Grind.common_steps}
 use Rattle.std.proofs.lemmas.Bool.{cases_lt, cond-false, cond-true, eq-eqb, le-leb, le-ltb, leb-true, lt-leb, lt-ltb}
 use Rattle.std.proofs.lemmas.{List.FromFn.length-map-range_with_len, Nat.pow-add, Nat.pow_pos}
-use Rattle.std.proofs.Math.Nat.{mul_comm, mul-div_cancel_left, mul-le-mul_left, pow-succ', pow-zero, suc-mul}
-use Rattle.std.proofs.Math.Pow.{pow_mono}
-use Rattle.std.specs.{Prelude.All, Prelude.◌==◌, Prelude.replicate, Int.div_ceil, List.range_with_len}
+use Rattle.std.specs.{Prelude.All, Prelude.◌==◌, Int.div_ceil, List.range_with_len}
 use Rattle.p3_support.specs.{Batches.greatest, Batches.heights_of, declared.matrix.Dimensions.Dimensions}
-use Rattle.p3_merkle_core.specs.Caps.{cap_layer, levels_above_rows}
-use Rattle.p3_merkle_core.specs.Geometry.{Shape, IsArity, exponent, has_rows, heights, is_bridge, layer_below_root}
-use Rattle.p3_merkle_core.specs.Geometry.{layer_exponent, least, levels, padded_len, raw_len, step}
+use Rattle.p3_merkle_core.specs.{Caps.cap_layer, Geometry.Shape, Geometry.IsArity, Geometry.exponent, Geometry.has_rows}
+use Rattle.p3_merkle_core.specs.Geometry.{heights, is_bridge, layer_exponent, least, levels, padded_len, raw_len, step}
 use Rattle.p3_merkle_core.specs.Nodes.{Batch, Functions, Matrix, at_layer, compress_padded, dimensions_of, joined_rows}
 use Rattle.p3_merkle_core.specs.Nodes.{node, row_digest, shape, with_rows}
 use Rattle.p3_merkle_core.specs.OneHeight.{HasHeight, cap_layer_of_height, levels_of_height, nodes_of_height}
@@ -71,11 +69,7 @@ padded_groups r n more two =
 -- a power of an arity is one of two
 pub arity_power : (n : ℕ) → IsArity n → (l : ℕ) → n ^ l ≡ 2 ^ (l * exponent n)
 arity_power n w zero = let z : 0 * exponent n ≡ 0 = omega arith in rw (z, pow-zero) refl
-arity_power n w (suc l) =
-    let e = exponent n in
-    let sum : suc l * e ≡ e + l * e = suc-mul l e ∙ omega arith in
-    pow-succ' n l ∙ ap (λ z. n * z) (arity_power n w l) ∙ ap (λ z. z * 2 ^ (l * e)) w.power ∙ sym (pow-add 2 e (l * e))
-    ∙ ap (λ z. 2 ^ z) (sym sum)
+arity_power n w (suc l) = grind (arith, common_steps, arity_power n w l, pow-add, pow-succ', suc-mul)
 
 pub arity_power_pos : (n : ℕ) → IsArity n → (l : ℕ) → 0 < n ^ l
 arity_power_pos n w l = rw (arity_power n w l) (pow_pos (l * exponent n))
@@ -168,11 +162,7 @@ module _ (s : Shape) (w : IsArity s.arity) (h : ℕ) (one : HasHeight s h) where
   -- both rules give one cap layer
   pub cap_layer_is : (rule : CapRule) (c : ℕ) → cap_layer s rule c ≡ cap_layer_of_height s.arity h c
   cap_layer_is Fixed c = omega (arith, levels_are)
-  cap_layer_is Lowered c =
-      let all : levels_above_rows s ≡ levels s =
-      least_is (λ k. has_rows s (layer_below_root s k)) (levels s) (levels s) (omega arith)
-      (λ j below. no_rows_above (levels s - j) (omega arith) (omega arith)) (λ less. absurd (omega arith)) in
-      ap (λ r. levels s - min c r) all ∙ omega (arith, levels_are)
+  cap_layer_is Lowered c = grind (arith, common_steps, least_is, levels_are, no_rows_above)
 
 -- ---- nodes
 
@@ -188,9 +178,7 @@ all_leaves x h (m ∷ ms) is each =
 -- a group with no room for default digests
 pub full_group : {T W : Type 0} (f : Functions T W) (n : ℕ) (ds : List (List W)) → length ds ≡ n →
     compress_padded f n ds ≡ f.compression ds
-full_group f n ds full =
-    let none : n - length ds ≡ 0 = omega arith in
-    ap (λ k. f.compression (ds ++ replicate k f.default_digest)) none ∙ ap f.compression (append-nil ds)
+full_group f n ds full = grind (arith, common_steps)
 
 module _ {T W : Type 0} (f : Functions T W) (b : Batch T) (w : IsArity b.arity) (h : ℕ) (some : 0 < h)
     (one : HasHeight (shape b) h) where
@@ -225,8 +213,7 @@ module _ {T W : Type 0} (f : Functions T W) (b : Batch T) (w : IsArity b.arity) 
       ∙ full_group f n (children n) (length-map-range_with_len (λ i. node f b l (n * j + i)) 0 n)
 
   -- and what is no node is padding
-  pub padding_is : (l j : ℕ) → l ≤ levels (shape b) → nodes_of_height b.arity h l ≤ j → node f b l j
-      ≡ f.default_digest
+  pub padding_is : (l j : ℕ) → l ≤ levels (shape b) → nodes_of_height b.arity h l ≤ j → node f b l j ≡ f.default_digest
   unfolding node
   padding_is zero j le past =
       let s = shape b in

@@ -1,43 +1,20 @@
 -- Quotients that are rounded up.
-use Rattle.std.proofs.Common.{◌≡◌, ℕ, suc, ◌*◌, ◌/◌, ◌%◌, ◌<◌, ◌≤◌, arith, inl, inr, sym, ap, ◌∙◌}
-use Rattle.std.proofs.{lemmas.Bool.cases_eq, lemmas.Bool.cases_lt, Math.Nat.div-add-mod}
-use Rattle.std.proofs.Math.Nat.{div-one, mod-lt, mod-one, mul_assoc, mul_comm, mul-le-mul_left, mul-suc, suc-mul}
+use Rattle.std.proofs.Common.{◌≡◌, ℕ, ◌*◌, ◌<◌, ◌≤◌, arith, inl, inr, sym, ap, ◌∙◌}
+use Rattle.std.proofs.lemmas.{Grind.common_steps, Bool.cases_lt}
+use Rattle.std.proofs.Math.Nat.{div-one, mod-one, mul_assoc, mul_comm, mul-le-mul_left}
 use Rattle.std.specs.Int.{div_ceil}
 
 -- a quotient that is rounded up covers the number
 pub ceil_covers : (x a : ℕ) → 0 < a → x ≤ div_ceil x a * a
-ceil_covers x a some =
-    let q = x / a in
-    let whole = div-add-mod x a in
-    let rest = mod-lt x some in
-    elim (cases_eq (x % a) 0) [
-      | inl z ↦ let is : div_ceil x a ≡ q = omega (arith, z) in rw is (omega (arith, mul_comm q a))
-      | inr nz ↦ let is : div_ceil x a ≡ suc q = omega (arith, nz) in rw is (omega (arith, mul_comm q a, suc-mul q a))
-    ]
+ceil_covers x a some = grind (arith, common_steps)
 
 -- and nothing below it does
 pub ceil_below : (x a k : ℕ) → 0 < a → k < div_ceil x a → k * a < x
-ceil_below x a k some below =
-    let q = x / a in
-    let whole = div-add-mod x a in
-    elim (cases_eq (x % a) 0) [
-      | inl z ↦
-          let is : div_ceil x a ≡ q = omega (arith, z) in
-          let more : a * suc k ≤ a * q = mul-le-mul_left a (omega arith) in
-          omega (arith, mul_comm k a, mul-suc a k)
-      | inr nz ↦
-          let is : div_ceil x a ≡ suc q = omega (arith, nz) in
-          let more : a * k ≤ a * q = mul-le-mul_left a (omega arith) in
-          omega (arith, mul_comm k a)
-    ]
+ceil_below x a k some below = grind (arith, common_steps)
 
 -- so it is at most what covers
 pub ceil_le : (x a k : ℕ) → 0 < a → x ≤ k * a → div_ceil x a ≤ k
-ceil_le x a k some enough =
-    elim (cases_lt k (div_ceil x a)) [
-      | inl below ↦ absurd (omega (arith, ceil_below x a k some below))
-      | inr le ↦ le
-    ]
+ceil_le x a k some enough = grind (arith, common_steps)
 
 -- it is not above the number
 pub ceil_le_self : (x a : ℕ) → 0 < a → div_ceil x a ≤ x

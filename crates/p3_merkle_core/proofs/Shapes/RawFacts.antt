@@ -1,13 +1,12 @@
 -- The lengths of layers against their exponents: layer l has more than half of 2 ^ x nodes, and at most 2 ^ x.
-use Rattle.std.proofs.Common.{◌≡◌, ℕ, zero, suc, ◌+◌, ◌-◌, ◌*◌, ◌/◌, ◌%◌, ◌^◌, ◌<◌, ◌≤◌, cond, eqb, nat_lt, nat_le}
-use Rattle.std.proofs.Common.{◌&&◌, refl, ap, sym, ◌∙◌, arith, inl, inr}
-use Rattle.std.specs.Int.{next_multiple_of}
-use Rattle.std.proofs.lemmas.Bool.{cond-true, cond-false, cases_lt, cases_eq, lt-ltb, ltb-true, le-ltb, cond_both}
-use Rattle.std.proofs.lemmas.Bool.{and_parts, lt-leb, and_from, and_right, and_left, eqb-false}
-use Rattle.std.proofs.lemmas.Nat.{pow_pos}
+use Rattle.std.proofs.Common.{◌≡◌, ℕ, zero, suc, ◌+◌, ◌-◌, ◌*◌, ◌/◌, ◌%◌, ◌^◌, ◌<◌, ◌≤◌, cond, eqb, nat_lt, ◌&&◌, refl}
+use Rattle.std.proofs.Common.{ap, sym, ◌∙◌, arith, inl, inr}
 use Rattle.std.proofs.Math.Nat.{mul_assoc, mul_comm, two-pow-succ, mul-le-mul_left, mul-div_cancel_left, mod-eq_of_lt}
 use Rattle.std.proofs.Math.Nat.{mod_self, sub-zero, le_of_mul-le-mul_left, lt_of_mul-lt-mul_left, div-lt_iff_lt-mul}
-use Rattle.std.proofs.Math.Pow.{pow_mono, pow-lt}
+use Rattle.std.proofs.{Math.Pow.pow_mono, Math.Pow.pow-lt, lemmas.Bool.cond-true}
+use Rattle.std.proofs.lemmas.Bool.{cond-false, cases_lt, cases_eq, lt-ltb, ltb-true, le-ltb, cond_both, and_parts}
+use Rattle.std.proofs.lemmas.{Bool.and_from, Bool.and_right, Bool.and_left, Bool.eqb-false, Grind.common_steps}
+use Rattle.std.specs.Int.{next_multiple_of}
 use Rattle.p3_merkle_core.specs.Geometry.{Shape, exponent, layer_exponent, is_bridge, step, levels, ancestor}
 use Rattle.p3_merkle_core.specs.Geometry.{padded_len, raw_len, grouped_len_of, layer_len, heights, IsArity}
 use Rattle.p3_merkle_core.specs.Inner.Shapes.{grouped_len}
@@ -72,23 +71,14 @@ pub above_1 : (x r : ℕ) → 0 < x → IsFilled x r → 1 < r
 above_1 x r h f = omega (arith, pow_mono {i = 1} {j = x} h, f.above_half)
 
 pub padded_short : (r n : ℕ) → 1 < r → r < n → padded_len r n ≡ n
-padded_short r n h l =
-    cond-false (nat_le r 1) r (cond (nat_lt r n) n (next_multiple_of r n)) (lt-leb r 1 h)
-    ∙ cond-true (nat_lt r n) n (next_multiple_of r n) (lt-ltb r n l)
+padded_short r n h l = grind (arith, common_steps)
 
 pub padded_long : (r n : ℕ) → 1 < r → n ≤ r → padded_len r n ≡ next_multiple_of r n
-padded_long r n h l =
-    cond-false (nat_le r 1) r (cond (nat_lt r n) n (next_multiple_of r n)) (lt-leb r 1 h)
-    ∙ cond-false (nat_lt r n) n (next_multiple_of r n) (le-ltb r n l)
+padded_long r n h l = grind (arith, common_steps)
 
 -- a step with r below the arity, by one
 short_binary : (s : Shape) (x r : ℕ) → 0 < x → IsFilled x r → IsGrouped x r (2 ^ x) 2 (2 ^ (x - 1)) (x - 1)
-short_binary s x r h f =
-    record {
-      covers = f.fits;
-      in_groups = sym (binary_power x h);
-      filled = record { fits = omega arith; above_half = omega (arith, pow_pos (x - 1)) };
-    }
+short_binary s x r h f = grind (arith, common_steps)
 
 -- a whole step with r below the arity ends the walk
 short_whole : (s : Shape) → IsArity s.arity → (x r : ℕ) → 0 < x → IsFilled x r → r < s.arity →
@@ -192,10 +182,7 @@ raw_next s l = refl
 -- the nodes above, counted from the exponent and the nodes of the layer below
 pub raw_at : (s : Shape) (l x r g n : ℕ) → x ≡ layer_exponent s l → r ≡ raw_len s l → g ≡ grouped_len_of s x r → n
     ≡ cond (is_bridge s x) 2 s.arity → g / n ≡ raw_len s (suc l)
-raw_at s l x r g n at_x at_raw is_g is_n =
-    ap (λ q. q / n) (is_g ∙ ap (λ y. grouped_len_of s y r) at_x
-    ∙ ap (λ q. grouped_len_of s (layer_exponent s l) q) at_raw)
-    ∙ ap (λ q. grouped_len s l / q) (step_at s l x n at_x is_n) ∙ sym (raw_next s l)
+raw_at s l x r g n at_x at_raw is_g is_n = grind (arith, common_steps, step_at, raw_next)
 
 -- above the layers below the last, the exponent is positive
 pub positive_below : (s : Shape) (l : ℕ) → l < levels s → 0 < layer_exponent s l

@@ -1,12 +1,20 @@
--- How many siblings the levels have, and that their count fits.
-use Rattle.std.proofs.Common.{◌≡◌, ℕ, zero, suc, ◌+◌, ◌-◌, ◌*◌, ◌^◌, ◌<◌, ◌≤◌, refl, arith}
-use Rattle.std.proofs.lemmas.{Bool.cond_both, Nat.pow_pos}
+-- How many siblings the levels have, and that their count fits. At arity 2 each level has one.
+use Rattle.std.proofs.Common.{◌≡◌, ℕ, ◌+◌, ◌≤◌, ◌&&◌, nat_lt, false, List, [], ◌∷◌, refl, arith, inl, inr, zero, suc}
+use Rattle.std.proofs.Common.{◌-◌, ◌*◌, ◌^◌, ◌<◌, ap, ◌∙◌}
+use Rattle.std.proofs.lemmas.{Grind.common_steps, Bool.cases_Bool, Bool.cond_both, Nat.pow_pos}
 use Rattle.std.proofs.Math.{Nat.mul-le-mul_left, Nat.suc-mul, Pow.pow_mono}
-use Rattle.p3_merkle_core.specs.Geometry.{Shape, heights, exponent, layer_exponent, is_bridge, step, levels}
+use Rattle.std.specs.List.{list_any}
+use Rattle.p3_merkle_core.specs.Geometry.{exponent, Shape, heights, layer_exponent, is_bridge, step, levels}
 use Rattle.p3_merkle_core.specs.{Geometry.leaves_under, Geometry.height_limit, Geometry.IsArity, Checks.siblings_below}
 use Rattle.p3_support.specs.Batches.{greatest}
-use Rattle.p3_merkle_core.proofs.Shapes.{LeastFacts.exponent_le, StepFacts.step_above_1, LadderFacts.exact}
-use Rattle.p3_merkle_core.proofs.Shapes.RawFacts.{positive_below}
+use Rattle.p3_merkle_core.proofs.Shapes.{LeastFacts.exponent_le, StepFacts.step_above_1, StepFacts.next_exponent}
+use Rattle.p3_merkle_core.proofs.Shapes.{LadderFacts.exact, RawFacts.positive_below}
+
+-- no exponent lies strictly between two numbers with none between them
+pub none_between : (a x : ℕ) (hs : List ℕ) → x ≤ a + 1 →
+    list_any (λ h. nat_lt a (exponent h) && nat_lt (exponent h) x) hs ≡ false
+none_between a x [] le = refl
+none_between a x (h ∷ hs) le = grind (arith, common_steps, none_between a x hs le)
 
 pub siblings_next : (s : Shape) (l : ℕ) → siblings_below s (suc l) ≡ siblings_below s l + (step s l - 1)
 unfolding siblings_below
@@ -48,3 +56,26 @@ step_is s l w low h =
           (λ t. two) (λ t. omega arith);
       few = omega (arith, below_leaves s w.above_1 l, m, e, top);
     }
+
+-- a group of two takes one halving
+of_two : exponent 2 ≡ 1
+unfolding exponent
+of_two = refl
+
+-- the exponent above a level, by its step
+pub above_step : (s : Shape) (l : ℕ) → layer_exponent s l - exponent (step s l) ≡ layer_exponent s (suc l)
+above_step s l =
+    elim (cases_Bool (is_bridge s (layer_exponent s l))) [
+      | inl t ↦ rw (next_exponent s l, t, of_two) refl
+      | inr f ↦ rw (next_exponent s l, f) refl
+    ]
+
+-- no step is a bridge step
+no_bridge : (s : Shape) (x : ℕ) → s.arity ≡ 2 → is_bridge s x ≡ false
+no_bridge s x two = let one : exponent s.arity ≡ 1 = ap exponent two ∙ of_two in
+    none_between (x - exponent s.arity) x (heights s) (omega (arith, one))
+
+-- so each level has one sibling
+pub siblings_halved : (s : Shape) → s.arity ≡ 2 → (t : ℕ) → siblings_below s t ≡ t
+siblings_halved s two zero = siblings_start s
+siblings_halved s two (suc t) = grind (arith, common_steps, siblings_halved s two t, siblings_next, no_bridge)

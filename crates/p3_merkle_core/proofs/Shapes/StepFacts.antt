@@ -1,7 +1,7 @@
 -- The walk over the steps, and ancestors level by level.
 use Rattle.std.proofs.Common.{◌≡◌, ℕ, suc, ◌+◌, ◌-◌, ◌/◌, ◌%◌, ◌<◌, ◌≤◌, false, cond, eqb, List, [], ◌∷◌, ◌++◌, refl}
 use Rattle.std.proofs.Common.{ap, sym, ◌∙◌, arith, inl, inr, add-one}
-use Rattle.std.proofs.lemmas.Bool.{cond_both, ne_eqb, cases_eq}
+use Rattle.std.proofs.lemmas.{Grind.common_steps, Bool.cond_both, Bool.ne_eqb, Bool.cases_eq}
 use Rattle.std.proofs.{lemmas.List.FromFn.map-range_with_len_more, Math.Nat.div-div-eq-div-mul}
 use Rattle.p3_merkle_core.specs.Geometry.{Shape, exponent, layer_exponent, is_bridge, step, levels, leaves_under}
 use Rattle.p3_merkle_core.specs.Geometry.{ancestor, heights, position_in_group, schedule_below, positions_below}
@@ -39,13 +39,7 @@ at_start s x e = record { at_x = e ∙ sym (layer_start s); room = omega arith; 
 -- each step goes down
 pub next_falls : (s : Shape) (x y : ℕ) → 2 ≤ s.arity → 0 < x → y ≡ cond (is_bridge s x) (x - 1) (x - exponent s.arity) →
     y < x
-next_falls s x y two h e =
-    let w = whole_step_falls s.arity two in
-    omega (
-      arith,
-      cond_both (is_bridge s x) (x - 1) (x - exponent s.arity) (λ z. z < x) (λ t. omega arith)
-          (λ t. omega arith),
-    )
+next_falls s x y two h e = grind (arith, common_steps, cond_both, whole_step_falls)
 
 -- what one step from the exponent x of layer l is, and where it leads
 pub step_at : (s : Shape) (l x n : ℕ) → x ≡ layer_exponent s l → n ≡ cond (is_bridge s x) 2 s.arity → n ≡ step s l
@@ -58,16 +52,7 @@ next_at s l x y at e = rw add-one (e ∙ ap (λ z. cond (is_bridge s z) (z - 1) 
 
 pub at_more : (s : Shape) (l x y : ℕ) → 2 ≤ s.arity → IsAt s l x → 0 < x → y
     ≡ cond (is_bridge s x) (x - 1) (x - exponent s.arity) → IsAt s (l + 1) y
-at_more s l x y two w h e =
-    record {
-      at_x = next_at s l x y w.at_x e;
-      room = omega (arith, w.room, next_falls s x y two h e);
-      before = λ k b.
-          elim (cases_eq k l) [
-            | inl same ↦ let a = w.at_x in rw same (ne_eqb (layer_exponent s l) 0 (λ z. omega arith))
-            | inr other ↦ w.before k (omega arith)
-          ];
-    }
+at_more s l x y two w h e = grind (arith, common_steps, ne_eqb, cases_eq, next_falls, next_at)
 
 -- the walk ends at the exponent 0
 pub at_end : (s : Shape) (l x : ℕ) → IsAt s l x → x ≡ 0 → l ≡ levels s

@@ -1,6 +1,6 @@
 use Rattle.p3_merkle_core.proofs.Pruned.{Answered.restorable, Unrefused.unrefused}
 use Rattle.p3_merkle_core.proofs.Checks.Verdicts.{accepted_from, accepted_answer, pruned_accepted, pruned_capped}
-use Rattle.p3_merkle_core.proofs.{Pruned.AnswerLaws.answered_alike, Covered.Equivalence.equivalent}
+use Rattle.p3_merkle_core.proofs.{Pruned.HonestAnswered.answered_alike, Covered.Equivalence.equivalent}
 use Rattle.p3_merkle_core.proofs.laws.answers.Goals as goal
 
 pub returns-clause-single : goal.returns-clause-single

@@ -1,7 +1,7 @@
 -- The derived test: rows, then siblings.
 use Rattle.std.specs.Cmp.Lexicographic.{pointwise_decides}
 use Rattle.p3_merkle_core.specs.Views.{shown_opening}
-use Rattle.p3_merkle_core.proofs.Lists.SameRows.{both_parts, same_rows}
+use Rattle.p3_merkle_core.proofs.Lists.ViewFacts.{both_parts, same_rows}
 use Rattle.p3_merkle_core.proofs.laws.batch_opening_eq.Goals as goal
 
 pub returns : goal.returns

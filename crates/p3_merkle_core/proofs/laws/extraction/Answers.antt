@@ -4,8 +4,8 @@ use Rattle.p3_merkle_core.specs.Presented.{presented, presented_pruned}
 use Rattle.p3_merkle_core.proofs.Collisions.{Extracted.differs, Extraction.collides}
 use Rattle.p3_merkle_core.proofs.Collisions.ExtractionFacts.{all_authenticated, answer_is_extraction, pruned_presented}
 use Rattle.p3_merkle_core.proofs.Collisions.ExtractionFacts.{single_presented, alike_at_one_index}
-use Rattle.p3_merkle_core.proofs.Checks.{PlaceFacts.at_one_place, AuthenticatedFacts.authenticated_bound}
-use Rattle.p3_merkle_core.proofs.Checks.{InputFacts.inputs_full, CheckFacts.last_is, CheckFacts.walk_reaches}
+use Rattle.p3_merkle_core.proofs.Checks.{InputFacts.at_one_place, SameIndex.authenticated_bound, InputFacts.inputs_full}
+use Rattle.p3_merkle_core.proofs.Checks.{CheckFacts.last_is, CheckFacts.walk_reaches}
 use Rattle.p3_merkle_core.proofs.laws.extraction.Goals as goal
 
 pub returns-clause-collision : goal.returns-clause-collision

@@ -2,7 +2,7 @@
 use Rattle.std.proofs.{Common.eq-eqb, lemmas.Bool.eqb-true}
 use Rattle.std.specs.Cmp.Lexicographic.{pointwise_decides}
 use Rattle.p3_merkle_core.specs.Views.{shown_path}
-use Rattle.p3_merkle_core.proofs.Lists.SameRows.{both_parts}
+use Rattle.p3_merkle_core.proofs.Lists.ViewFacts.{both_parts}
 use Rattle.p3_merkle_core.proofs.laws.merkle_auth_path_eq.Goals as goal
 
 pub returns : goal.returns

@@ -1,7 +1,7 @@
 -- The derived test: row sets, then digests.
 use Rattle.std.specs.Cmp.Lexicographic.{pointwise_decides}
 use Rattle.p3_merkle_core.specs.Views.{shown_pruned}
-use Rattle.p3_merkle_core.proofs.Lists.SameRows.{both_parts, same_sets}
+use Rattle.p3_merkle_core.proofs.Lists.ViewFacts.{both_parts, same_sets}
 use Rattle.p3_merkle_core.proofs.laws.pruned_batch_opening_eq.Goals as goal
 
 pub returns : goal.returns

@@ -1,14 +1,18 @@
 -- Each call answers one part of the definition, in its order.
 use Rattle.std.proofs.Common.{◌≡◌, ◌+◌, ◌<◌, ◌∙◌, ℕ, All, ap, arith, drop, get_or, sym, inl, inr, length, refl, []}
-use Rattle.std.proofs.{Common.None, Common.Some, lemmas.List.length-map, lemmas.Result.err_from_is_err_and}
+use Rattle.std.proofs.{Common.None, Common.Option, Common.Some, lemmas.List.length-map}
+use Rattle.std.proofs.{lemmas.Result.err_from_is_err_and}
 use Rattle.std.specs.Prelude.{slice_index_or}
 use Rattle.p3_support.specs.{Shown.row_lists, Shown.row_sets, Batches.greatest, Batches.heights_of}
 use Rattle.p3_merkle_core.specs.{Geometry.shape_of, Refusals.first_of, Refusals.width_refusal}
-use Rattle.p3_merkle_core.specs.Inner.Agreement.{distinct, first_query, layers_refusal}
+use Rattle.p3_merkle_core.specs.Inner.Agreement.{distinct, first_query, late_refusal, layers_refusal, opened_with}
+use Rattle.p3_merkle_core.specs.{Refusals.pruned_refusal, declared.error.MerkleTreeError.MerkleTreeError}
 use Rattle.p3_merkle_core.proofs.{Lists.RisingFacts.increasing_from, Pruned.AgreeFacts.firsts_inside}
 use Rattle.p3_merkle_core.proofs.Pruned.LeadFacts.{all_fit, firsts_next, found_or, kept_or}
 use Rattle.p3_merkle_core.proofs.Pruned.SlotFacts.{all_below, distinct_bounded, distinct_rising, set_read}
 use Rattle.p3_merkle_core.proofs.Pruned.PrunedFacts.{asked_from, full_from, late_from, pruned_counted, pruned_late}
+use Rattle.p3_merkle_core.proofs.pruning.check_pruned.{Given.Over, Goals.After-deref-query-items}
+use Rattle.p3_merkle_core.proofs.pruning.check_pruned.Goals.{After-deref-in-loop-query, In_ok-check_digest_count}
 use Rattle.p3_merkle_core.proofs.pruning.check_pruned.Goals as goal
 
 pub new-covered-requires : goal.new-covered-requires
@@ -35,74 +39,79 @@ returns-in_err-check_digest_count g c =
     (rw (c.in_ok-check_repeats.ensures, some) refl) in
     rw left.1 (inr (found ∙ ap (λ e. Some e) (sym left.2)))
 
--- a first query is a query
-pub bounds-rows-query : goal.bounds-rows-query
-bounds-rows-query g c =
+-- the first queries are queries
+inside : (g : Over) (c : After-deref-query-items g) →
+    All (λ query. query < length c.args.rows.now) c.deref-query-items.result.now
+inside g c =
     let asked = asked_from (heights_of c.args.steps.now.dimensions.now) c.args.indices.now (length c.args.rows.now)
     c.args.num_digests c.in_ok-check_queries.ensures.answer in
-    let inside : All (λ query. query < length c.args.rows.now) c.deref-query-items.result.now =
     rw (c.deref-query-items.ensures.value, ← asked.pairs) (firsts_inside
-    c.in_ok-queried.queried.first_queries.items c.args.indices.now c.in_ok-queried.ensures.first_queries) in
-    inside c.loop-query.query-index 0 c.loop-query-test.true
+    c.in_ok-queried.queried.first_queries.items c.args.indices.now c.in_ok-queried.ensures.first_queries)
+
+-- the row set of one of them, as the code reads it
+read : (g : Over) (c : After-deref-in-loop-query g) →
+    All (λ query. query < length c.args.rows.now) c.deref-query-items.result.now →
+    get_or (row_sets c.args.rows.now) (get_or c.deref-query-items.result.now c.loop-query.query-index 0) []
+    ≡ row_lists c.deref-in-loop-query.result.now
+read g c all = set_read c.args.rows.now (get_or c.deref-query-items.result.now c.loop-query.query-index 0)
+    c.index-rows-query.result (all c.loop-query.query-index 0 c.loop-query-test.true) c.index-rows-query.is
+    ∙ ap row_lists (sym c.deref-in-loop-query.ensures.value)
+
+-- where nothing is refused before the rows are looked at, they decide
+late : (g : Over) (c : In_ok-check_digest_count g) (answer : Option MerkleTreeError) →
+    let s = shape_of c.args.steps.now.arity c.args.steps.now.dimensions.now in
+    let sets = row_sets c.args.rows.now in
+    late_refusal g.T.PartialEq.eq s c.args.cap_layer c.in_ok-queried.queried.indices.items
+    c.in_ok-queried.queried.first_queries.items sets ≡ answer →
+    pruned_refusal g.T.PartialEq.eq s c.args.cap_layer (opened_with c.args.indices.now sets c.args.num_digests) ≡ answer
+late g c answer is =
+    let early = rw (← length-map c.args.rows.now (λ rows. row_lists rows.items)) at
+    c.in_ok-check_queries.ensures.answer in
+    let len = rw (c.new-covered.ensures.steps, c.new-covered.ensures.indices) at c.boundary_len.ensures in
+    pruned_late g.T.PartialEq.eq (shape_of c.args.steps.now.arity c.args.steps.now.dimensions.now) c.args.cap_layer
+    c.in_ok-queried.queried.indices.items c.in_ok-queried.queried.first_queries.items c.args.indices.now
+    (row_sets c.args.rows.now) c.args.num_digests answer c.in_ok-queried.ensures.indices
+    c.in_ok-queried.ensures.first_queries early c.in_ok-check_repeats.ensures
+    (rw len at c.in_ok-check_digest_count.ensures) is
+
+pub bounds-rows-query : goal.bounds-rows-query
+bounds-rows-query g c = inside g (goal.at.bounds-rows-query g c).After-deref-query-items c.loop-query.query-index 0
+    c.loop-query-test.true
 
 pub offset_bounds-rows-query : goal.offset_bounds-rows-query
 offset_bounds-rows-query g c =
-    let asked = asked_from (heights_of c.args.steps.now.dimensions.now) c.args.indices.now (length c.args.rows.now)
-    c.args.num_digests c.in_ok-check_queries.ensures.answer in
-    let inside : All (λ query. query < length c.args.rows.now) c.deref-query-items.result.now =
-    rw (c.deref-query-items.ensures.value, ← asked.pairs) (firsts_inside
-    c.in_ok-queried.queried.first_queries.items c.args.indices.now c.in_ok-queried.ensures.first_queries) in
-    omega (arith, inside c.loop-query.query-index 0 c.loop-query-test.true)
+    let all = inside g (goal.at.offset_bounds-rows-query g c).After-deref-query-items in
+    omega (arith, all c.loop-query.query-index 0 c.loop-query-test.true)
 
 pub loop-query-preserved : goal.loop-query-preserved
 loop-query-preserved g c =
     let firsts = c.deref-query-items.result.now in
     let n = c.loop-query.query-index in
-    let asked = asked_from (heights_of c.args.steps.now.dimensions.now) c.args.indices.now (length c.args.rows.now)
-    c.args.num_digests c.in_ok-check_queries.ensures.answer in
-    let inside : All (λ query. query < length c.args.rows.now) c.deref-query-items.result.now =
-    rw (c.deref-query-items.ensures.value, ← asked.pairs) (firsts_inside
-    c.in_ok-queried.queried.first_queries.items c.args.indices.now c.in_ok-queried.ensures.first_queries) in
-    let read = set_read c.args.rows.now (get_or firsts n 0) c.index-rows-query.result
-    (inside n 0 c.loop-query-test.true) c.index-rows-query.is ∙ ap row_lists (sym c.deref-in-loop-query.ensures.value)
-    in
+    let at = goal.at.loop-query-preserved g c in
     let h = λ (query : ℕ). width_refusal c.args.steps.now.dimensions.now
     (slice_index_or (row_sets c.args.rows.now) query []) in
-    let none : h (get_or firsts n 0) ≡ None = rw read c.in_ok-check_widths.ensures in
+    let none : h (get_or firsts n 0) ≡ None =
+    rw (read g at.After-deref-in-loop-query (inside g at.After-deref-query-items)) c.in_ok-check_widths.ensures in
     kept_or (h (get_or firsts n 0)) (first_of h (drop (n + 1) firsts)) (first_of h firsts)
     (firsts_next h firsts n (first_of h firsts) c.loop-query-test.true c.loop-query.invariant) none
 
 pub returns-in_err-check_widths : goal.returns-in_err-check_widths
 returns-in_err-check_widths g c =
-    let s = shape_of c.args.steps.now.arity c.args.steps.now.dimensions.now in
-    let early = rw (← length-map c.args.rows.now (λ rows. row_lists rows.items)) at
-    c.in_ok-check_queries.ensures.answer in
-    let queried = c.in_ok-queried.queried in
-    let sets = row_sets c.args.rows.now in
-    let asked = asked_from (heights_of c.args.steps.now.dimensions.now) c.args.indices.now (length c.args.rows.now)
-    c.args.num_digests c.in_ok-check_queries.ensures.answer in
-    let inside : All (λ query. query < length c.args.rows.now) c.deref-query-items.result.now =
-    rw (c.deref-query-items.ensures.value, ← asked.pairs) (firsts_inside queried.first_queries.items
-    c.args.indices.now c.in_ok-queried.ensures.first_queries) in
     let firsts = c.deref-query-items.result.now in
     let n = c.loop-query.query-index in
-    let read = set_read c.args.rows.now (get_or firsts n 0) c.index-rows-query.result
-    (inside n 0 c.loop-query-test.true) c.index-rows-query.is ∙ ap row_lists (sym c.deref-in-loop-query.ensures.value)
-    in
-    let h = λ (query : ℕ). width_refusal c.args.steps.now.dimensions.now (slice_index_or sets query []) in
+    let at = goal.at.returns-in_err-check_widths g c in
+    let h = λ (query : ℕ). width_refusal c.args.steps.now.dimensions.now
+    (slice_index_or (row_sets c.args.rows.now) query []) in
     let e = c.in_err-check_widths.field-0.0 in
-    let here : h (get_or firsts n 0) ≡ Some e = rw read c.in_err-check_widths.ensures in
-    let some : first_of h queried.first_queries.items ≡ Some e = rw c.deref-query-items.ensures.value at
+    let here : h (get_or firsts n 0) ≡ Some e =
+    rw (read g at.After-deref-in-loop-query (inside g at.After-deref-query-items)) c.in_err-check_widths.ensures in
+    let some : first_of h c.in_ok-queried.queried.first_queries.items ≡ Some e =
+    rw c.deref-query-items.ensures.value at
     (found_or (h (get_or firsts n 0)) (first_of h (drop (n + 1) firsts)) (first_of h firsts) e
     (firsts_next h firsts n (first_of h firsts) c.loop-query-test.true c.loop-query.invariant) here) in
-    let len = rw (c.new-covered.ensures.steps, c.new-covered.ensures.indices) at c.boundary_len.ensures in
-    let count = rw len at c.in_ok-check_digest_count.ensures in
     let left = err_from_is_err_and c.from_residual-in_err-check_widths.result
     c.from_residual-in_err-check_widths.ensures.1 in
-    let found = pruned_late g.T.PartialEq.eq s c.args.cap_layer queried.indices.items queried.first_queries.items
-    c.args.indices.now sets c.args.num_digests (Some e) c.in_ok-queried.ensures.indices
-    c.in_ok-queried.ensures.first_queries early c.in_ok-check_repeats.ensures count
-    (rw some refl) in
+    let found = late g at.In_ok-check_digest_count (Some e) (rw some refl) in
     rw left.1 (inr (found ∙ ap (λ e. Some e) (sym left.2)))
 
 pub check_shared_rows-requires : goal.check_shared_rows-requires
@@ -131,16 +140,12 @@ check_shared_rows-requires g c =
 pub returns-in_err-check_shared_rows : goal.returns-in_err-check_shared_rows
 returns-in_err-check_shared_rows g c =
     let s = shape_of c.args.steps.now.arity c.args.steps.now.dimensions.now in
-    let early = rw (← length-map c.args.rows.now (λ rows. row_lists rows.items)) at
-    c.in_ok-check_queries.ensures.answer in
     let queried = c.in_ok-queried.queried in
     let sets = row_sets c.args.rows.now in
     let widths = first_of (λ query. width_refusal c.args.steps.now.dimensions.now (slice_index_or sets query []))
     queried.first_queries.items in
     let groups = layers_refusal g.T.PartialEq.eq s c.args.cap_layer queried.indices.items queried.first_queries.items
     sets in
-    let len = rw (c.new-covered.ensures.steps, c.new-covered.ensures.indices) at c.boundary_len.ensures in
-    let count = rw len at c.in_ok-check_digest_count.ensures in
     let left = err_from_is_err_and c.from_residual-in_err-check_shared_rows.result
     c.from_residual-in_err-check_shared_rows.ensures.1 in
     let e = c.in_err-check_shared_rows.field-0.0 in
@@ -149,9 +154,7 @@ returns-in_err-check_shared_rows g c =
     elim c.in_err-check_shared_rows.ensures [
       | inl memory ↦ rw left.1 (inl (left.2 ∙ memory))
       | inr some ↦
-          let found = pruned_late g.T.PartialEq.eq s c.args.cap_layer queried.indices.items queried.first_queries.items
-          c.args.indices.now sets c.args.num_digests (Some e) c.in_ok-queried.ensures.indices
-          c.in_ok-queried.ensures.first_queries early c.in_ok-check_repeats.ensures count
+          let found = late g (goal.at.returns-in_err-check_shared_rows g c).In_ok-check_digest_count (Some e)
           (late_from widths groups (Some e) none some) in
           rw left.1 (inr (found ∙ ap (λ e. Some e) (sym left.2)))
     ]
@@ -159,21 +162,15 @@ returns-in_err-check_shared_rows g c =
 pub returns : goal.returns
 returns g c =
     let s = shape_of c.args.steps.now.arity c.args.steps.now.dimensions.now in
-    let early = rw (← length-map c.args.rows.now (λ rows. row_lists rows.items)) at
-    c.in_ok-check_queries.ensures.answer in
     let queried = c.in_ok-queried.queried in
     let sets = row_sets c.args.rows.now in
     let widths = first_of (λ query. width_refusal c.args.steps.now.dimensions.now (slice_index_or sets query []))
     queried.first_queries.items in
     let groups = layers_refusal g.T.PartialEq.eq s c.args.cap_layer queried.indices.items queried.first_queries.items
     sets in
-    let len = rw (c.new-covered.ensures.steps, c.new-covered.ensures.indices) at c.boundary_len.ensures in
-    let count = rw len at c.in_ok-check_digest_count.ensures in
     let none : widths ≡ None = all_fit c.deref-query-items.result.now _ _
     c.loop-query.query-index (omega arith) c.deref-query-items.ensures.value c.loop-query.invariant in (
-      pruned_late g.T.PartialEq.eq s c.args.cap_layer queried.indices.items queried.first_queries.items
-          c.args.indices.now sets c.args.num_digests None c.in_ok-queried.ensures.indices
-          c.in_ok-queried.ensures.first_queries early c.in_ok-check_repeats.ensures count
+      late g (goal.at.returns g c).In_ok-check_digest_count None
           (late_from widths groups None none c.in_ok-check_shared_rows.ensures),
       c.in_ok-queried.ensures,
     )

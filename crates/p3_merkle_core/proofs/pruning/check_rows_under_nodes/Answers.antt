@@ -5,11 +5,11 @@ use Rattle.std.proofs.lemmas.{List.get_or-map, List.length-map, Nat.pow_pos, Res
 use Rattle.std.specs.List.{range_with_len}
 use Rattle.p3_support.specs.Shown.{row_sets}
 use Rattle.p3_merkle_core.specs.{Inner.Agreement.nodes_refusal, Refusals.first_of}
-use Rattle.p3_merkle_core.proofs.Pruned.LeadFacts.{first_slot_agrees, first_slot_kept}
-use Rattle.p3_merkle_core.proofs.Pruned.LeadFacts.{first_slot_new, first_start, found_or, full_rows, kept_or, rows_read}
-use Rattle.p3_merkle_core.proofs.Pruned.LeadFacts.{slot_fault, slot_read, slots_next, slots_start}
-use Rattle.p3_merkle_core.proofs.Pruned.SlotFacts.{divided}
-use Rattle.p3_merkle_core.proofs.pruning.check_rows_under_nodes.Goals.{then-indices-slot+in_ok-check_same_rows, else-indices-slot}
+use Rattle.p3_merkle_core.proofs.Pruned.LeadFacts.{first_slot_agrees, first_slot_kept, first_slot_new, first_start}
+use Rattle.p3_merkle_core.proofs.Pruned.LeadFacts.{found_or, full_rows, kept_or, rows_read, slot_fault, slot_read}
+use Rattle.p3_merkle_core.proofs.Pruned.{LeadFacts.slots_next, LeadFacts.slots_start, SlotFacts.divided}
+use Rattle.p3_merkle_core.proofs.pruning.check_rows_under_nodes.Goals.{then-indices-slot+in_ok-check_same_rows}
+use Rattle.p3_merkle_core.proofs.pruning.check_rows_under_nodes.Goals.{else-indices-slot}
 use Rattle.p3_merkle_core.proofs.pruning.check_rows_under_nodes.Goals as goal
 
 pub loop-slot-init : goal.loop-slot-init

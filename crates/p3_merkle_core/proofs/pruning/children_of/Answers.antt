@@ -2,13 +2,12 @@
 use Rattle.std.proofs.Common.{◌≡◌, ◌+◌, ◌-◌, ◌*◌, ◌/◌, ◌%◌, ◌<◌, ◌∙◌, ap, sym, arith, get_or, length, refl}
 use Rattle.std.specs.declared.vec.Vec.{Vec}
 use Rattle.p3_merkle_core.specs.Inner.Children.{children_under}
-use Rattle.p3_merkle_core.proofs.Covered.ChildFacts.{IsSent, walk_start, walk_end, known_more, unknown_more, is_sent}
-use Rattle.p3_merkle_core.proofs.Covered.ChildFacts.{none_next, placed_at}
-use Rattle.p3_merkle_core.proofs.pruning.children_of.Given.{Over}
-use Rattle.p3_merkle_core.proofs.pruning.children_of.Goals as goal
 use Rattle.p3_merkle_core.proofs.pruning.children_of.Goals.{then-known-covered+then-covered-known, else-known-covered}
 use Rattle.p3_merkle_core.proofs.pruning.children_of.Goals.{else-known-covered-via-then-known-covered+else-covered-known}
-use Rattle.p3_merkle_core.proofs.pruning.children_of.Goals.{else-known-covered-via-else-known-covered}
+use Rattle.p3_merkle_core.proofs.pruning.children_of.{Goals.else-known-covered-via-else-known-covered, Given.Over}
+use Rattle.p3_merkle_core.proofs.Covered.ChildFacts.{IsSent, walk_start, walk_end, known_more, unknown_more, is_sent}
+use Rattle.p3_merkle_core.proofs.Covered.ChildFacts.{none_next, placed_at}
+use Rattle.p3_merkle_core.proofs.pruning.children_of.Goals as goal
 
 pub loop-parent-init : goal.loop-parent-init
 loop-parent-init g c =
@@ -32,8 +31,7 @@ pub bounds-digests-known : goal.bounds-digests-known
 bounds-digests-known g c = rw c.requires.one_each c.if-known-covered.true
 
 -- a digest is left for a child that is not covered
-left : (g : Over) (c : goal.After-len g) →
-    IsSent c.len.result c.loop-child.known (length c.args.proof_digests.now)
+left : (g : Over) (c : goal.After-len g) → IsSent c.len.result c.loop-child.known (length c.args.proof_digests.now)
 left g c =
     let n = c.args.step in
     let i = c.loop-parent.parent-index in

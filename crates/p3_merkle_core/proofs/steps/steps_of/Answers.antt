@@ -5,13 +5,12 @@ use Rattle.std.proofs.{Math.Nat.mod-eq_of_lt, lemmas.List.get_or-replicate, lemm
 use Rattle.std.specs.Int.{div_ceil}
 use Rattle.p3_support.specs.Batches.{heights_of}
 use Rattle.p3_merkle_core.specs.Inner.Exponents.{digits, next_below}
-use Rattle.p3_merkle_core.proofs.Shapes.{ExponentFacts.some_below, MarkFacts.more_bits, MarkFacts.no_bits}
-use Rattle.p3_merkle_core.proofs.Shapes.{MarkFacts.one_more, QuotientFacts.ceil_below, QuotientFacts.ceil_covers}
-use Rattle.p3_merkle_core.proofs.Shapes.{QuotientFacts.ceil_le_self, WholeSteps.none, WholeSteps.whole_steps}
-use Rattle.p3_merkle_core.proofs.Shapes.{WholeSteps.IsWalked, OwnedSteps.kept_more, OwnedSteps.level_is}
+use Rattle.p3_merkle_core.proofs.Shapes.ExponentFacts.{some_below, more_bits, no_bits, one_more, none, whole_steps}
+use Rattle.p3_merkle_core.proofs.Shapes.ExponentFacts.{IsWalked, kept_more, level_is}
+use Rattle.p3_merkle_core.proofs.Shapes.QuotientFacts.{ceil_below, ceil_covers, ceil_le_self}
 use Rattle.p3_merkle_core.proofs.Shapes.StepFacts.{at_start, at_more, at_end, layer_start, next_falls, whole_step_falls}
 use Rattle.p3_merkle_core.proofs.Shapes.LeastFacts.{exponent_le}
-use Rattle.p3_merkle_core.proofs.steps.steps_of.Goals.{then-bit, else-bit}
+use Rattle.p3_merkle_core.proofs.steps.steps_of.Goals.{then-bit, else-bit, In-loop-exponents}
 use Rattle.p3_merkle_core.specs.Geometry.{exponent, shape_of}
 use Rattle.p3_merkle_core.proofs.steps.steps_of.Goals as goal
 
@@ -54,49 +53,33 @@ loop-exponents-init c = (
   λ n above below. get_or-replicate 64 n none none (omega (arith, below)),
 )
 
+-- a layer above the root, which is one of the first 64
+walking : (c : In-loop-exponents) →
+    (0 < c.loop-exponents.exponents.layer) × (c.loop-exponents.exponents.layer + c.loop-exponents.num_levels ≤ 64)
+walking c =
+    let some = some_below c.loop-exponents.exponents.layer c.loop-exponents.exponents.lower_end
+    (heights_of c.args.dimensions.now) c.loop-exponents.invariant.1.next_is c.loop-exponents-test.true in
+    let low = exponent_le c.extremes_of-max_height.result.0 64 (omega arith) in
+    (some, omega (arith, c.loop-exponents.invariant.0.room, ap exponent c.extremes_of-max_height.ensures.greatest))
+
 pub next_step-requires-clause-below : goal.next_step-requires-clause-below
-next_step-requires-clause-below c =
-    some_below c.loop-exponents.exponents.layer c.loop-exponents.exponents.lower_end
-    (heights_of c.args.dimensions.now) c.loop-exponents.invariant.1.next_is c.loop-exponents-test.true
+next_step-requires-clause-below c = (walking (goal.at.next_step-requires-clause-below c).In-loop-exponents).0
 
 pub next_step-requires-clause-layer : goal.next_step-requires-clause-layer
 next_step-requires-clause-layer c =
-    omega (
-      arith,
-      c.loop-exponents.invariant.0.room,
-      ap exponent c.extremes_of-max_height.ensures.greatest,
-      exponent_le c.extremes_of-max_height.result.0 64 (omega arith),
-    )
+    let at = walking (goal.at.next_step-requires-clause-layer c).In-loop-exponents in omega (arith, at.1)
 
 pub bounds-of_level-num_levels : goal.bounds-of_level-num_levels
 bounds-of_level-num_levels c =
-    omega (
-      arith,
-      c.loop-exponents.invariant.0.room,
-      some_below c.loop-exponents.exponents.layer c.loop-exponents.exponents.lower_end
-          (heights_of c.args.dimensions.now) c.loop-exponents.invariant.1.next_is c.loop-exponents-test.true,
-      ap exponent c.extremes_of-max_height.ensures.greatest,
-      exponent_le c.extremes_of-max_height.result.0 64 (omega arith),
-    )
+    let at = walking (goal.at.bounds-of_level-num_levels c).In-loop-exponents in omega (arith, at.0, at.1)
 
 pub offset_bounds-of_level-num_levels : goal.offset_bounds-of_level-num_levels
 offset_bounds-of_level-num_levels c =
-    omega (
-      arith,
-      c.loop-exponents.invariant.0.room,
-      some_below c.loop-exponents.exponents.layer c.loop-exponents.exponents.lower_end
-          (heights_of c.args.dimensions.now) c.loop-exponents.invariant.1.next_is c.loop-exponents-test.true,
-      some_below c.loop-exponents.exponents.layer c.loop-exponents.exponents.lower_end
-          (heights_of c.args.dimensions.now) c.loop-exponents.invariant.1.next_is c.loop-exponents-test.true,
-      ap exponent c.extremes_of-max_height.ensures.greatest,
-      exponent_le c.extremes_of-max_height.result.0 64 (omega arith),
-    )
+    let at = walking (goal.at.offset_bounds-of_level-num_levels c).In-loop-exponents in omega (arith, at.0, at.1)
 
 pub loop-exponents-smaller : goal.loop-exponents-smaller
 loop-exponents-smaller c = next_falls (shape_of c.args.arity c.args.dimensions.now) c.loop-exponents.exponents.layer
-    c.next_step.result.1.layer c.requires
-    (some_below c.loop-exponents.exponents.layer c.loop-exponents.exponents.lower_end
-    (heights_of c.args.dimensions.now) c.loop-exponents.invariant.1.next_is c.loop-exponents-test.true)
+    c.next_step.result.1.layer c.requires (walking (goal.at.loop-exponents-smaller c).In-loop-exponents).0
     c.next_step.ensures.layer
 
 pub loop-exponents-preserved : goal.loop-exponents-preserved
@@ -108,22 +91,14 @@ loop-exponents-preserved c =
     let kept = c.loop-exponents.of_level in
     let n = c.loop-exponents.num_levels in
     let at = c.loop-exponents.invariant.0 in
-    let some = some_below x c.loop-exponents.exponents.lower_end (heights_of c.args.dimensions.now)
-    c.loop-exponents.invariant.1.next_is c.loop-exponents-test.true in
-    let room : n < length kept = omega (
-      arith,
-      at.room,
-      some,
-      ap exponent c.extremes_of-max_height.ensures.greatest,
-      exponent_le c.extremes_of-max_height.result.0 64 (omega arith),
-      c.loop-exponents.invariant.2,
-    ) in
+    let (some, room) = walking (goal.at.loop-exponents-preserved c).In-loop-exponents in
     let step = level_is s n x y c.next_step.result.0 at.at_x found.bridge found.layer found.rows in (
       at_more s n x y c.requires at some found.layer,
       found.next,
       length-set kept n c.next_step.result.0
           ∙ c.loop-exponents.invariant.2,
-      kept_more s kept n c.next_step.result.0 c.loop-exponents.invariant.3 room step,
+      kept_more s kept n c.next_step.result.0 c.loop-exponents.invariant.3
+          (omega (arith, some, room, c.loop-exponents.invariant.2)) step,
       λ l above below. get_or-set_other kept n l c.next_step.result.0 none (λ same. omega (arith, same, above))
           ∙ c.loop-exponents.invariant.4 l (omega (arith, above))
           (omega (arith, below, length-set kept n c.next_step.result.0)),

@@ -3,7 +3,7 @@ use Rattle.std.specs.List.{range_with_len}
 use Rattle.p3_merkle_core.specs.Geometry.{shape_of}
 use Rattle.p3_merkle_core.specs.Inner.{Exponents.digits, Exponents.next_below, Exponents.AreExponents, Steps.level_step}
 use Rattle.p3_support.specs.Batches.{heights_of}
-use Rattle.p3_merkle_core.proofs.Shapes.{StepFacts.IsAt, WholeSteps.none}
+use Rattle.p3_merkle_core.proofs.Shapes.{StepFacts.IsAt, ExponentFacts.none}
 use Rattle.p3_merkle_core.proofs.steps.steps_of.Given as goal
 
 -- the bits so far and the rest's exponents tell all exponents

@@ -2,7 +2,7 @@ use Rattle.std.proofs.Common.{◌/◌, ◌<◌, ◌∙◌, arith, ap, false, ref
 use Rattle.std.proofs.lemmas.{Bool.le-ltb, Bool.lt-ltb, Nat.one_shl}
 use Rattle.p3_merkle_core.specs.Geometry.{shape_of, height_at}
 use Rattle.p3_merkle_core.proofs.Shapes.LevelFacts.{small_at, level_is, low, next_small, grouped_is}
-use Rattle.p3_merkle_core.proofs.{Covered.CoveredFacts.padded_le, Shapes.OwnedSteps.bridge_at}
+use Rattle.p3_merkle_core.proofs.{Covered.CoveredFacts.padded_le, Shapes.ExponentFacts.bridge_at}
 use Rattle.p3_merkle_core.proofs.steps.Steps.level_from.Goals.{then-self-below+then-len-arity, else-self-below}
 use Rattle.p3_merkle_core.proofs.steps.Steps.level_from.Goals.{else-self-below-via-then-self-below+else-len-arity}
 use Rattle.p3_merkle_core.proofs.steps.Steps.level_from.Goals.{else-self-below-via-else-self-below}
@@ -77,5 +77,6 @@ returns-clause-level c =
           ])
     ]) in
     level_is c.step_up-up.result.step c.step_up-up.result.exponent g c.padded_len.result c.height_of_exponent.result
-    c.step_up-up.result.has_rows c.requires c.step_up-up.ensures.step c.step_up-up.ensures.exponent grouped c.padded_len.ensures
-    (c.height_of_exponent.ensures ∙ ap (λ m. height_at m c.step_up-up.result.exponent) self.walked.tallest) c.step_up-up.ensures.rows
+    c.step_up-up.result.has_rows c.requires c.step_up-up.ensures.step c.step_up-up.ensures.exponent grouped
+    c.padded_len.ensures (c.height_of_exponent.ensures ∙ ap (λ m. height_at m c.step_up-up.result.exponent)
+    self.walked.tallest) c.step_up-up.ensures.rows

@@ -1,8 +1,7 @@
 -- Each turn is one level.
 use Rattle.std.proofs.Common.{◌<◌, arith, sym, add-one}
 use Rattle.p3_merkle_core.specs.Geometry.{levels, shape_of}
-use Rattle.p3_merkle_core.proofs.Shapes.SiblingFacts.{siblings_next, siblings_start, step_is}
-use Rattle.p3_merkle_core.proofs.Shapes.HalvingFacts.{siblings_halved}
+use Rattle.p3_merkle_core.proofs.Shapes.SiblingFacts.{siblings_next, siblings_start, step_is, siblings_halved}
 use Rattle.p3_merkle_core.proofs.steps.Steps.siblings_below.Goals as goal
 
 pub loop-level-init : goal.loop-level-init

@@ -1,7 +1,7 @@
 -- Two, or the arity.
 use Rattle.std.proofs.Common.{ap, cond, false, sym, ◌∙◌}
 use Rattle.p3_merkle_core.specs.Geometry.{shape_of}
-use Rattle.p3_merkle_core.proofs.Shapes.OwnedSteps.{bridge_at}
+use Rattle.p3_merkle_core.proofs.Shapes.ExponentFacts.{bridge_at}
 use Rattle.p3_merkle_core.proofs.steps.Steps.step.Goals as goal
 
 pub returns-then-self-level : goal.returns-then-self-level
