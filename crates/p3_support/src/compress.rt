@@ -17,10 +17,16 @@ pub trait PseudoCompressionFunction<PW: PackedValue, const N: usize, const D: us
     fn compress(&self, input: [[PW::Value; D]; N]) -> [PW::Value; D]
         ensures { result ≡ compression self.now input };
 
-    /// Writes the digest of `groups[i]` into `out[i]`. `out` must be as long as `groups`.
+    /// Writes the digest of `groups[i]` into `out[i]`. `out` must be as long as `groups`. They are compressed one by
+    /// one, unless the compression has its own call.
     fn compress_many(&self, groups: &[[[PW::Value; D]; N]], out: &mut [[PW::Value; D]])
         requires { length groups.now ≡ length out.old }
-        ensures { out.new ≡ map (compression self.now) groups.now };
+        ensures { out.new ≡ map (compression self.now) groups.now }
+    {
+        for (i, digest) in out.iter_mut().enumerate() {
+            *digest = self.compress(groups[i]);
+        }
+    }
 
     /// The digests of `PW::WIDTH` groups, packed value by value: lane `k` of the result is the digest of the group in
     /// the lanes `k` of `input`.

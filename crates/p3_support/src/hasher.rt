@@ -40,11 +40,21 @@ pub trait CryptographicHasher<P: PackedValue, PW: PackedValue, const D: usize> {
             result ≡ hash self.now (flat_map S.items p.items)) };
 
     /// Writes the digest of message `i` into `out[i]`. `messages` has as many messages as `out` has places, one after
-    /// another and of one length `w`: message `i` is `messages[i * w..(i + 1) * w]`.
+    /// another and of one length `w`: message `i` is `messages[i * w..(i + 1) * w]`. They are hashed one by one, unless
+    /// the hasher has its own call.
     fn hash_many(&self, messages: &[P::Value], out: &mut [[PW::Value; D]])
         requires { (w : ℕ) × (length messages.now ≡ w * length out.old) }
         ensures { (w : ℕ) → length messages.now ≡ w * length out.old →
-            out.new ≡ map (hash self.now) (messages_of w (length out.old) messages.now) };
+            out.new ≡ map (hash self.now) (messages_of w (length out.old) messages.now) }
+    {
+        if out.is_empty() {
+            return;
+        }
+        let width = messages.len() / out.len();
+        for (i, digest) in out.iter_mut().enumerate() {
+            *digest = self.hash_slice(&messages[i * width..(i + 1) * width]);
+        }
+    }
 
     /// The digests of `P::WIDTH` messages, packed word by word: lane `k` of the result is the digest of the lanes `k`
     /// of the items, for each lane that both packings have. `input` must be finite.

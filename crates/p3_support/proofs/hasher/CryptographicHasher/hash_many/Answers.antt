@@ -1,0 +1,17 @@
+-- Each place has the digest of its message.
+use Rattle.std.proofs.Common.{rules, arith, ◌≡◌, ◌<◌, ◌/◌, ◌∙◌, sym, ap, length, []}
+use Rattle.std.proofs.{Math.Nat.mul-div_cancel, lemmas.List.FromFn.fill_by_all, lemmas.Simd.map-map}
+use Rattle.std.specs.List.{range_with_len}
+use Rattle.p3_support.specs.Lists.{message}
+use Rattle.p3_support.proofs.hasher.CryptographicHasher.hash_many.Goals as goal
+
+pub returns : goal.returns
+returns g c = λ w e.
+    let xs = c.args.messages.now in
+    let n = length c.args.out.now in
+    let hash = g.Self.CryptographicHasher.hash c.args.self.now in
+    let some : 0 < n = search rules in
+    let width : length xs / n ≡ w = rw e (mul-div_cancel w some) in
+    fill_by_all (λ i. hash (message w xs i)) c.loop-i.out n [] c.loop-i.invariant.0
+    (λ k h. c.loop-i.invariant.1 k (omega arith) ∙ ap (λ v. hash (message v xs k)) width)
+    ∙ sym (map-map hash (message w xs) (range_with_len 0 n))

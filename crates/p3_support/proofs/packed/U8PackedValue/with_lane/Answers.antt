@@ -1,5 +1,0 @@
-use Rattle.std.proofs.Common.{rules}
-use Rattle.p3_support.proofs.packed.U8PackedValue.with_lane.Goals as goal
-
-pub returns : goal.returns
-returns c = search rules
