@@ -2,6 +2,7 @@ pub mod FoldSteps
 pub mod Parts
 pub mod Turns
 pub mod Lanewise
+pub mod Written
 pub mod Majority
 pub mod Padding
 pub mod Pieces

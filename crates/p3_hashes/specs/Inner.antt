@@ -2,4 +2,5 @@
 pub mod Eights
 pub mod Turned
 pub mod Lanes
+pub mod Written
 pub mod Inputs

@@ -40,16 +40,6 @@ impl<
         self.0.hash_iter_slices(input)
     }
 
-    fn hash_many(&self, messages: &[P::Value], out: &mut [[PW::Value; D]]) {
-        if out.is_empty() {
-            return;
-        }
-        let width = messages.len() / out.len();
-        for (i, digest) in out.iter_mut().enumerate() {
-            *digest = self.0.hash_slice(&messages[i * width..(i + 1) * width]);
-        }
-    }
-
     fn hash_packed<I: Iterator<Item = P>>(&self, input: I) -> [PW; D] {
         self.0.hash_packed(input)
     }
@@ -69,12 +59,6 @@ impl<
         ensures { result ≡ X.compression self.now.0 input }
     {
         self.0.compress(input)
-    }
-
-    fn compress_many(&self, groups: &[[[PW::Value; D]; N]], out: &mut [[PW::Value; D]]) {
-        for (i, digest) in out.iter_mut().enumerate() {
-            *digest = self.0.compress(groups[i]);
-        }
     }
 
     fn compress_packed(&self, input: [[PW; D]; N]) -> [PW; D]

@@ -8,7 +8,7 @@ ghost use Rattle.p3_hashes.specs.Fold.{fold_hash, fold_compress, take_in};
 
 use crate::fold::{FoldLane, absorb, compress_group, compress_lanes, hash_words, initial_state};
 use crate::lanes::{U32x8, transpose};
-use p3_support::packed::{pack_columns_fn, unpack_at};
+use p3_support::packed::{lemma_rows, pack_columns_fn, unpack_at};
 use std::simd::prelude::*;
 
 /// The longest digest, in words, for which eight messages are hashed together. A longer one leaves no registers for the
@@ -17,15 +17,6 @@ const MOST_HASHED: usize = 4;
 
 /// The longest digest, in words, for which eight groups are compressed together. A longer one fills vectors by itself.
 const MOST_COMPRESSED: usize = 1;
-
-/// Word `column` of message `message`. The messages lie one after another, of `width` words each.
-fn word_at(messages: &[u32], width: usize, message: usize, column: usize) -> u32
-    requires full { (n : ℕ) × (message < n) × (length messages.now ≡ n * width) }
-    requires inside { column < width }
-    ensures { result ≡ slice_index_or (message_of width messages.now message) column 0 }
-{
-    messages[message * width + column]
-}
 
 /// Packs word `column` of `P::WIDTH` messages: lane `k` is from message `first + k`.
 fn column_of<P: FoldLane>(messages: &[u32], width: usize, first: usize, column: usize) -> P
@@ -43,7 +34,7 @@ fn column_of<P: FoldLane>(messages: &[u32], width: usize, first: usize, column: 
             requires inside { column < width }
             ensures { result
                 ≡ slice_index_or (message_of width messages.entry.now (first + k)) column 0 }
-        { word_at(messages, width, first + k, column) },
+        { messages[(first + k) * width + column] },
     )
 }
 
@@ -209,20 +200,6 @@ pub(crate) fn hash_all<const D: usize>(messages: &[u32], width: usize, out: &mut
     hash_rest(messages, width, 8 * (out.len() / 8), out);
 }
 
-/// Child `place` of group `group`.
-fn child_of<const N: usize, const D: usize>(
-    groups: &[[[u32; D]; N]],
-    group: usize,
-    place: usize,
-) -> &[u32]
-    requires group { group < length groups.now }
-    requires inside { place < N }
-    ensures child { result.now ≡ slice_index_or (slice_index_or groups.now group []) place [] }
-    ensures long { length result.now ≡ D }
-{
-    &groups[group][place]
-}
-
 /// Packs child `place` of `P::WIDTH` groups: lane `k` is from group `first + k`.
 fn pack_child<P: FoldLane, const N: usize, const D: usize>(
     groups: &[[[u32; D]; N]],
@@ -242,23 +219,8 @@ fn pack_child<P: FoldLane, const N: usize, const D: usize>(
             ensures child { result.now
                 ≡ slice_index_or (slice_index_or groups.entry.now (first + k) []) place [] }
             ensures long { length result.now ≡ D }
-        { child_of(groups, first + k, place) },
+        { &groups[first + k][place] },
     )
-}
-
-/// States that a group has `N` children.
-fn lemma_group<const N: usize, const D: usize>(group: &[[u32; D]; N])
-    ensures { length group.now ≡ N }
-{}
-
-/// States that each of the `P::WIDTH` groups from `first` on has `N` children.
-fn lemma_groups<P: FoldLane, const N: usize, const D: usize>(groups: &[[[u32; D]; N]], first: usize)
-    requires { first + P.WIDTH ≤ length groups.now }
-    ensures { (k : ℕ) → k < P.WIDTH → length (slice_index_or groups.now (first + k) []) ≡ N }
-{
-    for k in 0..P::WIDTH {
-        lemma_group(&groups[first + k]);
-    }
 }
 
 /// Packs `P::WIDTH` groups: lane `k` is group `first + k`.
@@ -270,7 +232,7 @@ fn pack_groups<P: FoldLane, const N: usize, const D: usize>(
     ensures { (k : ℕ) → k < P.WIDTH →
         map (lane_of P.lanes P.default_value k) result ≡ slice_index_or groups.now (first + k) [] }
 {
-    lemma_groups::<P, N, D>(groups, first);
+    lemma_rows(groups);
     std::array::from_fn(
         |place| -> [P; D]
             requires groups { first + P.WIDTH ≤ length groups.now }

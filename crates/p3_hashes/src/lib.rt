@@ -14,7 +14,6 @@ mod eights;
 pub mod fold;
 pub mod lanes;
 pub mod laws;
-mod many;
 mod messages;
 pub mod padded;
 pub mod sha;

@@ -63,16 +63,6 @@ impl CryptographicHasher<u8, u8, 32> for Sha256Rows {
         hasher.finalize()
     }
 
-    fn hash_many(&self, messages: &[u8], out: &mut [[u8; 32]]) {
-        if out.is_empty() {
-            return;
-        }
-        let width = messages.len() / out.len();
-        for (i, digest) in out.iter_mut().enumerate() {
-            *digest = Sha256::digest(&messages[i * width..(i + 1) * width]);
-        }
-    }
-
     fn hash_packed<I: Iterator<Item = u8>>(&self, input: I) -> [u8; 32] {
         hash_bytes(input)
     }
@@ -124,15 +114,8 @@ where
         Sha256::array(hash_group(&input))
     }
 
-    fn compress_many(&self, groups: &[[[u8; D]; N]], out: &mut [[u8; D]]) {
-        for (i, digest) in out.iter_mut().enumerate() {
-            *digest = Sha256::array(hash_group(&groups[i]));
-        }
-    }
-
     fn compress_packed(&self, input: [[u8; D]; N]) -> [u8; D]
-        ensures { (k : ℕ) → k < 1 →
-            lane_of (λ byte. byte ∷ []) 0 k result
+        ensures { (k : ℕ) → k < 1 → lane_of (λ byte. byte ∷ []) 0 k result
             ≡ sha256_nodes (map (lane_of (λ byte. byte ∷ []) 0 k) input.entry) }
     {
         Sha256::array(hash_group(&input))

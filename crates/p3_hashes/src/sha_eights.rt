@@ -1,13 +1,14 @@
 //! SHA-256 (FIPS 180-4) of rows of bytes, and of digests one after another, by calls that take eight messages at a
 //! time. The functions are those of `sha`, so that a tree built with these is the tree built with those.
-ghost use Rattle.std.specs.Prelude.{◌≡◌, ℕ, ◌<◌, ◌∷◌, [], map};
+ghost use Rattle.std.specs.Prelude.{◌≡◌, ℕ, ◌<◌, ◌∷◌, [], length, map, slice_index_or};
 ghost use Rattle.p3_support.specs.Lists.{lane_of};
 ghost use Rattle.p3_hashes.specs.Sha.{sha256_rows, sha256_nodes};
 
-use crate::many::{hash_groups, hash_rows};
+use crate::messages::hash_all;
 use crate::sha::{DigestSize, Sha256Nodes, Sha256Rows};
 use p3_support::compress::PseudoCompressionFunction;
 use p3_support::hasher::CryptographicHasher;
+use p3_support::packed::lemma_rows;
 use sha2::Sha256;
 use std::convert::AsSlice;
 
@@ -36,12 +37,27 @@ impl CryptographicHasher<u8, u8, 32> for Sha256RowsInEights {
     }
 
     fn hash_many(&self, messages: &[u8], out: &mut [[u8; 32]]) {
-        hash_rows(messages, out);
+        // With no messages their width is unknown.
+        if out.is_empty() {
+            return;
+        }
+        let width = messages.len() / out.len();
+        hash_all(messages, width, out);
     }
 
     // A byte is packed alone, so that there is but one message.
     fn hash_packed<I: Iterator<Item = u8>>(&self, input: I) -> [u8; 32] {
         Sha256Rows.hash_packed(input)
+    }
+}
+
+/// States that each digest of each group has `D` bytes.
+fn lemma_digests<const N: usize, const D: usize>(groups: &[[[u8; D]; N]])
+    ensures { (k e : ℕ) → k < length groups.now → e < length (slice_index_or groups.now k []) →
+        length (slice_index_or (slice_index_or groups.now k []) e []) ≡ D }
+{
+    for k in 0..groups.len() {
+        lemma_rows(&groups[k]);
     }
 }
 
@@ -66,12 +82,15 @@ where
     }
 
     fn compress_many(&self, groups: &[[[u8; D]; N]], out: &mut [[u8; D]]) {
-        hash_groups(groups, out);
+        lemma_rows(groups);
+        lemma_digests(groups);
+        // The digests of a group lie one after another already, so that nothing is copied.
+        let bytes = groups.as_flattened().as_flattened();
+        hash_all(bytes, N * D, out);
     }
 
     fn compress_packed(&self, input: [[u8; D]; N]) -> [u8; D]
-        ensures { (k : ℕ) → k < 1 →
-            lane_of (λ byte. byte ∷ []) 0 k result
+        ensures { (k : ℕ) → k < 1 → lane_of (λ byte. byte ∷ []) 0 k result
             ≡ sha256_nodes (map (lane_of (λ byte. byte ∷ []) 0 k) input.entry) }
     {
         Sha256Nodes::<N>.compress_packed(input)

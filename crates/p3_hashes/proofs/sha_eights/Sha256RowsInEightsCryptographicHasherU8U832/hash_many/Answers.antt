@@ -3,7 +3,7 @@ use Rattle.std.proofs.{Math.Nat.mul-div_cancel, lemmas.List.FromFn.fill_by_all, 
 use Rattle.std.specs.List.{range_with_len}
 use Rattle.sha2.specs.Sha256.{sha256}
 use Rattle.p3_support.specs.Lists.{message}
-use Rattle.p3_hashes.proofs.many.hash_rows.Goals as goal
+use Rattle.p3_hashes.proofs.sha_eights.Sha256RowsInEightsCryptographicHasherU8U832.hash_many.Goals as goal
 
 pub returns : goal.returns
 returns c = λ w e.

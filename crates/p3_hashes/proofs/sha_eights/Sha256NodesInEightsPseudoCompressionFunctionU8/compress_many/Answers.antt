@@ -4,7 +4,7 @@ use Rattle.std.specs.List.{concat, flat_map}
 use Rattle.sha2.specs.Sha256.{sha256}
 use Rattle.p3_support.specs.Lists.{message}
 use Rattle.p3_hashes.proofs.Pieces.{message_of_group}
-use Rattle.p3_hashes.proofs.many.hash_groups.Goals as goal
+use Rattle.p3_hashes.proofs.sha_eights.Sha256NodesInEightsPseudoCompressionFunctionU8.compress_many.Goals as goal
 
 pub returns : goal.returns
 returns g c =

@@ -1,5 +1,0 @@
-use Rattle.std.proofs.Common.{◌≡◌, ℕ, ◌+◌, ◌<◌, length, slice_index_or, []}
-use Rattle.p3_hashes.proofs.eights.lemma_groups.Given as goal
-
-abbrev pub invariant-loop-k : goal.invariant-loop-k
-invariant-loop-k g l = (j : ℕ) → j < l.k → length (slice_index_or l.groups (l.first + j) []) ≡ g.row.N

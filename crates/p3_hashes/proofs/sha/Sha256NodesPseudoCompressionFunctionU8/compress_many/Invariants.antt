@@ -1,8 +1,0 @@
-use Rattle.std.proofs.Common.{◌≡◌, ℕ, ◌<◌, length, slice_index_or, []}
-use Rattle.p3_hashes.specs.Sha.{sha256_nodes}
-use Rattle.p3_hashes.proofs.sha.Sha256NodesPseudoCompressionFunctionU8.compress_many.Given as goal
-
-abbrev pub invariant-loop-i : goal.invariant-loop-i
-invariant-loop-i g l =
-    (length l.out ≡ length l.initial.out)
-    × ((j : ℕ) → j < l.i → slice_index_or l.out j [] ≡ sha256_nodes (slice_index_or l.groups j []))
