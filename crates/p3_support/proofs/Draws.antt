@@ -1,12 +1,12 @@
 -- Values made from the words of a stream: one more, and all.
-use Rattle.std.proofs.Common.{◌≡◌, ℕ, zero, suc, ◌+◌, ◌*◌, ◌/◌, ◌<◌, ◌≤◌, List, ◌∷◌, ◌++◌, refl, sym, ap, ◌∙◌, arith}
+use Rattle.std.proofs.Common.{◌≡◌, ℕ, zero, suc, ◌+◌, ◌*◌, ◌/◌, ◌<◌, ◌≤◌, ◌∷◌, ◌++◌, refl, sym, ap, ◌∙◌, arith}
 use Rattle.std.proofs.{Common.append_assoc, Common.map, Math.Nat.mul-div_cancel}
-use Rattle.std.specs.{Prelude.Option, Prelude.Some, Option.SomeIff}
+use Rattle.std.specs.{Prelude.Option, Prelude.Some, Option.SomeIff, declared.vec.Vec.Vec}
 use Rattle.rand_core.specs.Stream.{Stream, next_u64}
-use Rattle.p3_support.specs.Salts.{after_words, salts}
+use Rattle.p3_support.specs.{Salts.after_words, Salts.salts, Inner.Drawn.AreDrawn}
 
 -- the values of some words and of those after them
-pub salts_joined : {A : Type 0} (of_word : ℕ → A) (a b : ℕ) (s : Stream) →
+salts_joined : {A : Type 0} (of_word : ℕ → A) (a b : ℕ) (s : Stream) →
     salts of_word (a + b) s ≡ salts of_word a s ++ salts of_word b (after_words a s)
 salts_joined of_word zero b s = let none : 0 + b ≡ b = omega arith in rw none refl
 salts_joined of_word (suc a) b s =
@@ -14,43 +14,32 @@ salts_joined of_word (suc a) b s =
     rw count (ap (λ xs. of_word (next_u64 s).0 ∷ xs) (salts_joined of_word a b (next_u64 s).1))
 
 -- and the stream behind them
-pub after_joined : (a b : ℕ) (s : Stream) → after_words (a + b) s ≡ after_words b (after_words a s)
+after_joined : (a b : ℕ) (s : Stream) → after_words (a + b) s ≡ after_words b (after_words a s)
 after_joined zero b s = let none : 0 + b ≡ b = omega arith in rw none refl
 after_joined (suc a) b s =
     let count : suc a + b ≡ suc (a + b) = omega arith in rw count (after_joined a b (next_u64 s).1)
 
 -- values are made from the words themselves
-salts_mapped : {A : Type 0} (of_word : ℕ → A) (n : ℕ) (s : Stream) →
+pub salts_mapped : {A : Type 0} (of_word : ℕ → A) (n : ℕ) (s : Stream) →
     map of_word (salts (λ w. w) n s) ≡ salts of_word n s
 salts_mapped of_word zero s = refl
 salts_mapped of_word (suc n) s =
     ap (λ xs. of_word (next_u64 s).0 ∷ xs) (salts_mapped of_word n (next_u64 s).1)
 
--- the values of some more words join those before them
-pub salts_further : {A : Type 0} (of_word : ℕ → A) (before xs ys : List A) (words : List ℕ) (n m k : ℕ)
-    (start s : Stream) → n ≡ m + k → s ≡ after_words m start → words ≡ salts (λ w. w) k s
-    → ys ≡ xs ++ map of_word words → xs ≡ before ++ salts of_word m start → ys ≡ before ++ salts of_word n start
-salts_further of_word before xs ys words n m k start s count behind drawn pushed held =
-    let mapped : map of_word (salts (λ w. w) k s) ≡ salts of_word k s = salts_mapped of_word k s in
-    let joined : salts of_word (m + k) start
-    ≡ salts of_word m start ++ salts of_word k (after_words m start) = salts_joined of_word m k start in
-    rw (count, pushed, held, drawn, mapped, behind, append_assoc, joined) refl
-
--- and the stream is behind them
-pub after_further : (n m k : ℕ) (start s t : Stream) → n ≡ m + k → s ≡ after_words m start → t ≡ after_words k s →
-    t ≡ after_words n start
-after_further n m k start s t count behind rest =
-    let joined : after_words (m + k) start ≡ after_words k (after_words m start) = after_joined m k start in
-    rw (count, rest, behind, joined) refl
-
--- the values of some words, and behind them those of the rest, are all
-pub salts_whole : {A : Type 0} (of_word : ℕ → A) (xs ys : List A) (n m k : ℕ) (start s : Stream) → n ≡ m + k
-    → s ≡ after_words m start → xs ≡ salts of_word m start → ys ≡ xs ++ salts of_word k s
-    → ys ≡ salts of_word n start
-salts_whole of_word xs ys n m k start s count behind held pushed =
-    let joined : salts of_word (m + k) start
-    ≡ salts of_word m start ++ salts of_word k (after_words m start) = salts_joined of_word m k start in
-    rw (count, pushed, held, behind, joined) refl
+-- the values of some more words
+pub drawn_more : {T A : Type 0} {of_word : ℕ → T} {m k n : ℕ} {old xs ys : Vec T A} {start s t : Stream}
+    → AreDrawn of_word m old xs start s → AreDrawn of_word k xs ys s t → n ≡ m + k → AreDrawn of_word n old ys start t
+drawn_more {of_word = of_word} {m = m} {k = k} {start = start} so_far more count = record {
+  items =
+      let joined : salts of_word (m + k) start
+      ≡ salts of_word m start ++ salts of_word k (after_words m start) = salts_joined of_word m k start in
+      rw (count, more.items, so_far.items, so_far.rest, append_assoc, joined) refl;
+  len = omega (arith, so_far.len, more.len);
+  capacity = more.capacity ∙ so_far.capacity;
+  rest =
+      let joined : after_words (m + k) start ≡ after_words k (after_words m start) = after_joined m k start in
+      rw (count, more.rest, so_far.rest, joined) refl;
+}
 
 -- a product that was made is below its limit
 pub product_made : (r : Option ℕ) (product limit n : ℕ) → SomeIff r (product < limit) product → r ≡ Some n →

@@ -1,7 +1,7 @@
 -- Lists that are filled place by place.
 use Rattle.std.proofs.Common.{◌≡◌, ℕ, ◌+◌, ◌-◌, ◌<◌, ◌≤◌, List, ◌++◌, length, take, get_or, set, ap, ◌∙◌, arith, inl}
-use Rattle.std.proofs.{Common.inr, lemmas.List.get_or-set_same, lemmas.List.get_or-set_other}
-use Rattle.std.proofs.lemmas.{List.get_or-append_right, List.length-take-le, Bool.cases_eq, Bool.cases_lt}
+use Rattle.std.proofs.{Common.inr, lemmas.Bool.cases_eq}
+use Rattle.std.proofs.lemmas.List.{get_or-append_right, get_or-set_other, get_or-set_same, length-take-le}
 use lib.ListN.{get_or-append}
 use borrow.Rule.Slice.PartMut.{put_mid, post_of}
 
@@ -13,16 +13,6 @@ filled_more f xs i y d inside made before j below =
     elim (cases_eq j i) [
       | inl same ↦ rw same (get_or-set_same xs i y d inside ∙ made)
       | inr other ↦ let low : j < i = omega (arith, below, other) in get_or-set_other xs i j y d other ∙ before j low
-    ]
-
--- as many more places as there are lanes that have what they should
-pub filled_block : {X : Type 0} (f : ℕ → X) (xs ys : List X) (first n : ℕ) (d : X) →
-    ((k : ℕ) → k < n → get_or ys (first + k) d ≡ f (first + k)) → ((j : ℕ) → j < first → get_or ys j d ≡ get_or xs j d)
-    → ((j : ℕ) → j < first → get_or xs j d ≡ f j) → (j : ℕ) → j < first + n → get_or ys j d ≡ f j
-filled_block f xs ys first n d here before so_far j below =
-    elim (cases_lt j first) [
-      | inl low ↦ before j low ∙ so_far j low
-      | inr high ↦ let same : first + (j - first) ≡ j = omega arith in rw same at (here (j - first) (omega arith))
     ]
 
 -- what stands in a part of a list once that part is written

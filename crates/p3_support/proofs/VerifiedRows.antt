@@ -4,7 +4,8 @@ use Rattle.std.proofs.{Common.subst, lemmas.List.get_or-map, lemmas.List.length-
 use Rattle.std.specs.{Prelude.slice_index, List.AllZip, Vec.vec_len}
 use Rattle.p3_support.specs.{Batches.widths_of, Shown.row_lists, Shown.row_sets, declared.matrix.Dimensions.Dimensions}
 
-module _ {T A : Type 0} (ds : List Dimensions) (rows : List (Vec T A)) (fit : map length (row_lists rows) ≡ widths_of ds)
+module _ {T A : Type 0} (ds : List Dimensions) (rows : List (Vec T A))
+    (fit : map length (row_lists rows) ≡ widths_of ds)
   where
     -- there are as many rows as dimensions
     pub as_many : length rows ≡ length ds

@@ -2,3 +2,4 @@
 pub mod RowLengths
 pub mod PairLengths
 pub mod Stored
+pub mod Drawn

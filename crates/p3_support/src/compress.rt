@@ -31,7 +31,6 @@ pub trait PseudoCompressionFunction<PW: PackedValue, const N: usize, const D: us
     /// The digests of `PW::WIDTH` groups, packed value by value: lane `k` of the result is the digest of the group in
     /// the lanes `k` of `input`.
     fn compress_packed(&self, input: [[PW; D]; N]) -> [PW; D]
-        ensures { (k : ℕ) → k < PW.WIDTH →
-            lane_of PW.lanes PW.default_value k result
+        ensures { (k : ℕ) → k < PW.WIDTH → lane_of PW.lanes PW.default_value k result
             ≡ compression self.now (map (lane_of PW.lanes PW.default_value k) input) };
 }

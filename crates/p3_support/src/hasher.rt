@@ -36,8 +36,7 @@ pub trait CryptographicHasher<P: PackedValue, PW: PackedValue, const D: usize> {
     ) -> [PW::Value; D]
         requires can { I.can_next input }
         requires ends { IsFinite (I.remaining input) }
-        ensures { WholeRun I.next_gives input (λ p.
-            result ≡ hash self.now (flat_map S.items p.items)) };
+        ensures { WholeRun I.next_gives input (λ p. result ≡ hash self.now (flat_map S.items p.items)) };
 
     /// Writes the digest of message `i` into `out[i]`. `messages` has as many messages as `out` has places, one after
     /// another and of one length `w`: message `i` is `messages[i * w..(i + 1) * w]`. They are hashed one by one, unless
@@ -62,6 +61,5 @@ pub trait CryptographicHasher<P: PackedValue, PW: PackedValue, const D: usize> {
         requires can { I.can_next input }
         requires ends { IsFinite (I.remaining input) }
         ensures { WholeRun I.next_gives input (λ p. (k : ℕ) → k < P.WIDTH → k < PW.WIDTH →
-            lane_of PW.lanes PW.default_value k result
-            ≡ hash self.now (lane_of P.lanes P.default_value k p.items)) };
+            lane_of PW.lanes PW.default_value k result ≡ hash self.now (lane_of P.lanes P.default_value k p.items)) };
 }

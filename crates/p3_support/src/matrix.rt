@@ -136,12 +136,10 @@ pub trait Matrix<T> {
     }
 
     // Every row has as many elements as the matrix is wide.
-    ghost length_row_of: { (m : Self) (r : ℕ) → r < height_of m →
-        length (row_of m r) ≡ width_of m };
+    ghost length_row_of: { (m : Self) (r : ℕ) → r < height_of m → length (row_of m r) ≡ width_of m };
 }
 
-// A reference to a matrix is a matrix, too, so that a call that takes a slice of matrices also takes a slice of
-// references.
+// So that a call that takes a slice of matrices also takes a slice of references.
 impl<T, M: Matrix<T>> Matrix<T> for &M {
     ghost height_of = { λ m. M.height_of m.now };
 
@@ -184,8 +182,7 @@ impl<'a, T, M: Matrix<T>> Model for Row<'a, T, M> {
 
     ghost view = { λ s. drop s.next (M.row_of s.matrix.now s.row) };
 
-    ghost invariant = { λ s.
-        (s.row < M.height_of s.matrix.now) × (s.next ≤ M.width_of s.matrix.now) };
+    ghost invariant = { λ s. (s.row < M.height_of s.matrix.now) × (s.next ≤ M.width_of s.matrix.now) };
 }
 
 impl<'a, T, M: Matrix<T>> Iterator for Row<'a, T, M> {
@@ -224,8 +221,7 @@ impl<'a, T, P: PackedValue<Value = T>, M: Matrix<T>> Model for PackedRow<'a, T, 
     ghost view = { λ s. drop s.next
         (columns (M.row_of s.matrix.now) P.default_value s.row P.WIDTH (M.width_of s.matrix.now)) };
 
-    ghost invariant = { λ s.
-        (s.row + P.WIDTH ≤ M.height_of s.matrix.now) × (s.next ≤ M.width_of s.matrix.now) };
+    ghost invariant = { λ s. (s.row + P.WIDTH ≤ M.height_of s.matrix.now) × (s.next ≤ M.width_of s.matrix.now) };
 }
 
 impl<'a, T, P: PackedValue<Value = T>, M: Matrix<T>> Iterator for PackedRow<'a, T, P, M> {
@@ -245,8 +241,7 @@ impl<'a, T, P: PackedValue<Value = T>, M: Matrix<T>> Iterator for PackedRow<'a, 
     }
 }
 
-/// Packs one column of `P::WIDTH` rows from `row` on: lane `k` is the element of row `row + k`. `row + P::WIDTH` must
-/// be at most the height, and the column below the width.
+/// Packs one column of `P::WIDTH` rows from `row` on: lane `k` is the element of row `row + k`.
 pub(crate) fn packed_column<P: PackedValue, M: Matrix<P::Value>>(
     matrix: &M,
     row: usize,
@@ -254,8 +249,7 @@ pub(crate) fn packed_column<P: PackedValue, M: Matrix<P::Value>>(
 ) -> P
     requires rows { row + P.WIDTH ≤ M.height_of matrix.now }
     requires column { column < M.width_of matrix.now }
-    ensures { P.lanes result
-        ≡ column_of_rows (M.row_of matrix.now) P.default_value row P.WIDTH column }
+    ensures { P.lanes result ≡ column_of_rows (M.row_of matrix.now) P.default_value row P.WIDTH column }
 {
     // For the proof alone: the height fits `usize`, and so does the index of each row.
     let _height = matrix.height();
@@ -310,8 +304,7 @@ impl<T> RowMajorMatrix<T> {
         }
     }
 
-    /// The matrix of these values, with `width` of them in a row, as [`new`](Self::new) makes it: for values from
-    /// outside, whose number is not known to fit.
+    /// As [`new`](Self::new), for values from outside, whose number is not known to fit.
     ///
     /// # Errors
     ///

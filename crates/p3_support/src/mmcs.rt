@@ -10,15 +10,12 @@ use crate::opening::{BatchOpening, BatchOpeningRef};
 use std::alloc::Global;
 
 /// A scheme that commits to several matrices `M` of words `T` at once, opens the rows that belong to an index, and
-/// verifies an opening against the commitment (`Mmcs` in the Rust crate).
-///
-/// An index counts the rows of the tallest matrix, from 0. The verifier has the commitment and the dimensions of the
-/// matrices, and no matrix.
+/// verifies an opening against the commitment (`Mmcs` in the Rust crate). An index counts the rows of the tallest
+/// matrix, from 0. The verifier has the commitment and the dimensions of the matrices, and no matrix.
 ///
 /// An accepted opening fits the dimensions: its index is below the tallest height, and it has one row of the right
 /// width for each matrix. The trait does not promise that a commitment fixes the rows: two different openings of one
-/// index may both be accepted. Each scheme says what follows from two such openings, by a call of its own such as
-/// `extract_collision`.
+/// index may both be accepted. Each scheme says what follows from that, by a call such as `extract_collision`.
 pub trait Mmcs<T, M: Matrix<T>> {
     /// What the prover stores, to open rows from.
     type ProverData: Drop;
@@ -208,13 +205,11 @@ pub trait Mmcs<T, M: Matrix<T>> {
 
     // What an accepted proof claims is shown, of one index and of several.
     ghost shown_by_one: { (s : Self) (c : Self.Commitment) (ds : List Dimensions) (index : ℕ) (rows : List (List T))
-        (proof : Self.Proof) →
-        accepts s c ds index rows proof → is_shown s c ds index rows };
+        (proof : Self.Proof) → accepts s c ds index rows proof → is_shown s c ds index rows };
 
     ghost shown_by_all: { (s : Self) (c : Self.Commitment) (ds : List Dimensions) (indices : List ℕ)
-        (sets : List (List (List T)))
-        (proof : Self.MultiProof) →
-        accepts_all s c ds indices sets proof → AllZip (is_shown s c ds) indices sets };
+        (sets : List (List (List T))) (proof : Self.MultiProof) → accepts_all s c ds indices sets proof →
+        AllZip (is_shown s c ds) indices sets };
 
     // What is shown fits the dimensions, so that a verifier may index by these what it has verified.
     ghost shown_fits: { (s : Self) (c : Self.Commitment) (ds : List Dimensions) (index : ℕ) (rows : List (List T)) →
@@ -227,11 +222,9 @@ pub trait Mmcs<T, M: Matrix<T>> {
         agrees s t → commits_to s c d → commits_to t c d };
 
     ghost agreed_proof: { (s t : Self) (c : Self.Commitment) (ds : List Dimensions) (index : ℕ) (rows : List (List T))
-        (proof : Self.Proof) →
-        agrees s t → accepts s c ds index rows proof → accepts t c ds index rows proof };
+        (proof : Self.Proof) → agrees s t → accepts s c ds index rows proof → accepts t c ds index rows proof };
 
     ghost agreed_proof_of_all: { (s t : Self) (c : Self.Commitment) (ds : List Dimensions) (indices : List ℕ)
-        (sets : List (List (List T)))
-        (proof : Self.MultiProof) →
-        agrees s t → accepts_all s c ds indices sets proof → accepts_all t c ds indices sets proof };
+        (sets : List (List (List T))) (proof : Self.MultiProof) → agrees s t →
+        accepts_all s c ds indices sets proof → accepts_all t c ds indices sets proof };
 }

@@ -118,11 +118,7 @@ impl<T, Proof> BatchOpening<T, Proof> {
         ensures values { result.0 ≡ self.opened_values }
         ensures proof { result.1 ≡ self.opening_proof }
     {
-        let BatchOpening {
-            opened_values,
-            opening_proof,
-        } = self;
-        (opened_values, opening_proof)
+        (self.opened_values, self.opening_proof)
     }
 }
 
@@ -161,8 +157,7 @@ impl<'a, T, Proof> BatchOpeningRef<'a, T, Proof> {
 }
 
 impl<'a, T, Proof> From<&'a BatchOpening<T, Proof>> for BatchOpeningRef<'a, T, Proof> {
-    ghost from_gives = { λ opening lent.
-        (lent.opened_values.now ≡ opening.now.opened_values.items)
+    ghost from_gives = { λ opening lent. (lent.opened_values.now ≡ opening.now.opened_values.items)
         × (lent.opening_proof.now ≡ opening.now.opening_proof) };
 
     fn from(opening: &'a BatchOpening<T, Proof>) -> BatchOpeningRef<'a, T, Proof> {

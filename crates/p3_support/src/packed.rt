@@ -43,8 +43,7 @@ pub trait PackedValue: Copy {
     where
         Self: Sized,
         requires { (k : ℕ) → k < WIDTH → F.pre f k }
-        ensures { (k : ℕ) → k < WIDTH →
-            F.post f k (slice_index_or (lanes result) k default_value) }
+        ensures { (k : ℕ) → k < WIDTH → F.post f k (slice_index_or (lanes result) k default_value) }
     {
         let mut packed = Self::broadcast(Self::Value::default());
         for k in 0..Self::WIDTH {
@@ -155,8 +154,7 @@ fn unpack_value<PW: PackedValue, const D: usize>(value: PW, e: usize, rows: &mut
 /// Unpacks an array of packed values: `rows[k][e]` becomes lane `k` of `packed[e]`. `rows` must have `PW::WIDTH` rows.
 pub fn unpack_into<PW: PackedValue, const D: usize>(packed: &[PW; D], rows: &mut [[PW::Value; D]])
     requires { length rows.old ≡ PW.WIDTH }
-    ensures { rows.new
-        ≡ map (λ k. lane_of PW.lanes PW.default_value k packed.now) (range_with_len 0 PW.WIDTH) }
+    ensures { rows.new ≡ map (λ k. lane_of PW.lanes PW.default_value k packed.now) (range_with_len 0 PW.WIDTH) }
 {
     lemma_rows(rows);
     // The inner loop goes over the lanes: their number is a constant, so no lane is read at a computed position.
@@ -176,8 +174,7 @@ pub fn unpack_at<PW: PackedValue, const D: usize>(
     ensures long { length rows.new ≡ length rows.old }
     ensures lanes { (k : ℕ) → k < PW.WIDTH →
         slice_index_or rows.new (first + k) [] ≡ lane_of PW.lanes PW.default_value k packed.now }
-    ensures before { (j : ℕ) → j < first →
-        slice_index_or rows.new j [] ≡ slice_index_or rows.old j [] }
+    ensures before { (j : ℕ) → j < first → slice_index_or rows.new j [] ≡ slice_index_or rows.old j [] }
 {
     unpack_into(packed, &mut rows[first..first + PW::WIDTH]);
 }
@@ -187,8 +184,7 @@ fn set_lane<PW: PackedValue, const D: usize>(packed: &mut [PW; D], k: usize, col
     requires lane { k < PW.WIDTH }
     requires long { length column.now ≡ D }
     ensures same { lane_of PW.lanes PW.default_value k packed.new ≡ column.now }
-    ensures other { (j : ℕ) → j ≢ k →
-        lane_of PW.lanes PW.default_value j packed.new
+    ensures other { (j : ℕ) → j ≢ k → lane_of PW.lanes PW.default_value j packed.new
         ≡ lane_of PW.lanes PW.default_value j packed.old }
 {
     for (e, element) in packed.iter_mut().enumerate() {
@@ -205,8 +201,7 @@ pub fn pack_columns_fn<
     const D: usize,
 >(f: F) -> [PW; D]
     requires callable { (k : ℕ) → k < PW.WIDTH → F.pre f k }
-    requires long { (k : ℕ) (column : _) → k < PW.WIDTH → F.post f k column →
-        length (X.items column) ≡ D }
+    requires long { (k : ℕ) (column : _) → k < PW.WIDTH → F.post f k column → length (X.items column) ≡ D }
     ensures { (k : ℕ) → k < PW.WIDTH → (column : _)
         × F.post f k column × (lane_of PW.lanes PW.default_value k result ≡ X.items column) }
 {

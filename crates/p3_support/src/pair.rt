@@ -76,8 +76,7 @@ impl<T, A: Matrix<T>, B: Matrix<T>> Matrix<T> for HorizontalPair<T, A, B> {
     }
 
     fn piece(&self, row: usize, column: usize) -> &[T] {
-        // A piece of one side may run on into the next row of that side, but the pair goes on in the other side. So it
-        // is cut at the end of the row.
+        // Cut at the row's end: a side's piece may run on into its next row, but the pair goes on in the other side.
         let width = self.left.width();
         if column < width {
             let piece = self.left.piece(row, column);

@@ -90,8 +90,7 @@ fn stored_rows<P: PackedValue, M: Matrix<P::Value>>(
 fn stored_column<P: PackedValue>(rows: &[P::Value], width: usize, column: usize) -> P
     requires first { column ≤ length rows.now }
     requires inside { (k : ℕ) → k < P.WIDTH → k * width + column < length rows.now }
-    ensures { (k : ℕ) → k < P.WIDTH →
-        slice_index_or (P.lanes result) k P.default_value
+    ensures { (k : ℕ) → k < P.WIDTH → slice_index_or (P.lanes result) k P.default_value
         ≡ slice_index_or rows.now (k * width + column) P.default_value }
 {
     let lanes = &rows[column..];
@@ -124,8 +123,7 @@ impl<'a, T, P: PackedValue<Value = T>, M: Matrix<T>> Model for PackedRows<'a, T,
 
     ghost Value = { List (List T) };
 
-    ghost view = { λ s.
-        columns_left M.row_of M.width_of P.default_value s.row P.WIDTH s.matrices.now s.next };
+    ghost view = { λ s. columns_left M.row_of M.width_of P.default_value s.row P.WIDTH s.matrices.now s.next };
 
     // `stored` has the rows of the first matrix where that stores them in one piece.
     ghost invariant = { λ s. All (λ m. s.row + P.WIDTH ≤ M.height_of m) s.matrices.now

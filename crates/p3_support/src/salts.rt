@@ -1,7 +1,7 @@
 //! Random matrices, whose rows serve as salts.
 ghost use Rattle.std.specs.Prelude.{◌≡◌, ℕ, ◌*◌, ◌%◌, ◌^◌, ◌≤◌, ◌+◌, ◌++◌, vec_len, vec_capacity, map, IfOk, IsErr};
 ghost use Rattle.std.specs.Prelude.{OnErr, OnOk};
-ghost use Rattle.p3_support.specs.Salts.{after_words, salts};
+ghost use Rattle.p3_support.specs.{Salts.after_words, Salts.salts, Inner.Drawn.AreDrawn};
 
 use crate::matrix::RowMajorMatrix;
 use rand_core::Rng;
@@ -36,8 +36,7 @@ impl SaltWord for u8 {
 }
 
 /// The next eight words of a generator.
-// Drawn into an array first, they leave the generator's state in registers. If each were stored before the next is
-// drawn, the state would go through memory.
+// If each were stored before the next is drawn, the generator's state would go through memory.
 fn next_eight<R: Rng>(rng: &mut R) -> [u64; 8]
     ensures words { result ≡ salts (λ w. w) 8 (R.stream rng.old) }
     ensures rest { R.stream rng.new ≡ after_words 8 (R.stream rng.old) }
@@ -69,10 +68,7 @@ fn push_eight<T: SaltWord>(values: &mut Vec<T>, words: [u64; 8])
 /// Draws `8 * eights` values, eight at a time, and appends them to a vector that has room for them.
 fn draw_eights<T: SaltWord, R: Rng>(values: &mut Vec<T>, rng: &mut R, eights: usize)
     requires { vec_len values.old + 8 * eights ≤ vec_capacity values.old }
-    ensures items { values.new.items ≡ values.old.items ++ salts T.of_salt_word (8 * eights) (R.stream rng.old) }
-    ensures len { vec_len values.new ≡ vec_len values.old + 8 * eights }
-    ensures capacity { vec_capacity values.new ≡ vec_capacity values.old }
-    ensures rest { R.stream rng.new ≡ after_words (8 * eights) (R.stream rng.old) }
+    ensures { AreDrawn T.of_salt_word (8 * eights) values.old values.new (R.stream rng.old) (R.stream rng.new) }
 {
     for _ in 0..eights {
         let words = next_eight(rng);
@@ -83,10 +79,7 @@ fn draw_eights<T: SaltWord, R: Rng>(values: &mut Vec<T>, rng: &mut R, eights: us
 /// Draws `count` values, one by one, and appends them to a vector that has room for them.
 fn draw_each<T: SaltWord, R: Rng>(values: &mut Vec<T>, rng: &mut R, count: usize)
     requires { vec_len values.old + count ≤ vec_capacity values.old }
-    ensures items { values.new.items ≡ values.old.items ++ salts T.of_salt_word count (R.stream rng.old) }
-    ensures len { vec_len values.new ≡ vec_len values.old + count }
-    ensures capacity { vec_capacity values.new ≡ vec_capacity values.old }
-    ensures rest { R.stream rng.new ≡ after_words count (R.stream rng.old) }
+    ensures { AreDrawn T.of_salt_word count values.old values.new (R.stream rng.old) (R.stream rng.new) }
 {
     for _ in 0..count {
         values.push_reserved(T::from_salt_word(rng.next_u64()));

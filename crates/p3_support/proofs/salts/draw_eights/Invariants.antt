@@ -1,13 +1,8 @@
-use Rattle.std.proofs.Common.{◌≡◌, ◌+◌, ◌*◌, ◌++◌, vec_len, vec_capacity}
-use Rattle.p3_support.specs.Salts.{after_words, salts}
+use Rattle.std.proofs.Common.{◌*◌}
+use Rattle.p3_support.specs.Inner.Drawn.{AreDrawn}
 use Rattle.p3_support.proofs.salts.draw_eights.Given as goal
 
--- the values so far are behind those before
 abbrev pub invariant-loop : goal.invariant-loop
 invariant-loop g l =
-    let of_word = g.T.SaltWord.of_salt_word in
-    let start = g.R.Rng.stream l.initial.rng in
-    (l.values.items ≡ l.initial.values.items ++ salts of_word (8 * l.counter) start)
-    × (g.R.Rng.stream l.rng ≡ after_words (8 * l.counter) start)
-    × (vec_len l.values ≡ vec_len l.initial.values + 8 * l.counter)
-    × (vec_capacity l.values ≡ vec_capacity l.initial.values)
+    AreDrawn g.T.SaltWord.of_salt_word (8 * l.counter) l.initial.values l.values (g.R.Rng.stream l.initial.rng)
+    (g.R.Rng.stream l.rng)

@@ -18,4 +18,5 @@ returns g c =
     sym (drop-drop c.args.column (row * m.width) xs)
     ∙ ap (drop c.args.column)
     (stored_rows xs m.width row (m.height - row) (m.full ∙ ap (λ h. h * m.width) end)) in
-    rw (c.deref.ensures.value, take_rest xs start, ← stored) (sym (take_all (length (drop start xs)) (drop start xs) (omega arith)))
+    rw (c.deref.ensures.value, take_rest xs start, ← stored)
+    (sym (take_all (length (drop start xs)) (drop start xs) (omega arith)))
