@@ -1,8 +1,7 @@
 -- Vectors of eight lanes, by what each lane holds.
-use Rattle.std.proofs.Common.{◌≡◌, ℕ, zero, suc, ◌+◌, ◌-◌, ◌<◌, set, inl, inr, List, [], map, length, slice_index}
-use Rattle.std.proofs.Common.{slice_index_or, get_or, refl, sym, ap, ◌∙◌, arith}
-use Rattle.std.proofs.lemmas.List.{get_or-map, length-map, get_or-replicate, get_or-set_same, get_or-set_other}
-use Rattle.std.proofs.lemmas.{Bool.cases_eq, Bool.cases_lt, Simd.get_or-zip2, Simd.length-zip2}
+use Rattle.std.proofs.Common.{◌≡◌, ℕ, zero, suc, ◌<◌, List, [], map, length, slice_index, slice_index_or, refl, sym, ap}
+use Rattle.std.proofs.{Common.◌∙◌, Common.arith, lemmas.Simd.get_or-zip2, lemmas.Simd.length-zip2}
+use Rattle.std.proofs.lemmas.List.{get_or-map, length-map, get_or-replicate}
 use Rattle.std.proofs.Math.ListN as ListN
 use Rattle.std.specs.{Prelude.replicate, Simd.Lanes.zip2}
 use Rattle.p3_hashes.specs.Inner.Lanes.{lane}
@@ -53,24 +52,3 @@ each_lane P a b c d e f g h (suc (suc (suc (suc (suc zero))))) below = f
 each_lane P a b c d e f g h (suc (suc (suc (suc (suc (suc zero)))))) below = g
 each_lane P a b c d e f g h (suc (suc (suc (suc (suc (suc (suc zero))))))) below = h
 each_lane P a b c d e f g h (suc (suc (suc (suc (suc (suc (suc (suc j)))))))) below = absurd (omega arith)
-
--- one more place that has what it should
-pub filled_more : {X : Type 0} (P : ℕ → X → Type 0) (xs : List X) (i : ℕ) (y d : X) → i < length xs → P i y
-    → ((k : ℕ) → k < i → P k (get_or xs k d)) → (k : ℕ) → k < i + 1 → P k (get_or (set xs i y) k d)
-filled_more P xs i y d inside made before k below =
-    elim (cases_eq k i) [
-      | inl same ↦ rw (same, get_or-set_same xs i y d inside) made
-      | inr other ↦ let low : k < i = omega (arith, below, other) in rw (get_or-set_other xs i k y d other)
-          (before k low)
-    ]
-
--- eight more places that have what they should
-pub filled_eight : {X : Type 0} (P : ℕ → X → Type 0) (xs ys : List X) (first : ℕ) (d : X)
-    → ((k : ℕ) → k < 8 → P (first + k) (get_or ys (first + k) d))
-    → ((i : ℕ) → i < first → get_or ys i d ≡ get_or xs i d) → ((i : ℕ) → i < first → P i (get_or xs i d))
-    → (i : ℕ) → i < first + 8 → P i (get_or ys i d)
-filled_eight P xs ys first d here same before i below =
-    elim (cases_lt i first) [
-      | inl low ↦ rw (same i low) (before i low)
-      | inr high ↦ let place : first + (i - first) ≡ i = omega arith in rw place at (here (i - first) (omega arith))
-    ]

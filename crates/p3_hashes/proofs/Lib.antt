@@ -1,5 +1,4 @@
 pub mod FoldSteps
-pub mod Parts
 pub mod Turns
 pub mod Lanewise
 pub mod Written

@@ -1,13 +1,13 @@
 -- The bytes and the words of a message and its padding, by their places.
 use Rattle.std.proofs.Common.{◌≡◌, ℕ, suc, ◌+◌, ◌-◌, ◌*◌, ◌/◌, ◌%◌, ◌^◌, ◌<◌, ◌≤◌, List, [], ◌∷◌, ◌++◌, length}
 use Rattle.std.proofs.Common.{slice_index, take, drop, replicate, w64, refl, sym, ap, ◌∙◌, add-zero, length-append}
-use Rattle.std.proofs.Common.{length-drop, arith}
+use Rattle.std.proofs.Common.{length-drop, add-one, arith}
 use Rattle.std.proofs.lemmas.List.{get_or_append_left, get_or-append_right, get_or-replicate, length-replicate}
 use Rattle.std.proofs.lemmas.List.{length-take-le, drop-take, take-take, drop-drop}
 use Rattle.std.proofs.{Math.Nat.add-mul, Math.Nat.one-mul, Math.Nat.mul-le-mul_right, lemmas.Simd.get_or-chunk}
 use Rattle.std.specs.{Int.to_be_bytes, Prelude.slice_range}
-use Rattle.sha2.specs.Sha256.{padded_message, padding, word_at}
-use Rattle.p3_support.specs.Lists.{message}
+use Rattle.sha2.specs.Sha256.{compress, hash_after, padded_message, padding, word_at}
+use Rattle.p3_support.specs.{Lists.message, Inner.RowLengths.next_start}
 
 -- how many zeros stand between the mark and the length of a message of n bytes
 abbrev pub zeros : ℕ → ℕ
@@ -137,28 +137,31 @@ word_of_block p t i h =
     let place : t * 64 + (4 * i + k) ≡ 4 * (16 * t + i) + k = omega arith in
     get_or-chunk (t * 64) 64 p (4 * i + k) 0 inside ∙ ap (slice_index p) place)
 
+-- one more block
+pub hash_next : (h p : List ℕ) (t : ℕ)
+    → hash_after h p (t + 1) ≡ compress (hash_after h p t) (take 64 (drop (t * 64) p))
+unfolding hash_after
+hash_next h p t = rw add-one refl
+
 -- ---- messages one after another
 
 -- k messages of w bytes are within n
 pub messages_inside : (w k n bytes : ℕ) → k ≤ n → bytes ≡ n * w → k * w ≤ bytes
 messages_inside w k n bytes few full = omega (arith, mul-le-mul_right w few, full)
 
--- the end of message j is w past its start
-next_start : (j w : ℕ) → (j + 1) * w ≡ j * w + w
-next_start j w = add-mul j 1 w ∙ ap (λ v. j * w + v) (one-mul w)
-
-pub length-message : (w : ℕ) (bytes : List ℕ) (j : ℕ) → j < 8 → length bytes ≡ 8 * w → length (message w bytes j) ≡ w
-length-message w bytes j below full =
-    let more = next_start j w in
-    let fits : (j + 1) * w ≤ 8 * w = mul-le-mul_right w (omega arith) in
-    length-take-le ((j + 1) * w - j * w) (drop (j * w) bytes)
-    (omega (arith, length-drop (j * w) bytes, full, fits, more)) ∙ omega (arith, more)
-
 pub byte_at : (w : ℕ) (bytes : List ℕ) (j p : ℕ) → p < w → slice_index (message w bytes j) p
     ≡ slice_index bytes (j * w + p)
 byte_at w bytes j p h =
     let span : (j + 1) * w - j * w ≡ w = omega (arith, next_start j w) in
     ap (λ (n : ℕ). slice_index (take n (drop (j * w) bytes)) p) span ∙ get_or-chunk (j * w) w bytes p 0 h
+
+-- a word of a message, among all of them
+pub word_among : (w : ℕ) (bytes : List ℕ) (j at : ℕ) → at + 4 ≤ w → word_at bytes (j * w + at)
+    ≡ word_at (message w bytes j) at
+word_among w bytes j at inside =
+    word_same bytes (message w bytes j) (j * w + at) at (λ i h.
+    let place : j * w + at + i ≡ j * w + (at + i) = omega arith in
+    ap (slice_index bytes) place ∙ sym (byte_at w bytes j (at + i) (omega arith)))
 
 -- eight messages in the midst of others
 pub length-eight : (w f : ℕ) (bytes : List ℕ) → (f + 8) * w ≤ length bytes

@@ -1,8 +1,8 @@
 -- Pieces of one length, one after another.
 use Rattle.std.proofs.Common.{◌≡◌, ℕ, zero, suc, ◌+◌, ◌-◌, ◌*◌, ◌<◌, List, [], ◌∷◌, ◌++◌, length, map, take, drop}
-use Rattle.std.proofs.Common.{get_or, refl, sym, ap, ◌∙◌, append_assoc, length-append, arith}
+use Rattle.std.proofs.Common.{get_or, refl, sym, ap, ◌∙◌, append_assoc, append-nil, length-append, arith}
 use Rattle.std.proofs.Math.{Nat.add-mul, Nat.one-mul, Seq.take-append_seam, Seq.drop-append-add}
-use Rattle.std.proofs.lemmas.List.{get_or-map, length-map}
+use Rattle.std.proofs.lemmas.List.{Folds.concat-append, get_or-map, length-map, take_more}
 use Rattle.std.specs.List.{concat, flat_map}
 use Rattle.p3_support.specs.Lists.{message}
 
@@ -15,6 +15,11 @@ flat_twice : (groups : List (List (List ℕ))) → flat_map (λ x. x) (flat_map 
     ≡ concat (map concat groups)
 flat_twice [] = refl
 flat_twice (g ∷ gs) = flat_append g (flat_map (λ (x : List (List ℕ)). x) gs) ∙ ap (λ l. concat g ++ l) (flat_twice gs)
+
+-- one more piece
+pub concat_more : (xs : List (List ℕ)) (i : ℕ) → i < length xs → concat (take (i + 1) xs)
+    ≡ concat (take i xs) ++ get_or xs i []
+concat_more xs i below = rw (take_more xs i [] below) (simp (concat-append, append-nil))
 
 -- how long so many pieces are
 length-concat : (n : ℕ) (xs : List (List ℕ)) → ((k : ℕ) → k < length xs → length (get_or xs k []) ≡ n)

@@ -62,8 +62,7 @@ impl<
     }
 
     fn compress_packed(&self, input: [[PW; D]; N]) -> [PW; D]
-        ensures { (k : ℕ) → k < PW.WIDTH →
-            lane_of PW.lanes PW.default_value k result
+        ensures { (k : ℕ) → k < PW.WIDTH → lane_of PW.lanes PW.default_value k result
             ≡ X.compression self.now.0 (map (lane_of PW.lanes PW.default_value k) input) }
     {
         self.0.compress_packed(input)

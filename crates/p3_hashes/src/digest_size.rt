@@ -16,9 +16,7 @@ pub trait DigestSize<const D: usize> {
 }
 
 impl DigestSize<32> for Sha256 {
-    fn array(digest: [u8; 32]) -> [u8; 32]
-        ensures { result ≡ digest }
-    {
+    fn array(digest: [u8; 32]) -> [u8; 32] {
         digest
     }
 

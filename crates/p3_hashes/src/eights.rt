@@ -3,7 +3,7 @@
 ghost use Rattle.std.specs.Prelude.{◌≡◌, ℕ, ◌+◌, ◌*◌, ◌/◌, ◌^◌, ◌<◌, ◌≤◌, [], length, map, slice_index_or, slice_range};
 ghost use Rattle.std.specs.{Prelude.take, List.fold as folded};
 ghost use Rattle.p3_support.specs.Lists.{lane_of, message as message_of};
-ghost use Rattle.p3_hashes.specs.Inner.{Eights.lanes_of, Turned.turned};
+ghost use Rattle.p3_hashes.specs.Inner.{Eights.lanes_of, Turned.turned, Written.AreWritten};
 ghost use Rattle.p3_hashes.specs.Fold.{fold_hash, fold_compress, take_in};
 
 use crate::fold::{FoldLane, absorb, compress_group, compress_lanes, hash_words, initial_state};
@@ -11,11 +11,10 @@ use crate::lanes::{U32x8, transpose};
 use p3_support::packed::{lemma_rows, pack_columns_fn, unpack_at};
 use std::simd::prelude::*;
 
-/// The longest digest, in words, for which eight messages are hashed together. A longer one leaves no registers for the
-/// transposed words.
+/// The longest digest, in words, hashed in eights. A longer one leaves no registers for the transposed words.
 const MOST_HASHED: usize = 4;
 
-/// The longest digest, in words, for which eight groups are compressed together. A longer one fills vectors by itself.
+/// The longest digest, in words, compressed in eights. A longer one fills vectors by itself.
 const MOST_COMPRESSED: usize = 1;
 
 /// Packs word `column` of `P::WIDTH` messages: lane `k` is from message `first + k`.
@@ -23,8 +22,7 @@ fn column_of<P: FoldLane>(messages: &[u32], width: usize, first: usize, column: 
     requires full { (n : ℕ) × (first + P.WIDTH ≤ n) × (length messages.now ≡ n * width) }
     requires fits { first + P.WIDTH < 2 ^ 64 }
     requires inside { column < width }
-    ensures { (k : ℕ) → k < P.WIDTH →
-        slice_index_or (P.lanes result) k P.default_value
+    ensures { (k : ℕ) → k < P.WIDTH → slice_index_or (P.lanes result) k P.default_value
         ≡ slice_index_or (message_of width messages.now (first + k)) column 0 }
 {
     P::from_fn(
@@ -32,14 +30,12 @@ fn column_of<P: FoldLane>(messages: &[u32], width: usize, first: usize, column: 
             requires full { (n : ℕ) × (first + k < n) × (length messages.now ≡ n * width) }
             requires fits { first + k < 2 ^ 64 }
             requires inside { column < width }
-            ensures { result
-                ≡ slice_index_or (message_of width messages.entry.now (first + k)) column 0 }
+            ensures { result ≡ slice_index_or (message_of width messages.entry.now (first + k)) column 0 }
         { messages[(first + k) * width + column] },
     )
 }
 
-/// Absorbs the columns from `from` on of `P::WIDTH` messages, one a lane, from message `first` on. The state has
-/// absorbed the columns ahead of them.
+/// Absorbs the columns from `from` on of `P::WIDTH` messages, one a lane, from message `first` on.
 fn absorb_columns<P: FoldLane, const D: usize>(
     state: &mut [P; D],
     messages: &[u32],
@@ -50,11 +46,9 @@ fn absorb_columns<P: FoldLane, const D: usize>(
     requires full { (n : ℕ) × (first + P.WIDTH ≤ n) × (length messages.now ≡ n * width) }
     requires fits { first + P.WIDTH < 2 ^ 64 }
     requires inside { from ≤ width }
-    requires before { (k : ℕ) → k < P.WIDTH →
-        lane_of P.lanes P.default_value k state.old
+    requires before { (k : ℕ) → k < P.WIDTH → lane_of P.lanes P.default_value k state.old
         ≡ fold_hash D (take from (message_of width messages.now (first + k))) }
-    ensures { (k : ℕ) → k < P.WIDTH →
-        lane_of P.lanes P.default_value k state.new
+    ensures { (k : ℕ) → k < P.WIDTH → lane_of P.lanes P.default_value k state.new
         ≡ fold_hash D (message_of width messages.now (first + k)) }
 {
     for column in from..width {
@@ -78,16 +72,14 @@ fn absorb_words<P: FoldLane, const D: usize>(state: &mut [P; D], words: &[P])
 fn words_at(messages: &[u32], width: usize, message: usize, column: usize) -> &[u32]
     requires full { (n : ℕ) × (message < n) × (length messages.now ≡ n * width) }
     requires inside { column + 4 ≤ width }
-    ensures words { result.now
-        ≡ slice_range (message_of width messages.now message) column (column + 4) }
+    ensures words { result.now ≡ slice_range (message_of width messages.now message) column (column + 4) }
     ensures long { length result.now ≡ 4 }
 {
     let words = &messages[message * width..(message + 1) * width];
     &words[column..column + 4]
 }
 
-/// The columns `column` to `column + 3` of the messages `first` to `first + 3`: vector `i` is column `column + i`, and
-/// its lane `k` is from message `first + k`.
+/// Four columns of four messages: vector `i` is column `column + i`, and its lane `k` is from message `first + k`.
 fn columns_of_four(messages: &[u32], width: usize, first: usize, column: usize) -> [u32x4; 4]
     requires full { (n : ℕ) × (first + 4 ≤ n) × (length messages.now ≡ n * width) }
     requires fits { first + 4 < 2 ^ 64 }
@@ -106,8 +98,7 @@ fn columns_of_four(messages: &[u32], width: usize, first: usize, column: usize) 
     )
 }
 
-/// The columns `column` to `column + 3` of the messages `first` to `first + 7`: vector `i` is column `column + i`, and
-/// its lane `k` is from message `first + k`.
+/// Four columns of eight messages: vector `i` is column `column + i`, and its lane `k` is from message `first + k`.
 fn columns_of_eight(messages: &[u32], width: usize, first: usize, column: usize) -> [U32x8; 4]
     requires full { (n : ℕ) × (first + 8 ≤ n) × (length messages.now ≡ n * width) }
     requires fits { first + 8 < 2 ^ 64 }
@@ -125,8 +116,7 @@ fn columns_of_eight(messages: &[u32], width: usize, first: usize, column: usize)
     ]
 }
 
-/// Absorbs eight messages into the state, one a lane, from message `first` on, four columns at a time. The columns
-/// after the last whole four are left out.
+/// Absorbs eight messages from message `first` on, one a lane, up to the last whole four columns.
 fn absorb_fours<const D: usize>(
     state: &mut [U32x8; D],
     messages: &[u32],
@@ -148,8 +138,7 @@ fn absorb_fours<const D: usize>(
 fn hash_eight<const D: usize>(messages: &[u32], width: usize, first: usize) -> [U32x8; D]
     requires full { (n : ℕ) × (first + 8 ≤ n) × (length messages.now ≡ n * width) }
     requires fits { first + 8 < 2 ^ 64 }
-    ensures { (k : ℕ) → k < 8 → lane_of lanes_of 0 k result
-        ≡ fold_hash D (message_of width messages.now (first + k)) }
+    ensures { (k : ℕ) → k < 8 → lane_of lanes_of 0 k result ≡ fold_hash D (message_of width messages.now (first + k)) }
 {
     let mut state = initial_state();
     absorb_fours(&mut state, messages, width, first);
@@ -160,9 +149,8 @@ fn hash_eight<const D: usize>(messages: &[u32], width: usize, first: usize) -> [
 /// Writes the digest of message `i` into `out[i]`, eight at a time, up to the last whole eight.
 fn hash_eights<const D: usize>(messages: &[u32], width: usize, out: &mut [[u32; D]])
     requires { length messages.now ≡ length out.old * width }
-    ensures long { length out.new ≡ length out.old }
-    ensures filled { (j : ℕ) → j < 8 * (length out.old / 8) →
-        slice_index_or out.new j [] ≡ fold_hash D (message_of width messages.now j) }
+    ensures { let eights = 8 * (length out.old / 8) in
+        AreWritten (λ j d. d ≡ fold_hash D (message_of width messages.now j)) 0 eights out.old out.new }
 {
     for group in 0..out.len() / 8 {
         let digests: [U32x8; D] = hash_eight(messages, width, 8 * group);
@@ -174,11 +162,8 @@ fn hash_eights<const D: usize>(messages: &[u32], width: usize, out: &mut [[u32; 
 fn hash_rest<const D: usize>(messages: &[u32], width: usize, from: usize, out: &mut [[u32; D]])
     requires full { length messages.now ≡ length out.old * width }
     requires inside { from ≤ length out.old }
-    ensures long { length out.new ≡ length out.old }
-    ensures before { (j : ℕ) → j < from →
-        slice_index_or out.new j [] ≡ slice_index_or out.old j [] }
-    ensures filled { (j : ℕ) → from ≤ j → j < length out.old →
-        slice_index_or out.new j [] ≡ fold_hash D (message_of width messages.now j) }
+    ensures { AreWritten (λ j d. d ≡ fold_hash D (message_of width messages.now j))
+        from (length out.old) out.old out.new }
 {
     for i in from..out.len() {
         out[i] = hash_words(&messages[i * width..(i + 1) * width]);
@@ -188,9 +173,7 @@ fn hash_rest<const D: usize>(messages: &[u32], width: usize, from: usize, out: &
 /// Writes the digest of message `i` into `out[i]`, for as many messages as `out` has places.
 pub(crate) fn hash_all<const D: usize>(messages: &[u32], width: usize, out: &mut [[u32; D]])
     requires { length messages.now ≡ length out.old * width }
-    ensures long { length out.new ≡ length out.old }
-    ensures filled { (j : ℕ) → j < length out.old →
-        slice_index_or out.new j [] ≡ fold_hash D (message_of width messages.now j) }
+    ensures { AreWritten (λ j d. d ≡ fold_hash D (message_of width messages.now j)) 0 (length out.old) out.old out.new }
 {
     if D > MOST_HASHED {
         hash_rest(messages, width, 0, out);
@@ -208,16 +191,14 @@ fn pack_child<P: FoldLane, const N: usize, const D: usize>(
 ) -> [P; D]
     requires groups { first + P.WIDTH ≤ length groups.now }
     requires inside { place < N }
-    ensures { (k : ℕ) → k < P.WIDTH →
-        lane_of P.lanes P.default_value k result
+    ensures { (k : ℕ) → k < P.WIDTH → lane_of P.lanes P.default_value k result
         ≡ slice_index_or (slice_index_or groups.now (first + k) []) place [] }
 {
     pack_columns_fn(
         |k| -> &[u32]
             requires group { first + k < length groups.now }
             requires inside { place < N }
-            ensures child { result.now
-                ≡ slice_index_or (slice_index_or groups.entry.now (first + k) []) place [] }
+            ensures child { result.now ≡ slice_index_or (slice_index_or groups.entry.now (first + k) []) place [] }
             ensures long { length result.now ≡ D }
         { &groups[first + k][place] },
     )
@@ -237,8 +218,7 @@ fn pack_groups<P: FoldLane, const N: usize, const D: usize>(
         |place| -> [P; D]
             requires groups { first + P.WIDTH ≤ length groups.now }
             requires inside { place < N }
-            ensures { (k : ℕ) → k < P.WIDTH →
-                lane_of P.lanes P.default_value k result
+            ensures { (k : ℕ) → k < P.WIDTH → lane_of P.lanes P.default_value k result
                 ≡ slice_index_or (slice_index_or groups.entry.now (first + k) []) place [] }
         { pack_child(groups, first, place) },
     )
@@ -247,9 +227,8 @@ fn pack_groups<P: FoldLane, const N: usize, const D: usize>(
 /// Writes the digest of group `i` into `out[i]`, eight at a time, up to the last whole eight.
 fn compress_eights<const N: usize, const D: usize>(groups: &[[[u32; D]; N]], out: &mut [[u32; D]])
     requires { length groups.now ≡ length out.old }
-    ensures long { length out.new ≡ length out.old }
-    ensures filled { (j : ℕ) → j < 8 * (length out.old / 8) →
-        slice_index_or out.new j [] ≡ fold_compress D (slice_index_or groups.now j []) }
+    ensures { let eights = 8 * (length out.old / 8) in
+        AreWritten (λ j d. d ≡ fold_compress D (slice_index_or groups.now j [])) 0 eights out.old out.new }
 {
     for eight in 0..out.len() / 8 {
         let children: [[U32x8; D]; N] = pack_groups(groups, 8 * eight);
@@ -265,11 +244,8 @@ fn compress_rest<const N: usize, const D: usize>(
 )
     requires long { length groups.now ≡ length out.old }
     requires inside { from ≤ length out.old }
-    ensures long { length out.new ≡ length out.old }
-    ensures before { (j : ℕ) → j < from →
-        slice_index_or out.new j [] ≡ slice_index_or out.old j [] }
-    ensures filled { (j : ℕ) → from ≤ j → j < length out.old →
-        slice_index_or out.new j [] ≡ fold_compress D (slice_index_or groups.now j []) }
+    ensures { AreWritten (λ j d. d ≡ fold_compress D (slice_index_or groups.now j []))
+        from (length out.old) out.old out.new }
 {
     for i in from..out.len() {
         out[i] = compress_group(&groups[i]);
@@ -282,9 +258,8 @@ pub(crate) fn compress_all<const N: usize, const D: usize>(
     out: &mut [[u32; D]],
 )
     requires { length groups.now ≡ length out.old }
-    ensures long { length out.new ≡ length out.old }
-    ensures filled { (j : ℕ) → j < length out.old →
-        slice_index_or out.new j [] ≡ fold_compress D (slice_index_or groups.now j []) }
+    ensures { AreWritten (λ j d. d ≡ fold_compress D (slice_index_or groups.now j []))
+        0 (length out.old) out.old out.new }
 {
     if D > MOST_COMPRESSED {
         compress_rest(groups, 0, out);

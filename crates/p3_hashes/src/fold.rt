@@ -21,8 +21,7 @@ pub trait FoldLane: PackedValue<Value = u32> {
 
     /// Lane by lane, `self + number`, modulo 2^32.
     fn add_to_each(self, number: u32) -> Self
-        ensures { (k : ℕ) → k < Self.WIDTH →
-            slice_index_or (Self.lanes result) k Self.default_value
+        ensures { (k : ℕ) → k < Self.WIDTH → slice_index_or (Self.lanes result) k Self.default_value
             ≡ (slice_index_or (Self.lanes self) k Self.default_value + number) % 2 ^ 32 };
 }
 
@@ -49,8 +48,7 @@ pub(crate) fn initial_state<P: FoldLane, const D: usize>() -> [P; D]
 {
     std::array::from_fn(
         |e| -> P
-            ensures { (k : ℕ) → k < P.WIDTH →
-                slice_index_or (P.lanes result) k P.default_value ≡ start_of e }
+            ensures { (k : ℕ) → k < P.WIDTH → slice_index_or (P.lanes result) k P.default_value ≡ start_of e }
         { P::broadcast(low_bits(e).wrapping_add(1)) },
     )
 }
@@ -80,8 +78,7 @@ fn absorb_slice<const D: usize>(state: &mut [u32; D], words: &[u32])
 fn hash_lanes<P: FoldLane, I: Iterator<Item = P>, const D: usize>(input: I) -> [P; D]
     requires can { I.can_next input }
     requires ends { IsFinite (I.remaining input) }
-    ensures { WholeRun I.next_gives input (λ p. (k : ℕ) → k < P.WIDTH →
-        lane_of P.lanes P.default_value k result
+    ensures { WholeRun I.next_gives input (λ p. (k : ℕ) → k < P.WIDTH → lane_of P.lanes P.default_value k result
         ≡ fold_hash D (lane_of P.lanes P.default_value k p.items)) }
 {
     let mut state = initial_state();
@@ -144,8 +141,7 @@ impl<P: FoldLane, const L: usize, const D: usize> CryptographicHasher<P, P, D> f
     }
 }
 
-/// Mixes the child at `place` into the digest, lane by lane: each element becomes `31 * element + child[e] + place`,
-/// modulo 2^32.
+/// Mixes a child into the digest: each element becomes `31 * element + child[e] + place`, modulo 2^32.
 fn mix<P: FoldLane, const D: usize>(digest: &mut [P; D], child: &[P; D], place: usize)
     ensures long { length digest.new ≡ length digest.old }
     ensures each { (k e : ℕ) → k < P.WIDTH → e < D →
@@ -163,8 +159,7 @@ fn mix<P: FoldLane, const D: usize>(digest: &mut [P; D], child: &[P; D], place: 
 pub(crate) fn compress_lanes<P: FoldLane, const N: usize, const D: usize>(
     children: &[[P; D]; N],
 ) -> [P; D]
-    ensures { (k : ℕ) → k < P.WIDTH →
-        lane_of P.lanes P.default_value k result
+    ensures { (k : ℕ) → k < P.WIDTH → lane_of P.lanes P.default_value k result
         ≡ fold_compress D (map (lane_of P.lanes P.default_value k) children.now) }
 {
     let mut digest = [P::broadcast(0); D];
@@ -203,8 +198,7 @@ impl<P: FoldLane, const N: usize, const L: usize, const D: usize> PseudoCompress
     }
 
     fn compress_packed(&self, input: [[P; D]; N]) -> [P; D]
-        ensures { (k : ℕ) → k < P.WIDTH →
-            lane_of P.lanes P.default_value k result
+        ensures { (k : ℕ) → k < P.WIDTH → lane_of P.lanes P.default_value k result
             ≡ fold_compress D (map (lane_of P.lanes P.default_value k) input) }
     {
         compress_lanes(&input)

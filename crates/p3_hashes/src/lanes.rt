@@ -39,18 +39,13 @@ impl<T: PackedValue<Value = T> + Default + Eq> PackedValue for Lanes<T> {
         if k == 0 { self.first } else { self.second }
     }
 
-    fn with_lane(self, k: usize, value: T) -> Lanes<T> {
+    fn with_lane(mut self, k: usize, value: T) -> Lanes<T> {
         if k == 0 {
-            Lanes {
-                first: value,
-                second: self.second,
-            }
+            self.first = value;
         } else {
-            Lanes {
-                first: self.first,
-                second: value,
-            }
+            self.second = value;
         }
+        self
     }
 
     ghost length_lanes = { λ p. refl };

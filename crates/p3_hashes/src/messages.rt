@@ -3,13 +3,11 @@
 //! length in eight bytes, up to a whole block of 64 bytes. Padding depends on the length alone, so it is the same for
 //! all. A word is four bytes, high byte first.
 ghost use Rattle.std.specs.Prelude.{◌≡◌, List, ℕ, [], ◌+◌, ◌*◌, ◌/◌, ◌^◌, ◌<◌, ◌≤◌, length, slice_index};
-ghost use Rattle.std.specs.Prelude.{slice_index_or};
 ghost use Rattle.sha2.specs.Sha256.{digest_bytes, final_hash, initial_hash_256, padded_message, sha256, word_at};
 ghost use Rattle.p3_support.specs.Lists.{message};
-ghost use Rattle.p3_hashes.specs.Inner.{Inputs.IsPadding, Lanes.lane};
+ghost use Rattle.p3_hashes.specs.Inner.{Inputs.IsPadding, Lanes.lane, Written.AreWritten};
 
-use crate::block::{compress_eight, compress_prepared, round_inputs};
-use crate::consts::INITIAL;
+use crate::block::{compress_eight, compress_prepared, initial_state, round_inputs};
 use crate::digest_size::DigestSize;
 use sha2::{Digest, Sha256};
 use std::simd::prelude::*;
@@ -42,7 +40,7 @@ pub(crate) fn words(messages: &[u8], width: usize, at: usize) -> u32x8
     ])
 }
 
-/// Byte `at` of padded message `j` of eight. It must not be one of the last eight, which have the length.
+/// Byte `at` of padded message `j` of eight, which is not one of the last eight.
 #[inline(always)]
 fn padded_byte(messages: &[u8], width: usize, j: usize, at: usize) -> u8
     requires full { length messages.now ≡ 8 * width }
@@ -59,8 +57,7 @@ fn padded_byte(messages: &[u8], width: usize, j: usize, at: usize) -> u8
     }
 }
 
-/// The word at byte `at` of padded message `j` of eight, which may have bytes of the message and of its padding. `at` is
-/// at most `width`, and the word must end before the last eight bytes of the padded message, which have its length.
+/// The word at byte `at` of padded message `j` of eight, which ends ahead of the last eight bytes.
 #[inline(always)]
 fn mixed_word(messages: &[u8], width: usize, j: usize, at: usize) -> u32
     requires full { length messages.now ≡ 8 * width }
@@ -82,8 +79,7 @@ fn mixed_words(messages: &[u8], width: usize, at: usize) -> u32x8
     requires full { length messages.now ≡ 8 * width }
     requires before { at + 12 ≤ 64 * ((width + 72) / 64) }
     requires start { at ≤ width }
-    ensures { (j : ℕ) → j < 8 →
-        slice_index result j ≡ word_at (padded_message (message width messages.now j)) at }
+    ensures { (j : ℕ) → j < 8 → slice_index result j ≡ word_at (padded_message (message width messages.now j)) at }
 {
     u32x8::from_array([
         mixed_word(messages, width, 0, at),
@@ -135,8 +131,7 @@ fn padding_word(width: usize, n: usize) -> u32
 fn padded_words(messages: &[u8], width: usize, n: usize) -> u32x8
     requires full { length messages.now ≡ 8 * width }
     requires inside { n < 16 * ((width + 72) / 64) }
-    ensures { (j : ℕ) → j < 8 →
-        slice_index result j ≡ word_at (padded_message (message width messages.now j)) (4 * n) }
+    ensures { (j : ℕ) → j < 8 → slice_index result j ≡ word_at (padded_message (message width messages.now j)) (4 * n) }
 {
     let at = 4 * n;
     if at + 4 <= width {
@@ -153,8 +148,7 @@ fn padded_words(messages: &[u8], width: usize, n: usize) -> u32x8
 fn load_padded_block(block: &mut [u32x8; 16], messages: &[u8], width: usize, t: usize)
     requires full { length messages.now ≡ 8 * width }
     requires inside { t < (width + 72) / 64 }
-    ensures { (j i : ℕ) → j < 8 → i < 16 →
-        slice_index (lane j block.new) i
+    ensures { (j i : ℕ) → j < 8 → i < 16 → slice_index (lane j block.new) i
         ≡ word_at (padded_message (message width messages.now j)) (4 * (16 * t + i)) }
 {
     for i in 0..16 {
@@ -186,8 +180,7 @@ fn filled_count(width: usize) -> usize
     (width + 63) / 64
 }
 
-/// The inputs of the rounds over the last block of messages of `width` bytes, if that block is padding alone. It is the
-/// same for all of them, so its schedule is computed once. Otherwise the result is zeros, which nothing reads.
+/// The inputs of the rounds over the last block, if that is padding alone. Otherwise zeros, which nothing reads.
 fn padding_inputs(width: usize) -> [u32x8; 64]
     requires { width + 72 < 2 ^ 64 }
     ensures { IsPadding width result }
@@ -203,19 +196,9 @@ fn padding_inputs(width: usize) -> [u32x8; 64]
 fn hash_states(messages: &[u8], width: usize, padding: &[u32x8; 64]) -> [u32x8; 8]
     requires full { length messages.now ≡ 8 * width }
     requires padding { IsPadding width padding.now }
-    ensures { (j : ℕ) → j < 8 →
-        lane j result ≡ final_hash initial_hash_256 (message width messages.now j) }
+    ensures { (j : ℕ) → j < 8 → lane j result ≡ final_hash initial_hash_256 (message width messages.now j) }
 {
-    let mut state = [
-        u32x8::splat(INITIAL[0]),
-        u32x8::splat(INITIAL[1]),
-        u32x8::splat(INITIAL[2]),
-        u32x8::splat(INITIAL[3]),
-        u32x8::splat(INITIAL[4]),
-        u32x8::splat(INITIAL[5]),
-        u32x8::splat(INITIAL[6]),
-        u32x8::splat(INITIAL[7]),
-    ];
+    let mut state = initial_state();
     let mut block = [u32x8::splat(0); 16];
     for t in 0..filled_count(width) {
         load_padded_block(&mut block, messages, width, t);
@@ -256,8 +239,7 @@ pub(crate) fn lane_words(state: &[u32x8; 8], j: usize) -> [u32; 8]
     ]
 }
 
-/// Writes the digest of message `i` into `out[i]`, for eight messages of `width` bytes each, from message `first` on.
-/// `padding` is from [`padding_inputs`].
+/// Writes the digest of message `i` into `out[i]`, for eight messages from message `first` on.
 fn hash_eight<const D: usize>(
     messages: &[u8],
     width: usize,
@@ -270,11 +252,7 @@ where
     requires padding { IsPadding width padding.now }
     requires full { length messages.now ≡ length out.old * width }
     requires inside { first + 8 ≤ length out.old }
-    ensures long { length out.new ≡ length out.old }
-    ensures filled { (k : ℕ) → k < 8 →
-        slice_index_or out.new (first + k) [] ≡ sha256 (message width messages.now (first + k)) }
-    ensures before { (i : ℕ) → i < first →
-        slice_index_or out.new i [] ≡ slice_index_or out.old i [] }
+    ensures { AreWritten (λ i d. d ≡ sha256 (message width messages.now i)) first (first + 8) out.old out.new }
 {
     let eight = &messages[first * width..(first + 8) * width];
     let state = hash_states(eight, width, padding);
@@ -288,9 +266,8 @@ fn hash_eights<const D: usize>(messages: &[u8], width: usize, out: &mut [[u8; D]
 where
     Sha256: DigestSize<D>,
     requires { length messages.now ≡ length out.old * width }
-    ensures long { length out.new ≡ length out.old }
-    ensures filled { (i : ℕ) → i < 8 * (length out.old / 8) →
-        slice_index_or out.new i [] ≡ sha256 (message width messages.now i) }
+    ensures { let eights = 8 * (length out.old / 8) in
+        AreWritten (λ i d. d ≡ sha256 (message width messages.now i)) 0 eights out.old out.new }
 {
     if out.len() < 8 {
         return;
@@ -307,11 +284,7 @@ where
     Sha256: DigestSize<D>,
     requires full { length messages.now ≡ length out.old * width }
     requires inside { from ≤ length out.old }
-    ensures long { length out.new ≡ length out.old }
-    ensures before { (i : ℕ) → i < from →
-        slice_index_or out.new i [] ≡ slice_index_or out.old i [] }
-    ensures filled { (i : ℕ) → from ≤ i → i < length out.old →
-        slice_index_or out.new i [] ≡ sha256 (message width messages.now i) }
+    ensures { AreWritten (λ i d. d ≡ sha256 (message width messages.now i)) from (length out.old) out.old out.new }
 {
     for i in from..out.len() {
         out[i] = Sha256::array(Sha256::digest(&messages[i * width..(i + 1) * width]));
@@ -323,9 +296,7 @@ pub(crate) fn hash_all<const D: usize>(messages: &[u8], width: usize, out: &mut 
 where
     Sha256: DigestSize<D>,
     requires { length messages.now ≡ length out.old * width }
-    ensures long { length out.new ≡ length out.old }
-    ensures filled { (i : ℕ) → i < length out.old →
-        slice_index_or out.new i [] ≡ sha256 (message width messages.now i) }
+    ensures { AreWritten (λ i d. d ≡ sha256 (message width messages.now i)) 0 (length out.old) out.old out.new }
 {
     hash_eights(messages, width, out);
     hash_rest(messages, width, 8 * (out.len() / 8), out);

@@ -6,14 +6,12 @@ ghost use Rattle.sha2.specs.Sha256.{hash_after, initial_hash_256, padded_message
 ghost use Rattle.p3_support.specs.Lists.{message};
 ghost use Rattle.p3_hashes.specs.Inner.Lanes.{lane};
 
-use crate::block::compress_eight;
-use crate::consts::INITIAL;
+use crate::block::{compress_eight, initial_state};
 use crate::messages::{digest_of, lane_words, words};
 use std::alloc::AllocError;
 use std::simd::prelude::*;
 
-/// Loads block `t` of each of eight messages of `width` bytes into `block`, one message a lane. The messages must have
-/// the whole block.
+/// Loads block `t` of each of eight messages of `width` bytes into `block`, one message a lane.
 fn load_block(block: &mut [u32x8; 16], messages: &[u8], width: usize, t: usize)
     requires full { length messages.now ≡ 8 * width }
     requires inside { 64 * t + 64 ≤ width }
@@ -31,16 +29,7 @@ fn whole_states(messages: &[u8], count: usize) -> [u32x8; 8]
     ensures { (j : ℕ) → j < 8 →
         lane j result ≡ hash_after initial_hash_256 (message (64 * count) messages.now j) count }
 {
-    let mut state = [
-        u32x8::splat(INITIAL[0]),
-        u32x8::splat(INITIAL[1]),
-        u32x8::splat(INITIAL[2]),
-        u32x8::splat(INITIAL[3]),
-        u32x8::splat(INITIAL[4]),
-        u32x8::splat(INITIAL[5]),
-        u32x8::splat(INITIAL[6]),
-        u32x8::splat(INITIAL[7]),
-    ];
+    let mut state = initial_state();
     let mut block = [u32x8::splat(0); 16];
     for t in 0..count {
         load_block(&mut block, messages, 64 * count, t);

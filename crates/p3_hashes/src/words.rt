@@ -14,8 +14,7 @@ pub(crate) fn add(x: u32x8, y: u32x8) -> u32x8
     x + y
 }
 
-/// The word in each lane rotated to the right by `k` bits, where `0 < k < 32`: ROTR of the standard. Vectors have no
-/// such operation, so it takes two shifts.
+/// ROTR of the standard: the word in each lane rotated to the right by `k` bits, where `0 < k < 32`.
 #[inline(always)]
 fn rotate_right(x: u32x8, k: u32) -> u32x8
     requires low { 0 < k }
@@ -34,7 +33,7 @@ fn xor3(x: u32x8, y: u32x8, z: u32x8) -> u32x8
     x ^ y ^ z
 }
 
-/// The word in each lane shifted to the right by `k` bits, where `k < 32`: SHR of the standard.
+/// SHR of the standard: the word in each lane shifted to the right by `k` bits, where `k < 32`.
 #[inline(always)]
 fn shift_right(x: u32x8, k: u32) -> u32x8
     requires { k < 32 }
@@ -46,8 +45,7 @@ fn shift_right(x: u32x8, k: u32) -> u32x8
 /// Ch of the three words in each lane: the bits of `y` where `x` has ones, and those of `z` elsewhere.
 #[inline(always)]
 pub(crate) fn ch(x: u32x8, y: u32x8, z: u32x8) -> u32x8
-    ensures { (j : ℕ) → j < 8 →
-        slice_index result j ≡ ch (slice_index x j) (slice_index y j) (slice_index z j) }
+    ensures { (j : ℕ) → j < 8 → slice_index result j ≡ ch (slice_index x j) (slice_index y j) (slice_index z j) }
 {
     (x & y) ^ (!x & z)
 }
@@ -55,8 +53,7 @@ pub(crate) fn ch(x: u32x8, y: u32x8, z: u32x8) -> u32x8
 /// Maj of the three words in each lane: each bit is the one that at least two of them have.
 #[inline(always)]
 pub(crate) fn maj(x: u32x8, y: u32x8, z: u32x8) -> u32x8
-    ensures { (j : ℕ) → j < 8 →
-        slice_index result j ≡ maj (slice_index x j) (slice_index y j) (slice_index z j) }
+    ensures { (j : ℕ) → j < 8 → slice_index result j ≡ maj (slice_index x j) (slice_index y j) (slice_index z j) }
 {
     // This form takes one operation less than the standard's.
     y ^ ((x ^ y) & (y ^ z))

@@ -1,11 +1,10 @@
-use Rattle.std.proofs.Common.{◌≡◌, ℕ, List, ◌+◌, ◌%◌, arith, refl, slice_index}
+use Rattle.std.proofs.Common.{◌≡◌, ℕ, List, ◌%◌, arith, slice_index}
 use Rattle.std.proofs.lemmas.List.{map-set}
 use Rattle.p3_hashes.proofs.Lanewise.{lane_word}
 use Rattle.p3_hashes.proofs.block.next_word.Goals as goal
 
 pub returns-clause-value : goal.returns-clause-value
 returns-clause-value c = λ j below.
-    let w = c.args.w.now in
     let p = c.args.place in
     let place : p % 16 ≡ p = omega arith in
     rw (
@@ -15,11 +14,7 @@ returns-clause-value c = λ j below.
       c.small_sigma1.ensures j below,
       c.small_sigma0.ensures j below,
       place,
-      lane_word j w ((p + 14) % 16),
-      lane_word j w ((p + 9) % 16),
-      lane_word j w ((p + 1) % 16),
-      lane_word j w p,
-    ) refl
+    ) (simp lane_word)
 
 pub returns-clause-window : goal.returns-clause-window
 returns-clause-window c = λ j below. map-set (λ (v : List ℕ). slice_index v j) c.args.w.now c.args.place

@@ -1,10 +1,8 @@
-use Rattle.std.proofs.Common.{refl}
 use Rattle.p3_hashes.proofs.Lanewise.{lane_word, splatted}
 use Rattle.p3_hashes.proofs.block.round.Goals as goal
 
 pub returns : goal.returns
 returns c = λ j below.
-    let v = c.args.v in
     rw (
       c.add-4.ensures j below,
       c.add-5.ensures j below,
@@ -18,12 +16,4 @@ returns c = λ j below.
       c.big_sigma0.ensures j below,
       c.maj.ensures j below,
       (splatted c.args.k).each j below,
-      lane_word j v 0,
-      lane_word j v 1,
-      lane_word j v 2,
-      lane_word j v 3,
-      lane_word j v 4,
-      lane_word j v 5,
-      lane_word j v 6,
-      lane_word j v 7,
-    ) refl
+    ) (simp lane_word)

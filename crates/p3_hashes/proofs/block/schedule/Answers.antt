@@ -1,14 +1,14 @@
 -- The block's words, and each word that follows from those before it.
-use Rattle.std.proofs.Common.{◌≡◌, ◌∙◌, ◌<◌, ◌*◌, ◌-◌, ◌++◌, ℕ, List, [], ap, arith, get_or, length, length-append, refl}
-use Rattle.std.proofs.Common.{slice_index, sym}
-use Rattle.std.proofs.lemmas.List.{ext_get_or, get_or_append_left, length-map, length-set}
+use Rattle.std.proofs.Common.{◌≡◌, ◌∙◌, ◌<◌, ◌*◌, ◌-◌, ◌++◌, ℕ, List, [], ap, arith, get_or, length, refl}
+use Rattle.std.proofs.Common.{length-append, slice_index, sym}
+use Rattle.std.proofs.lemmas.List.{ext_get_or, get_or_append_left, length-map}
 use Rattle.sha2.specs.Sha256.{schedule, word_at}
 use Rattle.sha2.proofs.Schedule256.{length-schedule, slice_index-schedule_first, slice_index-schedule_next}
 use Rattle.p3_hashes.specs.Inner.Lanes.{lane}
-use Rattle.p3_hashes.proofs.Lanewise.{filled_more, lane_word}
+use Rattle.p3_hashes.proofs.{Lanewise.lane_word, Written.one_written}
 use Rattle.p3_hashes.proofs.block.schedule.Goals as goal
 
--- the words of a block, whatever stands behind them
+-- the words of a block, whatever stands after them
 block_words : (front rest block : List (List ℕ)) → front ≡ block → length block ≡ 16 → (k : ℕ) → k < 16 → (j : ℕ)
     → (b : List ℕ) → ((i : ℕ) → i < 16 → slice_index (lane j block) i ≡ word_at b (4 * i))
     → slice_index (get_or (front ++ rest) k []) j ≡ slice_index (schedule b 48) k
@@ -19,47 +19,40 @@ block_words front rest block same long k inside j b words =
 
 block_long : (front rest block : List (List ℕ)) → front ≡ block → length block ≡ 16 → length rest ≡ 48
     → length (front ++ rest) ≡ 64
-block_long front rest block same long more =
-    omega (arith, length-append front rest, ap length same, long, more)
+block_long front rest block same long more = omega (arith, length-append front rest, ap length same, long, more)
 
 pub loop-t-init : goal.loop-t-init
-loop-t-init c = (
-  block_long c.copy_from_slice.new.self _ c.args.block.now c.copy_from_slice.ensures.after (omega arith) refl,
-  λ k inside j below b words. block_words c.copy_from_slice.new.self _ c.args.block.now c.copy_from_slice.ensures.after
-      (omega arith) k inside j b words,
-)
+loop-t-init c = record {
+  long = block_long c.copy_from_slice.new.self _ c.args.block.now c.copy_from_slice.ensures.after (omega arith) refl;
+  before = λ j none. absurd (omega arith);
+  written = λ k low inside j below b words. block_words c.copy_from_slice.new.self _ c.args.block.now
+      c.copy_from_slice.ensures.after (omega arith) k inside j b words;
+}
 
 pub loop-t-preserved : goal.loop-t-preserved
 loop-t-preserved c =
-    let words = c.loop-t.words in
     let t = c.loop-t.t in
-    let word = c.add-in-loop-t-2.result in
     let low = c.loop-t.auto.t in
-    let high = c.loop-t-test.true in (
-      length-set words t word ∙ c.loop-t.invariant.0,
-      filled_more (λ k v. (j : ℕ) → j < 8 → (b : List ℕ)
-          → ((i : ℕ) → i < 16 → slice_index (lane j c.args.block.now) i ≡ word_at b (4 * i))
-          → slice_index v j ≡ slice_index (schedule b 48) k) words t word [] (omega (arith, c.loop-t.invariant.0, high))
-          (λ j below b is.
-          let at : (i : ℕ) → i < t → slice_index (get_or words i []) j ≡ slice_index (schedule b 48) i =
-          λ i under. c.loop-t.invariant.1 i under j below b is in
-          rw (
-            c.add-in-loop-t-2.ensures j below,
-            c.add-in-loop-t.ensures j below,
-            c.small_sigma0.ensures j below,
-            c.add.ensures j below,
-            c.small_sigma1.ensures j below,
-            at (t - 2) (omega (arith, low)),
-            at (t - 7) (omega (arith, low)),
-            at (t - 15) (omega (arith, low)),
-            at (t - 16) (omega (arith, low)),
-          ) (sym (slice_index-schedule_next b 48 t low (omega (arith, high)))))
-          c.loop-t.invariant.1,
-    )
+    let high = c.loop-t-test.true in
+    one_written c.add-in-loop-t-2.result c.loop-t.invariant (omega arith) refl (omega arith) (λ j below b is.
+    let at : (i : ℕ) → i < t → slice_index (get_or c.loop-t.words i []) j ≡ slice_index (schedule b 48) i =
+    λ i under. c.loop-t.invariant.written i (omega arith) under j below b is in
+    rw (
+      c.add-in-loop-t-2.ensures j below,
+      c.add-in-loop-t.ensures j below,
+      c.small_sigma0.ensures j below,
+      c.add.ensures j below,
+      c.small_sigma1.ensures j below,
+      at (t - 2) (omega (arith, low)),
+      at (t - 7) (omega (arith, low)),
+      at (t - 15) (omega (arith, low)),
+      at (t - 16) (omega (arith, low)),
+    ) (sym (slice_index-schedule_next b 48 t low (omega (arith, high)))))
 
 pub returns : goal.returns
 returns c = λ j below b words.
     let all = c.loop-t.words in
-    let long : length (lane j all) ≡ 64 = length-map all (λ (v : List ℕ). slice_index v j) ∙ c.loop-t.invariant.0 in
+    let long : length (lane j all) ≡ 64 = length-map all (λ (v : List ℕ). slice_index v j) ∙ c.loop-t.invariant.long in
     ext_get_or 0 (lane j all) (schedule b 48) (long ∙ sym (length-schedule b 48)) (λ k inside.
-    lane_word j all k ∙ c.loop-t.invariant.1 k (omega (arith, inside, long, c.loop-t-test.false)) j below b words)
+    lane_word j all k ∙ c.loop-t.invariant.written k (omega arith) (omega (arith, inside, long, c.loop-t-test.false))
+    j below b words)

@@ -1,7 +1,7 @@
 use Rattle.std.proofs.Common.{arith, ℕ, ◌≡◌, ◌+◌, ◌++◌, ◌∙◌, ap, refl, List, [], ◌∷◌, slice_range, get_or}
 use Rattle.p3_support.specs.Lists.{message}
 use Rattle.p3_hashes.specs.Inner.Turned.{turned}
-use Rattle.p3_hashes.proofs.Turns.{lane_cases, turned_lanes}
+use Rattle.p3_hashes.proofs.{Lanewise.each_lane, Turns.turned_lanes}
 use Rattle.p3_hashes.proofs.eights.columns_of_eight.Goals as goal
 
 pub returns : goal.returns
@@ -25,5 +25,5 @@ returns c = λ k below.
     (too 0 (omega arith)) (too 1 (omega arith)) (too 2 (omega arith)) (too 3 (omega arith)) (c.join.ensures ∙ joined 0)
     (c.join-2.ensures ∙ joined 1) (c.join-3.ensures ∙ joined 2)
     (c.join-4.ensures ∙ joined 3) k below
-    ∙ lane_cases (λ j. get_or (row 0 ∷ row 1 ∷ row 2 ∷ row 3 ∷ later 0 ∷ later 1 ∷ later 2 ∷ later 3 ∷ []) j [] ≡ row j)
+    ∙ each_lane (λ j. get_or (row 0 ∷ row 1 ∷ row 2 ∷ row 3 ∷ later 0 ∷ later 1 ∷ later 2 ∷ later 3 ∷ []) j [] ≡ row j)
     refl refl refl refl (same 0) (same 1) (same 2) (same 3) k below

@@ -1,10 +1,7 @@
-use Rattle.std.proofs.Common.{◌≡◌, ℕ, ◌<◌, ◌≤◌, length, slice_index_or, []}
-use Rattle.p3_hashes.specs.Fold.{fold_compress}
+use Rattle.std.proofs.Common.{◌≡◌, slice_index_or, []}
+use Rattle.p3_hashes.specs.{Fold.fold_compress, Inner.Written.AreWritten}
 use Rattle.p3_hashes.proofs.eights.compress_rest.Given as goal
 
 abbrev pub invariant-loop-i : goal.invariant-loop-i
 invariant-loop-i g l =
-    (length l.out ≡ length l.initial.out)
-    × ((j : ℕ) → j < l.from → slice_index_or l.out j [] ≡ slice_index_or l.initial.out j [])
-    × ((j : ℕ) → l.from ≤ j → j < l.i → slice_index_or l.out j []
-    ≡ fold_compress g.row.D (slice_index_or l.groups j []))
+    AreWritten (λ j d. d ≡ fold_compress g.row.D (slice_index_or l.groups j [])) l.from l.i l.initial.out l.out

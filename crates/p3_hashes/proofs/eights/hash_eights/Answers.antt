@@ -1,15 +1,9 @@
-use Rattle.std.proofs.Common.{arith, ◌*◌, ◌∙◌, []}
-use Rattle.p3_hashes.specs.Fold.{fold_hash}
-use Rattle.p3_support.specs.Lists.{message}
-use Rattle.p3_support.proofs.Fills.{filled_block}
+use Rattle.std.proofs.Common.{arith, ◌*◌, ◌∙◌, refl}
+use Rattle.p3_hashes.proofs.Written.{lanes_written, more_written}
 use Rattle.p3_hashes.proofs.eights.hash_eights.Goals as goal
 
 pub loop-group-preserved : goal.loop-group-preserved
-loop-group-preserved g c = (
-  c.unpack_at.ensures.long ∙ c.loop-group.invariant.0,
-  λ j below.
-      filled_block (λ i. fold_hash g.row.D (message c.args.width c.args.messages.now i)) c.loop-group.out
-      c.unpack_at.new.rows (8 * c.loop-group.group) 8 []
-      (λ k h. c.unpack_at.ensures.lanes k h ∙ c.hash_eight-digests.ensures k h) c.unpack_at.ensures.before
-      c.loop-group.invariant.1 j (omega (arith, below)),
-)
+loop-group-preserved g c =
+    more_written c.loop-group.invariant (lanes_written (8 * c.loop-group.group) 8 c.unpack_at.ensures.long
+    (λ k h. c.unpack_at.ensures.lanes k h ∙ c.hash_eight-digests.ensures k h) c.unpack_at.ensures.before)
+    (omega arith) refl (omega arith)

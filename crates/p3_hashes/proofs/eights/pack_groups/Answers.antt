@@ -12,5 +12,6 @@ returns g c = λ k below.
     (λ e y q called. search rules) c.from_fn.ensures.items in
     map_made (of k) (λ e. slice_index_or (group k) e []) [] c.from_fn.result g.row.N c.from_fn.ensures.items.long
     (λ e d h. made e d h k below)
-    ∙ sym (fill_by_all (λ e. slice_index_or (group k) e []) (group k) g.row.N [] (c.lemma_rows.ensures (c.args.first + k) (omega arith))
+    ∙ sym (fill_by_all (λ e. slice_index_or (group k) e []) (group k) g.row.N []
+    (c.lemma_rows.ensures (c.args.first + k) (omega arith))
     (λ e h. search rules))

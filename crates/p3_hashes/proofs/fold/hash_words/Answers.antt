@@ -10,4 +10,5 @@ returns g c =
     let words = c.args.words.now in
     c.absorb_slice.ensures
     ∙ ap (map (λ s. fold take_in s words))
-    (alone 0 c.initial_state-state.result (fold_hash g.row.D []) c.initial_state-state.ensures) ∙ fold_hash-append g.row.D [] words
+    (alone 0 c.initial_state-state.result (fold_hash g.row.D []) c.initial_state-state.ensures)
+    ∙ fold_hash-append g.row.D [] words

@@ -1,18 +1,12 @@
-use Rattle.std.proofs.Common.{◌≡◌, ℕ, List, ◌+◌, ◌*◌, ◌/◌, ◌<◌, ◌∙◌, refl, sym, ap, add-one, length, take, drop, arith}
+use Rattle.std.proofs.Common.{◌≡◌, ℕ, List, ◌+◌, ◌*◌, ◌/◌, ◌<◌, ◌∙◌, sym, ap, length, take, drop, arith}
 use Rattle.sha2.specs.Sha256.{compress, hash_after, initial_hash_256, padded_message}
-use Rattle.p3_support.specs.Lists.{message}
-use Rattle.p3_hashes.proofs.Lanewise.{each_lane}
-use Rattle.p3_hashes.proofs.Padding.{length-message, length-padded_message, word_of_block}
+use Rattle.p3_support.specs.{Inner.RowLengths.length-message, Lists.message}
+use Rattle.p3_hashes.proofs.Padding.{hash_next, length-padded_message, word_of_block}
 use Rattle.p3_hashes.proofs.messages.hash_states.Goals as goal
 
 pub loop-t-init : goal.loop-t-init
 unfolding hash_after
-loop-t-init c = each_lane _ refl refl refl refl refl refl refl refl
-
--- one more block
-hash_next : (h p : List ℕ) (t : ℕ) → hash_after h p (t + 1) ≡ compress (hash_after h p t) (take 64 (drop (t * 64) p))
-unfolding hash_after
-hash_next h p t = rw add-one refl
+loop-t-init c = c.initial_state-state.ensures
 
 pub loop-t-preserved : goal.loop-t-preserved
 loop-t-preserved c = λ j below.
@@ -37,7 +31,7 @@ returns-then-filled_count-block_count c = λ j below.
     let p = padded_message m in
     let t = (c.args.width + 63) / 64 in
     let block = take 64 (drop (t * 64) p) in
-    let long : length m ≡ c.args.width = length-message c.args.width c.args.messages.now j below c.requires.full in
+    let long : length m ≡ c.args.width = length-message c.args.messages.now c.args.width 8 j c.requires.full below in
     let alone : t < (c.args.width + 72) / 64 = omega arith in
     let done : c.loop-t.t ≡ t = omega (arith, c.loop-t.auto.t-end) in
     let all : t + 1 ≡ (c.args.width + 72) / 64 = omega arith in
@@ -50,6 +44,6 @@ returns-then-filled_count-block_count c = λ j below.
 pub returns-else-filled_count-block_count : goal.returns-else-filled_count-block_count
 returns-else-filled_count-block_count c = λ j below.
     let m = message c.args.width c.args.messages.now j in
-    let long : length m ≡ c.args.width = length-message c.args.width c.args.messages.now j below c.requires.full in
+    let long : length m ≡ c.args.width = length-message c.args.messages.now c.args.width 8 j c.requires.full below in
     c.loop-t.invariant j below ∙ ap (hash_after initial_hash_256 (padded_message m))
     (count_of m c.args.width c.loop-t.t long (omega (arith, c.loop-t.auto.t-end)))

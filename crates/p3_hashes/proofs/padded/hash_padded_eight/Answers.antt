@@ -1,8 +1,7 @@
-use Rattle.std.proofs.Common.{◌≡◌, ℕ, List, [], ◌*◌, ◌/◌, ◌<◌, ◌∙◌, ap, length, arith, sym}
-use Rattle.std.proofs.lemmas.List.{length-set}
+use Rattle.std.proofs.Common.{◌≡◌, ℕ, List, ◌*◌, ◌/◌, ◌<◌, ◌∙◌, ap, refl, length, arith, sym}
 use Rattle.sha2.specs.Sha256.{digest_bytes, hash_after, initial_hash_256, padded_message, sha256}
-use Rattle.p3_support.specs.Lists.{message}
-use Rattle.p3_hashes.proofs.{Lanewise.filled_more, Padding.length-message}
+use Rattle.p3_support.specs.{Inner.RowLengths.length-message, Lists.message}
+use Rattle.p3_hashes.proofs.Written.{one_written}
 use Rattle.p3_hashes.proofs.padded.hash_padded_eight.Goals as goal
 
 -- how many blocks the padded message has
@@ -10,29 +9,21 @@ count_of : (blocks m : List ℕ) (count j : ℕ) → j < 8 → length blocks ≡
     message (64 * count) blocks j ≡ padded_message m → count ≡ length (padded_message m) / 64
 count_of blocks m count j below full is =
     let long : 64 * count ≡ length (padded_message m) =
-    sym (length-message (64 * count) blocks j below full) ∙ ap length is in
+    sym (length-message blocks (64 * count) 8 j full below) ∙ ap length is in
     omega (arith, long)
 
 pub loop-j-preserved : goal.loop-j-preserved
 unfolding sha256
 loop-j-preserved c =
-    let digests = c.loop-j.digests in
     let j = c.loop-j.j in
-    let digest = c.digest_of.result in
-    let blocks = c.args.blocks.now in
     let count = c.args.count in
     let below : j < 8 = omega arith in
-    let inside : j < length digests = omega (arith, c.loop-j.invariant.0) in (
-      length-set digests j digest ∙ c.loop-j.invariant.0,
-      filled_more (λ (k : ℕ) (d : List ℕ). (m : List ℕ) → message (64 * count) blocks k ≡ padded_message m →
-          d ≡ sha256 m) digests j digest [] inside
-          (λ m is. c.digest_of.ensures ∙ ap (λ (h : List ℕ). digest_bytes h 8)
-          (c.lane_words.ensures ∙ c.whole_states-state.ensures j below
-          ∙ ap (λ (p : List ℕ). hash_after initial_hash_256 p count) is
-          ∙ ap (hash_after initial_hash_256 (padded_message m)) (count_of blocks m count j below c.requires is)))
-          c.loop-j.invariant.1,
-    )
+    one_written c.digest_of.result c.loop-j.invariant (omega arith) refl (omega arith)
+    (λ m is. c.digest_of.ensures ∙ ap (λ (h : List ℕ). digest_bytes h 8)
+    (c.lane_words.ensures ∙ c.whole_states-state.ensures j below
+    ∙ ap (λ (p : List ℕ). hash_after initial_hash_256 p count) is
+    ∙ ap (hash_after initial_hash_256 (padded_message m)) (count_of c.args.blocks.now m count j below c.requires is)))
 
 pub returns : goal.returns
 returns c = λ j m below is.
-    c.loop-j.invariant.1 j (omega (arith, c.loop-j.auto.j-end)) m is
+    c.loop-j.invariant.written j (omega arith) (omega (arith, c.loop-j.auto.j-end)) m is

@@ -1,17 +1,12 @@
-use Rattle.std.proofs.Common.{◌≡◌, ℕ, List, ◌+◌, ◌*◌, ◌∙◌, refl, sym, ap, add-one, take, drop, arith}
+use Rattle.std.proofs.Common.{◌≡◌, ℕ, List, ◌*◌, ◌∙◌, sym, ap, take, drop, arith}
 use Rattle.sha2.specs.Sha256.{compress, hash_after, initial_hash_256}
 use Rattle.p3_support.specs.Lists.{message}
-use Rattle.p3_hashes.proofs.{Lanewise.each_lane, Padding.word_of_block}
+use Rattle.p3_hashes.proofs.Padding.{hash_next, word_of_block}
 use Rattle.p3_hashes.proofs.padded.whole_states.Goals as goal
 
 pub loop-t-init : goal.loop-t-init
 unfolding hash_after
-loop-t-init c = each_lane _ refl refl refl refl refl refl refl refl
-
--- one more block
-hash_next : (h p : List ℕ) (t : ℕ) → hash_after h p (t + 1) ≡ compress (hash_after h p t) (take 64 (drop (t * 64) p))
-unfolding hash_after
-hash_next h p t = rw add-one refl
+loop-t-init c = c.initial_state-state.ensures
 
 pub loop-t-preserved : goal.loop-t-preserved
 loop-t-preserved c = λ j below.

@@ -1,4 +1,4 @@
-use Rattle.std.proofs.Common.{◌≡◌, ◌∙◌, ap, sym, ◌++◌, ◌∷◌, [], map, append-nil}
+use Rattle.std.proofs.Common.{◌≡◌, ◌∙◌, ap, [], map, append-nil}
 use Rattle.std.specs.List.{fold, flat_map}
 use Rattle.std.proofs.lemmas.Grind.{flat_map-append}
 use Rattle.p3_hashes.specs.Fold.{fold_hash, take_in}
@@ -12,13 +12,11 @@ loop-words-init g c = alone 0 c.initial_state-state.result (fold_hash g.row.D []
 pub loop-words-preserved : goal.loop-words-preserved
 loop-words-preserved g c =
     let items = g.S.AsSlice.items in
-    let so_far = c.loop-words.yielded in
-    let words = c.in-Some.words in
-    let more : flat_map items (so_far ++ words ∷ []) ≡ flat_map items so_far ++ items words =
-    flat_map-append items so_far (words ∷ []) ∙ ap (λ l. flat_map items so_far ++ l) (append-nil (items words)) in
-    c.absorb_slice.ensures ∙ ap (λ l. map (λ s. fold take_in s l) c.loop-words.state) c.as_slice.ensures
-    ∙ ap (map (λ s. fold take_in s (items words))) c.loop-words.invariant
-    ∙ fold_hash-append g.row.D (flat_map items so_far) (items words) ∙ ap (fold_hash g.row.D) (sym more)
+    let words = items c.in-Some.words in
+    rw (flat_map-append, append-nil) (c.absorb_slice.ensures
+    ∙ ap (λ l. map (λ s. fold take_in s l) c.loop-words.state) c.as_slice.ensures
+    ∙ ap (map (λ s. fold take_in s words)) c.loop-words.invariant
+    ∙ fold_hash-append g.row.D (flat_map items c.loop-words.yielded) words)
 
 pub returns : goal.returns
 returns g c =

@@ -1,17 +1,12 @@
-use Rattle.std.proofs.Common.{ℕ, ◌+◌, ◌%◌, ◌^◌, ◌<◌, ◌∙◌, ap, length, replicate, slice_index_or}
-use Rattle.std.proofs.lemmas.{Simd.length-zip2, Simd.get_or-zip2, List.get_or-replicate}
+use Rattle.std.proofs.Common.{ℕ, ◌+◌, ◌%◌, ◌^◌}
+use Rattle.p3_hashes.proofs.Lanewise.{itself, splatted, zipped}
 use Rattle.p3_hashes.proofs.lanes.U32x8FoldLane.add_to_each.Goals as goal
 
 pub invariant_of-result : goal.invariant_of-result
-invariant_of-result c = record {
-  long = length-zip2 _ c.args.self.lanes (replicate 8 c.args.number) c.args.self.long
-      ∙ c.args.self.long;
-}
+invariant_of-result c =
+    let self = itself c.args.self.lanes c.args.self.long in
+    record { long = (zipped (λ (a b : ℕ). (a + b) % 2 ^ 32) self (splatted c.args.number)).long }
 
 pub returns : goal.returns
-returns c = λ k below.
-    let add = λ (a b : ℕ). (a + b) % 2 ^ 32 in
-    let s = c.args.self.lanes in
-    let inside : k < length s = rw c.args.self.long below in
-    get_or-zip2 add s (replicate 8 c.args.number) k 0 0 0 inside below
-    ∙ ap (add (slice_index_or s k 0)) (get_or-replicate 8 k c.args.number 0 below)
+returns c = (zipped (λ (a b : ℕ). (a + b) % 2 ^ 32) (itself c.args.self.lanes c.args.self.long)
+    (splatted c.args.number)).each

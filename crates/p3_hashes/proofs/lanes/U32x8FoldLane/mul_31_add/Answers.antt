@@ -1,26 +1,18 @@
-use Rattle.std.proofs.Common.{ℕ, ◌+◌, ◌*◌, ◌%◌, ◌^◌, ◌<◌, ◌∙◌, sym, ap, length, replicate, slice_index_or}
-use Rattle.std.proofs.lemmas.{Simd.length-zip2, Simd.get_or-zip2, List.get_or-replicate}
+use Rattle.std.proofs.Common.{◌≡◌, ℕ, ◌+◌, ◌*◌, ◌%◌, ◌^◌, ◌∙◌, List, length, replicate, slice_index}
 use Rattle.std.specs.Simd.Lanes.{zip2}
 use Rattle.p3_hashes.proofs.FoldSteps.{taken_in}
+use Rattle.p3_hashes.proofs.Lanewise.{Eight, itself, splatted, zipped}
 use Rattle.p3_hashes.proofs.lanes.U32x8FoldLane.mul_31_add.Goals as goal
+
+sums : (s w : List ℕ) → length s ≡ 8 → length w ≡ 8
+    → Eight (zip2 (λ a b. (a + b) % 2 ^ 32) (zip2 (λ a b. (a * b) % 2 ^ 32) s (replicate 8 31)) w)
+    (λ k. ((slice_index s k * 31) % 2 ^ 32 + slice_index w k) % 2 ^ 32)
+sums s w long too = zipped _ (zipped _ (itself s long) (splatted 31)) (itself w too)
 
 pub invariant_of-result : goal.invariant_of-result
 invariant_of-result c =
-    let product = length-zip2 _ c.args.self.lanes (replicate 8 31) c.args.self.long in
-    record {
-      long = length-zip2 _ _ c.args.word.lanes (product ∙ c.args.self.long ∙ sym c.args.word.long) ∙ product
-          ∙ c.args.self.long;
-    }
+    record { long = (sums c.args.self.lanes c.args.word.lanes c.args.self.long c.args.word.long).long }
 
 pub returns : goal.returns
-returns c = λ k below.
-    let mul = λ (a b : ℕ). (a * b) % 2 ^ 32 in
-    let add = λ (a b : ℕ). (a + b) % 2 ^ 32 in
-    let s = c.args.self.lanes in
-    let w = c.args.word.lanes in
-    let inside : k < length s = rw c.args.self.long below in
-    let product = length-zip2 mul s (replicate 8 31) c.args.self.long in
-    get_or-zip2 add (zip2 mul s (replicate 8 31)) w k 0 0 0 (rw product inside) (rw c.args.word.long below)
-    ∙ ap (λ v. add v (slice_index_or w k 0)) (get_or-zip2 mul s (replicate 8 31) k 0 0 0 inside below
-    ∙ ap (λ v. mul (slice_index_or s k 0) v) (get_or-replicate 8 k 31 0 below))
-    ∙ taken_in (slice_index_or s k 0) (slice_index_or w k 0)
+returns c = λ k below. (sums c.args.self.lanes c.args.word.lanes c.args.self.long c.args.word.long).each k below
+    ∙ taken_in _ _

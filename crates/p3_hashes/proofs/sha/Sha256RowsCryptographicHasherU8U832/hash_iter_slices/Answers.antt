@@ -1,5 +1,5 @@
 -- Each slice is handed on whole.
-use Rattle.std.proofs.Common.{◌≡◌, ◌∙◌, ap, ◌++◌, ◌∷◌, [], append-nil}
+use Rattle.std.proofs.Common.{◌≡◌, append-nil}
 use Rattle.std.specs.List.{flat_map}
 use Rattle.std.proofs.lemmas.Grind.{flat_map-append}
 use Rattle.p3_hashes.specs.Sha.{sha256_rows}
@@ -10,13 +10,7 @@ pub loop-bytes-init : goal.loop-bytes-init
 loop-bytes-init g c = c.new-hasher.ensures
 
 pub loop-bytes-preserved : goal.loop-bytes-preserved
-loop-bytes-preserved g c =
-    let items = g.S.AsSlice.items in
-    let so_far = c.loop-bytes.yielded in
-    let bytes = c.in-Some.bytes in
-    let more : flat_map items (so_far ++ bytes ∷ []) ≡ flat_map items so_far ++ items bytes =
-    flat_map-append items so_far (bytes ∷ []) ∙ ap (λ l. flat_map items so_far ++ l) (append-nil (items bytes)) in
-    rw more (c.update.ensures _ c.loop-bytes.invariant)
+loop-bytes-preserved g c = rw (flat_map-append, append-nil) (c.update.ensures _ c.loop-bytes.invariant)
 
 pub returns : goal.returns
 returns g c =

@@ -1,4 +1,4 @@
-use Rattle.std.proofs.Common.{ℕ, ◌*◌, ◌<◌, ◌∙◌, sym, ap, List, length, map, slice_index_or, []}
+use Rattle.std.proofs.Common.{arith, ℕ, ◌*◌, ◌<◌, ◌∙◌, sym, ap, List, length, map, slice_index_or, []}
 use Rattle.std.proofs.lemmas.List.{get_or-map, length-map, FromFn.fill_by_all}
 use Rattle.std.specs.List.{concat, flat_map}
 use Rattle.sha2.specs.Sha256.{sha256}
@@ -16,7 +16,7 @@ returns g c =
     ∙ ap (λ (l : List (List ℕ)). flat_map (λ x. x) l) c.as_flattened.ensures.value in
     fill_by_all digest c.hash_all.new.out (length groups) [] (c.hash_all.ensures.long ∙ sym c.requires) (λ k h.
     let inside : k < length c.args.out.now = rw (← c.requires) h in
-    c.hash_all.ensures.filled k inside ∙ ap (λ (l : List ℕ). sha256 (message size l k)) bytes
+    c.hash_all.ensures.written k (omega arith) inside ∙ ap (λ (l : List ℕ). sha256 (message size l k)) bytes
     ∙ ap sha256 (message_of_group g.row.N g.row.D groups c.lemma_rows.ensures c.lemma_digests.ensures k h))
     ∙ sym (fill_by_all digest (map of groups) (length groups) [] (length-map groups of)
     (λ k h. get_or-map of groups k [] [] h))

@@ -1,4 +1,4 @@
-use Rattle.std.proofs.Common.{rules, ◌≡◌, ℕ, ◌<◌, ◌/◌, ◌∙◌, sym, ap, length, []}
+use Rattle.std.proofs.Common.{rules, arith, ◌≡◌, ℕ, ◌<◌, ◌/◌, ◌∙◌, sym, ap, length, []}
 use Rattle.std.proofs.{Math.Nat.mul-div_cancel, lemmas.List.FromFn.fill_by_all, lemmas.Simd.map-map}
 use Rattle.std.specs.List.{range_with_len}
 use Rattle.sha2.specs.Sha256.{sha256}
@@ -12,5 +12,5 @@ returns c = λ w e.
     let some : 0 < n = search rules in
     let width : length xs / n ≡ w = rw e (mul-div_cancel w some) in
     fill_by_all (λ i. sha256 (message w xs i)) c.hash_all.new.out n [] c.hash_all.ensures.long
-    (λ k h. c.hash_all.ensures.filled k h ∙ ap (λ (v : ℕ). sha256 (message v xs k)) width)
+    (λ k h. c.hash_all.ensures.written k (omega arith) h ∙ ap (λ (v : ℕ). sha256 (message v xs k)) width)
     ∙ sym (map-map sha256 (message w xs) (range_with_len 0 n))
