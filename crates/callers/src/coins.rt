@@ -93,16 +93,6 @@ impl CryptographicHasher<Coin, Coin, 1> for Parity {
         )]
     }
 
-    fn hash_many(&self, messages: &[Coin], out: &mut [[Coin; 1]]) {
-        if out.is_empty() {
-            return;
-        }
-        let width = messages.len() / out.len();
-        for (i, digest) in out.iter_mut().enumerate() {
-            *digest = self.hash_slice(&messages[i * width..(i + 1) * width]);
-        }
-    }
-
     fn hash_packed<I: Iterator<Item = Coin>>(&self, input: I) -> [Coin; 1] {
         self.hash_iter(input)
     }
@@ -117,12 +107,6 @@ impl PseudoCompressionFunction<Coin, 2, 1> for Parity {
         ensures { result ≡ joint_parity input }
     {
         self.hash_slice(input.as_flattened())
-    }
-
-    fn compress_many(&self, groups: &[[[Coin; 1]; 2]], out: &mut [[Coin; 1]]) {
-        for (i, digest) in out.iter_mut().enumerate() {
-            *digest = self.compress(groups[i]);
-        }
     }
 
     fn compress_packed(&self, input: [[Coin; 1]; 2]) -> [Coin; 1]

@@ -58,16 +58,6 @@ impl CryptographicHasher<Node, Node, 1> for LeafHashes {
         })]
     }
 
-    fn hash_many(&self, messages: &[Node], out: &mut [[Node; 1]]) {
-        if out.is_empty() {
-            return;
-        }
-        let width = messages.len() / out.len();
-        for (i, digest) in out.iter_mut().enumerate() {
-            *digest = self.hash_slice(&messages[i * width..(i + 1) * width]);
-        }
-    }
-
     fn hash_packed<I: Iterator<Item = Node>>(&self, input: I) -> [Node; 1] {
         self.hash_iter(input)
     }
@@ -89,12 +79,6 @@ impl<H: LogHash<32>> PseudoCompressionFunction<Node, 2, 1> for NodeHashes<H> {
     {
         let [[left], [right]] = input;
         [parent_of::<H>(left, right)]
-    }
-
-    fn compress_many(&self, groups: &[[[Node; 1]; 2]], out: &mut [[Node; 1]]) {
-        for (i, digest) in out.iter_mut().enumerate() {
-            *digest = self.compress(groups[i]);
-        }
     }
 
     fn compress_packed(&self, input: [[Node; 1]; 2]) -> [Node; 1]
