@@ -1,4 +1,4 @@
-//! Which calls of a hasher and of a compression build a tree, in which order.
+//! Tests of the calls of a hasher and a compression by which a tree is built, in their order.
 
 ghost use Rattle.std.specs.Prelude.{◌≡◌, ℕ, ◌<◌, ◌≤◌, map};
 ghost use Rattle.p3_support.specs.Lists.{lane_of};
@@ -17,7 +17,7 @@ use std::fmt::Write;
 use std::process::Abort;
 use std::test::Fail;
 
-/// The calls so far, each with how many digests it makes.
+/// The calls so far, each with the number of its digests.
 #[derive(Drop)]
 struct Notes {
     alloc: Global,
@@ -25,7 +25,7 @@ struct Notes {
 }
 
 impl Notes {
-    /// Notes a call. Where there is no memory for it, it is missing, which each test shows.
+    /// Notes a call. If memory runs out, the note is missing, and the test fails.
     fn note(&self, call: &str, digests: usize) {
         let mut text = self.text.replace(String::new(self.alloc));
         let _ = write!(text, "{call} {digests}, ");
@@ -33,7 +33,7 @@ impl Notes {
     }
 }
 
-/// The functions of `X`, by the calls of `X`, which are noted, with `LANES` `L`.
+/// A wrapper of `X`, with `LANES` set to `L`, that notes each call and then makes it.
 #[derive(Drop)]
 struct Noting<'a, X, const L: usize> {
     functions: X,
@@ -117,8 +117,8 @@ impl<
     }
 }
 
-/// Asserts by which calls a tree of arity 2 is built over matrices of these widths and heights, where the hasher and
-/// the compression say that they take `L` rows and `G` groups at a time.
+/// Asserts that these calls build the tree of arity 2 over matrices of these widths and heights. `L` is the `LANES` of
+/// the hasher, `G` that of the compression.
 fn assert_calls<P: FoldLane, const L: usize, const G: usize>(
     rt: &impl Abort,
     alloc: Global,

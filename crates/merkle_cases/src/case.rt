@@ -62,7 +62,7 @@ pub struct Case<'a> {
     pub rest: &'a str,
     /// The rule of a cap that names none.
     pub rule: CapRule,
-    /// Whether a cap has been read that names no rule, so that the line speaks of each rule.
+    /// Whether a cap has been read that names no rule, so that the answer must hold under both rules.
     pub is_for_any_rule: bool,
     /// The answer as far as it has been written.
     pub answer: String,
@@ -153,8 +153,8 @@ impl<'a> Case<'a> {
         Ok(())
     }
 
-    /// Ends a case with the outcome of its calls: the text of what they refuse, or of what is wrong with them, stands in
-    /// the place of an answer. Fails where memory ran out or the line can't be read.
+    /// Takes the outcome of the calls: the text of a refusal, or of what is wrong with an answer, becomes the answer.
+    /// Fails where memory ran out or the line can't be read.
     pub fn settle(&mut self, outcome: Result<(), Fault>) -> Result<(), Fault> {
         match outcome {
             Ok(()) => Ok(()),
@@ -170,7 +170,7 @@ impl<'a> Case<'a> {
         }
     }
 
-    /// Fails where the same case, which has had this outcome by another scheme, has another answer than this settled one.
+    /// Fails where `again`, the same case with the outcome of another scheme, has another answer than this settled one.
     pub fn check_alike(
         &self,
         mut again: Case<'_>,

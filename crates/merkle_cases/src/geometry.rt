@@ -1,4 +1,4 @@
-//! What heights alone decide, at any arity, and the shapes of trees.
+//! Cases of schedules, proof lengths and heights, which need no words of matrices, and of the shapes of trees.
 
 ghost use Rattle.std.specs.Prelude.{◌%◌, ◌^◌, ◌≤◌, replicate};
 ghost use Rattle.std.proofs.lemmas.List.{length-replicate};
@@ -44,11 +44,11 @@ impl Matrix<u32> for Numbers {
 
 /// Answers a case of heights by a scheme:
 ///
-/// - `schedule | ARITY | CAP | HEIGHTS | STEPS`: the steps from the leaves up to the cap, in children a node;
-/// - `replay | ARITY | CAP | HEIGHTS | INDEX | NUMBER OF SIBLINGS | STEPS | POSITIONS`: how the path of an index goes,
-///   as a clone of the answer shows it;
-/// - `authenticated | ARITY | CAP | HEIGHTS | ANSWERS`: of each matrix `yes` or `no`;
-/// - `pruned_len | ARITY | CAP | HEIGHTS | INDICES | DIGESTS`: how many digests a pruned proof of some indices has.
+/// - `schedule | ARITY | CAP | HEIGHTS | STEPS`: the steps from the leaves up to the cap;
+/// - `replay | ARITY | CAP | HEIGHTS | INDEX | NUMBER OF SIBLINGS | STEPS | POSITIONS`: the steps on the path of an
+///   index, and its position in each group, read from a clone of the answer;
+/// - `authenticated | ARITY | CAP | HEIGHTS | ANSWERS`: `yes` or `no` for each matrix;
+/// - `pruned_len | ARITY | CAP | HEIGHTS | INDICES | DIGESTS`: the number of digests in a pruned proof of the indices.
 pub fn geometry<const N: usize, const D: usize>(
     case: &mut Case<'_>,
     kind: &str,
@@ -84,8 +84,8 @@ pub fn geometry<const N: usize, const D: usize>(
     }
 }
 
-/// `shape | ARITY | CAP | HEIGHTS | STEPS | LENGTHS`: the steps from the leaves up to the cap, and of each layer,
-/// leaves first, how many of its slots are nodes. The last node has no default digest.
+/// `shape | ARITY | CAP | HEIGHTS | STEPS | LENGTHS`: the steps from the leaves up to the cap, then the nodes and the
+/// slots of each layer, leaves first. The last node of a layer must not have the default digest.
 pub fn shape<const N: usize>(case: &mut Case<'_>, scheme: &FoldScheme<N, 1>) -> Result<(), Fault> {
     let alloc = case.alloc;
     let columns = case.columns()?;
@@ -105,7 +105,7 @@ pub fn shape<const N: usize>(case: &mut Case<'_>, scheme: &FoldScheme<N, 1>) -> 
     Ok(())
 }
 
-/// Matrices of these dimensions that take no memory for their rows, each word of which is the number of its row.
+/// A matrix of each of these dimensions.
 pub fn tall_matrices(alloc: Global, dimensions: &[Dimensions]) -> Result<Vec<Numbers>, AllocError> {
     let mut matrices = Vec::new(alloc);
     for Dimensions { width, height } in dimensions {
@@ -121,7 +121,7 @@ const ROOT: Cap = Cap {
     rule: CapRule::Lowered,
 };
 
-/// What the check of an opening answers that has one word of each column, and no siblings.
+/// The verdict on an opening with one word for each column, and no siblings.
 fn checked(alloc: Global, columns: &[Dimensions]) -> Result<Result<(), MerkleTreeError>, Fault> {
     let mut rows = Vec::new(alloc);
     for _column in columns {
@@ -132,8 +132,8 @@ fn checked(alloc: Global, columns: &[Dimensions]) -> Result<Result<(), MerkleTre
     Ok(fold_scheme::<2>(ROOT).verify_batch(&cap, columns, 0, opening))
 }
 
-/// `heights | HEIGHTS | ERROR`: what each call that takes heights answers, where all answer alike, and else all their
-/// answers: of the test of heights, the commit, the tree, the schedule and the check of an opening.
+/// `heights | HEIGHTS | ERROR`: the answer that all calls with heights give, or all their answers where two differ:
+/// those of the test of heights, the commit, the tree, the schedule and the check of an opening.
 pub fn heights(case: &mut Case<'_>) -> Result<(), Fault> {
     let alloc = case.alloc;
     let columns = case.columns()?;

@@ -1,10 +1,10 @@
-//! Reads cases from standard input, one a line, and says which are not answered as their line says.
+//! Reads cases from standard input, one a line, and prints those whose answer is not the expected one.
 //!
-//! A line is a keyword, fields and the expected answer, with `|` between them. A blank line is no case, nor is one that
-//! begins with `#`. Trees are those of the fold functions with digests of one word; a keyword that begins with `salted_`
-//! has salts, and one that begins with `sha256_` SHA-256 over bytes. A new kind of case is a function that reads all its
-//! fields and then answers, and an arm of [`answer`], of [`answer_at`] where its first fields are an arity and a cap, or
-//! of [`answered`] where any scheme answers it.
+//! A line is a keyword, fields and the expected answer, with `|` between them. Blank lines and lines that begin with
+//! `#` are skipped. Trees use the fold functions with digests of one word. A keyword that begins with `salted_` has
+//! salts; one that begins with `sha256_` has SHA-256 over bytes. A new kind of case is a function that reads all its
+//! fields and then answers. It needs an arm in [`answer`], in [`answer_at`] where its first fields are an arity and a
+//! cap, or in [`answered`] where any scheme answers it.
 #![tactic(auto)]
 
 ghost use Rattle.std.specs.Prelude.{◌≤◌, IsTrue};
@@ -70,7 +70,8 @@ fn check_commit<S: Tried<u32, [u32; 1]>>(
     case.check_alike(again, outcome)
 }
 
-/// Answers a case of a commit, alike by each way to build trees: one by one, in lanes, in batches of eight and of three.
+/// Answers a case of a commit by each way to build trees: one by one, in lanes, and in batches of eight and of three.
+/// Fails where two of them differ.
 fn commit_alike<const N: usize>(case: &mut Case<'_>, cap: Cap) -> Result<(), Fault>
     requires arity { IsTrue (is_arity N) }
     requires few { N ≤ 16 }
@@ -145,8 +146,8 @@ fn answer(case: &mut Case<'_>) -> Result<(), Fault> {
     }
 }
 
-/// What a case is answered by this rule where its cap names none, if that is not what its line says; and whether the
-/// line speaks of each rule.
+/// The wrong answer of a case, if it has one, and whether its answer must hold under both rules. `rule` is the rule of
+/// a cap that names none.
 fn wrong_by(alloc: Global, line: &str, rule: CapRule) -> Result<(Option<String>, bool), Fault> {
     let mut case = Case::of(alloc, line, rule);
     let outcome = answer(&mut case);
@@ -163,7 +164,7 @@ fn wrong_by(alloc: Global, line: &str, rule: CapRule) -> Result<(Option<String>,
     ))
 }
 
-/// What a case is answered, if that is not what its line says.
+/// The wrong answer of a case, if it has one.
 fn wrong_answer(alloc: Global, line: &str) -> Result<Option<String>, Fault> {
     match wrong_by(alloc, line, CapRule::Lowered)? {
         (None, true) => Ok(wrong_by(alloc, line, CapRule::Fixed)?.0),
