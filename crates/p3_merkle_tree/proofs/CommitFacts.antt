@@ -1,16 +1,11 @@
 -- What the plain commitment to pairs says of the salted matrices.
-use Rattle.std.proofs.Common.{◌≡◌, ◌⊎◌, ◌*◌, ◌+◌, ℕ, List, [], ◌∷◌, ap, refl, inl, inr, None, Option, Result}
+use Rattle.std.proofs.Common.{◌≡◌, ◌⊎◌, ◌*◌, ◌+◌, ℕ, List, [], ◌∷◌, ap, refl, inl, Result}
 use Rattle.std.specs.Prelude.{Ok, Err, IfErr, IfOk, IsErr, OnOk}
 use Rattle.rand_core.specs.Stream.{Stream}
-use Rattle.p3_support.specs.{Salts.after_words, Batches.heights_of, declared.matrix.Dimensions.Dimensions}
-use Rattle.p3_merkle_core.specs.{Refusals.AnswersUnlessMemory, Nodes.Matrix, Nodes.dimensions_of}
+use Rattle.p3_support.specs.{Salts.after_words, declared.matrix.Dimensions.Dimensions}
+use Rattle.p3_merkle_core.specs.Nodes.{Matrix, dimensions_of}
 use Rattle.p3_merkle_core.specs.declared.error.MerkleTreeError.{MerkleTreeError, TheVariants.OutOfMemory}
 use Rattle.p3_merkle_tree.specs.{Salted.salted_matrices, SaltedOpenings.widened}
-
--- a matrix keeps its height beside its salts
-pub widened_heights : (e : ℕ) (ds : List Dimensions) → heights_of (widened e ds) ≡ heights_of ds
-widened_heights e [] = refl
-widened_heights e (d ∷ ds) = ap (λ (hs : List ℕ). d.height ∷ hs) (widened_heights e ds)
 
 -- salted matrices are so much wider
 pub salted_widened : {T : Type 0} (of_word : ℕ → T) (e : ℕ) (ms : List (Matrix T)) (s : Stream) →
@@ -21,19 +16,7 @@ salted_widened of_word e (m ∷ ms) s =
     (salted_widened of_word e ms (after_words (m.height * e) s))
 
 module _ {A : Type 0} where
-  -- an error where nothing is refused is for want of memory
-  pub memory_alone : (r : Result A MerkleTreeError) (refusal : Option MerkleTreeError) → AnswersUnlessMemory r refusal →
-      refusal ≡ None → IfErr r (λ e. e ≡ OutOfMemory)
-  memory_alone (Ok v) refusal a none = tt
-  memory_alone (Err e) refusal (inl m) none = m
-  memory_alone (Err e) refusal (inr some) none = absurd cc
-
-  -- and the other way round
-  pub unrefused : (r : Result A MerkleTreeError) (refusal : Option MerkleTreeError) → IfErr r (λ e. e ≡ OutOfMemory) →
-      refusal ≡ None → AnswersUnlessMemory r refusal
-  unrefused (Ok v) refusal m none = none
-  unrefused (Err e) refusal m none = inl m
-
+  -- an error for want of memory leaves open what else is one
   pub memory_or : (P : Type 0) (r : Result A MerkleTreeError) → IfErr r (λ e. e ≡ OutOfMemory) →
       IfErr r (λ e. (e ≡ OutOfMemory) ⊎ P)
   memory_or P (Ok v) m = tt
@@ -43,11 +26,7 @@ module _ {A : Type 0} where
   on_ok P (Ok v) holds = holds
   on_ok P (Err e) holds = tt
 
-  -- an error says nothing of what is made, and nothing of what is drawn
-  pub nothing_made : (P : A → Type 0) (r : Result A MerkleTreeError) → IsErr r → IfOk r P
-  nothing_made P (Ok v) err = absurd cc
-  nothing_made P (Err e) err = tt
-
+  -- an error says nothing of what is drawn
   pub nothing_drawn : (P : Type 0) (r : Result A MerkleTreeError) → IsErr r → OnOk r P
   nothing_drawn P (Ok v) err = absurd cc
   nothing_drawn P (Err e) err = tt

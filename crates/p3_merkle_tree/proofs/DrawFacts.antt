@@ -45,14 +45,6 @@ module _ {T A : Type 0} (of_word : ℕ → T) (e : ℕ) (shown : A → Matrix T)
       ≡ done ++ salted_matrices of_word e (map shown left) s = rw (is, pushed, made, after, append_assoc) refl in
       now ∙ before
 
-  -- the stream is so many words further
-  pub stream_more : (m : A) (left rest : List A) (s t end : Stream) → left ≡ m ∷ rest → t
-      ≡ after_words ((shown m).height * e) s →
-      after_salts e (map shown left) s ≡ end → after_salts e (map shown rest) t ≡ end
-  stream_more m left rest s t end is after before =
-      let now : after_salts e (map shown rest) t ≡ after_salts e (map shown left) s = rw (is, after) refl in
-      now ∙ before
-
 -- what is shown of one more joins what is shown of those before it
 pub same_more : {X A : Type 0} (f : X → A) (done more : List X) (x : X) (m : A) (left rest all : List A) → left
     ≡ m ∷ rest → f x ≡ m → more ≡ done ++ x ∷ [] → map f done ++ left ≡ all → map f more ++ rest ≡ all

@@ -1,6 +1,7 @@
 -- Loops over a slice that make a value of each item.
 use Rattle.std.proofs.Common.{◌≡◌, ◌∙◌, ℕ, ◌+◌, ◌<◌, ◌≤◌, List, [], ◌∷◌, ◌++◌, ap, sym, get_or, length, map, take}
 use Rattle.std.proofs.lemmas.List.{map-append, map_more, take_all}
+use Rattle.std.specs.Prelude.{Ok, Err, IfOk, IsErr, Result}
 
 -- what is made of one more item joins what is made of those before it
 pub made_more : {X Y : Type 0} (f : X → Y) (xs : List X) (i : ℕ) (x : X) (y : Y) (done more : List Y) → i < length xs →
@@ -26,3 +27,8 @@ pub made_next : {X Y : Type 0} (f : X → Y) (xs : List X) (i : ℕ) (d : X) (do
     ≡ done ++ f (get_or xs i d) ∷ [] → done ≡ map f (take i xs) → more ≡ map f (take (i + 1) xs)
 made_next f xs i d done more inside pushed before = pushed ∙ ap (λ (z : List _). z ++ f (get_or xs i d) ∷ []) before
     ∙ sym (map_more f xs i d inside)
+
+-- an error has no value
+pub no_value : {A E : Type 0} (r : Result A E) (P : A → Type 0) → IsErr r → IfOk r P
+no_value (Ok v) P err = absurd cc
+no_value (Err e) P err = tt

@@ -1,14 +1,14 @@
 -- Rows that are joined with their salts one by one, and widths that can grow.
-use Rattle.std.proofs.Common.{◌≡◌, ◌↔◌, ℕ, ◌+◌, ◌<◌, ◌≤◌, ◌^◌, ◌⊎◌, inl, inr, List, [], ◌∷◌, ◌++◌, refl, sym, ap, ◌∙◌}
-use Rattle.std.proofs.Common.{length, get_or, map, zip, None, Some, nat_le, nat_lt, append-nil, append_assoc, eq-eqb}
-use Rattle.std.proofs.Common.{arith, eqb, false, Option}
-use Rattle.std.proofs.lemmas.Bool.{cases_lt, cond-false, cond-true, le-ltb, lt-ltb, leb-false, le-leb, lt-leb}
-use Rattle.std.proofs.lemmas.List.{get_or-map, length-map, map-append, Sums.fails_before_first, Sums.position_or_len_is}
-use Rattle.std.specs.{List.position_or_len, Option.option_map, Option.option_or, declared.vec.Vec.Vec}
+use Rattle.std.proofs.Common.{◌≡◌, ◌↔◌, ℕ, zero, suc, ◌+◌, ◌<◌, ◌≤◌, ◌^◌, ◌⊎◌, inl, inr, Bool, List, [], ◌∷◌, ◌++◌}
+use Rattle.std.proofs.Common.{refl, sym, ap, ◌∙◌, length, get_or, map, zip, None, Some, Option, nat_le, append-nil}
+use Rattle.std.proofs.Common.{append_assoc, arith}
+use Rattle.std.proofs.lemmas.{Bool.cases_lt, Bool.le-leb, Bool.lt-leb, Iterator.Adapters.position_from-zero}
+use Rattle.std.proofs.lemmas.List.{get_or-map, map-append}
+use Rattle.std.specs.{List.position_from, Option.option_map, Option.option_or, declared.vec.Vec.Vec}
 use Rattle.p3_support.specs.{declared.matrix.Dimensions.Dimensions, Batches.widths_of, Shown.row_lists, Shown.row_sets}
-use Rattle.p3_merkle_core.specs.Refusals.{first_of, first_some, size_refusal}
-use Rattle.p3_merkle_core.specs.declared.error.MerkleTreeError.{MerkleTreeError}
-use Rattle.p3_merkle_core.specs.declared.error.MerkleTreeError.TheVariants.{TooLarge, WrongBatchSize}
+use Rattle.p3_merkle_core.specs.Refusals.{first_of, first_some}
+use Rattle.p3_merkle_core.specs.declared.error.MerkleTreeError.{MerkleTreeError, TheVariants.TooLarge}
+use Rattle.p3_merkle_core.proofs.{Pruned.NoneFacts.map_none, Pruned.Unrefused.size_none}
 use Rattle.p3_merkle_tree.specs.SaltRefusals.{first_too_wide, salt_refusal, salt_sets_refusal, widening_refusal}
 use Rattle.p3_merkle_tree.specs.SaltedOpenings.{CanWiden}
 
@@ -56,11 +56,9 @@ pub sets_decide : {T : Type 0} (dimensions : List Dimensions) (sets salts : List
     first_of (λ (rows, salt). salt_refusal dimensions rows salt) (zip sets salts) ≡ refusal →
     salt_sets_refusal dimensions sets salts ≡ refusal
 sets_decide dimensions sets salts refusal same is =
-    let size : size_refusal (length sets) (length salts)
-    ≡ None = cond-true (eqb (length sets) (length salts)) None (Some (WrongBatchSize (length sets) (length salts)))
-    (eq-eqb (length sets) (length salts) (sym same)) in
     ap (λ (o : Option MerkleTreeError).
-    option_or o (first_of (λ (rows, salt). salt_refusal dimensions rows salt) (zip sets salts))) size ∙ is
+    option_or o (first_of (λ (rows, salt). salt_refusal dimensions rows salt) (zip sets salts)))
+    (size_none (length sets) (length salts) (sym same)) ∙ is
 
 -- where all sets are gone through, none is refused
 pub no_set_refused : {T A B C D : Type 0} (dimensions : List Dimensions) (xs sets : List (Vec (Vec T A) B))
@@ -96,66 +94,53 @@ module _ {T A B C D : Type 0} (dimensions : List Dimensions) (x : Vec (Vec T A) 
         ≡ Some e = rw (rows, salts, is) refl in
         sym before ∙ now
 
+-- a width does not fit with e salts
+abbrev is_wide : ℕ → ℕ → Bool
+is_wide e w = nat_le (2 ^ 64) (w + e)
+
+fit_more : (e : ℕ) (d : Dimensions) (ds : List Dimensions) → d.width + e < 2 ^ 64 → CanWiden e ds → CanWiden e (d ∷ ds)
+fit_more e d ds first others zero z h = first
+fit_more e d ds first others (suc k) z h = others k z (omega arith)
+
+none_from : (e i : ℕ) (ds : List Dimensions) → (position_from (is_wide e) i (widths_of ds) ≡ None) ↔ CanWiden e ds
+none_from e i [] = (λ none k d h. absurd (omega arith), λ fits. refl)
+none_from e i (d ∷ ds) =
+    elim (cases_lt (d.width + e) (2 ^ 64)) [
+      | inl fits ↦ let rest = none_from e (i + 1) ds in rw (lt-leb (2 ^ 64) (d.width + e) fits) (
+        λ none. fit_more e d ds fits (rest.0 none),
+        λ all. rest.1 (λ k z h. all (suc k) z (omega arith)),
+      )
+      | inr large ↦ rw (le-leb (2 ^ 64) (d.width + e) large)
+          (λ none. absurd cc, λ all. absurd (omega (arith, all 0 d (omega arith))))
+    ]
+
+-- no width is refused exactly if all can be wider
+pub widening : (e : ℕ) (ds : List Dimensions) → (widening_refusal e ds ≡ None) ↔ CanWiden e ds
+widening e ds =
+    let size = λ (m : ℕ). TooLarge m (get_or (widths_of ds) m 0) in
+    let at = position_from-zero (is_wide e) (widths_of ds) in (
+      λ none. (none_from e 0 ds).0 (sym at ∙ map_none size (first_too_wide e (widths_of ds)) none),
+      λ fits. ap (option_map size) (at ∙ (none_from e 0 ds).1 fits),
+    )
+
+first_from : (e i m : ℕ) (ds : List Dimensions) → m < length ds → (d : Dimensions) →
+    ((k : ℕ) → k < m → (get_or ds k d).width + e < 2 ^ 64) → 2 ^ 64 ≤ (get_or ds m d).width + e →
+    position_from (is_wide e) i (widths_of ds) ≡ Some (i + m)
+first_from e i m [] inside d below wide = absurd (omega arith)
+first_from e i zero (x ∷ ds) inside d below wide =
+    rw (le-leb (2 ^ 64) (x.width + e) wide) (ap (λ (k : ℕ). Some k) (omega arith))
+first_from e i (suc m) (x ∷ ds) inside d below wide =
+    rw (lt-leb (2 ^ 64) (x.width + e) (below 0 (omega arith)))
+    (first_from e (i + 1) m ds (omega arith) d (λ k h. below (suc k) (omega arith)) wide
+    ∙ ap (λ (k : ℕ). Some k) (omega arith))
+
 -- the first width that does not fit with the salts is refused
 pub first_wide : (e : ℕ) (ds : List Dimensions) (m : ℕ) (d : Dimensions) → m < length ds →
     ((k : ℕ) → k < m → (d : Dimensions) → (get_or ds k d).width + e < 2 ^ 64) → 2 ^ 64 ≤ (get_or ds m d).width + e →
     widening_refusal e ds ≡ Some (TooLarge m (get_or ds m d).width)
 first_wide e ds m d inside below wide =
-    let ws = widths_of ds in
-    let test = λ (w : ℕ). nat_le (2 ^ 64) (w + e) in
-    let long : length ws ≡ length ds = length-map ds (λ (d : Dimensions). d.width) in
-    let at : (k : ℕ) → k < length ds → get_or ws k 0 ≡ (get_or ds k d).width =
-    λ k h. get_or-map (λ (d : Dimensions). d.width) ds k d 0 h in
-    let here = at m inside in
-    let none : (k : ℕ) → k < m → test (get_or ws k 0) ≡ false =
-    λ k h. lt-leb (2 ^ 64) (get_or ws k 0 + e) (omega (arith, at k (omega arith), below k h d)) in
-    let first : position_or_len test ws ≡ m = position_or_len_is test ws m 0 (omega arith) none
-    (λ h. le-leb (2 ^ 64) (get_or ws m 0 + e) (omega (arith, here))) in
-    let found = cond-true (nat_lt (position_or_len test ws) (length ws)) (Some (position_or_len test ws)) None
-    (lt-ltb (position_or_len test ws) (length ws) (omega (arith, first))) in
-    ap (option_map (λ (k : ℕ). TooLarge k (get_or ws k 0))) (found ∙ ap (λ (k : ℕ). Some k) first)
-    ∙ ap (λ (w : ℕ). Some (TooLarge m w)) here
-
--- where none is too wide, all can be wider
-can_widen : (e : ℕ) (ds : List Dimensions) → first_too_wide e (widths_of ds) ≡ None → CanWiden e ds
-can_widen e ds none k d inside =
-    let ws = widths_of ds in
-    let test = λ (w : ℕ). nat_le (2 ^ 64) (w + e) in
-    let long : length ws ≡ length ds = length-map ds (λ (d : Dimensions). d.width) in
-    let at : get_or ws k d.width
-    ≡ (get_or ds k d).width = get_or-map (λ (d : Dimensions). d.width) ds k d d.width inside in
-    elim (cases_lt (position_or_len test ws) (length ws)) [
-      | inl l ↦ let s = cond-true (nat_lt (position_or_len test ws) (length ws)) (Some (position_or_len test ws)) None
-          (lt-ltb (position_or_len test ws) (length ws) l) in absurd cc
-      | inr g ↦ let small =
-          leb-false (2 ^ 64) (get_or ws k d.width + e) (fails_before_first test ws k d.width (omega arith)) in
-          omega (arith, small, at)
-    ]
-
-no_place : {X E : Type 0} (f : X → E) (o : Option X) → option_map f o ≡ None → o ≡ None
-no_place f None e = refl
-no_place f (Some x) e = absurd cc
-
-none_too_wide : (e : ℕ) (ds : List Dimensions) → CanWiden e ds → first_too_wide e (widths_of ds) ≡ None
-none_too_wide e ds fits =
-    let ws = widths_of ds in
-    let test = λ (w : ℕ). nat_le (2 ^ 64) (w + e) in
-    let long : length ws ≡ length ds = length-map ds (λ (d : Dimensions). d.width) in
-    let none : (k : ℕ) → k < length ws → test (get_or ws k 0) ≡ false =
-    λ k h.
-    let d : Dimensions = record { width = 0; height = 0 } in
-    let inside : k < length ds = omega arith in
-    let at : get_or ws k 0 ≡ (get_or ds k d).width = get_or-map (λ (d : Dimensions). d.width) ds k d 0 inside in
-    lt-leb (2 ^ 64) (get_or ws k 0 + e) (omega (arith, at, fits k d inside)) in
-    let end : position_or_len test ws
-    ≡ length ws = position_or_len_is test ws (length ws) 0 (omega arith) none (λ h. absurd (omega arith)) in
-    cond-false (nat_lt (position_or_len test ws) (length ws)) (Some (position_or_len test ws)) None
-    (le-ltb (position_or_len test ws) (length ws) (omega arith))
-
--- no width is refused exactly if all can be wider
-pub widening : (e : ℕ) (ds : List Dimensions) → (widening_refusal e ds ≡ None) ↔ CanWiden e ds
-widening e ds =
-    let size = λ (m : ℕ). TooLarge m (get_or (widths_of ds) m 0) in (
-      λ none. can_widen e ds (no_place size (first_too_wide e (widths_of ds)) none),
-      λ fits. ap (option_map size) (none_too_wide e ds fits),
-    )
+    let here : 0 + m ≡ m = omega arith in
+    ap (option_map (λ (k : ℕ). TooLarge k (get_or (widths_of ds) k 0)))
+    (position_from-zero (is_wide e) (widths_of ds) ∙ first_from e 0 m ds inside d (λ k h. below k h d) wide
+    ∙ ap (λ (k : ℕ). Some k) here)
+    ∙ ap (λ (w : ℕ). Some (TooLarge m w)) (get_or-map (λ (d : Dimensions). d.width) ds m d 0 inside)

@@ -9,7 +9,7 @@ use Rattle.p3_merkle_core.specs.Refusals.{AnswersUnlessMemory, IsEquality, first
 use Rattle.p3_merkle_core.specs.Refusals.{refusal_under, row_width_refusal, size_refusal, width_refusal, ok_unless}
 use Rattle.p3_merkle_core.specs.declared.error.MerkleTreeError.{MerkleTreeError, TheVariants.WrongBatchSize}
 use Rattle.p3_merkle_core.specs.Checks.{Params}
-use Rattle.p3_merkle_core.proofs.Pruned.NoneFacts.{fit_from, none_of_both, none_parts, unless_none}
+use Rattle.p3_merkle_core.proofs.Pruned.NoneFacts.{fit_from, none_of_both, none_parts, unless_none, verdict_ok}
 use Rattle.p3_merkle_core.proofs.Pruned.Unrefused.{each_width, size_none}
 use Rattle.p3_merkle_core.proofs.Checks.Verdicts.{accepted_answer, accepted_from, pruned_accepted}
 use Rattle.p3_merkle_tree.proofs.SaltFacts.{widening}
@@ -69,10 +69,6 @@ module _ {T : Type 0} (ds : List Dimensions) where
 
 -- ---- answers
 
-unrefused_from : (refusal : Option MerkleTreeError) → ok_unless refusal (tt {0}) ≡ Ok tt → refusal ≡ None
-unrefused_from None e = refl
-unrefused_from (Some x) e = absurd cc
-
 module _ {T W : Type 0} (same : W → W → Bool) (e : ℕ) (ds : List Dimensions) (c : Params T W) (cap : List (List W))
     (dec_w : IsEquality same) where
   -- an opening is accepted exactly if it is not refused
@@ -96,7 +92,7 @@ module _ {T W : Type 0} (same : W → W → Bool) (e : ℕ) (ds : List Dimension
             let form = none_of_both salt wide ((have_salts ds o.rows o.salts).1 w.salted)
             ((widening e ds).1 w.can_widen) in
             none_of_both first plain form
-            (unrefused_from plain
+            (verdict_ok plain
             (accepted_answer same c.functions c.shape c.layer cap (joined o) dec_w w.accepted)),
       )
 
@@ -130,49 +126,10 @@ module _ {T W : Type 0} (same : W → W → Bool) (e : ℕ) (ds : List Dimension
             let salts = none_of_both size each (size_none (length p.rows) (length p.salts) (sym a.in_pairs))
             (each_passes ds p.rows p.salts a.salted) in
             let form = none_of_both sets wide salts ((widening e ds).1 a.can_widen) in
-            none_of_both first plain form (unrefused_from plain (meant.1 a.accepted)),
+            none_of_both first plain form (verdict_ok plain (meant.1 a.accepted)),
       )
 
   pub salted_pruned_presentation : (eq : T → T → Bool) → IsEquality eq → IsArity c.shape.arity →
       (p : SaltedPruned T W) → IsPresentation c cap (presented_salted_pruned eq same e ds c cap p)
   salted_pruned_presentation eq dec w p =
       record { decided = salted_pruned_accepted eq dec w p; each = λ a. a.accepted.each_accepted }
-
--- ---- the answers of the calls
-
--- a verdict is what is refused
-pub said : (r : Result (Unit {0}) MerkleTreeError) (o : Option MerkleTreeError) → r ≡ ok_unless o (tt {0}) →
-    AnswersUnlessMemory r o
-said (Ok v) None is = refl
-said (Ok v) (Some e) is = absurd cc
-said (Err x) None is = absurd cc
-said (Err x) (Some e) is = inr (let same : e ≡ x = cc in ap (λ (z : MerkleTreeError). Some z) same)
-
--- where rows and salts are not refused, the refusal is that of the rows followed by their salts, under the parameters of the
--- wider matrices
-pub refusal_joined : {T W : Type 0} (same : W → W → Bool) (e : ℕ) (ds wide : List Dimensions) (params : List Dimensions →
-    Params T W) (cap : List (List W)) (o : SaltedOpening T W) (p : Opening T W) →
-    salted_rows_refusal e ds o.rows o.salts ≡ None → wide ≡ widened e ds → p ≡ joined o →
-    refusal_under same (params wide) cap p ≡ salted_refusal_under same e ds (params (widened e ds)) cap o
-refusal_joined same e ds wide params cap o p none are_wide is_joined =
-    (λ i. refusal_under same (params (are_wide i)) cap (is_joined i))
-    ∙ ap (λ (z : Option MerkleTreeError). option_or z (refusal_under same (params (widened e ds)) cap (joined o)))
-    (sym none)
-
--- the same of several indices
-pub refusal_joined_sets : {T W : Type 0} (eq : T → T → Bool) (same : W → W → Bool) (e : ℕ) (ds wide : List Dimensions)
-    (params : List Dimensions → Params T W) (cap : List (List W)) (o : SaltedPruned T W) (p : PrunedOpening T W) →
-    salted_sets_refusal e ds o.rows o.salts ≡ None → wide ≡ widened e ds → p ≡ joined_sets o →
-    pruned_refusal_under eq same (params wide) cap p
-    ≡ salted_pruned_refusal_under eq same e ds (params (widened e ds)) cap o
-refusal_joined_sets eq same e ds wide params cap o p none are_wide is_joined =
-    (λ i. pruned_refusal_under eq same (params (are_wide i)) cap (is_joined i))
-    ∙ ap (λ (z : Option MerkleTreeError).
-    option_or z (pruned_refusal_under eq same (params (widened e ds)) cap (joined_sets o))) (sym none)
-
--- what is refused before rows and salts are joined is the refusal
-pub refused_before : {V : Type 0} (r : Result V MerkleTreeError) (first after : Option MerkleTreeError) → IsErr r →
-    AnswersUnlessMemory r first → AnswersUnlessMemory r (option_or first after)
-refused_before (Ok v) first after err a = absurd cc
-refused_before (Err x) first after err (inl m) = inl m
-refused_before (Err x) first after err (inr is) = inr (ap (λ (z : Option MerkleTreeError). option_or z after) is)

@@ -14,9 +14,10 @@ use Rattle.p3_merkle_tree.specs.SaltedExtraction.{AgreeWhereAuthenticated, Confl
 use Rattle.p3_merkle_tree.specs.SaltedExtraction.{ConflictWhereAuthenticated, IsSaltedExtraction, row_in}
 use Rattle.p3_merkle_tree.specs.SaltedExtraction.{IsSaltedPrunedExtraction, salted_opening_at, salts_in}
 use Rattle.p3_merkle_tree.specs.SaltedOpenings.{HaveSalts, IsSaltedPrunedAccepted, SaltedOpening, SaltedPruned}
-use Rattle.p3_merkle_tree.specs.SaltedOpenings.{joined, joined_sets, salted_of}
+use Rattle.p3_merkle_tree.specs.SaltedOpenings.{joined, joined_sets, salted_of, salted_rows}
 use Rattle.p3_merkle_tree.specs.SaltedPresented.{presented_salted, presented_salted_pruned}
-use Rattle.p3_merkle_tree.proofs.JoinedFacts.{as_many_sets, joined_at, joined_set_at, parts_alike, parts_same}
+use Rattle.p3_merkle_tree.specs.Inner.SaltedCommitmentLaws.{length_pairs, pair_at}
+use Rattle.p3_merkle_tree.proofs.JoinedFacts.{joined_at, parts_alike, parts_same}
 
 -- ---- one query of each
 
@@ -74,7 +75,7 @@ module _ {T W : Type 0} (ds : List Dimensions) (o u : SaltedOpening T W) (a : Ha
 record AreJoined {T W : Type 0} (ds : List Dimensions) (p : Presented T W)
     (query : ℕ → SaltedOpening T W) : Type 0 where
   salted : (k : ℕ) → k < p.queries → HaveSalts ds (query k).rows (query k).salts
-  is : (k : ℕ) → k < p.queries → joined (query k) ≡ p.query k
+  is : (k : ℕ) → p.query k ≡ joined (query k)
 
 module _ {T W : Type 0} (eq : T → T → Bool) (same : W → W → Bool) (rule : CapRule) (ds : List Dimensions)
     (c : Params T W) (first second : Presented T W) (one other : ℕ → SaltedOpening T W) where
@@ -95,60 +96,35 @@ module _ {T W : Type 0} (eq : T → T → Bool) (same : W → W → Bool) (rule 
         IfOk result (λ found. IsNone found ↔ EachOf (λ o u. o ≡ u))
     lowered_two_ways : rule ≡ Lowered → SomeOf (ConflictSomewhere c) → IfOk result (λ found. IsSome found)
 
-  module _ (x : AreJoined ds first one) (y : AreJoined ds second other) where
-    -- what holds of joined openings holds of the queries, and the other way round
-    to_queries : (Holds : Opening T W → Opening T W → Type 0) (a b : ℕ) → a < first.queries → b < second.queries →
-        Holds (joined (one a)) (joined (other b)) → Holds (first.query a) (second.query b)
-    to_queries Holds a b h g holds =
-        subst (λ (z : Opening T W × Opening T W). Holds z.0 z.1) (λ i. (x.is a h i, y.is b g i)) holds
-
-    from_queries : (Holds : Opening T W → Opening T W → Type 0) (a b : ℕ) → a < first.queries → b < second.queries →
-        Holds (first.query a) (second.query b) → Holds (joined (one a)) (joined (other b))
-    from_queries Holds a b h g holds =
-        subst (λ (z : Opening T W × Opening T W). Holds z.0 z.1) (λ i. (sym (x.is a h) i, sym (y.is b g) i)) holds
-
-    row_twice : (a b : ℕ) → a < first.queries → b < second.queries → (k : ℕ) →
-        ConflictAt c.shape (one a) (other b) k → RowsConflictAt c.shape (first.query a) (second.query b) k
-    row_twice a b h g k conflict =
-        to_queries (λ o u. RowsConflictAt c.shape o u k) a b h g
-        (conflict_joined ds (one a) (other b) (x.salted a h) (y.salted b g) c.shape k conflict)
-
-    agree : (a b : ℕ) → a < first.queries → b < second.queries →
-        RowsAgreeWhereAuthenticated c (joined (one a)) (joined (other b)) ↔ AgreeWhereAuthenticated c (one a) (other b)
-    agree a b h g = agree_joined ds (one a) (other b) (x.salted a h) (y.salted b g) c
-
-    are_one : (a b : ℕ) → a < first.queries → b < second.queries → (one a).index ≡ (other b).index →
-        (joined (one a) ≡ joined (other b)) ↔ (one a ≡ other b)
-    are_one a b h g e = one_joined ds (one a) (other b) (x.salted a h) (y.salted b g) e
-
+  -- the queries of accepted openings are salted openings, joined
   tells : (first.is_accepted → AreJoined ds first one) → (second.is_accepted → AreJoined ds second other) →
       (result : Result (Option (ℕ × ℕ × (Input T W × Input T W))) MerkleTreeError) →
       IsExtraction eq same rule c first second result → Tells result
-  tells p q (Ok found) e =
-      let x = p e.both_accepted.0 in
-      let y = q e.both_accepted.1 in
-      let indices = λ (each : EachOf (λ o u. o.index ≡ u.index)) (a b : ℕ) (h : a < first.queries)
-      (g : b < second.queries). to_queries x y (λ o u. o.index ≡ u.index) a b h g (each a b h g) in
+  tells p q (Ok found) extracted =
+      let x = p extracted.both_accepted.0 in
+      let y = q extracted.both_accepted.1 in
+      let e = subst (λ (z : (ℕ → Opening T W) × (ℕ → Opening T W)).
+      IsExtraction eq same rule c (record first { query = z.0 }) (record second { query = z.1 }) (Ok found))
+      (λ i. (λ k. x.is k i, λ k. y.is k i)) extracted in
+      let agree = λ (a b : ℕ) (h : a < first.queries) (g : b < second.queries).
+      agree_joined ds (one a) (other b) (x.salted a h) (y.salted b g) c in
+      let are_one = λ (a b : ℕ) (h : a < first.queries) (g : b < second.queries).
+      one_joined ds (one a) (other b) (x.salted a h) (y.salted b g) in
+      let conflict = λ (a b : ℕ) (h : a < first.queries) (g : b < second.queries).
+      conflict_joined ds (one a) (other b) (x.salted a h) (y.salted b g) c.shape in
       record {
         one_index = λ each. (
-          λ none a b h g. (agree x y a b h g).0
-              (from_queries x y (RowsAgreeWhereAuthenticated c) a b h g ((e.one_index (indices each)).0 none a b h g)),
-          λ alike. (e.one_index (indices each)).1
-              (λ a b h g.
-              to_queries x y (RowsAgreeWhereAuthenticated c) a b h g ((agree x y a b h g).1 (alike a b h g))),
+          λ none a b h g. (agree a b h g).0 ((e.one_index each).0 none a b h g),
+          λ alike. (e.one_index each).1 (λ a b h g. (agree a b h g).1 (alike a b h g)),
         );
-        two_ways = λ (a, b, h, g, (k, there, conflict)).
-            e.two_ways (a, b, h, g, (k, there, row_twice x y a b h g k conflict));
+        two_ways = λ (a, b, h, g, (k, there, twice)). e.two_ways (a, b, h, g, (k, there, conflict a b h g k twice));
         lowered_one_index = λ lowered each. (
-          λ none a b h g. (are_one x y a b h g (each a b h g)).0
-              (from_queries x y (λ o u. o ≡ u) a b h g
-              ((e.lowered_one_index lowered (indices each)).0 none a b h g)),
-          λ alike. (e.lowered_one_index lowered (indices each)).1
-              (λ a b h g. to_queries x y (λ o u. o ≡ u) a b h g
-              ((are_one x y a b h g (each a b h g)).1 (alike a b h g))),
+          λ none a b h g. (are_one a b h g (each a b h g)).0 ((e.lowered_one_index lowered each).0 none a b h g),
+          λ alike. (e.lowered_one_index lowered each).1
+              (λ a b h g. (are_one a b h g (each a b h g)).1 (alike a b h g)),
         );
-        lowered_two_ways = λ lowered (a, b, h, g, (k, conflict)).
-            e.lowered_two_ways lowered (a, b, h, g, (k, row_twice x y a b h g k conflict));
+        lowered_two_ways = λ lowered (a, b, h, g, (k, twice)).
+            e.lowered_two_ways lowered (a, b, h, g, (k, conflict a b h g k twice));
       }
   tells p q (Err x) e =
       record {
@@ -160,91 +136,76 @@ module _ {T W : Type 0} (eq : T → T → Bool) (same : W → W → Bool) (rule 
 
 -- ---- what is found, as the calls return it
 
-some_shown : {V U : Type 0} (view : V → U) (r : Result (Option V) MerkleTreeError) →
-    IfOk (result_map_both (λ found. option_map view found) (λ e. e) r) (λ found. IsSome found) →
-    IfOk r (λ found. IsSome found)
-some_shown view (Ok None) is = is
-some_shown view (Ok (Some v)) is = is
-some_shown view (Err e) is = tt
+module _ {V U : Type 0} (view : V → U) where
+  some_shown : (r : Result (Option V) MerkleTreeError) →
+      IfOk (result_map_both (λ found. option_map view found) (λ e. e) r) (λ found. IsSome found) →
+      IfOk r (λ found. IsSome found)
+  some_shown (Ok None) is = is
+  some_shown (Ok (Some v)) is = is
+  some_shown (Err e) is = tt
 
-none_shown : {V U : Type 0} (view : V → U) (Q : Type 0) (r : Result (Option V) MerkleTreeError) →
-    IfOk (result_map_both (λ found. option_map view found) (λ e. e) r) (λ found. IsNone found ↔ Q) →
-    IfOk r (λ found. IsNone found ↔ Q)
-none_shown view Q (Ok None) is = is
-none_shown view Q (Ok (Some v)) is = is
-none_shown view Q (Err e) is = tt
-
-both_meant : {V : Type 0} (Q R : Type 0) (r : Result (Option V) MerkleTreeError) → Q ↔ R →
-    IfOk r (λ found. IsNone found ↔ Q) → IfOk r (λ found. IsNone found ↔ R)
-both_meant Q R (Ok found) meant is = (λ none. meant.0 (is.0 none), λ x. is.1 (meant.1 x))
-both_meant Q R (Err e) meant is = tt
+  none_shown : (Q R : Type 0) (r : Result (Option V) MerkleTreeError) → Q ↔ R →
+      IfOk (result_map_both (λ found. option_map view found) (λ e. e) r) (λ found. IsNone found ↔ Q) →
+      IfOk r (λ found. IsNone found ↔ R)
+  none_shown Q R (Ok None) meant is = (λ none. meant.0 (is.0 none), λ x. is.1 (meant.1 x))
+  none_shown Q R (Ok (Some v)) meant is = (λ none. meant.0 (is.0 none), λ x. is.1 (meant.1 x))
+  none_shown Q R (Err e) meant is = tt
 
 module _ {T W : Type 0} (eq : T → T → Bool) (same : W → W → Bool) (rule : CapRule) (e : ℕ) (ds : List Dimensions)
     (c : Params T W) (cap : List (List W)) where
-  -- ---- two openings of one index each
-  module _ (o u : SaltedOpening T W) (r : Result (Option (InputPair T (List W))) MerkleTreeError)
-      (extracted : IsExtraction eq same rule c (presented_salted same e ds c cap o) (presented_salted same e ds c cap u)
-      (found_alone r)) where
-    abbrev shown : InputPair T (List W) → ℕ × ℕ × (Input T W × Input T W)
-    shown pair = (0, 0, inputs_in pair)
+  -- two openings of one index each
+  pub salted_told : (o u : SaltedOpening T W) (r : Result (Option (InputPair T (List W))) MerkleTreeError) →
+      IsExtraction eq same rule c (presented_salted same e ds c cap o) (presented_salted same e ds c cap u)
+      (found_alone r) → IsSaltedExtraction eq same rule e ds c cap o u r
+  salted_told o u r extracted =
+      let told = tells eq same rule ds c (presented_salted same e ds c cap o) (presented_salted same e ds c cap u)
+      (λ k. o) (λ k. u) (λ a. record { salted = λ k h. a.salted; is = λ k. refl })
+      (λ a. record { salted = λ k h. a.salted; is = λ k. refl }) (found_alone r) extracted in
+      let view : InputPair T (List W) → ℕ × ℕ × (Input T W × Input T W) = λ pair. (0, 0, inputs_in pair) in
+      let alone : (Holds : SaltedOpening T W → SaltedOpening T W → Type 0) →
+      ((a b : ℕ) → a < 1 → b < 1 → Holds o u) ↔ Holds o u =
+      λ Holds. (λ each. each 0 0 (omega arith) (omega arith), λ holds a b h g. holds) in
+      record {
+        extraction = extracted;
+        one_index = λ one. none_shown view _ _ r (alone (AgreeWhereAuthenticated c)) (told.one_index (λ a b h g. one));
+        two_ways = λ twice. some_shown view r (told.two_ways (0, 0, omega arith, omega arith, twice));
+        lowered_one_index = λ lowered one.
+            none_shown view _ _ r (alone (λ x y. x ≡ y)) (told.lowered_one_index lowered (λ a b h g. one));
+        lowered_two_ways = λ lowered twice.
+            some_shown view r (told.lowered_two_ways lowered (0, 0, omega arith, omega arith, twice));
+      }
 
-    told : Tells eq same rule ds c (presented_salted same e ds c cap o) (presented_salted same e ds c cap u) (λ k. o)
-        (λ k. u) (found_alone r)
-    told =
-        tells eq same rule ds c (presented_salted same e ds c cap o) (presented_salted same e ds c cap u) (λ k. o)
-        (λ k. u) (λ a. record { salted = λ k h. a.salted; is = λ k h. refl })
-        (λ a. record { salted = λ k h. a.salted; is = λ k h. refl }) (found_alone r) extracted
-
-    alone : (Holds : SaltedOpening T W → SaltedOpening T W → Type 0) →
-        ((a b : ℕ) → a < 1 → b < 1 → Holds o u) ↔ Holds o u
-    alone Holds = (λ each. each 0 0 (omega arith) (omega arith), λ holds a b h g. holds)
-
-    pub salted_told : IsSaltedExtraction eq same rule e ds c cap o u r
-    salted_told =
-        record {
-          extraction = extracted;
-          one_index = λ one. both_meant _ _ r (alone (AgreeWhereAuthenticated c))
-              (none_shown shown _ r (told.one_index (λ a b h g. one)));
-          two_ways = λ conflict. some_shown shown r (told.two_ways (0, 0, omega arith, omega arith, conflict));
-          lowered_one_index = λ lowered one. both_meant _ _ r (alone (λ x y. x ≡ y))
-              (none_shown shown _ r (told.lowered_one_index lowered (λ a b h g. one)));
-          lowered_two_ways = λ lowered conflict.
-              some_shown shown r (told.lowered_two_ways lowered (0, 0, omega arith, omega arith, conflict));
-        }
-
-  -- ---- two openings of several indices
-
-  -- the queries of an accepted opening, each with its salts
+  -- the queries of an accepted opening of several indices, each with its salts
   sets_joined : (p : SaltedPruned T W) → IsSaltedPrunedAccepted e ds c cap p →
       AreJoined ds (presented_salted_pruned eq same e ds c cap p) (salted_opening_at c p)
   sets_joined p a =
-      let many : length p.rows ≡ length p.indices = sym (as_many_sets p.rows p.salts a.in_pairs)
+      let many : length p.rows ≡ length p.indices =
+      sym (length_pairs (λ (rows, salts). salted_rows rows salts) p.rows p.salts a.in_pairs)
       ∙ a.accepted.restorable.agreed.in_pairs in
       record {
         salted = λ k h. AllZip-get_or (HaveSalts ds) p.rows p.salts k [] [] a.salted (omega (arith, many));
-        is = λ k h i. opening_of (slice_index p.indices k) (sym (joined_set_at p.rows p.salts k a.in_pairs) i)
+        is = λ k i. opening_of (slice_index p.indices k)
+            (pair_at (λ (rows, salts). salted_rows rows salts) p.rows p.salts k [] [] a.in_pairs i)
             (restored_path c (joined_sets p) (slice_index p.indices k));
       }
 
-  module _ (p q : SaltedPruned T W) (r : Result (Option (ℕ × ℕ × InputPair T (List W))) MerkleTreeError)
-      (extracted : IsExtraction eq same rule c (presented_salted_pruned eq same e ds c cap p)
-      (presented_salted_pruned eq same e ds c cap q) (found_pair r)) where
-    abbrev shown_pair : ℕ × ℕ × InputPair T (List W) → ℕ × ℕ × (Input T W × Input T W)
-    shown_pair (a, b, pair) = (a, b, inputs_in pair)
-
-    told_of_all : Tells eq same rule ds c (presented_salted_pruned eq same e ds c cap p)
-        (presented_salted_pruned eq same e ds c cap q) (salted_opening_at c p) (salted_opening_at c q) (found_pair r)
-    told_of_all =
-        tells eq same rule ds c (presented_salted_pruned eq same e ds c cap p)
-        (presented_salted_pruned eq same e ds c cap q) (salted_opening_at c p) (salted_opening_at c q) (sets_joined p)
-        (sets_joined q) (found_pair r) extracted
-
-    pub salted_pruned_told : IsSaltedPrunedExtraction eq same rule e ds c cap p q r
-    salted_pruned_told =
-        record {
-          extraction = extracted;
-          one_index = λ each. none_shown shown_pair _ r (told_of_all.one_index each);
-          two_ways = λ some. some_shown shown_pair r (told_of_all.two_ways some);
-          lowered_one_index = λ lowered each. none_shown shown_pair _ r (told_of_all.lowered_one_index lowered each);
-          lowered_two_ways = λ lowered some. some_shown shown_pair r (told_of_all.lowered_two_ways lowered some);
-        }
+  -- two openings of several indices
+  pub salted_pruned_told : (p q : SaltedPruned T W)
+      (r : Result (Option (ℕ × ℕ × InputPair T (List W))) MerkleTreeError) →
+      IsExtraction eq same rule c (presented_salted_pruned eq same e ds c cap p)
+      (presented_salted_pruned eq same e ds c cap q) (found_pair r) →
+      IsSaltedPrunedExtraction eq same rule e ds c cap p q r
+  salted_pruned_told p q r extracted =
+      let told = tells eq same rule ds c (presented_salted_pruned eq same e ds c cap p)
+      (presented_salted_pruned eq same e ds c cap q) (salted_opening_at c p) (salted_opening_at c q) (sets_joined p)
+      (sets_joined q) (found_pair r) extracted in
+      let view : ℕ × ℕ × InputPair T (List W) → ℕ × ℕ × (Input T W × Input T W) =
+      λ (a, b, pair). (a, b, inputs_in pair) in
+      record {
+        extraction = extracted;
+        one_index = λ each. none_shown view _ _ r (λ x. x, λ x. x) (told.one_index each);
+        two_ways = λ some. some_shown view r (told.two_ways some);
+        lowered_one_index = λ lowered each.
+            none_shown view _ _ r (λ x. x, λ x. x) (told.lowered_one_index lowered each);
+        lowered_two_ways = λ lowered some. some_shown view r (told.lowered_two_ways lowered some);
+      }

@@ -1,8 +1,8 @@
 -- Rows of pairs, taken apart where the left matrix ends.
 use Rattle.std.proofs.Common.{◌≡◌, ℕ, zero, suc, ◌+◌, ◌/◌, ◌^◌, ◌<◌, cond, nat_lt, List, [], ◌∷◌, ◌++◌, map, refl, ap}
 use Rattle.std.proofs.Common.{sym, subst, ◌∙◌, arith, length, get_or, take, drop, All}
-use Rattle.std.proofs.lemmas.{Bool.lt-ltb, List.get_or_default, List.length-map, List.take-append-drop, Simd.map-map}
-use Rattle.std.proofs.Math.Seq.{drop-append_seam, take-append_seam}
+use Rattle.std.proofs.lemmas.{Bool.lt-ltb, List.drop_at, List.get_or_default, List.length-map, List.take-append-drop}
+use Rattle.std.proofs.lemmas.{List.take_at, Simd.map-map}
 use Rattle.std.specs.List.{AllZip}
 use Rattle.p3_support.specs.declared.{matrix.Matrix.Ghosts, pair.HorizontalPair.HorizontalPair}
 use Rattle.p3_support.specs.{Pairs.left_of, Pairs.pair_row, Pairs.right_of, Batches.heights_of, Batches.greatest}
@@ -25,9 +25,7 @@ module _ {X T : Type 0} (left right : X → List T) (width : X → ℕ) where
       unsalted_parts (map width xs) (map (λ x. left x ++ right x) xs) ≡ map left xs
   left_parts [] full = refl
   left_parts (x ∷ xs) full =
-      let front : take (width x) (left x ++ right x)
-      ≡ left x = ap (λ (n : ℕ). take n (left x ++ right x)) (sym (full 0 x (omega arith)))
-      ∙ take-append_seam (left x) (right x) in
+      let front = take_at (left x) (right x) (width x) (full 0 x (omega arith)) in
       rw (front, left_parts xs (λ k d h. full (suc k) d (omega arith))) refl
 
   -- and what stands after are the right ones
@@ -35,9 +33,7 @@ module _ {X T : Type 0} (left right : X → List T) (width : X → ℕ) where
       salt_parts (map width xs) (map (λ x. left x ++ right x) xs) ≡ map right xs
   right_parts [] full = refl
   right_parts (x ∷ xs) full =
-      let back : drop (width x) (left x ++ right x)
-      ≡ right x = ap (λ (n : ℕ). drop n (left x ++ right x)) (sym (full 0 x (omega arith)))
-      ∙ drop-append_seam (left x) (right x) in
+      let back = drop_at (left x) (right x) (width x) (full 0 x (omega arith)) in
       rw (back, right_parts xs (λ k d h. full (suc k) d (omega arith))) refl
 
 -- both parts together are the rows

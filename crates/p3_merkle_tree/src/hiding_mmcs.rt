@@ -1,19 +1,31 @@
-//! The salted scheme: its type, its constructors, and forks with a generator of their own.
+//! The salted scheme: its type, its constructors, its commitments, and forks with a generator of their own.
 
-ghost use Rattle.std.specs.Prelude.{◌≡◌, ◌≤◌, IfOk, IsOk, IsTrue};
-ghost use Rattle.p3_merkle_core.specs.Geometry.{is_arity};
+ghost use Rattle.std.specs.Prelude.{◌≡◌, ◌≤◌, ◌⊎◌, IfErr, IfOk, IsOk, IsTrue, OnOk, map};
+ghost use Rattle.p3_support.specs.{Batches.dimensions_in, Batches.heights_of, Pairs.left_of};
+ghost use Rattle.p3_merkle_core.specs.{Geometry.is_arity, Geometry.IsLawful, Refusals.AnswersUnlessMemory};
+ghost use Rattle.p3_merkle_core.specs.Views.{matrix_of};
+ghost use Rattle.p3_merkle_tree.specs.{Inner.SaltedParts.pair_matrix, SaltRefusals.salted_commit_refusal};
+ghost use Rattle.p3_merkle_tree.specs.Salted.{after_salts, salted_matrices, IsAfterSome};
+ghost use Rattle.p3_merkle_tree.specs.{SaltedOpenings.widened, SaltedOpenings.CanWiden, SaltedTrees.HaveSaltColumns};
 
+use crate::join::widened_dimensions;
 use p3_merkle_core::cap::CapRule;
 use p3_merkle_core::error::MerkleTreeError;
 use p3_merkle_core::pruning::PrunedMerklePaths;
+use p3_merkle_core::steps::check_heights;
 use p3_merkle_mmcs::mmcs::{MerkleTreeMmcs, Scheme};
+use p3_merkle_prover::checked::CheckedMatrices;
 use p3_merkle_prover::tree::MerkleTree;
 use p3_support::compress::PseudoCompressionFunction;
 use p3_support::hasher::CryptographicHasher;
-use p3_support::matrix::RowMajorMatrix;
+use p3_support::matrix::{Dimensions, Matrix, RowMajorMatrix, dimensions_of};
+use p3_support::opening::MerkleCap;
 use p3_support::packed::PackedValue;
 use p3_support::pair::HorizontalPair;
-use rand_core::{CryptoRng, SeedableRng};
+use p3_support::salts::SaltWord;
+use rand_core::{CryptoRng, Rng, SeedableRng};
+use std::alloc::{AllocError, Global};
+use std::marker::PhantomData;
 
 /// The salted scheme of a hasher `H` and a compression `C`, with digests `X` and groups `G` of `N` digests. `P` packs
 /// the words of rows, and `PW` those of digests; the generator `R` draws `SALT_ELEMS` salts for each row.
@@ -78,8 +90,9 @@ impl<
     const D: usize,
     const SALT_ELEMS: usize,
 > HidingScheme<P, PW, H, C, R, X, G, N, D, SALT_ELEMS> {
+    ghost use Rattle.rand_core.specs.Stream.{fill_bytes};
     ghost use Rattle.p3_merkle_mmcs.specs.Schemes.{cap_height_of, cap_rule_of};
-    ghost use Rattle.p3_merkle_tree.specs.HidingSchemes.{plain_of};
+    ghost use Rattle.p3_merkle_tree.specs.HidingSchemes.{generator_of, plain_of};
 
     /// The cap height that was given to [`new`](Self::new), in levels below the root.
     pub fn cap_height(&self) -> usize
@@ -94,6 +107,35 @@ impl<
     {
         self.plain.cap_rule()
     }
+
+    /// A scheme that accepts the same openings, with a generator of its own. The new generator is seeded with the next
+    /// bytes of this scheme's generator, which then continues after them. That the two draw different salts is not
+    /// proved. There is no `clone`, since a clone would draw the same salts again.
+    ///
+    /// # Errors
+    ///
+    /// None today: it does not allocate. The `Result` leaves room for a scheme that does.
+    pub fn fork(&mut self) -> Result<Self, MerkleTreeError>
+    where
+        H: Copy,
+        C: Copy,
+        R: CryptoRng + SeedableRng,
+        X: Copy,
+        G: Copy,
+        ensures made { IsOk result }
+        ensures scheme { IfOk result (λ scheme. plain_of scheme ≡ plain_of self.old) }
+        ensures generator { let seed = (fill_bytes R.Seed.len (R.stream (generator_of self.old))).0 in
+            IfOk result (λ scheme. generator_of scheme ≡ R.of_seed seed) }
+        ensures unchanged { plain_of self.new ≡ plain_of self.old }
+        ensures rest { let rest = (fill_bytes R.Seed.len (R.stream (generator_of self.old))).1 in
+            R.stream (generator_of self.new) ≡ rest }
+    {
+        let generator = R::from_rng(&mut self.generator);
+        Ok(HidingScheme {
+            plain: self.plain,
+            generator,
+        })
+    }
 }
 
 impl<
@@ -106,9 +148,13 @@ impl<
     const D: usize,
     const SALT_ELEMS: usize,
 > MerkleTreeHidingMmcs<P, PW, H, C, R, N, D, SALT_ELEMS> {
-    ghost use Rattle.p3_merkle_core.specs.declared.cap.CapRule.TheVariants.{Lowered};
+    ghost use Rattle.p3_support.specs.Shown.{roots_of};
+    ghost use Rattle.p3_merkle_core.specs.{Nodes.shape, Views.batch_of, declared.cap.CapRule.TheVariants.Lowered};
+    ghost use Rattle.p3_merkle_core.specs.declared.error.MerkleTreeError.TheVariants.{OutOfMemory};
+    ghost use Rattle.p3_merkle_prover.specs.Parts.{matrices_of, tree_batch};
     ghost use Rattle.p3_merkle_mmcs.specs.Schemes.{cap_height_of, cap_rule_of, compression_of, hash_of};
-    ghost use Rattle.p3_merkle_tree.specs.HidingSchemes.{generator_of, plain_of};
+    ghost use Rattle.p3_merkle_tree.specs.{HidingSchemes.generator_of, HidingSchemes.plain_of, Salted.salted_batch};
+    ghost use Rattle.p3_merkle_tree.specs.SaltedOpened.{CommitsSalted, Draws};
 
     /// The salted scheme of a hasher and a compression. Its cap is the layer `cap_height` levels below the root, or the
     /// highest layer to which a matrix belongs if that is nearer to the root. This is the rule [`CapRule::Lowered`],
@@ -159,43 +205,101 @@ impl<
             generator: rng,
         }
     }
-}
 
-impl<
-    P: PackedValue,
-    PW: PackedValue,
-    H: CryptographicHasher<P, PW, D> + Copy,
-    C: PseudoCompressionFunction<PW, N, D> + Copy,
-    R: CryptoRng + SeedableRng,
-    X: Copy,
-    G: Copy,
-    const N: usize,
-    const D: usize,
-    const SALT_ELEMS: usize,
-> HidingScheme<P, PW, H, C, R, X, G, N, D, SALT_ELEMS> {
-    ghost use Rattle.rand_core.specs.Stream.{fill_bytes};
-    ghost use Rattle.p3_merkle_tree.specs.HidingSchemes.{generator_of, plain_of};
-
-    /// A scheme that accepts the same openings, with a generator of its own. The new generator is seeded with the next
-    /// bytes of this scheme's generator, which then continues after them. That the two draw different salts is not
-    /// proved. There is no `clone`, since a clone would draw the same salts again.
+    /// Commits to matrices, each row followed by its salts. Returns the cap of their tree, and the tree, which owns
+    /// each matrix beside its salts, in input order. It is the plain scheme's commitment to the salted matrices.
+    ///
+    /// The salts are drawn from the scheme's generator, `SALT_ELEMS` for each row: matrix by matrix in input order, row
+    /// by row, each from one call of `next_u64`. The next commitment draws from where this one ended.
     ///
     /// # Errors
     ///
-    /// None today: it does not allocate. The `Result` leaves room for a scheme that does.
-    pub fn fork(&mut self) -> Result<Self, MerkleTreeError>
-        ensures made { IsOk result }
-        ensures scheme { IfOk result (λ scheme. plain_of scheme ≡ plain_of self.old) }
-        ensures generator { let seed = (fill_bytes R.Seed.len (R.stream (generator_of self.old))).0 in
-            IfOk result (λ scheme. generator_of scheme ≡ R.of_seed seed) }
-        ensures unchanged { plain_of self.new ≡ plain_of self.old }
-        ensures rest { let rest = (fill_bytes R.Seed.len (R.stream (generator_of self.old))).1 in
-            R.stream (generator_of self.new) ≡ rest }
+    /// `EmptyBatch` if no matrix has a row; else `TooLarge` for the first height above 2^62; else `IncompatibleHeights`
+    /// for the first height that is not the tallest one halved and rounded up some number of times; else `TooLarge` for
+    /// the first matrix whose width with its salts does not fit `usize`, with its width as the size. These draw nothing
+    /// from the generator. `OutOfMemory` may come at any time; then the generator has drawn the salts of the first few
+    /// matrices, perhaps of none or of all.
+    pub fn commit<M: Matrix<P::Value> + Drop>(
+        &mut self,
+        alloc: Global,
+        matrices: Vec<M>,
+    ) -> Result<
+        (
+            MerkleCap<P::Value, [PW::Value; D]>,
+            SaltedTree<P::Value, PW::Value, M, N, D>,
+        ),
+        MerkleTreeError,
+    >
+    where
+        R: CryptoRng,
+        P::Value: SaltWord,
+        ensures answer { let b = batch_of M.height_of M.width_of M.row_of N matrices.items in
+            AnswersUnlessMemory result (salted_commit_refusal SALT_ELEMS (shape b).dimensions) }
+        ensures matrices { IfOk result (λ (cap, tree). map left_of (matrices_of tree) ≡ matrices.items) }
+        ensures batch { let b = batch_of M.height_of M.width_of M.row_of N matrices.items in
+            let drawn = R.stream (generator_of self.old) in
+            IfOk result (λ (cap, tree). tree_batch tree ≡ salted_batch P.Value.of_salt_word SALT_ELEMS b drawn) }
+        ensures committed { IfOk result (λ (cap, tree). CommitsSalted self.new (roots_of cap) tree) }
+        ensures drawn { let b = batch_of M.height_of M.width_of M.row_of N matrices.items in
+            Draws R.stream b.matrices self.old self.new result }
+        ensures untouched { IfErr result (λ e. (e ≡ OutOfMemory) ⊎ (generator_of self.new ≡ generator_of self.old)) }
     {
-        let generator = R::from_rng(&mut self.generator);
-        Ok(HidingScheme {
-            plain: self.plain,
-            generator,
-        })
+        let dimensions = salted_dimensions(alloc, &matrices, SALT_ELEMS)?;
+        let pairs = salted_pairs(alloc, &mut self.generator, dimensions, SALT_ELEMS, matrices)?;
+        self.plain.commit_checked(alloc, pairs)
     }
+}
+
+/// Checks that a tree can be built over matrices of these heights, and that each width fits `usize` with `salt_elems`
+/// more columns. Returns the dimensions of the matrices with these columns.
+fn salted_dimensions<T, M: Matrix<T>>(
+    alloc: Global,
+    matrices: &[M],
+    salt_elems: usize,
+) -> Result<Vec<Dimensions>, MerkleTreeError>
+    ensures answer { let ds = dimensions_in M.height_of M.width_of matrices.now in
+        AnswersUnlessMemory result (salted_commit_refusal salt_elems ds) }
+    ensures lawful { IfOk result (λ v. IsLawful (heights_of v.items)) }
+    ensures fits { IfOk result (λ v. CanWiden salt_elems (dimensions_in M.height_of M.width_of matrices.now)) }
+    ensures wider { let ds = dimensions_in M.height_of M.width_of matrices.now in
+        IfOk result (λ v. v.items ≡ widened salt_elems ds) }
+{
+    let dimensions = dimensions_of(alloc, matrices)?;
+    check_heights(&dimensions)?;
+    widened_dimensions(alloc, &dimensions, salt_elems)
+}
+
+/// Draws `salt_elems` salts for each row of the matrices, and returns each matrix beside its salts. Each salt takes one
+/// call of `next_u64`: matrix by matrix in input order, row by row. `dimensions` are those with salts.
+fn salted_pairs<T: SaltWord, M: Matrix<T> + Drop, R: Rng>(
+    alloc: Global,
+    rng: &mut R,
+    dimensions: Vec<Dimensions>,
+    salt_elems: usize,
+    matrices: Vec<M>,
+) -> Result<CheckedMatrices<T, HorizontalPair<T, M, RowMajorMatrix<T>>>, AllocError>
+    requires some_salt { 1 ≤ salt_elems }
+    requires lawful { IsLawful (heights_of dimensions.items) }
+    requires fits { CanWiden salt_elems (dimensions_in M.height_of M.width_of matrices.items) }
+    requires wider { dimensions.items ≡ widened salt_elems (dimensions_in M.height_of M.width_of matrices.items) }
+    ensures matrices { IfOk result (λ pairs. map left_of pairs.matrices.items ≡ matrices.items) }
+    ensures columns { IfOk result (λ pairs. HaveSaltColumns salt_elems pairs.matrices.items) }
+    ensures salted { let ms = map (matrix_of M.height_of M.width_of M.row_of) matrices.items in
+        IfOk result (λ pairs. map pair_matrix pairs.matrices.items ≡ salted_matrices T.of_salt_word salt_elems ms
+        (R.stream rng.old)) }
+    ensures rest { let ms = map (matrix_of M.height_of M.width_of M.row_of) matrices.items in
+        OnOk result (R.stream rng.new ≡ after_salts salt_elems ms (R.stream rng.old)) }
+    ensures further { let ms = map (matrix_of M.height_of M.width_of M.row_of) matrices.items in
+        IsAfterSome salt_elems ms (R.stream rng.old) (R.stream rng.new) }
+{
+    let mut pairs = Vec::with_capacity(alloc, matrices.len())?;
+    for matrix in matrices {
+        let salts = RowMajorMatrix::rand(alloc, rng, matrix.height(), salt_elems)?;
+        pairs.push(HorizontalPair::new(matrix, salts))?;
+    }
+    Ok(CheckedMatrices {
+        matrices: pairs,
+        dimensions,
+        item: PhantomData,
+    })
 }

@@ -22,15 +22,9 @@ pub struct Salted<Rows> {
     pub rows: Rows,
 }
 
-/// Checks the rows and the salts of one index, and joins each row with its salts. `rows` is the row set, `salts` the
-/// salt set. `dimensions` are those of the matrices without salts; in the result each has `salt_elems` more columns.
-/// How many salts a row has is not checked here.
-///
-/// # Errors
-///
-/// The error of [`check_widths`] for the rows; else `WrongBatchSize` if there are not as many lists of salts as rows;
-/// else `TooLarge` for the first matrix whose width with the salts does not fit `usize`. `OutOfMemory` may come at any
-/// time.
+/// Checks a row set and its salt set, and joins each row with its salts. `dimensions` are those of the matrices without
+/// salts; in the result each has `salt_elems` more columns.
+// How many salts a row has is not checked: another number gives the joined row another width than its matrix.
 pub fn salted_rows<T: Copy>(
     alloc: Global,
     dimensions: &[Dimensions],
@@ -51,19 +45,7 @@ pub fn salted_rows<T: Copy>(
     })
 }
 
-/// Checks the rows and the salts of several indices, and joins each row with its salts. `sets` has a row set for each
-/// index, and `salts` a salt set. `dimensions` are those of the matrices without salts; in the result each has
-/// `salt_elems` more columns. How many salts a row has is not checked: where it is not `salt_elems`, the joined row has
-/// another width than its matrix.
-///
-/// # Errors
-///
-/// The first of these that applies, where `OutOfMemory` may come at any time:
-///
-/// - `WrongBatchSize`: the number of salt sets is not that of the row sets;
-/// - for each row set in turn, the error of [`check_widths`]; else `WrongBatchSize` if the number of lists of salts is
-///   not that of the rows;
-/// - `TooLarge`, for the first matrix whose width with the salts does not fit `usize`.
+/// Checks that there are as many salt sets as row sets, and does for each pair what [`salted_rows`] does.
 pub fn salted_sets<T: Copy>(
     alloc: Global,
     dimensions: &[Dimensions],
@@ -129,12 +111,7 @@ fn check_widening(dimensions: &[Dimensions], salt_elems: usize) -> Result<(), Me
     Ok(())
 }
 
-/// The dimensions, each with `salt_elems` more columns.
-///
-/// # Errors
-///
-/// `TooLarge` for the first matrix whose new width does not fit `usize`, with its width as the size; `OutOfMemory` may
-/// come at any time.
+/// The dimensions, each with `salt_elems` more columns; `TooLarge` for the first width that then does not fit `usize`.
 pub fn widened_dimensions(
     alloc: Global,
     dimensions: &[Dimensions],
@@ -173,8 +150,7 @@ fn joined_rows<T: Copy>(
     Ok(joined)
 }
 
-/// The row sets of several queries, each joined with its salt set by [`joined_rows`]. `sets` has the row sets and
-/// `salts` the salt sets; they are paired in order, up to the end of the shorter list.
+/// Each row set joined with its salt set by [`joined_rows`], in order, up to the end of the shorter list.
 fn joined_row_sets<T: Copy>(
     alloc: Global,
     sets: &[Vec<Vec<T>>],

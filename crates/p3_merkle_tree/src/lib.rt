@@ -12,13 +12,10 @@
 //! `PrunedProof`, `PrunedRows`, `AuthPath` and `InputPair`.
 #![tactic(auto)]
 
-mod commit;
-mod extract;
 mod hiding_mmcs;
 mod join;
 mod open;
 mod scheme_trait;
-mod verify;
 
 pub use hiding_mmcs::{
     HidingScheme, MerkleTreeHidingMmcs, SaltedMultiProof, SaltedProof, SaltedTree,

@@ -1,44 +1,38 @@
-//! Salted openings: those of the plain scheme, with each row split into the matrix's own words and its salts. A row set
-//! has one row of each matrix, a salt set one list of salts for each row.
+//! Salted openings: those of the plain scheme, with each row split into the matrix's own words and its salts, which are
+//! joined again for a check. A row set has one row of each matrix, a salt set one list of salts for each row. A matrix
+//! is authenticated if the cap's digests are computed from its rows. Openings conflict in a row if both have it, with
+//! other words or salts.
 
 ghost use Rattle.std.specs.Prelude.{◌≡◌, ◌<◌, All, IfOk, None, map};
-ghost use Rattle.p3_merkle_core.specs.{Geometry.heights, Nodes.shape, Refusals.AnswersUnlessMemory};
-ghost use Rattle.p3_support.specs.{Batches.greatest, Pairs.left_of, Shown.row_lists, Shown.row_sets};
+ghost use Rattle.p3_merkle_core.specs.{Geometry.heights, Nodes.shape, Presented.IsVerdict};
+ghost use Rattle.p3_merkle_core.specs.Refusals.{AnswersUnlessMemory};
+ghost use Rattle.p3_support.specs.{Batches.greatest, Pairs.left_of, Shown.roots_of, Shown.row_lists, Shown.row_sets};
 ghost use Rattle.p3_merkle_prover.specs.Parts.{matrices_of, tree_batch};
-ghost use Rattle.p3_merkle_tree.specs.HidingSchemes.{salted_made, salted_pruned_made};
+ghost use Rattle.p3_merkle_mmcs.specs.Schemes.{cap_rule_of};
+ghost use Rattle.p3_merkle_tree.specs.HidingSchemes.{plain_of, presented_all, presented_one, salted_borrowed};
+ghost use Rattle.p3_merkle_tree.specs.HidingSchemes.{salted_made, salted_params_of, salted_pruned_borrowed};
+ghost use Rattle.p3_merkle_tree.specs.HidingSchemes.{salted_pruned_made};
 ghost use Rattle.p3_merkle_tree.specs.Inner.SaltedParts.{left_widths, salt_parts, unsalted_parts};
 ghost use Rattle.p3_merkle_tree.specs.SaltedOpened.{OpensSalted, OpensSaltedPruned};
+ghost use Rattle.p3_merkle_tree.specs.SaltedExtraction.{IsSaltedExtraction, IsSaltedPrunedExtraction};
 
 use crate::hiding_mmcs::{MerkleTreeHidingMmcs, SaltedMultiProof, SaltedProof, SaltedTree};
+use crate::join::{salted_rows, salted_sets};
+use p3_merkle_core::collision::Collision;
 use p3_merkle_core::error::MerkleTreeError;
 use p3_merkle_prover::opener::matrix_refs;
 use p3_merkle_prover::tree::Tree;
 use p3_support::compress::PseudoCompressionFunction;
 use p3_support::hasher::CryptographicHasher;
-use p3_support::matrix::Matrix;
-use p3_support::opening::BatchOpening;
+use p3_support::matrix::{Dimensions, Matrix};
+use p3_support::opening::{BatchOpening, BatchOpeningRef, MerkleCap};
 use p3_support::packed::PackedValue;
 use p3_support::pair::HorizontalPair;
 use std::alloc::{AllocError, Global};
 
-/// The matrices of a tree without their salts, in input order.
-fn left_matrices<'a, F, X, G, A: Matrix<F>, B: Matrix<F>, const N: usize>(
-    alloc: Global,
-    tree: &'a Tree<F, X, G, HorizontalPair<F, A, B>, N>,
-) -> Result<Vec<&'a A>, MerkleTreeError>
-    ensures matrices { IfOk result (λ v. map (λ m. m.now) v.items ≡ map left_of (matrices_of tree.now)) }
-    ensures memory { AnswersUnlessMemory result None }
-{
-    let pairs = matrix_refs(alloc, tree)?;
-    let mut matrices = Vec::with_capacity(alloc, pairs.len())?;
-    for pair in &pairs {
-        matrices.push(pair.left())?;
-    }
-    Ok(matrices)
-}
-
 /// Splits each row of one index into the matrix's own words and its salts, and returns the row set and the salt set.
 /// `pairs` has the matrix of each row beside its salts. Only the salts are copied.
+#[tactic(auto, using(crate::proofs::LoopFacts::no_value))]
 fn split_rows<F: Copy, A: Matrix<F>, B: Matrix<F>>(
     alloc: Global,
     pairs: &[&HorizontalPair<F, A, B>],
@@ -60,6 +54,7 @@ fn split_rows<F: Copy, A: Matrix<F>, B: Matrix<F>>(
 }
 
 /// Splits the rows of several indices, each as [`split_rows`] does, into row sets and salt sets.
+#[tactic(auto, using(crate::proofs::LoopFacts::no_value))]
 fn split_row_sets<F: Copy, X, G, A: Matrix<F>, B: Matrix<F>, const N: usize>(
     alloc: Global,
     tree: &Tree<F, X, G, HorizontalPair<F, A, B>, N>,
@@ -164,7 +159,12 @@ impl<
         ensures matrices { IfOk result (λ v. map (λ m. m.now) v.items ≡ map left_of (matrices_of tree.now)) }
         ensures memory { AnswersUnlessMemory result None }
     {
-        left_matrices(alloc, tree)
+        let pairs = matrix_refs(alloc, tree)?;
+        let mut matrices = Vec::with_capacity(alloc, pairs.len())?;
+        for pair in &pairs {
+            matrices.push(pair.left())?;
+        }
+        Ok(matrices)
     }
 
     /// The height of the tallest matrix of a tree, in rows: one more than the greatest index that can be opened.
@@ -175,5 +175,197 @@ impl<
         ensures { result ≡ greatest (heights (shape (tree_batch tree.now))) }
     {
         self.plain.get_max_height(tree)
+    }
+
+    /// Verifies an opening of the leaf `index` with its salts against a cap: the plain scheme's verification of each
+    /// row followed by its salts, under dimensions with `SALT_ELEMS` more columns. A cap binds salts as it binds rows.
+    ///
+    /// An accepted opening has one row for each of `dimensions`, of that width, and `SALT_ELEMS` salts for each row.
+    /// For each level below the cap it has the siblings of the path's node. `dimensions` are those of the matrices
+    /// without salts, in input order; they must come from the verifier, never from the proof. The call allocates the
+    /// joined rows.
+    ///
+    /// # Errors
+    ///
+    /// The first of these that applies, where `OutOfMemory` may come at any time:
+    ///
+    /// - `WrongBatchSize`: the number of rows is not that of the dimensions;
+    /// - `WrongWidth`, for the first row whose length is not the width of its matrix;
+    /// - `WrongBatchSize`: the number of lists of salts is not that of the rows;
+    /// - `TooLarge`, for the first matrix whose width with its salts does not fit `usize`;
+    /// - the error of the plain [`verify_batch`](p3_merkle_mmcs::mmcs::Scheme::verify_batch) for the joined rows, so
+    ///   that a wrong number of salts is a `WrongWidth` of the joined row.
+    pub fn verify_batch(
+        &self,
+        alloc: Global,
+        commit: &MerkleCap<P::Value, [PW::Value; D]>,
+        dimensions: &[Dimensions],
+        index: usize,
+        opening: BatchOpeningRef<'_, P::Value, SaltedProof<P::Value, PW::Value, D>>,
+    ) -> Result<(), MerkleTreeError>
+        ensures { IsVerdict (presented_one self.now dimensions.now commit.now index opening.entry) result }
+    {
+        let (rows, (salts, siblings)) = opening.unpack();
+        let salted = salted_rows(alloc, dimensions, SALT_ELEMS, rows, salts)?;
+        let opening = BatchOpeningRef::new(&salted.rows, siblings);
+        self.plain
+            .verify_batch(commit, &salted.dimensions, index, opening)
+    }
+
+    /// Verifies the rows and salts of several leaves by one pruned proof against a cap: the plain scheme's verification
+    /// of each row followed by its salts, under dimensions with `SALT_ELEMS` more columns.
+    ///
+    /// An accepted opening has a row set and a salt set for each index: one row for each of `dimensions`, of that
+    /// width, and `SALT_ELEMS` salts for each row. Queries of one index have the same rows and salts. Queries under one
+    /// node have the same rows and salts of the matrices that belong to the node's layer. `dimensions` are those of the
+    /// matrices without salts, in input order; they must come from the verifier, never from the proof. The call
+    /// allocates the joined rows.
+    ///
+    /// # Errors
+    ///
+    /// The first of these that applies, where `OutOfMemory` may come at any time:
+    ///
+    /// - `WrongBatchSize`: the number of salt sets is not that of the row sets;
+    /// - in query order, for each row set with its salts: `WrongBatchSize` if the number of rows is not that of the
+    ///   dimensions, `WrongWidth` for the first row whose length is not the width of its matrix, `WrongBatchSize` if
+    ///   the number of lists of salts is not that of the rows;
+    /// - `TooLarge`, for the first matrix whose width with its salts does not fit `usize`;
+    /// - the error of the plain [`verify_multi_batch`](p3_merkle_mmcs::mmcs::Scheme::verify_multi_batch) for the joined
+    ///   rows.
+    pub fn verify_multi_batch(
+        &self,
+        alloc: Global,
+        commit: &MerkleCap<P::Value, [PW::Value; D]>,
+        dimensions: &[Dimensions],
+        indices: &[usize],
+        rows: &[Vec<Vec<P::Value>>],
+        proof: &SaltedMultiProof<P::Value, PW::Value, D>,
+    ) -> Result<(), MerkleTreeError>
+        ensures { IsVerdict (presented_all self.now dimensions.now commit.now indices.now rows.now proof.now) result }
+    {
+        let (salts, pruned) = proof;
+        let salted = salted_sets(alloc, dimensions, SALT_ELEMS, rows, salts)?;
+        self.plain.verify_multi_batch(
+            alloc,
+            commit,
+            &salted.dimensions,
+            indices,
+            &salted.rows,
+            pruned,
+        )
+    }
+
+    /// Extracts a collision from two accepted openings of one cap: two different inputs of the hasher or of the
+    /// compression with one digest, or `None` if the openings agree.
+    ///
+    /// It is the plain scheme's [`extract_collision`](p3_merkle_mmcs::mmcs::Scheme::extract_collision) of the rows
+    /// followed by their salts. Both openings are verified as by [`verify_batch`](Self::verify_batch). Two openings of
+    /// one index give a collision exactly if they differ in a sibling, or in a row or the salts of an authenticated
+    /// matrix. Openings of any two indices give one if they conflict in a row of such a matrix. Under the rule
+    /// `Lowered` every matrix is authenticated.
+    ///
+    /// # Errors
+    ///
+    /// The error of `verify_batch` for the first opening, else that for the second; `OutOfMemory` may come at any time.
+    pub fn extract_collision(
+        &self,
+        alloc: Global,
+        commit: &MerkleCap<P::Value, [PW::Value; D]>,
+        dimensions: &[Dimensions],
+        index1: usize,
+        first: BatchOpeningRef<'_, P::Value, SaltedProof<P::Value, PW::Value, D>>,
+        index2: usize,
+        second: BatchOpeningRef<'_, P::Value, SaltedProof<P::Value, PW::Value, D>>,
+    ) -> Result<Option<Collision<P::Value, PW::Value, D>>, MerkleTreeError>
+        ensures { let extracts = IsSaltedExtraction P.Value.eq PW.Value.eq (cap_rule_of (plain_of self.now)) SALT_ELEMS
+            dimensions.now (salted_params_of self.now dimensions.now) (roots_of commit.now) in
+            extracts (salted_borrowed index1 first.entry) (salted_borrowed index2 second.entry) result }
+    {
+        let (rows1, (salts1, siblings1)) = first.unpack();
+        let salted1 = salted_rows(alloc, dimensions, SALT_ELEMS, rows1, salts1)?;
+        let joined1 = BatchOpeningRef::new(&salted1.rows, siblings1);
+        let (rows2, (salts2, siblings2)) = second.unpack();
+        match salted_rows(alloc, dimensions, SALT_ELEMS, rows2, salts2) {
+            Ok(salted2) => {
+                let joined2 = BatchOpeningRef::new(&salted2.rows, siblings2);
+                self.plain.extract_collision(
+                    alloc,
+                    commit,
+                    &salted1.dimensions,
+                    index1,
+                    joined1,
+                    index2,
+                    joined2,
+                )
+            }
+            // A refusal of the first opening comes before one of the second.
+            Err(error) => {
+                let checked = self
+                    .plain
+                    .verify_batch(commit, &salted1.dimensions, index1, joined1);
+                Err(checked.err().unwrap_or(error))
+            }
+        }
+    }
+
+    /// Extracts a collision from two accepted pruned openings of one cap: the first pair of queries that gives a
+    /// collision, in the order of the first list, then of the second. Returns the position of each query in its list,
+    /// from 0, and two different inputs of the hasher or of the compression with one digest; or `None` if all agree.
+    ///
+    /// The first opening is `indices1`, `rows1` and `proof1`, the second `indices2`, `rows2` and `proof2`: a row set
+    /// for each index, and a proof with a salt set for each. Both are verified as by
+    /// [`verify_multi_batch`](Self::verify_multi_batch). The call is the plain scheme's
+    /// [`extract_collision_multi`](p3_merkle_mmcs::mmcs::Scheme::extract_collision_multi) of the rows followed by their
+    /// salts. It finds a collision wherever two queries conflict in a row of an authenticated matrix. Under the rule
+    /// `Lowered` every matrix is authenticated.
+    ///
+    /// # Errors
+    ///
+    /// The error of `verify_multi_batch` for the first opening, else for the second. `OutOfMemory` may come any time.
+    pub fn extract_collision_multi(
+        &self,
+        alloc: Global,
+        commit: &MerkleCap<P::Value, [PW::Value; D]>,
+        dimensions: &[Dimensions],
+        indices1: &[usize],
+        rows1: &[Vec<Vec<P::Value>>],
+        proof1: &SaltedMultiProof<P::Value, PW::Value, D>,
+        indices2: &[usize],
+        rows2: &[Vec<Vec<P::Value>>],
+        proof2: &SaltedMultiProof<P::Value, PW::Value, D>,
+    ) -> Result<Option<(usize, usize, Collision<P::Value, PW::Value, D>)>, MerkleTreeError>
+        ensures { let extracts = IsSaltedPrunedExtraction P.Value.eq PW.Value.eq (cap_rule_of (plain_of self.now))
+            SALT_ELEMS dimensions.now (salted_params_of self.now dimensions.now) (roots_of commit.now) in
+            extracts (salted_pruned_borrowed indices1.now rows1.now proof1.now)
+            (salted_pruned_borrowed indices2.now rows2.now proof2.now) result }
+    {
+        let (salts1, pruned1) = proof1;
+        let salted1 = salted_sets(alloc, dimensions, SALT_ELEMS, rows1, salts1)?;
+        let (salts2, pruned2) = proof2;
+        match salted_sets(alloc, dimensions, SALT_ELEMS, rows2, salts2) {
+            Ok(salted2) => self.plain.extract_collision_multi(
+                alloc,
+                commit,
+                &salted1.dimensions,
+                indices1,
+                &salted1.rows,
+                pruned1,
+                indices2,
+                &salted2.rows,
+                pruned2,
+            ),
+            // A refusal of the first opening comes before one of the second.
+            Err(error) => {
+                let checked = self.plain.verify_batch_pruned(
+                    alloc,
+                    commit,
+                    &salted1.dimensions,
+                    indices1,
+                    &salted1.rows,
+                    pruned1,
+                );
+                Err(checked.err().unwrap_or(error))
+            }
+        }
     }
 }

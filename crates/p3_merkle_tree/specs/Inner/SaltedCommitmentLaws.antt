@@ -1,7 +1,8 @@
 -- What follows of what a salted scheme commits to, and of what it shows.
-use Rattle.std.specs.Prelude.{◌≡◌, ℕ, zero, suc, ◌<◌, List, [], ◌∷◌, length, map, slice_index, slice_index_or}
+use Rattle.std.specs.Prelude.{◌≡◌, ℕ, zero, suc, ◌<◌, List, [], ◌∷◌, length, map, slice_index, slice_index_or, zip}
 use Rattle.std.specs.List.{AllZip}
-use Rattle.std.proofs.Common.{◌∙◌, ap, arith, refl, subst, sym}
+use Rattle.std.proofs.{Common.◌∙◌, Common.ap, Common.arith, Common.refl, Common.subst, Common.sym}
+use Rattle.std.proofs.lemmas.List.Elements.{AllZip-get_or}
 use Rattle.p3_support.specs.Batches.{FitDimensions, IsEquivalence, heights_of, greatest}
 use Rattle.p3_support.specs.{Pairs.left_of, declared.matrix.Dimensions.Dimensions}
 use Rattle.p3_support.specs.declared.{matrix.Matrix.Ghosts, pair.HorizontalPair.HorizontalPair}
@@ -17,7 +18,7 @@ use Rattle.std.specs.declared.cmp.PartialEq as equality
 use Rattle.p3_merkle_mmcs.specs.Inner.CommitmentLaws.{all_zip, greatest_is, same_is_equivalence}
 use Rattle.p3_merkle_tree.specs.{HidingSchemes.plain_of, SaltedCommitments.HaveSaltedProof}
 use Rattle.p3_merkle_tree.specs.SaltedOpenings.{HaveSalts, IsSaltedPrunedAccepted, SaltedPruned, joined_sets}
-use Rattle.p3_merkle_tree.specs.SaltedOpenings.{salted_rows, salted_sets, widened}
+use Rattle.p3_merkle_tree.specs.SaltedOpenings.{salted_rows, widened}
 use Rattle.p3_merkle_tree.specs.{Inner.SaltedParts.pair_matrix, declared.hiding_mmcs.HidingScheme.HidingScheme}
 
 module _ {P PW H C R X G V W : Type 0} {N D E : ℕ} {p : packed.Ghosts P V} {pd : default.Ghosts V}
@@ -56,50 +57,47 @@ module _ {T A B : Type 0} {a : Ghosts A T} {b : Ghosts B T} where
 
 -- ---- what is shown
 
-zip_at : {A B : Type 0} (holds : A → B → Type 0) (xs : List A) (ys : List B) (a : A) (b : B) (k : ℕ) →
-    AllZip holds xs ys → k < length xs → holds (slice_index_or xs k a) (slice_index_or ys k b)
-zip_at holds [] ys a b k w inside = absurd (omega arith)
-zip_at holds (x ∷ xs) [] a b k w inside = absurd w
-zip_at holds (x ∷ xs) (y ∷ ys) a b zero w inside = w.0
-zip_at holds (x ∷ xs) (y ∷ ys) a b (suc k) w inside = zip_at holds xs ys a b k w.1 (omega arith)
+module _ {A B C : Type 0} (join : A × B → C) where
+  -- there are as many pairs as items
+  pub length_pairs : (xs : List A) (ys : List B) → length ys ≡ length xs → length (map join (zip xs ys)) ≡ length xs
+  length_pairs [] ys same = refl
+  length_pairs (x ∷ xs) [] same = absurd (omega (arith, same))
+  length_pairs (x ∷ xs) (y ∷ ys) same = ap suc (length_pairs xs ys (omega (arith, same)))
 
-module _ {T : Type 0} where
-  length_sets : (sets salts : List (List (List T))) → length salts ≡ length sets → length (salted_sets sets salts)
-      ≡ length sets
-  length_sets [] salts same = refl
-  length_sets (rows ∷ sets) [] same = absurd (omega (arith, same))
-  length_sets (rows ∷ sets) (salt ∷ salts) same = ap suc (length_sets sets salts (omega (arith, same)))
-
-  set_at : (sets salts : List (List (List T))) (k : ℕ) → length salts ≡ length sets → k < length sets →
-      slice_index_or (salted_sets sets salts) k [] ≡ salted_rows (slice_index_or sets k []) (slice_index_or salts k [])
-  set_at [] salts k same inside = absurd (omega arith)
-  set_at (rows ∷ sets) [] k same inside = absurd (omega (arith, same))
-  set_at (rows ∷ sets) (salt ∷ salts) zero same inside = refl
-  set_at (rows ∷ sets) (salt ∷ salts) (suc k) same inside = set_at sets salts k (omega (arith, same)) (omega arith)
+  -- each pair has the items of its place
+  pub pair_at : (xs : List A) (ys : List B) (k : ℕ) (a : A) (b : B) → length ys ≡ length xs →
+      slice_index_or (map join (zip xs ys)) k (join (a, b)) ≡ join (slice_index_or xs k a, slice_index_or ys k b)
+  pair_at [] [] k a b same = refl
+  pair_at [] (y ∷ ys) k a b same = absurd (omega (arith, same))
+  pair_at (x ∷ xs) [] k a b same = absurd (omega (arith, same))
+  pair_at (x ∷ xs) (y ∷ ys) zero a b same = refl
+  pair_at (x ∷ xs) (y ∷ ys) (suc k) a b same = pair_at xs ys k a b (omega (arith, same))
 
 -- of an accepted pruned opening each row set is shown to be that of its index
 pub each_salted_shown : {T W : Type 0} (e : ℕ) (ds : List Dimensions) (c : Params T W) (cap : List (List W))
     (o : SaltedPruned T W) → IsSaltedPrunedAccepted e ds c cap o → AllZip (HaveSaltedProof e ds c cap) o.indices o.rows
 each_salted_shown {T} {W} e ds c cap o w =
-    let long = length_sets o.rows o.salts w.in_pairs in
-    let as_many : length o.rows ≡ length o.indices = sym long ∙ w.accepted.restorable.agreed.in_pairs in
+    let as_many : length o.rows ≡ length o.indices =
+    sym (length_pairs (λ (rows, salts). salted_rows rows salts) o.rows o.salts w.in_pairs)
+    ∙ w.accepted.restorable.agreed.in_pairs in
     all_zip (HaveSaltedProof e ds c cap) o.indices o.rows 0 [] as_many (λ k inside.
     let i = slice_index o.indices k in
     let path = restored_path c (joined_sets o) i in
     let here = subst (λ (rows : List (List T)). IsAccepted c cap (opening_of i rows path))
-    (set_at o.rows o.salts k w.in_pairs (omega (arith, as_many))) (w.accepted.each_accepted k inside) in
+    (pair_at (λ (rows, salts). salted_rows rows salts) o.rows o.salts k [] [] w.in_pairs)
+    (w.accepted.each_accepted k inside) in
     record {
       salts = slice_index_or o.salts k [];
       siblings = path;
       is_accepted = record {
-        salted = zip_at (HaveSalts ds) o.rows o.salts [] [] k w.salted (omega (arith, as_many));
+        salted = AllZip-get_or (HaveSalts ds) o.rows o.salts k [] [] w.salted (omega (arith, as_many));
         can_widen = w.can_widen;
         accepted = here;
       };
     })
 
 -- more columns leave the heights
-wide_heights : (e : ℕ) (ds : List Dimensions) → heights_of (widened e ds) ≡ heights_of ds
+pub wide_heights : (e : ℕ) (ds : List Dimensions) → heights_of (widened e ds) ≡ heights_of ds
 wide_heights e [] = refl
 wide_heights e (d ∷ ds) = ap (λ (hs : List ℕ). d.height ∷ hs) (wide_heights e ds)
 

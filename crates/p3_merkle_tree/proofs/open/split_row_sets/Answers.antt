@@ -1,53 +1,11 @@
 -- Each turn adds the parts of one more set; the pairs are the matrices of the tree.
-use Rattle.std.proofs.Common.{◌∙◌, ap, append-nil, arith, map}
-use Rattle.std.proofs.lemmas.{List.nil_from_length, Result.IfOk-from_err}
+use Rattle.std.proofs.Common.{◌∙◌, ap, append-nil, arith, map, refl}
+use Rattle.std.proofs.lemmas.List.{nil_from_length}
 use Rattle.std.specs.Vec.Iter.{into_iter_items}
 use Rattle.p3_support.specs.Shown.{row_lists, row_sets}
 use Rattle.p3_merkle_tree.proofs.DrawFacts.{same_more}
 use Rattle.p3_merkle_tree.specs.Inner.SaltedParts.{left_widths, salt_parts, unsalted_parts}
 use Rattle.p3_merkle_tree.proofs.open.split_row_sets.Goals as goal
-
-pub returns-in_err-pairs-clause-rows : goal.returns-in_err-pairs-clause-rows
-returns-in_err-pairs-clause-rows g c = IfOk-from_err c.from_residual.result _ c.from_residual.ensures.0
-
-pub returns-in_err-pairs-clause-salts : goal.returns-in_err-pairs-clause-salts
-returns-in_err-pairs-clause-salts g c = IfOk-from_err c.from_residual.result _ c.from_residual.ensures.0
-
-pub returns-in_err-unsalted-clause-rows : goal.returns-in_err-unsalted-clause-rows
-returns-in_err-unsalted-clause-rows g c =
-    IfOk-from_err c.from_residual-in_err-unsalted.result _ c.from_residual-in_err-unsalted.ensures.0
-
-pub returns-in_err-unsalted-clause-salts : goal.returns-in_err-unsalted-clause-salts
-returns-in_err-unsalted-clause-salts g c =
-    IfOk-from_err c.from_residual-in_err-unsalted.result _ c.from_residual-in_err-unsalted.ensures.0
-
-pub returns-in_err-salts-clause-rows : goal.returns-in_err-salts-clause-rows
-returns-in_err-salts-clause-rows g c =
-    IfOk-from_err c.from_residual-in_err-salts.result _ c.from_residual-in_err-salts.ensures.0
-
-pub returns-in_err-salts-clause-salts : goal.returns-in_err-salts-clause-salts
-returns-in_err-salts-clause-salts g c =
-    IfOk-from_err c.from_residual-in_err-salts.result _ c.from_residual-in_err-salts.ensures.0
-
-pub returns-in_err-front-clause-rows : goal.returns-in_err-front-clause-rows
-returns-in_err-front-clause-rows g c =
-    IfOk-from_err c.from_residual-in_err-front.result _ c.from_residual-in_err-front.ensures.0
-
-pub returns-in_err-front-clause-salts : goal.returns-in_err-front-clause-salts
-returns-in_err-front-clause-salts g c =
-    IfOk-from_err c.from_residual-in_err-front.result _ c.from_residual-in_err-front.ensures.0
-
-pub returns-in_err-push-clause-rows : goal.returns-in_err-push-clause-rows
-returns-in_err-push-clause-rows g c =
-    IfOk-from_err c.from_residual-in_err-push.result _ c.from_residual-in_err-push.ensures.0
-
-pub returns-in_err-push-clause-salts : goal.returns-in_err-push-clause-salts
-returns-in_err-push-clause-salts g c =
-    IfOk-from_err c.from_residual-in_err-push.result _ c.from_residual-in_err-push.ensures.0
-
-pub returns-in_err-push-2-clause-rows : goal.returns-in_err-push-2-clause-rows
-returns-in_err-push-2-clause-rows g c =
-    IfOk-from_err c.from_residual-in_err-push-2.result _ c.from_residual-in_err-push-2.ensures.0
 
 pub loop-rows-preserved : goal.loop-rows-preserved
 loop-rows-preserved g c =
@@ -73,18 +31,15 @@ loop-rows-preserved g c =
           c.loop-rows.invariant.salts_so_far;
     }
 
-pub returns-clause-rows : goal.returns-clause-rows
-returns-clause-rows g c =
+pub returns : goal.returns
+returns g c =
     let it = c.loop-rows.rows-iterator in
     let left = nil_from_length (into_iter_items it) (omega (arith, it.rest.ok.0, c.in-None.ensures.steps.0)) in
-    let made = rw (left, append-nil) at c.loop-rows.invariant.rows_so_far in
-    made ∙ ap (λ pairs. map (unsalted_parts (left_widths pairs)) (row_sets c.args.sets.items))
-    c.in_ok-pairs.ensures.matrices
-
-pub returns-clause-salts : goal.returns-clause-salts
-returns-clause-salts g c =
-    let it = c.loop-rows.rows-iterator in
-    let left = nil_from_length (into_iter_items it) (omega (arith, it.rest.ok.0, c.in-None.ensures.steps.0)) in
-    let made = rw (left, append-nil) at c.loop-rows.invariant.salts_so_far in
-    made ∙ ap (λ pairs. map (salt_parts (left_widths pairs)) (row_sets c.args.sets.items))
-    c.in_ok-pairs.ensures.matrices
+    let rows = rw (left, append-nil) at c.loop-rows.invariant.rows_so_far in
+    let salts = rw (left, append-nil) at c.loop-rows.invariant.salts_so_far in
+    let sets = row_sets c.args.sets.items in
+    record {
+      rows = rows ∙ ap (λ pairs. map (unsalted_parts (left_widths pairs)) sets) c.in_ok-pairs.ensures.matrices;
+      salts = salts ∙ ap (λ pairs. map (salt_parts (left_widths pairs)) sets) c.in_ok-pairs.ensures.matrices;
+      memory = refl;
+    }

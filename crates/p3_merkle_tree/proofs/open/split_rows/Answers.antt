@@ -1,34 +1,12 @@
 -- Each turn cuts one more row; where either list is at its end, all rows are taken apart.
 use Rattle.std.proofs.Common.{◌≡◌, ◌⊎◌, ◌∙◌, ℕ, [], ap, arith, drop, inl, inr, length, map, min, sym, take}
-use Rattle.std.proofs.lemmas.{List.drop_min, List.nil_from_length, List.take_min, Result.IfOk-from_err}
+use Rattle.std.proofs.lemmas.{List.drop_min, List.nil_from_length, List.take_min}
 use Rattle.std.specs.Iterator.Adapters.{zip_first, zip_second}
 use Rattle.std.specs.{Slice.Iter.iter_rest, Vec.Iter.into_iter_items}
 use Rattle.p3_support.specs.{Pairs.left_of, Shown.row_lists}
 use Rattle.p3_merkle_tree.specs.Inner.SaltedParts.{left_widths, salt_parts, unsalted_parts}
 use Rattle.p3_merkle_tree.proofs.SaltFacts.{joined_end, joined_more, second_end, shown_end}
 use Rattle.p3_merkle_tree.proofs.open.split_rows.Goals as goal
-
-pub returns-in_err-unsalted-clause-rows : goal.returns-in_err-unsalted-clause-rows
-returns-in_err-unsalted-clause-rows g c = IfOk-from_err c.from_residual.result _ c.from_residual.ensures.0
-
-pub returns-in_err-unsalted-clause-salts : goal.returns-in_err-unsalted-clause-salts
-returns-in_err-unsalted-clause-salts g c = IfOk-from_err c.from_residual.result _ c.from_residual.ensures.0
-
-pub returns-in_err-salts-clause-rows : goal.returns-in_err-salts-clause-rows
-returns-in_err-salts-clause-rows g c =
-    IfOk-from_err c.from_residual-in_err-salts.result _ c.from_residual-in_err-salts.ensures.0
-
-pub returns-in_err-salts-clause-salts : goal.returns-in_err-salts-clause-salts
-returns-in_err-salts-clause-salts g c =
-    IfOk-from_err c.from_residual-in_err-salts.result _ c.from_residual-in_err-salts.ensures.0
-
-pub returns-in_err-push-clause-rows : goal.returns-in_err-push-clause-rows
-returns-in_err-push-clause-rows g c =
-    IfOk-from_err c.from_residual-in_err-push.result _ c.from_residual-in_err-push.ensures.0
-
-pub returns-in_err-push-clause-salts : goal.returns-in_err-push-clause-salts
-returns-in_err-push-clause-salts g c =
-    IfOk-from_err c.from_residual-in_err-push.result _ c.from_residual-in_err-push.ensures.0
 
 pub loop-row-preserved : goal.loop-row-preserved
 loop-row-preserved g c =
@@ -63,8 +41,8 @@ loop-row-preserved g c =
           c.loop-row.invariant.salts_so_far;
     }
 
-pub returns-clause-rows : goal.returns-clause-rows
-returns-clause-rows g c =
+pub returns : goal.returns
+returns g c =
     let it = c.loop-row.row-iterator in
     let left = into_iter_items (zip_first it) in
     let others = iter_rest (zip_second it) in
@@ -75,26 +53,12 @@ returns-clause-rows g c =
     ] in
     let rows = row_lists left in
     let pairs = map (λ p. p.now) others in
+    let all = left_widths (map (λ p. p.now) c.args.pairs.now) in
     let end = second_end (λ p. g.A.Matrix.width_of (left_of p)) rows pairs
     (shown_end (λ row. row.items) (λ p. p.now) left others ended) in
-    joined_end (λ (row, w). take w row) (row_lists c.loop-row.unsalted.items) rows (left_widths pairs)
-    (unsalted_parts (left_widths (map (λ p. p.now) c.args.pairs.now)) (row_lists c.args.rows.items)) end
-    c.loop-row.invariant.rows_so_far
-
-pub returns-clause-salts : goal.returns-clause-salts
-returns-clause-salts g c =
-    let it = c.loop-row.row-iterator in
-    let left = into_iter_items (zip_first it) in
-    let others = iter_rest (zip_second it) in
-    let ended : (left ≡ []) ⊎ (others ≡ []) =
-    elim c.in-None.ensures.steps [
-      | inl first ↦ inl (nil_from_length left (sym (zip_first it).rest.ok.0 ∙ first.1.0))
-      | inr second ↦ inr (nil_from_length others second.1.0)
-    ] in
-    let rows = row_lists left in
-    let pairs = map (λ p. p.now) others in
-    let end = second_end (λ p. g.A.Matrix.width_of (left_of p)) rows pairs
-    (shown_end (λ row. row.items) (λ p. p.now) left others ended) in
-    joined_end (λ (row, w). drop w row) (row_lists c.loop-row.salts.items) rows (left_widths pairs)
-    (salt_parts (left_widths (map (λ p. p.now) c.args.pairs.now)) (row_lists c.args.rows.items)) end
-    c.loop-row.invariant.salts_so_far
+    record {
+      rows = joined_end (λ (row, w). take w row) (row_lists c.loop-row.unsalted.items) rows (left_widths pairs)
+          (unsalted_parts all (row_lists c.args.rows.items)) end c.loop-row.invariant.rows_so_far;
+      salts = joined_end (λ (row, w). drop w row) (row_lists c.loop-row.salts.items) rows (left_widths pairs)
+          (salt_parts all (row_lists c.args.rows.items)) end c.loop-row.invariant.salts_so_far;
+    }

@@ -1,6 +1,6 @@
 use Rattle.std.proofs.Common.{◌≡◌, map, take}
 use Rattle.p3_support.specs.Pairs.{left_of}
-use Rattle.p3_merkle_tree.proofs.open.left_matrices.Given as goal
+use Rattle.p3_merkle_tree.proofs.open.MerkleTreeHidingMmcs+P+PW+H+C+R+N+D+SALT_ELEMS.get_matrices.Given as goal
 
 -- those of the pairs so far
 abbrev pub invariant-loop-pair : goal.invariant-loop-pair

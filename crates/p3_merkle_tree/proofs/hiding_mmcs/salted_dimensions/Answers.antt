@@ -3,9 +3,8 @@ use Rattle.std.proofs.Common.{List, ap, refl, rules, subst, sym, ℕ, ◌∙◌}
 use Rattle.std.proofs.lemmas.Result.{IfOk-weaker}
 use Rattle.p3_support.specs.{Batches.heights_of, declared.matrix.Dimensions.Dimensions}
 use Rattle.p3_merkle_core.specs.{Geometry.IsLawful, Refusals.AnswersUnlessMemory}
-use Rattle.p3_merkle_tree.specs.SaltRefusals.{salted_commit_refusal}
-use Rattle.p3_merkle_tree.proofs.CommitFacts.{widened_heights}
-use Rattle.p3_merkle_tree.proofs.commit.salted_dimensions.Goals as goal
+use Rattle.p3_merkle_tree.specs.{Inner.SaltedCommitmentLaws.wide_heights, SaltRefusals.salted_commit_refusal}
+use Rattle.p3_merkle_tree.proofs.hiding_mmcs.salted_dimensions.Goals as goal
 
 pub returns-in_err-check_heights-clause-answer : goal.returns-in_err-check_heights-clause-answer
 returns-in_err-check_heights-clause-answer g c =
@@ -20,5 +19,5 @@ returns-clause-lawful g c =
     let lawful = subst (λ (ds : List Dimensions). IsLawful (heights_of ds))
     (c.deref.ensures.value ∙ sym c.deref-2.ensures.value) (c.in_ok-check_heights.ensures.lawful.0 refl) in
     IfOk-weaker c.widened_dimensions.result _ _
-    (λ wider is. subst (λ (hs : List ℕ). IsLawful hs) (sym (ap heights_of is ∙ widened_heights e own)) lawful)
+    (λ wider is. subst (λ (hs : List ℕ). IsLawful hs) (sym (ap heights_of is ∙ wide_heights e own)) lawful)
     c.widened_dimensions.ensures.wider

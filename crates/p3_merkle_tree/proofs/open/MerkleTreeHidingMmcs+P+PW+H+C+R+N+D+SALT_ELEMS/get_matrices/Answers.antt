@@ -2,7 +2,7 @@
 use Rattle.std.proofs.{Common.◌∙◌, Common.ap, Common.map, Common.sym, lemmas.Simd.map-map}
 use Rattle.p3_support.specs.Pairs.{left_of}
 use Rattle.p3_merkle_tree.proofs.LoopFacts.{made_all, shown_more}
-use Rattle.p3_merkle_tree.proofs.open.left_matrices.Goals as goal
+use Rattle.p3_merkle_tree.proofs.open.MerkleTreeHidingMmcs+P+PW+H+C+R+N+D+SALT_ELEMS.get_matrices.Goals as goal
 
 pub loop-pair-preserved : goal.loop-pair-preserved
 loop-pair-preserved g c =

@@ -1,15 +1,15 @@
 -- The plain commitment to the pairs is that to the salted matrices.
 use Rattle.std.proofs.Common.{◌≡◌, ◌∙◌, List, None, ap, map, refl, rules, subst, sym}
-use Rattle.std.proofs.lemmas.Result.{IfOk-weaker}
+use Rattle.std.proofs.lemmas.Result.{IfOk-from_err, IfOk-weaker}
 use Rattle.p3_support.specs.{Pairs.left_of, Batches.dimensions_in, declared.matrix.Dimensions.Dimensions}
 use Rattle.p3_merkle_core.specs.{Views.matrix_of, Refusals.AnswersUnlessMemory}
 use Rattle.p3_merkle_core.specs.Nodes.{Batch, Matrix, dimensions_of}
 use Rattle.p3_merkle_tree.specs.{SaltRefusals.salted_commit_refusal, SaltedTrees.HaveSaltColumns}
 use Rattle.p3_merkle_tree.specs.Inner.SaltedParts.{pair_matrix}
 use Rattle.p3_merkle_core.proofs.Lists.ViewFacts.{dimensions_are}
-use Rattle.p3_merkle_tree.proofs.CommitFacts.{both_made, memory_alone, memory_or, nothing_drawn, nothing_made}
-use Rattle.p3_merkle_tree.proofs.CommitFacts.{on_ok, unrefused}
-use Rattle.p3_merkle_tree.proofs.commit.MerkleTreeHidingMmcs+P+PW+H+C+R+N+D+SALT_ELEMS.commit.Goals as goal
+use Rattle.p3_merkle_mmcs.proofs.CommitmentFacts.{memory_alone}
+use Rattle.p3_merkle_tree.proofs.CommitFacts.{both_made, memory_or, nothing_drawn, on_ok}
+use Rattle.p3_merkle_tree.proofs.hiding_mmcs.MerkleTreeHidingMmcs+P+PW+H+C+R+N+D+SALT_ELEMS.commit.Goals as goal
 
 pub returns-in_err-dimensions-clause-answer : goal.returns-in_err-dimensions-clause-answer
 returns-in_err-dimensions-clause-answer g c =
@@ -26,9 +26,9 @@ returns-in_err-pairs g c =
     let err = c.from_residual-in_err-pairs.ensures.0 in
     record {
       answer = search rules;
-      matrices = nothing_made _ r err;
-      batch = nothing_made _ r err;
-      committed = nothing_made _ r err;
+      matrices = IfOk-from_err r _ err;
+      batch = IfOk-from_err r _ err;
+      committed = IfOk-from_err r _ err;
       drawn = record { rest = nothing_drawn _ r err; further = c.salted_pairs.ensures.further; scheme = refl };
       untouched = search rules;
     }
@@ -44,9 +44,9 @@ returns g c =
     let none = subst (λ (ds : List Dimensions). salted_commit_refusal e ds ≡ None) are
     c.in_ok-dimensions.ensures.answer in
     let over : List (Matrix _) → Batch _ = λ z. record { arity = g.row.N; matrices = z } in
-    let memory = memory_alone r None c.commit_checked.ensures.memory refl in
+    let memory = c.commit_checked.ensures.memory in
     record {
-      answer = unrefused r (salted_commit_refusal e (dimensions_of (shown ms))) memory none;
+      answer = subst (AnswersUnlessMemory r) (sym none) memory;
       matrices = IfOk-weaker r _ _ (λ made is. ap (map left_of) is ∙ c.in_ok-pairs.ensures.matrices)
           c.commit_checked.ensures.matrices;
       batch = IfOk-weaker r _ _
@@ -61,5 +61,5 @@ returns g c =
         further = c.in_ok-pairs.ensures.further;
         scheme = refl;
       };
-      untouched = memory_or _ r memory;
+      untouched = memory_or _ r (memory_alone r memory);
     }

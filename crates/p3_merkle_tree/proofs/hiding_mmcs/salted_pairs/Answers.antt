@@ -8,10 +8,10 @@ use Rattle.p3_merkle_core.specs.{Nodes.dimensions_of, Views.matrix_of}
 use Rattle.p3_merkle_core.proofs.Lists.ViewFacts.{dimensions_are}
 use Rattle.p3_merkle_tree.proofs.CommitFacts.{salted_widened}
 use Rattle.p3_merkle_tree.proofs.DrawFacts.{after_next, after_some, drawn_more, first_fits, others_fit, pairs_more}
-use Rattle.p3_merkle_tree.proofs.DrawFacts.{salted_row, same_more, stream_more}
+use Rattle.p3_merkle_tree.proofs.DrawFacts.{salted_row, same_more}
 use Rattle.p3_merkle_tree.specs.{Salted.after_salts, Salted.salted, Salted.salted_matrices, SaltedOpenings.widened}
 use Rattle.p3_merkle_tree.specs.{SaltedOpenings.CanWiden, SaltedTrees.HaveSaltColumns, Inner.SaltedParts.pair_matrix}
-use Rattle.p3_merkle_tree.proofs.commit.salted_pairs.Goals as goal
+use Rattle.p3_merkle_tree.proofs.hiding_mmcs.salted_pairs.Goals as goal
 
 pub new-requires-clause-width_fits : goal.new-requires-clause-width_fits
 new-requires-clause-width_fits g c =
@@ -36,7 +36,6 @@ loop-matrix-init g c =
       same = λ i. map left_of (none i) ++ all i;
       columns = rw none (λ k d past. absurd (omega (arith, past)));
       salted = λ i. map pair_matrix (none i) ++ salted_matrices of_word e (shown (all i)) s;
-      end = λ i. after_salts e (shown (all i)) s;
       drawn = rw none refl;
     }
 
@@ -85,8 +84,6 @@ loop-matrix-preserved g c =
           (g.R.Rng.stream c.rand.new.rng) turn after made
           (ap (map pair_matrix) pushed ∙ map-append pair_matrix c.loop-matrix.pairs.items (c.new.result ∷ []))
           c.loop-matrix.invariant.salted;
-      end = stream_more of_word e shown m left rest before (g.R.Rng.stream c.rand.new.rng) (after_salts e all start)
-          turn after c.loop-matrix.invariant.end;
       drawn = drawn_more e shown (map left_of c.loop-matrix.pairs.items) (map left_of c.push.new.self.items) m start
           before (g.R.Rng.stream c.rand.new.rng) lefts after c.loop-matrix.invariant.drawn;
     }
@@ -159,7 +156,10 @@ pub returns-clause-rest : goal.returns-clause-rest
 returns-clause-rest g c =
     let it = c.loop-matrix.matrix-iterator in
     let left = nil_from_length (into_iter_items it) (omega (arith, it.rest.ok.0, c.in-None.ensures.steps.0)) in
-    rw left at c.loop-matrix.invariant.end
+    let same = rw (left, append-nil) at c.loop-matrix.invariant.same in
+    let shown = matrix_of g.M.Matrix.height_of g.M.Matrix.width_of g.M.Matrix.row_of in
+    c.loop-matrix.invariant.drawn
+    ∙ ap (λ (ms : List _). after_salts c.args.salt_elems (map shown ms) (g.R.Rng.stream c.args.rng.now)) same
 
 pub returns-clause-further : goal.returns-clause-further
 returns-clause-further g c =

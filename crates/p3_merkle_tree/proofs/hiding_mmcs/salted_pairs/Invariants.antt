@@ -4,7 +4,7 @@ use Rattle.p3_merkle_core.specs.{Views.matrix_of, Nodes.dimensions_of}
 use Rattle.p3_support.specs.Pairs.{left_of}
 use Rattle.p3_merkle_tree.specs.Salted.{after_salts, salted_matrices}
 use Rattle.p3_merkle_tree.specs.{SaltedOpenings.CanWiden, SaltedTrees.HaveSaltColumns, Inner.SaltedParts.pair_matrix}
-use Rattle.p3_merkle_tree.proofs.commit.salted_pairs.Given as goal
+use Rattle.p3_merkle_tree.proofs.hiding_mmcs.salted_pairs.Given as goal
 
 -- the pairs so far, and what the matrices that are left will get
 abbrev pub invariant-loop-matrix : goal.invariant-loop-matrix
@@ -18,8 +18,6 @@ invariant-loop-matrix g l =
       columns : HaveSaltColumns l.salt_elems l.pairs.items;
       salted : map pair_matrix l.pairs.items ++ salted_matrices of_word l.salt_elems (shown left) (g.R.Rng.stream l.rng)
           ≡ salted_matrices of_word l.salt_elems (shown l.fn.matrices.items) (g.R.Rng.stream l.fn.rng);
-      end : after_salts l.salt_elems (shown left) (g.R.Rng.stream l.rng)
-          ≡ after_salts l.salt_elems (shown l.fn.matrices.items) (g.R.Rng.stream l.fn.rng);
       drawn : g.R.Rng.stream l.rng
           ≡ after_salts l.salt_elems (shown (map left_of l.pairs.items)) (g.R.Rng.stream l.fn.rng);
     }
