@@ -20,11 +20,7 @@ use p3_support::matrix::Matrix;
 use std::alloc::Global;
 
 /// The rows of each of some leaves, in the order of the indices. Each index must be below
-/// [`max_height`](crate::opener::max_height).
-///
-/// # Errors
-///
-/// Only `OutOfMemory`.
+/// [`max_height`](crate::opener::max_height). The only error is `OutOfMemory`.
 pub fn rows_of_indices<F: Copy, X, G, M: Matrix<F>, const N: usize>(
     alloc: Global,
     tree: &Tree<F, X, G, M, N>,
@@ -44,11 +40,8 @@ pub fn rows_of_indices<F: Copy, X, G, M: Matrix<F>, const N: usize>(
 
 /// The digests of a pruned proof of some leaves: those of the boundary below layer `cap_layer`, level by level from the
 /// leaves up, ascending. Each index must be below [`max_height`](crate::opener::max_height), and `cap_layer` at most
-/// the number of levels. It sorts a copy of the indices, and allocates the digests once, at their number.
-///
-/// # Errors
-///
-/// Only `OutOfMemory`.
+/// the number of levels. It sorts a copy of the indices, and allocates the digests once, at their number. The only
+/// error is `OutOfMemory`.
 pub fn boundary_digests<F, X: Copy, G, M: Matrix<F>, const N: usize>(
     alloc: Global,
     tree: &Tree<F, X, G, M, N>,

@@ -130,16 +130,6 @@ impl<F: Copy, W: Copy, M: Matrix<F> + Drop, const N: usize, const D: usize> Merk
         let cap = cap_at(alloc, self, self.num_layers() - 1 - cap_height)?;
         Ok(cap)
     }
-}
-
-impl<F: Copy, W: Copy, M: Matrix<F> + Clone + Drop, const N: usize, const D: usize> MerkleTree<
-    F,
-    W,
-    M,
-    N,
-    D,
-> {
-    ghost use Rattle.p3_merkle_prover.specs.Parts.{layers_of, matrices_of, tree_batch};
 
     /// A tree with clones of the matrices, and the same layers. A clone of a matrix must have the same height, width
     /// and rows. The copy opens what the tree opens.
@@ -148,6 +138,8 @@ impl<F: Copy, W: Copy, M: Matrix<F> + Clone + Drop, const N: usize, const D: usi
     ///
     /// `AllocError` if memory runs out.
     pub fn clone(&self) -> Result<Self, AllocError>
+    where
+        M: Clone,
         requires { All (ClonesShowTheSame M.height_of M.width_of M.row_of M.is_clone) (matrices_of self.now) }
         ensures matrices { IfOk result (λ tree. AllZip M.is_clone (matrices_of self.now) (matrices_of tree)) }
         ensures batch { IfOk result (λ tree. tree_batch tree ≡ tree_batch self.now) }

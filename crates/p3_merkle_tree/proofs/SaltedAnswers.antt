@@ -1,13 +1,13 @@
 -- What is not refused of rows and salts is accepted, and the other way round.
-use Rattle.std.proofs.Common.{◌≡◌, ◌↔◌, ℕ, Bool, List, [], ◌∷◌, refl, sym, ap, ◌∙◌, arith, inl, inr, length, map, zip}
-use Rattle.std.proofs.Common.{None, Some, Option, Result, eqb}
+use Rattle.std.proofs.Common.{◌≡◌, ◌↔◌, ℕ, Bool, List, [], ◌∷◌, refl, sym, ap, ◌∙◌, arith, length, map, zip}
+use Rattle.std.proofs.Common.{None, eqb}
 use Rattle.std.proofs.lemmas.{Bool.eqb-true, List.length-map}
-use Rattle.std.specs.{Prelude.Ok, Prelude.Err, Prelude.IsErr, List.AllZip, Option.option_or}
+use Rattle.std.specs.{List.AllZip}
 use Rattle.p3_support.specs.{declared.matrix.Dimensions.Dimensions, Batches.widths_of}
-use Rattle.p3_merkle_core.specs.{Openings.Opening, Pruning.PrunedOpening, Geometry.IsArity}
-use Rattle.p3_merkle_core.specs.Refusals.{AnswersUnlessMemory, IsEquality, first_of, pruned_refusal_under}
+use Rattle.p3_merkle_core.specs.{Geometry.IsArity}
+use Rattle.p3_merkle_core.specs.Refusals.{IsEquality, first_of, pruned_refusal_under}
 use Rattle.p3_merkle_core.specs.Refusals.{refusal_under, row_width_refusal, size_refusal, width_refusal, ok_unless}
-use Rattle.p3_merkle_core.specs.declared.error.MerkleTreeError.{MerkleTreeError, TheVariants.WrongBatchSize}
+use Rattle.p3_merkle_core.specs.declared.error.MerkleTreeError.{TheVariants.WrongBatchSize}
 use Rattle.p3_merkle_core.specs.Checks.{Params}
 use Rattle.p3_merkle_core.proofs.Pruned.NoneFacts.{fit_from, none_of_both, none_parts, unless_none, verdict_ok}
 use Rattle.p3_merkle_core.proofs.Pruned.Unrefused.{each_width, size_none}
@@ -17,7 +17,7 @@ use Rattle.p3_merkle_tree.specs.SaltRefusals.{salt_refusal, salt_sets_refusal}
 use Rattle.p3_merkle_tree.specs.SaltRefusals.{salted_pruned_refusal_under, salted_refusal_under, salted_rows_refusal}
 use Rattle.p3_merkle_tree.specs.SaltRefusals.{salted_sets_refusal, widening_refusal}
 use Rattle.p3_merkle_tree.specs.SaltedOpenings.{HaveSalts, IsSaltedAccepted, IsSaltedPrunedAccepted}
-use Rattle.p3_merkle_tree.specs.SaltedOpenings.{SaltedOpening, SaltedPruned, joined, joined_sets, widened}
+use Rattle.p3_merkle_tree.specs.SaltedOpenings.{SaltedOpening, SaltedPruned, joined, joined_sets}
 use Rattle.p3_merkle_tree.specs.SaltedPresented.{presented_salted, presented_salted_pruned}
 use Rattle.p3_merkle_core.proofs.Collisions.ExtractionFacts.{IsPresentation}
 

@@ -1,6 +1,6 @@
 -- Rows of pairs, taken apart where the left matrix ends.
 use Rattle.std.proofs.Common.{◌≡◌, ℕ, zero, suc, ◌+◌, ◌/◌, ◌^◌, ◌<◌, cond, nat_lt, List, [], ◌∷◌, ◌++◌, map, refl, ap}
-use Rattle.std.proofs.Common.{sym, subst, ◌∙◌, arith, length, get_or, take, drop, All}
+use Rattle.std.proofs.Common.{sym, subst, ◌∙◌, arith, length, get_or, All}
 use Rattle.std.proofs.lemmas.{Bool.lt-ltb, List.drop_at, List.get_or_default, List.length-map, List.take-append-drop}
 use Rattle.std.proofs.lemmas.{List.take_at, Simd.map-map}
 use Rattle.std.specs.List.{AllZip}

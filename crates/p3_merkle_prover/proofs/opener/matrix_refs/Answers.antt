@@ -1,6 +1,6 @@
 -- One more matrix.
-use Rattle.std.proofs.Common.{sym, ap, ◌∙◌, ◌++◌, ◌∷◌, [], take, inl, refl}
-use Rattle.std.proofs.lemmas.{Result.err_from_is_err_and, List.take_more, List.map-append, List.take_all}
+use Rattle.std.proofs.Common.{sym, ap, ◌∙◌, ◌++◌, ◌∷◌, [], take, refl}
+use Rattle.std.proofs.lemmas.{List.take_more, List.map-append, List.take_all}
 use Rattle.p3_merkle_prover.proofs.opener.matrix_refs.Goals as goal
 
 pub loop-matrix-preserved : goal.loop-matrix-preserved
@@ -10,16 +10,6 @@ loop-matrix-preserved g c =
     rw (c.in_ok-push.ensures.items, map-append, c.loop-matrix.invariant)
     (sym (take_more all i c.matrix-item.result c.loop-matrix-test.true
     ∙ ap (λ m. take i all ++ m ∷ []) (sym c.matrix-item.is)))
-
-pub returns-in_err-matrices : goal.returns-in_err-matrices
-returns-in_err-matrices g c =
-    let gone = err_from_is_err_and c.from_residual.result c.from_residual.ensures.1 in
-    rw (gone.1, gone.2) (record { matrices = tt; memory = inl refl })
-
-pub returns-in_err-push : goal.returns-in_err-push
-returns-in_err-push g c =
-    let gone = err_from_is_err_and c.from_residual-in_err-push.result c.from_residual-in_err-push.ensures.1 in
-    rw (gone.1, gone.2) (record { matrices = tt; memory = inl refl })
 
 pub loop-matrix-init : goal.loop-matrix-init
 loop-matrix-init g c = rw c.in_ok-matrices.ensures.items refl

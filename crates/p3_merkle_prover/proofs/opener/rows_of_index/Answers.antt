@@ -1,6 +1,6 @@
 -- Each turn reads one more row.
-use Rattle.std.proofs.Common.{◌∙◌, arith, refl, inl}
-use Rattle.std.proofs.lemmas.{Result.err_from_is_err_and, List.take_all}
+use Rattle.std.proofs.Common.{◌∙◌, arith, refl}
+use Rattle.std.proofs.lemmas.{List.take_all}
 use Rattle.p3_merkle_core.specs.{Openings.honest_rows, Geometry.heights, Nodes.shape}
 use Rattle.p3_merkle_prover.specs.Parts.{tree_batch}
 use Rattle.p3_merkle_prover.proofs.RowFacts.{few_halvings, row_inside, row_next, rows_count}
@@ -46,17 +46,6 @@ loop-matrix-preserved g c =
       count = omega (arith, c.push_reserved.ensures.len, c.loop-matrix.invariant.count);
       capacity = omega (arith, c.push_reserved.ensures.capacity, c.loop-matrix.invariant.capacity);
     }
-
-pub returns-in_err-rows : goal.returns-in_err-rows
-returns-in_err-rows g c =
-    let gone = err_from_is_err_and c.from_residual.result c.from_residual.ensures.1 in
-    rw (gone.1, gone.2) (record { rows = tt; memory = inl refl })
-
-pub returns-in_err-words_of_row : goal.returns-in_err-words_of_row
-returns-in_err-words_of_row g c =
-    let gone = err_from_is_err_and c.from_residual-in_err-words_of_row.result
-    c.from_residual-in_err-words_of_row.ensures.1 in
-    rw (gone.1, gone.2) (record { rows = tt; memory = inl refl })
 
 pub loop-matrix-init : goal.loop-matrix-init
 loop-matrix-init g c = record {

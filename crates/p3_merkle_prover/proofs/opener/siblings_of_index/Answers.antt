@@ -1,6 +1,5 @@
 -- Each turn opens the group of one level.
-use Rattle.std.proofs.Common.{◌≡◌, ◌≤◌, ◌∙◌, ℕ, ap, arith, sym, subst, length, inl, refl}
-use Rattle.std.proofs.lemmas.Result.{err_from_is_err_and}
+use Rattle.std.proofs.Common.{◌≡◌, ◌≤◌, ◌∙◌, ℕ, ap, arith, sym, subst, length, refl}
 use Rattle.p3_support.specs.Batches.{greatest}
 use Rattle.p3_merkle_core.specs.Geometry.{Shape, height_limit, heights, levels, step}
 use Rattle.p3_merkle_core.specs.{Nodes.shape, Openings.level_siblings, Openings.node_in}
@@ -85,14 +84,3 @@ returns-clause-siblings g c = λ d.
     let here : c.loop-level.level ≡ c.args.layer = omega arith in
     c.loop-level.invariant.0 d
     ∙ ap (λ (l : ℕ). joined (level_siblings (node_in d (layers_of c.args.tree.now)) s c.args.index) l) here
-
-pub returns-in_err-siblings : goal.returns-in_err-siblings
-returns-in_err-siblings g c =
-    let gone = err_from_is_err_and c.from_residual.result c.from_residual.ensures.1 in
-    rw (gone.1, gone.2) (record { siblings = λ d. tt; memory = inl refl })
-
-pub returns-in_err-extend_except : goal.returns-in_err-extend_except
-returns-in_err-extend_except g c =
-    let gone = err_from_is_err_and c.from_residual-in_err-extend_except.result
-    c.from_residual-in_err-extend_except.ensures.1 in
-    rw (gone.1, gone.2) (record { siblings = λ d. tt; memory = inl refl })

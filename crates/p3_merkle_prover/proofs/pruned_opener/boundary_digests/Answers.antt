@@ -1,6 +1,5 @@
 -- Each turn is one level.
-use Rattle.std.proofs.Common.{◌≡◌, ◌∙◌, ◌≤◌, arith, add-one, ap, length, subst, sym, inl, refl}
-use Rattle.std.proofs.lemmas.Result.{err_from_is_err_and}
+use Rattle.std.proofs.Common.{◌≡◌, ◌∙◌, ◌≤◌, arith, add-one, ap, length, subst, sym}
 use Rattle.p3_support.specs.Batches.{greatest}
 use Rattle.p3_merkle_core.specs.Geometry.{Shape, height_limit, heights, levels, step}
 use Rattle.p3_merkle_core.specs.{Nodes.shape, Pruning.CanQuery}
@@ -89,8 +88,3 @@ pub returns-clause-digests : goal.returns-clause-digests
 returns-clause-digests g c d =
     let h : c.loop-level.level ≡ c.args.cap_layer = omega arith in
     rw h at (c.loop-level.invariant.so_far d)
-
-pub returns-in_err-distinct_indices : goal.returns-in_err-distinct_indices
-returns-in_err-distinct_indices g c =
-    let gone = err_from_is_err_and c.from_residual.result c.from_residual.ensures.1 in
-    rw (gone.1, gone.2) (record { digests = λ d. tt; memory = inl refl })

@@ -3,7 +3,7 @@ use Rattle.std.proofs.Common.{◌≡◌, ◌∙◌, List, None, ap, map, refl, r
 use Rattle.std.proofs.lemmas.Result.{IfOk-from_err, IfOk-weaker}
 use Rattle.p3_support.specs.{Pairs.left_of, Batches.dimensions_in, declared.matrix.Dimensions.Dimensions}
 use Rattle.p3_merkle_core.specs.{Views.matrix_of, Refusals.AnswersUnlessMemory}
-use Rattle.p3_merkle_core.specs.Nodes.{Batch, Matrix, dimensions_of}
+use Rattle.p3_merkle_core.specs.Nodes.{Batch, Matrix}
 use Rattle.p3_merkle_tree.specs.{SaltRefusals.salted_commit_refusal, SaltedTrees.HaveSaltColumns}
 use Rattle.p3_merkle_tree.specs.Inner.SaltedParts.{pair_matrix}
 use Rattle.p3_merkle_core.proofs.Lists.ViewFacts.{dimensions_are}
