@@ -1,7 +1,8 @@
 -- The lowest bits of a number and of twice that number.
-use Rattle.std.proofs.Common.{◌≡◌, ℕ, zero, suc, ◌+◌, ◌/◌, ◌%◌, ◌^◌, ◌<◌, ◌≤◌, ◌≢◌, refl, sym, ap, ◌∙◌, arith, inl, inr}
+use Rattle.std.proofs.Common.{◌≡◌, ℕ, zero, suc, ◌+◌, ◌*◌, ◌/◌, ◌%◌, ◌^◌, ◌<◌, ◌≤◌, ◌≢◌, refl, sym, ap, ◌∙◌, arith, inl, inr}
 use Rattle.std.proofs.lemmas.Nat.{zero_from_ones, Bits.bit_at_lowest, Bits.bit_at-suc, Bits.bit_at-trailing_ones}
 use Rattle.std.proofs.lemmas.{Nat.Bits.bit_at-trailing_zeros, Bool.Decides.leb_tells, Bool.Decides.nat_tests}
+use Rattle.std.proofs.{Math.Nat.div-div-eq-div-mul, Math.Nat.mul_left_comm, Math.Nat.pow-succ', lemmas.Bool.cases_eq}
 use Rattle.std.specs.Prelude.{◌==◌, true, false}
 use Rattle.std.specs.Int.{bit_at, w64, is_power_of_two, trailing_zeros, trailing_ones, Count.ones, Count.ones_step}
 
@@ -10,6 +11,10 @@ half_double n = omega arith
 
 pub half_odd : (n : ℕ) → (n + n + 1) / 2 ≡ n
 half_odd n = omega arith
+
+-- a layer up is a half
+pub half_pow : (n t : ℕ) → n / 2 ^ suc t ≡ n / 2 / 2 ^ t
+half_pow n t = ap (λ (p : ℕ). n / p) (pow-succ' 2 t) ∙ sym (div-div-eq-div-mul n 2 (2 ^ t))
 
 -- ---- powers of two
 
@@ -83,3 +88,25 @@ ones_of_double n small =
     let a = bit_at-trailing_ones w64 (n + n) (omega arith) in
     lowest (n + n) _ 0 0 1 (λ e. omega arith) a.1 a.2 (bit_at_lowest (n + n) ∙ omega arith)
     (λ i h. absurd (omega arith))
+
+-- the last whole node up to x, where the ones of x end
+pub ones_whole : (depth x : ℕ) → x ≤ depth → x ≤ 2 ^ 62 →
+    (x / 2 ^ trailing_ones w64 x + 1) * 2 ^ trailing_ones w64 x ≡ x + 1
+ones_whole zero x enough small =
+    let none : x ≡ 0 = omega arith in
+    let t : trailing_ones w64 x ≡ 0 = ap (λ (n : ℕ). trailing_ones w64 n) none ∙ ones_of_double 0 (omega arith) in
+    rw t (let all : (x / 2 ^ 0 + 1) * 2 ^ 0 ≡ x + 1 = omega arith in all)
+ones_whole (suc depth) x enough small = elim (cases_eq (x % 2) 0) [
+  | inl even ↦
+      let e : x ≡ x / 2 + x / 2 = omega arith in
+      let t : trailing_ones w64 x ≡ 0 = ap (λ (n : ℕ). trailing_ones w64 n) e ∙ ones_of_double (x / 2) (omega arith) in
+      rw t (let all : (x / 2 ^ 0 + 1) * 2 ^ 0 ≡ x + 1 = omega arith in all)
+  | inr odd ↦
+      let i = x / 2 in
+      let o = trailing_ones w64 i in
+      let e : x ≡ i + i + 1 = omega arith in
+      let t : trailing_ones w64 x ≡ suc o = ap (λ (n : ℕ). trailing_ones w64 n) e ∙ ones_of_odd i (omega arith) in
+      let up = ones_whole depth i (omega arith) (omega arith) in
+      let times = mul_left_comm (i / 2 ^ o + 1) 2 (2 ^ o) in
+      rw (t, half_pow x o, pow-succ' 2 o) (times ∙ omega (arith, up, odd))
+]

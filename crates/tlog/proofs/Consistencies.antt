@@ -1,53 +1,91 @@
--- Accepted proofs of consistency between the same sizes, as proofs of inclusion of the node where they begin.
-use Rattle.std.proofs.Common.{◌≡◌, ◌≢◌, ℕ, ◌+◌, ◌-◌, ◌/◌, ◌^◌, ◌<◌, ◌≤◌, refl, sym, ap, ◌∙◌, arith, inl, inr, List, []}
+-- Accepted proofs of consistency, as proofs of inclusion of the node where they begin.
+use Rattle.std.proofs.Common.{◌≡◌, ◌≢◌, ℕ, ◌+◌, ◌-◌, ◌*◌, ◌/◌, ◌^◌, ◌<◌, ◌≤◌, refl, sym, ap, ◌∙◌, arith, inl, inr, List, []}
 use Rattle.std.proofs.Common.{◌∷◌, length, take, Some, true, false, Vec, Global}
-use Rattle.std.proofs.lemmas.{Bool.Decides.eqb_tells, List.length-take-le, List.take-map}
+use Rattle.std.proofs.lemmas.{Bool.cases_Bool, Bool.Decides.eqb_tells, List.length-take-le, List.take-map}
 use Rattle.std.proofs.{Math.Nat.div-le_self, Math.Nat.div-mul-le_self, lemmas.Nat.le-div, lemmas.Nat.pow_pos}
+use Rattle.std.proofs.lemmas.Nat.Bits.{bit_at-trailing_ones}
 use Rattle.std.specs.Prelude.{Option, Bool, Result, IsOk, ◌↔◌, ◌⊎◌}
-use Rattle.std.specs.{Result.is_err, Int.is_power_of_two}
+use Rattle.std.specs.{Result.is_err, Int.is_power_of_two, Int.w64}
 use Rattle.tlog.specs.{Collisions.RootsFixEntries, Collisions.entries_of, Climbs.Begins, Climbs.climb_end}
-use Rattle.tlog.specs.Rfc9162.{Hash, inclusion_walk, leaf_hash, proof_of, root_of}
+use Rattle.tlog.specs.Rfc9162.{Hash, consistency_end, consistency_from, inclusion_walk, leaf_hash, proof_of, root_of}
 use Rattle.tlog.specs.Verdicts.{IsConsistent, IsIncluded, is_same, size_limit}
 use Rattle.tlog.specs.declared.error.ProofError.{ProofError}
 use Rattle.tlog.specs.Fixed.{NewRootFixesProof, RootFixesProof, RootsFixPrefix}
-use Rattle.tlog.proofs.{Begun.begun, Climbs.as_inclusion, Entries.length-entries, Honest.honest_grown}
-use Rattle.tlog.proofs.{Honest.root_of_none, TwoWalks.ok_of, TwoWalks.unequal}
+use Rattle.tlog.proofs.{Bits.ones_whole, Climbs.as_inclusion, Entries.length-entries, Honest.end-at}
+use Rattle.tlog.proofs.{Honest.honest_grown, Honest.root_of_none, TwoWalks.accepted_by, TwoWalks.unequal, Walks.end_of}
 
--- a proof with digests is between different sizes
-pub digests_grow : (hash : Hash) (old new : ℕ) (path : List (List ℕ)) (root new_root : List ℕ) → 0 < old →
-    0 < length path → IsConsistent hash old new path root new_root → old < new
-digests_grow hash old new path root new_root some more is =
-    elim (eqb_tells old new) [
-      | inl (t, same) ↦ let e = ap length (is.unchanged some same).0 in absurd (omega arith)
-      | inr (f, other) ↦ let o = is.ordered in omega arith
-    ]
+module _ {hash : Hash} {old new : ℕ} {path : List (List ℕ)} {root new_root : List ℕ} where
+  -- a proof with digests is between different sizes
+  pub digests_grow : 0 < old → 0 < length path → IsConsistent hash old new path root new_root → old < new
+  digests_grow some more is = elim (eqb_tells old new) [
+    | inl (t, same) ↦ let e = ap length (is.unchanged some same).0 in absurd (omega arith)
+    | inr (f, other) ↦ let o = is.ordered in omega arith
+  ]
 
--- one without digests is between equal sizes
-pub bare_unchanged : (hash : Hash) (old new : ℕ) (path : List (List ℕ)) (root new_root : List ℕ) → 0 < old →
-    path ≡ [] → IsConsistent hash old new path root new_root → (old ≡ new) × (root ≡ new_root)
-bare_unchanged hash old new path root new_root some none is =
-    elim (eqb_tells old new) [
-      | inl (t, same) ↦ (same, (is.unchanged some same).1)
-      | inr (f, other) ↦
-          let o = is.ordered in
-          let bare = rw none at (is.grown some (omega arith)) in
-          let pair : ◌≡◌ {A = ℕ × List ℕ × List ℕ} (new, [], []) (0, root, new_root) = cc in
-          let z : new ≡ 0 = ap (λ (p : ℕ × List ℕ × List ℕ). p.0) pair in absurd (omega arith)
-    ]
+  -- one without digests is between equal sizes
+  pub bare_unchanged : 0 < old → path ≡ [] → IsConsistent hash old new path root new_root →
+      (old ≡ new) × (root ≡ new_root)
+  bare_unchanged some none is = elim (eqb_tells old new) [
+    | inl (t, same) ↦ (same, (is.unchanged some same).1)
+    | inr (f, other) ↦
+        let o = is.ordered in
+        let z = (end_of (rw none at (is.grown some (omega arith)))).0 in absurd (omega arith)
+  ]
 
--- without digests in one, there are none in the other
-pub no_digests : (hash : Hash) (old new : ℕ) (path other_path : List (List ℕ)) (root other_root new_root : List ℕ) →
-    (old ≡ 0) ⊎ (path ≡ []) → NewRootFixesProof hash old new root path other_root other_path new_root
-no_digests hash old new path other_path root other_root new_root why small is other =
-    elim (eqb_tells old 0) [
-      | inl (t, z) ↦
-          let a = is.from_nothing z in
-          let b = other.from_nothing z in (a.1 ∙ sym b.1, a.0 ∙ sym b.0)
-      | inr (f, some) ↦
-          let none : path ≡ [] = elim why [ inl z ↦ absurd (omega arith) | inr e ↦ e ] in
-          let same = bare_unchanged hash old new path root new_root (omega arith) none is in
-          let b = other.unchanged (omega arith) same.0 in (same.1 ∙ sym b.1, none ∙ sym b.0)
-    ]
+  -- without digests in one, there are none in the other
+  pub no_digests : {other_path : List (List ℕ)} {other_root : List ℕ} → (old ≡ 0) ⊎ (path ≡ []) →
+      NewRootFixesProof hash old new root path other_root other_path new_root
+  no_digests why small is other = elim (eqb_tells old 0) [
+    | inl (t, z) ↦
+        let a = is.from_nothing z in
+        let b = other.from_nothing z in (a.1 ∙ sym b.1, a.0 ∙ sym b.0)
+    | inr (f, some) ↦
+        let none : path ≡ [] = elim why [ inl z ↦ absurd (omega arith) | inr e ↦ e ] in
+        let same = bare_unchanged (omega arith) none is in
+        let b = other.unchanged (omega arith) same.0 in (same.1 ∙ sym b.1, none ∙ sym b.0)
+  ]
+
+-- ---- the node where a proof begins
+
+module _ {old : ℕ} {path : List (List ℕ)} {root : List ℕ} {layer node : ℕ} {value : List ℕ} {digests : List (List ℕ)}
+    (b : Begins old path root layer node value digests) where
+  -- it is the last whole one
+  pub begins_whole : 0 < old → old ≤ 2 ^ 62 → (node + 1) * 2 ^ layer ≡ old
+  begins_whole some small =
+      let all = ones_whole (old - 1) (old - 1) (omega arith) (omega arith) in
+      let back : old - 1 + 1 ≡ old = omega arith in
+      rw (b.at_node, b.at_layer) (all ∙ back)
+
+  pub begins_layer : old ≤ 2 ^ 62 → layer < 64
+  begins_layer small = rw b.at_layer (bit_at-trailing_ones w64 (old - 1) (omega arith)).0
+
+  -- it is within the new tree
+  begins_within : (new : ℕ) → old ≤ new → node ≤ (new - 1) / 2 ^ layer
+  begins_within new ordered =
+      let low = div-mul-le_self (old - 1) (2 ^ layer) in
+      rw b.at_node (le-div ((old - 1) / 2 ^ layer) (new - 1) (2 ^ layer) (pow_pos layer) (omega arith))
+
+  -- the way up from it is the walk of the standard's algorithm
+  pub begun : (hash : Hash) (new : ℕ) →
+      climb_end hash layer node new value digests ≡ consistency_end hash old new root path
+  begun hash new =
+      let from : climb_end hash layer node new value digests ≡ consistency_from hash old new value digests =
+      rw (b.at_node, b.at_layer) in
+      elim (cases_Bool (is_power_of_two old)) [
+        | inl e ↦ let all = b.all e in from ∙ rw (all.0, all.1) (whole path b.some e)
+        | inr e ↦
+            from ∙ sym (end-at hash old new root value digests false e)
+            ∙ ap (consistency_end hash old new root) (sym (b.part e))
+      ]
+    where
+      whole : (p : List (List ℕ)) → 0 < length p → is_power_of_two old ≡ true →
+          consistency_from hash old new root p ≡ consistency_end hash old new root p
+      whole [] some e = absurd (omega arith)
+      whole (c ∷ p) some e = sym (end-at hash old new root c p true e)
+
+  pub begun_end : {hash : Hash} {new : ℕ} {new_root : List ℕ} → 0 < old → IsConsistent hash old new path root new_root →
+      climb_end hash layer node new value digests ≡ Some (0, root, new_root)
+  begun_end some is = begun _ _ ∙ is.grown some (digests_grow some b.some is)
 
 -- a way up is accepted as a proof of inclusion of its node
 as_leaf : (hash : Hash) (new layer node : ℕ) (value : List ℕ) (digests : List (List ℕ)) (a b : List ℕ) →
@@ -61,70 +99,46 @@ as_leaf hash new layer node value digests a b within e =
           ∙ as_inclusion hash digests node ((new - 1) / 2 ^ layer) value value 0 a b e;
     }
 
--- the node where a proof begins is within the new tree
-pub begins_within : (old new : ℕ) (path : List (List ℕ)) (root : List ℕ) (layer node : ℕ) (value : List ℕ)
-    (digests : List (List ℕ)) → Begins old path root layer node value digests → old ≤ new →
-    node ≤ (new - 1) / 2 ^ layer
-begins_within old new path root layer node value digests b ordered =
-    let some : 0 < 2 ^ layer = pow_pos layer in
-    let low = div-mul-le_self (old - 1) (2 ^ layer) in
-    rw b.at_node (le-div ((old - 1) / 2 ^ layer) (new - 1) (2 ^ layer) some (omega arith))
+module _ {hash : Hash} {old new : ℕ} {path other_path : List (List ℕ)} {root other_root new_root : List ℕ}
+    {layer node other_layer other_node : ℕ} {value other_value : List ℕ} {digests other_digests : List (List ℕ)}
+    (b : Begins old path root layer node value digests)
+    (c : Begins old other_path other_root other_layer other_node other_value other_digests) (some : 0 < old)
+    (small : new ≤ size_limit) (is : IsConsistent hash old new path root new_root)
+    (other : IsConsistent hash old new other_path other_root new_root) where
+  paths : (value ≡ other_value) × (digests ≡ other_digests) → path ≡ other_path
+  paths same = elim (cases_Bool (is_power_of_two old)) [
+    | inl e ↦ sym (b.all e).1 ∙ same.1 ∙ (c.all e).1
+    | inr e ↦ b.part e ∙ rw (same.0, same.1) (sym (c.part e))
+  ]
 
--- where it ends
-pub begun_end : (hash : Hash) (old new : ℕ) (path : List (List ℕ)) (root new_root : List ℕ) (layer node : ℕ)
-    (value : List ℕ) (digests : List (List ℕ)) → Begins old path root layer node value digests → 0 < old →
-    IsConsistent hash old new path root new_root →
-    climb_end hash layer node new value digests ≡ Some (0, root, new_root)
-begun_end hash old new path root new_root layer node value digests b some is =
-    begun hash old new path root layer node value digests b
-    ∙ is.grown some (digests_grow hash old new path root new_root some b.some is)
+  starts : (root ≡ other_root) × (path ≡ other_path) → (value ≡ other_value) × (digests ≡ other_digests)
+  starts same = elim (cases_Bool (is_power_of_two old)) [
+    | inl e ↦ ((b.all e).0 ∙ same.0 ∙ sym (c.all e).0, (b.all e).1 ∙ same.1 ∙ sym (c.all e).1)
+    | inr e ↦
+        let heads : value ∷ digests ≡ other_value ∷ other_digests = sym (b.part e) ∙ same.1 ∙ c.part e in (cc, cc)
+  ]
 
--- what fixes the node where both begin fixes both
-pub fixed_from : (hash : Hash) (old new : ℕ) (path other_path : List (List ℕ)) (root other_root new_root : List ℕ)
-    (layer node other_layer other_node : ℕ) (value other_value : List ℕ) (digests other_digests : List (List ℕ)) →
-    Begins old path root layer node value digests →
-    Begins old other_path other_root other_layer other_node other_value other_digests → 0 < old → new ≤ size_limit →
-    IsConsistent hash old new path root new_root → IsConsistent hash old new other_path other_root new_root →
-    RootFixesProof hash node ((new - 1) / 2 ^ layer + 1) value digests other_value other_digests new_root
-    ↔ NewRootFixesProof hash old new root path other_root other_path new_root
-fixed_from hash old new path other_path root other_root new_root layer node other_layer other_node value other_value
-    digests other_digests b c some small is other =
-    let ends = begun_end hash old new path root new_root layer node value digests b some is in
-    let same_layer : other_layer ≡ layer = c.at_layer ∙ sym b.at_layer in
-    let same_node : other_node ≡ node =
-    c.at_node ∙ ap (λ (l : ℕ). (old - 1) / 2 ^ l) same_layer ∙ sym b.at_node in
-    let other_ends : climb_end hash layer node new other_value other_digests ≡ Some (0, other_root, new_root) =
-    rw (← same_layer, ← same_node)
-    (begun_end hash old new other_path other_root new_root other_layer other_node other_value other_digests c some
-    other) in
-    let within = begins_within old new path root layer node value digests b is.ordered in
-    let low = div-le_self (new - 1) (2 ^ layer) in
-    let more = digests_grow hash old new path root new_root some b.some is in (
-      λ fixed s i o.
-          let same = fixed (omega arith) (as_leaf hash new layer node value digests root new_root within ends)
-          (as_leaf hash new layer node other_value other_digests other_root new_root within other_ends) in
-          let both : ◌≡◌ {A = Option (ℕ × List ℕ × List ℕ)} (Some (0, root, new_root)) (Some (0, other_root, new_root)) =
-          sym ends ∙ rw (same.0, same.1) other_ends in
-          let triple : ◌≡◌ {A = ℕ × List ℕ × List ℕ} (0, root, new_root) (0, other_root, new_root) = cc in
-          (ap (λ (p : ℕ × List ℕ × List ℕ). p.1) triple, paths same),
-      λ fixed s i o. starts (fixed small is other),
-    )
-  where
-    paths : (value ≡ other_value) × (digests ≡ other_digests) → path ≡ other_path
-    paths same = by (is_power_of_two old) refl
-      where
-        by : (v : Bool) → is_power_of_two old ≡ v → path ≡ other_path
-        by true e = sym (b.all e).1 ∙ same.1 ∙ (c.all e).1
-        by false e = b.part e ∙ rw (same.0, same.1) (sym (c.part e))
-
-    starts : (root ≡ other_root) × (path ≡ other_path) → (value ≡ other_value) × (digests ≡ other_digests)
-    starts same = by (is_power_of_two old) refl
-      where
-        by : (v : Bool) → is_power_of_two old ≡ v → (value ≡ other_value) × (digests ≡ other_digests)
-        by true e = ((b.all e).0 ∙ same.0 ∙ sym (c.all e).0, (b.all e).1 ∙ same.1 ∙ sym (c.all e).1)
-        by false e =
-            let heads : value ∷ digests ≡ other_value ∷ other_digests = sym (b.part e) ∙ same.1 ∙ c.part e in
-            (cc, cc)
+  -- what fixes the node where both begin fixes both
+  pub fixed_from : RootFixesProof hash node ((new - 1) / 2 ^ layer + 1) value digests other_value other_digests new_root
+      ↔ NewRootFixesProof hash old new root path other_root other_path new_root
+  fixed_from =
+      let ends = begun_end b some is in
+      let same_layer : other_layer ≡ layer = c.at_layer ∙ sym b.at_layer in
+      let same_node : other_node ≡ node =
+      c.at_node ∙ ap (λ (l : ℕ). (old - 1) / 2 ^ l) same_layer ∙ sym b.at_node in
+      let other_ends : climb_end hash layer node new other_value other_digests ≡ Some (0, other_root, new_root) =
+      rw (← same_layer, ← same_node) (begun_end c some other) in
+      let within = begins_within b new is.ordered in
+      let low = div-le_self (new - 1) (2 ^ layer) in
+      let more = digests_grow some b.some is in (
+        λ fixed s i o.
+            let same = fixed (omega arith) (as_leaf hash new layer node value digests root new_root within ends)
+            (as_leaf hash new layer node other_value other_digests other_root new_root within other_ends) in
+            let also : climb_end hash layer node new value digests ≡ Some (0, other_root, new_root) =
+            rw (same.0, same.1) other_ends in
+            ((end_of (sym ends ∙ also)).1, paths same),
+        λ fixed s i o. starts (fixed small is other),
+      )
 
 -- ---- lists of entries, as the code reads them
 
@@ -143,7 +157,7 @@ pub same_root : (hash : Hash) (old new first : List (Vec ℕ Global)) (path : Li
     RootsFixEntries hash (entries_of old) (entries_of first)
     ↔ RootsFixPrefix hash (entries_of old) (entries_of new) path
 same_root hash old new first path old_root new_root r accepted e at_old at_new front roots =
-    let is = accepted.0 (ok_of r e) in
+    let is = accepted_by r accepted refl e in
     let lo = length-entries old in
     let ln = length-entries new in
     let at = first_entries old new first front in (
@@ -169,7 +183,7 @@ pub differ : (hash : Hash) (old new first : List (Vec ℕ Global)) (path : List 
     first ≡ take (length old) new → first_root ≡ root_of hash (entries_of first) → same ≡ is_same old_root first_root →
     same ≡ false → Differ hash old new path old_root new_root first_root
 differ hash old new first path old_root new_root first_root r same accepted e at_old at_new front at_first test unlike =
-    let is = accepted.0 (ok_of r e) in
+    let is = accepted_by r accepted refl e in
     let ordered = is.1.ordered in
     let lo = length-entries old in
     let ln = length-entries new in

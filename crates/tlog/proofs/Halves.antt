@@ -1,323 +1,215 @@
 -- Walks up to a root, by the children of the root: the last digest is the root of the other half.
-use Rattle.std.proofs.Common.{◌≡◌, ℕ, zero, suc, ◌+◌, ◌-◌, ◌/◌, ◌%◌, ◌^◌, ◌<◌, ◌≤◌, refl, sym, ap, subst, ◌∙◌, arith, inl, inr}
-use Rattle.std.proofs.Common.{List, [], ◌∷◌, ◌++◌, Some, true, false}
-use Rattle.std.specs.{Prelude.◌==◌, Prelude.◌↔◌, Prelude.◌⊎◌, Prelude.Option, Int.w64, Int.trailing_zeros}
-use Rattle.std.proofs.lemmas.Bool.Decides.{eqb_tells, nat_tests}
+use Rattle.std.proofs.Common.{◌≡◌, ℕ, zero, suc, ◌+◌, ◌-◌, ◌/◌, ◌%◌, ◌^◌, ◌<◌, ◌≤◌, refl, sym, ap, ◌∙◌, arith, inl, inr}
+use Rattle.std.proofs.Common.{List, [], ◌∷◌, ◌++◌, length, length-append, Some, None, true, false}
+use Rattle.std.specs.{Prelude.◌==◌, Prelude.◌↔◌, Prelude.◌⊎◌, Int.w64, Int.trailing_zeros}
+use Rattle.std.proofs.lemmas.Bool.{cases_eq, Decides.nat_tests}
 use Rattle.tlog.specs.Rfc9162.{Hash, consistency_walk, is_left, node_hash, split}
-use Rattle.tlog.proofs.{Bits.zeros_of_odd, Climbs.parity, Climbs.skip_more, Splits.split_is, Splits.split_of_half}
-use Rattle.tlog.proofs.{Splits.split_of_two, Walks.consistency_left, Walks.consistency_right}
-
--- the walk uses up its digests at the root
-abbrev pub Ends : Hash → List (List ℕ) → ℕ → ℕ → List ℕ → List ℕ → List ℕ → List ℕ → Type 0
-Ends hash digests fn sn fr sr a b = consistency_walk hash digests fn sn fr sr ≡ Some (0, a, b)
+use Rattle.tlog.proofs.{Bits.half_pow, Bits.zeros_of_double, Bits.zeros_of_odd, Splits.split_is, Splits.split_of_half}
+use Rattle.tlog.proofs.{Splits.split_of_two, Walks.end_of}
 
 -- ---- one layer
 
-end_of : (s : ℕ) (fr sr a b : List ℕ) → ◌≡◌ {A = Option (ℕ × List ℕ × List ℕ)} (Some (s, fr, sr)) (Some (0, a, b)) →
-    (s ≡ 0) × (fr ≡ a) × (sr ≡ b)
-end_of s fr sr a b h =
-    let e : ◌≡◌ {A = ℕ × List ℕ × List ℕ} (s, fr, sr) (0, a, b) = cc in (
-      ap (λ (p : ℕ × List ℕ × List ℕ). p.0) e,
-      ap (λ (p : ℕ × List ℕ × List ℕ). p.1) e,
-      ap (λ (p : ℕ × List ℕ × List ℕ). p.2) e,
-    )
+module _ (hash : Hash) (c : List ℕ) (digests : List (List ℕ)) (fn sn : ℕ) (fr sr : List ℕ) where
+  step_odd : fn % 2 ≡ 1 → 0 < sn → fn ≤ 2 ^ 62 → consistency_walk hash (c ∷ digests) fn sn fr sr
+      ≡ consistency_walk hash digests (fn / 2) (sn / 2) (node_hash hash c fr) (node_hash hash c sr)
+  unfolding consistency_walk
+  step_odd odd some small =
+      let z : (sn == 0) ≡ false = grind (arith, nat_tests) in
+      let l : is_left fn sn ≡ true = grind (arith, nat_tests) in
+      let t : trailing_zeros w64 fn ≡ 0 =
+      ap (λ (x : ℕ). trailing_zeros w64 x) (omega arith) ∙ zeros_of_odd (fn / 2) (omega arith) in
+      let f : fn / 2 ^ 0 ≡ fn = omega arith in
+      let s : sn / 2 ^ 0 ≡ sn = omega arith in
+      rw (z, consistency_walk, l, consistency_walk, t, f, s)
 
-pub no_more : (hash : Hash) (fn sn : ℕ) (fr sr a b : List ℕ) → Ends hash [] fn sn fr sr a b →
-    (sn ≡ 0) × (fr ≡ a) × (sr ≡ b)
-unfolding consistency_walk
-no_more hash fn sn fr sr a b h = end_of sn fr sr a b h
+  step_even : fn % 2 ≡ 0 → fn < sn → consistency_walk hash (c ∷ digests) fn sn fr sr
+      ≡ consistency_walk hash digests (fn / 2) (sn / 2) fr (node_hash hash sr c)
+  unfolding consistency_walk
+  step_even even within =
+      let z : (sn == 0) ≡ false = grind (arith, nat_tests) in
+      let e : (fn % 2 == 1) ≡ false = grind (arith, nat_tests) in
+      let u : (fn == sn) ≡ false = grind (arith, nat_tests) in
+      let l : is_left fn sn ≡ false = rw (e, u) in
+      rw (z, consistency_walk, l, consistency_walk)
 
-at_root : (hash : Hash) (fn : ℕ) (fr sr : List ℕ) → Ends hash [] fn 0 fr sr fr sr
-unfolding consistency_walk
-at_root hash fn fr sr = refl
+  -- an only child: the walk is that from the node above
+  skip : fn % 2 ≡ 0 → 0 < fn → fn ≤ 2 ^ 62 → consistency_walk hash (c ∷ digests) fn fn fr sr
+      ≡ consistency_walk hash (c ∷ digests) (fn / 2) (fn / 2) fr sr
+  unfolding consistency_walk
+  skip even some small =
+      let z : (fn == 0) ≡ false = grind (arith, nat_tests) in
+      let y : (fn / 2 == 0) ≡ false = grind (arith, nat_tests) in
+      let l : is_left fn fn ≡ true = grind (arith, nat_tests) in
+      let m : is_left (fn / 2) (fn / 2) ≡ true = grind (arith, nat_tests) in
+      let t : trailing_zeros w64 fn ≡ suc (trailing_zeros w64 (fn / 2)) =
+      ap (λ (x : ℕ). trailing_zeros w64 x) (omega arith) ∙ zeros_of_double (fn / 2) (omega arith) (omega arith) in
+      rw (
+        z,
+        consistency_walk,
+        l,
+        consistency_walk,
+        t,
+        half_pow fn (trailing_zeros w64 (fn / 2)),
+        y,
+        consistency_walk,
+        m,
+        consistency_walk,
+      )
 
-past_root : {X : Type 0} (hash : Hash) (c : List ℕ) (digests : List (List ℕ)) (fn : ℕ) (fr sr a b : List ℕ) →
-    Ends hash (c ∷ digests) fn 0 fr sr a b → X
-unfolding consistency_walk
-past_root hash c digests fn fr sr a b h = absurd cc
+module _ (hash : Hash) (fr sr : List ℕ) where
+  past_root : (digests : List (List ℕ)) (fn : ℕ) → 0 < length digests →
+      consistency_walk hash digests fn 0 fr sr ≡ None
+  unfolding consistency_walk
+  past_root [] fn some = absurd (omega arith)
+  past_root (c ∷ digests) fn some = refl
 
-step_odd : (hash : Hash) (c : List ℕ) (digests : List (List ℕ)) (i sn : ℕ) (fr sr : List ℕ) → 0 < sn → i ≤ 2 ^ 62 →
-    consistency_walk hash (c ∷ digests) (suc (i + i)) sn fr sr
-    ≡ consistency_walk hash digests i (sn / 2) (node_hash hash c fr) (node_hash hash c sr)
-step_odd hash c digests i sn fr sr some small =
-    let z : (sn == 0) ≡ false = grind (arith, nat_tests) in
-    let l : is_left (suc (i + i)) sn ≡ true = grind (arith, nat_tests) in
-    let t : trailing_zeros w64 (suc (i + i)) ≡ 0 =
-    ap (λ (x : ℕ). trailing_zeros w64 x) (omega arith) ∙ zeros_of_odd i small in
-    let fn : suc (i + i) / 2 ^ 0 / 2 ≡ i = omega arith in
-    let last : sn / 2 ^ 0 / 2 ≡ sn / 2 = omega arith in
-    consistency_left hash (c ∷ digests) 0 (suc (i + i)) sn fr sr [] (omega arith) z l ∙ rw (t, fn, last)
+  skip_end : (digests : List (List ℕ)) (n : ℕ) (a b : List ℕ) → n % 2 ≡ 0 → n ≤ 2 ^ 62 →
+      (consistency_walk hash digests n n fr sr ≡ Some (0, a, b))
+      ↔ (consistency_walk hash digests (n / 2) (n / 2) fr sr ≡ Some (0, a, b))
+  unfolding consistency_walk
+  skip_end digests zero a b even small = (λ h. h, λ h. h)
+  skip_end [] (suc n) a b even small =
+      (λ h. let z = (end_of h).0 in absurd (omega arith), λ h. let z = (end_of h).0 in absurd (omega arith))
+  skip_end (c ∷ digests) (suc n) a b even small =
+      let e = skip hash c digests (suc n) 0 fr sr even (omega arith) small in (λ h. sym e ∙ h, λ h. e ∙ h)
 
-step_even : (hash : Hash) (c : List ℕ) (digests : List (List ℕ)) (i sn : ℕ) (fr sr : List ℕ) → i + i < sn →
-    consistency_walk hash (c ∷ digests) (i + i) sn fr sr
-    ≡ consistency_walk hash digests i (sn / 2) fr (node_hash hash sr c)
-step_even hash c digests i sn fr sr within =
-    let z : (sn == 0) ≡ false = grind (arith, nat_tests) in
-    let l : is_left (i + i) sn ≡ false =
-    let even : ((i + i) % 2 == 1) ≡ false = grind (arith, nat_tests) in
-    let unlike : (i + i == sn) ≡ false = grind (arith, nat_tests) in rw (even, unlike) in
-    let fn : (i + i) / 2 ≡ i = omega arith in
-    consistency_right hash (c ∷ digests) 0 (i + i) sn fr sr [] (omega arith) z l ∙ rw fn
+past_two : (hash : Hash) (c : List ℕ) (digests : List (List ℕ)) (fn : ℕ) (fr sr : List ℕ) → fn < 2 →
+    0 < length digests → consistency_walk hash (c ∷ digests) fn 1 fr sr ≡ None
+past_two hash c digests zero fr sr h some =
+    step_even hash c digests 0 1 fr sr refl (omega arith) ∙ past_root hash _ _ digests 0 some
+past_two hash c digests (suc zero) fr sr h some =
+    step_odd hash c digests 1 1 fr sr refl (omega arith) (omega arith) ∙ past_root hash _ _ digests 0 some
+past_two hash c digests (suc (suc fn)) fr sr h some = absurd (omega arith)
 
--- ---- the left half
+-- ---- the half of a tree that has the node
 
--- the node is in the left half, below the split
-abbrev Left : Hash → List (List ℕ) → List ℕ → ℕ → ℕ → ℕ → List ℕ → List ℕ → List ℕ → List ℕ → Type 0
-Left hash rest last fn sn k fr sr a b =
-    Ends hash (rest ++ last ∷ []) fn sn fr sr a b
-    ↔ ((w : List ℕ) × Ends hash rest fn (k - 1) fr sr a w × (b ≡ node_hash hash w last))
+module _ (hash : Hash) (last : List ℕ) (p q : List ℕ → List ℕ) (a b : List ℕ) where
+  -- the walk from node fn ends as that from node i of its half does, whose old and new root p and q lead on from
+  abbrev Half : List (List ℕ) → ℕ → ℕ → ℕ → ℕ → List ℕ → List ℕ → Type 0
+  Half rest fn sn i s fr sr =
+      (consistency_walk hash (rest ++ last ∷ []) fn sn fr sr ≡ Some (0, a, b))
+      ↔ ((o : List ℕ) × (w : List ℕ) × (consistency_walk hash rest i s fr sr ≡ Some (0, o, w)) × (a ≡ p o) × (b ≡ q w))
 
-left_two : (hash : Hash) (rest : List (List ℕ)) (last fr sr a b : List ℕ) → Left hash rest last 0 1 1 fr sr a b
-left_two hash [] last fr sr a b =
-    let s = step_even hash last [] 0 1 fr sr (omega arith) in (
-      λ h.
-          let e = no_more hash 0 0 fr (node_hash hash sr last) a b (sym s ∙ h) in
-          (sr, rw e.1 (at_root hash 0 a sr), sym e.2),
-      λ (w, h, q).
-          let e = no_more hash 0 0 fr sr a w h in
-          s ∙ rw (q, ← e.1, ← e.2) (at_root hash 0 fr (node_hash hash sr last)),
-    )
-left_two hash (c ∷ rest) last fr sr a b = (
-  λ h. absurd (past hash rest (sym (step_even hash c (rest ++ last ∷ []) 0 1 fr sr (omega arith)) ∙ h)),
-  λ (w, h, q). past_root hash c rest 0 fr sr a w h,
-)
-  where
-    past : (hash : Hash) (rest : List (List ℕ)) →
-        Ends hash (rest ++ last ∷ []) 0 0 fr (node_hash hash sr c) a b → ⊥
-    past hash [] h = past_root hash last [] 0 fr (node_hash hash sr c) a b h
-    past hash (d ∷ rest) h = past_root hash d (rest ++ last ∷ []) 0 fr (node_hash hash sr c) a b h
+  -- the halves are single nodes
+  two : (rest : List (List ℕ)) (fn : ℕ) (fr sr : List ℕ) → fn < 2 →
+      consistency_walk hash (last ∷ []) fn 1 fr sr ≡ Some (0, p fr, q sr) → Half rest fn 1 0 0 fr sr
+  unfolding consistency_walk
+  two [] fn fr sr small at = (
+    λ h. let e = end_of (sym at ∙ h) in (fr, sr, refl, sym e.1, sym e.2),
+    λ (o, w, h, x, y). let e = end_of h in at ∙ rw (x, y, ← e.1, ← e.2),
+  )
+  two (c ∷ rest) fn fr sr small at = (
+    λ h. let none = past_two hash c (rest ++ last ∷ []) fn fr sr small (omega (arith, length-append rest (last ∷ []))) in
+        absurd cc,
+    λ (o, w, h, x, y). absurd cc,
+  )
 
--- no digest below the last one, where there are layers between
-left_bare : (hash : Hash) (last : List ℕ) (fn sn k : ℕ) (fr sr a b : List ℕ) → fn < k → k < sn + 1 → 2 ≤ sn → 2 ≤ k →
-    fn ≤ 2 ^ 62 → Left hash [] last fn sn k fr sr a b
-left_bare hash last fn sn k fr sr a b below within two more small = (
-  λ h. elim (parity fn) [
-    | inl (i, e) ↦
-        let up = rw e at h in
-        let z = no_more hash i (sn / 2) fr (node_hash hash sr last) a b
-        (sym (step_even hash last [] i sn fr sr (omega arith)) ∙ up) in
-        let none = z.0 in absurd (omega arith)
-    | inr (i, e) ↦
-        let up = rw e at h in
-        let z = no_more hash i (sn / 2) (node_hash hash last fr) (node_hash hash last sr) a b
-        (sym (step_odd hash last [] i sn fr sr (omega arith) (omega arith)) ∙ up) in
-        let none = z.0 in absurd (omega arith)
-  ],
-  λ (w, h, q). let z = (no_more hash fn (k - 1) fr sr a w h).0 in absurd (omega arith),
-)
+  joined : (c : List ℕ) (rest : List (List ℕ)) (fn sn i s : ℕ) (fr sr v w : List ℕ) →
+      consistency_walk hash (c ∷ (rest ++ last ∷ [])) fn sn fr sr
+      ≡ consistency_walk hash (rest ++ last ∷ []) (fn / 2) (sn / 2) v w →
+      consistency_walk hash (c ∷ rest) i s fr sr ≡ consistency_walk hash rest (i / 2) (s / 2) v w →
+      Half rest (fn / 2) (sn / 2) (i / 2) (s / 2) v w → Half (c ∷ rest) fn sn i s fr sr
+  joined c rest fn sn i s fr sr v w outer inner above = (
+    λ h. let r = above.0 (sym outer ∙ h) in (r.0, r.1, inner ∙ r.2, r.3, r.4),
+    λ (o, m, h, x, y). outer ∙ above.1 (o, m, sym inner ∙ h, x, y),
+  )
 
--- a layer up
-abbrev Same : Hash → List (List ℕ) → List (List ℕ) → ℕ → ℕ → ℕ → ℕ → List ℕ → List ℕ → List ℕ → List ℕ → Type 0
-Same hash below above fn sn i up fr sr v w =
-    consistency_walk hash below fn sn fr sr ≡ consistency_walk hash above i up v w
+  -- both nodes are right children, or left ones with a sibling
+  abbrev Alike : ℕ → ℕ → ℕ → ℕ → Type 0
+  Alike fn sn i s =
+      ((fn % 2 ≡ 1) × (i % 2 ≡ 1)) ⊎ ((fn % 2 ≡ 0) × (i % 2 ≡ 0) × (fn < sn) × (i < s))
 
-left_up : (hash : Hash) (c last : List ℕ) (rest : List (List ℕ)) (fn sn k i up j : ℕ) (fr sr v w a b : List ℕ) →
-    Same hash (c ∷ (rest ++ last ∷ [])) (rest ++ last ∷ []) fn sn i up fr sr v w →
-    Same hash (c ∷ rest) rest fn (k - 1) i (j - 1) fr sr v w → Left hash rest last i up j v w a b →
-    Left hash (c ∷ rest) last fn sn k fr sr a b
-left_up hash c last rest fn sn k i up j fr sr v w a b outer inner above = (
-  λ h. let r = above.0 (sym outer ∙ h) in (r.0, inner ∙ r.1, r.2),
-  λ (x, h, q). outer ∙ above.1 (x, sym inner ∙ h, q),
-)
+  up : (rest : List (List ℕ)) (fn sn i s : ℕ) (fr sr : List ℕ) → Alike fn sn i s → 2 ≤ sn → 0 < s → fn ≤ 2 ^ 62 →
+      i ≤ 2 ^ 62 → ((rest : List (List ℕ)) (v w : List ℕ) → Half rest (fn / 2) (sn / 2) (i / 2) (s / 2) v w) →
+      Half rest fn sn i s fr sr
+  unfolding consistency_walk
+  up [] fn sn i s fr sr (inl (odd, alike)) two some small fits above = (
+    λ h. let z = (end_of (sym (step_odd hash last [] fn sn fr sr odd (omega arith) small) ∙ h)).0 in absurd (omega arith),
+    λ (o, w, h, x, y). let z = (end_of h).0 in absurd (omega arith),
+  )
+  up [] fn sn i s fr sr (inr (even, alike, l, m)) two some small fits above = (
+    λ h. let z = (end_of (sym (step_even hash last [] fn sn fr sr even l) ∙ h)).0 in absurd (omega arith),
+    λ (o, w, h, x, y). let z = (end_of h).0 in absurd (omega arith),
+  )
+  up (c ∷ rest) fn sn i s fr sr (inl (odd, alike)) two some small fits above =
+      joined c rest fn sn i s fr sr _ _ (step_odd hash c (rest ++ last ∷ []) fn sn fr sr odd (omega arith) small)
+      (step_odd hash c rest i s fr sr alike some fits) (above rest (node_hash hash c fr) (node_hash hash c sr))
+  up (c ∷ rest) fn sn i s fr sr (inr (even, alike, l, m)) two some small fits above =
+      joined c rest fn sn i s fr sr _ _ (step_even hash c (rest ++ last ∷ []) fn sn fr sr even l)
+      (step_even hash c rest i s fr sr alike m) (above rest fr (node_hash hash sr c))
+
+  -- both are only children
+  passed : (rest : List (List ℕ)) (n i : ℕ) (fr sr : List ℕ) → n % 2 ≡ 0 → i % 2 ≡ 0 → 0 < n → n ≤ 2 ^ 62 → i ≤ n →
+      Half rest (n / 2) (n / 2) (i / 2) (i / 2) fr sr → Half rest n n i i fr sr
+  passed rest n i fr sr even alike some small less above =
+      let outer = skip_end hash fr sr (rest ++ last ∷ []) n a b even small in (
+        λ h. let r = above.0 (outer.0 h) in
+            (r.0, r.1, (skip_end hash fr sr rest i r.0 r.1 alike (omega arith)).1 r.2, r.3, r.4),
+        λ (o, w, h, x, y). outer.1 (above.1 (o, w, (skip_end hash fr sr rest i o w alike (omega arith)).0 h, x, y)),
+      )
+
+split_of_one : (sn : ℕ) → sn ≡ 1 → split (sn + 1) ≡ 1
+split_of_one sn one = ap (λ (n : ℕ). split (n + 1)) one ∙ split_of_two
 
 pub left_half : (depth : ℕ) (hash : Hash) (rest : List (List ℕ)) (last : List ℕ) (fn sn : ℕ) (fr sr a b : List ℕ) →
-    sn ≤ depth → 0 < sn → sn ≤ 2 ^ 62 → fn < split (sn + 1) → Left hash rest last fn sn (split (sn + 1)) fr sr a b
+    sn ≤ depth → 0 < sn → sn ≤ 2 ^ 62 → fn < split (sn + 1) →
+    Half hash last (λ o. o) (λ w. node_hash hash w last) a b rest fn sn fn (split (sn + 1) - 1) fr sr
+unfolding consistency_walk
 left_half zero hash rest last fn sn fr sr a b enough some small below = absurd (omega arith)
-left_half (suc depth) hash [] last fn sn fr sr a b enough some small below =
-    elim (eqb_tells sn 1) [
-      | inl (t, one) ↦
-          let k : split (sn + 1) ≡ 1 = ap (λ (n : ℕ). split (n + 1)) one ∙ split_of_two in
-          let first : fn ≡ 0 = omega arith in
-          rw (k, first, one) (left_two hash [] last fr sr a b)
-      | inr (f, other) ↦
-          let s = split_is (sn + 1) (omega arith) in
-          let b1 = s.below in let b2 = s.half in
-          left_bare hash last fn sn (split (sn + 1)) fr sr a b below b1 (omega arith) (omega arith) (omega arith)
-    ]
-left_half (suc depth) hash (c ∷ rest) last fn sn fr sr a b enough some small below =
-    elim (eqb_tells sn 1) [
-      | inl (t, one) ↦
-          let k : split (sn + 1) ≡ 1 = ap (λ (n : ℕ). split (n + 1)) one ∙ split_of_two in
-          let first : fn ≡ 0 = omega arith in
-          rw (k, first, one) (left_two hash (c ∷ rest) last fr sr a b)
-      | inr (f, other) ↦
-          let s = split_is (sn + 1) (omega arith) in
-          let b1 = s.below in
-          let k : split (sn + 1) ≡ split (sn / 2 + 1) + split (sn / 2 + 1) =
-          split_of_half (sn + 1) (sn / 2 + 1) (omega arith) (omega arith) in
-          let half : (split (sn + 1) - 1) / 2 ≡ split (sn / 2 + 1) - 1 = omega arith in
-          elim (parity fn) [
-            | inl (i, e) ↦
-                rw e (left_up hash c last rest (i + i) sn (split (sn + 1)) i (sn / 2) (split (sn / 2 + 1)) fr sr fr
-                (node_hash hash sr c) a b (step_even hash c (rest ++ last ∷ []) i sn fr sr (omega arith))
-                (step_even hash c rest i (split (sn + 1) - 1) fr sr (omega arith) ∙ rw half)
-                (left_half depth hash rest last i (sn / 2) fr (node_hash hash sr c) a b (omega arith) (omega arith)
-                (omega arith) (omega arith)))
-            | inr (i, e) ↦
-                rw e (left_up hash c last rest (suc (i + i)) sn (split (sn + 1)) i (sn / 2) (split (sn / 2 + 1)) fr sr
-                (node_hash hash c fr) (node_hash hash c sr) a b
-                (step_odd hash c (rest ++ last ∷ []) i sn fr sr (omega arith) (omega arith))
-                (step_odd hash c rest i (split (sn + 1) - 1) fr sr (omega arith) (omega arith) ∙ rw half)
-                (left_half depth hash rest last i (sn / 2) (node_hash hash c fr) (node_hash hash c sr) a b (omega arith)
-                (omega arith) (omega arith) (omega arith)))
-          ]
-    ]
-
--- ---- the right half
-
--- the node is in the right half, whose root the last digest stands beside in both trees
-abbrev Right : Hash → List (List ℕ) → List ℕ → ℕ → ℕ → ℕ → List ℕ → List ℕ → List ℕ → List ℕ → Type 0
-Right hash rest last fn sn k fr sr a b =
-    Ends hash (rest ++ last ∷ []) fn sn fr sr a b
-    ↔ ((o : List ℕ) × (w : List ℕ) × Ends hash rest (fn - k) (sn - k) fr sr o w × (a ≡ node_hash hash last o)
-    × (b ≡ node_hash hash last w))
-
-right_two : (hash : Hash) (rest : List (List ℕ)) (last fr sr a b : List ℕ) → Right hash rest last 1 1 1 fr sr a b
-right_two hash [] last fr sr a b =
-    let s = step_odd hash last [] 0 1 fr sr (omega arith) (omega arith) in (
-      λ h.
-          let e = no_more hash 0 0 (node_hash hash last fr) (node_hash hash last sr) a b (sym s ∙ h) in
-          (fr, sr, at_root hash 0 fr sr, sym e.1, sym e.2),
-      λ (o, w, h, p, q).
-          let e = no_more hash 0 0 fr sr o w h in
-          s ∙ rw (p, q, ← e.1, ← e.2) (at_root hash 0 (node_hash hash last fr) (node_hash hash last sr)),
-    )
-right_two hash (c ∷ rest) last fr sr a b = (
-  λ h. absurd (past hash rest
-      (sym (step_odd hash c (rest ++ last ∷ []) 0 1 fr sr (omega arith) (omega arith)) ∙ h)),
-  λ (o, w, h, p, q). past_root hash c rest 0 fr sr o w h,
-)
-  where
-    past : (hash : Hash) (rest : List (List ℕ)) →
-        Ends hash (rest ++ last ∷ []) 0 0 (node_hash hash c fr) (node_hash hash c sr) a b → ⊥
-    past hash [] h = past_root hash last [] 0 (node_hash hash c fr) (node_hash hash c sr) a b h
-    past hash (d ∷ rest) h =
-        past_root hash d (rest ++ last ∷ []) 0 (node_hash hash c fr) (node_hash hash c sr) a b h
-
-right_up : (hash : Hash) (c last : List ℕ) (rest : List (List ℕ)) (fn sn k i up j : ℕ) (fr sr v w a b : List ℕ) →
-    Same hash (c ∷ (rest ++ last ∷ [])) (rest ++ last ∷ []) fn sn i up fr sr v w →
-    Same hash (c ∷ rest) rest (fn - k) (sn - k) (i - j) (up - j) fr sr v w → Right hash rest last i up j v w a b →
-    Right hash (c ∷ rest) last fn sn k fr sr a b
-right_up hash c last rest fn sn k i up j fr sr v w a b outer inner above = (
-  λ h. let r = above.0 (sym outer ∙ h) in (r.0, r.1, inner ∙ r.2, r.3, r.4),
-  λ (x, y, h, p, q). outer ∙ above.1 (x, y, sym inner ∙ h, p, q),
-)
-
--- an only child: the walk from it is that from the node above
-right_skip : (hash : Hash) (rest : List (List ℕ)) (last : List ℕ) (i k j : ℕ) (fr sr a b : List ℕ) → 0 < i →
-    i ≤ 2 ^ 62 → k ≡ j + j → j ≤ i → Right hash rest last i i j fr sr a b → Right hash rest last (i + i) (i + i) k fr sr
-    a b
-right_skip hash rest last i k j fr sr a b some small twice within above =
-    let d : i + i - k ≡ (i - j) + (i - j) = omega arith in (
-      λ h. let r = above.0 (sym (outer rest) ∙ h) in (r.0, r.1, rw d (down rest (i - j) (omega arith) r.2), r.3, r.4),
-      λ (x, y, h, p, q). outer rest ∙ above.1 (x, y, back rest (i - j) (omega arith) (rw d at h), p, q),
-    )
-  where
-    outer : (rest : List (List ℕ)) → consistency_walk hash (rest ++ last ∷ []) (i + i) (i + i) fr sr
-        ≡ consistency_walk hash (rest ++ last ∷ []) i i fr sr
-    outer [] = skip_more hash last [] i fr sr some small
-    outer (c ∷ rest) = skip_more hash c (rest ++ last ∷ []) i fr sr some small
-
-    down : {x y : List ℕ} (rest : List (List ℕ)) (n : ℕ) → n ≤ 2 ^ 62 → Ends hash rest n n fr sr x y →
-        Ends hash rest (n + n) (n + n) fr sr x y
-    down rest zero h e = e
-    down [] (suc n) h e = let z = (no_more hash (suc n) (suc n) fr sr _ _ e).0 in absurd (omega arith)
-    down (c ∷ rest) (suc n) h e = skip_more hash c rest (suc n) fr sr (omega arith) h ∙ e
-
-    back : {x y : List ℕ} (rest : List (List ℕ)) (n : ℕ) → n ≤ 2 ^ 62 → Ends hash rest (n + n) (n + n) fr sr x y →
-        Ends hash rest n n fr sr x y
-    back rest zero h e = e
-    back [] (suc n) h e = let z = (no_more hash (suc n + suc n) (suc n + suc n) fr sr _ _ e).0 in absurd (omega arith)
-    back (c ∷ rest) (suc n) h e = sym (skip_more hash c rest (suc n) fr sr (omega arith) h) ∙ e
-
--- no digest below the last one
-right_bare : (hash : Hash) (last : List ℕ) (fn sn k j : ℕ) (fr sr a b : List ℕ) → k ≤ fn → fn < sn + 1 → 2 ≤ sn →
-    k ≡ j + j → ((i : ℕ) × (fn ≡ suc (i + i))) ⊎ (fn < sn) → fn ≤ 2 ^ 62 → Right hash [] last fn sn k fr sr a b
-right_bare hash last fn sn k j fr sr a b below within two twice kind small = (
-  λ h. elim (parity fn) [
-    | inl (i, e) ↦
-        let less : fn < sn = elim kind [ inl (l, q) ↦ absurd (omega arith) | inr l ↦ l ] in
-        let up = rw e at h in
-        let z = no_more hash i (sn / 2) fr (node_hash hash sr last) a b
-        (sym (step_even hash last [] i sn fr sr (omega arith)) ∙ up) in
-        let none = z.0 in absurd (omega arith)
-    | inr (i, e) ↦
-        let up = rw e at h in
-        let z = no_more hash i (sn / 2) (node_hash hash last fr) (node_hash hash last sr) a b
-        (sym (step_odd hash last [] i sn fr sr (omega arith) (omega arith)) ∙ up) in
-        let none = z.0 in absurd (omega arith)
-  ],
-  λ (o, w, h, p, q).
-      let z = (no_more hash (fn - k) (sn - k) fr sr o w h).0 in
-      elim kind [ inl (i, e) ↦ absurd (omega arith) | inr l ↦ absurd (omega arith) ],
-)
-
-right_odd : (hash : Hash) (rest : List (List ℕ)) (last : List ℕ) (i sn k j : ℕ) (fr sr a b : List ℕ) → k ≡ j + j →
-    j ≤ i → suc (i + i) ≤ sn → 2 ≤ sn → sn ≤ 2 ^ 62 →
-    ((rest : List (List ℕ)) (v w : List ℕ) → Right hash rest last i (sn / 2) j v w a b) →
-    Right hash rest last (suc (i + i)) sn k fr sr a b
-right_odd hash [] last i sn k j fr sr a b twice beyond within two small above =
-    right_bare hash last (suc (i + i)) sn k j fr sr a b (omega arith) (omega arith) two twice (inl (i, refl))
-    (omega arith)
-right_odd hash (c ∷ rest) last i sn k j fr sr a b twice beyond within two small above =
-    let d : suc (i + i) - k ≡ suc ((i - j) + (i - j)) = omega arith in
-    let half : (sn - k) / 2 ≡ sn / 2 - j = omega arith in
-    right_up hash c last rest (suc (i + i)) sn k i (sn / 2) j fr sr (node_hash hash c fr) (node_hash hash c sr) a b
-    (step_odd hash c (rest ++ last ∷ []) i sn fr sr (omega arith) (omega arith))
-    (rw d (step_odd hash c rest (i - j) (sn - k) fr sr (omega arith) (omega arith) ∙ rw half))
-    (above rest (node_hash hash c fr) (node_hash hash c sr))
-
-right_even : (hash : Hash) (rest : List (List ℕ)) (last : List ℕ) (i sn k j : ℕ) (fr sr a b : List ℕ) → k ≡ j + j →
-    j ≤ i → i + i < sn → 2 ≤ sn → sn ≤ 2 ^ 62 →
-    ((rest : List (List ℕ)) (v w : List ℕ) → Right hash rest last i (sn / 2) j v w a b) →
-    Right hash rest last (i + i) sn k fr sr a b
-right_even hash [] last i sn k j fr sr a b twice beyond within two small above =
-    right_bare hash last (i + i) sn k j fr sr a b (omega arith) (omega arith) two twice (inr within) (omega arith)
-right_even hash (c ∷ rest) last i sn k j fr sr a b twice beyond within two small above =
-    let d : i + i - k ≡ (i - j) + (i - j) = omega arith in
-    let half : (sn - k) / 2 ≡ sn / 2 - j = omega arith in
-    right_up hash c last rest (i + i) sn k i (sn / 2) j fr sr fr (node_hash hash sr c) a b
-    (step_even hash c (rest ++ last ∷ []) i sn fr sr within)
-    (rw d (step_even hash c rest (i - j) (sn - k) fr sr (omega arith) ∙ rw half))
-    (above rest fr (node_hash hash sr c))
+left_half (suc depth) hash rest last fn sn fr sr a b enough some small below = elim (cases_eq sn 1) [
+  | inl one ↦
+      let first : fn ≡ 0 = omega (arith, split_of_one sn one) in
+      rw (split_of_one sn one, first, one)
+      (two hash last _ _ a b rest 0 fr sr (omega arith) (step_even hash last [] 0 1 fr sr refl (omega arith)))
+  | inr other ↦
+      let less = (split_is (sn + 1) (omega arith)).below in
+      let k : split (sn + 1) ≡ split (sn / 2 + 1) + split (sn / 2 + 1) =
+      split_of_half (sn + 1) (sn / 2 + 1) (omega arith) (omega arith) in
+      let half : (split (sn + 1) - 1) / 2 ≡ split (sn / 2 + 1) - 1 = omega arith in
+      let alike : ((fn % 2 ≡ 1) × (fn % 2 ≡ 1)) ⊎ ((fn % 2 ≡ 0) × (fn % 2 ≡ 0) × (fn < sn) × (fn < split (sn + 1) - 1)) =
+      elim (cases_eq (fn % 2) 1) [
+        | inl odd ↦ inl (odd, odd)
+        | inr even ↦ inr (omega arith, omega arith, omega arith, omega arith)
+      ] in
+      up hash last _ _ a b rest fn sn fn (split (sn + 1) - 1) fr sr alike (omega arith) (omega arith) (omega arith)
+      (omega arith)
+      (λ rest v w. rw half (left_half depth hash rest last (fn / 2) (sn / 2) v w a b (omega arith) (omega arith)
+      (omega arith) (omega arith)))
+]
 
 pub right_half : (depth : ℕ) (hash : Hash) (rest : List (List ℕ)) (last : List ℕ) (fn sn : ℕ) (fr sr a b : List ℕ) →
     sn ≤ depth → 0 < sn → sn ≤ 2 ^ 62 → split (sn + 1) ≤ fn → fn ≤ sn →
-    Right hash rest last fn sn (split (sn + 1)) fr sr a b
+    Half hash last (node_hash hash last) (node_hash hash last) a b rest fn sn (fn - split (sn + 1))
+    (sn - split (sn + 1)) fr sr
+unfolding consistency_walk
 right_half zero hash rest last fn sn fr sr a b enough some small beyond within = absurd (omega arith)
-right_half (suc depth) hash rest last fn sn fr sr a b enough some small beyond within =
-    elim (eqb_tells sn 1) [
-      | inl (t, one) ↦
-          let k : split (sn + 1) ≡ 1 = ap (λ (n : ℕ). split (n + 1)) one ∙ split_of_two in
-          let first : fn ≡ 1 = omega arith in
-          rw (k, first, one) (right_two hash rest last fr sr a b)
-      | inr (f, other) ↦
-          let k : split (sn + 1) ≡ split (sn / 2 + 1) + split (sn / 2 + 1) =
-          split_of_half (sn + 1) (sn / 2 + 1) (omega arith) (omega arith) in
-          elim (parity fn) [
-            | inl (i, e) ↦ elim (eqb_tells fn sn) [
-              | inl (u, same) ↦
-                  let whole : sn ≡ i + i = omega arith in
-                  let half : sn / 2 ≡ i = omega arith in
-                  let up = right_half depth hash rest last i (sn / 2) fr sr a b (omega arith) (omega arith)
-                  (omega arith) (omega arith) (omega arith) in
-                  let P : ℕ → Type 0 = λ n. Right hash rest last i n (split (sn / 2 + 1)) fr sr a b in
-                  let Q : ℕ → ℕ → Type 0 = λ n m. Right hash rest last n m (split (sn + 1)) fr sr a b in
-                  subst (λ n. Q n sn) (sym e) (subst (Q (i + i)) (sym whole)
-                  (right_skip hash rest last i (split (sn + 1)) (split (sn / 2 + 1)) fr sr a b (omega arith)
-                  (omega arith) k (omega arith) (subst P half up)))
-              | inr (g, unlike) ↦
-                  let Q : ℕ → Type 0 = λ n. Right hash rest last n sn (split (sn + 1)) fr sr a b in
-                  subst Q (sym e) (right_even hash rest last i sn (split (sn + 1)) (split (sn / 2 + 1)) fr sr a b k
-                  (omega arith) (omega arith) (omega arith) small
-                  (λ digests v w. right_half depth hash digests last i (sn / 2) v w a b (omega arith) (omega arith)
-                  (omega arith) (omega arith) (omega arith)))
-            ]
-            | inr (i, e) ↦
-                let Q : ℕ → Type 0 = λ n. Right hash rest last n sn (split (sn + 1)) fr sr a b in
-                subst Q (sym e) (right_odd hash rest last i sn (split (sn + 1)) (split (sn / 2 + 1)) fr sr a b k
-                (omega arith) (omega arith) (omega arith) small
-                (λ digests v w. right_half depth hash digests last i (sn / 2) v w a b (omega arith) (omega arith)
-                (omega arith) (omega arith) (omega arith)))
-          ]
-    ]
+right_half (suc depth) hash rest last fn sn fr sr a b enough some small beyond within = elim (cases_eq sn 1) [
+  | inl one ↦
+      let first : fn ≡ 1 = omega (arith, split_of_one sn one) in
+      rw (split_of_one sn one, first, one) (two hash last _ _ a b rest 1 fr sr (omega arith)
+      (step_odd hash last [] 1 1 fr sr refl (omega arith) (omega arith)))
+  | inr other ↦
+      let k : split (sn + 1) ≡ split (sn / 2 + 1) + split (sn / 2 + 1) =
+      split_of_half (sn + 1) (sn / 2 + 1) (omega arith) (omega arith) in
+      let i : (fn - split (sn + 1)) / 2 ≡ fn / 2 - split (sn / 2 + 1) = omega arith in
+      let s : (sn - split (sn + 1)) / 2 ≡ sn / 2 - split (sn / 2 + 1) = omega arith in
+      let above : (rest : List (List ℕ)) (v w : List ℕ) →
+      Half hash last (node_hash hash last) (node_hash hash last) a b rest (fn / 2) (sn / 2)
+      ((fn - split (sn + 1)) / 2) ((sn - split (sn + 1)) / 2) v w = λ rest v w.
+      rw (i, s) (right_half depth hash rest last (fn / 2) (sn / 2) v w a b (omega arith) (omega arith) (omega arith)
+      (omega arith) (omega arith)) in
+      elim (cases_eq (fn % 2) 1) [
+        | inl odd ↦
+            up hash last _ _ a b rest fn sn _ _ fr sr (inl (odd, omega arith)) (omega arith) (omega arith) (omega arith)
+            (omega arith) above
+        | inr even ↦ elim (cases_eq fn sn) [
+          | inl same ↦
+              rw same (passed hash last _ _ a b rest sn (sn - split (sn + 1)) fr sr (omega arith) (omega arith) some
+              small (omega arith) (rw same at (above rest fr sr)))
+          | inr unlike ↦
+              up hash last _ _ a b rest fn sn _ _ fr sr
+              (inr (omega arith, omega arith, omega arith, omega arith)) (omega arith) (omega arith) (omega arith)
+              (omega arith) above
+        ]
+      ]
+]

@@ -2,28 +2,19 @@
 use Rattle.std.proofs.Common.{◌≡◌, ℕ, zero, suc, ◌+◌, ◌-◌, ◌/◌, ◌^◌, ◌<◌, ◌≤◌, refl, sym, ap, subst, ◌∙◌, arith, inl}
 use Rattle.std.proofs.Common.{inr, List, [], ◌∷◌, ◌++◌, length, take, drop, get_or, Some}
 use Rattle.std.proofs.lemmas.Bool.Decides.{eqb_tells, leb_tells, nat_tests}
-use Rattle.std.proofs.lemmas.List.{get_or-drop, get_or-take, length-take-le, length-drop, take_all}
+use Rattle.std.proofs.lemmas.List.{drop-take, get_or-drop, get_or-take, length-take-le, length-drop, take-take, take_all}
 use Rattle.std.proofs.Math.Nat.{div-div-eq-div-mul, pow-succ'}
 use Rattle.std.specs.Prelude.{◌==◌, Bool, true, false, nat_le, Option, ◌⊎◌, nat_lt}
 use Rattle.std.specs.Int.{w64, trailing_ones, is_power_of_two}
 use Rattle.tlog.specs.Rfc9162.{node_hash, Hash, consistency_end, consistency_from, consistency_proof, consistency_walk}
 use Rattle.tlog.specs.Rfc9162.{inclusion_end, leaf_hash, proof_of, root_of, mth, mth_within, path, path_within, split}
-use Rattle.tlog.specs.{Rfc9162.subproof, Rfc9162.subproof_within, Verdicts.IsConsistent, Verdicts.size_limit}
+use Rattle.tlog.specs.{Climbs.climb_end, Rfc9162.subproof, Rfc9162.subproof_within, Verdicts.IsConsistent}
+use Rattle.tlog.specs.Verdicts.{size_limit}
 use Rattle.tlog.proofs.Bits.{ones_of_double, ones_of_odd, power_of_double, power_of_odd, power_of_one}
-use Rattle.tlog.proofs.{Splits.split_is, Splits.split_parity, Layers.above, Layers.above-drop, Layers.above-take}
+use Rattle.tlog.proofs.{Splits.split_is, Splits.split_parity, Layers.above, Layers.above_parts}
 use Rattle.tlog.proofs.Layers.{itself, length-above, mth-above, mth_above, parts_of, mth-more, path-above, path-more}
-use Rattle.tlog.proofs.Climbs.{as_inclusion, climb, parity, path_above}
-
--- ---- inclusion
-
-pub included : {X : Type 0} (hash : Hash) (leaf : X → List ℕ) (L : List X) (m : ℕ) (d : X) → m < length L →
-    length L ≤ 2 ^ 62 →
-    inclusion_end hash m (length L) (leaf (get_or L m d)) (path hash leaf m L) ≡ Some (0, mth hash leaf L)
-included hash leaf L m d within small =
-    let len = length-take-le (suc m) L within in
-    as_inclusion hash _ m (length L - 1) (leaf (get_or (take (suc m) L) m d)) _ _ (mth hash leaf (take (suc m) L)) _
-    (climb (length L) hash leaf (take (suc m) L) L m d len within (omega arith) small
-    (λ i h. get_or-take (suc m) L i d (omega arith)))
+use Rattle.tlog.proofs.{Climbs.as_inclusion, Climbs.parity, Climbs.path_above, Sides.climb_left, Sides.climb_right}
+use Rattle.tlog.proofs.{Sides.same_split, Walks.end_of}
 
 -- ---- consistency: SUBPROOF from layer to layer
 
@@ -139,23 +130,13 @@ sub-even-more depth other hash leaf i L b some within left right =
           let t2 : nat_le i (split (length (above hash leaf L))) ≡ true = grind (arith, nat_tests) in
           let ld = p.len_drop in
           let root = mth_above hash leaf (drop (split (length L)) L) (omega arith) in
-          rw (here, t, there, t2, left h, root, above-take hash leaf _ _ L p.twice, above-drop hash leaf _ _ L p.twice)
+          rw (here, t, there, t2, left h, root, p.first, p.others)
       | inr (f, h) ↦
           let f2 : nat_le i (split (length (above hash leaf L))) ≡ false = grind (arith, nat_tests) in
           let lt = p.len_take in
           let root = mth_above hash leaf (take (split (length L)) L) (omega arith) in
           let m : i + i - split (length L) ≡ (i - j) + (i - j) = omega arith in
-          rw (
-            here,
-            f,
-            there,
-            f2,
-            m,
-            right j twice (omega arith),
-            root,
-            above-take hash leaf _ _ L p.twice,
-            above-drop hash leaf _ _ L p.twice,
-          )
+          rw (here, f, there, f2, m, right j twice (omega arith), root, p.first, p.others)
     ]
 
 pub sub-even : {X : Type 0} (depth other : ℕ) (hash : Hash) (leaf : X → List ℕ) (i : ℕ) (L : List X) (b : Bool) → 0 < i →
@@ -222,9 +203,7 @@ from-even hash i n value digests small some =
 end-even : (hash : Hash) (i n : ℕ) (root : List ℕ) (digests : List (List ℕ)) (a b : List ℕ) → i ≤ 2 ^ 61 → 0 < n →
     consistency_end hash (suc i) ((n + 1) / 2) root digests ≡ Some (0, a, b) →
     consistency_end hash (suc i + suc i) n root digests ≡ Some (0, a, b)
-end-even hash i n root [] a b small some h =
-    let e : ◌≡◌ {A = ℕ × List ℕ × List ℕ} ((n + 1) / 2, [], []) (0, a, b) = cc in
-    let z : (n + 1) / 2 ≡ 0 = ap (λ (p : ℕ × List ℕ × List ℕ). p.0) e in absurd (omega arith)
+end-even hash i n root [] a b small some h = let z = (end_of h).0 in absurd (omega arith)
 end-even hash i n root (c ∷ digests) a b small some h = by (is_power_of_two (suc i)) refl
   where
     by : (v : Bool) → is_power_of_two (suc i) ≡ v →
@@ -256,103 +235,9 @@ end-one : (hash : Hash) (n : ℕ) (root : List ℕ) (digests : List (List ℕ)) 
     consistency_walk hash digests 0 (n - 1) root root ≡ Some (0, a, b) →
     consistency_end hash 1 n root digests ≡ Some (0, a, b)
 unfolding consistency_walk
-end-one hash n root [] a b more h =
-    let e : ◌≡◌ {A = ℕ × List ℕ × List ℕ} (n - 1, root, root) (0, a, b) = cc in
-    let z : n - 1 ≡ 0 = ap (λ (p : ℕ × List ℕ × List ℕ). p.0) e in absurd (omega arith)
+end-one hash n root [] a b more h = let z = (end_of h).0 in absurd (omega arith)
 end-one hash n root (c ∷ digests) a b more h =
     end-at hash 1 n root c digests true power_of_one ∙ from-odd hash 0 n root (c ∷ digests) (omega arith) ∙ h
-
--- the walk from the last of m entries, of which the old tree is
-from_last : {X : Type 0} (hash : Hash) (leaf : X → List ℕ) (m : ℕ) (L : List X) (d : X) → suc m < length L →
-    length L ≤ 2 ^ 62 →
-    consistency_walk hash (path hash leaf m L) m (length L - 1) (leaf (get_or L m d)) (leaf (get_or L m d))
-    ≡ Some (0, mth hash leaf (take (suc m) L), mth hash leaf L)
-from_last hash leaf m L d within small =
-    let len = length-take-le (suc m) L (omega arith) in
-    let same : get_or (take (suc m) L) m d ≡ get_or L m d = get_or-take (suc m) L m d (omega arith) in
-    rw same at (climb (length L) hash leaf (take (suc m) L) L m d len (omega arith) (omega arith) small
-    (λ i h. get_or-take (suc m) L i d (omega arith)))
-
-first_root : {X : Type 0} (hash : Hash) (leaf : X → List ℕ) (L : List X) (d : X) → 0 < length L →
-    mth hash leaf (take 1 L) ≡ leaf (get_or L 0 d)
-unfolding mth_within
-first_root hash leaf [] d some = absurd (omega arith)
-first_root hash leaf (x ∷ L) d some = refl
-
-consistent-one : {X : Type 0} (hash : Hash) (leaf : X → List ℕ) (L : List X) (d : X) → 1 < length L →
-    length L ≤ 2 ^ 62 →
-    consistency_end hash 1 (length L) (mth hash leaf (take 1 L)) (consistency_proof hash leaf 1 L)
-    ≡ Some (0, mth hash leaf (take 1 L), mth hash leaf L)
-consistent-one hash leaf L d within small =
-    let digests : consistency_proof hash leaf 1 L ≡ path hash leaf 0 L =
-    sub-one (length L) hash leaf L (omega arith) (omega arith) in
-    let root = first_root hash leaf L d (omega arith) in
-    rw digests (end-one hash (length L) (mth hash leaf (take 1 L)) (path hash leaf 0 L) _ _ within
-    (let P : List ℕ → Type 0 = λ x. consistency_walk hash (path hash leaf 0 L) 0 (length L - 1) x x
-    ≡ Some (0, mth hash leaf (take 1 L), mth hash leaf L) in
-    subst P (sym root) (from_last hash leaf 0 L d within small)))
-
-consistent-odd : {X : Type 0} (hash : Hash) (leaf : X → List ℕ) (i : ℕ) (L : List X) (d : X) → 0 < i →
-    suc (i + i) < length L → length L ≤ 2 ^ 62 → (root : List ℕ) →
-    consistency_end hash (suc (i + i)) (length L) root (consistency_proof hash leaf (suc (i + i)) L)
-    ≡ Some (0, mth hash leaf (take (suc (i + i)) L), mth hash leaf L)
-consistent-odd hash leaf i L d some within small root =
-    let digests : consistency_proof hash leaf (suc (i + i)) L
-    ≡ leaf (get_or L (i + i) d) ∷ path hash leaf (i + i) L =
-    sub-odd (length L) hash leaf i L true d (inr some) (inl within) (omega arith) (omega arith) in
-    let power : is_power_of_two (suc (i + i)) ≡ false =
-    ap is_power_of_two (let q : suc (i + i) ≡ i + i + 1 = omega arith in q) ∙ power_of_odd i some in
-    rw digests (end-at hash (suc (i + i)) (length L) root (leaf (get_or L (i + i) d)) (path hash leaf
-    (i + i) L) false power
-    ∙ from-odd hash i (length L) (leaf (get_or L (i + i) d)) (path hash leaf (i + i) L) (omega arith)
-    ∙ from_last hash leaf (i + i) L d within small)
-
-consistent-even : {X : Type 0} (hash : Hash) (leaf : X → List ℕ) (i : ℕ) (L : List X) → suc i + suc i < length L →
-    length L ≤ 2 ^ 62 →
-    consistency_end hash (suc i) (length (above hash leaf L)) (mth hash itself (take (suc i) (above hash leaf L)))
-    (consistency_proof hash itself (suc i) (above hash leaf L))
-    ≡ Some (0, mth hash itself (take (suc i) (above hash leaf L)), mth hash itself (above hash leaf L)) →
-    consistency_end hash (suc i + suc i) (length L) (mth hash leaf (take (suc i + suc i) L))
-    (consistency_proof hash leaf (suc i + suc i) L)
-    ≡ Some (0, mth hash leaf (take (suc i + suc i) L), mth hash leaf L)
-consistent-even hash leaf i L within small up =
-    let digests : consistency_proof hash leaf (suc i + suc i) L
-    ≡ consistency_proof hash itself (suc i) (above hash leaf L) =
-    sub-even (length L) (length (above hash leaf L)) hash leaf (suc i) L true (omega arith) (omega arith) (omega arith)
-    (omega arith) in
-    let len = length-take-le (suc i + suc i) L (omega arith) in
-    let old : mth hash leaf (take (suc i + suc i) L) ≡ mth hash itself (take (suc i) (above hash leaf L)) =
-    mth_above hash leaf (take (suc i + suc i) L) (omega arith)
-    ∙ ap (λ (L : List (List ℕ)). mth hash itself L) (above-take hash leaf (suc i) (suc i + suc i) L refl) in
-    let new = mth_above hash leaf L (omega arith) in
-    let P : ℕ → Type 0 = λ n. consistency_end hash (suc i) n (mth hash itself (take (suc i) (above hash leaf L)))
-    (consistency_proof hash itself (suc i) (above hash leaf L))
-    ≡ Some (0, mth hash itself (take (suc i) (above hash leaf L)), mth hash itself (above hash leaf L)) in
-    let there = end-even hash i (length L) _ _ _ _ (omega arith) (omega arith)
-    (subst P (length-above hash leaf L) up) in
-    rw (digests, old, new) there
-
-pub consistent : {X : Type 0} (depth : ℕ) (hash : Hash) (leaf : X → List ℕ) (m : ℕ) (L : List X) (d : X) → 0 < m →
-    m < length L → length L ≤ depth → length L ≤ 2 ^ 62 →
-    consistency_end hash m (length L) (mth hash leaf (take m L)) (consistency_proof hash leaf m L)
-    ≡ Some (0, mth hash leaf (take m L), mth hash leaf L)
-consistent zero hash leaf m L d some within enough small = absurd (omega arith)
-consistent (suc depth) hash leaf m L d some within enough small =
-    let P : ℕ → Type 0 = λ m. consistency_end hash m (length L) (mth hash leaf (take m L))
-    (consistency_proof hash leaf m L)
-    ≡ Some (0, mth hash leaf (take m L), mth hash leaf L) in
-    elim (parity m) [
-      | inl (zero, e) ↦ absurd (omega arith)
-      | inl (suc i, e) ↦
-          let len = length-above hash leaf L in
-          subst P (sym e) (consistent-even hash leaf i L (omega arith) small
-          (consistent depth hash itself (suc i) (above hash leaf L) (leaf d) (omega arith) (omega arith) (omega arith)
-          (omega arith)))
-      | inr (zero, e) ↦ subst P (sym e) (consistent-one hash leaf L d (omega arith) small)
-      | inr (suc i, e) ↦
-          subst P (sym e) (consistent-odd hash leaf (suc i) L d (omega arith) (omega arith) small
-          (mth hash leaf (take (suc (suc i + suc i)) L)))
-    ]
 
 -- ---- no depth below the length changes anything
 
@@ -419,111 +304,213 @@ unfolding mth_within
 root_of_none hash leaf [] e = refl
 root_of_none hash leaf (x ∷ L) e = absurd (omega arith)
 
-pub root_more : {X : Type 0} (hash : Hash) (leaf : X → List ℕ) (L : List X) → 1 < length L →
-    mth hash leaf L
-    ≡ node_hash hash (mth hash leaf (take (split (length L)) L)) (mth hash leaf (drop (split (length L)) L))
-root_more hash leaf L more = by (length L) refl
-  where
-    by : (n : ℕ) → length L ≡ n → mth hash leaf L
-        ≡ node_hash hash (mth hash leaf (take (split (length L)) L)) (mth hash leaf (drop (split (length L)) L))
-    by zero e = absurd (omega arith)
-    by (suc depth) e =
-        let s = split_is (length L) more in
-        let some = s.some in let below = s.below in
-        let left = length-take-le (split (length L)) L (omega arith) in
-        let right = length-drop (split (length L)) L in
-        sym (root_depth (suc depth) hash leaf L (omega arith)) ∙ mth-more depth hash leaf L more
-        ∙ rw (
-          root_depth depth hash leaf (take (split (length L)) L) (omega arith),
-          root_depth depth hash leaf (drop (split (length L)) L) (omega arith),
-        )
+-- the standard's equations
+module _ {X : Type 0} (hash : Hash) (leaf : X → List ℕ) where
+  pub root_more : (L : List X) → 1 < length L →
+      mth hash leaf L
+      ≡ node_hash hash (mth hash leaf (take (split (length L)) L)) (mth hash leaf (drop (split (length L)) L))
+  root_more L more =
+      let below = (split_is (length L) more).below in
+      let left = length-take-le (split (length L)) L (omega arith) in
+      let right = length-drop (split (length L)) L in
+      sym (root_depth (suc (length L)) hash leaf L (omega arith)) ∙ mth-more (length L) hash leaf L more
+      ∙ rw (
+        root_depth (length L) hash leaf (take (split (length L)) L) (omega arith),
+        root_depth (length L) hash leaf (drop (split (length L)) L) (omega arith),
+      )
 
--- PATH, by its equations
-pub path_left : {X : Type 0} (hash : Hash) (leaf : X → List ℕ) (m : ℕ) (L : List X) → 1 < length L →
-    m < split (length L) →
-    path hash leaf m L ≡ path hash leaf m (take (split (length L)) L) ++ mth hash leaf (drop (split (length L)) L) ∷ []
-path_left hash leaf m L more h = by (length L) refl
-  where
-    by : (n : ℕ) → length L ≡ n → path hash leaf m L
-        ≡ path hash leaf m (take (split (length L)) L) ++ mth hash leaf (drop (split (length L)) L) ∷ []
-    by zero e = absurd (omega arith)
-    by (suc depth) e =
-        let s = split_is (length L) more in
-        let below = s.below in
-        let left = length-take-le (split (length L)) L (omega arith) in
-        let t : nat_lt m (split (length L)) ≡ true = grind (arith, nat_tests) in
-        sym (path_depth (suc depth) hash leaf m L (omega arith) (omega arith)) ∙ path-more depth hash leaf m L more
-        ∙ rw (t, path_depth depth hash leaf m (take (split (length L)) L) (omega arith) (omega arith))
+  pub path_left : (m : ℕ) (L : List X) → 1 < length L → m < split (length L) → path hash leaf m L
+      ≡ path hash leaf m (take (split (length L)) L) ++ mth hash leaf (drop (split (length L)) L) ∷ []
+  path_left m L more h =
+      let below = (split_is (length L) more).below in
+      let left = length-take-le (split (length L)) L (omega arith) in
+      let t : nat_lt m (split (length L)) ≡ true = grind (arith, nat_tests) in
+      sym (path_depth (suc (length L)) hash leaf m L (omega arith) (omega arith))
+      ∙ path-more (length L) hash leaf m L more
+      ∙ rw (t, path_depth (length L) hash leaf m (take (split (length L)) L) (omega arith) (omega arith))
 
-pub path_right : {X : Type 0} (hash : Hash) (leaf : X → List ℕ) (m : ℕ) (L : List X) → 1 < length L →
-    split (length L) ≤ m → m < length L →
-    path hash leaf m L
-    ≡ path hash leaf (m - split (length L)) (drop (split (length L)) L) ++ mth hash leaf (take (split
-    (length L)) L) ∷ []
-path_right hash leaf m L more h within = by (length L) refl
-  where
-    by : (n : ℕ) → length L ≡ n → path hash leaf m L
-        ≡ path hash leaf (m - split (length L)) (drop (split (length L)) L) ++ mth hash leaf (take (split
-        (length L)) L) ∷ []
-    by zero e = absurd (omega arith)
-    by (suc depth) e =
-        let s = split_is (length L) more in
-        let some = s.some in
-        let right = length-drop (split (length L)) L in
-        let f : nat_lt m (split (length L)) ≡ false = grind (arith, nat_tests) in
-        sym (path_depth (suc depth) hash leaf m L within (omega arith)) ∙ path-more depth hash leaf m L more
-        ∙ rw (
-          f,
-          path_depth depth hash leaf (m - split (length L)) (drop (split (length L)) L) (omega arith)
-              (omega arith),
-        )
+  pub path_right : (m : ℕ) (L : List X) → 1 < length L → split (length L) ≤ m → m < length L → path hash leaf m L
+      ≡ path hash leaf (m - split (length L)) (drop (split (length L)) L)
+      ++ mth hash leaf (take (split (length L)) L) ∷ []
+  path_right m L more h within =
+      let right = length-drop (split (length L)) L in
+      let f : nat_lt m (split (length L)) ≡ false = grind (arith, nat_tests) in
+      sym (path_depth (suc (length L)) hash leaf m L within (omega arith)) ∙ path-more (length L) hash leaf m L more
+      ∙ rw (f, path_depth (length L) hash leaf (m - split (length L)) (drop (split (length L)) L) (omega arith)
+          (omega arith))
 
--- SUBPROOF, by its equations
-pub sub_left : {X : Type 0} (hash : Hash) (leaf : X → List ℕ) (m : ℕ) (L : List X) (b : Bool) → 0 < m →
-    m < length L → m ≤ split (length L) →
-    subproof hash leaf m L b
-    ≡ subproof hash leaf m (take (split (length L)) L) b ++ mth hash leaf (drop (split (length L)) L) ∷ []
-sub_left hash leaf m L b some within h = by (length L) refl
-  where
-    by : (n : ℕ) → length L ≡ n → subproof hash leaf m L b
-        ≡ subproof hash leaf m (take (split (length L)) L) b ++ mth hash leaf (drop (split (length L)) L) ∷ []
-    by zero e = absurd (omega arith)
-    by (suc depth) e =
-        let s = split_is (length L) (omega arith) in
-        let below = s.below in
-        let left = length-take-le (split (length L)) L (omega arith) in
-        let t : nat_le m (split (length L)) ≡ true = grind (arith, nat_tests) in
-        sub_depth (length L) (suc depth) hash leaf m L b some (omega arith) (omega arith) (omega arith)
-        ∙ sub-more depth hash leaf m L b within
-        ∙ rw (
-          t,
-          sub_depth depth (length (take (split (length L)) L)) hash leaf m (take (split (length L)) L) b some
-              (omega arith) (omega arith) (omega arith),
-        )
+  pub sub_left : (m : ℕ) (L : List X) (b : Bool) → 0 < m → m < length L → m ≤ split (length L) →
+      subproof hash leaf m L b
+      ≡ subproof hash leaf m (take (split (length L)) L) b ++ mth hash leaf (drop (split (length L)) L) ∷ []
+  sub_left m L b some within h =
+      let below = (split_is (length L) (omega arith)).below in
+      let left = length-take-le (split (length L)) L (omega arith) in
+      let t : nat_le m (split (length L)) ≡ true = grind (arith, nat_tests) in
+      sub_depth (length L) (suc (length L)) hash leaf m L b some (omega arith) (omega arith) (omega arith)
+      ∙ sub-more (length L) hash leaf m L b within
+      ∙ rw (t, sub_depth (length L) (length (take (split (length L)) L)) hash leaf m (take (split (length L)) L) b some
+          (omega arith) (omega arith) (omega arith))
 
-pub sub_right : {X : Type 0} (hash : Hash) (leaf : X → List ℕ) (m : ℕ) (L : List X) (b : Bool) → m < length L →
-    split (length L) < m →
-    subproof hash leaf m L b
-    ≡ subproof hash leaf (m - split (length L)) (drop (split (length L)) L) false
-    ++ mth hash leaf (take (split (length L)) L) ∷ []
-sub_right hash leaf m L b within h = by (length L) refl
-  where
-    by : (n : ℕ) → length L ≡ n → subproof hash leaf m L b
-        ≡ subproof hash leaf (m - split (length L)) (drop (split (length L)) L) false
-        ++ mth hash leaf (take (split (length L)) L) ∷ []
-    by zero e = absurd (omega arith)
-    by (suc depth) e =
-        let s = split_is (length L) (omega arith) in
-        let positive = s.some in
-        let right = length-drop (split (length L)) L in
-        let f : nat_le m (split (length L)) ≡ false = grind (arith, nat_tests) in
-        sub_depth (length L) (suc depth) hash leaf m L b (omega arith) (omega arith) (omega arith) (omega arith)
-        ∙ sub-more depth hash leaf m L b within
-        ∙ rw (
-          f,
-          sub_depth depth (length (drop (split (length L)) L)) hash leaf (m - split (length L))
-              (drop (split (length L)) L) false (omega arith) (omega arith) (omega arith) (omega arith),
-        )
+  pub sub_right : (m : ℕ) (L : List X) (b : Bool) → m < length L → split (length L) < m →
+      subproof hash leaf m L b
+      ≡ subproof hash leaf (m - split (length L)) (drop (split (length L)) L) false
+      ++ mth hash leaf (take (split (length L)) L) ∷ []
+  sub_right m L b within h =
+      let right = length-drop (split (length L)) L in
+      let f : nat_le m (split (length L)) ≡ false = grind (arith, nat_tests) in
+      sub_depth (length L) (suc (length L)) hash leaf m L b (omega arith) (omega arith) (omega arith) (omega arith)
+      ∙ sub-more (length L) hash leaf m L b within
+      ∙ rw (f, sub_depth (length L) (length (drop (split (length L)) L)) hash leaf (m - split (length L))
+          (drop (split (length L)) L) false (omega arith) (omega arith) (omega arith) (omega arith))
+
+-- ---- inclusion
+
+climb_one : {X : Type 0} (hash : Hash) (leaf : X → List ℕ) (m : ℕ) (L : List X) (d : X) → m < length L →
+    length L < 2 → climb_end hash 0 m (length L) (leaf (get_or L m d)) (path hash leaf m L)
+    ≡ Some (0, mth hash leaf (take (suc m) L), mth hash leaf L)
+unfolding consistency_walk path_within mth_within
+climb_one hash leaf m [] d within one = absurd (omega arith)
+climb_one hash leaf zero (x ∷ []) d within one = refl
+climb_one hash leaf (suc m) (x ∷ []) d within one = absurd (omega arith)
+climb_one hash leaf m (x ∷ (y ∷ L)) d within one = absurd (omega arith)
+
+-- the walk from an entry along its path ends with the roots of the entries up to it, and of all
+climb : {X : Type 0} (depth : ℕ) (hash : Hash) (leaf : X → List ℕ) (m n : ℕ) (L : List X) (d : X) → n ≡ length L →
+    m < n → n ≤ depth → n ≤ 2 ^ 62 → climb_end hash 0 m n (leaf (get_or L m d)) (path hash leaf m L)
+    ≡ Some (0, mth hash leaf (take (suc m) L), mth hash leaf L)
+climb zero hash leaf m n L d is within enough small = absurd (omega arith)
+climb (suc depth) hash leaf m n L d is within enough small = rw is (elim (leb_tells 2 (length L)) [
+  | inr (f, one) ↦ climb_one hash leaf m L d (omega arith) (omega arith)
+  | inl (t, more) ↦
+      let k = split (length L) in
+      let s = split_is (length L) more in
+      let below = s.below in let some = s.some in
+      let front = length-take-le k L (omega arith) in
+      let back = length-drop k L in
+      let root = root_more hash leaf L more in
+      let whole : k / 2 ^ 0 ≡ k = omega arith in
+      elim (leb_tells (suc m) k) [
+        | inl (y, h) ↦
+            let up = climb depth hash leaf m k (take k L) d (sym front) h (omega arith) (omega arith) in
+            rw (path_left hash leaf m L more h)
+            ((climb_left hash 0 m (length L) _ _ _ _ _ (omega arith) (omega arith) (omega arith)).1
+            (mth hash leaf (take k L), rw (get_or-take k L m d h, take-take (suc m) k L h) at up, root))
+        | inr (n, h) ↦
+            let up = climb depth hash leaf (m - k) (length L - k) (drop k L) d (sym back) (omega arith)
+            (omega arith) (omega arith) in
+            let T = take (suc m) L in
+            let at : k + (m - k) ≡ m = omega arith in
+            let rest : k + suc (m - k) ≡ suc m = omega arith in
+            let taken = length-take-le (suc m) L (omega arith) in
+            let same : split (length T) ≡ k = ap split taken ∙ same_split (suc m) (length L) more (omega arith) (omega arith) in
+            let old : mth hash leaf T
+            ≡ node_hash hash (mth hash leaf (take k L)) (mth hash leaf (take (suc (m - k)) (drop k L))) =
+            root_more hash leaf T (omega arith)
+            ∙ rw (same, take-take k (suc m) L (omega arith), ← rest, drop-take k (suc (m - k)) L) in
+            rw (path_right hash leaf m L more (omega arith) (omega arith))
+            ((climb_right hash 0 m (length L) _ _ _ _ _ (omega arith) (omega arith) (omega arith) (omega arith)).1
+            (_, mth hash leaf (drop k L), rw whole (rw (get_or-drop k L (m - k) d, at) at up), old, root))
+      ]
+])
+
+-- the walk from the last of m entries, of which the old tree is
+from_last : {X : Type 0} (hash : Hash) (leaf : X → List ℕ) (m : ℕ) (L : List X) (d : X) → m < length L →
+    length L ≤ 2 ^ 62 →
+    consistency_walk hash (path hash leaf m L) m (length L - 1) (leaf (get_or L m d)) (leaf (get_or L m d))
+    ≡ Some (0, mth hash leaf (take (suc m) L), mth hash leaf L)
+from_last hash leaf m L d within small =
+    let base : (length L - 1) / 2 ^ 0 ≡ length L - 1 = omega arith in
+    rw base at (climb (length L) hash leaf m (length L) L d refl within (omega arith) small)
+
+pub included : {X : Type 0} (hash : Hash) (leaf : X → List ℕ) (L : List X) (m : ℕ) (d : X) → m < length L →
+    length L ≤ 2 ^ 62 →
+    inclusion_end hash m (length L) (leaf (get_or L m d)) (path hash leaf m L) ≡ Some (0, mth hash leaf L)
+included hash leaf L m d within small =
+    as_inclusion hash _ m (length L - 1) _ _ 0 (mth hash leaf (take (suc m) L)) _
+    (from_last hash leaf m L d within small)
+
+-- ---- consistency
+
+first_root : {X : Type 0} (hash : Hash) (leaf : X → List ℕ) (L : List X) (d : X) → 0 < length L →
+    mth hash leaf (take 1 L) ≡ leaf (get_or L 0 d)
+unfolding mth_within
+first_root hash leaf [] d some = absurd (omega arith)
+first_root hash leaf (x ∷ L) d some = refl
+
+consistent-one : {X : Type 0} (hash : Hash) (leaf : X → List ℕ) (L : List X) (d : X) → 1 < length L →
+    length L ≤ 2 ^ 62 →
+    consistency_end hash 1 (length L) (mth hash leaf (take 1 L)) (consistency_proof hash leaf 1 L)
+    ≡ Some (0, mth hash leaf (take 1 L), mth hash leaf L)
+consistent-one hash leaf L d within small =
+    let digests : consistency_proof hash leaf 1 L ≡ path hash leaf 0 L =
+    sub-one (length L) hash leaf L (omega arith) (omega arith) in
+    let root = first_root hash leaf L d (omega arith) in
+    rw digests (end-one hash (length L) (mth hash leaf (take 1 L)) (path hash leaf 0 L) _ _ within
+    (let P : List ℕ → Type 0 = λ x. consistency_walk hash (path hash leaf 0 L) 0 (length L - 1) x x
+    ≡ Some (0, mth hash leaf (take 1 L), mth hash leaf L) in
+    subst P (sym root) (from_last hash leaf 0 L d (omega arith) small)))
+
+consistent-odd : {X : Type 0} (hash : Hash) (leaf : X → List ℕ) (i : ℕ) (L : List X) (d : X) → 0 < i →
+    suc (i + i) < length L → length L ≤ 2 ^ 62 → (root : List ℕ) →
+    consistency_end hash (suc (i + i)) (length L) root (consistency_proof hash leaf (suc (i + i)) L)
+    ≡ Some (0, mth hash leaf (take (suc (i + i)) L), mth hash leaf L)
+consistent-odd hash leaf i L d some within small root =
+    let digests : consistency_proof hash leaf (suc (i + i)) L
+    ≡ leaf (get_or L (i + i) d) ∷ path hash leaf (i + i) L =
+    sub-odd (length L) hash leaf i L true d (inr some) (inl within) (omega arith) (omega arith) in
+    let power : is_power_of_two (suc (i + i)) ≡ false =
+    ap is_power_of_two (let q : suc (i + i) ≡ i + i + 1 = omega arith in q) ∙ power_of_odd i some in
+    rw digests (end-at hash (suc (i + i)) (length L) root (leaf (get_or L (i + i) d)) (path hash leaf
+    (i + i) L) false power
+    ∙ from-odd hash i (length L) (leaf (get_or L (i + i) d)) (path hash leaf (i + i) L) (omega arith)
+    ∙ from_last hash leaf (i + i) L d (omega arith) small)
+
+consistent-even : {X : Type 0} (hash : Hash) (leaf : X → List ℕ) (i : ℕ) (L : List X) → suc i + suc i < length L →
+    length L ≤ 2 ^ 62 →
+    consistency_end hash (suc i) (length (above hash leaf L)) (mth hash itself (take (suc i) (above hash leaf L)))
+    (consistency_proof hash itself (suc i) (above hash leaf L))
+    ≡ Some (0, mth hash itself (take (suc i) (above hash leaf L)), mth hash itself (above hash leaf L)) →
+    consistency_end hash (suc i + suc i) (length L) (mth hash leaf (take (suc i + suc i) L))
+    (consistency_proof hash leaf (suc i + suc i) L)
+    ≡ Some (0, mth hash leaf (take (suc i + suc i) L), mth hash leaf L)
+consistent-even hash leaf i L within small up =
+    let digests : consistency_proof hash leaf (suc i + suc i) L
+    ≡ consistency_proof hash itself (suc i) (above hash leaf L) =
+    sub-even (length L) (length (above hash leaf L)) hash leaf (suc i) L true (omega arith) (omega arith) (omega arith)
+    (omega arith) in
+    let len = length-take-le (suc i + suc i) L (omega arith) in
+    let old : mth hash leaf (take (suc i + suc i) L) ≡ mth hash itself (take (suc i) (above hash leaf L)) =
+    mth_above hash leaf (take (suc i + suc i) L) (omega arith)
+    ∙ ap (λ (L : List (List ℕ)). mth hash itself L) (above_parts hash leaf (suc i) (suc i + suc i) L refl).0 in
+    let new = mth_above hash leaf L (omega arith) in
+    let P : ℕ → Type 0 = λ n. consistency_end hash (suc i) n (mth hash itself (take (suc i) (above hash leaf L)))
+    (consistency_proof hash itself (suc i) (above hash leaf L))
+    ≡ Some (0, mth hash itself (take (suc i) (above hash leaf L)), mth hash itself (above hash leaf L)) in
+    let there = end-even hash i (length L) _ _ _ _ (omega arith) (omega arith)
+    (subst P (length-above hash leaf L) up) in
+    rw (digests, old, new) there
+
+pub consistent : {X : Type 0} (depth : ℕ) (hash : Hash) (leaf : X → List ℕ) (m : ℕ) (L : List X) (d : X) → 0 < m →
+    m < length L → length L ≤ depth → length L ≤ 2 ^ 62 →
+    consistency_end hash m (length L) (mth hash leaf (take m L)) (consistency_proof hash leaf m L)
+    ≡ Some (0, mth hash leaf (take m L), mth hash leaf L)
+consistent zero hash leaf m L d some within enough small = absurd (omega arith)
+consistent (suc depth) hash leaf m L d some within enough small =
+    let P : ℕ → Type 0 = λ m. consistency_end hash m (length L) (mth hash leaf (take m L))
+    (consistency_proof hash leaf m L)
+    ≡ Some (0, mth hash leaf (take m L), mth hash leaf L) in
+    elim (parity m) [
+      | inl (zero, e) ↦ absurd (omega arith)
+      | inl (suc i, e) ↦
+          let len = length-above hash leaf L in
+          subst P (sym e) (consistent-even hash leaf i L (omega arith) small
+          (consistent depth hash itself (suc i) (above hash leaf L) (leaf d) (omega arith) (omega arith) (omega arith)
+          (omega arith)))
+      | inr (zero, e) ↦ subst P (sym e) (consistent-one hash leaf L d (omega arith) small)
+      | inr (suc i, e) ↦
+          subst P (sym e) (consistent-odd hash leaf (suc i) L d (omega arith) (omega arith) small
+          (mth hash leaf (take (suc (suc i + suc i)) L)))
+    ]
 
 -- PROOF(m, D) is accepted
 pub honest_grown : (hash : Hash) (D : List (List ℕ)) (m : ℕ) → 0 < m → m ≤ length D → length D ≤ size_limit →

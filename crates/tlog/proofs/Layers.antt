@@ -32,30 +32,20 @@ length-above hash leaf (x ∷ (y ∷ rest)) = let h = length-above hash leaf res
 
 -- ---- the first nodes, of an even number, and the others
 
-pub above-take : {X : Type 0} (hash : Hash) (leaf : X → List ℕ) (j k : ℕ) (L : List X) → k ≡ j + j →
-    above hash leaf (take k L) ≡ take j (above hash leaf L)
-above-take hash leaf zero zero L e = refl
-above-take hash leaf zero (suc k) L e = absurd (omega arith)
-above-take hash leaf (suc j) zero L e = absurd (omega arith)
-above-take hash leaf (suc j) (suc zero) L e = absurd (omega arith)
-above-take hash leaf (suc j) (suc (suc k)) [] e = refl
-above-take hash leaf (suc zero) (suc (suc k)) (x ∷ []) e = refl
-above-take hash leaf (suc (suc j)) (suc (suc k)) (x ∷ []) e = refl
-above-take hash leaf (suc j) (suc (suc k)) (x ∷ (y ∷ rest)) e =
-    ap (λ (ns : List (List ℕ)). node_hash hash (leaf x) (leaf y) ∷ ns) (above-take hash leaf j k rest (omega arith))
+pub above_parts : {X : Type 0} (hash : Hash) (leaf : X → List ℕ) (j k : ℕ) (L : List X) → k ≡ j + j →
+    (above hash leaf (take k L) ≡ take j (above hash leaf L)) × (above hash leaf (drop k L) ≡ drop j (above hash leaf L))
+above_parts hash leaf zero zero L e = (refl, refl)
+above_parts hash leaf zero (suc k) L e = absurd (omega arith)
+above_parts hash leaf (suc j) zero L e = absurd (omega arith)
+above_parts hash leaf (suc j) (suc zero) L e = absurd (omega arith)
+above_parts hash leaf (suc j) (suc (suc k)) [] e = (refl, refl)
+above_parts hash leaf (suc zero) (suc (suc k)) (x ∷ []) e = (refl, refl)
+above_parts hash leaf (suc (suc j)) (suc (suc k)) (x ∷ []) e = (refl, refl)
+above_parts hash leaf (suc j) (suc (suc k)) (x ∷ (y ∷ rest)) e =
+    let up = above_parts hash leaf j k rest (omega arith) in
+    (ap (λ (ns : List (List ℕ)). node_hash hash (leaf x) (leaf y) ∷ ns) up.0, up.1)
 
-pub above-drop : {X : Type 0} (hash : Hash) (leaf : X → List ℕ) (j k : ℕ) (L : List X) → k ≡ j + j →
-    above hash leaf (drop k L) ≡ drop j (above hash leaf L)
-above-drop hash leaf zero zero L e = refl
-above-drop hash leaf zero (suc k) L e = absurd (omega arith)
-above-drop hash leaf (suc j) zero L e = absurd (omega arith)
-above-drop hash leaf (suc j) (suc zero) L e = absurd (omega arith)
-above-drop hash leaf (suc j) (suc (suc k)) [] e = refl
-above-drop hash leaf (suc zero) (suc (suc k)) (x ∷ []) e = refl
-above-drop hash leaf (suc (suc j)) (suc (suc k)) (x ∷ []) e = refl
-above-drop hash leaf (suc j) (suc (suc k)) (x ∷ (y ∷ rest)) e = above-drop hash leaf j k rest (omega arith)
-
-pub sibling-take : {X : Type 0} (leaf : X → List ℕ) (j k m : ℕ) (L : List X) → k ≡ j + j → m < k →
+sibling-take : {X : Type 0} (leaf : X → List ℕ) (j k m : ℕ) (L : List X) → k ≡ j + j → m < k →
     sibling leaf m (take k L) ≡ sibling leaf m L
 sibling-take leaf zero k m L e h = absurd (omega arith)
 sibling-take leaf (suc j) zero m L e h = absurd (omega arith)
@@ -67,7 +57,7 @@ sibling-take leaf (suc j) (suc (suc k)) (suc zero) (x ∷ (y ∷ rest)) e h = re
 sibling-take leaf (suc j) (suc (suc k)) (suc (suc m)) (x ∷ (y ∷ rest)) e h =
     sibling-take leaf j k m rest (omega arith) (omega arith)
 
-pub sibling-drop : {X : Type 0} (leaf : X → List ℕ) (j k m : ℕ) (L : List X) → k ≡ j + j →
+sibling-drop : {X : Type 0} (leaf : X → List ℕ) (j k m : ℕ) (L : List X) → k ≡ j + j →
     sibling leaf m (drop k L) ≡ sibling leaf (k + m) L
 sibling-drop leaf zero zero m L e = ap (λ (x : ℕ). sibling leaf x L) (omega arith)
 sibling-drop leaf zero (suc k) m L e = absurd (omega arith)
@@ -76,8 +66,8 @@ sibling-drop leaf (suc j) (suc zero) m L e = absurd (omega arith)
 sibling-drop leaf (suc j) (suc (suc k)) m [] e = refl
 sibling-drop leaf (suc j) (suc (suc k)) m (x ∷ []) e = refl
 sibling-drop leaf (suc j) (suc (suc k)) m (x ∷ (y ∷ rest)) e =
-    sibling-drop leaf j k m rest (omega arith)
-    ∙ ap (λ (n : ℕ). sibling leaf n (x ∷ (y ∷ rest))) (let q : suc (suc (k + m)) ≡ suc (suc k) + m = omega arith in q)
+    let n : suc (suc (k + m)) ≡ suc (suc k) + m = omega arith in
+    sibling-drop leaf j k m rest (omega arith) ∙ ap (λ (n : ℕ). sibling leaf n (x ∷ (y ∷ rest))) n
 
 -- ---- MTH
 
@@ -98,6 +88,8 @@ pub record Parts {X : Type 0} (hash : Hash) (leaf : X → List ℕ) (L : List X)
   pub len_upper : length (above hash leaf L) ≡ (length L + 1) / 2
   pub len_take : length (take k L) ≡ k
   pub len_drop : length (drop k L) ≡ length L - k
+  pub first : above hash leaf (take k L) ≡ take j (above hash leaf L)
+  pub others : above hash leaf (drop k L) ≡ drop j (above hash leaf L)
   pub above_take : length (above hash leaf (take k L)) ≡ j
   pub above_drop : length (above hash leaf (drop k L)) ≡ (length L + 1) / 2 - j
 
@@ -121,6 +113,8 @@ parts_of hash leaf L three =
       len_upper = len;
       len_take = t;
       len_drop = d;
+      first = (above_parts hash leaf _ _ L e).0;
+      others = (above_parts hash leaf _ _ L e).1;
       above_take = omega arith;
       above_drop = (let a = u.below in let b = w.below in omega arith);
     }
@@ -135,7 +129,7 @@ mth-join depth other hash leaf L three left right =
     let p = parts_of hash leaf L three in
     let two : 2 ≤ length (above hash leaf L) = let len = p.len_upper in omega arith in
     mth-more depth hash leaf L (omega arith)
-    ∙ rw (left, right, above-take hash leaf _ _ L p.twice, above-drop hash leaf _ _ L p.twice)
+    ∙ rw (left, right, p.first, p.others)
     (sym (mth-more other hash itself (above hash leaf L) two))
 
 -- the root is that of the layer above
@@ -194,7 +188,7 @@ path-join depth other hash leaf m L three left right =
       | inl (t, h) ↦
           let t2 : nat_lt (m / 2) (split (length (above hash leaf L))) ≡ true = grind (arith, nat_tests) in
           let root = mth_above hash leaf (drop (split (length L)) L) (omega arith) in
-          rw (here, t, there, t2, left h, root, above-take hash leaf _ _ L p.twice, above-drop hash leaf _ _ L p.twice)
+          rw (here, t, there, t2, left h, root, p.first, p.others)
           (rw (sibling-take leaf _ _ m L p.twice h, append_assoc))
       | inr (f, h) ↦
           let f2 : nat_lt (m / 2) (split (length (above hash leaf L))) ≡ false = grind (arith, nat_tests) in
@@ -202,16 +196,7 @@ path-join depth other hash leaf m L three left right =
           let half : (m - split (length L)) / 2 ≡ m / 2 - split (length (above hash leaf L)) = let e =
           p.twice in omega arith in
           let back : split (length L) + (m - split (length L)) ≡ m = omega arith in
-          rw (
-            here,
-            f,
-            there,
-            f2,
-            right (omega arith),
-            root,
-            above-take hash leaf _ _ L p.twice,
-            above-drop hash leaf _ _ L p.twice,
-          )
+          rw (here, f, there, f2, right (omega arith), root, p.first, p.others)
           (rw (sibling-drop leaf _ _ (m - split (length L)) L p.twice, back, half, append_assoc))
     ]
 
@@ -246,59 +231,27 @@ path-above (suc depth) (suc other) hash leaf m (x ∷ (y ∷ (z ∷ rest))) h a 
 
 -- ---- a node above, and a sibling, by their places
 
-pub above-both : {X : Type 0} (hash : Hash) (leaf : X → List ℕ) (i m : ℕ) (L : List X) (d : X) (e : List ℕ) →
-    m ≡ i + i →
-    m + 1 < length L →
-    get_or (above hash leaf L) i e ≡ node_hash hash (leaf (get_or L m d)) (leaf (get_or L (suc m) d))
-above-both hash leaf i m [] d e q h = absurd (omega arith)
-above-both hash leaf i m (x ∷ []) d e q h = absurd (omega arith)
-above-both hash leaf zero zero (x ∷ (y ∷ rest)) d e q h = refl
-above-both hash leaf zero (suc m) (x ∷ (y ∷ rest)) d e q h = absurd (omega arith)
-above-both hash leaf (suc i) zero (x ∷ (y ∷ rest)) d e q h = absurd (omega arith)
-above-both hash leaf (suc i) (suc zero) (x ∷ (y ∷ rest)) d e q h = absurd (omega arith)
-above-both hash leaf (suc i) (suc (suc m)) (x ∷ (y ∷ rest)) d e q h =
-    above-both hash leaf i m rest d e (omega arith) (omega arith)
+pub pair_at : {X : Type 0} (hash : Hash) (leaf : X → List ℕ) (i m : ℕ) (L : List X) (d : X) (e : List ℕ) →
+    m ≡ i + i → m + 1 < length L →
+    (get_or (above hash leaf L) i e ≡ node_hash hash (leaf (get_or L m d)) (leaf (get_or L (suc m) d)))
+    × (sibling leaf m L ≡ leaf (get_or L (suc m) d) ∷ []) × (sibling leaf (suc m) L ≡ leaf (get_or L m d) ∷ [])
+pair_at hash leaf i m [] d e q h = absurd (omega arith)
+pair_at hash leaf i m (x ∷ []) d e q h = absurd (omega arith)
+pair_at hash leaf zero zero (x ∷ (y ∷ rest)) d e q h = (refl, refl, refl)
+pair_at hash leaf zero (suc m) (x ∷ (y ∷ rest)) d e q h = absurd (omega arith)
+pair_at hash leaf (suc i) zero (x ∷ (y ∷ rest)) d e q h = absurd (omega arith)
+pair_at hash leaf (suc i) (suc zero) (x ∷ (y ∷ rest)) d e q h = absurd (omega arith)
+pair_at hash leaf (suc i) (suc (suc m)) (x ∷ (y ∷ rest)) d e q h =
+    pair_at hash leaf i m rest d e (omega arith) (omega arith)
 
-pub above-only : {X : Type 0} (hash : Hash) (leaf : X → List ℕ) (i m : ℕ) (L : List X) (d : X) (e : List ℕ) →
-    m ≡ i + i →
-    m + 1 ≡ length L → get_or (above hash leaf L) i e ≡ leaf (get_or L m d)
-above-only hash leaf i m [] d e q h = absurd (omega arith)
-above-only hash leaf zero zero (x ∷ []) d e q h = refl
-above-only hash leaf zero (suc m) (x ∷ []) d e q h = absurd (omega arith)
-above-only hash leaf (suc i) m (x ∷ []) d e q h = absurd (omega arith)
-above-only hash leaf i zero (x ∷ (y ∷ rest)) d e q h = absurd (omega arith)
-above-only hash leaf i (suc zero) (x ∷ (y ∷ rest)) d e q h = absurd (omega arith)
-above-only hash leaf zero (suc (suc m)) (x ∷ (y ∷ rest)) d e q h = absurd (omega arith)
-above-only hash leaf (suc i) (suc (suc m)) (x ∷ (y ∷ rest)) d e q h =
-    above-only hash leaf i m rest d e (omega arith) (omega arith)
-
-pub sibling-right : {X : Type 0} (leaf : X → List ℕ) (i m : ℕ) (L : List X) (d : X) → m ≡ i + i → m + 1 < length L →
-    sibling leaf (suc m) L ≡ leaf (get_or L m d) ∷ []
-sibling-right leaf i m [] d q h = absurd (omega arith)
-sibling-right leaf i m (x ∷ []) d q h = absurd (omega arith)
-sibling-right leaf zero zero (x ∷ (y ∷ rest)) d q h = refl
-sibling-right leaf zero (suc m) (x ∷ (y ∷ rest)) d q h = absurd (omega arith)
-sibling-right leaf (suc i) zero (x ∷ (y ∷ rest)) d q h = absurd (omega arith)
-sibling-right leaf (suc i) (suc zero) (x ∷ (y ∷ rest)) d q h = absurd (omega arith)
-sibling-right leaf (suc i) (suc (suc m)) (x ∷ (y ∷ rest)) d q h =
-    sibling-right leaf i m rest d (omega arith) (omega arith)
-
-pub sibling-left : {X : Type 0} (leaf : X → List ℕ) (i m : ℕ) (L : List X) (d : X) → m ≡ i + i → m + 1 < length L →
-    sibling leaf m L ≡ leaf (get_or L (suc m) d) ∷ []
-sibling-left leaf i m [] d q h = absurd (omega arith)
-sibling-left leaf i m (x ∷ []) d q h = absurd (omega arith)
-sibling-left leaf zero zero (x ∷ (y ∷ rest)) d q h = refl
-sibling-left leaf zero (suc m) (x ∷ (y ∷ rest)) d q h = absurd (omega arith)
-sibling-left leaf (suc i) zero (x ∷ (y ∷ rest)) d q h = absurd (omega arith)
-sibling-left leaf (suc i) (suc zero) (x ∷ (y ∷ rest)) d q h = absurd (omega arith)
-sibling-left leaf (suc i) (suc (suc m)) (x ∷ (y ∷ rest)) d q h =
-    sibling-left leaf i m rest d (omega arith) (omega arith)
-
-pub sibling-none : {X : Type 0} (leaf : X → List ℕ) (i m : ℕ) (L : List X) → m ≡ i + i → m + 1 ≡ length L →
-    sibling leaf m L ≡ []
-sibling-none leaf i m [] q h = refl
-sibling-none leaf i m (x ∷ []) q h = refl
-sibling-none leaf i zero (x ∷ (y ∷ rest)) q h = absurd (omega arith)
-sibling-none leaf i (suc zero) (x ∷ (y ∷ rest)) q h = absurd (omega arith)
-sibling-none leaf zero (suc (suc m)) (x ∷ (y ∷ rest)) q h = absurd (omega arith)
-sibling-none leaf (suc i) (suc (suc m)) (x ∷ (y ∷ rest)) q h = sibling-none leaf i m rest (omega arith) (omega arith)
+pub only_at : {X : Type 0} (hash : Hash) (leaf : X → List ℕ) (i m : ℕ) (L : List X) (d : X) (e : List ℕ) →
+    m ≡ i + i → m + 1 ≡ length L → (get_or (above hash leaf L) i e ≡ leaf (get_or L m d)) × (sibling leaf m L ≡ [])
+only_at hash leaf i m [] d e q h = absurd (omega arith)
+only_at hash leaf zero zero (x ∷ []) d e q h = (refl, refl)
+only_at hash leaf zero (suc m) (x ∷ []) d e q h = absurd (omega arith)
+only_at hash leaf (suc i) m (x ∷ []) d e q h = absurd (omega arith)
+only_at hash leaf i zero (x ∷ (y ∷ rest)) d e q h = absurd (omega arith)
+only_at hash leaf i (suc zero) (x ∷ (y ∷ rest)) d e q h = absurd (omega arith)
+only_at hash leaf zero (suc (suc m)) (x ∷ (y ∷ rest)) d e q h = absurd (omega arith)
+only_at hash leaf (suc i) (suc (suc m)) (x ∷ (y ∷ rest)) d e q h =
+    only_at hash leaf i m rest d e (omega arith) (omega arith)

@@ -6,7 +6,6 @@ pub mod Layers
 pub mod Climbs
 pub mod Honest
 pub mod Entries
-pub mod Begun
 pub mod Roots
 pub mod Powers
 pub mod TwoWalks
@@ -15,4 +14,3 @@ pub mod Halves
 pub mod Sides
 pub mod Lifts
 pub mod Composed
-pub mod Kept

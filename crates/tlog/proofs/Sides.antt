@@ -2,11 +2,11 @@
 use Rattle.std.proofs.Common.{◌≡◌, ℕ, zero, suc, ◌+◌, ◌-◌, ◌*◌, ◌/◌, ◌%◌, ◌^◌, ◌<◌, ◌≤◌, refl, sym, ap, subst, ◌∙◌}
 use Rattle.std.proofs.Common.{arith, inl, inr, List, [], ◌∷◌, ◌++◌, Some}
 use Rattle.std.proofs.lemmas.{Bool.Decides.leb_tells, Nat.div-add-mod', Nat.div-mul-add, Nat.le-div, Nat.pow_pos}
-use Rattle.std.proofs.Math.Nat.{add-mul, div-div-eq-div-mul, div-le_self, mod-lt, mul-div_cancel, mul_left_comm}
+use Rattle.std.proofs.Math.Nat.{add-mul, div-le_self, mod-lt, mul-div_cancel, mul_left_comm}
 use Rattle.std.proofs.Math.Nat.{mul-le-mul_right, pow-le-pow_right, pow-succ'}
 use Rattle.std.specs.Prelude.{◌↔◌}
 use Rattle.tlog.specs.{Climbs.climb_end, Rfc9162.Hash, Rfc9162.node_hash, Rfc9162.split}
-use Rattle.tlog.proofs.Splits.{split_by_power, split_is, split_of_half}
+use Rattle.tlog.proofs.{Bits.half_pow, Splits.split_by_power, Splits.split_is, Splits.split_of_half}
 use Rattle.tlog.proofs.Halves.{left_half, right_half}
 
 -- ---- the split, in nodes of a layer
@@ -16,15 +16,11 @@ split_at zero size some =
     let e : (size - 1) / 2 ^ 0 + 1 ≡ size = omega arith in
     rw e (let one : split size ≡ split size * 2 ^ 0 = omega arith in one)
 split_at (suc t) size some =
-    let h : ℕ = (size + 1) / 2 in
     let p = pow-succ' 2 t in
-    let halves : (size - 1) / 2 ^ suc t ≡ (size - 1) / 2 / 2 ^ t =
-    ap (λ (q : ℕ). (size - 1) / q) p ∙ sym (div-div-eq-div-mul (size - 1) 2 (2 ^ t)) in
     let low = div-le_self ((size - 1) / 2) (2 ^ t) in
     let e : (size - 1) / 2 ≡ (size + 1) / 2 - 1 = omega arith in
-    let d : (size - 1) / 2 ^ suc t ≡ ((size + 1) / 2 - 1) / 2 ^ t = halves ∙ ap (λ (q : ℕ). q / 2 ^ t) e in
+    let d : (size - 1) / 2 ^ suc t ≡ ((size + 1) / 2 - 1) / 2 ^ t = half_pow (size - 1) t ∙ ap (λ (q : ℕ). q / 2 ^ t) e in
     let up = split_at t ((size + 1) / 2) (subst (λ n. 0 < n) d some) in
-    let k : ℕ = split (((size + 1) / 2 - 1) / 2 ^ t + 1) in
     let twice = split_of_half size ((size + 1) / 2) (omega arith) refl in
     let q : split (((size + 1) / 2 - 1) / 2 ^ t + 1) * (2 * 2 ^ t)
     ≡ 2 * (split (((size + 1) / 2 - 1) / 2 ^ t + 1) * 2 ^ t) = mul_left_comm _ 2 (2 ^ t) in
@@ -86,9 +82,13 @@ climb_left hash t node size value rest last a b some small below =
     let f = at_layer t size some in
     let low = div-le_self (size - 1) (2 ^ t) in
     let there = f.there in
+    let half = left_half ((size - 1) / 2 ^ t) hash rest last node ((size - 1) / 2 ^ t) value value a b (omega arith) some
+    (omega arith) (omega arith) in
     rw (f.left_last, ← there)
-    (left_half ((size - 1) / 2 ^ t) hash rest last node ((size - 1) / 2 ^ t) value value a b (omega arith) some
-    (omega arith) (omega arith))
+    (
+      λ h. let r = half.0 h in (r.1, r.2 ∙ ap (λ (x : List ℕ). Some (0, x, r.1)) (sym r.3), r.4),
+      λ (w, h, q). half.1 (a, w, h, refl, q),
+    )
 
 pub climb_right : (hash : Hash) (t node size : ℕ) (value : List ℕ) (rest : List (List ℕ)) (last a b : List ℕ) →
     0 < (size - 1) / 2 ^ t → size ≤ 2 ^ 62 → split size / 2 ^ t ≤ node → node ≤ (size - 1) / 2 ^ t →

@@ -1,6 +1,6 @@
 //! Accepted proofs across the growth of a log.
 ghost use Rattle.std.specs.Prelude.{◌≡◌, ℕ, ◌+◌, ◌*◌, ◌^◌, ◌<◌, ◌≤◌, ◌↔◌, List, [], ◌∷◌, ◌++◌};
-ghost use Rattle.std.specs.Prelude.{IfErr, IfOk, IfSome, IsNone, None, Some};
+ghost use Rattle.std.specs.Prelude.{IfErr, IfOk, IfSome, IsNone, None, OnOk, Some};
 ghost use Rattle.tlog.specs.{Climbs.climb_end, Collisions.IsCollision, Verdicts.IsConsistent};
 ghost use Rattle.tlog.specs.{Verdicts.consistency_refusal, Verdicts.size_limit, Composed.IsReason};
 ghost use Rattle.tlog.specs.{Fixed.GrowthKeepsLeaf, Inner.Lifts.Lifts, Inner.Nodes.HashFixesChildren};
@@ -43,6 +43,33 @@ fn lift_beside<H: LogHash<D>, const D: usize>(
     let mut digests = Vec::from_slice(alloc, climb.digests)?;
     digests.push(*new)?;
     Ok(digests)
+}
+
+/// Checks that the node of `beside` and the root that `climb` leads to has the children `last` and `old`, if it has
+/// their hash.
+fn check_right<H: LogHash<D>, const D: usize>(
+    alloc: Global,
+    size: usize,
+    climb: &Climb<D>,
+    beside: &[u8; D],
+    last: &[u8; D],
+    old: &[u8; D],
+) -> Result<(), ComposeError>
+    requires some { 0 < size }
+    requires layer { climb.now.layer < 64 }
+    ensures same { OnOk result ((first right : List ℕ) → climb_end H.hash climb.now.layer climb.now.node size
+        climb.now.value.now climb.now.digests.now ≡ Some (0, first, right) →
+        HashFixesChildren H.hash beside.now right last.now old.now) }
+    ensures refused { IfErr result (IsReason H.hash None None) }
+{
+    let Ok(roots) = climb.roots::<H>(size) else {
+        return Ok(());
+    };
+    let (_, right) = roots;
+    match node_collision::<H, D>(alloc, beside, &right, last, old)? {
+        Some(found) => Err(ComposeError::Collision(found)),
+        None => Ok(()),
+    }
 }
 
 /// The digests that lead from a node on to the root of `new_size` entries, where those of `climb` lead to the root of
@@ -107,13 +134,7 @@ fn lift<H: LogHash<D>, const D: usize>(
         digests: below,
         ..*climb
     };
-    let Ok(roots) = climb.roots::<H>(size - middle) else {
-        return Ok(Vec::new(alloc));
-    };
-    let (_, right) = roots;
-    if let Some(found) = node_collision::<H, D>(alloc, beside, &right, last, &old)? {
-        return Err(ComposeError::Collision(found));
-    }
+    check_right::<H, D>(alloc, size - middle, &climb, beside, last, &old)?;
     let mut digests = lift::<H, D>(alloc, size - middle, new_size - middle, &climb, &growth)?;
     digests.push(*last)?;
     Ok(digests)

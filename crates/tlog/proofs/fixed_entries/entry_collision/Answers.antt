@@ -1,13 +1,13 @@
-use Rattle.std.proofs.{Common.refl, Common.sym, Common.ap, Common.◌∙◌, Common.arith, lemmas.Result.IfOk-weaker}
+use Rattle.std.proofs.Common.{refl, sym, ap, ◌∙◌, arith}
 use Rattle.std.specs.Cmp.Lexicographic.{bytes_decides}
 use Rattle.tlog.specs.{Collisions.entries_of, Rfc9162.leaf_hash}
 use Rattle.tlog.proofs.{Accepted.different, Entries.length-entries}
-use Rattle.tlog.proofs.TwoWalks.{entry_fixed, leaf_at, ok_of, unequal}
+use Rattle.tlog.proofs.TwoWalks.{accepted_by, entry_fixed, leaf_at, same_none, unequal}
 use Rattle.tlog.proofs.fixed_entries.entry_collision.Goals as goal
 
 pub returns-then-eq-clause-none : goal.returns-then-eq-clause-none
 returns-then-eq-clause-none g c =
-    let is = c.verify.ensures.accepted.0 (ok_of c.verify.result (sym c.is_err.ensures.value ∙ c.if-is_err.false)) in (
+    let is = accepted_by _ c.verify.ensures.accepted c.is_err.ensures.value c.if-is_err.false in (
       λ none small also.
           (bytes_decides c.args.entry.now c.as_slice.result.now).0 (sym c.eq.ensures ∙ c.if-eq.true)
           ∙ c.as_slice.ensures.value
@@ -18,7 +18,7 @@ returns-then-eq-clause-none g c =
 
 pub returns-then-ne-clause-none : goal.returns-then-ne-clause-none
 returns-then-ne-clause-none g c =
-    let is = c.verify.ensures.accepted.0 (ok_of c.verify.result (sym c.is_err.ensures.value ∙ c.if-is_err.false)) in
+    let is = accepted_by _ c.verify.ensures.accepted c.is_err.ensures.value c.if-is_err.false in
     let expected = c.leaf_hash.ensures
     ∙ ap (leaf_hash g.H.LogHash.hash) (c.deref.ensures.value ∙ sym (leaf_at c.args.entries.now c.args.index
     c.index-entries-index.result is.1.within c.index-entries-index.is)) in
@@ -26,12 +26,11 @@ returns-then-ne-clause-none g c =
     (different _ (sym c.if-ne.true ∙ c.ne.ensures)) in
     let both = entry_fixed g.H.LogHash.hash (entries_of c.args.entries.now) c.args.index c.args.entry.now
     c.leaf_hash-leaf.result c.args.proof.now c.leaf_hash-leaf.ensures (λ same. other (same ∙ sym expected)) in
-    IfOk-weaker c.leaf_collision.result _ _ (λ found iff. (λ none. both.0 (iff.0 none), λ fixed. iff.1 (both.1 fixed)))
-    c.leaf_collision.ensures.none
+    same_none c.leaf_collision.result both c.leaf_collision.ensures.none
 
 pub returns-clause-none : goal.returns-clause-none
 returns-clause-none g c =
-    let is = c.verify.ensures.accepted.0 (ok_of c.verify.result (sym c.is_err.ensures.value ∙ c.if-is_err.false)) in
+    let is = accepted_by _ c.verify.ensures.accepted c.is_err.ensures.value c.if-is_err.false in
     let len = length-entries c.args.entries.now in
     let other = unequal c.args.entry.now c.as_slice.result.now c.eq.result c.eq.ensures c.if-eq.false in (
       λ no. cc,

@@ -1,7 +1,7 @@
-use Rattle.std.proofs.{Common.refl, Common.sym, Common.ap, Common.◌∙◌, lemmas.Result.IfOk-weaker}
+use Rattle.std.proofs.Common.{refl, sym, ap, ◌∙◌}
 use Rattle.std.specs.Cmp.Lexicographic.{bytes_decides}
 use Rattle.tlog.specs.Rfc9162.{leaf_hash}
-use Rattle.tlog.proofs.TwoWalks.{leaf_at, leaf_fixed, unequal}
+use Rattle.tlog.proofs.TwoWalks.{leaf_at, leaf_fixed, same_none, unequal}
 use Rattle.tlog.proofs.fixed_entries.leaf_collision.Goals as goal
 
 pub returns-then-eq-clause-none : goal.returns-then-eq-clause-none
@@ -23,5 +23,4 @@ returns-clause-none g c =
     let both = leaf_fixed g.H.LogHash.hash c.args.entries.now c.args.index c.args.leaf.now c.args.proof.now
     c.leaf_hash-expected.result c.deref-2.result.now c.root-root.result c.if-index-entries.false expected
     (c.deref-2.ensures.value ∙ c.in_ok-honest.ensures) c.root-root.ensures other in
-    IfOk-weaker c.proof_collision.result _ _ (λ found iff. (λ none. both.0 (iff.0 none), λ fixed. iff.1 (both.1 fixed)))
-    c.proof_collision.ensures.none
+    same_none c.proof_collision.result both c.proof_collision.ensures.none

@@ -1,6 +1,6 @@
-use Rattle.std.proofs.{Common.sym, Common.◌∙◌, Common.arith, lemmas.Result.IfOk-weaker}
+use Rattle.std.proofs.Common.{sym, ◌∙◌, arith}
 use Rattle.std.specs.Cmp.Lexicographic.{bytes_decides}
-use Rattle.tlog.proofs.Consistencies.{differ, same_root}
+use Rattle.tlog.proofs.{Consistencies.differ, Consistencies.same_root, TwoWalks.same_none}
 use Rattle.tlog.proofs.fixed_entries.prefix_collision.Goals as goal
 
 pub returns-then-eq-clause-none : goal.returns-then-eq-clause-none
@@ -10,8 +10,7 @@ returns-then-eq-clause-none g c =
     c.root-old_root.result c.root-new_root.result c.verify.result c.verify.ensures.accepted
     (sym c.is_err.ensures.value ∙ c.if-is_err.false) c.root-old_root.ensures c.root-new_root.ensures
     c.split_at.ensures.front (sym c.root-old_root.ensures ∙ roots ∙ c.root-first_root.ensures) in
-    IfOk-weaker c.root_collision.result _ _ (λ found iff. (λ none. both.0 (iff.0 none), λ fixed. iff.1 (both.1 fixed)))
-    c.root_collision.ensures.none
+    same_none c.root_collision.result both c.root_collision.ensures.none
 
 pub consistency_proof-requires : goal.consistency_proof-requires
 consistency_proof-requires g c =
@@ -27,9 +26,7 @@ returns-clause-none g c =
     c.root-old_root.result c.root-new_root.result c.root-first_root.result c.verify.result c.eq.result
     c.verify.ensures.accepted (sym c.is_err.ensures.value ∙ c.if-is_err.false) c.root-old_root.ensures
     c.root-new_root.ensures c.split_at.ensures.front c.root-first_root.ensures c.eq.ensures c.if-eq.false in
-    IfOk-weaker c.consistency_collision.result _ _
-    (λ found iff. (
-      λ none. absurd (x.other (iff.0 none x.small x.is (rw (c.deref.ensures.value, c.in_ok-honest.ensures) x.honest)).0),
+    same_none c.consistency_collision.result (
+      λ fixed. absurd (x.other (fixed x.small x.is (rw (c.deref.ensures.value, c.in_ok-honest.ensures) x.honest)).0),
       λ s. absurd (x.prefix s),
-    ))
-    c.consistency_collision.ensures.none
+    ) c.consistency_collision.ensures.none

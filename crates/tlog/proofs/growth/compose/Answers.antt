@@ -1,7 +1,6 @@
 use Rattle.std.proofs.Common.{◌<◌, ◌∙◌, refl, sym, arith}
-use Rattle.tlog.proofs.Composed.{begins_layer, begins_whole, composed_all, composed_part, first_alone}
-use Rattle.tlog.proofs.Composed.{from_nothing, if_err, reason, second_alone}
-use Rattle.tlog.proofs.Consistencies.{begun_end, digests_grow}
+use Rattle.tlog.proofs.Composed.{composed_all, composed_part, first_alone, from_nothing, if_err, reason, second_alone}
+use Rattle.tlog.proofs.Consistencies.{begins_layer, begins_whole, begun_end, digests_grow}
 use Rattle.tlog.proofs.growth.compose.Goals as goal
 
 pub returns-in-Err-clause-refused : goal.returns-in-Err-clause-refused
@@ -14,24 +13,20 @@ pub returns-then-old_size-eq0-clause-composed : goal.returns-then-old_size-eq0-c
 returns-then-old_size-eq0-clause-composed g c =
     let one = c.in_default.ensures.accepted.0 refl in
     let two = c.in_default-verify.ensures.accepted.0 refl in
-    rw c.new.ensures.items (from_nothing g.H.LogHash.hash c.args.old_size c.args.middle_size c.args.new_size c.args.first.now c.args.second.now
-    c.args.old_root.now c.args.middle_root.now c.args.new_root.now c.if-old_size-eq0.true one.1 two.1)
+    rw c.new.ensures.items (from_nothing one.1 two.1 c.if-old_size-eq0.true)
 
 pub returns-in_default-of_proof-clause-composed : goal.returns-in_default-of_proof-clause-composed
 returns-in_default-of_proof-clause-composed g c =
     let one = c.in_default.ensures.accepted.0 refl in
     let two = c.in_default-verify.ensures.accepted.0 refl in
-    rw c.in_ok-from_slice.ensures.items (second_alone g.H.LogHash.hash c.args.old_size c.args.middle_size c.args.new_size c.args.first.now c.args.second.now
-    c.args.old_root.now c.args.middle_root.now c.args.new_root.now (omega arith)
-    c.in_default-of_proof.ensures one.1 two.1)
+    rw c.in_ok-from_slice.ensures.items (second_alone one.1 two.1 (omega arith) c.in_default-of_proof.ensures)
 
 pub returns-in_default-of_proof-2-clause-composed : goal.returns-in_default-of_proof-2-clause-composed
 returns-in_default-of_proof-2-clause-composed g c =
     let one = c.in_default.ensures.accepted.0 refl in
     let two = c.in_default-verify.ensures.accepted.0 refl in
-    rw c.in_ok-from_slice-2.ensures.items (first_alone g.H.LogHash.hash c.args.old_size c.args.middle_size c.args.new_size c.args.first.now c.args.second.now
-    c.args.old_root.now c.args.middle_root.now c.args.new_root.now
-    (let o = one.1.ordered in omega arith) c.in_default-of_proof-2.ensures one.1 two.1)
+    rw c.in_ok-from_slice-2.ensures.items (first_alone one.1 two.1 (let o = one.1.ordered in omega arith)
+    c.in_default-of_proof-2.ensures)
 
 pub of_proof-requires-2 : goal.of_proof-requires-2
 of_proof-requires-2 g c =
@@ -44,10 +39,8 @@ lift-requires g c =
     let two = c.in_default-verify.ensures.accepted.0 refl in
     let o = one.1.ordered in
     let w = two.1.ordered in
-    let old = begins_whole c.args.old_size c.args.first.now c.args.old_root.now _ _ _ _ c.in-Some.ensures (omega arith)
-    (omega (arith, one.0, o)) in
-    let middle = begins_whole c.args.middle_size c.args.second.now c.args.middle_root.now _ _ _ _
-    c.in-Some-of_proof.ensures (omega arith) (omega (arith, one.0)) in (
+    let old = begins_whole c.in-Some.ensures (omega arith) (omega (arith, one.0, o)) in
+    let middle = begins_whole c.in-Some-of_proof.ensures (omega arith) (omega (arith, one.0)) in (
       omega arith,
       (
         omega arith,
@@ -55,10 +48,8 @@ lift-requires g c =
           omega (arith, g.met.H.LogHash.short),
           (
             (
-              begins_layer c.args.old_size c.args.first.now c.args.old_root.now _ _ _ _ c.in-Some.ensures
-                  (omega (arith, one.0, o)),
-              begins_layer c.args.middle_size c.args.second.now c.args.middle_root.now _ _ _ _
-                  c.in-Some-of_proof.ensures (omega (arith, one.0)),
+              begins_layer c.in-Some.ensures (omega (arith, one.0, o)),
+              begins_layer c.in-Some-of_proof.ensures (omega (arith, one.0)),
             ),
             (omega (arith, old, o), (middle, (w, two.0))),
           ),
@@ -76,62 +67,42 @@ pub returns-then-is_power_of_two-clause-composed : goal.returns-then-is_power_of
 returns-then-is_power_of_two-clause-composed g c =
     let one = c.in_default.ensures.accepted.0 refl in
     let two = c.in_default-verify.ensures.accepted.0 refl in
-    let middle_some : 0 < c.args.middle_size = let o = one.1.ordered in omega arith in
-    let more = digests_grow g.H.LogHash.hash c.args.middle_size c.args.new_size c.args.second.now c.args.middle_root.now
-    c.args.new_root.now middle_some c.in-Some-of_proof.ensures.some two.1 in
-    let ends = c.in_ok-digests.ensures.lifted c.args.old_root.now c.args.middle_root.now c.args.new_root.now
-    (begun_end g.H.LogHash.hash c.args.old_size c.args.middle_size c.args.first.now c.args.old_root.now
-    c.args.middle_root.now _ _ _ _ c.in-Some.ensures (omega arith) one.1)
-    (begun_end g.H.LogHash.hash c.args.middle_size c.args.new_size c.args.second.now c.args.middle_root.now
-    c.args.new_root.now _ _ _ _ c.in-Some-of_proof.ensures middle_some two.1) in
-    composed_all g.H.LogHash.hash c.args.old_size c.args.new_size c.args.first.now c.args.old_root.now c.args.new_root.now
-    _ _ _ _ c.in_ok-digests.digests.items (omega arith) (let o = one.1.ordered in omega arith)
-    (let o = one.1.ordered in let s = one.0 in omega arith) c.in-Some.ensures
-    (sym c.is_power_of_two.ensures ∙ c.if-is_power_of_two.true) ends
+    let some : 0 < c.args.middle_size = let o = one.1.ordered in omega arith in
+    let more = digests_grow some c.in-Some-of_proof.ensures.some two.1 in
+    let ends = c.in_ok-digests.ensures.lifted.lift c.args.old_root.now c.args.middle_root.now c.args.new_root.now
+    (begun_end c.in-Some.ensures (omega arith) one.1) (begun_end c.in-Some-of_proof.ensures some two.1) in
+    composed_all (omega arith) (let o = one.1.ordered in omega arith) c.in-Some.ensures _
+    (let o = one.1.ordered in let s = one.0 in omega arith) (sym c.is_power_of_two.ensures ∙ c.if-is_power_of_two.true)
+    ends
 
 pub returns-clause-composed : goal.returns-clause-composed
 returns-clause-composed g c =
     let one = c.in_default.ensures.accepted.0 refl in
     let two = c.in_default-verify.ensures.accepted.0 refl in
-    let middle_some : 0 < c.args.middle_size = let o = one.1.ordered in omega arith in
-    let more = digests_grow g.H.LogHash.hash c.args.middle_size c.args.new_size c.args.second.now c.args.middle_root.now
-    c.args.new_root.now middle_some c.in-Some-of_proof.ensures.some two.1 in
-    let ends = c.in_ok-digests.ensures.lifted c.args.old_root.now c.args.middle_root.now c.args.new_root.now
-    (begun_end g.H.LogHash.hash c.args.old_size c.args.middle_size c.args.first.now c.args.old_root.now
-    c.args.middle_root.now _ _ _ _ c.in-Some.ensures (omega arith) one.1)
-    (begun_end g.H.LogHash.hash c.args.middle_size c.args.new_size c.args.second.now c.args.middle_root.now
-    c.args.new_root.now _ _ _ _ c.in-Some-of_proof.ensures middle_some two.1) in
-    let is = composed_part g.H.LogHash.hash c.args.old_size c.args.new_size c.args.first.now c.args.old_root.now
-    c.args.new_root.now _ _ _ _ c.in_ok-digests.digests.items (omega arith) (let o = one.1.ordered in omega arith)
-    c.in-Some.ensures (sym c.is_power_of_two.ensures ∙ c.if-is_power_of_two.false) ends in
+    let some : 0 < c.args.middle_size = let o = one.1.ordered in omega arith in
+    let more = digests_grow some c.in-Some-of_proof.ensures.some two.1 in
+    let ends = c.in_ok-digests.ensures.lifted.lift c.args.old_root.now c.args.middle_root.now c.args.new_root.now
+    (begun_end c.in-Some.ensures (omega arith) one.1) (begun_end c.in-Some-of_proof.ensures some two.1) in
+    let is = composed_part (omega arith) (let o = one.1.ordered in omega arith) c.in-Some.ensures _
+    (sym c.is_power_of_two.ensures ∙ c.if-is_power_of_two.false) ends in
     rw (c.in_ok-extend_from_slice.ensures.items, c.in_ok-proof.ensures.items, c.deref.ensures.value) is
 
 pub returns-then-old_size-eq0-clause-given : goal.returns-then-old_size-eq0-clause-given
 returns-then-old_size-eq0-clause-given g c =
-    let one = c.in_default.ensures.accepted.0 refl in
-    let two = c.in_default-verify.ensures.accepted.0 refl in
-    (two.0, one.1, two.1)
+    let two = c.in_default-verify.ensures.accepted.0 refl in (two.0, (c.in_default.ensures.accepted.0 refl).1, two.1)
 
 pub returns-in_default-of_proof-clause-given : goal.returns-in_default-of_proof-clause-given
 returns-in_default-of_proof-clause-given g c =
-    let one = c.in_default.ensures.accepted.0 refl in
-    let two = c.in_default-verify.ensures.accepted.0 refl in
-    (two.0, one.1, two.1)
+    let two = c.in_default-verify.ensures.accepted.0 refl in (two.0, (c.in_default.ensures.accepted.0 refl).1, two.1)
 
 pub returns-in_default-of_proof-2-clause-given : goal.returns-in_default-of_proof-2-clause-given
 returns-in_default-of_proof-2-clause-given g c =
-    let one = c.in_default.ensures.accepted.0 refl in
-    let two = c.in_default-verify.ensures.accepted.0 refl in
-    (two.0, one.1, two.1)
+    let two = c.in_default-verify.ensures.accepted.0 refl in (two.0, (c.in_default.ensures.accepted.0 refl).1, two.1)
 
 pub returns-then-is_power_of_two-clause-given : goal.returns-then-is_power_of_two-clause-given
 returns-then-is_power_of_two-clause-given g c =
-    let one = c.in_default.ensures.accepted.0 refl in
-    let two = c.in_default-verify.ensures.accepted.0 refl in
-    (two.0, one.1, two.1)
+    let two = c.in_default-verify.ensures.accepted.0 refl in (two.0, (c.in_default.ensures.accepted.0 refl).1, two.1)
 
 pub returns-clause-given : goal.returns-clause-given
 returns-clause-given g c =
-    let one = c.in_default.ensures.accepted.0 refl in
-    let two = c.in_default-verify.ensures.accepted.0 refl in
-    (two.0, one.1, two.1)
+    let two = c.in_default-verify.ensures.accepted.0 refl in (two.0, (c.in_default.ensures.accepted.0 refl).1, two.1)
