@@ -1,9 +1,11 @@
 -- The verifiers' walks: the new root of one of consistency is the root of one of inclusion.
-use Rattle.std.proofs.Common.{◌≡◌, ℕ, suc, ◌+◌, ◌/◌, ◌%◌, ◌<◌, refl, sym, ◌∙◌, arith, inl, inr, List, [], ◌∷◌, ◌++◌}
+use Rattle.std.proofs.Common.{◌≡◌, ℕ, suc, ◌+◌, ◌/◌, ◌%◌, ◌^◌, ◌<◌, ◌≤◌, refl, sym, ap, ◌∙◌, arith, inl, inr, List, []}
+use Rattle.std.proofs.{Common.◌∷◌, Common.◌++◌}
 use Rattle.std.proofs.{Common.length, Common.Some, Common.None, lemmas.Bool.cases_Bool, lemmas.Bool.Decides.eqb_tells}
 use Rattle.std.specs.{Prelude.◌⊎◌, Prelude.Option, Prelude.option_map}
-use Rattle.tlog.specs.Rfc9162.{Hash, consistency_walk, inclusion_walk, is_left, path}
-use Rattle.tlog.proofs.{Walks.end_of, Layers.above, Layers.itself, Layers.path-above, Layers.sibling}
+use Rattle.tlog.specs.Rfc9162.{Hash, consistency_walk, inclusion_walk, is_left, node_hash, path}
+use Rattle.tlog.proofs.{Halves.skip_end, Halves.step_even, Halves.step_odd, Layers.above, Layers.itself}
+use Rattle.tlog.proofs.Layers.{path-above, sibling}
 
 -- n is i + i, or one more
 pub parity : (n : ℕ) → ((i : ℕ) × (n ≡ i + i)) ⊎ ((i : ℕ) × (n ≡ suc (i + i)))
@@ -51,3 +53,26 @@ module _ (hash : Hash) (digests : List (List ℕ)) (fn sn : ℕ) (fr sr : List �
   pub as_consistency : (b : List ℕ) → inclusion_walk hash digests fn sn sr ≡ Some (0, b) →
       (a : List ℕ) × (consistency_walk hash digests fn sn fr sr ≡ Some (0, a, b))
   as_consistency b h = old_root _ b (sym (walks_agree hash digests fn sn fr sr) ∙ h)
+
+-- ---- a step of a walk of inclusion, by that of consistency
+
+module _ (hash : Hash) (c : List ℕ) (digests : List (List ℕ)) (fn sn : ℕ) (r : List ℕ) where
+  pub inclusion_odd : fn % 2 ≡ 1 → 0 < sn → fn ≤ 2 ^ 62 → inclusion_walk hash (c ∷ digests) fn sn r
+      ≡ inclusion_walk hash digests (fn / 2) (sn / 2) (node_hash hash c r)
+  inclusion_odd odd some small =
+      walks_agree hash (c ∷ digests) fn sn r r
+      ∙ ap (option_map new_end) (step_odd hash c digests fn sn r r odd some small)
+      ∙ sym (walks_agree hash digests (fn / 2) (sn / 2) (node_hash hash c r) (node_hash hash c r))
+
+  pub inclusion_even : fn % 2 ≡ 0 → fn < sn → inclusion_walk hash (c ∷ digests) fn sn r
+      ≡ inclusion_walk hash digests (fn / 2) (sn / 2) (node_hash hash r c)
+  inclusion_even even within =
+      walks_agree hash (c ∷ digests) fn sn r r ∙ ap (option_map new_end) (step_even hash c digests fn sn r r even within)
+      ∙ sym (walks_agree hash digests (fn / 2) (sn / 2) r (node_hash hash r c))
+
+-- at an only child
+pub inclusion_skip : (hash : Hash) (digests : List (List ℕ)) (n : ℕ) (r end : List ℕ) → n % 2 ≡ 0 → n ≤ 2 ^ 62 →
+    inclusion_walk hash digests (n / 2) (n / 2) r ≡ Some (0, end) → inclusion_walk hash digests n n r ≡ Some (0, end)
+inclusion_skip hash digests n r end even small h =
+    let up = as_consistency hash digests (n / 2) (n / 2) r r end h in
+    as_inclusion hash digests n n r r 0 up.0 end ((skip_end hash r r digests n up.0 end even small).1 up.1)

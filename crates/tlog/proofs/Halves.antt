@@ -10,7 +10,7 @@ use Rattle.tlog.proofs.{Splits.split_of_two, Walks.end_of}
 -- ---- one layer
 
 module _ (hash : Hash) (c : List ℕ) (digests : List (List ℕ)) (fn sn : ℕ) (fr sr : List ℕ) where
-  step_odd : fn % 2 ≡ 1 → 0 < sn → fn ≤ 2 ^ 62 → consistency_walk hash (c ∷ digests) fn sn fr sr
+  pub step_odd : fn % 2 ≡ 1 → 0 < sn → fn ≤ 2 ^ 62 → consistency_walk hash (c ∷ digests) fn sn fr sr
       ≡ consistency_walk hash digests (fn / 2) (sn / 2) (node_hash hash c fr) (node_hash hash c sr)
   unfolding consistency_walk
   step_odd odd some small =
@@ -22,7 +22,7 @@ module _ (hash : Hash) (c : List ℕ) (digests : List (List ℕ)) (fn sn : ℕ) 
       let s : sn / 2 ^ 0 ≡ sn = omega arith in
       rw (z, consistency_walk, l, consistency_walk, t, f, s)
 
-  step_even : fn % 2 ≡ 0 → fn < sn → consistency_walk hash (c ∷ digests) fn sn fr sr
+  pub step_even : fn % 2 ≡ 0 → fn < sn → consistency_walk hash (c ∷ digests) fn sn fr sr
       ≡ consistency_walk hash digests (fn / 2) (sn / 2) fr (node_hash hash sr c)
   unfolding consistency_walk
   step_even even within =
@@ -63,7 +63,7 @@ module _ (hash : Hash) (fr sr : List ℕ) where
   past_root [] fn some = absurd (omega arith)
   past_root (c ∷ digests) fn some = refl
 
-  skip_end : (digests : List (List ℕ)) (n : ℕ) (a b : List ℕ) → n % 2 ≡ 0 → n ≤ 2 ^ 62 →
+  pub skip_end : (digests : List (List ℕ)) (n : ℕ) (a b : List ℕ) → n % 2 ≡ 0 → n ≤ 2 ^ 62 →
       (consistency_walk hash digests n n fr sr ≡ Some (0, a, b))
       ↔ (consistency_walk hash digests (n / 2) (n / 2) fr sr ≡ Some (0, a, b))
   unfolding consistency_walk

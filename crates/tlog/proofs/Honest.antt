@@ -336,8 +336,11 @@ module _ {X : Type 0} (hash : Hash) (leaf : X → List ℕ) where
       let right = length-drop (split (length L)) L in
       let f : nat_lt m (split (length L)) ≡ false = grind (arith, nat_tests) in
       sym (path_depth (suc (length L)) hash leaf m L within (omega arith)) ∙ path-more (length L) hash leaf m L more
-      ∙ rw (f, path_depth (length L) hash leaf (m - split (length L)) (drop (split (length L)) L) (omega arith)
-          (omega arith))
+      ∙ rw (
+        f,
+        path_depth (length L) hash leaf (m - split (length L)) (drop (split (length L)) L) (omega arith)
+            (omega arith),
+      )
 
   pub sub_left : (m : ℕ) (L : List X) (b : Bool) → 0 < m → m < length L → m ≤ split (length L) →
       subproof hash leaf m L b
@@ -348,8 +351,11 @@ module _ {X : Type 0} (hash : Hash) (leaf : X → List ℕ) where
       let t : nat_le m (split (length L)) ≡ true = grind (arith, nat_tests) in
       sub_depth (length L) (suc (length L)) hash leaf m L b some (omega arith) (omega arith) (omega arith)
       ∙ sub-more (length L) hash leaf m L b within
-      ∙ rw (t, sub_depth (length L) (length (take (split (length L)) L)) hash leaf m (take (split (length L)) L) b some
-          (omega arith) (omega arith) (omega arith))
+      ∙ rw (
+        t,
+        sub_depth (length L) (length (take (split (length L)) L)) hash leaf m (take (split (length L)) L) b some
+            (omega arith) (omega arith) (omega arith),
+      )
 
   pub sub_right : (m : ℕ) (L : List X) (b : Bool) → m < length L → split (length L) < m →
       subproof hash leaf m L b
@@ -360,8 +366,11 @@ module _ {X : Type 0} (hash : Hash) (leaf : X → List ℕ) where
       let f : nat_le m (split (length L)) ≡ false = grind (arith, nat_tests) in
       sub_depth (length L) (suc (length L)) hash leaf m L b (omega arith) (omega arith) (omega arith) (omega arith)
       ∙ sub-more (length L) hash leaf m L b within
-      ∙ rw (f, sub_depth (length L) (length (drop (split (length L)) L)) hash leaf (m - split (length L))
-          (drop (split (length L)) L) false (omega arith) (omega arith) (omega arith) (omega arith))
+      ∙ rw (
+        f,
+        sub_depth (length L) (length (drop (split (length L)) L)) hash leaf (m - split (length L))
+            (drop (split (length L)) L) false (omega arith) (omega arith) (omega arith) (omega arith),
+      )
 
 -- ---- inclusion
 

@@ -84,8 +84,7 @@ climb_left hash t node size value rest last a b some small below =
     let there = f.there in
     let half = left_half ((size - 1) / 2 ^ t) hash rest last node ((size - 1) / 2 ^ t) value value a b (omega arith) some
     (omega arith) (omega arith) in
-    rw (f.left_last, ← there)
-    (
+    rw (f.left_last, ← there) (
       λ h. let r = half.0 h in (r.1, r.2 ∙ ap (λ (x : List ℕ). Some (0, x, r.1)) (sym r.3), r.4),
       λ (w, h, q). half.1 (a, w, h, refl, q),
     )

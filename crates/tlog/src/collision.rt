@@ -89,9 +89,6 @@ fn root_input<H: LogHash<D>, const D: usize>(
 }
 
 /// A collision, if two different lists of entries, of any lengths, have one root; else `None`.
-///
-/// # Errors
-///
 /// `AllocError` if memory runs out.
 pub fn root_collision<H: LogHash<D>, const D: usize>(
     alloc: Global,
@@ -125,9 +122,6 @@ pub fn root_collision<H: LogHash<D>, const D: usize>(
 }
 
 /// The proof of inclusion of entry `index`, counted from 0, under the root of the entries (RFC 9162, 2.1.3.1).
-///
-/// # Errors
-///
 /// `AllocError` if memory runs out.
 pub fn inclusion_proof<H: LogHash<D>, const D: usize>(
     alloc: Global,
@@ -154,9 +148,6 @@ pub fn inclusion_proof<H: LogHash<D>, const D: usize>(
 }
 
 /// The proof of consistency from the first `old_size` entries to all (RFC 9162, 2.1.4.1).
-///
-/// # Errors
-///
 /// `AllocError` if memory runs out.
 pub fn consistency_proof<H: LogHash<D>, const D: usize>(
     alloc: Global,

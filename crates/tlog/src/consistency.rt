@@ -11,7 +11,7 @@ use crate::inclusion::{SIZE_LIMIT, is_left};
 use sha2::Sha256;
 
 /// Whether a proof of consistency shows that a log of `new_size` entries under `new_root` begins with the `old_size`
-/// entries under `old_root` (RFC 9162, 2.1.4.2). It takes no memory. From size 0, whose root is
+/// entries under `old_root` (RFC 9162, 2.1.4.2). It allocates nothing. From size 0, whose root is
 /// [`EMPTY_ROOT`](crate::EMPTY_ROOT), and between equal sizes, whose roots are equal, there are no digests.
 ///
 /// # Errors

@@ -8,14 +8,13 @@ ghost use Rattle.tlog.specs.{Fixed.GrowthKeepsLeaf, Inner.Lifts.Lifts, Inner.Nod
 use crate::collision::{Collision, split};
 use crate::consistency::{self, Climb};
 use crate::error::ComposeError;
+use crate::fixed::{node_collision, proof_collision};
 use crate::hash::LogHash;
 use crate::inclusion::verify;
-use crate::proof_pairs::{node_collision, proof_collision};
 use std::alloc::{AllocError, Global};
 
-/// The digests that lead from a node in the left half on to the new root, where those of `climb` lead to the root of
-/// this half. `beside` and `old` are the root of the old right half by two proofs, `last` that of the left half by the
-/// second, and `new` is the root of the new right half.
+/// The digests from a node in the left half to the new root, where those of `climb` lead to the left half's root.
+/// Two proofs give the left root (`last` by the second) and the old right one (`beside`, `old`); `new` is the new one.
 fn lift_beside<H: LogHash<D>, const D: usize>(
     alloc: Global,
     middle: usize,
@@ -45,8 +44,7 @@ fn lift_beside<H: LogHash<D>, const D: usize>(
     Ok(digests)
 }
 
-/// Checks that the node of `beside` and the root that `climb` leads to has the children `last` and `old`, if it has
-/// their hash.
+/// Checks that `beside` and the root that `climb` leads to are `last` and `old`, if both pairs have one hash.
 fn check_right<H: LogHash<D>, const D: usize>(
     alloc: Global,
     size: usize,
@@ -72,8 +70,8 @@ fn check_right<H: LogHash<D>, const D: usize>(
     }
 }
 
-/// The digests that lead from a node on to the root of `new_size` entries, where those of `climb` lead to the root of
-/// the first `size`, and `growth` from the last whole node of these to both roots; of others it says nothing.
+/// The digests from a node to the root of `new_size` entries, where those of `climb` lead to the root of the first
+/// `size`, and `growth` from the last whole node of these to both roots. Others give any digests.
 fn lift<H: LogHash<D>, const D: usize>(
     alloc: Global,
     size: usize,
@@ -140,8 +138,8 @@ fn lift<H: LogHash<D>, const D: usize>(
     Ok(digests)
 }
 
-/// Out of accepted proofs of consistency from the old size to the middle one and from there to the new size: one from
-/// the old size to the new one. It needs no entries.
+/// The proof of consistency from the old size to the new one, out of accepted proofs from the old size to the middle
+/// one and from there to the new one. It needs no entries.
 ///
 /// # Errors
 ///
@@ -208,9 +206,6 @@ pub fn compose<H: LogHash<D>, const D: usize>(
 
 /// A collision, if proofs of inclusion of one index are accepted under an old and a new root, and a proof of
 /// consistency from the one to the other, and the leaf hashes differ; else `None`. It needs no entries.
-///
-/// # Errors
-///
 /// `AllocError` if memory runs out.
 pub fn growth_collision<H: LogHash<D>, const D: usize>(
     alloc: Global,

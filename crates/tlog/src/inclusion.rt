@@ -8,11 +8,11 @@ use crate::error::ProofError;
 use crate::hash::LogHash;
 use sha2::Sha256;
 
-/// The greatest size that is taken.
+/// The greatest size of a log.
 pub(crate) const SIZE_LIMIT: usize = 1 << 62;
 
 /// Whether a proof of inclusion shows that the log of `size` entries under `root` has `leaf` as the leaf hash of its
-/// entry `index`, counted from 0 (RFC 9162, 2.1.3.2). It takes no memory.
+/// entry `index`, counted from 0 (RFC 9162, 2.1.3.2). It allocates nothing.
 ///
 /// # Errors
 ///

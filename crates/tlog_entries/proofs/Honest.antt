@@ -9,57 +9,53 @@ use Rattle.p3_merkle_core.specs.Pruning.{IsHonestQuery, boundary, boundary_at, h
 use Rattle.p3_merkle_core.proofs.Covered.Restoration.{honest_paths}
 use Rattle.tlog.specs.{Rfc9162.Hash as HashFunction, Rfc9162.path, Rfc9162.path_within, Verdicts.size_limit}
 use Rattle.tlog.proofs.Climbs.{parity, path_above}
-use Rattle.tlog.proofs.Layers.{itself, sibling, sibling-left, sibling-none, sibling-right}
+use Rattle.tlog.proofs.Layers.{itself, only_at, pair_at, sibling}
 use Rattle.tlog_entries.specs.Instance.{AreFilled, hash_in, log_batch, log_functions, log_params, log_shape, present}
-use Rattle.tlog_entries.specs.declared.node.Node.{Node}
-use Rattle.tlog_entries.proofs.Nodes.{layer_next, layer_over, length-layer, node_filled, node_in_layer, outside_slot}
+use Rattle.tlog_entries.specs.declared.tree.Node.{Node}
+use Rattle.tlog_tree.specs.Inner.Layers.{layer_of}
+use Rattle.tlog_tree.proofs.Paths.{layer_next, path_of_one}
+use Rattle.tlog_entries.proofs.Nodes.{length-layer, node_filled, node_in_layer, outside_slot}
 use Rattle.tlog_entries.proofs.{Nodes.padding_is_absent, Nodes.slot_inside, Shapes.lawful, Shapes.one_level_sibling}
 use Rattle.tlog_entries.proofs.{Shapes.root_covers, Shapes.tallest, Shapes.two_is_arity, Walks.half_of}
-
-path_of_one : (hash : HashFunction) (m : ℕ) (L : List (List ℕ)) → length L ≡ 1 → path hash itself m L ≡ []
-unfolding path_within
-path_of_one hash m [] e = absurd (omega arith)
-path_of_one hash m (x ∷ []) e = refl
-path_of_one hash m (x ∷ (y ∷ rest)) e = absurd (omega arith)
 
 module _ (hash : HashFunction) (leaves : List (List ℕ)) (i : ℕ) (inside : i < length leaves) where
   abbrev value : ℕ → ℕ → List Node
   value = node (log_functions hash) (log_batch leaves)
 
   -- a sibling, if it is there
-  sibling_present : (l m : ℕ) → l ≤ levels (log_shape (length leaves)) → m < length (layer_over hash l leaves) →
-      flat_map hash_in (value l (2 * (m / 2) + (1 - m % 2))) ≡ sibling itself m (layer_over hash l leaves)
+  sibling_present : (l m : ℕ) → l ≤ levels (log_shape (length leaves)) → m < length (layer_of hash l leaves) →
+      flat_map hash_in (value l (2 * (m / 2) + (1 - m % 2))) ≡ sibling itself m (layer_of hash l leaves)
   sibling_present l m low within =
       let some : 0 < length leaves = omega arith in
-      let L = layer_over hash l leaves in
+      let L = layer_of hash l leaves in
       elim (parity m) [
         | inr (k, e) ↦
             let slot : 2 * (m / 2) + (1 - m % 2) ≡ k + k = omega arith in
             rw (slot, node_in_layer hash leaves some l (k + k) low (omega arith), e)
-            (sym (sibling-right itself k (k + k) L [] refl (omega arith)))
+            (sym (pair_at hash itself k (k + k) L [] [] refl (omega arith)).2)
         | inl (k, e) ↦
             let slot : 2 * (m / 2) + (1 - m % 2) ≡ suc (k + k) = omega arith in
             rw (slot, e) (elim (cases_lt (suc (k + k)) (length L)) [
               | inl both ↦ rw (node_in_layer hash leaves some l (suc (k + k)) low both)
-                  (sym (sibling-left itself k (k + k) L [] refl (omega arith)))
+                  (sym (pair_at hash itself k (k + k) L [] [] refl (omega arith)).1)
               | inr alone ↦
                   let past = outside_slot hash l (suc (k + k)) leaves alone in
                   rw (padding_is_absent hash leaves some l (suc (k + k)) low past)
-                  (sym (sibling-none itself k (k + k) L refl (omega arith)))
+                  (sym (only_at hash itself k (k + k) L [] [] refl (omega arith)).1)
             ])
       ]
 
   path_from : (d l : ℕ) → l + d ≡ levels (log_shape (length leaves)) →
       present (flat_map (level_siblings value (log_shape (length leaves)) i) (range_with_len l d))
-      ≡ path hash itself (i / 2 ^ l) (layer_over hash l leaves)
+      ≡ path hash itself (i / 2 ^ l) (layer_of hash l leaves)
   path_from zero l e =
       let covers = root_covers (length leaves) in
       let top : levels (log_shape (length leaves)) ≡ l = omega arith in
       let last : (length leaves - 1) / 2 ^ l ≡ 0 = div-eq_of_lt (let c = rw top at covers in omega arith) in
-      sym (path_of_one hash (i / 2 ^ l) (layer_over hash l leaves)
+      sym (path_of_one hash (layer_of hash l leaves) (i / 2 ^ l)
       (length-layer hash l leaves (omega arith) ∙ ap (λ n. n + 1) last))
   path_from (suc d) l e =
-      let L = layer_over hash l leaves in
+      let L = layer_of hash l leaves in
       let m = i / 2 ^ l in
       let low : l ≤ levels (log_shape (length leaves)) = omega arith in
       let within : m < length L = slot_inside hash l m leaves (omega (arith, div-mul-le_self i (2 ^ l))) in
@@ -73,7 +69,7 @@ module _ (hash : HashFunction) (leaves : List (List ℕ)) (i : ℕ) (inside : i 
   pub honest_is_path :
       present (honest (log_functions hash) (log_batch leaves) (levels (log_shape (length leaves))) i).siblings
       ≡ path hash itself i leaves
-  unfolding layer_over
+  unfolding layer_of
   honest_is_path =
       let first : i / 2 ^ 0 ≡ i = omega arith in
       rw first at (path_from (levels (log_shape (length leaves))) 0 (omega arith))

@@ -12,7 +12,7 @@ use Rattle.tlog.proofs.{Honest.included, Layers.itself}
 use Rattle.tlog_tree.specs.Trees.{all_there, leaves_root, node_at, values_at as tree_values}
 use Rattle.tlog_entries.specs.Entries.{AreIncluded, entries_opening, is_node, proof_nodes, with_padding}
 use Rattle.tlog_entries.specs.Instance.{leaf_row, log_batch, log_functions, log_params, log_shape, present}
-use Rattle.tlog_entries.specs.declared.node.Node.{Node}
+use Rattle.tlog_entries.specs.declared.tree.Node.{Node}
 use Rattle.tlog_entries.proofs.{Honest.restored_is_path, Nodes.node_is_mth, Nodes.padding_is_absent, Shapes.tallest}
 
 module _ (hash : HashFunction) (leaves : List (List ℕ)) (some : 0 < length leaves) where

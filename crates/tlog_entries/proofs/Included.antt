@@ -9,7 +9,7 @@ use Rattle.p3_merkle_core.proofs.Checks.CheckFacts.{accepted_by_walk, accepted_w
 use Rattle.tlog.specs.{Rfc9162.Hash as HashFunction, Rfc9162.inclusion_walk, Verdicts.IsIncluded, Verdicts.size_limit}
 use Rattle.tlog_entries.specs.Nodes.{parent_digest}
 use Rattle.tlog_entries.specs.Instance.{IsPathFilled, leaf_row, log_functions, log_params, log_shape, present, root_cap}
-use Rattle.tlog_entries.specs.declared.node.Node.{Node, TheVariants.Hash}
+use Rattle.tlog_entries.specs.declared.tree.Node.{Node, TheVariants.Hash}
 use Rattle.tlog_entries.proofs.Shapes.{ancestor_of_two, lawful, leaf_reached, more_below, next_reached, one_sibling}
 use Rattle.tlog_entries.proofs.{Shapes.root_covers, Shapes.tallest, Walks.half_of, Walks.level_passed}
 

@@ -7,51 +7,44 @@ use Rattle.p3_merkle_core.specs.{Geometry.layer_len, Geometry.levels, Commitment
 use Rattle.p3_merkle_core.proofs.Shapes.FallFacts.{root_alone}
 use Rattle.std.specs.List.{range_with_len}
 use Rattle.p3_merkle_core.proofs.Checks.OneHeightFacts.{leaf_of, next_of, padding_of}
+use Rattle.std.specs.Prelude.{Option, Some, true, nat_lt}
+use Rattle.std.proofs.lemmas.Bool.Decides.{nat_tests}
 use Rattle.tlog.specs.Rfc9162.{Hash as HashFunction, mth, mth_within}
-use Rattle.tlog.proofs.Layers.{above, above-both, above-drop, above-only, above-take, itself, length-above, mth_above}
+use Rattle.tlog.proofs.Layers.{above, itself, length-above, only_at, pair_at}
+use Rattle.tlog_tree.specs.Inner.Layers.{layer_of}
+use Rattle.tlog_tree.proofs.Paths.{layer_next, layer_value}
 use Rattle.tlog_entries.specs.Nodes.{parent_digest}
 use Rattle.tlog_entries.specs.Instance.{IsFilled, root_cap, log_batch, log_params, log_functions, log_shape}
-use Rattle.tlog_entries.specs.declared.node.Node.{Node, TheVariants.Absent, TheVariants.Hash}
+use Rattle.tlog_entries.specs.declared.tree.Node.{Node, TheVariants.Absent, TheVariants.Hash}
 use Rattle.tlog_entries.proofs.Shapes.{root_covers, tallest, one_column, one_taken, two_is_arity}
 use Rattle.tlog_entries.proofs.Walks.{half_of}
 
 -- ---- layers by halving
 
--- the nodes of a layer above leaf hashes
-unfoldable pub layer_over : HashFunction → ℕ → List (List ℕ) → List (List ℕ)
-layer_over hash zero leaves = leaves
-layer_over hash (suc l) leaves = layer_over hash l (above hash itself leaves)
-
-pub layer_next : (hash : HashFunction) (l : ℕ) (leaves : List (List ℕ)) →
-    layer_over hash (suc l) leaves ≡ above hash itself (layer_over hash l leaves)
-unfolding layer_over
-layer_next hash zero leaves = refl
-layer_next hash (suc l) leaves = layer_next hash l (above hash itself leaves)
-
 pub length-layer : (hash : HashFunction) (l : ℕ) (leaves : List (List ℕ)) → 0 < length leaves →
-    length (layer_over hash l leaves) ≡ (length leaves - 1) / 2 ^ l + 1
-unfolding layer_over
+    length (layer_of hash l leaves) ≡ (length leaves - 1) / 2 ^ l + 1
+unfolding layer_of
 length-layer hash zero leaves some = omega arith
 length-layer hash (suc l) leaves some =
-    ap length (layer_next hash l leaves) ∙ length-above hash itself (layer_over hash l leaves)
+    ap length (layer_next hash l leaves) ∙ length-above hash itself (layer_of hash l leaves)
     ∙ (let below = length-layer hash l leaves some in let half = half_of (length leaves - 1) l in omega arith)
 
 -- its slots that have entries below them
 pub slot_inside : (hash : HashFunction) (l j : ℕ) (leaves : List (List ℕ)) → j * 2 ^ l < length leaves →
-    j < length (layer_over hash l leaves)
+    j < length (layer_of hash l leaves)
 slot_inside hash l j leaves inside =
     let le = (le-div_iff_mul-le {x = j} {y = length leaves - 1} (pow_pos l)).1 (omega arith) in
     omega (arith, length-layer hash l leaves (omega arith))
 
 pub inside_slot : (hash : HashFunction) (l j : ℕ) (leaves : List (List ℕ)) → 0 < length leaves →
-    j < length (layer_over hash l leaves) → j * 2 ^ l < length leaves
+    j < length (layer_of hash l leaves) → j * 2 ^ l < length leaves
 inside_slot hash l j leaves some inside =
     let le : j ≤ (length leaves - 1) / 2 ^ l = omega (arith, length-layer hash l leaves some) in
     let up = (le-div_iff_mul-le {x = j} {y = length leaves - 1} (pow_pos l)).0 le in
     omega arith
 
 -- and those that have none
-pub outside_slot : (hash : HashFunction) (l j : ℕ) (leaves : List (List ℕ)) → length (layer_over hash l leaves) ≤ j →
+pub outside_slot : (hash : HashFunction) (l j : ℕ) (leaves : List (List ℕ)) → length (layer_of hash l leaves) ≤ j →
     length leaves ≤ j * 2 ^ l
 outside_slot hash l j leaves past = elim (cases_lt (j * 2 ^ l) (length leaves)) [
   | inl below ↦ absurd (omega (arith, slot_inside hash l j leaves below))
@@ -59,33 +52,14 @@ outside_slot hash l j leaves past = elim (cases_lt (j * 2 ^ l) (length leaves)) 
 ]
 
 -- a node is MTH of the entries below it
-pub layer_is_mth : (hash : HashFunction) (l j : ℕ) (leaves : List (List ℕ)) → j * 2 ^ l < length leaves →
-    get_or (layer_over hash l leaves) j [] ≡ mth hash itself (take (2 ^ l) (drop (j * 2 ^ l) leaves))
-unfolding layer_over mth_within
-layer_is_mth hash zero j leaves inside =
-    let one : j * 1 ≡ j = omega arith in rw (one, one_taken leaves j [] (omega arith)) refl
-layer_is_mth hash (suc l) j leaves inside =
-    let m = 2 ^ l in
-    let x = j * m in
-    let twice : 2 ^ suc l ≡ m + m = pow-succ' 2 l ∙ omega arith in
-    let start : j * 2 ^ suc l ≡ x + x = ap (λ n. j * n) twice ∙ omega arith in
-    let pos = pow_pos l in
-    let rest = drop (x + x) leaves in
-    let up : x < length (above hash itself leaves) = omega (arith, length-above hash itself leaves) in
-    layer_is_mth hash l j (above hash itself leaves) up
-    ∙ rw (start, twice) (sym (mth_above hash itself (take (m + m) rest)
-    (omega (arith, length-drop (x + x) leaves, length-take (m + m) rest))
-    ∙ ap (mth hash itself) (above-take hash itself m (m + m) rest refl
-    ∙ ap (take m) (above-drop hash itself x (x + x) leaves refl))))
-
--- the root is MTH
-pub layer_root : (hash : HashFunction) (l : ℕ) (leaves : List (List ℕ)) → 0 < length leaves →
-    mth hash itself (layer_over hash l leaves) ≡ mth hash itself leaves
-unfolding layer_over
-layer_root hash zero leaves some = refl
-layer_root hash (suc l) leaves some =
-    layer_root hash l (above hash itself leaves) (omega (arith, length-above hash itself leaves))
-    ∙ sym (mth_above hash itself leaves some)
+layer_is_mth : (hash : HashFunction) (l j : ℕ) (leaves : List (List ℕ)) → j * 2 ^ l < length leaves →
+    get_or (layer_of hash l leaves) j [] ≡ mth hash itself (take (2 ^ l) (drop (j * 2 ^ l) leaves))
+layer_is_mth hash l j leaves inside =
+    let t : nat_lt (j * 2 ^ l) (length leaves) ≡ true = grind (arith, nat_tests) in
+    let both : ◌≡◌ {A = Option (List ℕ)} (Some (get_or (layer_of hash l leaves) j []))
+    (Some (mth hash itself (take (2 ^ l) (drop (j * 2 ^ l) leaves)))) =
+    sym (layer_value hash l leaves j (slot_inside hash l j leaves inside)) ∙ rw t in
+    cc
 
 -- ---- the tree's nodes
 
@@ -99,16 +73,16 @@ module _ (hash : HashFunction) (leaves : List (List ℕ)) (some : 0 < length lea
       padding_of (log_functions hash) (log_batch leaves) 2 refl two_is_arity (length leaves) some
       (one_column (length leaves)) l j low past
 
-  pub node_in_layer : (l j : ℕ) → l ≤ levels (log_shape (length leaves)) → j < length (layer_over hash l leaves) →
-      node_of l j ≡ Hash (get_or (layer_over hash l leaves) j []) ∷ []
-  unfolding layer_over
+  pub node_in_layer : (l j : ℕ) → l ≤ levels (log_shape (length leaves)) → j < length (layer_of hash l leaves) →
+      node_of l j ≡ Hash (get_or (layer_of hash l leaves) j []) ∷ []
+  unfolding layer_of
   node_in_layer zero j low inside =
       leaf_of (log_functions hash) (log_batch leaves) 2 refl two_is_arity (length leaves) some
       (one_column (length leaves)) j inside
   node_in_layer (suc l) j low inside =
-      let L = layer_over hash l leaves in
+      let L = layer_of hash l leaves in
       let len : length (above hash itself L) ≡ (length L + 1) / 2 = length-above hash itself L in
-      let up : layer_over hash (suc l) leaves ≡ above hash itself L = layer_next hash l leaves in
+      let up : layer_of hash (suc l) leaves ≡ above hash itself L = layer_next hash l leaves in
       let within : j < length (above hash itself L) = rw up at inside in
       let z : 2 * j ≡ j + j = omega arith in
       let group : node_of (suc l) j ≡ parent_digest hash (node_of l (j + j) ∷ node_of l (j + j + 1) ∷ []) =
@@ -119,11 +93,11 @@ module _ (hash : HashFunction) (leaves : List (List ℕ)) (some : 0 < length lea
         | inl both ↦
             let right = node_in_layer l (j + j + 1) (omega arith) both in
             let next : j + j + 1 ≡ suc (j + j) = omega arith in
-            rw (right, above-both hash itself j (j + j) L [] [] refl both, next) refl
+            rw (right, (pair_at hash itself j (j + j) L [] [] refl both).0, next) refl
         | inr alone ↦
             let right = padding_is_absent l (j + j + 1) (omega arith)
             (outside_slot hash l (j + j + 1) leaves alone) in
-            rw (right, above-only hash itself j (j + j) L [] [] refl (omega arith)) refl
+            rw (right, (only_at hash itself j (j + j) L [] [] refl (omega arith)).0) refl
       ])
 
   -- a slot with entries below it has MTH of these

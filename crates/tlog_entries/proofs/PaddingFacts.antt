@@ -7,7 +7,7 @@ use Rattle.std.proofs.lemmas.List.{drop-drop, take_more, Elements.filter-append}
 use Rattle.std.proofs.{lemmas.Nat.pow_pos, Math.Nat.le-div_iff_mul-le}
 use Rattle.tlog_entries.specs.Entries.{digests_refusal, is_node, with_padding}
 use Rattle.tlog_entries.specs.{Instance.AreFilled, declared.error.EntriesError.TheVariants.TooFewDigests}
-use Rattle.tlog_entries.specs.declared.node.Node.{Node, TheVariants.Absent, TheVariants.Hash}
+use Rattle.tlog_entries.specs.declared.tree.Node.{Node, TheVariants.Absent, TheVariants.Hash}
 use Rattle.tlog_entries.proofs.Shapes.{one_taken}
 
 -- ---- nodes

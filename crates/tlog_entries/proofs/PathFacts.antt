@@ -6,7 +6,7 @@ use Rattle.p3_merkle_core.specs.{Pruning.restored_path, Views.shown_path, Views.
 use Rattle.p3_merkle_core.specs.declared.pruning.AuthPath.{AuthPath}
 use Rattle.tlog.specs.{Rfc9162.Hash as HashFunction, Rfc9162.root_of, Verdicts.size_limit, Fixed.RootFixesLeaf}
 use Rattle.tlog_entries.specs.{Entries.AreIncluded, Entries.entries_opening, Fixed.RootFixesLeaves}
-use Rattle.tlog_entries.specs.{Inner.Paths.siblings_of, Instance.log_params, Instance.present, declared.node.Node.Node}
+use Rattle.tlog_entries.specs.{Inner.Paths.siblings_of, Instance.log_params, Instance.present, declared.tree.Node.Node}
 
 -- the siblings of restored paths
 pub siblings_are : {X : Type 0} (paths : List (AuthPath X)) (path : ℕ → List X) (indices : List ℕ) →

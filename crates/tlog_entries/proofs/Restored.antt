@@ -17,7 +17,7 @@ use Rattle.p3_merkle_core.proofs.Shapes.OneHeight.{full_group, no_rows_above}
 use Rattle.tlog.specs.{Rfc9162.Hash as HashFunction, Rfc9162.node_hash, Verdicts.IsIncluded, Verdicts.size_limit}
 use Rattle.tlog_entries.specs.{Nodes.last_word, Nodes.parent_digest, Instance.sibling_slot, Instance.AreFilled}
 use Rattle.tlog_entries.specs.Instance.{IsFilled, leaf_row, log_functions, log_params, log_shape, present, root_cap}
-use Rattle.tlog_entries.specs.declared.node.Node.{Node, TheVariants.Absent, TheVariants.Hash}
+use Rattle.tlog_entries.specs.declared.tree.Node.{Node, TheVariants.Absent, TheVariants.Hash}
 use Rattle.tlog_entries.proofs.Shapes.{ancestor_of_two, one_column, one_level_sibling, one_sibling, step_of_two}
 use Rattle.tlog_entries.proofs.Shapes.{covered_inside, double_slot, two_is_arity}
 use Rattle.tlog_entries.proofs.{ShapeFacts.log_query, Included.accepted_if_included}

@@ -18,7 +18,7 @@ use Rattle.p3_merkle_core.proofs.Checks.Completeness.{reached_leaf, reached_next
 use Rattle.tlog.specs.{Rfc9162.Hash as HashFunction, Verdicts.size_limit}
 use Rattle.tlog_entries.specs.Nodes.{last_word, parent_digest}
 use Rattle.tlog_entries.specs.Instance.{leaf_row, log_functions, log_shape, sibling_slot}
-use Rattle.tlog_entries.specs.declared.node.Node.{Node, TheVariants.Hash}
+use Rattle.tlog_entries.specs.declared.tree.Node.{Node, TheVariants.Hash}
 
 pub two_is_arity : IsArity 2
 unfolding exponent

@@ -8,7 +8,7 @@ use Rattle.p3_merkle_core.specs.{Pruning.restored_path, Refusals.first_of, Refus
 use Rattle.tlog.specs.Rfc9162.{Hash as HashFunction}
 use Rattle.tlog.specs.Verdicts.{IsIncluded, inclusion_refusal, is_same, size_limit}
 use Rattle.tlog_entries.specs.Instance.{leaf_row, log_params, log_shape, present}
-use Rattle.tlog_entries.specs.declared.node.Node.{Node, TheVariants.Absent, TheVariants.Hash}
+use Rattle.tlog_entries.specs.declared.tree.Node.{Node, TheVariants.Absent, TheVariants.Hash}
 use Rattle.tlog_entries.specs.declared.error.EntriesError.{EntriesError}
 use Rattle.tlog_entries.specs.declared.error.EntriesError.TheVariants.{SizeTooLarge, NoIndices, LeafCountMismatch}
 use Rattle.tlog_entries.specs.declared.error.EntriesError.TheVariants.{IndexPastEnd, TooFewDigests, TooManyDigests}

@@ -6,7 +6,7 @@ use Rattle.p3_merkle_core.specs.Geometry.{Shape, levels, shape_of}
 use Rattle.p3_merkle_core.specs.{Nodes.Batch, Nodes.Functions, Nodes.functions_of, Checks.Params, Checks.params}
 use Rattle.tlog.specs.Rfc9162.{Hash as HashFunction}
 use Rattle.tlog_entries.specs.Nodes.{last_word, parent_digest}
-use Rattle.tlog_entries.specs.declared.node.Node.{Node, TheVariants.Absent, TheVariants.Hash}
+use Rattle.tlog_entries.specs.declared.tree.Node.{Node, TheVariants.Absent, TheVariants.Hash}
 
 -- a row of one word is its own digest, a node has the hash of its children, and padding is absent
 abbrev pub log_functions : HashFunction → Functions Node Node

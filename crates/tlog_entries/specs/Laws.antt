@@ -9,7 +9,7 @@ use Rattle.tlog.specs.Rfc9162.{Hash as HashFunction, leaf_hash, path_of, root_of
 use Rattle.tlog.specs.Verdicts.{IsIncluded, size_limit}
 use Rattle.tlog_entries.specs.{Entries.proof_nodes, Instance.AreFilled, Instance.IsPathFilled}
 use Rattle.tlog_entries.specs.Instance.{leaf_row, log_batch, log_functions, log_params, log_shape, present, root_cap}
-use Rattle.tlog_entries.specs.declared.node.Node.{Node, TheVariants.Absent, TheVariants.Hash}
+use Rattle.tlog_entries.specs.declared.tree.Node.{Node, TheVariants.Absent, TheVariants.Hash}
 
 -- the leaf hashes of entries, as a matrix of one column
 abbrev pub entries_batch : HashFunction → List (List ℕ) → Batch Node

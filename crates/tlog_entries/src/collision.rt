@@ -4,9 +4,8 @@ ghost use Rattle.tlog.specs.{Collisions.IsCollision, Collisions.entries_of, Fixe
 ghost use Rattle.tlog_entries.specs.{Fixed.RootFixesLeaves, Inner.Paths.siblings_of, Instance.present as present_in};
 
 use crate::error::EntriesError;
-use crate::node::Node;
 use crate::opening::opening_of;
-use crate::tree::{dimensions_of, log_scheme};
+use crate::tree::{Node, dimensions_of, log_scheme};
 use crate::verify::verify;
 use p3_merkle_core::pruning::MerkleAuthPath;
 use std::alloc::{AllocError, Global};
@@ -15,9 +14,6 @@ use tlog::{LogHash, leaf_collision};
 
 /// A collision, if one proof of several leaf hashes is accepted under the root of the entries, and one of them is not
 /// that of the entry at its index, counted from 0; else `None`. The hash function may be any whose values have 32 bytes.
-///
-/// # Errors
-///
 /// `AllocError` if memory runs out.
 pub fn entries_collision<H: LogHash<32>>(
     alloc: Global,

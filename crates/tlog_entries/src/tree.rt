@@ -1,18 +1,60 @@
-//! The hash and the compression of a log's tree (RFC 9162, 2.1.1).
-ghost use Rattle.std.specs.Prelude.{◌≡◌, ℕ, ◌<◌, ◌∷◌, [], map};
+//! The nodes of a log's tree, and its hash and compression (RFC 9162, 2.1.1).
+ghost use Rattle.std.specs.Prelude.{◌≡◌, ℕ, ◌<◌, ◌∷◌, [], map, refl};
+ghost use Rattle.std.proofs.Common.{rules};
 ghost use Rattle.p3_merkle_mmcs.specs.Schemes.{params_of};
 ghost use Rattle.p3_support.specs.Lists.{lane_of};
 ghost use Rattle.tlog_entries.specs.{Instance.log_dimensions, Instance.log_params, Instance.log_shape, Nodes.last_word};
-ghost use Rattle.tlog_entries.specs.{Nodes.parent_digest, Nodes.parent, declared.node.Node.TheVariants.Absent};
+ghost use Rattle.tlog_entries.specs.{Nodes.parent_digest, Nodes.parent, declared.tree.Node.TheVariants.Absent};
 
-use crate::node::Node;
 use p3_merkle_mmcs::mmcs::MerkleTreeMmcs;
 use p3_support::compress::PseudoCompressionFunction;
 use p3_support::hasher::CryptographicHasher;
 use p3_support::matrix::Dimensions;
+use p3_support::packed::PackedValue;
 use std::convert::AsSlice;
 use std::marker::PhantomData;
 use tlog::LogHash;
+
+/// What a slot of a layer has: the hash of a node, or nothing where it is padding.
+#[derive(Clone, Copy, Debug, Default, PartialEq, Eq)]
+pub enum Node {
+    /// There is no node.
+    #[default]
+    Absent,
+    /// The SHA-256 value of a node.
+    Hash([u8; 32]),
+}
+
+/// A node is packed alone, in one lane.
+impl PackedValue for Node {
+    type Value = Node;
+
+    const WIDTH: usize = 1;
+
+    ghost WIDTH = { 1 };
+
+    ghost lanes = { λ p. p ∷ [] };
+
+    ghost default_value = { Absent };
+
+    fn broadcast(value: Node) -> Node {
+        value
+    }
+
+    fn lane(&self, k: usize) -> Node {
+        *self
+    }
+
+    fn with_lane(self, k: usize, value: Node) -> Node {
+        value
+    }
+
+    ghost length_lanes = { λ p. refl };
+
+    ghost eq_is_equality = { Prim.search rules };
+
+    ghost default_is_unique = { λ a h. h };
+}
 
 /// The parent of two nodes: the hash of a byte 1 and both hashes (RFC 9162, 2.1.1), or the only child.
 fn parent_of<H: LogHash<32>>(left: Node, right: Node) -> Node

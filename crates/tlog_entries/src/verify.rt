@@ -7,9 +7,8 @@ ghost use Rattle.tlog_entries.specs.Entries.{AreIncluded, entries_refusal};
 ghost use Rattle.tlog_entries.specs.{Inner.Meanings.IsMeaning, declared.error.EntriesError.TheVariants.OutOfMemory};
 
 use crate::error::EntriesError;
-use crate::node::Node;
 use crate::opening::opening_of;
-use crate::tree::{dimensions_of, log_scheme};
+use crate::tree::{Node, dimensions_of, log_scheme};
 use p3_merkle_core::error::MerkleTreeError;
 use p3_support::opening::MerkleCap;
 use sha2::Sha256;

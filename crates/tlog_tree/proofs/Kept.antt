@@ -11,7 +11,7 @@ use Rattle.tlog.specs.Rfc9162.{Hash, mth_within}
 use Rattle.tlog_tree.specs.{Builders.indexed_of, Inner.Layers.parents_of, Inner.Layers.root_of_rest, Wanted.HasValue}
 use Rattle.tlog_tree.specs.Inner.Wanted.{is_new, kept_in, updated, with_value}
 use Rattle.tlog_tree.specs.{Trees.leaves_root, Trees.node_at, Trees.value_at, declared.wanted.WantedNode.WantedNode}
-use Rattle.tlog_tree.proofs.Whole.{length-parents, parents-drop, parents-take, root_of_parents}
+use Rattle.tlog_tree.proofs.Whole.{length-parents, parents_parts, root_of_parents}
 
 root_of_one : (hash : Hash) (node : List ℕ) (rest : List (List ℕ)) → leaves_root hash (take 1 (node ∷ rest)) ≡ node
 unfolding mth_within
@@ -38,8 +38,8 @@ node_above hash L e slot h =
     let start : slot * 2 ^ suc e ≡ slot * m + slot * m = ap (λ (n : ℕ). slot * n) twice ∙ omega arith in
     let rest = drop (slot * m + slot * m) L in
     let len : length rest ≡ length L - (slot * m + slot * m) = length-drop (slot * m + slot * m) L in
-    let back = parents-drop hash (slot * m) (slot * m + slot * m) L refl (omega arith) in
-    let front = parents-take hash m (m + m) rest refl (omega arith) in
+    let back = (parents_parts hash (slot * m) (slot * m + slot * m) L refl (omega arith)).1 in
+    let front = (parents_parts hash m (m + m) rest refl (omega arith)).0 in
     let taken : length (take (m + m) rest) ≡ m + m = length-take-le (m + m) rest (omega arith) in
     rw (twice) (ap (λ (n : ℕ). leaves_root hash (take (m + m) (drop n L))) (ap (λ (n : ℕ). slot * n) (sym twice)
     ∙ start)
@@ -182,9 +182,8 @@ step_all : (hash : Hash) (layer size : ℕ) (L X : List (List ℕ)) → length L
     ≡ map (updated hash layer size (L ++ X)) ws
 step_all hash layer size L X long [] = refl
 step_all hash layer size L X long (w ∷ ws) =
-    ap (λ (v : WantedNode). v ∷ map (updated hash (layer + 1) (size / 2) (parents_of hash (L ++ X)))
-    (map (kept_in layer size X) ws)) (sym (updated_step hash layer size L X w long))
-    ∙ ap (λ (vs : List WantedNode). updated hash layer size (L ++ X) w ∷ vs) (step_all hash layer size L X long ws)
+    let one = sym (updated_step hash layer size L X w long) in
+    let more = step_all hash layer size L X long ws in (λ i. one i ∷ more i)
 
 pub wanted_step : (hash : Hash) (layer size : ℕ) (L X up : List (List ℕ)) (before kept after : List WantedNode) →
     length L ≡ size → up ≡ parents_of hash (L ++ X) → kept ≡ map (kept_in layer size X) before →
@@ -196,8 +195,8 @@ pub wanted_none : (hash : Hash) (layer size : ℕ) (L : List (List ℕ)) (ws : L
     ws ≡ map (updated hash layer size L) ws
 wanted_none hash layer size L [] h = refl
 wanted_none hash layer size L (w ∷ ws) h =
-    ap (λ (v : WantedNode). v ∷ ws) (sym (updated_none hash layer size L w h))
-    ∙ ap (λ (vs : List WantedNode). updated hash layer size L w ∷ vs) (wanted_none hash layer size L ws h)
+    let one = sym (updated_none hash layer size L w h) in
+    let more = wanted_none hash layer size L ws h in (λ i. one i ∷ more i)
 
 -- ---- from piece to piece
 
@@ -253,9 +252,8 @@ twice_all : (hash : Hash) (size : ℕ) (A N : List (List ℕ)) → size ≤ leng
     map (updated hash 0 (length A) (A ++ N)) (map (updated hash 0 size A) ws) ≡ map (updated hash 0 size (A ++ N)) ws
 twice_all hash size A N h [] = refl
 twice_all hash size A N h (w ∷ ws) =
-    ap (λ (v : WantedNode). v ∷ map (updated hash 0 (length A) (A ++ N)) (map (updated hash 0 size A) ws))
-    (updated_twice hash size A N w h)
-    ∙ ap (λ (vs : List WantedNode). updated hash 0 size (A ++ N) w ∷ vs) (twice_all hash size A N h ws)
+    let one = updated_twice hash size A N w h in
+    let more = twice_all hash size A N h ws in (λ i. one i ∷ more i)
 
 pub wanted_more : (hash : Hash) (size count : ℕ) (A N all : List (List ℕ)) (before kept after : List WantedNode) →
     size ≤ length A → count ≡ length A → all ≡ A ++ N → kept ≡ map (updated hash 0 size A) before →

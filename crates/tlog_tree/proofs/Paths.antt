@@ -6,8 +6,7 @@ use Rattle.std.proofs.lemmas.{Bool.cases_eq, Bool.Decides.leb_tells, Bool.Decide
 use Rattle.std.specs.Prelude.{true, false, nat_lt, Some, ◌⊎◌}
 use Rattle.tlog.specs.Rfc9162.{Hash, node_hash, path, path_within, subproof}
 use Rattle.tlog.proofs.{Honest.sub-even, Honest.sub-odd, Honest.sub-one, Climbs.path_above}
-use Rattle.tlog.proofs.Layers.{above, above-drop, above-take, itself, length-above, mth_above, sibling, sibling-left}
-use Rattle.tlog.proofs.Layers.{sibling-none, sibling-right}
+use Rattle.tlog.proofs.Layers.{above, above_parts, itself, length-above, mth_above, only_at, pair_at, sibling}
 use Rattle.tlog_tree.specs.Inner.Layers.{above_of, layer_of}
 use Rattle.tlog_tree.specs.Trees.{all_there, leaves_root, value_at, values_at}
 use Rattle.tlog_tree.proofs.Kept.{node_here}
@@ -18,12 +17,15 @@ above_is hash (node ∷ []) = refl
 above_is hash (left ∷ (right ∷ rest)) =
     ap (λ (nodes : List (List ℕ)). node_hash hash left right ∷ nodes) (above_is hash rest)
 
+pub layer_next : (hash : Hash) (layer : ℕ) (L : List (List ℕ)) →
+    layer_of hash (suc layer) L ≡ above hash itself (layer_of hash layer L)
+unfolding layer_of
+layer_next hash zero L = above_is hash L
+layer_next hash (suc layer) L = layer_next hash layer (above_of hash L)
+
 pub layer_more : (hash : Hash) (layer : ℕ) (L : List (List ℕ)) →
     layer_of hash (layer + 1) L ≡ above hash itself (layer_of hash layer L)
-unfolding layer_of
-layer_more hash zero L = above_is hash L
-layer_more hash (suc layer) L =
-    let e : suc layer + 1 ≡ suc (layer + 1) = omega arith in rw e (layer_more hash layer (above_of hash L))
+layer_more hash layer L = let e : layer + 1 ≡ suc layer = omega arith in rw e (layer_next hash layer L)
 
 pub layer_none : (hash : Hash) (L : List (List ℕ)) → layer_of hash 0 L ≡ L
 unfolding layer_of
@@ -46,8 +48,8 @@ value_above hash L layer slot =
           let taken = length-take (m + m) rest in
           rw (above_is, start, twice, t, u) (ap (λ (v : List ℕ). Some v) (mth_above hash itself (take (m + m) rest)
           (omega arith)
-          ∙ ap (leaves_root hash) (above-take hash itself m (m + m) rest refl
-          ∙ ap (take m) (above-drop hash itself x (x + x) L refl))))
+          ∙ ap (leaves_root hash) ((above_parts hash itself m (m + m) rest refl).0
+          ∙ ap (take m) (above_parts hash itself x (x + x) L refl).1)))
       | inr (f, h) ↦
           let g : nat_lt x (length (above hash itself L)) ≡ false = grind (arith, nat_tests) in
           rw (above_is, start, f, g)
@@ -85,19 +87,19 @@ odd_sibling node s e n =
       | inr other ↦ inr (node / 2, omega arith, omega arith)
     ]
 
-sibling_there : (M : List (List ℕ)) (node last s : ℕ) → length M ≡ last + 1 → node ≤ last → IsSibling node s →
+sibling_there : (hash : Hash) (M : List (List ℕ)) (node last s : ℕ) → length M ≡ last + 1 → node ≤ last → IsSibling node s →
     s ≤ last → sibling itself node M ≡ get_or M s [] ∷ []
-sibling_there M node last s long within is there = elim is [
+sibling_there hash M node last s long within is there = elim is [
   | inl (i, e, n) ↦
-      sibling-left itself i node M [] e (omega arith) ∙ ap (λ (j : ℕ). get_or M j [] ∷ []) (sym n)
+      (pair_at hash itself i node M [] [] e (omega arith)).1 ∙ ap (λ (j : ℕ). get_or M j [] ∷ []) (sym n)
   | inr (i, e, n) ↦
-      ap (λ (j : ℕ). sibling itself j M) e ∙ sibling-right itself i s M [] n (omega arith)
+      ap (λ (j : ℕ). sibling itself j M) e ∙ (pair_at hash itself i s M [] [] n (omega arith)).2
 ]
 
-sibling_gone : (M : List (List ℕ)) (node last s : ℕ) → length M ≡ last + 1 → node ≤ last → IsSibling node s →
+sibling_gone : (hash : Hash) (M : List (List ℕ)) (node last s : ℕ) → length M ≡ last + 1 → node ≤ last → IsSibling node s →
     last < s → sibling itself node M ≡ []
-sibling_gone M node last s long within is past = elim is [
-  | inl (i, e, n) ↦ sibling-none itself i node M e (omega arith)
+sibling_gone hash M node last s long within is past = elim is [
+  | inl (i, e, n) ↦ (only_at hash itself i node M [] [] e (omega arith)).1
   | inr (i, e, n) ↦ absurd (omega arith)
 ]
 
@@ -117,7 +119,7 @@ path_taken hash leaves layer node last s places more are long within is there =
     let tail = path hash itself (node / 2) (above hash itself M) in
     let whole : path hash itself node M ≡ get_or M s [] ∷ tail =
     path_above hash itself node M (omega arith)
-    ∙ ap (λ (ds : List (List ℕ)). ds ++ tail) (sibling_there M node last s long within is there) in
+    ∙ ap (λ (ds : List (List ℕ)). ds ++ tail) (sibling_there hash M node last s long within is there) in
     let value = layer_value hash layer leaves s (omega arith) in
     let up = layer_more hash layer leaves in
     rw (are, up, values_push hash leaves places layer s, value, whole)
@@ -132,7 +134,7 @@ path_passed hash leaves layer node last s places long within is past =
     let tail = path hash itself (node / 2) (above hash itself M) in
     let whole : path hash itself node M ≡ tail =
     path_above hash itself node M (omega arith)
-    ∙ ap (λ (ds : List (List ℕ)). ds ++ tail) (sibling_gone M node last s long within is past) in
+    ∙ ap (λ (ds : List (List ℕ)). ds ++ tail) (sibling_gone hash M node last s long within is past) in
     let up = layer_more hash layer leaves in
     rw (up, whole)
 

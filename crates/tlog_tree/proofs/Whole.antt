@@ -145,37 +145,19 @@ single-append [] M = refl
 single-append (node ∷ []) M = refl
 single-append (left ∷ (right ∷ rest)) M = single-append rest M
 
-pub parents-take : (hash : Hash) (j k : ℕ) (L : List (List ℕ)) → k ≡ j + j → k ≤ length L →
-    parents_of hash (take k L) ≡ take j (parents_of hash L)
-parents-take hash zero zero L e h = refl
-parents-take hash zero (suc k) L e h = absurd (omega arith)
-parents-take hash (suc j) zero L e h = absurd (omega arith)
-parents-take hash (suc j) (suc zero) L e h = absurd (omega arith)
-parents-take hash (suc j) (suc (suc k)) [] e h = absurd (omega arith)
-parents-take hash (suc j) (suc (suc k)) (node ∷ []) e h = absurd (omega arith)
-parents-take hash (suc j) (suc (suc k)) (left ∷ (right ∷ rest)) e h =
-    ap (λ (nodes : List (List ℕ)). node_hash hash left right ∷ nodes)
-    (parents-take hash j k rest (omega arith) (omega arith))
-
-pub parents-drop : (hash : Hash) (j k : ℕ) (L : List (List ℕ)) → k ≡ j + j → k ≤ length L →
-    parents_of hash (drop k L) ≡ drop j (parents_of hash L)
-parents-drop hash zero zero L e h = refl
-parents-drop hash zero (suc k) L e h = absurd (omega arith)
-parents-drop hash (suc j) zero L e h = absurd (omega arith)
-parents-drop hash (suc j) (suc zero) L e h = absurd (omega arith)
-parents-drop hash (suc j) (suc (suc k)) [] e h = absurd (omega arith)
-parents-drop hash (suc j) (suc (suc k)) (node ∷ []) e h = absurd (omega arith)
-parents-drop hash (suc j) (suc (suc k)) (left ∷ (right ∷ rest)) e h =
-    parents-drop hash j k rest (omega arith) (omega arith)
-
-pub single-drop : (j k : ℕ) (L : List (List ℕ)) → k ≡ j + j → k ≤ length L → single (drop k L) ≡ single L
-single-drop zero zero L e h = refl
-single-drop zero (suc k) L e h = absurd (omega arith)
-single-drop (suc j) zero L e h = absurd (omega arith)
-single-drop (suc j) (suc zero) L e h = absurd (omega arith)
-single-drop (suc j) (suc (suc k)) [] e h = absurd (omega arith)
-single-drop (suc j) (suc (suc k)) (node ∷ []) e h = absurd (omega arith)
-single-drop (suc j) (suc (suc k)) (left ∷ (right ∷ rest)) e h = single-drop j k rest (omega arith) (omega arith)
+-- the first k nodes, an even number, and the others
+pub parents_parts : (hash : Hash) (j k : ℕ) (L : List (List ℕ)) → k ≡ j + j → k ≤ length L →
+    (parents_of hash (take k L) ≡ take j (parents_of hash L))
+    × (parents_of hash (drop k L) ≡ drop j (parents_of hash L)) × (single (drop k L) ≡ single L)
+parents_parts hash zero zero L e h = (refl, refl, refl)
+parents_parts hash zero (suc k) L e h = absurd (omega arith)
+parents_parts hash (suc j) zero L e h = absurd (omega arith)
+parents_parts hash (suc j) (suc zero) L e h = absurd (omega arith)
+parents_parts hash (suc j) (suc (suc k)) [] e h = absurd (omega arith)
+parents_parts hash (suc j) (suc (suc k)) (node ∷ []) e h = absurd (omega arith)
+parents_parts hash (suc j) (suc (suc k)) (left ∷ (right ∷ rest)) e h =
+    let up = parents_parts hash j k rest (omega arith) (omega arith) in
+    (ap (λ (nodes : List (List ℕ)). node_hash hash left right ∷ nodes) up.0, up.1, up.2)
 
 parents_are_above : (hash : Hash) (j : ℕ) (L : List (List ℕ)) → length L ≡ j + j →
     parents_of hash L ≡ above hash itself L
@@ -222,10 +204,8 @@ by_layers (suc depth) hash (left ∷ (right ∷ rest)) h =
     let first_len : length (take k L) ≡ k = length-take-le k L within in
     let root = root_of_parents hash j (take k L) (first_len ∙ twice) (omega arith) in
     let behind = by_layers depth hash (drop k L) (omega arith) in
-    let front = parents-take hash j k L twice within in
-    let back = parents-drop hash j k L twice within in
-    let last = single-drop j k L twice within in
-    whole_step hash L (omega arith) ∙ rw (root, front, behind, back, last)
+    let parts = parents_parts hash j k L twice within in
+    whole_step hash L (omega arith) ∙ rw (root, parts.0, behind, parts.1, parts.2)
     (ap (λ (nodes : List (List ℕ)). nodes ++ single L) (sym (whole_step hash up (omega arith))))
 
 -- the whole nodes are those of the layer above, and the last node if it has no sibling
@@ -345,7 +325,7 @@ behind_layer (suc l) hash L =
     ∙ drop-append-le (count_ones (length P / m)) (whole_nodes hash P) (single L) (omega arith)
     ∙ ap (λ (nodes : List (List ℕ)). nodes ++ single L) (behind_layer l hash P)
     ∙ sym (whole_by_layers hash (drop k L)
-    ∙ rw (parents-drop hash j k L twice within, single-drop j k L twice within))
+    ∙ rw ((parents_parts hash j k L twice within).1, (parents_parts hash j k L twice within).2))
 
 -- the root of what they are the whole nodes of
 pub root_by_rest : (hash : Hash) (M behind : List (List ℕ)) → behind ≡ whole_nodes hash M → 0 < length behind →

@@ -27,9 +27,6 @@ impl TreeBuilder {
     ghost use Rattle.tlog_tree.specs.Wanted.{HasValue};
 
     /// The tree of no entries, where the nodes of these layers and slots are wanted.
-    ///
-    /// # Errors
-    ///
     /// `AllocError` if memory runs out.
     pub fn new(alloc: Global, places: &[(usize, usize)]) -> Result<TreeBuilder, AllocError>
         ensures { IfOk result (IsBuilderOf [] places.now) }
@@ -76,9 +73,6 @@ impl TreeBuilder {
     /// The values of the wanted nodes in the tree so far, in the order in which they were wanted: `None` if a node has
     /// no leaves. A node that the end of the log cuts off has the value that is passed on, the root of the leaves that
     /// it has.
-    ///
-    /// # Errors
-    ///
     /// `AllocError` if memory runs out.
     pub fn values(&self, alloc: Global) -> Result<Vec<Option<[u8; 32]>>, AllocError>
         ensures { IfOk result (λ values. (leaves : List (List ℕ)) (places : List (ℕ × ℕ)) →

@@ -1,15 +1,16 @@
 //! The tree of a log that only grows, by its whole nodes.
-ghost use Rattle.std.specs.Prelude.{◌≡◌, ℕ, ◌<◌, ◌≤◌, ◌+◌, ◌*◌, ◌/◌, ◌^◌, ◌==◌, nat_lt, if◌then◌else◌, List, [], ◌++◌};
-ghost use Rattle.std.specs.Prelude.{IfOk, IfErr, OnOk, OnErr, length, map, drop, count_ones};
+ghost use Rattle.std.specs.Prelude.{◌≡◌, ℕ, ◌<◌, ◌≤◌, ◌+◌, ◌*◌, ◌/◌, ◌^◌, ◌==◌, nat_lt, if◌then◌else◌, List, [], ◌∷◌};
+ghost use Rattle.std.specs.Prelude.{◌++◌, IfOk, IfErr, OnOk, OnErr, length, map, drop, count_ones, slice_index_or};
 ghost use Rattle.std.specs.List.Sorted.{IsNonDecreasingBy};
 ghost use Rattle.sha2.specs.Sha256.{sha256};
 ghost use Rattle.tlog.specs.Verdicts.{size_limit};
-ghost use Rattle.tlog_tree.specs.Inner.Layers.{joined, root_of_rest};
+ghost use Rattle.tlog_tree.specs.Inner.Layers.{joined, parents_of, root_of_rest};
 ghost use Rattle.tlog_tree.specs.{Wanted.end_of, Inner.Wanted.updated, Trees.leaves_root, Trees.whole_nodes};
 
 use crate::error::TreeError;
-use crate::layer::parents;
 use crate::wanted::{WantedNode, keep};
+use p3_hashes::sha_eights::Sha256RowsInEights;
+use p3_support::hasher::CryptographicHasher;
 use std::alloc::{AllocError, Global};
 use tlog::{EMPTY_ROOT, node_hash};
 
@@ -164,7 +165,7 @@ impl Frontier {
 
 /// The whole nodes of a layer, which were `nodes` of `size` nodes, once more nodes are put behind these. Wanted nodes
 /// of this layer and of those above get their values.
-pub(crate) fn grown(
+fn grown(
     alloc: Global,
     layer_number: usize,
     size: usize,
@@ -203,4 +204,28 @@ pub(crate) fn root_of_nodes(nodes: &[[u8; 32]]) -> [u8; 32]
         [node] => *node,
         [node, rest @ ..] => node_hash(node, &root_of_nodes(rest)),
     }
+}
+
+/// The input of the hash of a node: a byte 1 and both children (RFC 9162, 2.1.1).
+fn node_input(left: &[u8; 32], right: &[u8; 32]) -> [u8; 65]
+    ensures { result ≡ 1 ∷ (left.now ++ right.now) }
+{
+    let mut input = [1; 65];
+    input[1..33].copy_from_slice(left);
+    input[33..].copy_from_slice(right);
+    input
+}
+
+/// The parents of the nodes of a layer, but for a last one without a sibling.
+fn parents(alloc: Global, layer: &[[u8; 32]]) -> Result<Vec<[u8; 32]>, AllocError>
+    ensures { IfOk result (λ parents. parents.items ≡ parents_of sha256 layer.now) }
+{
+    let count = layer.len() / 2;
+    let mut inputs = Vec::with_capacity(alloc, count)?;
+    for i in 0..count {
+        inputs.push(node_input(&layer[2 * i], &layer[2 * i + 1]))?;
+    }
+    let mut parents = vec![in alloc; [0; 32]; count]?;
+    Sha256RowsInEights.hash_many(inputs.as_flattened(), &mut parents);
+    Ok(parents)
 }

@@ -5,7 +5,6 @@ mod builder;
 mod error;
 mod frontier;
 pub mod laws;
-mod layer;
 mod leaf;
 mod places;
 mod wanted;

@@ -8,9 +8,6 @@ use std::alloc::{AllocError, Global};
 /// The nodes whose values are the proof of inclusion of entry `index`, counted from 0, in a log of `size` entries, in
 /// the order of the proof (RFC 9162, 2.1.3.1): their layers and slots, as a [`TreeBuilder`](crate::TreeBuilder) takes
 /// them.
-///
-/// # Errors
-///
 /// `AllocError` if memory runs out.
 pub fn inclusion_places(
     alloc: Global,
@@ -29,9 +26,6 @@ pub fn inclusion_places(
 /// The nodes whose values are the proof of consistency from `old_size` to `new_size` entries, in the order of the
 /// proof (RFC 9162, 2.1.4.1): their layers and slots in the new tree, as a [`TreeBuilder`](crate::TreeBuilder) takes
 /// them.
-///
-/// # Errors
-///
 /// `AllocError` if memory runs out.
 pub fn consistency_places(
     alloc: Global,

@@ -10,8 +10,7 @@ returns-in_err-old-clause-refused g c = search rules
 
 pub returns-in_err-old-clause-accepted : goal.returns-in_err-old-clause-accepted
 returns-in_err-old-clause-accepted g c =
-    consistency_accepted g.H.LogHash.hash c.args.old_size c.args.new_size c.args.proof.now c.args.old_root.now
-    c.args.new_root.now c.from_residual.result (returns-in_err-old-clause-refused g c)
+    consistency_accepted _ _ _ _ _ _ c.from_residual.result (returns-in_err-old-clause-refused g c)
 
 pub returns-then-ne-clause-refused : goal.returns-then-ne-clause-refused
 unfolding consistency_refusal
@@ -19,8 +18,7 @@ returns-then-ne-clause-refused g c = search rules
 
 pub returns-then-ne-clause-accepted : goal.returns-then-ne-clause-accepted
 returns-then-ne-clause-accepted g c =
-    consistency_accepted g.H.LogHash.hash c.args.old_size c.args.new_size c.args.proof.now c.args.old_root.now
-    c.args.new_root.now (Err OldRootMismatch) (returns-then-ne-clause-refused g c)
+    consistency_accepted _ _ _ _ _ _ (Err OldRootMismatch) (returns-then-ne-clause-refused g c)
 
 pub returns-then-ne-2-clause-refused : goal.returns-then-ne-2-clause-refused
 unfolding consistency_refusal
@@ -28,8 +26,7 @@ returns-then-ne-2-clause-refused g c = search rules
 
 pub returns-then-ne-2-clause-accepted : goal.returns-then-ne-2-clause-accepted
 returns-then-ne-2-clause-accepted g c =
-    consistency_accepted g.H.LogHash.hash c.args.old_size c.args.new_size c.args.proof.now c.args.old_root.now
-    c.args.new_root.now (Err RootMismatch) (returns-then-ne-2-clause-refused g c)
+    consistency_accepted _ _ _ _ _ _ (Err RootMismatch) (returns-then-ne-2-clause-refused g c)
 
 pub returns-clause-refused : goal.returns-clause-refused
 unfolding consistency_refusal
@@ -37,5 +34,4 @@ returns-clause-refused g c = search rules
 
 pub returns-clause-accepted : goal.returns-clause-accepted
 returns-clause-accepted g c =
-    consistency_accepted g.H.LogHash.hash c.args.old_size c.args.new_size c.args.proof.now c.args.old_root.now
-    c.args.new_root.now (Ok tt) (returns-clause-refused g c)
+    consistency_accepted _ _ _ _ _ _ (Ok tt) (returns-clause-refused g c)

@@ -8,7 +8,7 @@ returns-then-size-new_size-clause-lifted g t c =
     rw c.in_ok-from_slice.ensures.items (lift_same c.if-size-new_size.true c.requires.last)
 
 pub returns-in_default-clause-lifted : goal.returns-in_default-clause-lifted
-returns-in_default-clause-lifted g t c = 
+returns-in_default-clause-lifted g t c =
     lift_no_growth c.requires.last (omega arith) c.in_default.ensures.cases
 
 pub returns-then-size-middle-clause-lifted : goal.returns-then-size-middle-clause-lifted

@@ -19,23 +19,20 @@ returns-then-last-eq0-clause-refused g c =
 
 pub returns-then-last-eq0-clause-accepted : goal.returns-then-last-eq0-clause-accepted
 returns-then-last-eq0-clause-accepted g c =
-    inclusion_accepted g.H.LogHash.hash c.args.index c.args.size c.args.leaf.now c.args.proof.now c.args.root.now
-    (Err TooManyDigests) (returns-then-last-eq0-clause-refused g c)
+    inclusion_accepted _ _ _ _ _ _ (Err TooManyDigests) (returns-then-last-eq0-clause-refused g c)
 
 pub loop-digest-preserved : goal.loop-digest-preserved
 loop-digest-preserved g c =
     let z : (c.loop-digest.last == 0) ≡ false = grind (arith, nat_tests) in
     elim c.if-is_left.branch [
       | then-is_left w ↦
-          let e = inclusion_left g.H.LogHash.hash c.args.proof.now c.loop-digest.digest-index c.loop-digest.node
-          c.loop-digest.last c.loop-digest.value _ c.loop-digest-test.true z (sym c.is_left.ensures
-          ∙ w.if-is_left.true) in
+          let e = inclusion_left g.H.LogHash.hash c.args.proof.now _ _ _ _ _ c.loop-digest-test.true z
+          (sym c.is_left.ensures ∙ w.if-is_left.true) in
           rw (w.node-is, w.last-is, w.value-is, w.node_hash-value.ensures, c.digest-item.is)
           (sym e ∙ c.loop-digest.invariant)
       | else-is_left w ↦
-          let e = inclusion_right g.H.LogHash.hash c.args.proof.now c.loop-digest.digest-index c.loop-digest.node
-          c.loop-digest.last c.loop-digest.value _ c.loop-digest-test.true z (sym c.is_left.ensures
-          ∙ w.if-is_left.false) in
+          let e = inclusion_right g.H.LogHash.hash c.args.proof.now _ _ _ _ _ c.loop-digest-test.true z
+          (sym c.is_left.ensures ∙ w.if-is_left.false) in
           rw (w.node-is, w.last-is, w.value-is, w.node_hash-value-else-is_left.ensures, c.digest-item.is)
           (sym e ∙ c.loop-digest.invariant)
     ]
@@ -53,40 +50,34 @@ inclusion_refused_at hash index size leaf path root i fn sn r refusal small with
 pub returns-then-last-gt0-clause-refused : goal.returns-then-last-gt0-clause-refused
 returns-then-last-gt0-clause-refused g c =
     let z : (c.loop-digest.last == 0) ≡ false = grind (arith, nat_tests) in
-    inclusion_refused_at g.H.LogHash.hash c.args.index c.args.size c.args.leaf.now c.args.proof.now c.args.root.now
-    c.loop-digest.digest-index c.loop-digest.node c.loop-digest.last c.loop-digest.value (Some TooFewDigests)
+    inclusion_refused_at _ _ _ _ _ _ _ _ _ _ (Some TooFewDigests)
     c.if-size-gt-SIZE_LIMIT.false c.if-index-size.false c.loop-digest.invariant c.loop-digest-test.false
     (rw (z, inclusion_end_refusal))
 
 pub returns-then-last-gt0-clause-accepted : goal.returns-then-last-gt0-clause-accepted
 returns-then-last-gt0-clause-accepted g c =
-    inclusion_accepted g.H.LogHash.hash c.args.index c.args.size c.args.leaf.now c.args.proof.now c.args.root.now
-    (Err TooFewDigests) (returns-then-last-gt0-clause-refused g c)
+    inclusion_accepted _ _ _ _ _ _ (Err TooFewDigests) (returns-then-last-gt0-clause-refused g c)
 
 pub returns-then-ne-clause-refused : goal.returns-then-ne-clause-refused
 returns-then-ne-clause-refused g c =
     let z : (c.loop-digest.last == 0) ≡ true = grind (arith, nat_tests) in
     let other = different _ c.if-ne.ensures in
-    inclusion_refused_at g.H.LogHash.hash c.args.index c.args.size c.args.leaf.now c.args.proof.now c.args.root.now
-    c.loop-digest.digest-index c.loop-digest.node c.loop-digest.last c.loop-digest.value (Some RootMismatch)
+    inclusion_refused_at _ _ _ _ _ _ _ _ _ _ (Some RootMismatch)
     c.if-size-gt-SIZE_LIMIT.false c.if-index-size.false c.loop-digest.invariant c.loop-digest-test.false
     (rw (z, inclusion_end_refusal, other, inclusion_end_refusal))
 
 pub returns-then-ne-clause-accepted : goal.returns-then-ne-clause-accepted
 returns-then-ne-clause-accepted g c =
-    inclusion_accepted g.H.LogHash.hash c.args.index c.args.size c.args.leaf.now c.args.proof.now c.args.root.now
-    (Err RootMismatch) (returns-then-ne-clause-refused g c)
+    inclusion_accepted _ _ _ _ _ _ (Err RootMismatch) (returns-then-ne-clause-refused g c)
 
 pub returns-clause-refused : goal.returns-clause-refused
 returns-clause-refused g c =
     let z : (c.loop-digest.last == 0) ≡ true = grind (arith, nat_tests) in
     let same = equal _ c.if-ne.ensures in
-    inclusion_refused_at g.H.LogHash.hash c.args.index c.args.size c.args.leaf.now c.args.proof.now c.args.root.now
-    c.loop-digest.digest-index c.loop-digest.node c.loop-digest.last c.loop-digest.value None
+    inclusion_refused_at _ _ _ _ _ _ _ _ _ _ None
     c.if-size-gt-SIZE_LIMIT.false c.if-index-size.false c.loop-digest.invariant c.loop-digest-test.false
     (rw (z, inclusion_end_refusal, same, inclusion_end_refusal))
 
 pub returns-clause-accepted : goal.returns-clause-accepted
 returns-clause-accepted g c =
-    inclusion_accepted g.H.LogHash.hash c.args.index c.args.size c.args.leaf.now c.args.proof.now c.args.root.now
-    (Ok tt) (returns-clause-refused g c)
+    inclusion_accepted _ _ _ _ _ _ (Ok tt) (returns-clause-refused g c)

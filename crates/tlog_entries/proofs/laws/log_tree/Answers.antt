@@ -5,7 +5,7 @@ use Rattle.p3_merkle_core.specs.Pruning.{boundary, honest_query, restored_path}
 use Rattle.tlog.specs.Rfc9162.{leaf_hash, mth}
 use Rattle.tlog.proofs.Layers.{itself}
 use Rattle.tlog_entries.specs.Instance.{AreFilled, log_functions, log_params, log_shape, present, root_cap}
-use Rattle.tlog_entries.specs.{Laws.entries_batch, declared.node.Node.TheVariants.Hash}
+use Rattle.tlog_entries.specs.{Laws.entries_batch, declared.tree.Node.TheVariants.Hash}
 use Rattle.tlog_entries.proofs.Honest.{honest_filled, honest_is_path, restored_is_path}
 use Rattle.tlog_entries.proofs.{Included.accepted_if_included, Leaves.mth_map, Leaves.path_map, Nodes.cap_is_root}
 use Rattle.tlog_entries.proofs.{Nodes.node_is_mth, Nodes.padding_is_absent, Restored.query_accepted}
@@ -38,7 +38,7 @@ returns-clause-siblings c = λ hash D m inside.
     let len = length-map D (leaf_hash hash) in
     ap (λ n. present (honest (log_functions hash) (entries_batch hash D) (levels (log_shape n)) m).siblings) (sym len)
     ∙ honest_is_path hash (map (leaf_hash hash) D) m (rw len inside)
-    ∙ path_map hash (leaf_hash hash) m D
+    ∙ path_map hash (leaf_hash hash) m D inside
 
 pub returns-clause-opening : goal.returns-clause-opening
 returns-clause-opening c = λ hash size index leaf path root inside small filled.
@@ -58,7 +58,7 @@ returns-clause-restored c = record {
       ap (λ n. present (restored_path (log_params hash n)
       (honest_query (log_functions hash) (entries_batch hash D) (levels (log_shape n)) indices) i)) (sym len)
       ∙ restored_is_path hash (map (leaf_hash hash) D) (rw len some) indices k (rw len small) (rw len below) inside
-      ∙ path_map hash (leaf_hash hash) i D;
+      ∙ path_map hash (leaf_hash hash) i D (below k 0 inside);
 }
 
 pub returns-clause-query : goal.returns-clause-query

@@ -1,5 +1,5 @@
 use Rattle.std.proofs.Common.{rules, ap, ◌∷◌, []}
-use Rattle.tlog_entries.specs.declared.node.Node.{Node}
+use Rattle.tlog_entries.specs.declared.tree.Node.{Node}
 use Rattle.tlog_entries.proofs.tree.LeafHashesCryptographicHasherNodeNode1.hash_iter.Goals as goal
 
 pub returns : goal.returns
