@@ -5,7 +5,8 @@ use Rattle.std.specs.Prelude.{not, Option, ◌==◌, nat_lt, Result, Ok, Err, Is
 use Rattle.std.specs.{Result.result_err, Cmp.Lexicographic.bytes_decides}
 use Rattle.std.proofs.lemmas.Bool.Decides.{leb_tells, eqb_tells, nat_tests}
 use Rattle.sha2.specs.Sha256.{compress, digest_bytes, first_words, hash_after, rounds, schedule, sha256}
-use Rattle.tlog.specs.{declared.hash.TheConstants.EMPTY_ROOT, Rfc9162.Hash, Rfc9162.inclusion_end}
+use Rattle.tlog.specs.{declared.hash.TheConstants.EMPTY_ROOT, Rfc9162.Hash, Rfc9162.consistency_end}
+use Rattle.tlog.specs.{Rfc9162.inclusion_end}
 use Rattle.tlog.specs.Verdicts.{IsConsistent, IsIncluded, bare_end, consistency_end_refusal, consistency_refusal}
 use Rattle.tlog.specs.Verdicts.{growth_end, inclusion_end_refusal, inclusion_refusal, is_same, size_limit}
 use Rattle.tlog.specs.declared.error.ProofError.{ProofError}
@@ -119,6 +120,14 @@ pub accepted_both : (old_root new_root : List ℕ) →
     consistency_end_refusal (Some (0, old_root, new_root)) old_root new_root ≡ None
 accepted_both old_root new_root =
     rw (same_as_itself old_root, consistency_end_refusal, same_as_itself new_root, consistency_end_refusal)
+
+-- the end between different sizes
+pub grown_end : (hash : Hash) (old new : ℕ) (path : List (List ℕ)) (old_root new_root : List ℕ) → 0 < old → old < new →
+    growth_end hash old new path old_root new_root ≡ consistency_end hash old new old_root path
+unfolding growth_end
+grown_end hash old new path old_root new_root some more =
+    let f : (old == 0) ≡ false = grind (arith, nat_tests) in
+    let g : (old == new) ≡ false = grind (arith, nat_tests) in rw (f, growth_end, g, growth_end)
 
 -- the end from size 0
 pub nothing_grows : (hash : Hash) (old new : ℕ) (path : List (List ℕ)) (old_root new_root : List ℕ) → old ≡ 0 →

@@ -1,5 +1,6 @@
 -- The lowest bits of a number and of twice that number.
-use Rattle.std.proofs.Common.{◌≡◌, ℕ, zero, suc, ◌+◌, ◌*◌, ◌/◌, ◌%◌, ◌^◌, ◌<◌, ◌≤◌, ◌≢◌, refl, sym, ap, ◌∙◌, arith, inl, inr}
+use Rattle.std.proofs.Common.{◌≡◌, ℕ, zero, suc, ◌+◌, ◌*◌, ◌/◌, ◌%◌, ◌^◌, ◌<◌, ◌≤◌, ◌≢◌, refl, sym, ap, ◌∙◌, arith}
+use Rattle.std.proofs.Common.{inl, inr}
 use Rattle.std.proofs.lemmas.Nat.{zero_from_ones, Bits.bit_at_lowest, Bits.bit_at-suc, Bits.bit_at-trailing_ones}
 use Rattle.std.proofs.lemmas.{Nat.Bits.bit_at-trailing_zeros, Bool.Decides.leb_tells, Bool.Decides.nat_tests}
 use Rattle.std.proofs.{Math.Nat.div-div-eq-div-mul, Math.Nat.mul_left_comm, Math.Nat.pow-succ', lemmas.Bool.cases_eq}

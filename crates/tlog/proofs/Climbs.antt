@@ -67,7 +67,8 @@ module _ (hash : Hash) (c : List ℕ) (digests : List (List ℕ)) (fn sn : ℕ) 
   pub inclusion_even : fn % 2 ≡ 0 → fn < sn → inclusion_walk hash (c ∷ digests) fn sn r
       ≡ inclusion_walk hash digests (fn / 2) (sn / 2) (node_hash hash r c)
   inclusion_even even within =
-      walks_agree hash (c ∷ digests) fn sn r r ∙ ap (option_map new_end) (step_even hash c digests fn sn r r even within)
+      walks_agree hash (c ∷ digests) fn sn r r
+      ∙ ap (option_map new_end) (step_even hash c digests fn sn r r even within)
       ∙ sym (walks_agree hash digests (fn / 2) (sn / 2) r (node_hash hash r c))
 
 -- at an only child

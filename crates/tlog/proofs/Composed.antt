@@ -2,7 +2,7 @@
 use Rattle.std.proofs.Common.{◌≡◌, ◌≢◌, ℕ, ◌-◌, ◌/◌, ◌^◌, ◌<◌, ◌≤◌, refl, sym, ◌∙◌, arith, List, [], ◌∷◌, Some, None}
 use Rattle.std.proofs.Common.{true, false}
 use Rattle.std.specs.{Prelude.Option, Prelude.Result, Prelude.Ok, Prelude.Err, Result.IfErr, Result.IsErrAnd}
-use Rattle.std.specs.{Int.is_power_of_two, Prelude.IsOk, Prelude.◌↔◌, Result.is_err}
+use Rattle.std.specs.{Int.is_power_of_two, Prelude.◌↔◌}
 use Rattle.tlog.specs.{Climbs.Begins, Climbs.climb_end, Fixed.GrowthKeepsLeaf, Fixed.RootFixesProof, Inner.Lifts.Lifts}
 use Rattle.tlog.specs.{Rfc9162.Hash, Verdicts.IsConsistent, Verdicts.IsIncluded, Verdicts.size_limit}
 use Rattle.tlog.specs.{declared.error.ProofError.ProofError, Composed.IsReason}
@@ -53,8 +53,8 @@ module _ {hash : Hash} {old new : ℕ} {path : List (List ℕ)} {old_root new_ro
       IsConsistent hash old new out old_root new_root
   composed_all [] small power ends =
       let whole = begins_whole b some small in
-      bare_end hash layer node new value [] old_root new_root (more_nodes layer node old new (omega (arith, whole)) more)
-      refl ends
+      bare_end hash layer node new value [] old_root new_root
+      (more_nodes layer node old new (omega (arith, whole)) more) refl ends
   composed_all (c ∷ out) small power ends =
       let from : Begins old (c ∷ out) old_root layer node value (c ∷ out) = record {
         some = omega arith;

@@ -1,10 +1,10 @@
 -- Accepted proofs of consistency, as proofs of inclusion of the node where they begin.
-use Rattle.std.proofs.Common.{◌≡◌, ◌≢◌, ℕ, ◌+◌, ◌-◌, ◌*◌, ◌/◌, ◌^◌, ◌<◌, ◌≤◌, refl, sym, ap, ◌∙◌, arith, inl, inr, List, []}
-use Rattle.std.proofs.Common.{◌∷◌, length, take, Some, true, false, Vec, Global}
+use Rattle.std.proofs.Common.{◌≡◌, ◌≢◌, ℕ, ◌+◌, ◌-◌, ◌*◌, ◌/◌, ◌^◌, ◌<◌, ◌≤◌, refl, sym, ap, ◌∙◌, arith, inl, inr}
+use Rattle.std.proofs.Common.{List, [], ◌∷◌, length, take, Some, true, false, Vec, Global}
 use Rattle.std.proofs.lemmas.{Bool.cases_Bool, Bool.Decides.eqb_tells, List.length-take-le, List.take-map}
 use Rattle.std.proofs.{Math.Nat.div-le_self, Math.Nat.div-mul-le_self, lemmas.Nat.le-div, lemmas.Nat.pow_pos}
 use Rattle.std.proofs.lemmas.Nat.Bits.{bit_at-trailing_ones}
-use Rattle.std.specs.Prelude.{Option, Bool, Result, IsOk, ◌↔◌, ◌⊎◌}
+use Rattle.std.specs.Prelude.{Bool, Result, IsOk, ◌↔◌, ◌⊎◌}
 use Rattle.std.specs.{Result.is_err, Int.is_power_of_two, Int.w64}
 use Rattle.tlog.specs.{Collisions.RootsFixEntries, Collisions.entries_of, Climbs.Begins, Climbs.climb_end}
 use Rattle.tlog.specs.Rfc9162.{Hash, consistency_end, consistency_from, inclusion_walk, leaf_hash, proof_of, root_of}

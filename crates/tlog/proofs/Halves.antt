@@ -99,8 +99,8 @@ module _ (hash : Hash) (last : List ℕ) (p q : List ℕ → List ℕ) (a b : Li
     λ (o, w, h, x, y). let e = end_of h in at ∙ rw (x, y, ← e.1, ← e.2),
   )
   two (c ∷ rest) fn fr sr small at = (
-    λ h. let none = past_two hash c (rest ++ last ∷ []) fn fr sr small (omega (arith, length-append rest (last ∷ []))) in
-        absurd cc,
+    λ h. let more = length-append rest (last ∷ []) in
+        let none = past_two hash c (rest ++ last ∷ []) fn fr sr small (omega (arith, more)) in absurd cc,
     λ (o, w, h, x, y). absurd cc,
   )
 
@@ -124,7 +124,8 @@ module _ (hash : Hash) (last : List ℕ) (p q : List ℕ → List ℕ) (a b : Li
       Half rest fn sn i s fr sr
   unfolding consistency_walk
   up [] fn sn i s fr sr (inl (odd, alike)) two some small fits above = (
-    λ h. let z = (end_of (sym (step_odd hash last [] fn sn fr sr odd (omega arith) small) ∙ h)).0 in absurd (omega arith),
+    λ h. let s = step_odd hash last [] fn sn fr sr odd (omega arith) small in
+        let z = (end_of (sym s ∙ h)).0 in absurd (omega arith),
     λ (o, w, h, x, y). let z = (end_of h).0 in absurd (omega arith),
   )
   up [] fn sn i s fr sr (inr (even, alike, l, m)) two some small fits above = (
@@ -166,8 +167,8 @@ left_half (suc depth) hash rest last fn sn fr sr a b enough some small below = e
       let k : split (sn + 1) ≡ split (sn / 2 + 1) + split (sn / 2 + 1) =
       split_of_half (sn + 1) (sn / 2 + 1) (omega arith) (omega arith) in
       let half : (split (sn + 1) - 1) / 2 ≡ split (sn / 2 + 1) - 1 = omega arith in
-      let alike : ((fn % 2 ≡ 1) × (fn % 2 ≡ 1)) ⊎ ((fn % 2 ≡ 0) × (fn % 2 ≡ 0) × (fn < sn) × (fn < split (sn + 1) - 1)) =
-      elim (cases_eq (fn % 2) 1) [
+      let alike : ((fn % 2 ≡ 1) × (fn % 2 ≡ 1))
+      ⊎ ((fn % 2 ≡ 0) × (fn % 2 ≡ 0) × (fn < sn) × (fn < split (sn + 1) - 1)) = elim (cases_eq (fn % 2) 1) [
         | inl odd ↦ inl (odd, odd)
         | inr even ↦ inr (omega arith, omega arith, omega arith, omega arith)
       ] in

@@ -2,7 +2,8 @@
 use Rattle.std.proofs.Common.{◌≡◌, ℕ, zero, suc, ◌+◌, ◌-◌, ◌/◌, ◌^◌, ◌<◌, ◌≤◌, refl, sym, ap, subst, ◌∙◌, arith, inl}
 use Rattle.std.proofs.Common.{inr, List, [], ◌∷◌, ◌++◌, length, take, drop, get_or, Some}
 use Rattle.std.proofs.lemmas.Bool.Decides.{eqb_tells, leb_tells, nat_tests}
-use Rattle.std.proofs.lemmas.List.{drop-take, get_or-drop, get_or-take, length-take-le, length-drop, take-take, take_all}
+use Rattle.std.proofs.lemmas.List.{drop-take, get_or-drop, get_or-take, length-take-le, length-drop, take-take}
+use Rattle.std.proofs.lemmas.List.{take_all}
 use Rattle.std.proofs.Math.Nat.{div-div-eq-div-mul, pow-succ'}
 use Rattle.std.specs.Prelude.{◌==◌, Bool, true, false, nat_le, Option, ◌⊎◌, nat_lt}
 use Rattle.std.specs.Int.{w64, trailing_ones, is_power_of_two}
@@ -31,8 +32,8 @@ sub-more depth hash leaf m L b h =
     let f : (m == length L) ≡ false = grind (arith, nat_tests) in rw (f, subproof_within)
 
 -- from one entry, whose root the verifier has
-pub sub-one : {X : Type 0} (depth : ℕ) (hash : Hash) (leaf : X → List ℕ) (L : List X) → 0 < length L → length L ≤ depth →
-    subproof_within depth hash leaf 1 L true ≡ path_within depth hash leaf 0 L
+pub sub-one : {X : Type 0} (depth : ℕ) (hash : Hash) (leaf : X → List ℕ) (L : List X) → 0 < length L →
+    length L ≤ depth → subproof_within depth hash leaf 1 L true ≡ path_within depth hash leaf 0 L
 unfolding subproof_within path_within
 sub-one depth hash leaf [] some enough = absurd (omega arith)
 sub-one zero hash leaf (x ∷ L) some enough = absurd (omega arith)
@@ -139,8 +140,8 @@ sub-even-more depth other hash leaf i L b some within left right =
           rw (here, f, there, f2, m, right j twice (omega arith), root, p.first, p.others)
     ]
 
-pub sub-even : {X : Type 0} (depth other : ℕ) (hash : Hash) (leaf : X → List ℕ) (i : ℕ) (L : List X) (b : Bool) → 0 < i →
-    i + i ≤ length L → length L ≤ depth → length (above hash leaf L) ≤ other →
+pub sub-even : {X : Type 0} (depth other : ℕ) (hash : Hash) (leaf : X → List ℕ) (i : ℕ) (L : List X) (b : Bool) →
+    0 < i → i + i ≤ length L → length L ≤ depth → length (above hash leaf L) ≤ other →
     subproof_within depth hash leaf (i + i) L b ≡ subproof_within other hash itself i (above hash leaf L) b
 unfolding subproof_within
 sub-even zero other hash leaf i L b some within enough upper = absurd (omega arith)
@@ -411,7 +412,8 @@ climb (suc depth) hash leaf m n L d is within enough small = rw is (elim (leb_te
             let at : k + (m - k) ≡ m = omega arith in
             let rest : k + suc (m - k) ≡ suc m = omega arith in
             let taken = length-take-le (suc m) L (omega arith) in
-            let same : split (length T) ≡ k = ap split taken ∙ same_split (suc m) (length L) more (omega arith) (omega arith) in
+            let same : split (length T) ≡ k =
+            ap split taken ∙ same_split (suc m) (length L) more (omega arith) (omega arith) in
             let old : mth hash leaf T
             ≡ node_hash hash (mth hash leaf (take k L)) (mth hash leaf (take (suc (m - k)) (drop k L))) =
             root_more hash leaf T (omega arith)

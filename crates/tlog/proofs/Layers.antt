@@ -33,7 +33,8 @@ length-above hash leaf (x ∷ (y ∷ rest)) = let h = length-above hash leaf res
 -- ---- the first nodes, of an even number, and the others
 
 pub above_parts : {X : Type 0} (hash : Hash) (leaf : X → List ℕ) (j k : ℕ) (L : List X) → k ≡ j + j →
-    (above hash leaf (take k L) ≡ take j (above hash leaf L)) × (above hash leaf (drop k L) ≡ drop j (above hash leaf L))
+    (above hash leaf (take k L) ≡ take j (above hash leaf L))
+    × (above hash leaf (drop k L) ≡ drop j (above hash leaf L))
 above_parts hash leaf zero zero L e = (refl, refl)
 above_parts hash leaf zero (suc k) L e = absurd (omega arith)
 above_parts hash leaf (suc j) zero L e = absurd (omega arith)

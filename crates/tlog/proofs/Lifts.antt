@@ -158,7 +158,8 @@ module _ {hash : Hash} {size new t node : ℕ} {value : List ℕ} {digests : Lis
       }
 
       module _ (below : List (List ℕ)) (beside old right : List ℕ) (is : digests ≡ below ++ beside ∷ [])
-          (below_ends : climb_end hash u (edge - split new / 2 ^ u) (new - split new) start rest ≡ Some (0, old, right)) where
+          (below_ends : climb_end hash u (edge - split new / 2 ^ u) (new - split new) start rest
+          ≡ Some (0, old, right)) where
         -- the node in the left half: the digest beside it becomes the new root of the right half
         pub lift_beside_left : {out : List (List ℕ)} → node < split new / 2 ^ t →
             ((first left : List ℕ) → climb_end hash t node (split new) value below ≡ Some (0, first, left) →

@@ -19,7 +19,8 @@ split_at (suc t) size some =
     let p = pow-succ' 2 t in
     let low = div-le_self ((size - 1) / 2) (2 ^ t) in
     let e : (size - 1) / 2 ≡ (size + 1) / 2 - 1 = omega arith in
-    let d : (size - 1) / 2 ^ suc t ≡ ((size + 1) / 2 - 1) / 2 ^ t = half_pow (size - 1) t ∙ ap (λ (q : ℕ). q / 2 ^ t) e in
+    let d : (size - 1) / 2 ^ suc t ≡ ((size + 1) / 2 - 1) / 2 ^ t =
+    half_pow (size - 1) t ∙ ap (λ (q : ℕ). q / 2 ^ t) e in
     let up = split_at t ((size + 1) / 2) (subst (λ n. 0 < n) d some) in
     let twice = split_of_half size ((size + 1) / 2) (omega arith) refl in
     let q : split (((size + 1) / 2 - 1) / 2 ^ t + 1) * (2 * 2 ^ t)
@@ -82,8 +83,8 @@ climb_left hash t node size value rest last a b some small below =
     let f = at_layer t size some in
     let low = div-le_self (size - 1) (2 ^ t) in
     let there = f.there in
-    let half = left_half ((size - 1) / 2 ^ t) hash rest last node ((size - 1) / 2 ^ t) value value a b (omega arith) some
-    (omega arith) (omega arith) in
+    let half = left_half ((size - 1) / 2 ^ t) hash rest last node ((size - 1) / 2 ^ t) value value a b (omega arith)
+    some (omega arith) (omega arith) in
     rw (f.left_last, ← there) (
       λ h. let r = half.0 h in (r.1, r.2 ∙ ap (λ (x : List ℕ). Some (0, x, r.1)) (sym r.3), r.4),
       λ (w, h, q). half.1 (a, w, h, refl, q),

@@ -2,7 +2,7 @@
 ghost use Rattle.std.specs.Prelude.{◌≡◌, ℕ, ◌<◌, ◌≤◌, ◌↔◌, List, [], IsOk, IfOk, IfErr, MatchOption, Some};
 ghost use Rattle.std.specs.Result.{result_err};
 ghost use Rattle.sha2.specs.Sha256.{sha256};
-ghost use Rattle.tlog.specs.{Climbs.Begins, Climbs.climb_end, Rfc9162.consistency_end, Verdicts.IsConsistent};
+ghost use Rattle.tlog.specs.{Climbs.Begins, Climbs.climb_end, Verdicts.IsConsistent};
 ghost use Rattle.tlog.specs.Verdicts.{consistency_end_refusal, consistency_refusal, growth_end, size_limit};
 
 use crate::error::ProofError;
@@ -85,7 +85,10 @@ fn roots_by<H: LogHash<D>, const D: usize>(
         ≡ Some e) }
 {
     if old_size > 0 && old_size < new_size {
-        return grown_roots::<H, D>(old_size, new_size, proof, old_root);
+        let Some(climb) = Climb::of_proof(old_size, proof, old_root) else {
+            return Err(ProofError::TooFewDigests);
+        };
+        return climb.roots::<H>(new_size);
     }
     if !proof.is_empty() {
         return Err(ProofError::TooManyDigests);
@@ -98,28 +101,6 @@ fn roots_by<H: LogHash<D>, const D: usize>(
         return Ok((empty, *new_root));
     }
     Ok((empty, empty))
-}
-
-/// The old and the new root that a proof between different sizes leads to.
-fn grown_roots<H: LogHash<D>, const D: usize>(
-    old_size: usize,
-    new_size: usize,
-    proof: &[[u8; D]],
-    old_root: &[u8; D],
-) -> Result<([u8; D], [u8; D]), ProofError>
-    requires old { 0 < old_size }
-    requires new { old_size < new_size }
-    requires limit { new_size ≤ size_limit }
-    ensures roots { IfOk result (λ roots.
-        consistency_end H.hash old_size new_size old_root.now proof.now ≡ Some (0, roots.0, roots.1)) }
-    ensures refused { IfErr result (λ e. (first second : List ℕ) →
-        consistency_end_refusal (consistency_end H.hash old_size new_size old_root.now proof.now) first second
-        ≡ Some e) }
-{
-    let Some(climb) = Climb::of_proof(old_size, proof, old_root) else {
-        return Err(ProofError::TooFewDigests);
-    };
-    climb.roots::<H>(new_size)
 }
 
 /// A node of a tree, and the digests that lead from it to the root.

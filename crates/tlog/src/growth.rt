@@ -96,11 +96,11 @@ fn lift<H: LogHash<D>, const D: usize>(
     let Some((last, rest)) = growth.digests.split_last() else {
         return Ok(Vec::new(alloc));
     };
+    let growth = Climb {
+        digests: rest,
+        ..*growth
+    };
     if size <= middle {
-        let growth = Climb {
-            digests: rest,
-            ..*growth
-        };
         let mut digests = lift::<H, D>(alloc, size, middle, climb, &growth)?;
         digests.push(*last)?;
         return Ok(digests);
@@ -108,29 +108,24 @@ fn lift<H: LogHash<D>, const D: usize>(
     let Some((beside, below)) = climb.digests.split_last() else {
         return Ok(Vec::new(alloc));
     };
-    // Both trees are split at one place.
-    let node = growth.node - (middle >> growth.layer);
+    let climb = Climb {
+        digests: below,
+        ..*climb
+    };
     let growth = Climb {
-        node,
-        digests: rest,
-        ..*growth
+        node: growth.node - (middle >> growth.layer),
+        ..growth
     };
     let Ok(roots) = growth.roots::<H>(new_size - middle) else {
         return Ok(Vec::new(alloc));
     };
     let (old, new) = roots;
     if climb.node < middle >> climb.layer {
-        let climb = Climb {
-            digests: below,
-            ..*climb
-        };
         return lift_beside::<H, D>(alloc, middle, &climb, beside, last, &old, &new);
     }
-    let node = climb.node - (middle >> climb.layer);
     let climb = Climb {
-        node,
-        digests: below,
-        ..*climb
+        node: climb.node - (middle >> climb.layer),
+        ..climb
     };
     check_right::<H, D>(alloc, size - middle, &climb, beside, last, &old)?;
     let mut digests = lift::<H, D>(alloc, size - middle, new_size - middle, &climb, &growth)?;

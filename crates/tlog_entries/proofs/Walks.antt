@@ -37,7 +37,8 @@ passed hash path digest j last r some within small node padding = elim (cases_eq
         | inr less ↦
             let v = node (omega arith) in
             rw (even, v.1)
-            (node_hash hash r v.0, refl, λ end h. inclusion_even hash v.0 (present path) j last r even (omega arith) ∙ h)
+            (node_hash hash r v.0, refl, λ end h.
+                inclusion_even hash v.0 (present path) j last r even (omega arith) ∙ h)
       ]
 ]
 

@@ -1,12 +1,13 @@
 //! The digests of a proof of several entries, and the pruned opening of a log's tree that they give.
 ghost use Rattle.std.specs.Prelude.{◌≡◌, ℕ, List, [], length, slice_index_or, ◌+◌, ◌*◌, ◌^◌, ◌<◌, ◌≤◌, ◌++◌, All, IfOk};
 ghost use Rattle.std.specs.Prelude.{MatchResult, None, Some, filter, map, not};
-ghost use Rattle.p3_merkle_core.specs.{Geometry.levels, Inner.Agreement.IsAscending, Pruning.boundary, Views.pruned_made};
+ghost use Rattle.p3_merkle_core.specs.{Geometry.levels, Inner.Agreement.IsAscending, Pruning.boundary};
+ghost use Rattle.p3_merkle_core.specs.Views.{pruned_made};
 ghost use Rattle.p3_support.specs.{Answers.AnswersUnless, Lists.is_among, Shown.row_sets};
 ghost use Rattle.tlog.specs.{Rfc9162.Hash, Verdicts.size_limit};
 ghost use Rattle.tlog_tree.specs.Trees.{all_there, leaves_root, values_at};
-ghost use Rattle.tlog_entries.specs.Entries.{AreIncluded, digests_refusal, entries_opening, form_refusal, indices_refusal};
-ghost use Rattle.tlog_entries.specs.Entries.{is_node as is_node_by, proof_nodes, with_padding as with_padding_of};
+ghost use Rattle.tlog_entries.specs.Entries.{AreIncluded, digests_refusal, entries_opening, form_refusal};
+ghost use Rattle.tlog_entries.specs.Entries.{indices_refusal, is_node as is_node_by, proof_nodes, with_padding as with_padding_of};
 ghost use Rattle.tlog_entries.specs.{Inner.Siblings.sibling, Instance.leaf_row, Instance.log_shape};
 ghost use Rattle.tlog_entries.specs.declared.error.EntriesError.TheVariants.{OutOfMemory};
 

@@ -87,8 +87,8 @@ odd_sibling node s e n =
       | inr other ↦ inr (node / 2, omega arith, omega arith)
     ]
 
-sibling_there : (hash : Hash) (M : List (List ℕ)) (node last s : ℕ) → length M ≡ last + 1 → node ≤ last → IsSibling node s →
-    s ≤ last → sibling itself node M ≡ get_or M s [] ∷ []
+sibling_there : (hash : Hash) (M : List (List ℕ)) (node last s : ℕ) → length M ≡ last + 1 → node ≤ last →
+    IsSibling node s → s ≤ last → sibling itself node M ≡ get_or M s [] ∷ []
 sibling_there hash M node last s long within is there = elim is [
   | inl (i, e, n) ↦
       (pair_at hash itself i node M [] [] e (omega arith)).1 ∙ ap (λ (j : ℕ). get_or M j [] ∷ []) (sym n)
@@ -96,8 +96,8 @@ sibling_there hash M node last s long within is there = elim is [
       ap (λ (j : ℕ). sibling itself j M) e ∙ (pair_at hash itself i s M [] [] n (omega arith)).2
 ]
 
-sibling_gone : (hash : Hash) (M : List (List ℕ)) (node last s : ℕ) → length M ≡ last + 1 → node ≤ last → IsSibling node s →
-    last < s → sibling itself node M ≡ []
+sibling_gone : (hash : Hash) (M : List (List ℕ)) (node last s : ℕ) → length M ≡ last + 1 → node ≤ last →
+    IsSibling node s → last < s → sibling itself node M ≡ []
 sibling_gone hash M node last s long within is past = elim is [
   | inl (i, e, n) ↦ (only_at hash itself i node M [] [] e (omega arith)).1
   | inr (i, e, n) ↦ absurd (omega arith)

@@ -8,14 +8,16 @@ use Rattle.tlog.proofs.consistency.Climb.roots.Goals.{then-is_left, else-is_left
 pub returns-then-last-eq0-clause-refused : goal.returns-then-last-eq0-clause-refused
 returns-then-last-eq0-clause-refused g c = λ first second.
     let e = sym c.loop-digest.invariant
-    ∙ consistency_stops g.H.LogHash.hash c.args.self.now.digests.now _ _ _ _ _ c.loop-digest-test.true c.if-last-eq0.true in
+    ∙ consistency_stops g.H.LogHash.hash c.args.self.now.digests.now _ _ _ _ _ c.loop-digest-test.true
+    c.if-last-eq0.true in
     rw e
 
 pub loop-digest-preserved : goal.loop-digest-preserved
 loop-digest-preserved g c =
     let z : (c.loop-digest.last == 0) ≡ false = grind (arith, nat_tests) in
     elim c.if-is_left.branch [
-      | then-is_left w ↦ let e = consistency_left g.H.LogHash.hash c.args.self.now.digests.now _ _ _ _ _ _ c.loop-digest-test.true z
+      | then-is_left w ↦
+          let e = consistency_left g.H.LogHash.hash c.args.self.now.digests.now _ _ _ _ _ _ c.loop-digest-test.true z
           (sym c.is_left.ensures ∙ w.if-is_left.true) in
           rw (
             w.node-is,
@@ -27,7 +29,8 @@ loop-digest-preserved g c =
             c.digest-item.is,
           )
           (sym e ∙ c.loop-digest.invariant)
-      | else-is_left w ↦ let e = consistency_right g.H.LogHash.hash c.args.self.now.digests.now _ _ _ _ _ _ c.loop-digest-test.true z
+      | else-is_left w ↦
+          let e = consistency_right g.H.LogHash.hash c.args.self.now.digests.now _ _ _ _ _ _ c.loop-digest-test.true z
           (sym c.is_left.ensures ∙ w.if-is_left.false) in
           rw (w.node-is, w.last-is, w.old-is, w.new-is, w.node_hash-new-else-is_left.ensures, c.digest-item.is)
           (sym e ∙ c.loop-digest.invariant)
