@@ -1,9 +1,9 @@
 -- What is compared slot by slot is what the definition compares index by index.
 use Rattle.std.proofs.Common.{◌≡◌, ℕ, zero, suc, ◌+◌, ◌<◌, Bool, eqb, ◌&&◌, List, [], ◌∷◌, map, refl, ap, sym, ◌∙◌}
 use Rattle.std.proofs.Common.{arith, inl, inr, length, get_or, eq-eqb, All, Option}
+use Rattle.std.proofs.lemmas.{Grind.common_steps, Bool.cases_lt, Bool.eqb-true, Bool.and_parts, Bool.and_from}
+use Rattle.std.proofs.lemmas.{Bool.false_from_ne_true, List.get_or-map, List.length-map}
 use Rattle.std.specs.List.{range_with_len}
-use Rattle.std.proofs.lemmas.Bool.{cases_lt, eqb-true, and_parts, and_from, false_from_ne_true}
-use Rattle.std.proofs.lemmas.List.{get_or-map, length-map}
 use Rattle.p3_merkle_core.specs.Geometry.{Shape, ancestor, heights, layer_exponent}
 use Rattle.p3_merkle_core.specs.Refusals.{first_of, group_refusal, lead, matrices_at, row_refusal, slots_below}
 use Rattle.p3_merkle_core.specs.{Refusals.width_refusal, Refusals.rows_of, Inner.Agreement.distinct}
@@ -72,9 +72,7 @@ first_slot_index s indices l k f below h is =
 pub rows_at : {T : Type 0} (firsts indices : List ℕ) (sets : List (List (List T))) (k : ℕ) → firsts
     ≡ map (first_query indices) (distinct indices) → length indices ≡ length sets → k < length (distinct indices) →
     slot_rows firsts sets k ≡ rows_of (opened_of indices sets) (get_or (distinct indices) k 0)
-rows_at firsts indices sets k is e h =
-    (at_slot firsts indices sets (get_or (distinct indices) k 0) k is e (distinct_queried indices k h)
-    (found_at indices (get_or (distinct indices) k 0) k h refl)).rows
+rows_at firsts indices sets k is e h = grind (arith, common_steps, at_slot, distinct_queried, found_at)
 
 -- ---- the walks
 
@@ -142,14 +140,7 @@ pub widths_are : {T : Type 0} (dimensions : List Dimensions) (m : ℕ) (firsts i
     first_of (λ query. width_refusal dimensions (get_or sets query [])) firsts
     ≡ first_of (λ i. width_refusal dimensions (rows_of (opened_of indices sets) i)) (slots_below m indices)
 widths_are dimensions m firsts indices sets is e below =
-    let p = opened_of indices sets in
-    let h = λ (query : ℕ). width_refusal dimensions (get_or sets query []) in
-    let g = λ (i : ℕ). width_refusal dimensions (rows_of p i) in
-    ap (first_of h) is
-    ∙ mapped_walk h g (first_query indices) (distinct indices)
-    (λ k l. ap (width_refusal dimensions)
-    (first_of_index indices sets (get_or (distinct indices) k 0) e (distinct_queried indices k l)).rows)
-    ∙ ap (first_of g) (distinct_below m indices below)
+    grind (arith, common_steps, distinct_below, distinct_queried, first_of_index, mapped_walk)
 
 -- ---- what the calls ask
 

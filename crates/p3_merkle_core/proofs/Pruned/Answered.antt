@@ -1,21 +1,20 @@
 -- A pruned opening that is not refused has lawful heights, indices below M, rows of their widths, and its rows agree.
 use Rattle.std.proofs.Common.{◌≡◌, ℕ, suc, ◌<◌, ◌≤◌, Bool, true, eqb, List, [], ◌∷◌, map, refl, ap, sym, ◌∙◌, arith}
 use Rattle.std.proofs.Common.{inl, inr, length, get_or, None, filter, zip}
-use Rattle.std.proofs.lemmas.{Bool.cases_Bool, Bool.eqb-true, List.length-map, List.get_or_default}
+use Rattle.std.proofs.lemmas.{Grind.common_steps, Bool.cases_Bool, List.length-map, List.get_or_default}
 use Rattle.std.specs.{Prelude.Ok, Prelude.Decides, Cmp.Lexicographic.pointwise, Cmp.Lexicographic.pointwise_decides}
-use Rattle.p3_merkle_core.proofs.Pruned.{SlotFacts.queried_at, NoneFacts.none_parts, NoneFacts.unless_none}
+use Rattle.p3_merkle_core.proofs.Pruned.{SlotFacts.queried_at, NoneFacts.unless_none}
 use Rattle.p3_merkle_core.proofs.Pruned.NoneFacts.{verdict_ok, kept_none, range_none, paired_none, below_from, fit_from}
 use Rattle.p3_merkle_core.proofs.Shapes.{LeastFacts.widths_in_pairs, GateFacts.gate_lawful}
 use Rattle.p3_support.specs.{Lists.is_among, Batches.greatest}
 use Rattle.p3_merkle_core.specs.Geometry.{Shape, exponent, layer_exponent, ancestor, heights, widths}
 use Rattle.p3_merkle_core.specs.{Gate.gate_refusal, Pruning.PrunedOpening, Pruning.boundary, Pruning.IsRestorable}
-use Rattle.p3_merkle_core.specs.Refusals.{first_of, first_some, lead, matrices_at, slots_below, slot_of, size_refusal}
-use Rattle.p3_merkle_core.specs.Refusals.{idle_refusal, queries_refusal, duplicate_refusal, digest_count_refusal}
-use Rattle.p3_merkle_core.specs.Refusals.{width_refusal, row_refusal, group_refusal, pruned_refusal, pruned_answer}
-use Rattle.p3_merkle_core.specs.{Refusals.rows_of, declared.error.PrunedProofError.TheVariants.SiblingCountMismatch}
+use Rattle.p3_merkle_core.specs.Refusals.{first_of, lead, matrices_at, slots_below, slot_of, queries_refusal}
+use Rattle.p3_merkle_core.specs.Refusals.{duplicate_refusal, width_refusal, row_refusal, group_refusal, pruned_refusal}
+use Rattle.p3_merkle_core.specs.Refusals.{pruned_answer, rows_of}
 use Rattle.p3_merkle_core.specs.declared.error.PrunedProofError.TheVariants.{InconsistentDuplicateOpenings}
 use Rattle.p3_merkle_core.specs.declared.error.PrunedProofError.TheVariants.{InconsistentGroupOpening}
-use Rattle.p3_merkle_core.specs.declared.error.MerkleTreeError.TheVariants.{WrongBatchSize, MalformedPrunedProof}
+use Rattle.p3_merkle_core.specs.declared.error.MerkleTreeError.TheVariants.{MalformedPrunedProof}
 
 -- none of the reasons holds
 record HasNoFault {T W : Type 0} (row_eq : T → T → Bool) (s : Shape) (t : ℕ) (p : PrunedOpening T W) : Type 0 where
@@ -30,37 +29,7 @@ record HasNoFault {T W : Type 0} (row_eq : T → T → Bool) (s : Shape) (t : �
 
 no_fault : {T W : Type 0} (row_eq : T → T → Bool) (s : Shape) (t : ℕ) (p : PrunedOpening T W) →
     pruned_refusal row_eq s t p ≡ None → HasNoFault row_eq s t p
-no_fault row_eq s t p e =
-    let m = greatest (heights s) in
-    let n = length p.indices in
-    let r8 = group_refusal row_eq s t p ∷ [] in
-    let r7 = first_of (λ i. width_refusal s.dimensions (rows_of p i)) (slots_below m p.indices) ∷ r8 in
-    let r6 = digest_count_refusal (length (boundary s p.indices t)) (length p.digests) ∷ r7 in
-    let r5 = duplicate_refusal row_eq p ∷ r6 in
-    let r4 = queries_refusal m p.indices ∷ r5 in
-    let r3 = idle_refusal n (length p.digests) ∷ r4 in
-    let a = none_parts (gate_refusal (heights s)) (first_some (size_refusal n (length p.rows) ∷ r3)) e in
-    let b = none_parts (size_refusal n (length p.rows)) (first_some r3) a.1 in
-    let c = none_parts (idle_refusal n (length p.digests)) (first_some r4) b.1 in
-    let d = none_parts (queries_refusal m p.indices) (first_some r5) c.1 in
-    let f = none_parts (duplicate_refusal row_eq p) (first_some r6) d.1 in
-    let g = none_parts (digest_count_refusal (length (boundary s p.indices t)) (length p.digests)) (first_some r7)
-    f.1 in
-    let h = none_parts (first_of (λ i. width_refusal s.dimensions (rows_of p i)) (slots_below m p.indices))
-    (first_some r8) g.1 in
-    let k = none_parts (group_refusal row_eq s t p) None h.1 in
-    record {
-      gate = a.0;
-      sizes = sym (eqb-true n (length p.rows)
-          (unless_none (eqb n (length p.rows)) (WrongBatchSize n (length p.rows)) b.0));
-      index = d.0;
-      repeat = f.0;
-      count = sym (eqb-true (length (boundary s p.indices t)) (length p.digests)
-          (unless_none (eqb (length (boundary s p.indices t)) (length p.digests))
-          (MalformedPrunedProof (SiblingCountMismatch (length (boundary s p.indices t)) (length p.digests))) g.0));
-      width = h.0;
-      group = k.0;
-    }
+no_fault row_eq s t p e = grind (arith, common_steps)
 
 -- each query's row set is that of the first query of its index
 rows_are_first : {T W : Type 0} (row_eq : T → T → Bool) (s : Shape) (t : ℕ) (p : PrunedOpening T W) →

@@ -1,8 +1,8 @@
 -- The honest pruned opening is restorable, so it is not refused. The answers to pruned openings: against those to
 -- single ones, and at honest ones.
-use Rattle.std.proofs.Common.{◌≡◌, ℕ, ◌<◌, ◌≤◌, eqb, List, [], ◌∷◌, map, refl, ap, sym, ◌∙◌, arith, inl, inr, length}
-use Rattle.std.proofs.Common.{get_or, filter, zip, ◌↔◌, Bool}
-use Rattle.std.proofs.lemmas.{Bool.cases_Bool, Bool.eqb-true, List.length-map, List.get_or-map}
+use Rattle.std.proofs.Common.{◌≡◌, ℕ, ◌<◌, ◌≤◌, eqb, List, [], ◌∷◌, map, refl, ap, sym, ◌∙◌, arith, length, get_or}
+use Rattle.std.proofs.Common.{filter, zip, ◌↔◌, Bool}
+use Rattle.std.proofs.lemmas.{Grind.common_steps, List.length-map, List.get_or-map}
 use Rattle.p3_merkle_core.specs.Geometry.{exponent, layer_exponent, halved_index, heights, Shape, IsArity}
 use Rattle.p3_merkle_core.specs.Refusals.{answer_under, pruned_answer, pruned_answer_under, IsEquality}
 use Rattle.p3_merkle_core.specs.{Openings.honest_rows, Checks.params}
@@ -24,11 +24,7 @@ same_rows : {T : Type 0} (x top : ℕ) (first second : ℕ → ℕ) →
     (zip (heights_of (dimensions_of ms)) (map (λ m. m.row (second m.height)) ms))
 same_rows x top first second same [] le = refl
 same_rows x top first second same (m ∷ ms) le =
-    let rest = same_rows x top first second same ms (omega arith) in
-    elim (cases_Bool (eqb (exponent m.height) x)) [
-      | inl t ↦ let e = same m.height (omega arith) (eqb-true (exponent m.height) x t) in rw (t, e, rest) refl
-      | inr f ↦ rw (f, rest) refl
-    ]
+    grind (arith, common_steps, same_rows x top first second same ms (omega arith))
 
 pub honest_restorable : {T W : Type 0} (f : Functions T W) (b : Batch T) (t : ℕ) (indices : List ℕ) →
     IsHonestQuery b t indices → HasFullRows b → IsRestorable (shape b) t (honest_query f b t indices)

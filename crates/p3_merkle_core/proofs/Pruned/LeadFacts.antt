@@ -2,7 +2,7 @@
 use Rattle.std.proofs.Common.{◌++◌, All, ◌≡◌, ◌≢◌, ℕ, zero, suc, ◌+◌, ◌-◌, ◌/◌, ◌^◌, ◌<◌, ◌≤◌, Bool, true, false, eqb}
 use Rattle.std.proofs.Common.{List, [], ◌∷◌, map, refl, ap, sym, ◌∙◌, arith, inl, inr, length, filter, get_or, eq-eqb}
 use Rattle.std.proofs.Common.{Option, None, Some, Vec, drop, drop-cons, add-one}
-use Rattle.std.proofs.lemmas.Bool.{cases_Bool, eqb-true, eqb-false, false_from_ne_true, ne_eqb}
+use Rattle.std.proofs.lemmas.{Grind.common_steps, Bool.cases_Bool, Bool.eqb-true, Bool.false_from_ne_true, Bool.ne_eqb}
 use Rattle.std.proofs.lemmas.{Bool.true≢false, Bool.cases_lt, List.Folds.list_any_at, Cmp.lists_equiv}
 use Rattle.std.proofs.lemmas.List.{append_assoc, drop_all, get_or_default, get_or-map, length-map}
 use Rattle.std.specs.{List.list_any, List.range_with_len, Option.option_or, Cmp.IsEquivalence}
@@ -11,7 +11,7 @@ use Rattle.p3_support.specs.{Shown.row_lists, Shown.row_sets, Lists.is_among, Ba
 use Rattle.p3_support.specs.declared.matrix.Dimensions.{Dimensions}
 use Rattle.p3_merkle_core.specs.Geometry.{Shape, ancestor, exponent, heights, layer_exponent, IsArity}
 use Rattle.p3_merkle_core.specs.{Refusals.first_of, Inner.Agreement.first_query, Inner.Agreement.matrices_with}
-use Rattle.p3_merkle_core.specs.Inner.Agreement.{row_fault, rows_refusal, slot_rows, nodes_refusal, IsAscending}
+use Rattle.p3_merkle_core.specs.Inner.Agreement.{rows_refusal, slot_rows, nodes_refusal, IsAscending}
 use Rattle.p3_merkle_core.specs.declared.error.MerkleTreeError.{MerkleTreeError}
 use Rattle.p3_merkle_core.proofs.Shapes.{LadderFacts.shifted_is_anc, LevelFacts.exponent_low, StepFacts.anc_start}
 use Rattle.p3_merkle_core.proofs.Lists.RisingFacts.{listed_at, listed_in, none_kept, rising_from}
@@ -29,11 +29,7 @@ first_there (x ∷ xs) v c =
 
 pub first_before : (xs : List ℕ) (v j : ℕ) → j < first_query xs v → get_or xs j 0 ≢ v
 first_before [] v j h = absurd (omega arith)
-first_before (x ∷ xs) v zero h =
-    elim (cases_Bool (eqb x v)) [
-      | inl t ↦ absurd (omega (arith, rw t at h))
-      | inr f ↦ eqb-false x v f
-    ]
+first_before (x ∷ xs) v zero h = grind (arith, common_steps)
 first_before (x ∷ xs) v (suc j) h =
     elim (cases_Bool (eqb x v)) [
       | inl t ↦ absurd (omega (arith, rw t at h))
@@ -176,11 +172,7 @@ pub no_matrix : {T : Type 0} (row_eq : T → T → Bool) (hs : List ℕ) (x : �
     (sets : List (List (List T))) → list_any (λ h. eqb (exponent h) x) hs ≡ false →
     nodes_refusal row_eq (matrices_with hs x) nodes firsts sets ≡ None
 no_matrix row_eq hs x nodes firsts sets none =
-    let kept = none_kept (λ m. eqb (exponent (get_or hs m 0)) x) 0 (length hs)
-    (λ m low high. false_from_ne_true (eqb (exponent (get_or hs m 0)) x)
-    (λ t. true≢false (sym (list_any_at (λ h. eqb (exponent h) x) hs m 0 (omega (arith, high)) t) ∙ none))) in
-    none_of (slot_fault row_eq (matrices_with hs x) nodes firsts sets) (range_with_len 0 (length nodes))
-    (λ k. rw kept refl)
+    grind (arith, common_steps, false_from_ne_true, true≢false, list_any_at, none_kept, none_of)
 
 pub slot_read : {T : Type 0} (row_eq : T → T → Bool) (matrices nodes firsts : List ℕ)
     (sets : List (List (List T))) (k first : ℕ) (mine theirs : List (List T)) (o : Option MerkleTreeError) →
@@ -188,25 +180,18 @@ pub slot_read : {T : Type 0} (row_eq : T → T → Bool) (matrices nodes firsts 
     ≡ first_query nodes (get_or nodes k 0) → rows_refusal row_eq matrices k mine theirs ≡ o →
     slot_fault row_eq matrices nodes firsts sets k ≡ o
 slot_read row_eq matrices nodes firsts sets k first mine theirs o is_mine is_theirs is_first e =
-    ap (λ f. rows_refusal row_eq matrices k (slot_rows firsts sets k) (slot_rows firsts sets f)) (sym is_first)
-    ∙ ap (λ rows. rows_refusal row_eq matrices k (slot_rows firsts sets k) rows) (sym is_theirs)
-    ∙ ap (λ rows. rows_refusal row_eq matrices k rows theirs) (sym is_mine)
-    ∙ e
+    grind (arith, common_steps)
 
 -- rows are those of their own slot
 own_rows : {T : Type 0} (row_eq : T → T → Bool) → IsEquivalence row_eq → (matrices : List ℕ) (k : ℕ)
     (rows : List (List T)) → rows_refusal row_eq matrices k rows rows ≡ None
-own_rows row_eq laws matrices k rows =
-    none_of (row_fault row_eq k rows rows) matrices
-    (λ m. rw (IsEquivalence.refl (lists_equiv laws) (get_or rows m [])) refl)
+own_rows row_eq laws matrices k rows = grind (arith, common_steps, lists_equiv, none_of)
 
 -- a first slot is not refused
 pub first_slot_agrees : {T : Type 0} (row_eq : T → T → Bool) → IsEquivalence row_eq → (matrices nodes firsts : List ℕ)
     (sets : List (List (List T))) (k : ℕ) → k ≡ first_query nodes (get_or nodes k 0) →
     slot_fault row_eq matrices nodes firsts sets k ≡ None
-first_slot_agrees row_eq laws matrices nodes firsts sets k is =
-    slot_read row_eq matrices nodes firsts sets k k (slot_rows firsts sets k) (slot_rows firsts sets k) None refl refl
-    is (own_rows row_eq laws matrices k (slot_rows firsts sets k))
+first_slot_agrees row_eq laws matrices nodes firsts sets k is = grind (arith, common_steps, slot_read, own_rows)
 
 -- no slot is before the first
 pub first_start : (nodes : List ℕ) → 0 ≡ first_query nodes (get_or nodes 0 0)
@@ -278,8 +263,7 @@ pub matrices_full : {T : Type 0} (dimensions : List Dimensions) (firsts read mat
     ≡ matrices_with (heights_of dimensions) x → read ≡ firsts →
     (k : ℕ) → k < length read → All (λ m. m < length (slot_rows read sets k)) matrices
 matrices_full dimensions firsts read matrices sets x full is is_read k h =
-    rw (is_read, is) (matrices_inside (heights_of dimensions) x (length (slot_rows firsts sets k))
-    (length-map dimensions (λ d. d.height) ∙ sym (full k (omega (arith, ap length is_read)))))
+    grind (arith, common_steps, length-map, matrices_inside)
 
 -- distinct leaves are first slots
 pub leaves_agree : {T : Type 0} (row_eq : T → T → Bool) → IsEquivalence row_eq → (s : Shape) (leaves firsts : List ℕ)

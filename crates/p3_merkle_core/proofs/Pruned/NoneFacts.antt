@@ -1,14 +1,13 @@
 -- Refusals that do not hold, one by one.
 use Rattle.std.proofs.Common.{◌≡◌, ℕ, zero, suc, ◌+◌, ◌<◌, ◌≤◌, Bool, true, eqb, nat_lt, List, [], ◌∷◌, map, refl, ap}
 use Rattle.std.proofs.Common.{sym, ◌∙◌, arith, inl, inr, length, get_or, All, Option, Some, None, filter, zip}
+use Rattle.std.proofs.lemmas.{Grind.common_steps, Bool.cases_Bool, Bool.cases_eq, Bool.cond-true, Bool.cond-false}
+use Rattle.std.proofs.lemmas.{Bool.eqb-true, Bool.ltb-true, Bool.true≢false, List.get_or_default, List.length-map}
 use Rattle.std.specs.{Prelude.Ok, List.range_with_len, List.enumerate_from, Option.option_map, Option.option_or}
-use Rattle.std.proofs.lemmas.Bool.{cases_Bool, cases_eq, cond-true, cond-false, eqb-true, ltb-true, true≢false}
-use Rattle.std.proofs.lemmas.List.{get_or_default, length-map}
 use Rattle.p3_support.specs.{declared.matrix.Dimensions.Dimensions, Batches.greatest, Batches.widths_of}
-use Rattle.p3_merkle_core.specs.Refusals.{first_of, unless, width_refusal, row_width_refusal, size_refusal}
-use Rattle.p3_merkle_core.specs.Refusals.{queries_refusal, width_fault, ok_unless}
-use Rattle.p3_merkle_core.specs.declared.error.MerkleTreeError.TheVariants.{WrongBatchSize, WrongWidth}
-use Rattle.p3_merkle_core.specs.declared.error.MerkleTreeError.TheVariants.{IndexOutOfBounds}
+use Rattle.p3_merkle_core.specs.Refusals.{first_of, unless, width_refusal, row_width_refusal, queries_refusal}
+use Rattle.p3_merkle_core.specs.Refusals.{width_fault, ok_unless}
+use Rattle.p3_merkle_core.specs.declared.error.MerkleTreeError.TheVariants.{WrongWidth, IndexOutOfBounds}
 use Rattle.p3_merkle_core.proofs.Shapes.LeastFacts.{le_tallest}
 
 -- ---- what None says
@@ -107,11 +106,4 @@ rows_fit_from widths rows = each_fits 0 widths rows
 
 pub fit_from : {T : Type 0} (dimensions : List Dimensions) (rows : List (List T)) → width_refusal dimensions rows
     ≡ None → map length rows ≡ widths_of dimensions
-fit_from dimensions rows e =
-    let widths = widths_of dimensions in
-    let both = none_parts (size_refusal (length dimensions) (length rows))
-    (first_of width_fault (enumerate_from 0 (zip widths rows))) e in
-    let size = eqb-true (length dimensions) (length rows)
-    (unless_none (eqb (length dimensions) (length rows)) (WrongBatchSize (length dimensions) (length rows)) both.0)
-    in
-    each_fits 0 widths rows (length-map dimensions (λ d. d.width) ∙ size) both.1
+fit_from dimensions rows e = grind (arith, common_steps, eqb-true, length-map, none_parts, unless_none, each_fits)

@@ -1,16 +1,14 @@
 -- The reasons to refuse a pruned opening, those before there are slots and those after.
-use Rattle.std.proofs.Common.{◌≡◌, ℕ, ◌<◌, Bool, eqb, nat_lt, List, [], ◌∷◌, ◌++◌, map, refl, ap, sym, ◌∙◌, length}
-use Rattle.std.proofs.Common.{get_or, All, Option, None, Some}
-use Rattle.std.proofs.lemmas.{Bool.eqb-true, Bool.ltb-true, List.length-map, List.length-replicate}
+use Rattle.std.proofs.Common.{◌≡◌, ℕ, ◌<◌, Bool, List, [], ◌∷◌, ◌++◌, map, refl, ap, ◌∙◌, length, arith, get_or, All}
+use Rattle.std.proofs.Common.{Option, None, Some}
+use Rattle.std.proofs.lemmas.{Grind.common_steps, Bool.eqb-true, Bool.ltb-true, List.length-map, List.length-replicate}
 use Rattle.p3_support.specs.{declared.matrix.Dimensions.Dimensions, Batches.greatest}
-use Rattle.p3_merkle_core.specs.{Geometry.Shape, Geometry.heights, Gate.gate_refusal, Pruning.PrunedOpening}
-use Rattle.p3_merkle_core.specs.{Pruning.boundary, Refusals.digest_count_refusal, Refusals.first_of}
-use Rattle.p3_merkle_core.specs.Refusals.{first_some, group_refusal, idle_refusal, pruned_refusal, queries_refusal}
-use Rattle.p3_merkle_core.specs.Refusals.{duplicate_refusal, size_refusal, slots_below, width_refusal, rows_of}
+use Rattle.p3_merkle_core.specs.{Geometry.Shape, Geometry.heights, Pruning.PrunedOpening, Pruning.boundary}
+use Rattle.p3_merkle_core.specs.Refusals.{digest_count_refusal, first_of, first_some, group_refusal, pruned_refusal}
+use Rattle.p3_merkle_core.specs.Refusals.{duplicate_refusal, slots_below, width_refusal, rows_of}
 use Rattle.p3_merkle_core.specs.Inner.Agreement.{distinct, early_refusal, first_query, late_refusal, layers_refusal}
 use Rattle.p3_merkle_core.specs.Inner.Agreement.{opened_of, opened_with, slot_rows}
 use Rattle.p3_merkle_core.specs.declared.error.MerkleTreeError.{MerkleTreeError}
-use Rattle.p3_merkle_core.specs.declared.error.MerkleTreeError.TheVariants.{IndexOutOfBounds, WrongBatchSize}
 use Rattle.p3_merkle_core.proofs.Pruned.NoneFacts.{below_from, each_none, fit_from, none_of_both, none_parts}
 use Rattle.p3_merkle_core.proofs.Pruned.{NoneFacts.unless_none, AgreeFacts.groups_are, AgreeFacts.widths_are}
 
@@ -38,20 +36,7 @@ pub record Asked (hs indices : List ℕ) (sets : ℕ) : Type 0 where
 pub asked_from : (hs indices : List ℕ) (sets digests : ℕ) → early_refusal hs indices sets digests ≡ None →
     Asked hs indices sets
 asked_from hs indices sets digests e =
-    let m = greatest hs in
-    let n = length indices in
-    let queries = queries_refusal m indices in
-    let idle = idle_refusal n digests in
-    let a = none_parts (gate_refusal hs) (first_some (size_refusal n sets ∷ idle ∷ queries ∷ [])) e in
-    let b = none_parts (size_refusal n sets) (first_some (idle ∷ queries ∷ [])) a.1 in
-    let c = none_parts idle (first_some (queries ∷ [])) b.1 in
-    let d = none_parts queries None c.1 in
-    record {
-      pairs = eqb-true n sets (unless_none (eqb n sets) (WrongBatchSize n sets) b.0);
-      highest = ltb-true (greatest indices) m
-          (unless_none (nat_lt (greatest indices) m) (IndexOutOfBounds m (greatest indices)) d.0);
-      below = below_from m indices d.0;
-    }
+    grind (arith, common_steps, eqb-true, ltb-true, below_from, none_parts, unless_none)
 
 -- ---- what is answered late
 
@@ -81,16 +66,7 @@ pub pruned_counted : {T : Type 0} (row_eq : T → T → Bool) (s : Shape) (t : �
     first_some (duplicate_refusal row_eq (opened_of indices sets)
     ∷ digest_count_refusal (length (boundary s indices t)) n ∷ []) ≡ Some e →
     pruned_refusal row_eq s t (opened_with indices sets n) ≡ Some e
-pruned_counted row_eq s t indices sets n e early counted =
-    let hs = heights s in
-    let p = opened_of indices sets in
-    let widths = first_of (λ i. width_refusal s.dimensions (rows_of p i)) (slots_below (greatest hs) indices) in
-    let number = digest_count_refusal (length (boundary s indices t)) n in
-    let rest = widths ∷ group_refusal row_eq s t p ∷ [] in
-    rw (length-replicate {A = List ℕ} n [])
-    (past_none (gate_refusal hs ∷ size_refusal (length indices) (length sets) ∷ idle_refusal (length indices) n
-    ∷ queries_refusal (greatest hs) indices ∷ []) (duplicate_refusal row_eq p ∷ number ∷ rest) early
-    ∙ at_some (duplicate_refusal row_eq p ∷ number ∷ []) rest e counted)
+pruned_counted row_eq s t indices sets n e early counted = grind (arith, common_steps)
 
 -- where nothing else is refused, the answer is the late one
 pub pruned_late : {T : Type 0} (row_eq : T → T → Bool) (s : Shape) (t : ℕ) (leaves firsts indices : List ℕ)
@@ -101,30 +77,14 @@ pub pruned_late : {T : Type 0} (row_eq : T → T → Bool) (s : Shape) (t : ℕ)
     digest_count_refusal (length (boundary s indices t)) n ≡ None → late_refusal row_eq s t leaves firsts sets
     ≡ answer → pruned_refusal row_eq s t (opened_with indices sets n) ≡ answer
 pruned_late row_eq s t leaves firsts indices sets n answer listed is early repeats count late =
-    let hs = heights s in
-    let p = opened_of indices sets in
-    let widths = first_of (λ i. width_refusal s.dimensions (rows_of p i)) (slots_below (greatest hs) indices) in
-    let rest = widths ∷ group_refusal row_eq s t p ∷ [] in
-    let number = digest_count_refusal (length (boundary s indices t)) n in
-    let counted = duplicate_refusal row_eq p ∷ number ∷ rest in
-    let firsts_none =
-    past_none (gate_refusal hs ∷ size_refusal (length indices) (length sets) ∷ idle_refusal (length indices) n
-    ∷ queries_refusal (greatest hs) indices ∷ []) counted early in
-    let then_none : first_some counted ≡ first_some rest = rw (repeats, count) refl in
-    rw (length-replicate {A = List ℕ} n []) (firsts_none ∙ then_none
-    ∙ sym (late_is row_eq s t firsts indices sets is (asked_from hs indices (length sets) n early))
-    ∙ ap (λ ls. late_refusal row_eq s t ls firsts sets) (sym listed) ∙ late)
+    grind (arith, common_steps, length-replicate, past_none, asked_from, late_is)
 
 -- ---- rows of their widths are as many as there are matrices
 
 pub full_from : {T : Type 0} (dimensions : List Dimensions) (firsts : List ℕ) (sets : List (List (List T))) →
     first_of (λ query. width_refusal dimensions (get_or sets query [])) firsts ≡ None →
     (k : ℕ) → k < length firsts → length (slot_rows firsts sets k) ≡ length dimensions
-full_from dimensions firsts sets e k h =
-    let rows = get_or sets (get_or firsts k 0) [] in
-    let fit = fit_from dimensions rows
-    (each_none (λ query. width_refusal dimensions (get_or sets query [])) firsts k 0 e h) in
-    sym (length-map rows length) ∙ ap length fit ∙ length-map dimensions (λ d. d.width)
+full_from dimensions firsts sets e k h = grind (arith, common_steps, length-map, each_none, fit_from)
 
 -- ---- what the callers ask
 
@@ -137,12 +97,4 @@ front_none (x ∷ xs) ys e =
 -- what is asked early, where nothing is refused at all
 pub asked_of : {T W : Type 0} (row_eq : T → T → Bool) (s : Shape) (t : ℕ) (p : PrunedOpening T W) →
     pruned_refusal row_eq s t p ≡ None → Asked (heights s) p.indices (length p.rows)
-asked_of row_eq s t p e =
-    let hs = heights s in
-    let is = p.indices in
-    let early = gate_refusal hs ∷ size_refusal (length is) (length p.rows) ∷ idle_refusal (length is) (length p.digests)
-    ∷ queries_refusal (greatest hs) is ∷ [] in
-    let widths = first_of (λ i. width_refusal s.dimensions (rows_of p i)) (slots_below (greatest hs) is) in
-    let rest = duplicate_refusal row_eq p ∷ digest_count_refusal (length (boundary s is t)) (length p.digests) ∷ widths
-    ∷ group_refusal row_eq s t p ∷ [] in
-    asked_from hs is (length p.rows) (length p.digests) (front_none early rest e)
+asked_of row_eq s t p e = grind (arith, common_steps, asked_from, front_none)

@@ -2,6 +2,7 @@
 use Rattle.std.proofs.Common.{◌≡◌, ℕ, zero, suc, ◌+◌, ◌/◌, ◌<◌, ◌≤◌, Bool, true, false, eqb, List, [], ◌∷◌, map, refl}
 use Rattle.std.proofs.Common.{ap, sym, ◌∙◌, arith, inl, inr, length, filter, get_or, set, drop, eq-eqb, All, zip}
 use Rattle.std.proofs.Common.{replicate, ◌≢◌, drop-cons, add-one, Option, Some, not, Vec}
+use Rattle.std.proofs.lemmas.Grind.{common_steps}
 use Rattle.std.proofs.lemmas.Bool.{cases_Bool, eqb-true, or_cases, true≢false, ne_eqb, cases_lt}
 use Rattle.std.proofs.lemmas.{Cmp.lists_equiv, List.drop_all, List.get_or-map, List.get_or_default, List.length-map}
 use Rattle.std.proofs.lemmas.List.Sorted.{IsNonDecreasingBy-from_sort, IsPermutation-map, list_any-IsPermutation}
@@ -86,10 +87,7 @@ distinct_rising indices = rising_filter (is_among indices) 0 (suc (greatest indi
 
 distinct_lists : (indices : List ℕ) (j : ℕ) → is_listed (distinct indices) j ≡ is_among indices j
 unfolding distinct
-distinct_lists indices j =
-    let n = suc (greatest indices) in
-    both_ways (is_listed (distinct indices) j) (is_among indices j) (λ h. (listed_in (is_among indices) 0 n j h).2)
-    (λ c. listed_there (is_among indices) 0 n j c (omega arith) (omega (arith, highest indices j c)))
+distinct_lists indices j = grind (arith, common_steps, is_listed, listed_in, listed_there, highest)
 
 pub distinct_bounded : (m : ℕ) (indices : List ℕ) → All (λ q. q < m) indices → All (λ q. q < m) (distinct indices)
 distinct_bounded m indices below k d h =
@@ -177,11 +175,7 @@ place_past p a n f ih k (suc d) l e = rw f (ih k d l (omega arith))
 
 pub place_is : (p : ℕ → Bool) (a n : ℕ) → PlaceIs p a n (filter p (range_with_len a n))
 place_is p a zero = λ k d l e. absurd (omega arith)
-place_is p a (suc n) =
-    elim (cases_Bool (p a)) [
-      | inl t ↦ rw t (place_at p a n t (place_is p (a + 1) n))
-      | inr f ↦ rw f (place_past p a n f (place_is p (a + 1) n))
-    ]
+place_is p a (suc n) = grind (arith, common_steps, place_is p (a + 1) n, cases_Bool, place_at, place_past)
 
 -- ---- the slot of an index
 
@@ -199,9 +193,7 @@ found_at indices i k l e =
 pub some_place : (indices : List ℕ) (i : ℕ) → is_among indices i ≡ true → (k : ℕ) × (k < length (distinct indices)) ×
     (get_or (distinct indices) k 0 ≡ i)
 unfolding distinct
-some_place indices i c =
-    listed_place (distinct indices) i
-    (listed_there (is_among indices) 0 (suc (greatest indices)) i c (omega arith) (omega (arith, highest indices i c)))
+some_place indices i c = grind (arith, common_steps, listed_there, highest, listed_place)
 
 pub ascending_from : (xs : List ℕ) → IsRising 0 xs → IsAscending xs
 ascending_from xs up i j h l =
@@ -332,8 +324,7 @@ pub repeats_next : {T : Type 0} (row_eq : T → T → Bool) (firsts indices : Li
     (MalformedPrunedProof (InconsistentDuplicateOpenings k)))
     (first_of (repeat_fault row_eq (opened_of indices sets)) (zip (drop (n + 1) indices) (drop (n + 1) sets)))
 repeats_next row_eq firsts indices sets n k is e h w =
-    let at = at_slot firsts indices sets (get_or indices n 0) k is e (queried_at indices n h) w in
-    rw (drop-cons indices n 0 h, drop-cons sets n [] (omega arith), at.rows, w.slot, add-one) refl
+    grind (arith, common_steps, drop-cons, add-one, queried_at, at_slot)
 
 -- the row set of query n, as the code reads it
 pub set_read : {T A B : Type 0} (rows : List (Vec (Vec T A) B)) (n : ℕ) (v : Vec (Vec T A) B) → n < length rows → v
@@ -360,9 +351,7 @@ sets_compared row_eq rows n f mine theirs h k is_mine is_theirs =
 -- a query has its own row set
 pub own_set : {T : Type 0} (row_eq : T → T → Bool) → IsEquivalence row_eq → (sets : List (List (List T))) (n f : ℕ) →
     n ≡ f → pointwise (pointwise row_eq) (get_or sets n []) (get_or sets f []) ≡ true
-own_set row_eq laws sets n f e =
-    ap (λ k. pointwise (pointwise row_eq) (get_or sets n []) (get_or sets k [])) (sym e)
-    ∙ IsEquivalence.refl (lists_equiv (lists_equiv laws)) (get_or sets n [])
+own_set row_eq laws sets n f e = grind (arith, common_steps, lists_equiv)
 
 pub repeat_turn : {T A B : Type 0} (row_eq : T → T → Bool) (firsts indices : List ℕ) (rows : List (Vec (Vec T A) B))
     (total : Option MerkleTreeError) (n k f : ℕ) (differ : Bool) →
@@ -405,12 +394,7 @@ first_place (q ∷ indices) i c =
 pub first_inside : (firsts indices : List ℕ) (i k f : ℕ) → firsts ≡ map (first_query indices) (distinct indices) →
     is_among indices i ≡ true → IsSlot indices i k → f ≡ get_or firsts k f → f < length indices
 first_inside firsts indices i k f is c w e =
-    let inside : k < length firsts =
-    omega (arith, w.place, ap length is, length-map (distinct indices) (first_query indices)) in
-    let there : get_or firsts k 0
-    ≡ first_query indices i =
-    rw (← is, w.there) at (get_or-map (first_query indices) (distinct indices) k 0 0 w.place) in
-    omega (arith, first_place indices i c, there, e ∙ get_or_default firsts k f 0 inside)
+    grind (arith, common_steps, get_or-map, get_or_default, length-map, first_place)
 
 pub distinct_queried : (indices : List ℕ) (k : ℕ) → k < length (distinct indices) →
     is_among indices (get_or (distinct indices) k 0) ≡ true

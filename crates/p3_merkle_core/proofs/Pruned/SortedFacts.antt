@@ -1,10 +1,10 @@
 -- The slots of queries, by a walk over the queries in the order of their indices.
 use Rattle.std.proofs.Common.{◌≡◌, ◌∙◌, ℕ, ◌+◌, ◌-◌, ◌<◌, ◌≤◌, ◌⊎◌, ◌++◌, ◌∷◌, [], List, arith, ap, sym, eqb, get_or}
 use Rattle.std.proofs.Common.{inl, inr, length, length-append, map, refl, set, take}
-use Rattle.std.proofs.{Math.Seq.get_or-append_seam, lemmas.Bool.cases_eq, lemmas.List.get_or-map}
+use Rattle.std.proofs.{lemmas.Grind.common_steps, Math.Seq.get_or-append_seam, lemmas.List.get_or-map}
 use Rattle.std.proofs.lemmas.List.{get_or-set_same, get_or-set_other, get_or_append_left, length-map, get_or_default}
-use Rattle.std.proofs.lemmas.List.{length-set, take_all, Sorted.All-permutation, Sorted.Contains-permutation}
-use Rattle.std.proofs.lemmas.List.FromFn.{get_or-map-range_with_len, length-map-range_with_len}
+use Rattle.std.proofs.lemmas.List.{length-set, FromFn.get_or-map-range_with_len, FromFn.length-map-range_with_len}
+use Rattle.std.proofs.lemmas.{List.Sorted.All-permutation, List.Sorted.Contains-permutation, Bool.cases_eq}
 use Rattle.std.specs.List.{dedup, range_with_len, Sorted.IsPermutation, Sorted.IsSorted}
 use Rattle.std.specs.Ordering.{nat_cmp, ordering_then}
 use Rattle.p3_merkle_core.specs.Inner.Agreement.{distinct, AreSlots, AreSorted, IsSlot}
@@ -114,9 +114,7 @@ slotted_next sorted queries own k previous old new slots h so_far turn =
 pub slotted_all : (sorted : List (ℕ × ℕ)) (queries : List ℕ) → AreSorted sorted queries → (k previous : ℕ)
     (own slots : List ℕ) → length sorted ≤ k → IsSlotted sorted (length queries) k previous own slots →
     own ≡ distinct queries
-slotted_all sorted queries are k previous own slots h w =
-    let keys = map (λ (q : ℕ × ℕ). q.0) sorted in
-    w.once ∙ ap (dedup eqb) (take_all k keys (omega (arith, length-map sorted (λ (q : ℕ × ℕ). q.0)))) ∙ are.once
+slotted_all sorted queries are k previous own slots h w = grind (arith, common_steps)
 
 pub slots_all : (sorted : List (ℕ × ℕ)) (queries : List ℕ) → AreSorted sorted queries → (k previous : ℕ)
     (own slots : List ℕ) → length sorted ≤ k → IsSlotted sorted (length queries) k previous own slots →

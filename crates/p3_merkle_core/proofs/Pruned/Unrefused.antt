@@ -1,7 +1,7 @@
 -- A restorable pruned opening is not refused.
 use Rattle.std.proofs.Common.{◌≡◌, ℕ, zero, suc, ◌+◌, ◌<◌, ◌≤◌, Bool, true, false, eqb, nat_lt, ◌&&◌, List, [], ◌∷◌}
 use Rattle.std.proofs.Common.{map, refl, ap, sym, ◌∙◌, arith, inl, inr, length, get_or, drop, All, Option, None, filter}
-use Rattle.std.proofs.{Common.zip, Common.find, Common.eq-eqb, lemmas.List.length-map}
+use Rattle.std.proofs.{Common.zip, Common.find, Common.eq-eqb, lemmas.List.length-map, lemmas.Grind.common_steps}
 use Rattle.std.proofs.lemmas.Bool.{cases_Bool, cond-false, eqb-true, lt-ltb, ne_eqb, and_parts, and_from, true≢false}
 use Rattle.std.specs.{Prelude.Ok, Prelude.Decides, Cmp.Lexicographic.pointwise, Cmp.Lexicographic.pointwise_decides}
 use Rattle.std.specs.{List.range_with_len, List.enumerate_from, Option.unwrap_or, Option.option_map}
@@ -11,14 +11,14 @@ use Rattle.p3_merkle_core.proofs.Shapes.{GateFacts.gate_lawful, LeastFacts.width
 use Rattle.p3_merkle_core.proofs.{Shapes.LeastFacts.least_bound, Lists.ListFacts.joined_more}
 use Rattle.p3_merkle_core.specs.Geometry.{Shape, exponent, layer_exponent, ancestor, least, layer_len, heights}
 use Rattle.p3_merkle_core.specs.Pruning.{PrunedOpening, is_boundary, boundary, boundary_at, IsRestorable}
-use Rattle.p3_merkle_core.specs.Refusals.{first_of, lead, matrices_at, slots_below, slot_of, unless, size_refusal}
+use Rattle.p3_merkle_core.specs.Refusals.{first_of, lead, matrices_at, slots_below, slot_of, size_refusal}
 use Rattle.p3_merkle_core.specs.Refusals.{idle_refusal, queries_refusal, duplicate_refusal, digest_count_refusal}
 use Rattle.p3_merkle_core.specs.Refusals.{width_refusal, row_refusal, group_refusal, pruned_refusal, pruned_answer}
 use Rattle.p3_merkle_core.specs.Refusals.{row_width_refusal, width_fault, rows_of, ok_unless}
 use Rattle.p3_merkle_core.specs.declared.error.PrunedProofError.TheVariants.{SiblingCountMismatch}
 use Rattle.p3_merkle_core.specs.declared.error.PrunedProofError.TheVariants.{InconsistentDuplicateOpenings}
 use Rattle.p3_merkle_core.specs.declared.error.PrunedProofError.TheVariants.{InconsistentGroupOpening}
-use Rattle.p3_merkle_core.specs.declared.error.MerkleTreeError.TheVariants.{WrongBatchSize, WrongWidth}
+use Rattle.p3_merkle_core.specs.declared.error.MerkleTreeError.TheVariants.{WrongBatchSize}
 use Rattle.p3_merkle_core.specs.declared.error.MerkleTreeError.TheVariants.{IndexOutOfBounds, MalformedPrunedProof}
 
 -- ---- over lists
@@ -87,11 +87,7 @@ index_none m indices some below = none_unless (nat_lt (greatest indices) m) (Ind
 pub each_width : {T : Type 0} (n : ℕ) (rows : List (List T)) →
     first_of width_fault (enumerate_from n (zip (map length rows) rows)) ≡ None
 each_width n [] = refl
-each_width n (r ∷ rows) =
-    none_of_both (unless (eqb (length r) (length r)) (WrongWidth n (length r) (length r)))
-    (first_of width_fault (enumerate_from (n + 1) (zip (map length rows) rows)))
-    (none_unless (eqb (length r) (length r)) (WrongWidth n (length r) (length r)) (eq-eqb (length r) (length r) refl))
-    (each_width (n + 1) rows)
+each_width n (r ∷ rows) = grind (arith, common_steps, each_width (n + 1) rows)
 
 width_none : {T : Type 0} (dimensions : List Dimensions) (rows : List (List T)) → map length rows
     ≡ widths_of dimensions → width_refusal dimensions rows ≡ None
