@@ -1,10 +1,9 @@
 -- The walk over the steps, and ancestors level by level.
-use Rattle.std.proofs.Common.{◌≡◌, ℕ, suc, ◌+◌, ◌-◌, ◌/◌, ◌%◌, ◌<◌, ◌≤◌, false, cond, eqb, List, [], ◌∷◌, ◌++◌, refl}
-use Rattle.std.proofs.Common.{ap, sym, ◌∙◌, arith, inl, inr, add-one}
-use Rattle.std.proofs.lemmas.{Grind.common_steps, Bool.cond_both, Bool.ne_eqb, Bool.cases_eq}
-use Rattle.std.proofs.{lemmas.List.FromFn.map-range_with_len_more, Math.Nat.div-div-eq-div-mul}
+use Rattle.std.proofs.Common.{◌≡◌, ℕ, suc, ◌+◌, ◌-◌, ◌/◌, ◌<◌, ◌≤◌, false, cond, eqb, refl, ap, sym, ◌∙◌, arith, inl}
+use Rattle.std.proofs.{Common.inr, Common.add-one, lemmas.Grind.common_steps, lemmas.Bool.cond_both, lemmas.Bool.ne_eqb}
+use Rattle.std.proofs.{lemmas.Bool.cases_eq, Math.Nat.div-div-eq-div-mul}
 use Rattle.p3_merkle_core.specs.Geometry.{Shape, exponent, layer_exponent, is_bridge, step, levels, leaves_under}
-use Rattle.p3_merkle_core.specs.Geometry.{ancestor, heights, position_in_group, schedule_below, positions_below}
+use Rattle.p3_merkle_core.specs.Geometry.{ancestor, heights}
 use Rattle.p3_support.specs.Batches.{greatest}
 use Rattle.p3_merkle_core.proofs.Shapes.LeastFacts.{least_is, exponent_covers}
 
@@ -60,12 +59,6 @@ at_end s l x w z =
     sym (least_is (λ l. eqb (layer_exponent s l) 0) (exponent (greatest (heights s))) l (omega (arith, w.room)) w.before
     (λ h. rw (← w.at_x, z) refl))
 
--- one more step of the schedule
-pub schedule_more : (s : Shape) (l x n : ℕ) (so_far : List ℕ) → so_far ≡ schedule_below s l → x ≡ layer_exponent s l → n
-    ≡ cond (is_bridge s x) 2 s.arity → so_far ++ n ∷ [] ≡ schedule_below s (l + 1)
-schedule_more s l x n so_far e at is =
-    rw (e, step_at s l x n at is) (sym (map-range_with_len_more (step s) 0 l l (omega arith)))
-
 -- ---- ancestors
 
 pub anc_next : (s : Shape) (l i : ℕ) → ancestor s (suc l) i ≡ ancestor s l i / step s l
@@ -78,17 +71,3 @@ anc_start s i = omega arith
 
 pub step_above_1 : (s : Shape) (l : ℕ) → 2 ≤ s.arity → 2 ≤ step s l
 step_above_1 s l h = cond_both (is_bridge s (layer_exponent s l)) 2 s.arity (λ x. 2 ≤ x) (λ e. omega arith) (λ e. h)
-
--- one more position, from the ancestor of a level
-pub position_more : (s : Shape) (l x n index place : ℕ) (so_far : List ℕ) → so_far ≡ positions_below s l index → place
-    ≡ ancestor s l index → x ≡ layer_exponent s l → n ≡ cond (is_bridge s x) 2 s.arity →
-    so_far ++ (place % n) ∷ [] ≡ positions_below s (l + 1) index
-position_more s l x n index place so_far e is_place at is =
-    rw (e, is_place, step_at s l x n at is)
-    (sym (map-range_with_len_more (λ k. position_in_group s k index) 0 l l (omega arith)))
-
--- the ancestor of the next level
-pub ancestor_more : (s : Shape) (l x n index place : ℕ) → place ≡ ancestor s l index → x ≡ layer_exponent s l → n
-    ≡ cond (is_bridge s x) 2 s.arity → place / n ≡ ancestor s (l + 1) index
-ancestor_more s l x n index place is_place at is =
-    rw (is_place, step_at s l x n at is, add-one) (sym (anc_next s l index))
