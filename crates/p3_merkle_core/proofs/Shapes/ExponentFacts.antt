@@ -11,7 +11,7 @@ use Rattle.std.proofs.lemmas.Nat.{le_or_l, le_or_r, leading_length, or_lt, or_mo
 use Rattle.std.specs.Int.Count.{leading_of_zero, leading_unique}
 use Rattle.std.specs.{Int.Bits.or_zero_r, Prelude.◌==◌, List.list_any, List.range_with_len}
 use Rattle.p3_support.specs.{Batches.heights_of, declared.matrix.Dimensions.Dimensions}
-use Rattle.p3_merkle_core.specs.Geometry.{exponent, Shape, has_rows, heights, is_bridge, layer_exponent}
+use Rattle.p3_merkle_core.specs.Geometry.{exponent, Shape, heights, is_bridge, layer_exponent}
 use Rattle.p3_merkle_core.specs.Inner.Exponents.{digits, next_below}
 use Rattle.p3_merkle_core.specs.{Inner.Steps.level_step, declared.steps.LevelStep.LevelStep}
 use Rattle.p3_merkle_core.proofs.Shapes.StepFacts.{whole_step_falls, next_exponent, IsAt, at_more}
