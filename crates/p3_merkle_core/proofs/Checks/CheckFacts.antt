@@ -1,9 +1,9 @@
 -- What a check ends in: the digest of its last input, which is the one that the walk reaches. An honest opening is
 -- accepted under its cap.
 use Rattle.std.proofs.Common.{◌≡◌, ℕ, zero, suc, ◌<◌, true, false, List, [], ◌∷◌, ◌++◌, map, refl, ap, sym, ◌∙◌, inl}
-use Rattle.std.proofs.Common.{inr, drop, length, Some, slice_get, get_or, ◌≤◌, nat_lt, nat_le, cond, arith, All}
-use Rattle.std.proofs.lemmas.{Bool.cases_Bool, Bool.cond_both, Bool.ltb-true, Option.slice_get-get_or}
-use Rattle.std.proofs.lemmas.List.{append_assoc, FromFn.length-map-range_with_len, FromFn.get_or-map-range_with_len}
+use Rattle.std.proofs.Common.{inr, drop, length, Some, slice_get, get_or, ◌≤◌, arith, All}
+use Rattle.std.proofs.lemmas.{Grind.common_steps, Bool.cases_Bool, Option.slice_get-get_or, List.append_assoc}
+use Rattle.std.proofs.lemmas.List.FromFn.{length-map-range_with_len, get_or-map-range_with_len}
 use Rattle.p3_merkle_core.specs.Geometry.{Shape, IsLawful, ancestor, has_rows, heights, widths, raw_len, layer_len}
 use Rattle.p3_merkle_core.specs.{Geometry.padded_len, Geometry.halved_index, Nodes.Functions}
 use Rattle.p3_merkle_core.specs.Nodes.{pair, padded, Batch, Matrix, shape, node, layer, dimensions_of, HasFullRows}
@@ -16,7 +16,6 @@ use Rattle.p3_support.specs.Batches.{greatest, heights_of, widths_of}
 use Rattle.p3_merkle_core.proofs.{Lists.ListFacts.joined_more, Checks.Completeness.reached_next}
 use Rattle.p3_merkle_core.proofs.Checks.Completeness.{reached_leaf, IsHonest, honest_reaches, honest_count}
 use Rattle.p3_merkle_core.proofs.Shapes.{LadderFacts.row_below, RawFacts.anc_below}
-use Rattle.std.specs.Int.{next_multiple_of}
 
 -- ---- what inputs are made of
 
@@ -126,21 +125,10 @@ pub accepted_by_walk : {T W : Type 0} (f : Functions T W) (s : Shape) (t : ℕ) 
     IsLawful (heights s) → map length o.rows ≡ widths s → length o.siblings ≡ siblings_below s t →
     o.index < greatest (heights s) →
     slice_get cap (ancestor s t o.index) ≡ Some (path_digest f s o t) → IsAccepted (params f s t) cap o
-accepted_by_walk f s t cap o lawful rows_fit count in_range entry =
-    record {
-      lawful = lawful;
-      rows_fit = rows_fit;
-      count = count;
-      in_range = in_range;
-      authentic = entry
-          ∙ ap (λ d. Some d) (walk_reaches f s t o);
-    }
+accepted_by_walk f s t cap o lawful rows_fit count in_range entry = grind (arith, common_steps, walk_reaches)
 
 pub padded_ge : (r n : ℕ) → r ≤ padded_len r n
-padded_ge r n =
-    cond_both (nat_le r 1) r (cond (nat_lt r n) n (next_multiple_of r n)) (λ x. r ≤ x) (λ e. omega arith)
-    (λ e. cond_both (nat_lt r n) n (next_multiple_of r n) (λ x. r ≤ x) (λ h. omega (arith, ltb-true r n h))
-    (λ h. omega arith))
+padded_ge r n = grind (arith, common_steps)
 
 pub lengths_are : {T : Type 0} (row : ℕ → ℕ) (ms : List (Matrix T)) →
     All (λ m. (j : ℕ) → j < m.height → length (m.row j) ≡ m.width) ms →

@@ -1,8 +1,8 @@
 -- A check of an honest opening reaches the ancestors of its index.
-use Rattle.std.proofs.Common.{◌≡◌, ℕ, zero, suc, ◌<◌, ◌≤◌, true, eqb, nat_lt, List, [], ◌∷◌, ◌++◌, map, refl, ap, sym}
-use Rattle.std.proofs.Common.{◌∙◌, arith, inl, inr, length, filter, flat_map, zip, All}
+use Rattle.std.proofs.Common.{◌≡◌, ℕ, zero, suc, ◌<◌, ◌≤◌, true, eqb, nat_lt, List, [], ◌∷◌, map, refl, ap, sym, ◌∙◌}
+use Rattle.std.proofs.Common.{arith, inl, inr, length, filter, flat_map, zip, All}
+use Rattle.std.proofs.lemmas.{Grind.common_steps, Bool.cond-true, Bool.cases_Bool, Bool.lt-ltb, Bool.eqb-true}
 use Rattle.std.specs.List.{list_all}
-use Rattle.std.proofs.lemmas.Bool.{cond-true, cases_Bool, lt-ltb, eqb-true}
 use Rattle.p3_merkle_core.specs.Geometry.{Shape, IsLawful, exponent, layer_exponent, levels, ancestor, halved_index}
 use Rattle.p3_merkle_core.specs.Geometry.{heights, expected_height, raw_len, has_rows, IsArity}
 use Rattle.p3_merkle_core.specs.Nodes.{Functions, Batch, Matrix, shape, at_layer, joined_rows, compress_padded}
@@ -31,13 +31,7 @@ rows_join : {T : Type 0} (x top j : ℕ) (row : ℕ → ℕ) → ((h : ℕ) → 
     (filter (λ (h, r). eqb (exponent h) x) (zip (matrix_heights ms) (map (λ m. m.row (row m.height)) ms)))
     ≡ joined_rows (filter (λ m. eqb (exponent m.height) x) ms) j
 rows_join x top j row same [] le = refl
-rows_join x top j row same (m ∷ ms) le =
-    let rest = rows_join x top j row same ms (omega arith) in
-    elim (cases_Bool (eqb (exponent m.height) x)) [
-      | inl t ↦ let e = same m.height (omega arith) (eqb-true (exponent m.height) x t) in
-          rw (t, e) (ap (λ ws. m.row j ++ ws) rest)
-      | inr f ↦ rw f rest
-    ]
+rows_join x top j row same (m ∷ ms) le = grind (arith, common_steps, rows_join x top j row same ms (omega arith))
 
 all_tall : {T : Type 0} (x top j : ℕ) → ((h : ℕ) → h ≤ top → h ≡ expected_height top h → exponent h ≡ x → j < h) →
     (ms : List (Matrix T)) → greatest (matrix_heights ms) ≤ top →
@@ -88,10 +82,7 @@ pub node_next : {T W : Type 0} (f : Functions T W) (b : Batch T) (l j : ℕ) →
     (compress_padded f b.arity (children_by (node f b) (shape b) l j))
     (row_digest f (at_layer b (suc l)) j)
 unfolding node
-node_next f b l j h =
-    cond-true (nat_lt j (raw_len (shape b) (suc l)))
-    (with_rows f b.arity (has_rows (shape b) (suc l)) (compress_padded f b.arity (children_by (node f b) (shape b) l j))
-    (row_digest f (at_layer b (suc l)) j)) f.default_digest (lt-ltb j (raw_len (shape b) (suc l)) h)
+node_next f b l j h = grind (arith, common_steps)
 
 -- ---- the whole check
 

@@ -1,7 +1,8 @@
 -- The inputs of a check with all its siblings have N digests each, and those of two checks of one shape stand at the
 -- same places.
 use Rattle.std.proofs.Common.{◌≡◌, ℕ, zero, suc, ◌-◌, ◌<◌, ◌≤◌, List, [], ◌∷◌, ◌∙◌, arith, inl, inr, length, All}
-use Rattle.std.proofs.Common.{replicate, length-append, eqb, ◌+◌, ◌++◌, refl, eq-eqb}
+use Rattle.std.proofs.Common.{replicate, length-append, eqb, ◌+◌, ◌++◌, eq-eqb}
+use Rattle.std.proofs.lemmas.Grind.{common_steps}
 use Rattle.std.proofs.lemmas.{Bool.cases_Bool, Bool.cond_both, Bool.cases_eq, Bool.ne_eqb, List.length-replicate}
 use Rattle.std.proofs.lemmas.List.{Edits.length-insert, Elements.All-append, Elements.All-cons, Elements.All-nil}
 use Rattle.p3_merkle_core.specs.Geometry.{Shape, IsArity, is_bridge, layer_exponent, step, position_in_group, has_rows}
@@ -12,7 +13,6 @@ use Rattle.p3_merkle_core.specs.Checks.{params, leaf_input, words_at, digests_at
 use Rattle.p3_merkle_core.specs.declared.collision.Place.TheVariants.{Group, Rows, Pair}
 use Rattle.p3_merkle_core.proofs.{Shapes.StepFacts.step_above_1, Collisions.Extraction.siblings_full}
 use Rattle.p3_merkle_core.proofs.{Collisions.Extraction.in_group, Lists.ListFacts.joined, Lists.ListFacts.joined_more}
-use Rattle.p3_merkle_core.proofs.Checks.CheckFacts.{inputs_with_rows, inputs_alone}
 
 pub filled_long : {T W : Type 0} (f : Functions T W) (n : ℕ) (ds : List (List W)) → length ds ≤ n →
     length (padded n f.default_digest ds) ≡ n
@@ -112,11 +112,7 @@ alike_joined g h (suc n) e =
 level_alike : {T W : Type 0} (f : Functions T W) (s : Shape) (o u : Opening T W) (l : ℕ) →
     AreAlike (inputs_at f s o l) (inputs_at f s u l)
 unfolding AreAlike
-level_alike f s o u l =
-    elim (cases_Bool (has_rows s (suc l))) [
-      | inl t ↦ rw (inputs_with_rows f s o l t, inputs_with_rows f s u l t) (refl, (refl, (refl, tt)))
-      | inr n ↦ rw (inputs_alone f s o l n, inputs_alone f s u l n) (refl, tt)
-    ]
+level_alike f s o u l = grind (arith, common_steps)
 
 alike_last : {T W : Type 0} (xs ys : List (Input T W)) (x y : Input T W) → AreAlike xs ys → IsLastDifference xs ys x y →
     IsAtOnePlace x y
@@ -131,15 +127,4 @@ pub at_one_place : {T W : Type 0} (f : Functions T W) (s : Shape) (t : ℕ) (o u
     IsLastShared (params f s t) o u x y → IsAtOnePlace x y
 unfolding AreAlike
 at_one_place f s t o u x y d =
-    let m = meeting_level s t o.index u.index in
-    elim (cases_eq o.index u.index) [
-      | inl e ↦
-          let test = eq-eqb o.index u.index e in
-          alike_last (inputs (params f s t) o) (inputs (params f s t) u) x y
-          (refl, alike_joined (inputs_at f s o) (inputs_at f s u) t (level_alike f s o u)) (rw test at d)
-      | inr ne ↦
-          let test = ne_eqb o.index u.index ne in
-          alike_last (joined (λ k. inputs_at f s o (m + k)) (t - m)) (joined (λ k. inputs_at f s u (m + k)) (t - m)) x y
-          (alike_joined (λ k. inputs_at f s o (m + k)) (λ k. inputs_at f s u (m + k)) (t - m)
-          (λ k. level_alike f s o u (m + k))) (rw test at d)
-    ]
+    grind (arith, common_steps, eq-eqb, cases_eq, ne_eqb, joined, alike_joined, level_alike, alike_last)

@@ -1,9 +1,9 @@
 -- Trees over matrices of one height: ancestors, siblings, the words of a leaf, and nodes by the leaves below them.
-use Rattle.std.proofs.Common.{◌≡◌, ℕ, zero, suc, ◌+◌, ◌-◌, ◌*◌, ◌/◌, ◌^◌, ◌<◌, ◌≤◌, nat_le, List, [], ◌∷◌, ◌++◌}
-use Rattle.std.proofs.Common.{map, length, zip, refl, ap, sym, ◌∙◌, arith, inl, inr, true}
-use Rattle.std.specs.{Prelude.All, Prelude.◌==◌, List.flat_map, List.range_with_len}
-use Rattle.std.proofs.lemmas.Bool.{cases_lt, eq-eqb, leb-false}
+use Rattle.std.proofs.Common.{◌≡◌, ℕ, zero, suc, ◌+◌, ◌-◌, ◌*◌, ◌/◌, ◌^◌, ◌<◌, ◌≤◌, nat_le, List, [], ◌∷◌, ◌++◌, map}
+use Rattle.std.proofs.Common.{length, zip, refl, ap, sym, ◌∙◌, arith, true}
+use Rattle.std.proofs.lemmas.{Grind.common_steps, Bool.cases_lt, Bool.eq-eqb, Bool.leb-false}
 use Rattle.std.proofs.Math.Nat.{mul-le-mul_right, pow-suc, pow-zero, suc-mul}
+use Rattle.std.specs.{Prelude.All, Prelude.◌==◌, List.flat_map, List.range_with_len}
 use Rattle.p3_support.specs.{Batches.heights_of, declared.matrix.Dimensions.Dimensions}
 use Rattle.p3_merkle_core.specs.Geometry.{IsArity, Shape, ancestor, exponent, layer_exponent, leaves_under, levels}
 use Rattle.p3_merkle_core.specs.Nodes.{Batch, Functions, joined_rows, node, shape}
@@ -65,15 +65,7 @@ module _ {T W : Type 0} (f : Functions T W) (b : Batch T) (n : ℕ) (arity : b.a
 
   -- the nodes that begin below the height
   inside : (l j : ℕ) → j * n ^ l < h → j < nodes_of_height b.arity h l
-  inside l j below =
-      elim (cases_lt j (nodes_of_height b.arity h l)) [
-        | inl less ↦ less
-        | inr more ↦
-            let p = b.arity ^ l in
-            let same : b.arity ^ l ≡ n ^ l = ap (λ x. x ^ l) arity in
-            let covers : nodes_of_height b.arity h l * p ≤ j * p = mul-le-mul_right p more in
-            absurd (omega (arith, ceil_covers h p (arity_power_pos b.arity own l), covers, ap (λ x. j * x) same))
-      ]
+  inside l j below = grind (arith, common_steps, cases_lt, mul-le-mul_right, arity_power_pos, ceil_covers, own)
 
   pub next_of : (l j : ℕ) → l < levels (shape b) → j * n ^ suc l < h → node f b (suc l) j
       ≡ f.compression (map (node f b l) (range_with_len (n * j) n))

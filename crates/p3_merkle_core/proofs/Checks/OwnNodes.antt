@@ -2,15 +2,14 @@
 -- opening, in query order.
 use Rattle.std.proofs.Common.{◌≡◌, ℕ, zero, suc, ◌+◌, ◌*◌, ◌<◌, ◌≤◌, Bool, List, [], ◌∷◌, map, refl, ap, ◌∙◌, arith}
 use Rattle.std.proofs.Common.{inl, inr, length, get_or, filter, remove}
-use Rattle.std.proofs.lemmas.{Bool.cases_Bool, List.map-append, List.FromFn.get_or-map-range_with_len}
-use Rattle.std.proofs.Math.Nat.{mul-le-mul_left, mul-suc}
+use Rattle.std.proofs.lemmas.{Grind.common_steps, Bool.cases_Bool, List.map-append}
+use Rattle.std.proofs.{lemmas.List.FromFn.get_or-map-range_with_len, Math.Nat.mul-le-mul_left, Math.Nat.mul-suc}
 use Rattle.std.specs.List.{range_with_len}
-use Rattle.p3_merkle_core.specs.Geometry.{Shape, levels, layer_len, ancestor, position_in_group, step, raw_len}
-use Rattle.p3_merkle_core.specs.Nodes.{Functions, Batch, shape, node, layer, layers}
 use Rattle.p3_merkle_core.specs.Pruning.{boundary, boundary_at, is_boundary, honest_query, restored_path, IsHonestQuery}
-use Rattle.p3_merkle_core.specs.Pruning.{restored_paths, pruned_in_layers, pruned_of}
-use Rattle.p3_merkle_core.specs.Openings.{siblings_by, node_in, level_siblings, opening_in_layers, opening_of, honest}
-use Rattle.p3_merkle_core.specs.{Openings.honest_rows, Checks.params}
+use Rattle.p3_merkle_core.specs.{Pruning.restored_paths, Pruning.pruned_in_layers, Checks.params, Openings.siblings_by}
+use Rattle.p3_merkle_core.specs.Openings.{node_in, level_siblings, opening_in_layers, opening_of, honest, honest_rows}
+use Rattle.p3_merkle_core.specs.Nodes.{Functions, Batch, shape, node, layer, layers}
+use Rattle.p3_merkle_core.specs.Geometry.{Shape, levels, layer_len, ancestor, position_in_group, step, raw_len}
 use Rattle.p3_merkle_core.proofs.Checks.{Completeness.IsHonest, PathFacts.joined_same, PathFacts.map_same}
 use Rattle.p3_merkle_core.proofs.Shapes.RawFacts.{anc_below, children_fit}
 use Rattle.p3_merkle_core.proofs.{Lists.ListFacts.joined_more, Covered.Restoration.honest_paths}
@@ -53,11 +52,7 @@ boundary_alike g h s queries (suc t) e =
 -- what is read of the boundary out of a tree's layers is the honest pruned opening
 pub own_pruned_opening_is : {T W : Type 0} (f : Functions T W) (b : Batch T) (t : ℕ) (indices : List ℕ) →
     IsHonestQuery b t indices → pruned_in_layers b (layers f b) t indices ≡ honest_query f b t indices
-own_pruned_opening_is f b t indices w =
-    let digests =
-    boundary_alike (λ (l, j). node_in [] (layers f b) l j) (λ (l, k). node f b l k) (shape b) indices t
-    (λ l j h g. own_node_is f b l j (omega (arith, w.queried.in_tree)) g) in
-    λ i. pruned_of indices (map (honest_rows b) indices) (digests i)
+own_pruned_opening_is f b t indices w = grind (arith, common_steps, own_node_is, boundary_alike)
 
 -- ---- the siblings of one index
 

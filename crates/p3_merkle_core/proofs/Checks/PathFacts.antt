@@ -1,8 +1,8 @@
 -- Paths made of values of nodes: their length, and the groups that they complete.
 use Rattle.std.proofs.Common.{◌≡◌, ℕ, zero, suc, ◌+◌, ◌-◌, ◌*◌, ◌/◌, ◌<◌, ◌≤◌, List, map, refl, ap, ◌∙◌, arith, length}
-use Rattle.std.proofs.Common.{get_or, remove, length-append, sym}
-use Rattle.std.specs.List.{range_with_len}
+use Rattle.std.proofs.{Common.get_or, Common.remove, Common.length-append, Common.sym, lemmas.Grind.common_steps}
 use Rattle.std.proofs.lemmas.List.FromFn.{length-map-range_with_len, get_or-map-range_with_len}
+use Rattle.std.specs.List.{range_with_len}
 use Rattle.p3_merkle_core.specs.Geometry.{Shape, step, ancestor, position_in_group, IsArity}
 use Rattle.p3_merkle_core.specs.{Nodes.Functions, Openings.Opening}
 use Rattle.p3_merkle_core.specs.Checks.{siblings_below, siblings_at, group_at}
@@ -30,12 +30,7 @@ piece s v i l = remove (group_values s v l (ancestor s (suc l) i)) (position_in_
 
 piece_length : {X : Type 0} (s : Shape) → IsArity s.arity → (v : ℕ → ℕ → X) (i l : ℕ) → length (piece s v i l)
     ≡ step s l - 1
-piece_length s w v i l =
-    let a = step_above_1 s l w.above_1 in
-    let j = ancestor s (suc l) i in
-    let n : length (group_values s v l j)
-    ≡ step s l = length-map-range_with_len (λ k. v l (step s l * j + k)) 0 (step s l) in
-    length-remove (group_values s v l j) (position_in_group s l i) (omega arith) ∙ ap (λ k. k - 1) n
+piece_length s w v i l = grind (arith, common_steps, length-map-range_with_len, step_above_1, length-remove)
 
 pub path_length : {X : Type 0} (s : Shape) → IsArity s.arity → (v : ℕ → ℕ → X) (i l : ℕ) →
     length (joined (piece s v i) l) ≡ siblings_below s l

@@ -2,7 +2,7 @@
 -- to the cap layer: those of the authenticated matrices.
 use Rattle.std.proofs.Common.{◌≡◌, ◌↔◌, ℕ, zero, suc, ◌-◌, ◌<◌, ◌≤◌, List, ◌++◌, refl, ap, sym, ◌∙◌, subst, arith}
 use Rattle.std.proofs.Common.{length, take, drop, insert, replicate, flat_map, eq-eqb, true, eqb, get_or}
-use Rattle.std.proofs.lemmas.List.{take_all, length-map, Edits.length-insert}
+use Rattle.std.proofs.lemmas.{Grind.common_steps, List.take_all, List.length-map, List.Edits.length-insert}
 use Rattle.std.proofs.lemmas.Bool.{eqb-true, leb-true, le-leb}
 use Rattle.p3_merkle_core.specs.Geometry.{Shape, IsArity, step, ancestor, position_in_group, heights, exponent}
 use Rattle.p3_merkle_core.specs.Geometry.{layer_exponent, layer_of, levels, halved_index}
@@ -64,11 +64,7 @@ words_same s us vs l e = ap (λ rs. flat_map (λ (h, row). row) rs) e
 group_same : {T W : Type 0} (f : Functions T W) (s : Shape) (o u : Opening T W) (l : ℕ) → o.index ≡ u.index → o.siblings
     ≡ u.siblings → path_digest f s o l ≡ path_digest f s u l →
     group_at f s o l (path_digest f s o l) ≡ group_at f s u l (path_digest f s u l)
-group_same f s o u l same sent below =
-    ap (λ i. insert (siblings_at s o l) (position_in_group s l i) (path_digest f s o l)) same
-    ∙ ap (λ ds. insert (take (step s l - 1) (drop (siblings_below s l) ds)) (position_in_group s l u.index)
-    (path_digest f s o l)) sent
-    ∙ ap (λ d. insert (siblings_at s u l) (position_in_group s l u.index) d) below
+group_same f s o u l same sent below = grind (arith, common_steps)
 
 reached_same : {T W : Type 0} (f : Functions T W) (s : Shape) (t : ℕ) (o u : Opening T W) → o.index ≡ u.index →
     o.siblings ≡ u.siblings → ((l : ℕ) → l ≤ t → layer_rows s o.rows l ≡ layer_rows s u.rows l) →
@@ -83,10 +79,7 @@ reached_same f s t o u same sent rows (suc n) h =
 level_same : {T W : Type 0} (f : Functions T W) (s : Shape) (t : ℕ) (o u : Opening T W) → o.index ≡ u.index → o.siblings
     ≡ u.siblings → ((l : ℕ) → l ≤ t → layer_rows s o.rows l ≡ layer_rows s u.rows l) →
     (l : ℕ) → l < t → inputs_at f s o l ≡ inputs_at f s u l
-level_same f s t o u same sent rows l h =
-    let group = group_same f s o u l same sent (reached_same f s t o u same sent rows l (omega arith)) in
-    let words = words_same s o.rows u.rows (suc l) (rows (suc l) (omega arith)) in
-    rw (group, words) refl
+level_same f s t o u same sent rows l h = grind (arith, common_steps, words_same, group_same, reached_same)
 
 -- ---- both ways
 
@@ -134,13 +127,7 @@ pub authenticated_bound : {T W : Type 0} (f : Functions T W) (s : Shape) (t : �
     halved_index (greatest (heights s)) (get_or (heights s) k 0) o.index
     ≡ halved_index (greatest (heights s)) (get_or (heights s) k 0) u.index → opened_row o k ≡ opened_row u k
 authenticated_bound f s t cap o u w a b e k inside here same =
-    let h = get_or (heights s) k 0 in
-    let l = layer_of s h in
-    let low : l ≤ t = leb-true l t here in
-    let one : ancestor s l o.index ≡ ancestor s l u.index = sym (row_is_anc s w k o.index inside a.in_range) ∙ same
-    ∙ row_is_anc s w k u.index inside b.in_range in
-    row_alike s o u k w (rows_in_pairs f s t cap o a) (rows_in_pairs f s t cap u b) inside
-    (rows_bound f s t cap o u a b e l low one)
+    grind (arith, common_steps, leb-true, rows_bound, row_is_anc, rows_in_pairs, row_alike)
 
 -- the matrices of a layer up to the cap are authenticated
 layer_authenticated : (s : Shape) (t l k : ℕ) → l ≤ t → eqb (exponent (get_or (heights s) k 0)) (layer_exponent s l)

@@ -1,10 +1,10 @@
 -- The answers under a cap: what is accepted is what is not refused.
 use Rattle.std.proofs.Common.{◌≡◌, ◌↔◌, ℕ, zero, suc, ◌<◌, Bool, true, false, eqb, nat_lt, List, [], ◌∷◌, map, refl, ap}
 use Rattle.std.proofs.Common.{sym, ◌∙◌, arith, length, get_or, slice_get, Option, Some, None, eq-eqb}
+use Rattle.std.proofs.lemmas.{Grind.common_steps, Bool.and_parts, Bool.and_from, Bool.eqb-true, Bool.ltb-true}
+use Rattle.std.proofs.lemmas.{Bool.lt-ltb, Bool.true≢false, List.length-map}
 use Rattle.std.specs.{Prelude.Ok, Prelude.Decides, Cmp.Lexicographic.pointwise, Cmp.Lexicographic.pointwise_decides}
 use Rattle.std.specs.{List.list_all, Option.unwrap_or, Option.option_map, Option.option_or}
-use Rattle.std.proofs.lemmas.Bool.{and_parts, and_from, eqb-true, ltb-true, lt-ltb, true≢false}
-use Rattle.std.proofs.lemmas.List.{length-map}
 use Rattle.p3_merkle_core.proofs.Checks.CheckFacts.{accepted_walk, accepted_by_walk}
 use Rattle.p3_merkle_core.proofs.Covered.Equivalence.{query_covered, rows_under_is, equivalent}
 use Rattle.p3_merkle_core.proofs.Pruned.Answered.{restorable}
@@ -13,14 +13,12 @@ use Rattle.p3_merkle_core.proofs.Pruned.Unrefused.{unrefused, size_none, each_wi
 use Rattle.p3_merkle_core.proofs.Shapes.{GateFacts.gate_lawful, LeastFacts.length-widths}
 use Rattle.p3_support.specs.Batches.{greatest}
 use Rattle.p3_merkle_core.specs.Geometry.{Shape, IsArity, ancestor, heights, widths, IsLawful}
-use Rattle.p3_merkle_core.specs.{Gate.gate_refusal, Nodes.Functions, Openings.Opening}
+use Rattle.p3_merkle_core.specs.{Nodes.Functions, Openings.Opening}
 use Rattle.p3_merkle_core.specs.Checks.{IsAccepted, siblings_below, path_digest, params}
 use Rattle.p3_merkle_core.specs.Pruning.{PrunedOpening, restored_node, IsCapped, IsPrunedAccepted, IsRestorable}
-use Rattle.p3_merkle_core.specs.Refusals.{first_some, unless, is_entry, size_refusal, sibling_count_refusal}
-use Rattle.p3_merkle_core.specs.Refusals.{row_width_refusal, refusal_under, answer_under, pruned_refusal, cap_refusal}
-use Rattle.p3_merkle_core.specs.Refusals.{pruned_answer_under, form_refusal, ok_unless}
-use Rattle.p3_merkle_core.specs.declared.error.MerkleTreeError.TheVariants.{WrongBatchSize, WrongHeight}
-use Rattle.p3_merkle_core.specs.declared.error.MerkleTreeError.TheVariants.{IndexOutOfBounds, CapMismatch}
+use Rattle.p3_merkle_core.specs.Refusals.{unless, is_entry, row_width_refusal, refusal_under, answer_under}
+use Rattle.p3_merkle_core.specs.Refusals.{pruned_refusal, cap_refusal, pruned_answer_under, form_refusal, ok_unless}
+use Rattle.p3_merkle_core.specs.declared.error.MerkleTreeError.TheVariants.{WrongHeight, IndexOutOfBounds, CapMismatch}
 
 -- ---- entries
 
@@ -60,26 +58,7 @@ pub record HasForm {T : Type 0} (s : Shape) (t index : ℕ) (rows : List (List T
 pub form_from : {T : Type 0} (s : Shape) (t index : ℕ) (rows : List (List T)) (siblings : ℕ) →
     form_refusal s t index rows siblings ≡ None → HasForm s t index rows siblings
 form_from s t index rows siblings e =
-    let m = greatest (heights s) in
-    let r5 = unless (nat_lt index m) (IndexOutOfBounds m index) ∷ [] in
-    let r4 = row_width_refusal (widths s) rows ∷ r5 in
-    let r3 = sibling_count_refusal (siblings_below s t) siblings ∷ r4 in
-    let a = none_parts (size_refusal (length s.dimensions) (length rows)) (first_some (gate_refusal (heights s) ∷ r3))
-    e in
-    let b = none_parts (gate_refusal (heights s)) (first_some r3) a.1 in
-    let c = none_parts (sibling_count_refusal (siblings_below s t) siblings) (first_some r4) b.1 in
-    let d = none_parts (row_width_refusal (widths s) rows) (first_some r5) c.1 in
-    let g = none_parts (unless (nat_lt index m) (IndexOutOfBounds m index)) None d.1 in
-    let size = eqb-true (length s.dimensions) (length rows)
-    (unless_none (eqb (length s.dimensions) (length rows)) (WrongBatchSize (length s.dimensions) (length rows)) a.0)
-    in
-    record {
-      lawful = (gate_lawful (heights s)).0 b.0;
-      rows_fit = rows_fit_from (widths s) rows (length-widths s ∙ size) d.0;
-      count = sym (eqb-true (siblings_below s t) siblings
-          (unless_none (eqb (siblings_below s t) siblings) (WrongHeight (siblings_below s t) siblings) c.0));
-      in_range = ltb-true index m (unless_none (nat_lt index m) (IndexOutOfBounds m index) g.0);
-    }
+    grind (arith, common_steps, eqb-true, ltb-true, none_parts, unless_none, rows_fit_from, gate_lawful, length-widths)
 
 pub form_none : {T : Type 0} (s : Shape) (t index : ℕ) (rows : List (List T)) (siblings : ℕ) →
     HasForm s t index rows siblings → form_refusal s t index rows siblings ≡ None

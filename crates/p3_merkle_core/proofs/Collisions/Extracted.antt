@@ -1,18 +1,17 @@
 -- The last difference of two checks: there is none exactly if they agree wherever they share a place, and else it is a
 -- collision. The first pair of places at which something is found.
-use Rattle.std.proofs.Common.{◌≡◌, ◌≢◌, ◌↔◌, ℕ, ◌+◌, ◌-◌, Bool, List, [], ◌∷◌, refl, ap, sym, ◌∙◌, arith, inl, inr}
-use Rattle.std.proofs.Common.{length, Option, Some, None, eq-eqb, ◌⊎◌, zero, suc, ◌<◌, ◌≤◌}
-use Rattle.std.proofs.lemmas.Bool.{cases_Bool, cases_eq, cond-false, and_parts, and_from, eqb-true, ne_eqb, true≢false}
-use Rattle.std.proofs.lemmas.Bool.{false≢true}
+use Rattle.std.proofs.Common.{◌≡◌, ◌≢◌, ◌↔◌, ℕ, ◌+◌, Bool, List, [], ◌∷◌, refl, ap, sym, ◌∙◌, arith, inl, inr, length}
+use Rattle.std.proofs.Common.{Option, Some, None, eq-eqb, ◌⊎◌, zero, suc, ◌<◌, ◌≤◌}
+use Rattle.std.proofs.lemmas.{Grind.common_steps, Bool.cases_Bool}
+use Rattle.std.proofs.lemmas.Bool.{cases_eq, cond-false, and_parts, and_from, eqb-true, ne_eqb, true≢false, false≢true}
 use Rattle.std.specs.{Option.option_or, Option.option_map, Cmp.Lexicographic.pointwise_decides, List.range_with_len}
-use Rattle.p3_merkle_core.specs.Checks.{AgreeWhereShared, Input, IsAccepted, IsLastDifference, inputs_at, shared_inputs}
-use Rattle.p3_merkle_core.specs.Checks.{meeting_level, params, Params, Words, Digests, HasDigests}
+use Rattle.p3_merkle_core.specs.Checks.{AgreeWhereShared, Input, IsAccepted, IsLastDifference, shared_inputs}
+use Rattle.p3_merkle_core.specs.Checks.{params, Params, Words, Digests, HasDigests}
 use Rattle.p3_merkle_core.specs.Extraction.{difference_of, input_eq, last_difference, IsCollision, place_eq, content_eq}
 use Rattle.p3_merkle_core.specs.{Extraction.first_pair, Geometry.IsArity, Geometry.Shape, Nodes.Functions}
 use Rattle.p3_merkle_core.specs.{Openings.Opening, Refusals.unless, Refusals.IsEquality, Refusals.first_of}
 use Rattle.p3_merkle_core.specs.declared.collision.Place.TheVariants.{Leaf, Group, Rows, Pair}
-use Rattle.p3_merkle_core.proofs.Pruned.NoneFacts.{none_parts, unless_none, none_unless, none_of_both, map_none}
-use Rattle.p3_merkle_core.proofs.Pruned.NoneFacts.{none_map, range_none}
+use Rattle.p3_merkle_core.proofs.Pruned.NoneFacts.{none_unless, map_none, none_map, range_none}
 use Rattle.p3_merkle_core.proofs.Collisions.Extraction.{collides, level_lengths}
 use Rattle.p3_merkle_core.proofs.Checks.InputFacts.{of_last_difference, shared_full, at_one_place}
 use Rattle.p3_merkle_core.proofs.{Checks.Binding.pieces_long, Pruned.Unrefused.all_in_range}
@@ -50,18 +49,7 @@ content_eq_decides row_eq digest_eq dec dec_w (Digests x) (Digests y) =
 pub input_eq_decides : {T W : Type 0} (row_eq : T → T → Bool) (digest_eq : W → W → Bool) → IsEquality row_eq →
     IsEquality digest_eq → IsEquality (input_eq row_eq digest_eq)
 input_eq_decides {T} {W} row_eq digest_eq dec dec_w x y =
-    let place = place_eq_decides x.place y.place in
-    let content = content_eq_decides row_eq digest_eq dec dec_w x.content y.content in (
-      λ e.
-          let both = and_parts (place_eq x.place y.place) (content_eq row_eq digest_eq x.content y.content) e in
-          let p = place.0 both.0 in
-          let c = content.0 both.1 in
-          λ i. record { place = p i; content = c i },
-      λ e.
-          let p = place.1 (ap (λ (z : Input T W). z.place) e) in
-          let c = content.1 (ap (λ (z : Input T W). z.content) e) in
-          and_from (place_eq x.place y.place) (content_eq row_eq digest_eq x.content y.content) p c,
-    )
+    grind (arith, common_steps, and_parts, and_from, place_eq_decides, content_eq_decides)
 
 -- ---- the last difference
 
@@ -70,19 +58,7 @@ pub none_differs : {X : Type 0} (test : X → X → Bool) → IsEquality test �
 none_differs test dec [] [] same = (λ e. refl, λ e. refl)
 none_differs test dec [] (y ∷ ys) same = absurd (omega arith)
 none_differs test dec (x ∷ xs) [] same = absurd (omega arith)
-none_differs test dec (x ∷ xs) (y ∷ ys) same =
-    let rest = none_differs test dec xs ys (omega arith) in (
-      λ e.
-          let p = none_parts (last_difference test xs ys) (unless (test x y) (x, y)) e in
-          let head = (dec x y).0 (unless_none (test x y) (x, y) p.1) in
-          let tail = rest.0 p.0 in
-          cc,
-      λ e.
-          let tail : xs ≡ ys = cc in
-          let head : x ≡ y = cc in
-          none_of_both (last_difference test xs ys) (unless (test x y) (x, y)) (rest.1 tail)
-          (none_unless (test x y) (x, y) ((dec x y).1 head)),
-    )
+none_differs test dec (x ∷ xs) (y ∷ ys) same = grind (arith, common_steps, none_differs test dec xs ys (omega arith))
 
 here_or_later : {X : Type 0} (test : X → X → Bool) → IsEquality test → (x y : X) (xs ys : List X) (a b : X) → length xs
     ≡ length ys → (last_difference test xs ys ≡ Some (a, b) → IsLastDifference xs ys a b) →
@@ -90,21 +66,7 @@ here_or_later : {X : Type 0} (test : X → X → Bool) → IsEquality test → (
     IsLastDifference (x ∷ xs) (y ∷ ys) a b
 here_or_later test dec x y xs ys a b same below (Some p) is e = inl (below (is ∙ e))
 here_or_later {X} test dec x y xs ys a b same below None is e =
-    let pair : X × X = (x, y) in
-    elim (cases_Bool (test x y)) [
-      | inl t ↦ absurd (let n = none_unless (test x y) pair t in cc)
-      | inr f ↦
-          let is_pair : Some pair ≡ Some (a, b) = sym (cond-false (test x y) None (Some pair) f) ∙ e in
-          let both : pair ≡ (a, b) = cc in
-          let first : x ≡ a = ap (λ (p : X × X). p.0) both in
-          let second : y ≡ b = ap (λ (p : X × X). p.1) both in
-          inr (
-            (none_differs test dec xs ys same).0 is,
-            first,
-            second,
-            λ z. true≢false (sym ((dec x y).1 (first ∙ z ∙ sym second)) ∙ f),
-          )
-    ]
+    grind (arith, common_steps, cases_Bool, cond-false, true≢false, none_unless, none_differs)
 
 pub some_differs : {X : Type 0} (test : X → X → Bool) → IsEquality test → (xs ys : List X) (a b : X) → length xs
     ≡ length ys → last_difference test xs ys ≡ Some (a, b) → IsLastDifference xs ys a b
@@ -124,19 +86,7 @@ differs (x ∷ xs) (y ∷ ys) a b (inr d) = d.3
 
 pub shared_long : {T W : Type 0} (f : Functions T W) (s : Shape) (t : ℕ) (o u : Opening T W) →
     length (shared_inputs (params f s t) o.index u.index o) ≡ length (shared_inputs (params f s t) o.index u.index u)
-shared_long f s t o u =
-    let m = meeting_level s t o.index u.index in
-    elim (cases_eq o.index u.index) [
-      | inl z ↦
-          let test = eq-eqb o.index u.index z in
-          let long = pieces_long (inputs_at f s o) (inputs_at f s u) t (level_lengths f s o u) in
-          rw test (omega (arith, long))
-      | inr nz ↦
-          let test = ne_eqb o.index u.index nz in
-          let long = pieces_long (λ k. inputs_at f s o (m + k)) (λ k. inputs_at f s u (m + k)) (t - m)
-          (λ k. level_lengths f s o u (m + k)) in
-          rw test long
-    ]
+shared_long f s t o u = grind (arith, common_steps, eq-eqb, cases_eq, ne_eqb, level_lengths, pieces_long)
 
 -- two checks have no difference exactly where they agree wherever they share a place
 pub no_difference : {T W : Type 0} (row_eq : T → T → Bool) (digest_eq : W → W → Bool) (c : Params T W)

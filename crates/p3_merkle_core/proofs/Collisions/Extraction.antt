@@ -1,12 +1,12 @@
 -- The last difference of two checks that reach one digest is a collision.
 use Rattle.std.proofs.Common.{◌≡◌, ℕ, zero, suc, ◌+◌, ◌-◌, ◌%◌, ◌<◌, ◌≤◌, Bool, eqb, List, [], ◌∷◌, ◌++◌, refl, ap, sym}
-use Rattle.std.proofs.Common.{subst, ◌∙◌, arith, inl, inr, ◌⊎◌, length, insert, replicate, length-append, length-take}
-use Rattle.std.proofs.Common.{length-drop, add-suc, eq-eqb, slice_get}
+use Rattle.std.proofs.Common.{◌∙◌, arith, inl, inr, ◌⊎◌, length, insert, length-append, length-take, length-drop}
+use Rattle.std.proofs.{Common.add-suc, Common.eq-eqb, Common.slice_get, lemmas.Grind.common_steps}
 use Rattle.std.proofs.lemmas.Bool.{cases_Bool, cases_lt, cases_eq, eqb-true, ne_eqb}
 use Rattle.std.specs.List.{flat_map, range_with_len}
 use Rattle.p3_merkle_core.specs.Geometry.{Shape, step, ancestor, position_in_group, has_rows, IsArity}
 use Rattle.p3_merkle_core.specs.{Nodes.Functions, Nodes.pair, Openings.Opening, Checks.Input, Checks.input_digest}
-use Rattle.p3_merkle_core.specs.Checks.{inputs_at, group_at, path_digest, siblings_at, siblings_below, IsLastDifference}
+use Rattle.p3_merkle_core.specs.Checks.{inputs_at, path_digest, siblings_at, siblings_below, IsLastDifference}
 use Rattle.p3_merkle_core.specs.Checks.{shared_inputs, meeting_level, IsAccepted, params, digests_at, layer_words}
 use Rattle.p3_merkle_core.specs.declared.collision.Place.TheVariants.{Pair}
 use Rattle.p3_merkle_core.proofs.Shapes.{LeastFacts.least_passes, StepFacts.anc_next, StepFacts.step_above_1}
@@ -64,24 +64,7 @@ same_pairs f s o u l e = let same = same_digests (Pair l) (Pair l) (pair_at f s 
 level_collides : {T W : Type 0} (f : Functions T W) (s : Shape) (o u : Opening T W) (l : ℕ) (x y : Input T W) →
     path_digest f s o (suc l) ≡ path_digest f s u (suc l) →
     IsLastDifference (inputs_at f s o l) (inputs_at f s u l) x y → input_digest f x ≡ input_digest f y
-level_collides f s o u l x y e d =
-    let a = reached_next f s o l in
-    let b = reached_next f s u l in
-    elim (cases_Bool (has_rows s (suc l))) [
-      | inl t ↦
-          let a' = rw t at a in
-          let b' = rw t at b in
-          elim (rw t at d) [
-            | inl (inl (inl n)) ↦ absurd n
-            | inl (inl (inr p)) ↦ rw (← p.1, ← p.2) (sym a' ∙ e ∙ b')
-            | inl (inr p) ↦ let q = same_pairs f s o u l (let z = p.0 in cc) in rw (← p.1, ← p.2) q.1
-            | inr p ↦ let q = same_pairs f s o u l (let z = p.0 in cc) in rw (← p.1, ← p.2) q.0
-          ]
-      | inr n ↦
-          let a' = rw n at a in
-          let b' = rw n at b in
-          elim (rw n at d) [ inl z ↦ absurd z | inr p ↦ rw (← p.1, ← p.2) (sym a' ∙ e ∙ b') ]
-    ]
+level_collides f s o u l x y e d = grind (arith, common_steps, cases_Bool, reached_next, same_pairs)
 
 -- where the level's inputs are equal, so is what it began with
 level_keeps : {T W : Type 0} (f : Functions T W) (s : Shape) (o u : Opening T W) (l : ℕ) →
@@ -89,14 +72,7 @@ level_keeps : {T W : Type 0} (f : Functions T W) (s : Shape) (o u : Opening T W)
     position_in_group s l o.index ≤ length (siblings_at s o l) →
     position_in_group s l o.index ≤ length (siblings_at s u l) →
     inputs_at f s o l ≡ inputs_at f s u l → path_digest f s o l ≡ path_digest f s u l
-level_keeps {T} f s o u l same h k e =
-    let g = same_group f s u l (full_group f s o l) _ (sym (group_first f s o l) ∙ e) in
-    let blanks = λ (v : Opening _ _). replicate (s.arity - length (group_at f s v l (path_digest f s v l)))
-    f.default_digest in
-    put_back (siblings_at s o l) (siblings_at s u l) (blanks o) (blanks u) (position_in_group s l o.index)
-    (path_digest f s o l) (path_digest f s u l) h k
-    (subst (λ (p : ℕ). full_group f s o l ≡ insert (siblings_at s u l) p (path_digest f s u l) ++ blanks u) (sym same)
-    g)
+level_keeps {T} f s o u l same h k e = grind (arith, common_steps, group_first, same_group, put_back)
 
 -- ---- many levels
 
@@ -108,11 +84,7 @@ joined_lengths : {T W : Type 0} (f : Functions T W) (s : Shape) (o u : Opening T
     length (joined (λ k. inputs_at f s o (m + k)) n) ≡ length (joined (λ k. inputs_at f s u (m + k)) n)
 joined_lengths f s o u m zero = refl
 joined_lengths f s o u m (suc n) =
-    ap length (joined_more (λ k. inputs_at f s o (m + k)) n)
-    ∙ length-append (joined (λ k. inputs_at f s o (m + k)) n) (inputs_at f s o (m + n))
-    ∙ (let p = joined_lengths f s o u m n in let q = level_lengths f s o u (m + n) in omega arith)
-    ∙ sym (length-append (joined (λ k. inputs_at f s u (m + k)) n) (inputs_at f s u (m + n)))
-    ∙ ap length (sym (joined_more (λ k. inputs_at f s u (m + k)) n))
+    grind (arith, common_steps, joined_lengths f s o u m n, length-append, joined, joined_more, level_lengths)
 
 -- two openings with all their siblings, whose places in their groups are the same at each level above m and below t
 pub record Meet {T W : Type 0} (s : Shape) (o u : Opening T W) (m t : ℕ) : Type 0 where

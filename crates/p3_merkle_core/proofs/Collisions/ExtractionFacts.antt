@@ -1,6 +1,7 @@
 -- The definition's answer to two openings of one cap, and what it means.
 use Rattle.std.proofs.Common.{◌≡◌, ◌↔◌, ℕ, ◌<◌, Bool, List, [], refl, ap, sym, subst, ◌∙◌, arith, inl, inr, length}
 use Rattle.std.proofs.{Common.Option, Common.Some, Common.None, lemmas.List.ext_get_or, lemmas.List.length-map}
+use Rattle.std.proofs.lemmas.Grind.{common_steps}
 use Rattle.std.specs.Prelude.{Ok, Err, Result, IfOk, IsTrue}
 use Rattle.std.specs.{Option.option_map, Option.option_or, Result.result_map_both}
 use Rattle.p3_merkle_core.specs.{Caps.cap_layer, Geometry.Shape, Geometry.IsArity, Geometry.heights, Openings.Opening}
@@ -71,11 +72,7 @@ module _ {T W : Type 0} (c : Params T W) (cap : List (List W)) (o u : Opening T 
     (a : IsAccepted c cap o) (b : IsAccepted c cap u) where
   -- at one index they agree exactly where siblings and authenticated rows do
   pub alike_at_one_index : o.index ≡ u.index → AgreeWhereShared c o u ↔ RowsAgreeWhereAuthenticated c o u
-  alike_at_one_index one =
-      let both = authenticated_at_one_index c.functions c.shape c.layer cap o u w a b one in (
-        λ agree. let parts = both.0 agree in record { siblings = parts.0; rows = parts.1 },
-        λ alike. both.1 (alike.siblings, alike.rows),
-      )
+  alike_at_one_index one = grind (arith, common_steps, authenticated_at_one_index)
 
   -- an opening that is accepted has a row for each matrix
   as_many_rows : (p : Opening T W) → IsAccepted c cap p → length p.rows ≡ length (heights c.shape)
@@ -114,10 +111,7 @@ module _ {T W : Type 0} (row_eq : T → T → Bool) (digest_eq : W → W → Boo
 
   -- no difference is found exactly where all checks agree
   none_is : (first_difference row_eq digest_eq c first second ≡ None) ↔ EachPair first second (AgreeWhereShared c)
-  none_is =
-      let pairs = no_pair difference first.queries second.queries in
-      let agree = λ (a b : ℕ). no_difference row_eq digest_eq c (first.query a) (second.query b) dec dec_w in
-      (λ e a b h g. (agree a b).0 (pairs.0 e a b h g), λ each. pairs.1 (λ a b h g. (agree a b).1 (each a b h g)))
+  none_is = grind (arith, common_steps, no_difference, no_pair)
 
   -- the first difference of accepted openings is a collision, and all before it agree
   some_is : first.is_accepted → second.is_accepted → (found : ℕ × ℕ × (Input T W × Input T W)) →
@@ -197,19 +191,7 @@ module _ {T W : Type 0} (row_eq : T → T → Bool) (digest_eq : W → W → Boo
         );
         lowered_two_ways = λ lowered twice. refl;
       }
-  extracted (Err e) answer is =
-      record {
-        answer = answer;
-        found = tt;
-        both_accepted = tt;
-        answered = λ a b. memory_alone e a b answer;
-        none = tt;
-        collision = tt;
-        one_index = λ one. tt;
-        two_ways = λ twice. tt;
-        lowered_one_index = λ lowered one. tt;
-        lowered_two_ways = λ lowered twice. tt;
-      }
+  extracted (Err e) answer is = grind (arith, common_steps)
 
   -- so is the definition's own answer
   own_answer : (refusal : Option MerkleTreeError) (v : Option (ℕ × ℕ × (Input T W × Input T W))) →
