@@ -1,5 +1,5 @@
 -- The definition's answer to two openings of one cap, and what it means.
-use Rattle.std.proofs.Common.{◌≡◌, ◌↔◌, ℕ, ◌<◌, Bool, List, [], refl, ap, sym, subst, ◌∙◌, arith, inl, inr, length}
+use Rattle.std.proofs.Common.{◌≡◌, ◌↔◌, ℕ, ◌<◌, Bool, List, [], refl, ap, sym, subst, ◌∙◌, arith, inr, length}
 use Rattle.std.proofs.{Common.Option, Common.Some, Common.None, lemmas.List.ext_get_or, lemmas.List.length-map}
 use Rattle.std.proofs.lemmas.Grind.{common_steps}
 use Rattle.std.specs.Prelude.{Ok, Err, Result, IfOk, IsTrue}
@@ -17,7 +17,7 @@ use Rattle.p3_merkle_core.specs.declared.{cap.CapRule.TheVariants.Lowered, error
 use Rattle.p3_merkle_core.proofs.Checks.SameIndex.{authenticated_at_one_index, authenticated_bound}
 use Rattle.p3_merkle_core.proofs.Checks.Verdicts.{accepted_answer, accepted_from, pruned_accepted}
 use Rattle.p3_merkle_core.proofs.Collisions.Extracted.{difference_collides, no_difference, no_pair, one_pair}
-use Rattle.p3_merkle_core.proofs.Pruned.NoneFacts.{none_of_both, none_parts, verdict_ok}
+use Rattle.p3_merkle_core.proofs.Pruned.NoneFacts.{none_parts, verdict_ok}
 use Rattle.p3_merkle_core.proofs.Shapes.{CapFacts.none_out, LeastFacts.widths_in_pairs}
 
 -- ---- what is presented
@@ -126,14 +126,6 @@ module _ {T W : Type 0} (row_eq : T → T → Bool) (digest_eq : W → W → Boo
         agree_before = λ i j before inside.
             (no_difference row_eq digest_eq c (first.query i) (second.query j) dec dec_w).0 (one.3 i j before inside);
       }
-
-  memory_alone : (e : MerkleTreeError) → first.is_accepted → second.is_accepted →
-      AnswersUnlessMemory {V = Option (ℕ × ℕ × (Input T W × Input T W))} (Err e)
-      (option_or first.refusal second.refusal) →
-      AnswersUnlessMemory {V = Option (ℕ × ℕ × (Input T W × Input T W))} (Err e) None
-  memory_alone e a b (inl m) = inl m
-  memory_alone e a b (inr refused) =
-      absurd (let none = none_of_both first.refusal second.refusal (p.decided.1 a) (q.decided.1 b) in cc)
 
   -- a result that is the definition's answer, want of memory aside, is an extraction
   pub extracted : (result : Result (Option (ℕ × ℕ × (Input T W × Input T W))) MerkleTreeError) →
