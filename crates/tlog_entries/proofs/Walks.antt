@@ -36,9 +36,12 @@ passed hash path digest j last r some within small node padding = elim (cases_eq
             (r, refl, λ end h. inclusion_skip hash (present path) last r end (omega arith) small h)
         | inr less ↦
             let v = node (omega arith) in
-            rw (even, v.1)
-            (node_hash hash r v.0, refl, λ end h.
-                inclusion_even hash v.0 (present path) j last r even (omega arith) ∙ h)
+            rw (even, v.1) (
+              node_hash hash r v.0,
+              refl,
+              λ end h.
+                  inclusion_even hash v.0 (present path) j last r even (omega arith) ∙ h,
+            )
       ]
 ]
 
