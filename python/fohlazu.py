@@ -277,11 +277,11 @@ def write(file: int, data: bytes) -> None:
 def answer_verify(checkpoint: Checkpoint, proof: bytes, args: argparse.Namespace) -> bytes:
     entries, digests = parse_entries(proof)
     numbers, block = [number for number, _ in entries], sum(args.blocks)
-    hint = "request all its entries, in its order, or none"
+    hint = "give the numbers that it has, in its order, or none"
     every = range(1, max(checkpoint.size, 1) + 1)
     for got, expected in itertools.zip_longest(numbers, every if args.is_all else args.numbers or numbers):
         if expected is None: raise Refused(f"it has entry {got} after all that are requested: {hint}")
-        if got is None: raise Refused(f"it has no entry for the last request, {expected}: {hint}")
+        if got is None: raise Refused(f"it ends where entry {expected} is requested: {hint}")
         if got != expected: raise Refused(f"it has entry {got} where {expected} is requested: {hint}")
     hint = "give `--blocks` as for `seal`, or `--raw` to print one entry"
     for number, data in entries:

@@ -221,8 +221,8 @@ def other_number(names, wanted):
     name, want = ([*all[len(same):], None][0] for all in (names, wanted))
     why = f"it has entry {name} where {want} is requested" if name and want else (
         f"it has entry {name} after all that are requested" if name else
-        f"it has no entry for the last request, {want}")
-    return f"{why}: request all its entries, in its order, or none"
+        f"it ends where entry {want} is requested")
+    return f"{why}: give the numbers that it has, in its order, or none"
 
 
 def verify(told, inputs):

@@ -68,12 +68,12 @@ pub enum Refusal {
     #[error("its first entries are not those of the old checkpoint")]
     OtherOldEntries,
     /// A proof with another entry where one is requested.
-    #[error("it has entry {0} where {1} is requested: request all its entries, in its order, or none")]
+    #[error("it has entry {0} where {1} is requested: give the numbers that it has, in its order, or none")]
     OtherNumber(usize, usize),
-    #[error("it has no entry for the last request, {0}: request all its entries, in its order, or none")]
+    #[error("it ends where entry {0} is requested: give the numbers that it has, in its order, or none")]
     MissingEntry(usize),
     /// A proof with an entry behind all that are requested.
-    #[error("it has entry {0} after all that are requested: request all its entries, in its order, or none")]
+    #[error("it has entry {0} after all that are requested: give the numbers that it has, in its order, or none")]
     UnrequestedEntry(usize),
     /// A proof with an entry that a file of lines, or of such blocks, does not have.
     #[error("entry {0} is no line, or no block of this size: give `--blocks` as for `seal`, or \
