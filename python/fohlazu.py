@@ -265,6 +265,10 @@ def parse_args(words: list[str]) -> argparse.Namespace:
     if is_wrong or args.command != "verify" and options + count: parser.error("too many arguments, or too few")
     return args
 
+def is_output(name: str) -> bool:
+    with contextlib.suppress(OSError): return os.path.isfile(1) and os.path.samefile(1, 0 if name == "-" else name)
+    return False
+
 def read(name: str) -> bytes:
     with open(0 if name == "-" else name, "rb", closefd=name != "-") as file:
         size, data = os.fstat(file.fileno()).st_size, file.read()
@@ -311,6 +315,8 @@ def main() -> int:
     status, where = 2, ""
     try:
         args = parse_args([os.fsencode(word).decode() for word in sys.argv[1:]])
+        for name in filter(is_output, args.files):
+            raise Refused(f"{name}: it is the output too, which `>` empties: choose another output")
         for vkey in args.key: parse_key(vkey)
         (note, proof), where = map(read, args.files), f"{args.files[0]}: "
         checkpoint, status = parse_checkpoint(note), 1
