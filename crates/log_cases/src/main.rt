@@ -1,10 +1,10 @@
 //! Checks cases about logs, one a line of standard input, and names each that is not answered as its line says. Where
 //! there is such a line, it ends with status 1. A line that is no case ends it at once.
 //!
-//! A case is `KIND WORD.. | ANSWER`; [`answer`] has the kinds. Blank lines, and lines that begin with `#`, are no cases.
+//! A case is `KIND WORD.. | ANSWER`; [`answer`] has the kinds. Blank lines, and lines that begin with `#`, are none.
 //! A list has commas between its items, and `-` is the empty one. A node is its layer and its slot there, as 0.2. Bytes
-//! are plain characters and `%XX`, in pieces with `+` between them; a piece may have `*` and how often it comes. Indices
-//! count from 0. The log of a size has the decimal numbers from 1 on.
+//! are plain characters and `%XX`, in pieces with `+` between them; a piece may have `*` and how often it comes.
+//! Indices count from 0. The log of a size has the decimal numbers from 1 on.
 #![tactic(auto)]
 
 mod case;

@@ -64,8 +64,8 @@ EndWithEntries cut [] = Unit {0}
 EndWithEntries cut (file ∷ []) = Unit {0}
 EndWithEntries cut (file ∷ next ∷ files) = EndsWithEntry cut file × EndWithEntries cut (next ∷ files)
 
--- the parts of a file, each cut off where an entry ends, are joined exactly if their size is a power of two, and to what
--- seal prints of the whole file
+-- the parts of a file, each cut off where an entry ends, are joined exactly if their size is a power of two, and to
+-- what seal prints of the whole file
 abbrev pub PartsJoin : Type 0
 PartsJoin =
     (origin : List ℕ) (cut : Cut) (files texts : List (List ℕ)) (text : List ℕ) → IsCut cut →

@@ -65,8 +65,8 @@ pub enum Command<Src> {
 }
 
 impl<Src> Command<Src> {
-    /// Whether it can be run: an origin is one, a block has 1 to 2^30 bytes, and numbers are at least one and from 1 on.
-    /// Any entries are printed as lines alone, and raw bytes of one number.
+    /// Whether it can be run: an origin is one, a block has 1 to 2^30 bytes, and numbers are from 1 on, at least one of
+    /// them. Any entries are printed as lines alone, and raw bytes of one number.
     pub fn is_lawful(&self) -> bool
         ensures { Decides result (IsLawful self.now) }
     {

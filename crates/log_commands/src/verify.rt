@@ -1,6 +1,7 @@
 //! Verifies proofs of entries.
 
-ghost use Rattle.std.specs.Prelude.{◌≡◌, ◌-◌, ◌++◌, ◌⊎◌, IfOk, MatchResult, None, OnOk, Some, flat_map, map, is_some, ℕ};
+ghost use Rattle.std.specs.Prelude.{◌≡◌, ◌-◌, ◌++◌, ◌⊎◌, IfOk, MatchResult, None, OnOk, Some, flat_map, is_some, map};
+ghost use Rattle.std.specs.Prelude.{ℕ};
 ghost use Rattle.sha2.specs.Sha256.{sha256};
 ghost use Rattle.p3_merkle_core.specs.Refusals.{first_of};
 ghost use Rattle.tlog.specs.Rfc9162.{leaf_hash as leaf_hash_by};

@@ -74,9 +74,9 @@ byte_order_mark = 239 ∷ 187 ∷ 191 ∷ []
 -- an origin: 1 to 100 characters, none below U+0020 nor U+007F, no byte order mark first, no space first or last
 unfoldable pub is_origin : List ℕ → Bool
 is_origin text =
-    is_utf8 text && (not (starts_with nat_eq text byte_order_mark) && (nat_le 1 (length text) && (not (slice_index text 0 == 32) &&
-    (not (slice_index text (length text - 1) == 32) && (nat_le (length (chars text)) 100 &&
-    list_all (λ b. nat_le 32 b && not (b == 127)) text)))))
+    is_utf8 text && (not (starts_with nat_eq text byte_order_mark) && (nat_le 1 (length text) &&
+    (not (slice_index text 0 == 32) && (not (slice_index text (length text - 1) == 32) &&
+    (nat_le (length (chars text)) 100 && list_all (λ b. nat_le 32 b && not (b == 127)) text)))))
 
 -- the name of a key: text that is not empty, without a space or `+`
 unfoldable pub is_key_name : List ℕ → Bool
