@@ -17,7 +17,7 @@ use Rattle.tlog_entries.proofs.EntriesFacts.{unrefused}
 use Rattle.log_text.specs.Reading.{checkpoint_in, consistency_in, entries_in as proof_in}
 use Rattle.log_text.specs.Texts.{CheckpointFields, ConsistencyFields, EntriesFields, EntryFields, IsEntry}
 use Rattle.log_text.specs.declared.error.TextError.{TextError}
-use Rattle.log_text.proofs.{EntriesFacts.entries_proofs, NoteLaws.notes}
+use Rattle.log_text.proofs.{NoteLaws.notes, ProofLaws.entries_proofs}
 use Rattle.log_files.specs.Entries.{entries_in, entry_at, wanted_of}
 use Rattle.log_files.specs.declared.{cut.Cut.Cut, reading.ReadLog.ReadLog}
 use Rattle.log_commands.specs.Collisions.{AreEntriesOfFile, BeginsWithOldFile, IsCheckpointOf, IsCheckpointOfFile}

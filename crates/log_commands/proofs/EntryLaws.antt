@@ -14,7 +14,7 @@ use Rattle.tlog_entries.proofs.EntriesFacts.{unrefused as included_only}
 use Rattle.tlog_entries.proofs.{HonestEntries.honest_included, Leaves.mth_map, Smallest.nodes_within}
 use Rattle.log_text.specs.{Reading.checkpoint_in, Reading.entries_in as proof_in, Texts.IsEntriesProof}
 use Rattle.log_text.specs.Texts.{IsEntry, entries_text, CheckpointFields, EntriesFields, EntryFields, IsDigest}
-use Rattle.log_text.proofs.{EntriesFacts.entries_proofs, NoteLaws.notes}
+use Rattle.log_text.proofs.{NoteLaws.notes, ProofLaws.entries_proofs}
 use Rattle.log_files.specs.{Entries.entries_in, Entries.entry_at, declared.cut.Cut.Cut}
 use Rattle.log_commands.specs.{Commands.prove_file, Commands.AreNumbers, Errors.entries_error, Outcomes.is_printable}
 use Rattle.log_commands.specs.Outcomes.{said_by, checkpoint_of, entries_under, entry_refusal, number_refusal, requested}

@@ -14,7 +14,7 @@ use Rattle.tlog.proofs.{Accepted.consistency_accepted, Layers.itself, Roots.proo
 use Rattle.tlog.proofs.Honest.{honest_grown, root_of_none, sub_whole}
 use Rattle.log_text.specs.Reading.{checkpoint_in, consistency_in}
 use Rattle.log_text.specs.Texts.{consistency_text, CheckpointFields, ConsistencyFields, IsConsistencyProof, IsDigest}
-use Rattle.log_text.proofs.{ConsistencyFacts.consistency_proofs, NoteLaws.notes}
+use Rattle.log_text.proofs.{NoteLaws.notes, ProofLaws.consistency_proofs}
 use Rattle.log_commands.specs.{Laws.GrowthIsAccepted, Laws.GrowthIsProved, Outcomes.verify_consistency_outcome}
 use Rattle.log_commands.specs.Outcomes.{and_then, checkpoint_of, compared, consistency_refused, entries_under}
 use Rattle.log_commands.specs.Outcomes.{growth_digests, growth_refusal, growth_text, prove_growth, said_by}

@@ -1,13 +1,6 @@
-pub mod TestFacts
-pub mod CutFacts
-pub mod NumberFacts
 pub mod Base64Facts
-pub mod ReadFacts
-pub mod ManyFacts
 pub mod LineFacts
-pub mod TextFacts
-pub mod SignatureFacts
-pub mod NoteFacts
 pub mod NoteLaws
-pub mod EntriesFacts
-pub mod ConsistencyFacts
+pub mod ProofLaws
+pub mod ReadFacts
+pub mod TestFacts

@@ -1,24 +1,63 @@
--- The lines of texts.
-use Rattle.std.proofs.Common.{◌≡◌, ◌≤◌, ◌^◌, ◌-◌, ◌==◌, Bool, true, false, Decides, ℕ, List, [], ◌∷◌, ◌++◌, length}
-use Rattle.std.proofs.Common.{Option, Some, None, refl, sym, ap, ◌∙◌, subst, arith, inl, inr, ◌⊎◌, if◌then◌else◌, not}
-use Rattle.std.proofs.Common.{codes, decimal, nat_eq, nat_le, slice_index, All, eqb-true, leb-true}
-use Rattle.std.specs.Cmp.Lexicographic.{pointwise, bytes_decides}
-use Rattle.std.specs.{List.list_all, List.starts_with, Option.option_map_or, Str.chars, Str.is_utf8, Str.IsUtf8}
-use Rattle.std.proofs.lemmas.{Str.IsUtf8-from_is_utf8, List.nil_from_length}
-use Rattle.std.proofs.lemmas.Bool.{and_parts, Decides.Decides-and, Decides.Decides-eqb, Decides.Decides-not}
+-- The lines of texts: UTF-8, origins, names and numbers.
+use Rattle.std.proofs.Common.{◌≡◌, ◌≤◌, ◌-◌, ◌==◌, Bool, true, false, ℕ, List, length, Some, None, Result, Ok, Err, sym}
+use Rattle.std.proofs.Common.{ap, arith, ◌&&◌, if◌then◌else◌, not, nat_eq, nat_le, slice_index, MatchResult, le-leb}
+use Rattle.std.proofs.Common.{ne_eqb, ◌^◌, Decides, [], ◌∷◌, ◌++◌, Option, refl, ◌∙◌, subst, inl, inr, ◌⊎◌, codes}
+use Rattle.std.proofs.Common.{decimal, All, eqb-true, leb-true}
 use Rattle.std.proofs.lemmas.List.Elements.{All-append, All-cons, All-nil, All-weaker}
+use Rattle.std.proofs.lemmas.Bool.{and_left, eqb-false, and_parts}
+use Rattle.std.proofs.lemmas.Bool.Decides.{Decides-and, Decides-eqb, Decides-not}
+use Rattle.std.proofs.lemmas.{List.nil_from_length, Str.is_utf8-from_IsUtf8, Str.IsUtf8-from_is_utf8}
+use Rattle.std.specs.{Cmp.Lexicographic.pointwise, Cmp.Lexicographic.bytes_decides, List.list_all, List.starts_with}
+use Rattle.std.specs.{Option.option_map_or, Result.is_ok, Result.result_ok, Str.chars, Str.is_utf8, Str.IsUtf8}
 use lib.Utf8.{encode}
-use Rattle.log_text.specs.Lines.{after, base64, base64_bytes, byte_order_mark, cut_at, dash, digest_of, head_of}
-use Rattle.log_text.specs.Lines.{is_key_name, is_line, is_origin, is_signature, is_signed, is_text, number_after, part_origin}
+use Rattle.log_text.specs.Lines.{byte_order_mark, is_origin, passing, after, base64, base64_bytes, cut_at, dash}
+use Rattle.log_text.specs.Lines.{digest_of, head_of, is_key_name, is_line, is_signature, is_signed, is_text}
 use Rattle.log_text.specs.Reading.{digest_by, line_by, line_that, log_origin_by}
-use Rattle.log_text.specs.{Texts.digest_line, Texts.line, Texts.IsDigest, declared.error.Expected.Expected}
 use Rattle.log_text.specs.declared.error.Expected.TheVariants.{Blank, Digest, DigestOrBlank, EntryHead, Extension}
 use Rattle.log_text.specs.declared.error.Expected.TheVariants.{Origin, PartOrigin, ProofVersion, Signature}
-use Rattle.log_text.proofs.Base64Facts.{base64_found, base64_plain, digest_found}
-use Rattle.log_text.proofs.CutFacts.{after_found, cut_found, lacks_below, Lacks}
-use Rattle.log_text.proofs.NumberFacts.{decimal_high, number_after_found, number_found}
+use Rattle.log_text.specs.{Texts.digest_line, Texts.line, Texts.IsDigest, declared.error.Expected.Expected}
+use Rattle.log_text.proofs.TestFacts.{fails, and_then, each_decided, found, le_decided, said_as, unless, IsFound}
+use Rattle.log_text.proofs.TestFacts.{after_found, cut_found, lacks_below, Lacks, decimal_high, number_after_found}
 use Rattle.log_text.proofs.ReadFacts.{gives, in_turn, line_spelled, passes, passing_spelled, read_as, IsSpelled}
-use Rattle.log_text.proofs.TestFacts.{and_then, each_decided, found, le_decided, said_as, unless, IsFound}
+use Rattle.log_text.proofs.Base64Facts.{base64_found, base64_plain, digest_found}
+use Rattle.log_text.{proofs.TestFacts.number_found, specs.Lines.number_after, specs.Lines.part_origin}
+
+-- what a call that reads UTF-8 tells
+pub utf8_tells : {S E : Type 0} (Y : S → Type 0) (N : E → Type 0) (r : Result S E) (bytes : List ℕ) →
+    MatchResult r (λ s. Y s × IsUtf8 bytes) (λ e. (IsUtf8 bytes → ⊥) × N e) → is_ok r ≡ is_utf8 bytes
+utf8_tells Y N (Ok s) bytes said = sym (is_utf8-from_IsUtf8 bytes said.1)
+utf8_tells Y N (Err e) bytes said =
+    sym (fails (is_utf8 bytes) (IsUtf8-from_is_utf8 bytes, is_utf8-from_IsUtf8 bytes) said.0)
+
+-- the tests of an origin
+abbrev pub plain : List ℕ → Bool
+plain text = list_all (λ b. nat_le 32 b && not (b == 127)) text
+
+pub origin_tests : (text : List ℕ) (few : Bool) → IsUtf8 text → starts_with nat_eq text byte_order_mark ≡ false →
+    1 ≤ length text → (slice_index text 0 ≡ 32 → ⊥) →
+    (slice_index text (length text - 1) ≡ 32 → ⊥) → nat_le (length (chars text)) 100 ≡ few →
+    (few && plain text) ≡ is_origin text
+unfolding is_origin
+origin_tests text few utf8 unmarked some first last few_is =
+    let a = is_utf8-from_IsUtf8 text utf8 in
+    let b = le-leb 1 (length text) some in
+    let d : not (slice_index text 0 == 32) ≡ true = ap not (ne_eqb (slice_index text 0) 32 first) in
+    let e : not (slice_index text (length text - 1) == 32) ≡ true =
+    ap not (ne_eqb (slice_index text (length text - 1)) 32 last) in
+    λ i. sym a i && (not (sym unmarked i) && (sym b i && (sym d i && (sym e i && (sym few_is i && plain text)))))
+
+-- bytes that are no text are no origin
+pub no_origin : {S E : Type 0} (Y : S → Type 0) (N : E → Type 0) (r : Result S E) (bytes : List ℕ) →
+    result_ok r ≡ None → MatchResult r (λ s. Y s × IsUtf8 bytes) (λ e. (IsUtf8 bytes → ⊥) × N e) →
+    None ≡ passing is_origin bytes
+unfolding is_origin
+no_origin Y N (Ok s) bytes none said = absurd cc
+no_origin Y N (Err e) bytes none said =
+    let other = and_left (is_utf8 bytes) _ (sym (utf8_tells Y N (Err e) bytes said)) in
+    λ i. if sym other i then Some bytes else None
+
+pub some_tested : (bytes : List ℕ) → (length bytes == 0) ≡ false → nat_le 1 (length bytes) ≡ true
+some_tested bytes some = le-leb 1 (length bytes) (omega (arith, eqb-false (length bytes) 0 some))
 
 -- ---- plain bytes
 
@@ -88,7 +127,8 @@ head_spelled =
 
 -- ---- digests
 
-pub digest_spelled : (blank_stops : Bool) → IsSpelled (digest_by blank_stops) (λ digest rest. IsDigest digest) digest_line
+pub digest_spelled : (blank_stops : Bool) → IsSpelled (digest_by blank_stops)
+    (λ digest rest. IsDigest digest) digest_line
 unfolding digest_by
 digest_spelled blank_stops =
     line_spelled (if blank_stops then DigestOrBlank else Digest) digest_of IsDigest base64

@@ -1,17 +1,175 @@
 -- The laws of notes.
-use Rattle.std.proofs.Common.{◌≡◌, ◌≤◌, ◌+◌, ◌*◌, ◌==◌, true, ℕ, List, [], ◌∷◌, ◌++◌, length, Ok, sym, ap, ◌∙◌, arith}
-use Rattle.std.proofs.Common.{append_assoc, append-nil, length-append, cond, count_by, decimal, flat_map}
-use Rattle.std.specs.{List.sum_by, Str.chars, Str.encode_utf8_all}
-use Rattle.std.proofs.lemmas.{Fmt.length-decimal-le, List.Elements.All-nil, List.Sums.sum_by-append}
+use Rattle.std.proofs.Common.{◌≡◌, ◌<◌, ◌≤◌, true, false, ℕ, List, [], ◌∷◌, ◌++◌, length, refl, ap, ◌∙◌, subst, arith}
+use Rattle.std.proofs.Common.{inl, inr, append_assoc, length-append, flat_map, eqb-true, ne_eqb, append-nil, Ok, Err}
+use Rattle.std.proofs.Common.{sym, decimal, nat_lt, ◌+◌, ◌*◌, ◌==◌, cond, count_by}
+use Rattle.std.proofs.lemmas.List.Elements.{All-cons, All-head, All-nil, All-tail}
+use Rattle.std.proofs.lemmas.{Bool.or_from, Bool.or_right, Bool.Decides.Decides-ltb, Fmt.length-decimal-le}
+use Rattle.std.proofs.lemmas.List.{nil_from_length, Sums.sum_by-append}
 use Rattle.std.proofs.lemmas.Str.{encodes-chars, length-encode, len_utf8_bounds}
+use Rattle.std.specs.{List.sum_by, Str.chars, Str.encode_utf8_all}
 use Rattle.base64.specs.Rfc4648.{padding_len, unpadded_len}
-use Rattle.log_text.specs.{Lines.base64, Lines.is_line, Lines.is_origin, Lines.part_origin, Laws.ThreeLinesAreSpelled}
-use Rattle.log_text.specs.Laws.{CheckpointsAreReadAgain, NotesAreSpelled, PartsAreSpelled, SignaturesChangeNothing}
-use Rattle.log_text.specs.Reading.{checkpoint_in, error_of, log_origin_by, note_by, part_origin_by}
-use Rattle.log_text.specs.Texts.{checkpoint_text, line, signature_lines, CheckpointFields, IsCheckpoint, IsNote}
-use Rattle.log_text.specs.declared.error.Expected.TheVariants.{Extension, PartOrigin, Signature}
-use Rattle.log_text.proofs.{Base64Facts.length-base64, LineFacts.IsLogOrigin, NoteFacts.note_read, ReadFacts.says}
-use Rattle.log_text.proofs.LineFacts.{log_origin_spelled, origin_parts, part_decided, part_is_origin, that_spelled}
+use Rattle.log_text.specs.Reading.{at_end, at_text_end, extensions_by, line_that, signatures_by, after_origin, note_by}
+use Rattle.log_text.specs.Reading.{part_origin_by, then_read, Reads, checkpoint_in, error_of, log_origin_by}
+use Rattle.log_text.specs.Texts.{line, signature_lines, AreLines, checkpoint_text, digest_line, CheckpointFields}
+use Rattle.log_text.specs.declared.error.Expected.TheVariants.{Blank, Extension, Signature, PartOrigin, Size}
+use Rattle.log_text.specs.Lines.{is_origin, part_origin, base64, is_line}
+use Rattle.log_text.specs.Laws.{ThreeLinesAreSpelled, CheckpointsAreReadAgain, NotesAreSpelled, PartsAreSpelled}
+use Rattle.log_text.specs.{Inner.Rests.rest_of, Laws.SignaturesChangeNothing, Texts.IsNote, Texts.IsCheckpoint}
+use Rattle.log_text.proofs.LineFacts.{blank_decided, is_solid, that_spelled, Fits, IsPlain, digest_spelled}
+use Rattle.log_text.proofs.LineFacts.{number_spelled, part_decided, IsLogOrigin, log_origin_spelled, origin_parts}
+use Rattle.log_text.proofs.ReadFacts.{either, gives, in_turn, read_as, turn, IsRead, IsSpelled, ends, passes, says}
+use Rattle.log_text.proofs.{Base64Facts.length-base64, LineFacts.part_is_origin, ReadFacts.many_spelled}
+
+-- a line that is plain and not blank is no stop
+goes_on : (l left : List ℕ) → (1 ≤ length l) × IsPlain l → at_text_end (line l ++ left) ≡ false
+goes_on [] left is = absurd (omega (arith, is.0))
+goes_on (b ∷ bs) left is =
+    let high : 32 ≤ b = All-head (λ c. 32 ≤ c) b bs is.1 in
+    or_from _ _ (ne_eqb (length (line (b ∷ bs) ++ left)) 0 (λ none. omega (arith, none)))
+    (ne_eqb b 10 (λ feed. omega (arith, feed, high)))
+
+-- ---- extension lines
+
+lines_long : (ls : List (List ℕ)) → length ls ≤ length (flat_map line ls)
+lines_long [] = omega arith
+lines_long (l ∷ ls) =
+    omega (arith, lines_long ls, length-append (line l) (flat_map line ls), length-append l (10 ∷ []))
+
+pub extensions_read : (left : List ℕ) → IsRead (extensions_by left) (λ r. (AreLines Extension r.0
+    × (length r.0 < length left → at_text_end r.1 ≡ true)) × (left ≡ flat_map line r.0 ++ r.1))
+unfolding extensions_by
+extensions_read left =
+    read_as (many_spelled at_text_end (line_that Extension) (Fits Extension) line (that_spelled
+    Extension) (λ l rest is. goes_on l rest (is_solid Extension (inl refl) l is)) (length left) left)
+    (λ r ((are, few, stop), parts). ((are, stop), parts))
+    (λ r ((are, stop), parts).
+    ((are, omega (arith, ap length parts, length-append (flat_map line r.0) r.1, lines_long r.0), stop), parts))
+
+-- ---- signatures
+
+pub signatures_stop : (signatures : List (List ℕ)) → at_text_end (signature_lines signatures) ≡ true
+signatures_stop [] = refl
+signatures_stop (s ∷ ss) = or_right (at_end (signature_lines (s ∷ ss))) true refl
+
+-- signatures, if there are any, ahead of what may follow them
+abbrev pub AreSigned : List (List ℕ) → List ℕ → Type 0
+AreSigned ss rest =
+    AreLines Signature ss × (length ss ≤ 100) × (length ss < 100 → at_text_end rest ≡ true)
+    × (length ss ≡ 0 → rest ≡ [])
+
+pub signatures_spelled : IsSpelled signatures_by AreSigned signature_lines
+unfolding signatures_by
+signatures_spelled left =
+    either (at_end left)
+    (λ end.
+    let none = nil_from_length left (eqb-true (length left) 0 end) in
+    read_as (gives ([], left))
+    (λ r same. subst (λ (q : List (List ℕ) × List ℕ). AreSigned q.0 q.1 × (left ≡ signature_lines q.0 ++ q.1)) same
+    ((All-nil (Fits Signature), omega arith, λ few. ap at_text_end none, λ _. none), refl))
+    (λ r said. only_none r.0 r.1 none said))
+    (λ some.
+    read_as (in_turn _ _ (that_spelled Blank left) (λ blank left. in_turn _ _ (that_spelled Signature left)
+    (λ s left. in_turn _ _ (many_spelled at_text_end (line_that Signature) (Fits Signature) line
+    (that_spelled Signature) (λ l rest is. goes_on l rest (is_solid Signature (inr refl) l is)) 99 left)
+    (λ ss end. gives (s ∷ ss, end)))))
+    (λ r (blank, l1, (none, t1), (s, l2, (is, t2), (ss, end, ((are, few, stop), t3), same))).
+    let t4 = (blank_decided blank).0 none in
+    let all = append_assoc (line s) (flat_map line ss) end in
+    subst (λ (q : List (List ℕ) × List ℕ). AreSigned q.0 q.1 × (left ≡ signature_lines q.0 ++ q.1)) same (
+      (
+        All-cons (Fits Signature) s ss is are,
+        omega (arith, few),
+        λ less. stop (omega (arith, less)),
+        λ nil. absurd (omega (arith, nil)),
+      ),
+      cc,
+    ))
+    (λ r said. some_read r.0 r.1 some said))
+  where
+    some_read : (ss : List (List ℕ)) (end : List ℕ) → at_end left ≡ false →
+        AreSigned ss end × (left ≡ signature_lines ss ++ end) → (blank l1 : List ℕ)
+        × (Fits Blank blank × (left ≡ line blank ++ l1)) × ((s l2 : List ℕ)
+        × (Fits Signature s × (l1 ≡ line s ++ l2)) × ((more : List (List ℕ)) × (l3 : List ℕ)
+        × (((AreLines Signature more) × (length more ≤ 99) × (length more < 99 → at_text_end l3 ≡ true))
+        × (l2 ≡ flat_map line more ++ l3)) × (◌≡◌ {A = List (List ℕ) × List ℕ} (s ∷ more, l3) (ss, end))))
+    some_read [] end some ((are, few, stop, none), parts) =
+        let nil = ap at_end (parts ∙ none refl) in absurd cc
+    some_read (s ∷ ss) end some ((are, few, stop, none), parts) =
+        let first = All-head (Fits Signature) s ss are in
+        let more = All-tail (Fits Signature) s ss are in
+        turn [] (flat_map line (s ∷ ss) ++ end) ((blank_decided []).1 refl, parts) (turn s (flat_map line ss ++ end)
+        (first, append_assoc (line s) (flat_map line ss) end) (turn ss end
+        ((more, omega (arith, few), λ less. stop (omega (arith, less))), refl) refl))
+
+    only_none : (ss : List (List ℕ)) (rest : List ℕ) → left ≡ [] →
+        AreSigned ss rest × (left ≡ signature_lines ss ++ rest) →
+        ◌≡◌ {A = List (List ℕ) × List ℕ} ([], left) (ss, rest)
+    only_none [] rest none said = ap (λ t. ([], t)) said.1
+    only_none (s ∷ ss) rest none said = absurd cc
+
+-- what is read after the origin of a part
+pub part_next : (text rest : List ℕ) → rest_of (part_origin_by text) ≡ Ok rest →
+    then_read (part_origin_by text) after_origin ≡ after_origin part_origin rest
+part_next text rest is = by_read (part_origin_by text) refl is
+  where
+    by_read : (o : Reads (List ℕ)) → part_origin_by text ≡ o → rest_of o ≡ Ok rest →
+        then_read o after_origin ≡ after_origin part_origin rest
+    by_read (Err stop) read told = cc
+    by_read (Ok found) read told =
+        let part = (that_spelled PartOrigin text).only found read in
+        let end : found.1 ≡ rest = cc in
+        λ i. after_origin ((part_decided found.0).0 part.0 i) (end i)
+
+note_parts : (c : CheckpointFields) (end : List ℕ) →
+    checkpoint_text c ++ end ≡ line c.origin ++ (line (decimal c.size) ++ (digest_line c.root ++ end))
+note_parts c end = simp append_assoc
+
+module _ (origin_by : List ℕ → Reads (List ℕ)) (Is : List ℕ → Type 0)
+    (spelled : IsSpelled origin_by (λ o rest. Is o) line)
+    (origins : (o : List ℕ) → Is o → is_origin o ≡ true) where
+  abbrev IsNoteOf : List ℕ → CheckpointFields → Type 0
+  IsNoteOf note c =
+      (extensions signatures : List (List ℕ)) × IsNote note c extensions signatures × Is c.origin
+
+  pub note_read : (note : List ℕ) → IsRead (note_by origin_by note) (IsNoteOf note)
+  unfolding after_origin
+  note_read note =
+      read_as (passes _ (nat_lt 1000000 (length note)) (Decides-ltb 1000000 (length note))
+      (in_turn (origin_by note) after_origin (spelled note) (λ origin left.
+      in_turn _ _ (number_spelled Size [] refl left) (λ size left. in_turn _ _ (digest_spelled false left) (λ root left.
+      in_turn _ _ (extensions_read left) (λ extensions left. in_turn _ _ (signatures_spelled left) (λ signatures left.
+      ends (record { origin = origin; size = size; root = root }) left)))))))
+      (λ c (short, (origin, l1, (own, t1), said)).
+      let (size, l2, (small, t2), said) = said in
+      let (root, l3, (digest, t3), said) = said in
+      let (extensions, l4, ((are, _), t4), said) = said in
+      let (signatures, l5, ((are_signed, few, _, _), t5), (t6, same)) = said in
+      subst (IsNoteOf note) same (
+        extensions,
+        signatures,
+        record {
+          checkpoint = record { origin = origins origin own; size = small; root = digest };
+          extensions_are = are;
+          signatures_are = are_signed;
+          few_signatures = few;
+          short = omega (arith, short);
+          spelled = let all = note_parts (record { origin = origin; size = size; root = root })
+              (flat_map line extensions ++ signature_lines signatures) in
+              let nil = append-nil (signature_lines signatures) in cc;
+        },
+        own,
+      ))
+      (λ c (extensions, signatures, is, own).
+      let end = signature_lines signatures in
+      let lines = flat_map line extensions ++ end in
+      let digest = digest_line c.root ++ lines in (
+        λ long. omega (arith, is.short, long),
+        turn c.origin (line (decimal c.size) ++ digest)
+            (own, is.spelled ∙ note_parts c lines) (turn c.size digest (is.checkpoint.size, refl) (turn c.root lines
+            (is.checkpoint.root, refl) (turn extensions end ((is.extensions_are, λ _. signatures_stop signatures), refl)
+            (turn signatures [] ((is.signatures_are, is.few_signatures, (λ _. refl), λ _. refl), sym (append-nil end))
+            (refl, refl))))),
+      ))
 
 -- ---- notes
 

@@ -7,8 +7,9 @@ ghost use Rattle.log_text.specs.{Inner.Rests.rest_of, Texts.checkpoint_fields, T
 
 use crate::error::{Expected, Stop, TextError, error_of, missing};
 use crate::line;
-use crate::line::{cut_at, digest_by, ended, number_by, skip_line, skip_lines};
-use crate::text::{push_digest, push_line, push_number};
+use crate::line::{
+    cut_at, digest_by, ended, number_by, push_digest, push_line, push_number, skip_line, skip_lines,
+};
 use std::alloc::{AllocError, Global};
 
 /// The origin of each part of a file. A part has the form of a checkpoint, and is no log's: signed under the origin of

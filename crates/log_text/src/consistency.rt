@@ -6,8 +6,7 @@ ghost use Rattle.log_text.specs.Texts.{consistency_fields, consistency_text};
 ghost use Rattle.log_text.specs.declared.error.{Stop.TheVariants.Memory, TextError.TheVariants.OutOfMemory};
 
 use crate::error::{Expected, Stop, TextError, error_of};
-use crate::line::{digests_by, number_by, skip_line};
-use crate::text::{push_digests, push_line, push_number};
+use crate::line::{digests_by, number_by, push_digests, push_line, push_number, skip_line};
 use std::alloc::{AllocError, Global};
 
 /// Digests that prove that a log of a new checkpoint begins with the entries that it had at an old size (C2SP

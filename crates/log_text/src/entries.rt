@@ -7,8 +7,10 @@ ghost use Rattle.log_text.specs.Texts.{entries_fields, entries_text, entry_field
 ghost use Rattle.log_text.specs.declared.error.{Stop.TheVariants.Memory, TextError.TheVariants.OutOfMemory};
 
 use crate::error::{Expected, Stop, TextError, error_of, missing};
-use crate::line::{cut_at, digests_by, ended, number_by, number_of, skip_line};
-use crate::text::{push_digests, push_line, push_number};
+use crate::line::{
+    cut_at, digests_by, ended, number_by, number_of, push_digests, push_line, push_number,
+    skip_line,
+};
 use std::alloc::{AllocError, Global};
 
 /// Entries of a log, with the digests that prove all of them.

@@ -127,9 +127,7 @@ fn found_in(above: &[u8], below: &[u8]) -> Found
         return Found::TextEnd;
     }
     match cut_at(b'\n', below) {
-        Some((line, _)) if !line.is_empty() && line[line.len() - 1] == b'\r' => {
-            Found::CarriageReturn
-        }
+        Some((line, _)) if line.last() == Some(&b'\r') => Found::CarriageReturn,
         Some(_) => Found::Other,
         None => Found::NoLineFeed,
     }

@@ -9,7 +9,6 @@ pub mod entries;
 pub mod error;
 pub mod laws;
 mod line;
-mod text;
 
 pub use checkpoint::{Checkpoint, PART_ORIGIN, is_key_name, is_origin};
 pub use consistency::ConsistencyProof;

@@ -1,21 +1,23 @@
-//! Lines of a text, and what they say.
+//! Lines of a text: what they say, and how they are printed.
 
-ghost use Rattle.std.specs.Prelude.{◌≡◌, ◌≤◌, ◌<◌, ◌^◌, ◌⊎◌, Err, IfErr, IfOk, IfSome, Ok, Some, length, option_map};
-ghost use Rattle.std.specs.{Prelude.take, Option.SomeIff, Result.result_map_both};
+ghost use Rattle.std.specs.Prelude.{◌≡◌, ◌≤◌, ◌<◌, ◌^◌, ◌⊎◌, ◌++◌, Err, IfErr, IfOk, IfSome, Ok, OnOk, Some, decimal};
+ghost use Rattle.std.specs.Prelude.{flat_map, length, option_map, take};
+ghost use Rattle.std.specs.{Option.SomeIff, Result.result_map_both};
 ghost use Rattle.std.specs.Str.Parse.{IsNumeral, digits_value};
 ghost use Rattle.base64.specs.Decode.{decoded_estimate};
 ghost use Rattle.log_text.specs.Lines.{base64_bytes, cut_at, digest_of, is_key_name, is_line, is_signature, is_text};
 ghost use Rattle.log_text.specs.Lines.{number_after, number_of};
 ghost use Rattle.log_text.specs.Reading.{at_blank, at_text_end, digest_by, digests_by, ended, line_by, line_that, many};
-ghost use Rattle.log_text.specs.{Inner.Rests.rest_of, declared.error.Stop.TheVariants.Memory};
+ghost use Rattle.log_text.specs.{Inner.Rests.rest_of, Texts.digest_line, Texts.line};
+ghost use Rattle.log_text.specs.declared.error.Stop.TheVariants.{Memory};
 
 use crate::checkpoint::PART_ORIGIN;
 use crate::error::{Expected, Stop, missing};
 use base64::engine::general_purpose::STANDARD;
-use std::alloc::Global;
+use std::alloc::{AllocError, Global};
 
 /// The bytes ahead of the first byte that is this one, and those after it.
-pub(crate) fn cut_at(mark: u8, bytes: &[u8]) -> Option<(&[u8], &[u8])>
+pub fn cut_at(mark: u8, bytes: &[u8]) -> Option<(&[u8], &[u8])>
     ensures { option_map (λ (front, back). (front.now, back.now)) result ≡ cut_at mark bytes.now }
 {
     let at = bytes.iter().position(|byte| *byte == mark)?;
@@ -35,7 +37,7 @@ fn parse_number(digits: &[u8]) -> Option<usize>
 }
 
 /// The number up to 2^62 whose decimal digits these are.
-pub(crate) fn number_of(digits: &[u8]) -> Option<usize>
+pub fn number_of(digits: &[u8]) -> Option<usize>
     ensures { result ≡ number_of digits.now }
 {
     if digits.len() > 1 && digits[0] == b'0' {
@@ -97,7 +99,7 @@ fn is_text(bytes: &[u8]) -> bool
 
 /// Whether this is the name of a key.
 #[tactic(auto, unfolding(crate::specs::Lines::is_key_name))]
-pub(crate) fn is_key_name(name: &[u8]) -> bool
+pub fn is_key_name(name: &[u8]) -> bool
     ensures { result ≡ is_key_name name.now }
 {
     if name.is_empty() || !is_text(name) {
@@ -136,20 +138,16 @@ fn is_line(expected: Expected, line: &[u8]) -> bool
 }
 
 /// Reads past a line that is what is expected.
-pub(crate) fn skip_line(left: &[u8], expected: Expected) -> Result<&[u8], Stop>
+pub fn skip_line(left: &[u8], expected: Expected) -> Result<&[u8], Stop>
     ensures { result_map_both (λ rest. rest.now) (λ stop. stop) result ≡ rest_of (line_that expected left.now) }
 {
     let stop = missing(left, expected);
     let (line, rest) = cut_at(b'\n', left).ok_or(stop)?;
-    if is_line(expected, line) {
-        Ok(rest)
-    } else {
-        Err(stop)
-    }
+    is_line(expected, line).then_some(rest).ok_or(stop)
 }
 
 /// Reads past such lines, at most so many, up to a blank line or the end.
-pub(crate) fn skip_lines(left: &[u8], expected: Expected, limit: usize) -> Result<&[u8], Stop>
+pub fn skip_lines(left: &[u8], expected: Expected, limit: usize) -> Result<&[u8], Stop>
     ensures { result_map_both (λ rest. rest.now) (λ stop. stop) result
         ≡ rest_of (many at_text_end (line_that expected) limit left.now) }
 {
@@ -164,7 +162,7 @@ pub(crate) fn skip_lines(left: &[u8], expected: Expected, limit: usize) -> Resul
 }
 
 /// Reads a number after a word.
-pub(crate) fn number_by<'a>(
+pub fn number_by<'a>(
     left: &'a [u8],
     word: &[u8],
     expected: Expected,
@@ -181,7 +179,7 @@ pub(crate) fn number_by<'a>(
 
 /// Reads a digest, where a blank line may stand instead or not.
 #[tactic(auto, unfolding(crate::specs::Reading::digest_by))]
-pub(crate) fn digest_by(left: &[u8], blank_stops: bool) -> Result<([u8; 32], &[u8]), Stop>
+pub fn digest_by(left: &[u8], blank_stops: bool) -> Result<([u8; 32], &[u8]), Stop>
     ensures { result_map_both (λ (digest, rest). (digest, rest.now)) (λ stop. stop) result
         ≡ digest_by blank_stops left.now }
 {
@@ -202,7 +200,7 @@ fn at_blank(left: &[u8]) -> bool
 }
 
 /// Reads so many digests; at most so many, where a blank line stops them.
-pub(crate) fn digests_by(
+pub fn digests_by(
     alloc: Global,
     left: &[u8],
     blank_stops: bool,
@@ -226,12 +224,49 @@ pub(crate) fn digests_by(
 }
 
 /// Nothing is left.
-pub(crate) fn ended(left: &[u8]) -> Result<(), Stop>
+pub fn ended(left: &[u8]) -> Result<(), Stop>
     ensures { result ≡ ended tt left.now }
 {
-    if left.is_empty() {
-        Ok(())
-    } else {
-        Err(missing(left, Expected::End))
+    let end = left.is_empty().then_some(());
+    end.ok_or(missing(left, Expected::End))
+}
+
+/// Appends bytes and a line feed.
+pub fn push_line(text: &mut Vec<u8>, bytes: &[u8]) -> Result<(), AllocError>
+    ensures { OnOk result (text.new.items ≡ text.old.items ++ line bytes.now) }
+{
+    text.extend_from_slice(bytes)?;
+    Ok(text.push(b'\n')?)
+}
+
+/// Appends a line of a word and a number.
+pub fn push_number(
+    alloc: Global,
+    text: &mut Vec<u8>,
+    word: &str,
+    number: usize,
+) -> Result<(), AllocError>
+    ensures { OnOk result (text.new.items ≡ text.old.items ++ line (word.now ++ decimal number)) }
+{
+    let line = format!(in alloc; "{word}{number}")?;
+    push_line(text, line.as_bytes())
+}
+
+/// Appends a digest in base64, and a line feed.
+#[tactic(auto, unfolding(crate::specs::Lines::base64))]
+pub fn push_digest(alloc: Global, text: &mut Vec<u8>, digest: &[u8; 32]) -> Result<(), AllocError>
+    ensures { OnOk result (text.new.items ≡ text.old.items ++ digest_line digest.now) }
+{
+    let line = STANDARD.encode(alloc, digest)?;
+    push_line(text, line.as_bytes())
+}
+
+/// Appends a line for each digest.
+pub fn push_digests(alloc: Global, to: &mut Vec<u8>, digests: &[[u8; 32]]) -> Result<(), AllocError>
+    ensures { OnOk result (to.new.items ≡ to.old.items ++ flat_map digest_line digests.now) }
+{
+    for digest in digests {
+        push_digest(alloc, to, digest)?;
     }
+    Ok(())
 }

@@ -1,5 +1,5 @@
 use Rattle.std.proofs.Common.{sym, ◌∙◌}
-use Rattle.log_text.proofs.TextFacts.{no_origin}
+use Rattle.log_text.proofs.LineFacts.{no_origin}
 use Rattle.log_text.proofs.checkpoint.origin_of.Goals as goal
 
 pub returns-in_err-text : goal.returns-in_err-text

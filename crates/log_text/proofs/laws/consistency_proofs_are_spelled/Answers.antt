@@ -1,4 +1,4 @@
-use Rattle.log_text.proofs.ConsistencyFacts.{consistency_proofs}
+use Rattle.log_text.proofs.ProofLaws.{consistency_proofs}
 use Rattle.log_text.proofs.laws.consistency_proofs_are_spelled.Goals as goal
 
 pub returns : goal.returns

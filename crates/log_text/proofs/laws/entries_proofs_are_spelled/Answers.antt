@@ -1,4 +1,4 @@
-use Rattle.log_text.proofs.EntriesFacts.{entries_proofs}
+use Rattle.log_text.proofs.ProofLaws.{entries_proofs}
 use Rattle.log_text.proofs.laws.entries_proofs_are_spelled.Goals as goal
 
 pub returns : goal.returns

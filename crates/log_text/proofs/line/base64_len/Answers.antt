@@ -31,7 +31,8 @@ returns-in_err-decode c =
 pub returns-then-branch-ne3 : goal.returns-then-branch-ne3
 returns-then-branch-ne3 c =
     sym (step (goal.at.returns-then-branch-ne3 c).After-decode
-    ∙ len_refused c.loop-rest.len c.decode.result _ (λ n some three. let was = c.in_ok-decode.was in c.if-branch-ne3.true cc))
+    ∙ len_refused c.loop-rest.len c.decode.result _
+    (λ n some three. let was = c.in_ok-decode.was in c.if-branch-ne3.true cc))
 
 pub returns : goal.returns
 returns c =

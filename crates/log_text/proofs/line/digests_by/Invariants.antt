@@ -1,6 +1,6 @@
 use Rattle.std.proofs.Common.{◌≡◌, ◌-◌, ◌&&◌}
 use Rattle.log_text.specs.Reading.{at_blank, digest_by, digests_by, many}
-use Rattle.log_text.proofs.ManyFacts.{onto}
+use Rattle.log_text.proofs.ReadFacts.{onto}
 use Rattle.log_text.proofs.line.digests_by.Given as goal
 
 abbrev pub invariant-loop-digest : goal.invariant-loop-digest

@@ -1,8 +1,7 @@
 use Rattle.std.proofs.Common.{◌==◌, sym, ◌∙◌, rules, ◌&&◌, not}
-use Rattle.std.specs.List.{list_all}
 use Rattle.std.proofs.lemmas.Iterator.{YieldsList-from_slice, Search.all_from_yields_List}
-use Rattle.log_text.specs.Lines.{is_key_name}
-use Rattle.log_text.proofs.TextFacts.{some_tested}
+use Rattle.std.specs.List.{list_all}
+use Rattle.log_text.{proofs.LineFacts.some_tested, specs.Lines.is_key_name}
 use Rattle.log_text.proofs.line.is_key_name.Goals as goal
 
 pub returns : goal.returns

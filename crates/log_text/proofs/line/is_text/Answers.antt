@@ -1,8 +1,7 @@
 use Rattle.std.proofs.Common.{rules, sym, ◌∙◌, ◌&&◌, nat_le}
-use Rattle.std.specs.List.{list_all}
 use Rattle.std.proofs.lemmas.Iterator.{YieldsList-from_slice, Search.all_from_yields_List}
-use Rattle.log_text.specs.Lines.{is_text}
-use Rattle.log_text.proofs.TextFacts.{utf8_tells}
+use Rattle.std.specs.List.{list_all}
+use Rattle.log_text.{proofs.LineFacts.utf8_tells, specs.Lines.is_text}
 use Rattle.log_text.proofs.line.is_text.Goals as goal
 
 pub returns-then-is_ok : goal.returns-then-is_ok

@@ -1,5 +1,5 @@
 use Rattle.std.proofs.Common.{◌≡◌, ◌<◌, ◌∙◌, length, get_or, arith}
-use Rattle.log_text.proofs.NumberFacts.{leading_zero, not_parsed, parsed}
+use Rattle.log_text.proofs.TestFacts.{leading_zero, not_parsed, parsed}
 use Rattle.log_text.proofs.line.number_of.Goals as goal
 use Rattle.log_text.proofs.line.number_of.Goals.{else-digits-gt1-via-else-digits-gt1}
 use Rattle.log_text.proofs.line.number_of.Goals.{else-digits-gt1-via-then-digits-gt1+else-digits-eq48}
@@ -22,4 +22,5 @@ returns c =
           λ long first. absurd (omega (arith, long, w.if-digits-gt1.false))
     ] in
     c.then_some.ensures
-    ∙ parsed c.args.digits.now c.parse_number.result c.in_ok-number.number c.parse_number.ensures c.in_ok-number.was free
+    ∙ parsed c.args.digits.now c.parse_number.result c.in_ok-number.number c.parse_number.ensures c.in_ok-number.was
+    free

@@ -1,5 +1,5 @@
 use Rattle.std.proofs.Common.{sym, ◌∙◌}
-use Rattle.log_text.proofs.NumberFacts.{no_text}
+use Rattle.log_text.proofs.TestFacts.{no_text}
 use Rattle.log_text.proofs.line.parse_number.Goals as goal
 
 -- digits are text

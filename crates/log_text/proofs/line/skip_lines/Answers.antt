@@ -1,10 +1,9 @@
 use Rattle.std.proofs.Common.{◌∷◌, ◌++◌, [], refl, sym, ap, ◌∙◌, slice_index, eq-eqb, ne_eqb}
 use Rattle.std.proofs.lemmas.{Bool.or_from, Bool.or_left, Bool.or_right, Result.err_from_is_err_and}
-use Rattle.log_text.specs.Inner.Rests.{rest_of}
 use Rattle.log_text.specs.Reading.{at_blank, at_end, at_text_end, line_that}
-use Rattle.log_text.proofs.ManyFacts.{many_ended, many_more, many_refused, many_start, many_stopped, rest_err, rest_ok}
-use Rattle.log_text.proofs.line.skip_lines.Goals.{then-is_empty-via-then-is_empty}
+use Rattle.log_text.proofs.ReadFacts.{many_ended, many_more, many_refused, many_start, many_stopped, rest_err, rest_ok}
 use Rattle.log_text.proofs.line.skip_lines.Goals.{then-is_empty-via-else-is_empty+then-rest-eq10}
+use Rattle.log_text.{proofs.line.skip_lines.Goals.then-is_empty-via-then-is_empty, specs.Inner.Rests.rest_of}
 use Rattle.log_text.proofs.line.skip_lines.Goals as goal
 
 pub loop-line-init : goal.loop-line-init
@@ -18,7 +17,8 @@ returns-then-is_empty c =
     sym (ap rest_of (so_far
     ∙ many_stopped at_text_end (line_that c.args.expected) c.args.limit c.loop-line._line done rest
     (elim c.then-is_empty.branch [
-      | then-is_empty-via-then-is_empty w ↦ or_left (at_end rest) (at_blank rest) (sym c.is_empty.ensures ∙ w.if-is_empty.true)
+      | then-is_empty-via-then-is_empty w ↦ or_left (at_end rest) (at_blank rest)
+          (sym c.is_empty.ensures ∙ w.if-is_empty.true)
       | then-is_empty-via-else-is_empty+then-rest-eq10 w ↦
           or_right (at_end rest) (at_blank rest) (eq-eqb (slice_index rest 0) 10 w.if-rest-eq10.true)
     ])))

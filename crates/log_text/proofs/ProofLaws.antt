@@ -1,17 +1,22 @@
--- A text is read as a proof of entries exactly if it is the text of that proof.
+-- A text is read as a proof exactly if it is the text of that proof.
 use Rattle.std.proofs.Common.{◌≡◌, ◌<◌, ◌≤◌, ◌+◌, ◌==◌, true, false, ℕ, List, [], ◌∷◌, ◌++◌, length, get_or, take, drop}
 use Rattle.std.proofs.Common.{refl, sym, ap, ◌∙◌, subst, arith, append-nil, append_assoc, inl, inr, length-append}
 use Rattle.std.proofs.Common.{length-take, add-one, drop-cons, ◌&&◌, codes, decimal, flat_map, nat_lt, slice_index}
-use Rattle.std.proofs.Common.{take-append-drop}
+use Rattle.std.proofs.Common.{take-append-drop, All, ne_eqb}
 use Rattle.std.proofs.Math.Seq.{drop-append-add, get_or-append_seam, take-append_seam}
 use Rattle.std.proofs.lemmas.Bool.{cases_lt, Decides.Decides-and, Decides.Decides-eqb, Decides.Decides-ltb}
-use Rattle.log_text.specs.{Laws.EntriesProofsAreSpelled, Texts.IsEntry}
-use Rattle.log_text.specs.Reading.{bytes_by, digests_by, entries_by, entry_by, error_of, never}
-use Rattle.log_text.specs.Texts.{digest_line, entries_text, entry_lines, line, EntryFields, IsDigest, IsEntriesProof}
-use Rattle.log_text.specs.declared.error.Expected.TheVariants.{DigestCount, EntryCount, ProofVersion}
+use Rattle.std.proofs.lemmas.List.Elements.{All-head}
+use Rattle.base64.specs.Rfc4648.{padding_len, unpadded_len}
+use Rattle.log_text.specs.Texts.{IsEntry, digest_line, entries_text, entry_lines, line, EntryFields, IsDigest}
+use Rattle.log_text.specs.Reading.{bytes_by, digests_by, entries_by, entry_by, error_of, never, at_blank}
+use Rattle.log_text.specs.declared.error.Expected.TheVariants.{DigestCount, EntryCount, ProofVersion, Blank, OldSize}
+use Rattle.log_text.specs.{Laws.EntriesProofsAreSpelled, Laws.ConsistencyProofsAreSpelled, Lines.base64}
+use Rattle.log_text.specs.Reading.{consistency_by}
+use Rattle.log_text.specs.Texts.{IsEntriesProof, consistency_text, IsConsistencyProof}
 use Rattle.log_text.proofs.LineFacts.{digest_spelled, head_bytes, head_spelled, number_spelled, that_spelled}
-use Rattle.log_text.proofs.{LineFacts.version_decided, ManyFacts.many_spelled}
 use Rattle.log_text.proofs.ReadFacts.{ends, gives, holds, in_turn, read_as, says, turn, IsSpelled}
+use Rattle.log_text.proofs.Base64Facts.{base64_plain, length-base64}
+use Rattle.log_text.proofs.{LineFacts.version_decided, LineFacts.blank_decided, ReadFacts.many_spelled}
 
 -- ---- entries
 
@@ -94,8 +99,48 @@ entries_proofs text p =
           let count = line (codes "digests " ++ decimal (length p.digests)) ++ digests in
           let entries = flat_map entry_lines p.entries ++ count in
           back (turn (codes "fohlazu proof 1") (line (codes "entries " ++ decimal (length p.entries)) ++ entries)
-          ((version_decided (codes "fohlazu proof 1")).1 refl, t) (turn (length p.entries) entries (is.entry_count, refl)
+          ((version_decided (codes "fohlazu proof 1")).1 refl, t)
+          (turn (length p.entries) entries (is.entry_count, refl)
           (turn p.entries count ((is.entries, omega arith, λ less. absurd (omega (arith, less))), refl)
           (turn (length p.digests) digests (is.digest_count, refl) (turn p.digests []
           ((is.digests, omega arith, λ less. absurd (omega (arith, less))), sym (append-nil digests)) (refl, refl)))))),
+    )
+
+-- ---- digests up to a blank line
+
+-- a digest is no blank line
+digest_goes_on : (digest left : List ℕ) → IsDigest digest → (true && at_blank (digest_line digest ++ left)) ≡ false
+digest_goes_on digest left is = by_symbols (base64 digest) (base64_plain digest is.1) (length-base64 digest)
+  where
+    by_symbols : (symbols : List ℕ) → All (λ c. 32 ≤ c) symbols →
+        length symbols ≡ unpadded_len (length digest) + padding_len (length digest) →
+        at_blank (line symbols ++ left) ≡ false
+    by_symbols [] plain len =
+        let none : 0 ≡ 44 = len ∙ ap (λ n. unpadded_len n + padding_len n) is.0 in
+        absurd (omega (arith, none))
+    by_symbols (s ∷ ss) plain len =
+        let high = All-head (λ c. 32 ≤ c) s ss plain in
+        ne_eqb s 10 (λ feed. omega (arith, feed, high))
+
+-- ---- proofs
+
+pub consistency_proofs : ConsistencyProofsAreSpelled
+unfolding consistency_by digests_by
+consistency_proofs text p =
+    let (read, back) = says (error_of text) (consistency_by text) p
+    (in_turn _ _ (number_spelled OldSize (codes "old ") refl text) (λ old_size left.
+    in_turn _ _ (many_spelled _ _ IsDigest digest_line (digest_spelled true) digest_goes_on 63 left) (λ digests left.
+    in_turn _ _ (that_spelled Blank left) (λ blank left.
+    gives (record { old_size = old_size; digests = digests; checkpoint = left }))))) in (
+      λ is.
+          let (old_size, left, (small, t1), (digests, end, ((are, few, stop), t2), (blank, new, (none, t3), same))) =
+          read is in
+          let t4 = (blank_decided blank).0 none in
+          subst (λ q. IsConsistencyProof q × (text ≡ consistency_text q)) same
+          (record { old_size = small; digests = are; few_digests = few }, cc),
+      λ (is, t).
+          let new = line [] ++ p.checkpoint in
+          back (turn p.old_size (flat_map digest_line p.digests ++ new) (is.old_size, t) (turn p.digests new
+          ((is.digests, is.few_digests, λ less. refl), refl)
+          (turn [] p.checkpoint ((blank_decided []).1 refl, refl) refl))),
     )
