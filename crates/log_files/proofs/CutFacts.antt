@@ -1,11 +1,119 @@
--- Where a file is cut, as its bytes come.
-use Rattle.std.proofs.Common.{◌≡◌, ℕ, ◌<◌, List, [], ◌∷◌, ◌++◌, All, length, sym, ap, ◌∙◌, arith, refl, append_assoc}
-use Rattle.std.proofs.Common.{append-nil, length-append}
+-- The whole entries at the front of a file, and where it is cut as its bytes come.
+use Rattle.std.proofs.Common.{◌≡◌, ℕ, zero, suc, ◌+◌, ◌*◌, ◌/◌, ◌<◌, ◌==◌, List, [], ◌∷◌, ◌++◌, length, map, take, drop}
+use Rattle.std.proofs.Common.{refl, sym, ap, ◌∙◌, arith, length-append, Bor, All, append_assoc, append-nil}
 use Rattle.std.proofs.lemmas.List.Elements.{All-append, All-cons, All-head, All-nil, All-tail}
-use Rattle.log_files.specs.Entries.{entries_in, last_entry, partial_of, rest_of, whole_entries, IsCut}
-use Rattle.log_files.specs.Inner.Splitting.{ending, joined, AreAtHead, IsCutAt, IsOpen, IsWhole}
-use Rattle.log_files.specs.declared.cut.Cut.{Cut, TheVariants.Lines, TheVariants.Blocks}
-use Rattle.log_files.proofs.EntryFacts.{all_rest, first_entry, no_entry, none_open, rest_after_entry}
+use Rattle.std.proofs.Math.{Nat.add-div_left, Nat.add-mul, Nat.zero-mul, Seq.take-append_seam, Seq.drop-append-add}
+use Rattle.std.proofs.lemmas.List.Splits.{length-slice_split, slice_split_at, slice_split_none}
+use Rattle.std.{proofs.lemmas.Nat.div-mul-add, specs.List.range_with_len}
+use Rattle.log_files.specs.Entries.{all_but_last, block_of, last_entry, last_of, pieces_of, rest_of, whole_entries}
+use Rattle.log_files.specs.Inner.Splitting.{ending, IsOpen, IsWhole, LacksFeed, joined, AreAtHead, IsCutAt}
+use Rattle.log_files.specs.{Entries.IsCut, Entries.entries_in, Entries.partial_of, declared.cut.Cut.Cut}
+use Rattle.log_files.specs.declared.cut.{Cut.TheVariants.Lines, Cut.TheVariants.Blocks, PartialLine.PartialLine}
+use Rattle.log_files.specs.declared.cut.PartialLine.TheVariants.{Include, LeaveOut, Refuse}
+
+-- the bytes of an entry that stands in a buffer
+abbrev pub bytes_of : Bor (List ℕ) → List ℕ
+bytes_of entry = entry.now
+
+-- ---- lines
+
+more_follow : (x : List ℕ) (xs : List (List ℕ)) → 0 < length xs → all_but_last (x ∷ xs) ≡ x ∷ all_but_last xs
+more_follow x [] some = absurd (omega (arith, some))
+more_follow x (y ∷ ys) some = refl
+
+last_stays : (x : List ℕ) (xs : List (List ℕ)) → 0 < length xs → last_of (x ∷ xs) ≡ last_of xs
+last_stays x [] some = absurd (omega (arith, some))
+last_stays x (y ∷ ys) some = refl
+
+some_piece : (bytes : List ℕ) → 0 < length (pieces_of bytes)
+some_piece bytes = omega (arith, length-slice_split (λ b. b == 10) bytes)
+
+first_piece : (line rest : List ℕ) → LacksFeed line → pieces_of (line ++ 10 ∷ rest) ≡ line ∷ pieces_of rest
+first_piece line rest lacks = slice_split_at (λ b. b == 10) line 10 rest lacks refl
+
+-- ---- blocks
+
+-- a block more
+one_more : (size : ℕ) (block rest : List ℕ) → 0 < size → length block ≡ size →
+    length (block ++ rest) / size ≡ suc (length rest / size)
+one_more size block rest some long =
+    let all : length (block ++ rest) ≡ size + length rest = omega (arith, length-append block rest, long) in
+    ap (λ n. n / size) all ∙ omega (arith, add-div_left (length rest) some)
+
+-- after the first block stand the others
+block_next : (size : ℕ) (block rest : List ℕ) (i : ℕ) → length block ≡ size →
+    block_of size (block ++ rest) (i + 1) ≡ block_of size rest i
+block_next size block rest i long =
+    ap (λ n. take size (drop n (block ++ rest))) (omega (arith, add-mul i 1 size, long))
+    ∙ ap (λ xs. take size xs) (drop-append-add block rest (i * size))
+
+blocks_next : (size : ℕ) (block rest : List ℕ) (a n : ℕ) → length block ≡ size →
+    map (block_of size (block ++ rest)) (range_with_len (a + 1) n) ≡ map (block_of size rest) (range_with_len a n)
+blocks_next size block rest a zero long = refl
+blocks_next size block rest a (suc n) long =
+    rw (block_next size block rest a long)
+    (ap (λ xs. block_of size rest a ∷ xs) (blocks_next size block rest (a + 1) n long))
+
+block_first : (size : ℕ) (block rest : List ℕ) → length block ≡ size → block_of size (block ++ rest) 0 ≡ block
+block_first size block rest long =
+    ap (λ n. take size (drop n (block ++ rest))) (zero-mul size)
+    ∙ ap (λ n. take n (block ++ rest)) (sym long)
+    ∙ take-append_seam block rest
+
+first_block : (size : ℕ) (block rest : List ℕ) → 0 < size → length block ≡ size →
+    whole_entries (Blocks size) (block ++ rest) ≡ block ∷ whole_entries (Blocks size) rest
+first_block size block rest some long =
+    ap (λ n. map (block_of size (block ++ rest)) (range_with_len 0 n)) (one_more size block rest some long)
+    ∙ rw (block_first size block rest long)
+    (ap (λ xs. block ∷ xs) (blocks_next size block rest 0 (length rest / size) long))
+
+rest_after_block : (size : ℕ) (block rest : List ℕ) → 0 < size → length block ≡ size →
+    rest_of (Blocks size) (block ++ rest) ≡ rest_of (Blocks size) rest
+rest_after_block size block rest some long =
+    let q = length rest / size in
+    let steps : suc q * size ≡ length block + q * size = omega (arith, add-mul q 1 size, long) in
+    ap (λ n. drop (n * size) (block ++ rest)) (one_more size block rest some long)
+    ∙ ap (λ n. drop n (block ++ rest)) steps
+    ∙ drop-append-add block rest (q * size)
+
+no_block : (size : ℕ) (bytes : List ℕ) → length bytes < size → length bytes / size ≡ 0
+no_block size bytes short =
+    ap (λ n. n / size) (omega arith) ∙ div-mul-add 0 size (length bytes) short
+
+-- ---- both
+
+-- no entry ends with an empty rest
+pub no_last : (partial : PartialLine) → last_entry partial [] ≡ []
+no_last Refuse = refl
+no_last LeaveOut = refl
+no_last Include = refl
+
+-- an entry may be empty so far
+pub none_open : (cut : Cut) → IsCut cut → IsOpen cut []
+none_open (Lines partial) is = λ k d h. absurd (omega (arith, h))
+none_open (Blocks size) is = omega (arith, is.0)
+
+pub first_entry : (cut : Cut) (entry rest : List ℕ) → IsCut cut → IsWhole cut entry →
+    whole_entries cut (entry ++ (ending cut ++ rest)) ≡ entry ∷ whole_entries cut rest
+first_entry (Lines partial) entry rest is whole =
+    ap all_but_last (first_piece entry rest whole) ∙ more_follow entry (pieces_of rest) (some_piece rest)
+first_entry (Blocks size) entry rest is whole = first_block size entry rest (omega (arith, is.0)) whole
+
+pub rest_after_entry : (cut : Cut) (entry rest : List ℕ) → IsCut cut → IsWhole cut entry →
+    rest_of cut (entry ++ (ending cut ++ rest)) ≡ rest_of cut rest
+rest_after_entry (Lines partial) entry rest is whole =
+    ap last_of (first_piece entry rest whole) ∙ last_stays entry (pieces_of rest) (some_piece rest)
+rest_after_entry (Blocks size) entry rest is whole = rest_after_block size entry rest (omega (arith, is.0)) whole
+
+pub no_entry : (cut : Cut) (bytes : List ℕ) → IsOpen cut bytes → whole_entries cut bytes ≡ []
+no_entry (Lines partial) bytes opens = ap all_but_last (slice_split_none (λ b. b == 10) bytes opens)
+no_entry (Blocks size) bytes opens =
+    ap (λ n. map (block_of size bytes) (range_with_len 0 n)) (no_block size bytes opens)
+
+pub all_rest : (cut : Cut) (bytes : List ℕ) → IsOpen cut bytes → rest_of cut bytes ≡ bytes
+all_rest (Lines partial) bytes opens = ap last_of (slice_split_none (λ b. b == 10) bytes opens)
+all_rest (Blocks size) bytes opens =
+    ap (λ n. drop (n * size) bytes) (no_block size bytes opens) ∙ ap (λ n. drop n bytes) (zero-mul size)
 
 -- at the start
 pub cut_none : (cut : Cut) → IsCut cut → IsCutAt cut [] [] []

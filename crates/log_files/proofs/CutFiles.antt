@@ -1,5 +1,5 @@
--- The entries of a file by its bytes: further bytes behind the end of an entry are further entries, lines have no LF, and
--- blocks have their size.
+-- The entries of a file by its bytes: further bytes after the end of an entry are further entries, lines have no LF,
+-- and blocks have their size.
 use Rattle.std.proofs.Common.{◌≡◌, ◌≤◌, ◌<◌, ◌+◌, ◌-◌, ◌==◌, ◌∙◌, ℕ, List, [], ◌∷◌, ◌++◌, ap, arith, eq-eqb, inl, inr}
 use Rattle.std.proofs.Common.{length, refl, sym, subst, append_assoc, append-nil, length-append, false, All, ne_eqb}
 use Rattle.std.proofs.lemmas.Bool.{cases_eq, cases_lt, Decides.eqb_tells}
@@ -11,7 +11,7 @@ use Rattle.log_files.specs.declared.cut.Cut.{Cut, TheVariants.Blocks as InBlocks
 use Rattle.log_files.specs.declared.cut.PartialLine.{PartialLine}
 use Rattle.log_files.specs.declared.cut.PartialLine.TheVariants.{Include, LeaveOut, Refuse}
 use Rattle.log_files.proofs.CutFacts.{cut_end, cut_more, cut_none, entries_are, rest_is}
-use Rattle.log_files.proofs.EntryFacts.{all_rest, no_entry, no_last, none_open}
+use Rattle.log_files.proofs.CutFacts.{all_rest, no_entry, no_last, none_open}
 
 -- ---- a file, byte by byte
 
@@ -100,7 +100,8 @@ module _ (cut : Cut) (is : IsCut cut) where
         (λ i. whole i ++ last_entry p (rest_grows i))
         ∙ append_assoc s.0 (whole_entries cut more) (last_entry p (rest_of cut more))
         ∙ ap (λ xs. xs ++ entries_in cut more)
-        (sym (entries_are cut file s.0 s.1 s.2.at ∙ ap (λ xs. s.0 ++ last_entry p xs) none ∙ ap (λ xs. s.0 ++ xs) (no_last p)
+        (sym (entries_are cut file s.0 s.1 s.2.at ∙ ap (λ xs. s.0 ++ last_entry p xs) none
+        ∙ ap (λ xs. s.0 ++ xs) (no_last p)
         ∙ append-nil s.0))
 
 -- ---- lines and blocks

@@ -1,8 +1,5 @@
-pub mod EntryFacts
 mod CutFacts
-mod WantedFacts
-mod SplitterFacts
-mod EndFacts
-mod BuiltFacts
-mod ReaderFacts
 pub mod CutFiles
+mod ReaderFacts
+mod SplitterFacts
+mod WantedFacts

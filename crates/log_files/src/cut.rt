@@ -50,13 +50,7 @@ impl Cut {
                 let end = memchr(b'\n', bytes)?;
                 Some((&bytes[..end], &bytes[end + 1..]))
             }
-            Cut::Blocks(size) => {
-                let room = size.saturating_sub(len);
-                if bytes.len() < room {
-                    return None;
-                }
-                Some((&bytes[..room], &bytes[room..]))
-            }
+            Cut::Blocks(size) => bytes.split_at_checked(size.saturating_sub(len)),
         }
     }
 

@@ -4,7 +4,6 @@
 
 mod cut;
 mod error;
-mod open;
 mod reading;
 mod splitter;
 mod wanted;

@@ -39,19 +39,19 @@ pub struct ReadLog {
 /// `EndsInsideLine` if the file ends inside a line, ahead of the limit, and a partial line is refused. `TooManyEntries`
 /// if more than 2^62 entries are read. `Read` if a read fails; an interrupted read is retried. `OutOfMemory` if memory
 /// runs out.
-pub fn read_log<Src: Read>(
+pub fn read_log<R: Read>(
     alloc: Global,
     cut: Cut,
     limit: Option<usize>,
     wanted_nodes: &[(usize, usize)],
     wanted_entries: &[usize],
-    file: &mut Src,
+    file: &mut R,
 ) -> Result<ReadLog, ReadError>
     requires { IsCut cut }
-    ensures read { IfOk result (λ log. HoldsOfFile (Src.remaining file.old)
+    ensures read { IfOk result (λ log. HoldsOfFile (R.remaining file.old)
         (IsLogOf log cut limit wanted_nodes.now wanted_entries.now)) }
     ensures refused { IfErr result (λ e. (e ≡ OutOfMemory) ⊎ ((e ≡ FailedRead)
-        ⊎ HoldsOfFile (Src.remaining file.old) (λ bytes. read_refusal cut limit bytes ≡ Some e))) }
+        ⊎ HoldsOfFile (R.remaining file.old) (λ bytes. read_refusal cut limit bytes ≡ Some e))) }
 {
     let places = places_in_order(alloc, wanted_entries)?;
     let wanted = WantedEntries::new(alloc, &places)?;
@@ -65,22 +65,22 @@ pub fn read_log<Src: Read>(
 }
 
 /// Reads a file until it ends, or until as many entries have ended as are read at most.
-fn read_through<Src: Read>(
+fn read_through<R: Read>(
     alloc: Global,
     splitter: &mut Splitter<'_>,
     mut tree: TreeBuilder,
-    file: &mut Src,
+    file: &mut R,
 ) -> Result<TreeBuilder, ReadError>
     requires { IsReady splitter.old }
     ensures ready { OnOk result (IsReady splitter.new) }
     ensures same { OnOk result ((splitter.new.cut ≡ splitter.old.cut) × (splitter.new.limit ≡ splitter.old.limit)) }
     ensures built { (nodes : List (ℕ × ℕ)) (wanted : List ℕ) → HasBuilt nodes wanted splitter.old tree [] →
-        IfOk result (λ read. (bytes : List ℕ) × Consumes (Src.remaining file.old) (Src.remaining file.new) bytes
+        IfOk result (λ read. (bytes : List ℕ) × Consumes (R.remaining file.old) (R.remaining file.new) bytes
         × HasGrown nodes wanted splitter.new read [] bytes
-        × (IsAtEnd (Src.remaining file.new) ⊎ (splitter.new.limit ≤ splitter.new.count))) }
+        × (IsAtEnd (R.remaining file.new) ⊎ (splitter.new.limit ≤ splitter.new.count))) }
     ensures refused { (nodes : List (ℕ × ℕ)) (wanted : List ℕ) → HasBuilt nodes wanted splitter.old tree [] →
         IfErr result (λ e. (e ≡ OutOfMemory) ⊎ ((e ≡ FailedRead) ⊎ ((e ≡ TooManyEntries)
-        × ReadsTooMany splitter.old.cut splitter.old.limit (Src.remaining file.old) (Src.remaining file.new)))) }
+        × ReadsTooMany splitter.old.cut splitter.old.limit (R.remaining file.old) (R.remaining file.new)))) }
 {
     let mut buffer = vec![in alloc; 0; BUFFER]?;
     let window = buffer.as_mut_slice();

@@ -5,22 +5,49 @@ ghost use Rattle.std.specs.Prelude.{nat_le, take, true, Some};
 ghost use Rattle.sha2.specs.Sha256.{sha256};
 ghost use Rattle.tlog.specs.Rfc9162.{leaf_hash};
 ghost use Rattle.log_files.specs.Entries.{entries_in, is_refused, IsCut};
-ghost use Rattle.log_files.specs.Inner.Splitting.{AreAll, HasRead, Holds, IsAt, IsReady};
+ghost use Rattle.log_files.specs.Inner.Splitting.{AreAll, HasRead, Holds, HoldsOpen, IsAt, IsReady};
 ghost use Rattle.log_files.specs.Inner.Wanted.{HasPlaces, HoldsWanted};
 ghost use Rattle.log_files.specs.declared.error.ReadError.TheVariants.{EndsInsideLine, OutOfMemory};
 
 use crate::cut::{Cut, PartialLine};
 use crate::error::ReadError;
-use crate::open::OpenEntry;
 use crate::wanted::WantedEntries;
-use sha2::Digest;
+use sha2::{Digest, Sha256};
 use std::alloc::{AllocError, Global};
 use std::mem;
 use tlog_tree::leaf_hashes;
 
+/// The entry that has begun and not ended. Its bytes are hashed as they come, so that it may have any length.
+#[derive(Drop)]
+struct OpenEntry {
+    /// Has read a byte 0 and the bytes so far.
+    hasher: Sha256,
+    /// How many bytes there are so far, up to `usize::MAX`.
+    len: usize,
+}
+
+impl OpenEntry {
+    /// An entry without bytes so far.
+    fn new() -> OpenEntry
+        ensures { HoldsOpen result [] }
+    {
+        let mut hasher = Sha256::new();
+        hasher.update(&[0]);
+        OpenEntry { hasher, len: 0 }
+    }
+
+    /// Adds its next bytes.
+    fn push(&mut self, more: &[u8])
+        ensures { (bytes : List ℕ) → HoldsOpen self.old bytes → HoldsOpen self.new (bytes ++ more.now) }
+    {
+        self.hasher.update(more);
+        self.len = self.len.saturating_add(more.len());
+    }
+}
+
 /// The entries of a file, as far as its bytes have come.
 #[derive(Drop)]
-pub(crate) struct Splitter<'a> {
+pub struct Splitter<'a> {
     cut: Cut,
     /// How many entries are read at most. What follows them is left out.
     limit: usize,
@@ -28,12 +55,12 @@ pub(crate) struct Splitter<'a> {
     count: usize,
     /// The one that has not ended.
     open_entry: OpenEntry,
-    pub(crate) wanted: WantedEntries<'a>,
+    pub wanted: WantedEntries<'a>,
 }
 
 impl<'a> Splitter<'a> {
     /// Nothing of the file has come. At most `limit` entries of it are read.
-    pub(crate) fn new(cut: Cut, limit: usize, wanted: WantedEntries<'a>) -> Splitter<'a>
+    pub fn new(cut: Cut, limit: usize, wanted: WantedEntries<'a>) -> Splitter<'a>
         requires { IsCut cut }
         ensures same { (result.cut ≡ cut) × (result.limit ≡ limit) }
         ensures ready { (indices : List ℕ) → HasPlaces wanted.entry → HoldsWanted wanted.entry indices [] [] →
@@ -50,7 +77,7 @@ impl<'a> Splitter<'a> {
     }
 
     /// Whether as many entries have ended as are read at most.
-    pub(crate) fn is_full(&self) -> bool
+    pub fn is_full(&self) -> bool
         ensures { result ≡ nat_le self.now.limit self.now.count }
     {
         self.count >= self.limit
@@ -58,7 +85,7 @@ impl<'a> Splitter<'a> {
 
     /// Reads whole entries from the head of the next bytes of the file, or bytes of one entry. Returns the leaf hashes
     /// of the entries that have ended, and the bytes that are left.
-    pub(crate) fn read<'b>(
+    pub fn read<'b>(
         &mut self,
         alloc: Global,
         bytes: &'b [u8],
@@ -113,7 +140,7 @@ impl<'a> Splitter<'a> {
     }
 
     /// Ends the file, or what is read of it. Returns the leaf hash of a last entry that ends with the file.
-    pub(crate) fn end_file(&mut self, alloc: Global) -> Result<Vec<[u8; 32]>, ReadError>
+    pub fn end_file(&mut self, alloc: Global) -> Result<Vec<[u8; 32]>, ReadError>
         requires { HasPlaces self.old.wanted }
         ensures all { (wanted front rest : List ℕ) (ended : List (List ℕ)) → IsAt wanted self.old front ended →
             (rest ≡ []) ⊎ (self.old.limit ≤ self.old.count) →

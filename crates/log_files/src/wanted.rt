@@ -9,10 +9,7 @@ use std::alloc::{AllocError, Global};
 use std::mem;
 
 /// The index of each wanted entry with its place among the wanted ones, in the order of the file.
-pub(crate) fn places_in_order(
-    alloc: Global,
-    wanted: &[usize],
-) -> Result<Vec<(usize, usize)>, AllocError>
+pub fn places_in_order(alloc: Global, wanted: &[usize]) -> Result<Vec<(usize, usize)>, AllocError>
     ensures { IfOk result (λ places. IsPermutation (places_of wanted.now) places.items
         × IsAscending 0 places.items) }
 {
@@ -26,7 +23,7 @@ pub(crate) fn places_in_order(
 
 /// The wanted entries, as far as they have come.
 #[derive(Drop)]
-pub(crate) struct WantedEntries<'a> {
+pub struct WantedEntries<'a> {
     /// The index and the place of those that have not ended, in the order of the file.
     left: &'a [(usize, usize)],
     /// The bytes of those that have ended, each at its place.
@@ -37,10 +34,7 @@ pub(crate) struct WantedEntries<'a> {
 
 impl<'a> WantedEntries<'a> {
     /// None of the wanted entries have come, which have these indices and places.
-    pub(crate) fn new(
-        alloc: Global,
-        places: &'a [(usize, usize)],
-    ) -> Result<WantedEntries<'a>, AllocError>
+    pub fn new(alloc: Global, places: &'a [(usize, usize)]) -> Result<WantedEntries<'a>, AllocError>
         requires { IsAscending 0 places.now }
         ensures holds { IfOk result (λ entries. (wanted : List ℕ) → IsPermutation (places_of wanted) places.now →
             HoldsWanted entries wanted [] []) }
@@ -66,12 +60,7 @@ impl<'a> WantedEntries<'a> {
     }
 
     /// Copies those of the next entries that are wanted. The first of them has index `first`.
-    pub(crate) fn copy(
-        &mut self,
-        alloc: Global,
-        first: usize,
-        entries: &[&[u8]],
-    ) -> Result<(), AllocError>
+    pub fn copy(&mut self, alloc: Global, first: usize, entries: &[&[u8]]) -> Result<(), AllocError>
         requires { HasPlaces self.old }
         ensures places { OnOk result (HasPlaces self.new) }
         ensures holds { (wanted : List ℕ) (ended : List (List ℕ)) → first ≡ length ended →
@@ -90,7 +79,7 @@ impl<'a> WantedEntries<'a> {
     }
 
     /// Adds the next bytes of the open entry, which has this index.
-    pub(crate) fn push(&mut self, index: usize, more: &[u8]) -> Result<(), AllocError>
+    pub fn push(&mut self, index: usize, more: &[u8]) -> Result<(), AllocError>
         requires { HasPlaces self.old }
         ensures places { OnOk result (HasPlaces self.new) }
         ensures holds { (wanted : List ℕ) (ended : List (List ℕ)) (bytes : List ℕ) → index ≡ length ended →
@@ -104,7 +93,7 @@ impl<'a> WantedEntries<'a> {
     }
 
     /// Ends the open entry, which has this index.
-    pub(crate) fn end(&mut self, alloc: Global, index: usize) -> Result<(), AllocError>
+    pub fn end(&mut self, alloc: Global, index: usize) -> Result<(), AllocError>
         requires { HasPlaces self.old }
         ensures places { OnOk result (HasPlaces self.new) }
         ensures holds { (wanted : List ℕ) (ended : List (List ℕ)) (bytes : List ℕ) → index ≡ length ended →
@@ -119,7 +108,7 @@ impl<'a> WantedEntries<'a> {
     }
 
     /// The wanted entries, if all of them have ended, else none.
-    pub(crate) fn into_entries(self, alloc: Global) -> Vec<Vec<u8>>
+    pub fn into_entries(self, alloc: Global) -> Vec<Vec<u8>>
         ensures { (wanted : List ℕ) (ended : List (List ℕ)) (bytes : List ℕ) →
             HoldsWanted self.entry wanted ended bytes →
             map (λ entry. entry.items) result.items ≡ wanted_of ended wanted }

@@ -6,8 +6,9 @@ use Rattle.tlog.specs.Rfc9162.{leaf_hash}
 use Rattle.tlog_tree.specs.{Builders.IsBuilderOf, declared.builder.TreeBuilder.TreeBuilder}
 use Rattle.log_files.specs.Entries.{entries_in, is_refused, rest_of, whole_entries, IsCut}
 use Rattle.log_files.specs.{Inner.Wanted.HasPlaces, Inner.Wanted.HoldsWanted, declared.cut.Cut.Cut}
-use Rattle.log_files.specs.declared.{cut.Cut.TheVariants.Lines, cut.Cut.TheVariants.Blocks, open.OpenEntry.OpenEntry}
-use Rattle.log_files.specs.declared.{splitter.Splitter.Splitter, wanted.WantedEntries.WantedEntries}
+use Rattle.log_files.specs.declared.{cut.Cut.TheVariants.Lines, cut.Cut.TheVariants.Blocks}
+use Rattle.log_files.specs.declared.splitter.{OpenEntry.OpenEntry, Splitter.Splitter}
+use Rattle.log_files.specs.declared.wanted.WantedEntries.{WantedEntries}
 
 -- what follows an entry that has ended
 abbrev pub ending : Cut → List ℕ

@@ -5,8 +5,8 @@ use Rattle.std.proofs.lemmas.{Result.err_from_is_err_and, List.length-map, List.
 use Rattle.tlog_tree.specs.Builders.{IsBuilderOf}
 use Rattle.tlog.specs.{Verdicts.size_limit, Rfc9162.leaf_hash}
 use Rattle.log_files.specs.Inner.Splitting.{AreTooMany, HasBuilt}
-use Rattle.log_files.proofs.BuiltFacts.{leaves, refused_by, size_of}
-use Rattle.log_files.proofs.{EndFacts.many_at, SplitterFacts.none_of}
+use Rattle.log_files.proofs.ReaderFacts.{leaves, refused_by, size_of}
+use Rattle.log_files.proofs.{SplitterFacts.many_at, SplitterFacts.none_of}
 use Rattle.sha2.specs.Sha256.{sha256}
 use Rattle.log_files.proofs.reading.push.Goals.{then-entries-test+else-not-is_full, else-entries-test}
 use Rattle.log_files.proofs.reading.push.Goals as goal

@@ -8,7 +8,7 @@ use Rattle.log_files.specs.{Entries.HoldsOfFile, Logs.IsLogOf, declared.reading.
 use Rattle.log_files.specs.declared.error.ReadError.TheVariants.{OutOfMemory, Read as FailedRead, TooManyEntries}
 use Rattle.log_files.specs.Inner.Splitting.{AreTooMany, HasBuilt, ReadsTooMany}
 use Rattle.log_files.specs.Inner.Wanted.{places_of, IsAscending}
-use Rattle.log_files.proofs.BuiltFacts.{leaves, log_of, many_at_end, refused_by, refused_far, refused_inside}
+use Rattle.log_files.proofs.ReaderFacts.{leaves, log_of, many_at_end, refused_by, refused_far, refused_inside}
 use Rattle.log_files.proofs.ReaderFacts.{log_with, of_file, refused_either, refused_file}
 use Rattle.log_files.proofs.reading.read_log.{Given.Over, Goals.After-deref, Goals.In_ok-tree, Goals.In_ok-tree-2}
 use Rattle.log_files.proofs.reading.read_log.Goals as goal
@@ -44,10 +44,10 @@ told : (g : Over) (c : In_ok-tree-2 g) →
     let s = c.read_through.new.splitter in (front rest : List ℕ)
     × HasBuilt c.args.wanted_nodes.now c.args.wanted_entries.now s c.in_ok-tree-2.tree front
     × ((rest ≡ []) ⊎ (s.limit ≤ s.count))
-    × ((Holds : List ℕ → Type 0) → Holds (front ++ rest) → HoldsOfFile (g.Src.Read.remaining c.args.file.now) Holds)
+    × ((Holds : List ℕ → Type 0) → Holds (front ++ rest) → HoldsOfFile (g.R.Read.remaining c.args.file.now) Holds)
 told g c b =
-    let before = g.Src.Read.remaining c.args.file.now in
-    let after = g.Src.Read.remaining c.read_through.new.file in
+    let before = g.R.Read.remaining c.args.file.now in
+    let after = g.R.Read.remaining c.read_through.new.file in
     let s = c.read_through.new.splitter in
     let (bytes, consumed, grown, end) =
     c.in_ok-tree-2.ensures.built c.args.wanted_nodes.now c.args.wanted_entries.now b in
@@ -112,8 +112,8 @@ returns-in_err-tree-3-clause-refused g c =
 pub returns-in_err-tree-2-clause-refused : goal.returns-in_err-tree-2-clause-refused
 returns-in_err-tree-2-clause-refused g c =
     let at = goal.at.returns-in_err-tree-2-clause-refused g c in
-    let before = g.Src.Read.remaining c.args.file.now in
-    let after = g.Src.Read.remaining c.read_through.new.file in
+    let before = g.R.Read.remaining c.args.file.now in
+    let after = g.R.Read.remaining c.read_through.new.file in
     let s = c.new-splitter.result in
     let p = err_from_is_err_and c.from_residual-in_err-tree-2.result c.from_residual-in_err-tree-2.ensures.1 in
     let e = c.in_err-tree-2.field-0.0 in

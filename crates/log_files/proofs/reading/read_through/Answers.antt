@@ -4,7 +4,7 @@ use Rattle.std.proofs.{Common.take, lemmas.Result.err_from_is_err_and}
 use Rattle.std.specs.Io.KnownBytes.{Consumes, ReadConsumes}
 use Rattle.log_files.specs.{Inner.Splitting.AreTooMany, Inner.Splitting.IsReady, declared.cut.Cut.Cut}
 use Rattle.log_files.specs.declared.error.ReadError.{ReadError, TheVariants.OutOfMemory, TheVariants.TooManyEntries}
-use Rattle.log_files.proofs.{BuiltFacts.grown_on, BuiltFacts.whole_read, ReaderFacts.refused_reading}
+use Rattle.log_files.proofs.{ReaderFacts.grown_on, ReaderFacts.whole_read, ReaderFacts.refused_reading}
 use Rattle.std.proofs.KnownBytes.{Consumes-kept, Consumes-nil, Consumes-trans}
 use Rattle.log_files.proofs.reading.read_through.Goals.{in-Ok+in_ok-tree-in-Ok, in-Err}
 use Rattle.log_files.proofs.reading.read_through.Goals as goal
@@ -16,7 +16,7 @@ loop-turn-init g c = record {
   same = (refl, refl);
   built = λ nodes wanted b. (
     [],
-    Consumes-nil (g.Src.Read.remaining c.args.file.now),
+    Consumes-nil (g.R.Read.remaining c.args.file.now),
     record { read = []; left = []; parts = refl; built = b; all_read = inl refl },
   );
 }
@@ -35,9 +35,9 @@ returns-then-is_full g c =
 
 pub returns-in-Ok-eq0 : goal.returns-in-Ok-eq0
 returns-in-Ok-eq0 g c =
-    let begun = g.Src.Read.remaining c.args.file.now in
-    let before = g.Src.Read.remaining c.loop-turn.file in
-    let after = g.Src.Read.remaining c.read.new.self in
+    let begun = g.R.Read.remaining c.args.file.now in
+    let before = g.R.Read.remaining c.loop-turn.file in
+    let after = g.R.Read.remaining c.read.new.self in
     let read = subst (λ r. ReadConsumes before after r c.read.new.buf) c.in-Ok-eq0.is c.read.ensures.bytes in
     let none = subst (λ n. Consumes before after (take n c.read.new.buf)) c.in-Ok-eq0.field-0-test read.0 in
     let at_end = read.1 c.in-Ok-eq0.field-0-test (omega (arith, c.loop-turn.invariant.wide, c.read.auto.buf)) in
@@ -56,9 +56,9 @@ returns-in-Ok-eq0 g c =
 
 pub loop-turn-preserved : goal.loop-turn-preserved
 loop-turn-preserved g c =
-    let begun = g.Src.Read.remaining c.args.file.now in
-    let before = g.Src.Read.remaining c.loop-turn.file in
-    let after = g.Src.Read.remaining c.read.new.self in
+    let begun = g.R.Read.remaining c.args.file.now in
+    let before = g.R.Read.remaining c.loop-turn.file in
+    let after = g.R.Read.remaining c.read.new.self in
     let first = c.args.splitter.now in
     let tree = c.match-read.tree in
     let before_same = c.loop-turn.invariant.same in
@@ -99,9 +99,9 @@ IsRefused e cut limit bytes = (e ≡ OutOfMemory) ⊎ ((e ≡ TooManyEntries) ×
 
 pub returns-in_err-tree-in-Ok-clause-refused : goal.returns-in_err-tree-in-Ok-clause-refused
 returns-in_err-tree-in-Ok-clause-refused g c =
-    let begun = g.Src.Read.remaining c.args.file.now in
-    let before = g.Src.Read.remaining c.loop-turn.file in
-    let after = g.Src.Read.remaining c.read.new.self in
+    let begun = g.R.Read.remaining c.args.file.now in
+    let before = g.R.Read.remaining c.loop-turn.file in
+    let after = g.R.Read.remaining c.read.new.self in
     let s = c.loop-turn.splitter in
     let first = c.args.splitter.now in
     let same = c.loop-turn.invariant.same in

@@ -9,6 +9,6 @@ invariant-loop-turn g l = record {
   ready : IsReady l.splitter;
   same : (l.splitter.cut ≡ l.fn.splitter.cut) × (l.splitter.limit ≡ l.fn.splitter.limit);
   built : (nodes : List (ℕ × ℕ)) (wanted : List ℕ) → HasBuilt nodes wanted l.fn.splitter l.fn.tree [] →
-      (bytes : List ℕ) × Consumes (g.Src.Read.remaining l.fn.file) (g.Src.Read.remaining l.file) bytes
+      (bytes : List ℕ) × Consumes (g.R.Read.remaining l.fn.file) (g.R.Read.remaining l.file) bytes
       × HasGrown nodes wanted l.splitter l.tree [] bytes;
 }

@@ -2,7 +2,7 @@
 use Rattle.std.proofs.Common.{◌∷◌, [], map, ap, arith, sym, subst, length, length-append, ◌∙◌, refl}
 use Rattle.std.proofs.lemmas.List.{map-append}
 use Rattle.log_files.specs.Inner.Splitting.{AreAtHead}
-use Rattle.log_files.proofs.{CutFacts.more_at_head, EntryFacts.bytes_of, EntryFacts.none_open}
+use Rattle.log_files.proofs.{CutFacts.more_at_head, CutFacts.bytes_of, CutFacts.none_open}
 use Rattle.log_files.proofs.cut.Cut.entries_at_head.Goals as goal
 
 pub entries-preserved : goal.entries-preserved

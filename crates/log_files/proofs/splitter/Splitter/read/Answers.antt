@@ -5,7 +5,7 @@ use Rattle.std.proofs.lemmas.{Bool.eqb-false, Simd.map-map, List.length-map, Lis
 use Rattle.sha2.specs.Sha256.{sha256}
 use Rattle.tlog.specs.Rfc9162.{leaf_hash}
 use Rattle.log_files.specs.{Inner.Splitting.HoldsOpen, Inner.Wanted.HoldsWanted, declared.splitter.Splitter.Splitter}
-use Rattle.log_files.proofs.{EntryFacts.bytes_of, CutFacts.fewer_left}
+use Rattle.log_files.proofs.{CutFacts.bytes_of, CutFacts.fewer_left}
 use Rattle.log_files.proofs.SplitterFacts.{fewer_after_whole, open_ended, open_grown, ready_after, whole_read}
 use Rattle.log_files.proofs.splitter.Splitter.read.Goals as goal
 
@@ -23,10 +23,12 @@ returns-then-not-is_empty-clause-read c =
     λ wanted front ended b.
     let none = nil_from_length b.open_bytes (omega (arith, c.if-self-eq0.true, b.holds.opened.counted)) in
     let t : Splitter = record s { count = s.count + c.len.result; wanted = c.copy.new.self } in
-    whole_read wanted s t front c.args.bytes.now c.in_ok-entries.rest.now ended entries _ c.requires.ready.cut refl b none
+    whole_read wanted s t front c.args.bytes.now c.in_ok-entries.rest.now ended entries _ c.requires.ready.cut refl b
+    none
     head hashed (record {
       counted = omega (arith, b.holds.counted, many, length-append ended entries);
-      within = omega (arith, b.holds.counted, b.holds.within, few, length-map found bytes_of, length-append ended entries);
+      within = omega
+          (arith, b.holds.counted, b.holds.within, few, length-map found bytes_of, length-append ended entries);
       opened = subst (HoldsOpen s.open_entry) none b.holds.opened;
       kept = subst (λ xs. HoldsWanted c.copy.new.self wanted (ended ++ map bytes_of xs) []) c.deref.ensures.value
           (c.in_ok-copy.ensures.holds wanted ended b.holds.counted

@@ -1,11 +1,10 @@
 -- The next wanted entry is copied to its place.
-use Rattle.std.proofs.Common.{◌≡◌, ℕ, ◌-◌, ◌<◌, ◌++◌, [], ◌∙◌, All, ap, arith, drop, get_or, length, map}
-use Rattle.std.proofs.Common.{length-append, length-drop, set, subst, sym, take, take_all}
+use Rattle.std.proofs.Common.{◌≡◌, ℕ, ◌-◌, ◌<◌, ◌++◌, [], ◌∙◌, All, ap, arith, drop, get_or, length, map, length-append}
+use Rattle.std.proofs.Common.{length-drop, set, subst, sym, take, take_all}
 use Rattle.std.proofs.lemmas.List.{get_or-append_right, get_or-map, length-map, length-set, map-set}
 use Rattle.std.proofs.lemmas.List.Elements.{All-drop, All-weaker}
-use Rattle.log_files.proofs.EntryFacts.{bytes_of}
-use Rattle.log_files.proofs.WantedFacts.{ascends_lower, kept_copy, next_left}
 use Rattle.log_files.specs.Inner.Wanted.{IsAscending, IsKept}
+use Rattle.log_files.proofs.{CutFacts.bytes_of, WantedFacts.ascends_lower, WantedFacts.kept_copy, WantedFacts.next_left}
 use Rattle.log_files.proofs.wanted.WantedEntries.copy.Goals as goal
 
 pub wanted-preserved : goal.wanted-preserved
@@ -37,8 +36,10 @@ wanted-preserved c =
           let up = subst (IsAscending c.args.first) parts some.ascending in
           let copied = read ∙ sym (get_or-append_right ended E c.args.first p.0 [] (sym is) up.0) in
           record {
-            kept = subst (λ xs. IsKept wanted (ended ++ E) xs rest) (sym (map-set (λ e. e.items) w.entries.items p.1 copy))
-                (kept_copy wanted (ended ++ E) _ p rest copy.items within copied (subst (IsKept wanted (ended ++ E) _) parts
+            kept = subst (λ xs. IsKept wanted (ended ++ E) xs rest)
+                (sym (map-set (λ e. e.items) w.entries.items p.1 copy))
+                (kept_copy wanted (ended ++ E) _ p rest copy.items within copied
+                (subst (IsKept wanted (ended ++ E) _) parts
                 some.kept));
             ascending = ascends_lower c.args.first p.0 rest up.0 up.1;
             begun = some.begun;

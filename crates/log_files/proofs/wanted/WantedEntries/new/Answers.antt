@@ -19,4 +19,5 @@ returns-clause-places c =
     λ wanted moved.
     let kept = (returns-clause-holds c wanted moved).kept in
     let count = length-map c.loop.entries.items (λ entry. entry.items) in
-    All-weaker (IsOwn wanted) (λ (p : ℕ × ℕ). p.1 < length c.loop.entries.items) (λ p own. omega (arith, own.0, count, kept.long)) c.args.places.now kept.own
+    All-weaker (IsOwn wanted) (λ (p : ℕ × ℕ). p.1 < length c.loop.entries.items)
+    (λ p own. omega (arith, own.0, count, kept.long)) c.args.places.now kept.own
