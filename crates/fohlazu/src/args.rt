@@ -78,10 +78,6 @@ pub(crate) struct Args<'a> {
 }
 
 /// Reads the arguments: the command, and what its inputs are called. The notes take what happens while they are read.
-///
-/// # Errors
-///
-/// Why nothing is run.
 pub(crate) fn parse_args<'a>(
     rt: &'a HostRuntime,
     notes: &'a Notes,

@@ -28,10 +28,6 @@ pub struct Claim<'a> {
 }
 
 /// The verdict on a claim under an arity.
-///
-/// # Errors
-///
-/// Those of `verify_batch`, or `OutOfMemory`.
 pub fn verdict<const N: usize>(
     alloc: Global,
     cap_height: usize,
@@ -62,10 +58,6 @@ pub fn verdict<const N: usize>(
 }
 
 /// The dimensions of matrices of these sizes.
-///
-/// # Errors
-///
-/// `AllocError` if memory runs out.
 fn dimensions(alloc: Global, sizes: &[MatrixSize]) -> Result<Vec<Dimensions>, AllocError>
     ensures { IfOk result (λ dimensions. dimensions.items ≡ map size_shown sizes.now) }
 {
@@ -79,12 +71,7 @@ fn dimensions(alloc: Global, sizes: &[MatrixSize]) -> Result<Vec<Dimensions>, Al
     Ok(dimensions)
 }
 
-/// Rows that lie one after another, cut by their widths: a row is short where the bytes end, and bytes that are left
-/// are a row too many.
-///
-/// # Errors
-///
-/// `AllocError` if memory runs out.
+/// Rows one after another, cut by their widths: short where the bytes end, and one too many where some are left.
 fn cut(alloc: Global, sizes: &[MatrixSize], rows: &[u8]) -> Result<Vec<Vec<u8>>, AllocError>
     ensures { IfOk result (λ cut. row_lists cut.items ≡ cut_rows (widths_of (map size_shown sizes.now)) rows.now) }
 {

@@ -44,12 +44,8 @@ pub enum Refusal {
     /// A wrong line of the checkpoint that a consistency proof contains.
     #[error("line {} of its checkpoint: expected {}{}", .0.line, .0.expected, .0.found)]
     CheckpointLine(WrongLine),
-    /// A requested entry that the checkpoint does not have.
     #[error("it has {size} entries, and no entry {number}")]
-    NumberPastEnd {
-        number: usize,
-        size: usize,
-    },
+    NumberPastEnd { number: usize, size: usize },
     /// A checkpoint with more entries than are proved at once, where all are requested.
     #[error("more than 100000000 entries at once")]
     TooManyNumbers,
@@ -58,57 +54,36 @@ pub enum Refusal {
     #[error("more than 2^62 entries")]
     TooManyEntries,
     #[error("it has {got} entries, and the checkpoint {expected}: some are missing, or give `--blocks` as for `seal`")]
-    TooFewEntries {
-        got: usize,
-        expected: usize,
-    },
+    TooFewEntries { got: usize, expected: usize },
     #[error("its entries are not those of the checkpoint: some changed, or give `--blocks` as for `seal`")]
     OtherEntries,
-    /// A file that begins with other entries than those of the old checkpoint.
     #[error("its first entries are not those of the old checkpoint")]
     OtherOldEntries,
-    /// A proof with another entry where one is requested.
     #[error("it has entry {0} where {1} is requested: give the numbers that it has, in its order, or none")]
     OtherNumber(usize, usize),
     #[error("it ends where entry {0} is requested: give the numbers that it has, in its order, or none")]
     MissingEntry(usize),
-    /// A proof with an entry behind all that are requested.
     #[error("it has entry {0} after all that are requested: give the numbers that it has, in its order, or none")]
     UnrequestedEntry(usize),
-    /// A proof with an entry that a file of lines, or of such blocks, does not have.
     #[error("entry {0} is no line, or no block of this size: give `--blocks` as for `seal`, or \
              `--raw` to print one entry")]
     NoSuchEntry(usize),
     /// A proof of entries that the verifier refuses.
     #[error("{}", entries_words(.0))]
     Entries(EntriesError),
-    /// A new checkpoint of another log than the old one.
     #[error("its origin is not that of the old checkpoint")]
     OtherOrigin,
     #[error("it has {new} entries, fewer than the {old} of the old checkpoint: are both exchanged?")]
-    SmallerSize {
-        old: usize,
-        new: usize,
-    },
-    /// Two checkpoints of one log and one size with different roots.
+    SmallerSize { old: usize, new: usize },
     #[error("two histories of one log, with one size and different roots: keep both checkpoints as evidence")]
     TwoHistories,
     #[error("it is a proof from {got} entries, and the old checkpoint has {expected}")]
-    OtherOldSize {
-        /// The size that the proof begins with.
-        got: usize,
-        /// The size of the old checkpoint.
-        expected: usize,
-    },
+    OtherOldSize { got: usize, expected: usize },
     /// A consistency proof that the verifier refuses.
     #[error("{}", consistency_words(.0))]
     Consistency(ProofError),
-    /// A part whose size does not fit the first one's.
     #[error("{size} entries: all parts have one size, a power of two ({first} in the first), the last may have fewer")]
-    PartSize {
-        size: usize,
-        first: usize,
-    },
+    PartSize { size: usize, first: usize },
 }
 
 /// What the verifier's reason says of a proof of entries.

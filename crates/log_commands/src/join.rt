@@ -23,11 +23,8 @@ const SIZE_LIMIT: usize = 1 << 62;
 ///
 /// # Errors
 ///
-/// The first of these that applies, where `OutOfMemory` may come at any time:
-///
-/// - the first wrong line of the first part that has one;
-/// - `PartSize` for the first part whose size does not fit;
-/// - `TooManyEntries` if all parts together have more than 2^62.
+/// In this order: the first wrong line of the first part that has one; `PartSize` for the first part whose size does
+/// not fit; `TooManyEntries` if all parts together have more than 2^62. `OutOfMemory` may come at any time.
 pub fn join(alloc: Global, origin: &str, texts: &[Vec<u8>]) -> Result<Vec<u8>, Error>
     ensures { Gives bytes_in result (join_outcome origin.now (map bytes_in texts.now)) }
 {

@@ -29,12 +29,9 @@ pub const MOST_NUMBERS: usize = 100_000_000;
 ///
 /// # Errors
 ///
-/// The first of these that applies, where `OutOfMemory` may come at any time:
-///
-/// - the first wrong line of the checkpoint;
-/// - `NumberPastEnd` for the first number that the checkpoint does not have. The file is not read.
-/// - `Read` if the file cannot be read;
-/// - `EndsInsideLine`, else `TooFewEntries`, else `OtherEntries`.
+/// In this order: the first wrong line of the checkpoint; `NumberPastEnd` for the first number that it does not have,
+/// where the file is not read; `Read` if the file cannot be read; `EndsInsideLine`; `TooFewEntries`; `OtherEntries`.
+/// `OutOfMemory` may come at any time.
 pub fn prove<Src: Read>(
     alloc: Global,
     cut: Cut,

@@ -26,14 +26,10 @@ use tlog_tree::consistency_places;
 ///
 /// # Errors
 ///
-/// The first of these that applies, where `OutOfMemory` may come at any time:
-///
-/// - the first wrong line of the old checkpoint, then of the new one;
-/// - `OtherOrigin`, `SmallerSize` or `TwoHistories` if the new checkpoint does not follow the old one. The file is not
-///   read.
-/// - `Read` if the file cannot be read;
-/// - `EndsInsideLine`, else `TooFewEntries`, else `OtherEntries`;
-/// - `OtherOldEntries` if the file does not begin with the entries of the old checkpoint.
+/// In this order: the first wrong line of the old checkpoint, then of the new one; `OtherOrigin`, `SmallerSize` or
+/// `TwoHistories` if the new one does not follow the old one, where the file is not read; `Read` if the file cannot be
+/// read; `EndsInsideLine`; `TooFewEntries`; `OtherEntries`; `OtherOldEntries` if the file does not begin with the
+/// entries of the old checkpoint. `OutOfMemory` may come at any time.
 pub fn prove_consistency<Src: Read>(
     alloc: Global,
     cut: Cut,

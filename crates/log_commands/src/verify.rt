@@ -44,12 +44,10 @@ pub enum Requested {
 ///
 /// # Errors
 ///
-/// The first of these that applies, where `OutOfMemory` may come at any time:
-///
-/// - the first wrong line of the checkpoint, then of the proof;
-/// - `OtherNumber`, `UnrequestedEntry` or `MissingEntry` where its entries first differ from the requested ones;
-/// - `NoSuchEntry` for the first that cannot be printed: a line with a line feed inside, a block of another length;
-/// - `Entries` with the verifier's reason.
+/// In this order: the first wrong line of the checkpoint, then of the proof; `OtherNumber`, `UnrequestedEntry` or
+/// `MissingEntry` where its entries first differ from the requested ones; `NoSuchEntry` for the first that cannot be
+/// printed, a line with a line feed inside or a block of another length; `Entries` with the verifier's reason.
+/// `OutOfMemory` may come at any time.
 pub fn verify(
     alloc: Global,
     print: Print,
