@@ -27,7 +27,7 @@ use Rattle.tlog_entries.specs.Entries.{AreIncluded, entries_opening, entries_ref
 use Rattle.tlog_entries.specs.{Entries.is_one_leaf_each, Instance.AreFilled, Instance.leaf_row, Instance.log_params}
 use Rattle.tlog_entries.specs.{Instance.log_shape, Instance.root_cap, Inner.Meanings.IsMeaning}
 use Rattle.tlog_entries.specs.declared.error.EntriesError.{EntriesError, TheVariants.TwoLeafHashes}
-use Rattle.tlog_entries.specs.declared.{error.EntriesError.TheVariants.RootMismatch, node.Node.Node}
+use Rattle.tlog_entries.specs.declared.{error.EntriesError.TheVariants.RootMismatch, tree.Node.Node}
 use Rattle.tlog_entries.proofs.EntriesFacts.{HaveForm, HaveOneLeaf, accepted_from, form_to, one_leaf_from, Keeps, keeps}
 use Rattle.tlog_entries.proofs.EntriesFacts.{one_leaf_to, paths_refusal, unrefused}
 use Rattle.tlog_entries.proofs.{PaddingFacts.filled_length, PaddingFacts.padded_filled, Restored.query_accepted}
