@@ -19,8 +19,8 @@ use Rattle.p3_merkle_core.proofs.Covered.Equivalence.{path_reaches, query_covere
 use Rattle.p3_merkle_core.proofs.{Collisions.Extracted.no_difference, Lists.RisingFacts.div_mono}
 use Rattle.p3_merkle_verifier.specs.Inner.Checks.{AgreeBelow, AgreeOnLevel, IsLevelOfCheck}
 use Rattle.p3_merkle_verifier.specs.Inner.Collisions.{first_rows, first_words, second_rows, second_words}
-use Rattle.p3_merkle_verifier.specs.Inner.QueryPairs.{query_difference, query_in, AgreesWithAll, AreConsistent}
-use Rattle.p3_merkle_verifier.specs.Inner.QueryPairs.{IsBetween, StandsBetween}
+use Rattle.p3_merkle_verifier.specs.Inner.QueryPairs.{query_difference, query_in, AgreesWithAll, IsBetween}
+use Rattle.p3_merkle_verifier.specs.Inner.QueryPairs.{StandsBetween}
 use Rattle.p3_merkle_verifier.specs.declared.{extraction.RowPair.RowPair, path.ComputedLevel.ComputedLevel}
 use Rattle.p3_merkle_verifier.specs.declared.pruned_extraction.RestoredQueries.{RestoredQueries}
 use Rattle.p3_merkle_verifier.proofs.{LevelFacts.words_read, SharedFacts.meets, SharedFacts.so_far_all}
@@ -187,27 +187,23 @@ levels_same eq same dec dec_w rows first second group above f s l o u m n a b me
 
 -- ---- all queries of a list
 
-module _ {T W : Type 0} (eq : T → T → Bool) (same : W → W → Bool) (f : Functions T W) (s : Shape) (t : ℕ) where
-  -- checks that agree do not differ
-  agree_none : (o u : Opening T W) → IsEquality eq → IsEquality same → AgreeBelow f s o u t →
-      query_difference eq same f s t o u ≡ None
-  unfolding query_difference
-  agree_none o u dec dec_w agree =
-      (no_difference eq same (params f s t) o u dec dec_w).1 (agree_shared f s t o u agree)
-
-  -- a check that agrees with those of two neighbours agrees with all
-  pub neighbours_agree : (o : Opening T W) (queries : RestoredQueries T (List W)) (below above : ℕ) →
-      IsEquality eq → IsEquality same → IsArity s.arity → AreConsistent f s t queries →
-      ((k : ℕ) → k < length queries.paths.items → (StandsBetween queries o.index k below) ⊎
-      (StandsBetween queries o.index k above)) →
-      AgreeBelow f s o (query_in queries below) t → AgreeBelow f s o (query_in queries above) t →
-      AgreesWithAll eq same f s t o queries
-  neighbours_agree o queries below above dec dec_w w consistent stands with_below with_above k inside =
-      let behind = λ (b : ℕ) (between : StandsBetween queries o.index k b)
-      (agree : AgreeBelow f s o (query_in queries b) t).
-      agree_through f s w t o (query_in queries b) (query_in queries k) between.between agree
-      (consistent b k between.inside inside) in
-      agree_none o (query_in queries k) dec dec_w (elim (stands k inside) [
-        | inl lower ↦ behind below lower with_below
-        | inr higher ↦ behind above higher with_above
-      ])
+-- a check that agrees with those of two neighbours agrees with all
+pub neighbours_agree : {T W : Type 0} (eq : T → T → Bool) (same : W → W → Bool) (f : Functions T W) (s : Shape) (t : ℕ)
+    (o : Opening T W) (queries : RestoredQueries T (List W)) (below above : ℕ) → IsEquality eq → IsEquality same →
+    IsArity s.arity → ((a b : ℕ) → a < length queries.paths.items → b < length queries.paths.items →
+    AgreeBelow f s (query_in queries a) (query_in queries b) t) → ((k : ℕ) → k < length queries.paths.items →
+    (StandsBetween queries o.index k below) ⊎ (StandsBetween queries o.index k above)) →
+    AgreeBelow f s o (query_in queries below) t → AgreeBelow f s o (query_in queries above) t →
+    AgreesWithAll eq same (params f s t) o queries
+unfolding query_difference
+neighbours_agree eq same f s t o queries below above dec dec_w w consistent stands with_below
+    with_above k inside =
+    let behind = λ (b : ℕ) (between : StandsBetween queries o.index k b)
+    (agree : AgreeBelow f s o (query_in queries b) t).
+    agree_through f s w t o (query_in queries b) (query_in queries k) between.between agree
+    (consistent b k between.inside inside) in
+    (no_difference eq same (params f s t) o (query_in queries k) dec dec_w).1
+    (agree_shared f s t o (query_in queries k) (elim (stands k inside) [
+      | inl lower ↦ behind below lower with_below
+      | inr higher ↦ behind above higher with_above
+    ]))

@@ -2,18 +2,18 @@
 use Rattle.std.proofs.Common.{◌≡◌, ◌∙◌, ℕ, suc, ◌-◌, ◌/◌, ◌^◌, ◌<◌, ◌≤◌, true, eqb, All, List, [], ◌∷◌, map, refl, ap}
 use Rattle.std.proofs.{Common.sym, Common.arith, Common.length, Common.get_or, lemmas.Nat.pow_pos}
 use Rattle.std.specs.{List.dedup, Cmp.both_ways}
-use Rattle.p3_support.specs.Batches.{greatest}
+use Rattle.p3_support.specs.{Batches.greatest, Lists.is_among}
 use Rattle.p3_merkle_core.specs.Geometry.{Shape, ancestor, exponent, heights, layer_exponent, layer_len}
 use Rattle.p3_merkle_core.specs.Pruning.{CanQuery, is_covered}
-use Rattle.p3_merkle_core.specs.Inner.Agreement.{distinct, AreDistinctOf}
+use Rattle.p3_merkle_core.specs.Inner.Agreement.{distinct, first_query, AreDistinctOf}
 use Rattle.p3_merkle_core.specs.{declared.pruning.DistinctQueries.DistinctQueries, Inner.Covered.covered_at}
 use Rattle.p3_merkle_core.proofs.Covered.CoveredFacts.{covered_leaf, covered_listed, listed_below, listed_covered}
 use Rattle.p3_merkle_core.proofs.Lists.RisingFacts.{is_listed, listed_at, listed_map, map_lists, rising_filter}
-use Rattle.p3_merkle_core.proofs.Pruned.{AgreeFacts.firsts_inside, LeadFacts.nodes_by_bits, SlotFacts.distinct_from}
-use Rattle.p3_merkle_core.proofs.Pruned.SlotFacts.{distinct_is, distinct_queried, parents_once, rising_either}
+use Rattle.p3_merkle_core.proofs.Pruned.{AgreeFacts.firsts_inside, LeadFacts.first_there, LeadFacts.nodes_by_bits}
+use Rattle.p3_merkle_core.proofs.Pruned.SlotFacts.{distinct_from, distinct_is, distinct_queried, parents_once}
+use Rattle.p3_merkle_core.proofs.Pruned.SlotFacts.{rising_either}
 use Rattle.p3_merkle_core.proofs.Shapes.{LadderFacts.shifted_is_anc, LevelFacts.exponent_low, StepFacts.anc_start}
 use Rattle.p3_merkle_verifier.specs.Inner.RestoredLevels.{node_of_query, AreQueriesAt}
-use Rattle.p3_merkle_verifier.proofs.StartFacts.{queried_by_firsts}
 
 -- functions that are equal on a list, mapped
 pub map_on : {X : Type 0} (P : ℕ → Type 0) (g h : ℕ → X) → ((k : ℕ) → P k → g k ≡ h k) → (xs : List ℕ) → All P xs →
@@ -24,7 +24,7 @@ map_on P g h e (x ∷ xs) all = rw (e x (all 0 0 (omega arith)), map_on P g h e 
 
 -- ---- the nodes of a layer, by the bits of the leaves
 
-covered_listed_above : (s : Shape) (indices : List ℕ) (l j : ℕ) →
+pub covered_listed_above : (s : Shape) (indices : List ℕ) (l j : ℕ) →
     is_covered s indices l j ≡ is_listed (map (ancestor s l) indices) j
 covered_listed_above s [] l j = refl
 covered_listed_above s (i ∷ indices) l j = rw (covered_listed_above s indices l j) refl
@@ -71,6 +71,17 @@ queries_known s indices t w l bits h is queries among e = record {
       (shifted_is_anc s w.well_shaped l (get_or indices k 0) (w.below k 0 c) (exponent_low s l))) queries among;
   among = among;
 }
+
+-- each first query of some indices is under its leaf
+queried_by_firsts : (s : Shape) (indices xs : List ℕ) →
+    ((k : ℕ) → k < length xs → is_among indices (get_or xs k 0) ≡ true) →
+    xs ≡ map (node_of_query s indices 0) (map (first_query indices) xs)
+queried_by_firsts s indices [] all = refl
+queried_by_firsts s indices (x ∷ xs) all =
+    let head : x ≡ ancestor s 0 (get_or indices (first_query indices x) 0) =
+    sym (anc_start s (get_or indices (first_query indices x) 0) ∙ first_there indices x (all 0 (omega arith))) in
+    let tail = queried_by_firsts s indices xs (λ k inside. all (suc k) (omega arith)) in
+    λ i. head i ∷ tail i
 
 -- the first queries of the distinct indices are under the leaves
 pub leaf_queries : (s : Shape) (indices : List ℕ) (queried : DistinctQueries) → AreDistinctOf queried indices →

@@ -15,8 +15,8 @@ use Rattle.p3_merkle_core.proofs.{Lists.ListFacts.map_shift, Shapes.StepFacts.st
 use Rattle.p3_merkle_core.proofs.Covered.ValueFacts.{IsWalkedLevel, children_are, map_agree}
 use Rattle.p3_merkle_verifier.proofs.ChildFacts.{map_on}
 use Rattle.p3_merkle_verifier.specs.Inner.NodeDigests.{group_digest, layer_digests, pair_digest, query_digest}
-use Rattle.p3_merkle_verifier.specs.Inner.RestoredLevels.{node_of_query, row_values, AreQueriesAt, AreRestored}
-use Rattle.p3_merkle_verifier.specs.Inner.RestoredLevels.{IsCoveredAt, IsLayer, IsLayerAbove}
+use Rattle.p3_merkle_verifier.specs.Inner.RestoredLevels.{node_of_query, row_values, AreLeaves, AreQueriesAt}
+use Rattle.p3_merkle_verifier.specs.Inner.RestoredLevels.{AreRestored, IsCoveredAt, IsLayer, IsLayerAbove}
 
 -- ---- lists
 
@@ -131,14 +131,13 @@ module _ {T W : Type 0} (f : Functions T W) (s : Shape) (t : ℕ) (p : PrunedOpe
       e ∙ map_agree (λ j. f.hash (words_under s p 0 j)) (restored_node (params f s t) p 0)
       (λ j. sym (restored_leaf f s t p j)) (covered_at s p.indices 0)
 
+module _ {T W : Type 0} {f : Functions T W} {s : Shape} {t : ℕ} {p : PrunedOpening T W} where
   -- the digests of the nodes of a layer above the leaves, by those of their children and of their rows
-  pub restored_at : (l : ℕ) → 0 < l → (n : ℕ) → s.arity ≡ n → (here : CoveredLayer (List W))
-      (rows digests : List (List W)) → IsLayer f s t p l here →
-      (here.has_rows ≡ true → rows ≡ row_values f s p l) →
-      digests ≡ layer_digests f n here.step here.has_rows rows here.children.items →
-      AreRestored f s t p l digests
-  restored_at zero some n is_n here rows digests layer known e = absurd (omega arith)
-  restored_at (suc l) some n is_n here rows digests layer known e =
+  pub restored_at : {l : ℕ} → 0 < l → {n : ℕ} → s.arity ≡ n → {here : CoveredLayer (List W)}
+      (rows digests : List (List W)) → IsLayer f s t p l here → (here.has_rows ≡ true → rows ≡ row_values f s p l) →
+      digests ≡ layer_digests f n here.step here.has_rows rows here.children.items → AreRestored f s t p l digests
+  restored_at {l = zero} some is_n rows digests layer known e = absurd (omega arith)
+  restored_at {l = suc l} some is_n {here} rows digests layer known e =
       let family = layer.family in
       let long = sym (layer.in_groups (omega arith)) ∙ ap length (covers layer.coverage).nodes_are in
       e ∙ ap (λ a. layer_digests f a here.step here.has_rows rows here.children.items) (sym is_n)
@@ -146,18 +145,18 @@ module _ {T W : Type 0} (f : Functions T W) (s : Shape) (t : ℕ) (p : PrunedOpe
       known long family.values_are
 
   -- as many digests as nodes
-  pub digests_long : (l : ℕ) (here : CoveredLayer (List W)) (digests : List (List W)) → IsCoveredAt s p.indices l here →
+  pub digests_long : {l : ℕ} {here : CoveredLayer (List W)} (digests : List (List W)) → IsLayer f s t p l here →
       AreRestored f s t p l digests → length digests ≡ length here.covered.nodes.items
-  digests_long l here digests at e = ap length e
-      ∙ length-map (covered_at s p.indices l) (restored_node (params f s t) p l) ∙ ap length (sym (covers at).nodes_are)
+  digests_long {l} digests layer e =
+      ap length e ∙ length-map (covered_at s p.indices l) (restored_node (params f s t) p l)
+      ∙ ap length (sym (covers layer.coverage).nodes_are)
 
   -- ---- one level up
 
   -- the leaves have no children
-  pub leaves_are : (here : CoveredLayer (List W)) → IsCoveredAt s p.indices 0 here →
-      here.step ≡ 0 → IsLayer f s t p 0 here
-  leaves_are here at none = record {
-    coverage = at;
+  pub leaves_are : {here : CoveredLayer (List W)} → AreLeaves s p.indices here → IsLayer f s t p 0 here
+  leaves_are at = record {
+    coverage = at.coverage;
     wide = λ h. absurd (omega arith);
     narrow = omega arith;
     in_groups = λ h. absurd (omega arith);
@@ -165,11 +164,11 @@ module _ {T W : Type 0} (f : Functions T W) (s : Shape) (t : ℕ) (p : PrunedOpe
   }
 
   -- above a layer with its digests, the children have their values
-  pub layer_rises : CanQuery s p.indices t → length p.digests ≡ length (boundary s p.indices t) → (l : ℕ) → l < t →
-      (below above : CoveredLayer (List W)) (digests : List (List W)) → IsCoveredAt s p.indices l below →
+  pub layer_rises : CanQuery s p.indices t → length p.digests ≡ length (boundary s p.indices t) → {l : ℕ} → l < t →
+      {below above : CoveredLayer (List W)} {digests : List (List W)} → IsCoveredAt s p.indices l below →
       AreRestored f s t p l digests → IsLayerAbove s p.indices l below digests p.digests above →
       IsLayer f s t p (suc l) above
-  layer_rises w count l h below above digests at restored up =
+  layer_rises w count {l} h {below} {above} {digests} at restored up =
       let sent = drop below.covered.boundary_below p.digests in
       let same : IsWalkedLevel f s t p l (λ (d : List _). d) above.step above.covered.nodes.items
       below.covered.nodes.items digests sent =

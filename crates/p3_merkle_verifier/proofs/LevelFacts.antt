@@ -1,14 +1,14 @@
 -- One level of the check of an opening.
-use Rattle.std.proofs.Common.{insert, ◌≡◌, ℕ, zero, suc, ◌+◌, ◌-◌, ◌%◌, ◌<◌, ◌≤◌, add-suc, true, false, eqb, List, []}
-use Rattle.std.proofs.Common.{◌∷◌, refl, ap, sym, ◌∙◌, arith, map, zip, None, Some}
+use Rattle.std.proofs.Common.{insert, ◌≡◌, ℕ, zero, suc, ◌+◌, ◌-◌, ◌%◌, ◌<◌, ◌≤◌, add-suc, Bool, true, false, eqb, List}
+use Rattle.std.proofs.Common.{[], ◌∷◌, refl, ap, sym, ◌∙◌, arith, map, zip, None, Some}
 use Rattle.std.proofs.lemmas.{Bool.cond_both, List.Folds.flat_map-map}
 use Rattle.std.specs.List.{filter, flat_map}
-use Rattle.p3_merkle_core.specs.Geometry.{Shape, IsArity, exponent, heights, is_bridge, layer_exponent, step, has_rows}
+use Rattle.p3_merkle_core.specs.Geometry.{Shape, exponent, has_rows, heights, is_bridge, layer_exponent, shape_of, step}
+use Rattle.p3_support.specs.declared.matrix.Dimensions.{Dimensions}
 use Rattle.p3_merkle_core.specs.{Nodes.Functions, Nodes.padded, Openings.Opening}
 use Rattle.p3_merkle_core.specs.Checks.{layer_words, path_digest, siblings_below, words_of_exponent}
-use Rattle.p3_merkle_core.proofs.Checks.Completeness.{reached_leaf, reached_next}
-use Rattle.p3_merkle_core.proofs.Shapes.SiblingFacts.{siblings_next, siblings_start}
-use Rattle.p3_merkle_core.proofs.Shapes.StepFacts.{anc_next, anc_start, step_above_1}
+use Rattle.p3_merkle_core.proofs.{Checks.Completeness.reached_next, Shapes.SiblingFacts.siblings_next}
+use Rattle.p3_merkle_core.proofs.Shapes.StepFacts.{anc_next, step_above_1}
 use Rattle.p3_merkle_verifier.specs.Inner.Checks.{CanStep, IsAbove, IsLevelOfCheck, IsProgress, step_siblings}
 use Rattle.p3_merkle_verifier.specs.Inner.Paths.{CanReach, rows_of_exponent}
 use Rattle.p3_merkle_verifier.specs.declared.path.Progress.{Progress}
@@ -21,61 +21,51 @@ words_read now x pairs rows e =
     sym (flat_map-map (λ row. row) now rows) ∙ ap (flat_map (λ row. row)) e
     ∙ flat_map-map (λ row. row) (λ (h, row). row) (filter (λ (h, row). eqb (exponent h) x) pairs)
 
--- a check begins at its leaf
-pub progress_first : {T W : Type 0} (f : Functions T W) (s : Shape) (o : Opening T W) (progress : Progress (List W)) →
-    progress.exponent ≡ layer_exponent s 0 → progress.node ≡ o.index → progress.used ≡ 0 →
-    progress.digest ≡ f.hash (words_of_exponent progress.exponent (zip (heights s) o.rows)) →
-    IsProgress f s o 0 progress
-progress_first f s o progress is node used digest =
-    record {
-      at_exponent = is;
-      at_node = node ∙ sym (anc_start s o.index);
-      taken = used ∙ sym (siblings_start s);
-      reached = digest ∙ ap (λ y. f.hash (words_of_exponent y (zip (heights s) o.rows))) is ∙ sym (reached_leaf f s o);
-    }
-
--- a step from layer l, to the exponent of the next layer
-pub record IsStepFrom (s : Shape) (l n y : ℕ) : Type 0 where
+-- a step from layer l, to the exponent of the next layer, and whether matrices belong to that layer
+pub record IsStepFrom (s : Shape) (l n y : ℕ) (has : Bool) : Type 0 where
   pub is_step : n ≡ step s l
   pub above : y ≡ layer_exponent s (suc l)
+  pub rows : has ≡ has_rows s (suc l)
 
--- where there are siblings for the level, the step can take its own
-pub can_step : (s : Shape) (l n used count : ℕ) → IsArity s.arity → n ≡ step s l → used ≡ siblings_below s l →
-    siblings_below s (suc l) ≤ count → CanStep s.arity n used count
-can_step s l n used count w is_step taken enough =
-    let two = w.above_1 in
-    record {
-      wide = rw is_step (step_above_1 s l two);
-      narrow = rw is_step (cond_both (is_bridge s (layer_exponent s l)) 2 s.arity (λ x. x ≤ s.arity) (λ t. two)
-          (λ t. omega arith));
-      enough = omega (arith, siblings_next s l, is_step, taken, enough);
-    }
+-- the same where the arity has another name
+pub step_from : (ds : List Dimensions) {a m : ℕ} (l : ℕ) {n y : ℕ} {has : Bool} → a ≡ m →
+    n ≡ step (shape_of m ds) l → y ≡ layer_exponent (shape_of m ds) (suc l) → has ≡ has_rows (shape_of m ds) (suc l) →
+    IsStepFrom (shape_of a ds) l n y has
+step_from ds l same is_step above rows = rw same (record { is_step = is_step; above = above; rows = rows })
 
 -- more levels have more siblings
 siblings_mono : (s : Shape) (l k : ℕ) → siblings_below s l ≤ siblings_below s (l + k)
 siblings_mono s l zero = let z : l + 0 ≡ l = omega arith in rw z (omega arith)
 siblings_mono s l (suc k) = rw (add-suc, siblings_next s (l + k)) (omega (arith, siblings_mono s l k))
 
--- below layer t each level has its siblings
-pub enough_below : (s : Shape) (t l count : ℕ) → CanReach s t count → l < t → siblings_below s (suc l) ≤ count
-enough_below s t l count w h =
+-- below layer t the step of each level has its siblings
+pub can_step : {s : Shape} {t n used count : ℕ} (l : ℕ) → CanReach s t count → l < t → n ≡ step s l →
+    used ≡ siblings_below s l → CanStep s.arity n used count
+can_step {s} {t} l w inside is_step taken =
+    let two = w.arity.above_1 in
     let rest : suc l + (t - suc l) ≡ t = omega arith in
     let more = rw rest at (siblings_mono s (suc l) (t - suc l)) in
-    omega (arith, more, w.all_siblings)
+    record {
+      wide = rw is_step (step_above_1 s l two);
+      narrow = rw is_step (cond_both (is_bridge s (layer_exponent s l)) 2 s.arity (λ x. x ≤ s.arity) (λ t. two)
+          (λ t. omega arith));
+      enough = omega (arith, siblings_next s l, is_step, taken, more, w.all_siblings);
+    }
 
-module _ {T W : Type 0} (f : Functions T W) (s : Shape) (o : Opening T W) (l n y : ℕ) (progress above :
-    Progress (List W)) (group : List (List W)) where
+module _ {T W : Type 0} {f : Functions T W} {s : Shape} {o : Opening T W} {l n y : ℕ} {has : Bool}
+    {progress : Progress (List W)} (from : IsStepFrom s l n y has) (at : IsProgress f s o l progress) where
   -- the group of the level
-  group_is : IsStepFrom s l n y → IsProgress f s o l progress →
-      group ≡ padded s.arity f.default_digest
-      (insert (step_siblings n o.siblings progress.used) (progress.node % n) progress.digest) → group
-      ≡ full_group f s o l
-  group_is from at e = e ∙ rw (from.is_step, at.taken, at.at_node, at.reached) refl
+  abbrev group : List (List W)
+  group = padded s.arity f.default_digest
+      (insert (step_siblings n o.siblings progress.used) (progress.node % n) progress.digest)
+
+  group_is : {made : List (List W)} → made ≡ group → made ≡ full_group f s o l
+  group_is e = e ∙ rw (from.is_step, at.taken, at.at_node, at.reached) refl
 
   -- the check stands at the next layer, if the digest there is the one that the path reaches
-  progress_above : IsStepFrom s l n y → IsProgress f s o l progress → {digest : List W} →
-      IsAbove n y digest progress above → digest ≡ path_digest f s o (suc l) → IsProgress f s o (suc l) above
-  progress_above from at up reached =
+  progress_above : {above : Progress (List W)} {digest : List W} → IsAbove n y digest progress above →
+      digest ≡ path_digest f s o (suc l) → IsProgress f s o (suc l) above
+  progress_above up reached =
       record {
         at_exponent = up.at_exponent ∙ from.above;
         at_node = up.at_node ∙ rw (at.at_node, from.is_step) (sym (anc_next s l o.index));
@@ -84,38 +74,31 @@ module _ {T W : Type 0} (f : Functions T W) (s : Shape) (o : Opening T W) (l n y
       }
 
   -- a level with rows above it
-  pub level_with_rows : IsStepFrom s l n y → IsProgress f s o l progress →
-      group ≡ padded s.arity f.default_digest
-      (insert (step_siblings n o.siblings progress.used) (progress.node % n) progress.digest) → has_rows s (suc l)
-      ≡ true →
-      (pair : List (List W)) → pair
-      ≡ padded s.arity f.default_digest (f.compression group ∷ f.hash (words_of_exponent y (zip (heights s) o.rows))
+  pub level_with_rows : {made pair : List (List W)} {above : Progress (List W)} → made ≡ group → has ≡ true → pair
+      ≡ padded s.arity f.default_digest (f.compression made ∷ f.hash (words_of_exponent y (zip (heights s) o.rows))
       ∷ []) → IsAbove n y (f.compression pair) progress above →
-      IsLevelOfCheck f s o l (record { level = l; group = group; pair = Some pair; above = above })
-  level_with_rows from at e has pair p up =
-      let whole = group_is from at e in
+      IsLevelOfCheck f s o l (record { level = l; group = made; pair = Some pair; above = above })
+  level_with_rows {pair = pair} e has_is p up =
+      let whole = group_is e in
+      let present = sym from.rows ∙ has_is in
       let full : pair
       ≡ padded s.arity f.default_digest (f.compression (full_group f s o l) ∷ f.hash (layer_words s o.rows (suc l))
       ∷ []) = rw (whole, from.above) at p in
-      let next = rw has at (reached_next f s o l) in
       record {
         at_level = refl;
-        inputs_are = rw (whole, full) (sym (inputs_with_rows f s o l has));
-        progress = progress_above from at up (ap f.compression full ∙ sym next);
+        inputs_are = rw (whole, full) (sym (inputs_with_rows f s o l present));
+        progress = progress_above up (ap f.compression full ∙ sym (rw present at (reached_next f s o l)));
       }
 
   -- a level without
-  pub level_alone : IsStepFrom s l n y → IsProgress f s o l progress →
-      group ≡ padded s.arity f.default_digest
-      (insert (step_siblings n o.siblings progress.used) (progress.node % n) progress.digest) → has_rows s (suc l)
-      ≡ false →
-      IsAbove n y (f.compression group) progress above →
-      IsLevelOfCheck f s o l (record { level = l; group = group; pair = None; above = above })
-  level_alone from at e has up =
-      let whole = group_is from at e in
-      let next = rw has at (reached_next f s o l) in
+  pub level_alone : {made : List (List W)} {above : Progress (List W)} → made ≡ group → has ≡ false →
+      IsAbove n y (f.compression made) progress above →
+      IsLevelOfCheck f s o l (record { level = l; group = made; pair = None; above = above })
+  level_alone e has_is up =
+      let whole = group_is e in
+      let absent = sym from.rows ∙ has_is in
       record {
         at_level = refl;
-        inputs_are = rw whole (sym (inputs_alone f s o l has));
-        progress = progress_above from at up (ap f.compression whole ∙ sym next);
+        inputs_are = rw whole (sym (inputs_alone f s o l absent));
+        progress = progress_above up (ap f.compression whole ∙ sym (rw absent at (reached_next f s o l)));
       }

@@ -10,9 +10,7 @@ mod ChildFacts
 mod LayerFacts
 mod PathFacts
 mod RootFacts
-mod StartFacts
 mod PlaceFacts
-mod PairFacts
 mod QueryFacts
 mod AgreeFacts
 mod NeighbourFacts

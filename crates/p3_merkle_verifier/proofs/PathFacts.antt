@@ -12,12 +12,12 @@ use Rattle.p3_merkle_verifier.specs.Inner.RestoredLevels.{AreLayers, AreLeaves, 
 use Rattle.p3_merkle_verifier.proofs.LayerFacts.{covers, leaves_are}
 
 -- the leaves alone
-pub layers_start : {T W : Type 0} (f : Functions T W) (s : Shape) (t : ℕ) (p : PrunedOpening T W)
-    (layers : List (CoveredLayer (List W))) (leaves : CoveredLayer (List W)) → layers ≡ leaves ∷ [] →
+pub layers_start : {T W : Type 0} {f : Functions T W} {s : Shape} {t : ℕ} {p : PrunedOpening T W}
+    {layers : List (CoveredLayer (List W))} {leaves : CoveredLayer (List W)} → layers ≡ leaves ∷ [] →
     AreLeaves s p.indices leaves → AreLayers f s t p 0 layers
-layers_start f s t p layers leaves is at = rw is (record {
+layers_start is at = rw is (record {
   climb = record { count = refl; leaves = λ x. at; linked = λ l h. absurd (omega arith) };
-  top = λ x. leaves_are f s t p leaves at.coverage at.childless;
+  top = λ x. leaves_are at;
   levels_are = refl;
 })
 
@@ -26,11 +26,11 @@ abbrev shown_layer : {X : Type 0} → CoveredLayer X → List ℕ × ℕ × List
 shown_layer layer = (layer.covered.nodes.items, layer.step, layer.children.items)
 
 -- one layer more
-pub layers_more : {T W : Type 0} (f : Functions T W) (s : Shape) (t : ℕ) (p : PrunedOpening T W) (l : ℕ)
-    (old new : List (CoveredLayer (List W))) (below above : CoveredLayer (List W)) → AreLayers f s t p l old →
+pub layers_more : {T W : Type 0} {f : Functions T W} {s : Shape} {t : ℕ} {p : PrunedOpening T W} {l : ℕ}
+    {old new : List (CoveredLayer (List W))} {below above : CoveredLayer (List W)} → AreLayers f s t p l old →
     below ≡ get_or old l below → CanQuery s p.indices t → l < t → IsLayer f s t p (suc l) above →
     new ≡ old ++ above ∷ [] → AreLayers f s t p (l + 1) new
-layers_more {T} {W} f s t p l old new below above w is_below asked inside layer is =
+layers_more {W = W} {f} {s} {t} {p} {l} {old} {below = below} {above} w is_below asked inside layer is =
     let X = List W in
     let count = w.climb.count in
     let grown : length (old ++ above ∷ []) ≡ l + 1 + 1 = length-append old (above ∷ []) ∙ ap (λ (n : ℕ). n + 1) count in

@@ -1,6 +1,6 @@
 -- The first place, and the first pair of places, at which there is an answer.
-use Rattle.std.proofs.Common.{◌≡◌, ◌∙◌, ℕ, zero, suc, ◌+◌, ◌<◌, ◌≤◌, List, [], ◌∷◌, refl, ap, arith, inl, inr, Option}
-use Rattle.std.proofs.{Common.Some, Common.None, lemmas.Bool.cases_eq}
+use Rattle.std.proofs.Common.{◌≡◌, ◌∙◌, ℕ, zero, suc, ◌+◌, ◌<◌, ◌≤◌, List, [], ◌∷◌, refl, ap, sym, arith, inl, inr}
+use Rattle.std.proofs.{Common.Option, Common.Some, Common.None, lemmas.Bool.cases_eq}
 use Rattle.std.specs.{List.range_with_len, Option.option_or, Option.option_map}
 use Rattle.p3_merkle_core.specs.{Extraction.first_pair, Refusals.first_of}
 use Rattle.p3_merkle_core.proofs.Pruned.Unrefused.{all_in_range}
@@ -28,17 +28,19 @@ of_alike {E} h g a (suc n) e =
 
 -- ---- places
 
-pub place_found : {X : Type 0} (d : ℕ → Option X) (n i : ℕ) (x : X) → i < n → ((k : ℕ) → k < i → d k ≡ None) → d i
-    ≡ Some x → first_place d n ≡ Some (i, x)
-place_found {X} d n i x h none is =
-    let at : ℕ → X → ℕ × X = λ b y. (b, y) in
-    first_there (λ b. option_map (at b) (d b)) 0 n i (i, x) (omega arith) (omega arith)
-    (λ k low high. ap (option_map (at k)) (none k high)) (ap (option_map (at i)) is)
+-- one place
+abbrev place_at : {X : Type 0} → (ℕ → Option X) → ℕ → Option (ℕ × X)
+place_at d b = option_map (λ x. (b, x)) (d b)
 
-pub no_place : {X : Type 0} (d : ℕ → Option X) (n : ℕ) → ((k : ℕ) → k < n → d k ≡ None) → first_place d n ≡ None
-no_place {X} d n none =
-    let at : ℕ → X → ℕ × X = λ b y. (b, y) in
-    all_in_range (λ b. option_map (at b) (d b)) 0 n (λ k low high. ap (option_map (at k)) (none k (omega arith)))
+pub place_found : {X : Type 0} (d : ℕ → Option X) (n i : ℕ) {x : X} → i < n → ((k : ℕ) → k < i → d k ≡ None) →
+    Some x ≡ d i → Some (i, x) ≡ first_place d n
+place_found d n i h none is =
+    sym (first_there (place_at d) 0 n i _ (omega arith) (omega arith)
+    (λ k low high. ap (option_map (λ x. (k, x))) (none k high)) (ap (option_map (λ x. (i, x))) (sym is)))
+
+pub no_place : {X : Type 0} (d : ℕ → Option X) (n : ℕ) → ((k : ℕ) → k < n → d k ≡ None) → None ≡ first_place d n
+no_place d n none =
+    sym (all_in_range (place_at d) 0 n (λ k low high. ap (option_map (λ x. (k, x))) (none k (omega arith))))
 
 -- ---- pairs of places
 
@@ -49,10 +51,6 @@ under a (b, x) = (a, b, x)
 -- one pair of places
 abbrev pair_at : {X : Type 0} → (ℕ → Option X) → ℕ → ℕ → Option (ℕ × ℕ × X)
 pair_at d a b = option_map (λ x. (a, b, x)) (d b)
-
--- one place
-abbrev place_at : {X : Type 0} → (ℕ → Option X) → ℕ → Option (ℕ × X)
-place_at d b = option_map (λ x. (b, x)) (d b)
 
 beside : {X : Type 0} (a b : ℕ) (o : Option X) (pairs : Option (ℕ × ℕ × X)) (places : Option (ℕ × X)) → pairs
     ≡ option_map (under a) places →
@@ -67,19 +65,19 @@ row_is : {X : Type 0} (d : ℕ → Option X) (a : ℕ) (bs : List ℕ) → first
 row_is d a [] = refl
 row_is d a (b ∷ bs) = beside a b (d b) (first_of (pair_at d a) bs) (first_of (place_at d) bs) (row_is d a bs)
 
-pub pair_found : {X : Type 0} (d : ℕ → ℕ → Option X) (n m a b : ℕ) (x : X) → a < n →
-    ((k : ℕ) → k < a → first_place (d k) m ≡ None) → first_place (d a) m ≡ Some (b, x) → first_pair d n m
-    ≡ Some (a, b, x)
-pair_found d n m a b x h none is =
-    first_there (λ k. first_of (pair_at (d k) k) (range_with_len 0 m)) 0 n a (a, b, x) (omega arith) (omega arith)
+pub pair_found : {X : Type 0} (d : ℕ → ℕ → Option X) (n m a : ℕ) {b : ℕ} {x : X} → a < n →
+    ((k : ℕ) → k < a → first_place (d k) m ≡ None) → Some (b, x) ≡ first_place (d a) m →
+    Some (a, b, x) ≡ first_pair d n m
+pair_found d n m a h none is =
+    sym (first_there (λ k. first_of (pair_at (d k) k) (range_with_len 0 m)) 0 n a _ (omega arith) (omega arith)
     (λ k low high. row_is (d k) k (range_with_len 0 m) ∙ ap (option_map (under k)) (none k high))
-    (row_is (d a) a (range_with_len 0 m) ∙ ap (option_map (under a)) is)
+    (row_is (d a) a (range_with_len 0 m) ∙ ap (option_map (under a)) (sym is)))
 
 pub no_pair : {X : Type 0} (d : ℕ → ℕ → Option X) (n m : ℕ) → ((k : ℕ) → k < n → first_place (d k) m ≡ None) →
-    first_pair d n m ≡ None
+    None ≡ first_pair d n m
 no_pair d n m none =
-    all_in_range (λ k. first_of (pair_at (d k) k) (range_with_len 0 m)) 0 n
-    (λ k low high. row_is (d k) k (range_with_len 0 m) ∙ ap (option_map (under k)) (none k (omega arith)))
+    sym (all_in_range (λ k. first_of (pair_at (d k) k) (range_with_len 0 m)) 0 n
+    (λ k low high. row_is (d k) k (range_with_len 0 m) ∙ ap (option_map (under k)) (none k (omega arith))))
 
 pub pairs_alike : {X : Type 0} (d e : ℕ → ℕ → Option X) (n m : ℕ) → ((a b : ℕ) → a < n → b < m → d a b ≡ e a b) →
     first_pair d n m ≡ first_pair e n m

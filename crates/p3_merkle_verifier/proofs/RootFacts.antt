@@ -3,13 +3,15 @@ use Rattle.std.proofs.Common.{◌≡◌, ◌∙◌, ℕ, ◌&&◌, Bool, true, e
 use Rattle.std.proofs.Common.{zip, eq-eqb}
 use Rattle.std.specs.{List.list_all, Cmp.both_ways, Cmp.Lexicographic.pointwise}
 use Rattle.std.proofs.lemmas.Bool.{and_from, and_parts, eqb-true, or_cases, or_left, or_right, true≢false}
+use Rattle.std.proofs.lemmas.List.Folds.{list_all-map}
 use Rattle.p3_merkle_core.specs.{Geometry.Shape, Geometry.ancestor, Nodes.Functions}
 use Rattle.p3_merkle_core.specs.Refusals.{cap_refusal, unless, is_entry}
 use Rattle.p3_merkle_core.specs.declared.error.MerkleTreeError.TheVariants.{CapMismatch}
-use Rattle.p3_merkle_core.specs.Pruning.{CanQuery, PrunedOpening, is_covered, restored_node}
+use Rattle.p3_merkle_core.specs.Pruning.{CanQuery, PrunedOpening, restored_node}
 use Rattle.p3_merkle_core.specs.{Inner.Covered.covered_at, Checks.params}
 use Rattle.p3_merkle_core.proofs.Covered.CoveredFacts.{covered_listed, listed_covered}
 use Rattle.p3_merkle_core.proofs.Lists.RisingFacts.{is_listed}
+use Rattle.p3_merkle_verifier.proofs.ChildFacts.{covered_listed_above}
 
 listed_pass : (q : ℕ → Bool) (xs : List ℕ) (j : ℕ) → list_all q xs ≡ true → is_listed xs j ≡ true → q j ≡ true
 listed_pass q [] j a b = absurd (true≢false (sym b))
@@ -26,33 +28,17 @@ pass_listed q (x ∷ xs) h =
     and_from (q x) (list_all q xs) (h x (or_left (eqb x x) (is_listed xs x) (eq-eqb x x refl)))
     (pass_listed q xs (λ j l. h j (or_right (eqb x j) (is_listed xs j) l)))
 
-query_pass : (s : Shape) (l : ℕ) (q : ℕ → Bool) (indices : List ℕ) (j : ℕ) → list_all (λ i. q (ancestor s l i)) indices
-    ≡ true → is_covered s indices l j ≡ true → q j ≡ true
-query_pass s l q [] j a b = absurd (true≢false (sym b))
-query_pass s l q (i ∷ indices) j a b =
-    let p = and_parts (q (ancestor s l i)) (list_all (λ i. q (ancestor s l i)) indices) a in
-    elim (or_cases (eqb (ancestor s l i) j) (is_covered s indices l j) b) [
-      | inl e ↦ let is : ancestor s l i ≡ j = eqb-true (ancestor s l i) j e in rw is at p.0
-      | inr r ↦ query_pass s l q indices j p.1 r
-    ]
-
-pass_query : (s : Shape) (l : ℕ) (q : ℕ → Bool) (indices : List ℕ) →
-    ((j : ℕ) → is_covered s indices l j ≡ true → q j ≡ true) → list_all (λ i. q (ancestor s l i)) indices ≡ true
-pass_query s l q [] h = refl
-pass_query s l q (i ∷ indices) h =
-    let j = ancestor s l i in
-    and_from (q j) (list_all (λ i. q (ancestor s l i)) indices)
-    (h j (or_left (eqb j j) (is_covered s indices l j) (eq-eqb j j refl)))
-    (pass_query s l q indices (λ k c. h k (or_right (eqb j k) (is_covered s indices l k) c)))
-
 -- what holds of the ancestor of each query holds of each covered node, and the other way round
 pub all_covered : (s : Shape) (indices : List ℕ) (t : ℕ) → CanQuery s indices t → (q : ℕ → Bool) →
     list_all q (covered_at s indices t) ≡ list_all (λ i. q (ancestor s t i)) indices
 all_covered s indices t w q =
-    both_ways (list_all q (covered_at s indices t)) (list_all (λ i. q (ancestor s t i)) indices)
-    (λ a. pass_query s t q indices
-    (λ j c. listed_pass q (covered_at s indices t) j a (covered_listed s indices t w t j (omega arith) c)))
-    (λ b. pass_listed q (covered_at s indices t) (λ j l. query_pass s t q indices j b (listed_covered s indices t j l)))
+    let nodes = map (ancestor s t) indices in
+    both_ways (list_all q (covered_at s indices t)) (list_all q nodes)
+    (λ a. pass_listed q nodes (λ j l. listed_pass q (covered_at s indices t) j a
+    (covered_listed s indices t w t j (omega arith) (covered_listed_above s indices t j ∙ l))))
+    (λ b. pass_listed q (covered_at s indices t) (λ j l. listed_pass q nodes j b
+    (sym (covered_listed_above s indices t j) ∙ listed_covered s indices t j l)))
+    ∙ list_all-map q (ancestor s t) indices
 
 -- nodes beside their values
 pub all_beside : {X : Type 0} (q : ℕ × X → Bool) (value : ℕ → X) (nodes : List ℕ) →
@@ -61,16 +47,16 @@ all_beside q value [] = refl
 all_beside q value (j ∷ nodes) = ap (λ b. q (j, value j) && b) (all_beside q value nodes)
 
 -- the cap refuses just where some covered node's digest is not its root
-pub cap_settled : {T W : Type 0} (digest_eq : W → W → Bool) (f : Functions T W) (s : Shape) (t : ℕ)
+pub cap_settled : {T W : Type 0} (digest_eq : W → W → Bool) (f : Functions T W) {s : Shape} {t : ℕ}
     (cap : List (List W)) (p : PrunedOpening T W) → CanQuery s p.indices t →
-    (nodes : List ℕ) (digests : List (List W)) (answer : Bool) →
+    {nodes : List ℕ} {digests : List (List W)} {answer known : Bool} →
     nodes ≡ covered_at s p.indices t → digests ≡ map (restored_node (params f s t) p t) (covered_at s p.indices t) →
     answer ≡ list_all (λ (node, digest). is_entry (pointwise digest_eq) cap node digest) (zip nodes digests) →
-    cap_refusal digest_eq (params f s t) cap p ≡ unless answer CapMismatch
-cap_settled digest_eq f s t cap p w nodes digests answer is_nodes is_digests e =
+    answer ≡ known → cap_refusal digest_eq (params f s t) cap p ≡ unless known CapMismatch
+cap_settled digest_eq f {s} {t} cap p w {answer = answer} is_nodes is_digests e is =
     let value = restored_node (params f s t) p t in
     let q = λ (j : ℕ). is_entry (pointwise digest_eq) cap j (value j) in
     let all : answer ≡ list_all (λ i. q (ancestor s t i)) p.indices = e
     ∙ rw (is_nodes, is_digests) (all_beside (λ (node, digest). is_entry (pointwise digest_eq) cap node digest) value
     (covered_at s p.indices t)) ∙ all_covered s p.indices t w q in
-    ap (λ b. unless b CapMismatch) (sym all)
+    ap (λ b. unless b CapMismatch) (sym all ∙ is)

@@ -10,7 +10,8 @@ use p3_support::hasher::CryptographicHasher;
 use p3_support::packed::PackedValue;
 use std::marker::PhantomData;
 
-/// Checks openings of one tree up to its cap. `G` is the type of a group. The arity `N` is a power of two from 2 to 2^62.
+/// Checks openings of one tree up to its cap. `G` is the type of a group. The arity `N` is a power of two from 2 to
+/// 2^62.
 #[derive(Drop)]
 pub struct Checker<
     'a,

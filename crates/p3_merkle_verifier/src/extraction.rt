@@ -1,19 +1,20 @@
-//! Extraction of a collision from two openings of one cap: both checks are walked side by side, to the last place at
-//! which their inputs differ.
+//! Two openings of one cap: whether their checks agree, and extraction of a collision. Both checks are walked side by
+//! side, to the last place that they share and at which their inputs differ.
 //!
 //! A check has an input of the hash at the leaf, the words of its rows. On each level it has the digests of a group, a
 //! node and its siblings; and where matrices belong to the layer above, the words of their rows, and a pair of both
-//! digests. Matrices belong to a layer by the exponents of their heights: log2, rounded up.
+//! digests. Two checks share the leaf or a level if they reach one node there.
 
-ghost use Rattle.std.specs.Prelude.{◌≡◌, zip, IfOk, length, replicate};
+ghost use Rattle.std.specs.Prelude.{◌≡◌, zip, IfOk, IsTrue, length, replicate};
 ghost use Rattle.std.specs.{Cmp.Lexicographic.pointwise, Option.option_or};
 ghost use Rattle.p3_support.specs.{Batches.heights_of, Shown.row_lists};
 ghost use Rattle.p3_merkle_core.specs.Checks.{digests_at, words_at, words_of_exponent};
 ghost use Rattle.p3_merkle_core.specs.Extraction.{difference_of, input_eq, last_difference};
 ghost use Rattle.p3_merkle_core.specs.Geometry.{layer_exponent, shape_of};
-ghost use Rattle.p3_merkle_core.specs.Refusals.{refusal_under, AnswersUnlessMemory};
+ghost use Rattle.p3_merkle_core.specs.Refusals.{refusal_under, AnswersUnlessMemory, IsEquality};
 ghost use Rattle.p3_merkle_verifier.specs.Inner.Checks.{functions_of, leaf_difference, opening_in, params_in, shape_in};
-ghost use Rattle.p3_merkle_verifier.specs.Inner.{Checks.ShowsLevel, Collisions.first_rows, Collisions.first_words};
+ghost use Rattle.p3_merkle_verifier.specs.Inner.Checks.{AgreeBelow, AgreeOnLevel, ShowsLevel};
+ghost use Rattle.p3_merkle_verifier.specs.Inner.{Collisions.first_rows, Collisions.first_words};
 ghost use Rattle.p3_merkle_verifier.specs.Inner.Collisions.{inputs_above, second_rows, second_words, IsDifference};
 ghost use Rattle.p3_merkle_verifier.specs.Inner.{Collisions.Shows, Paths.CanReach};
 
@@ -31,7 +32,7 @@ use std::alloc::{AllocError, Global};
 
 /// The rows of two openings, to be compared at the matrices of one exponent.
 #[derive(Drop)]
-pub(crate) struct RowPair<'a, T> {
+struct RowPair<'a, T> {
     /// The dimensions of all matrices.
     pub dimensions: &'a [Dimensions],
     /// The exponent of those whose rows are compared.
@@ -44,7 +45,7 @@ pub(crate) struct RowPair<'a, T> {
 
 impl<'a, T: Eq> RowPair<'a, T> {
     /// Whether both openings have the same rows of the matrices of the exponent. Nothing is copied.
-    pub(crate) fn agree(&self) -> bool
+    fn agree(&self) -> bool
         ensures { result ≡ pointwise (pointwise T.eq) (first_rows self.now) (second_rows self.now) }
     {
         let first = OpenedRows {
@@ -61,7 +62,7 @@ impl<'a, T: Eq> RowPair<'a, T> {
 }
 
 /// The digests `first` and `second` that two checks compress at `place`, if they differ.
-pub(crate) fn differing_digests<T, W: Copy + Eq, const D: usize>(
+fn differing_digests<T, W: Copy + Eq, const D: usize>(
     alloc: Global,
     place: Place,
     first: &[[W; D]],
@@ -148,10 +149,7 @@ fn leaf_difference<T: Copy + Eq + Drop, W: Copy + Eq, const D: usize>(
     differing_words(alloc, Place::Leaf, &rows)
 }
 
-/// The inputs of two checks at the last place of a level above its group where these differ: the pair, which is
-/// compressed last, else the words of the rows. `None` if both are the same, or if no matrix belongs to the layer above
-/// the level. `first` and `second` are that level of each check, and must reach one node; `rows` are the rows of both
-/// openings at the layer above.
+/// The inputs of two checks at the last place of a level above its group where these differ: the pair, else the rows.
 fn difference_above_group<T: Copy + Eq + Drop, W: Copy + Eq, const N: usize, const D: usize>(
     alloc: Global,
     rows: &RowPair<'_, T>,
@@ -171,9 +169,7 @@ fn difference_above_group<T: Copy + Eq + Drop, W: Copy + Eq, const N: usize, con
     }
 }
 
-/// The inputs of two checks at the last place of a level where these differ: the pair, else the words of the rows, else
-/// the group. `None` if the inputs of the level are the same, or if the checks do not share the node above it. `first`
-/// and `second` are that level of each check; `rows` are the rows of both openings at the layer above it.
+/// The inputs of two checks at the last place of a level where these differ, if they share the node above it.
 fn level_difference<T: Copy + Eq + Drop, W: Copy + Eq, const N: usize, const D: usize>(
     alloc: Global,
     rows: &RowPair<'_, T>,
@@ -198,6 +194,21 @@ fn level_difference<T: Copy + Eq + Drop, W: Copy + Eq, const N: usize, const D: 
     }
 }
 
+/// Whether two checks have the same inputs on a level, or do not share the node above it.
+fn levels_agree<T: Eq, W: Copy + Eq, const N: usize, const D: usize>(
+    rows: &RowPair<'_, T>,
+    first: &ComputedLevel<[W; D], [[W; D]; N]>,
+    second: &ComputedLevel<[W; D], [[W; D]; N]>,
+) -> bool
+    ensures { IsEquality T.eq → IsEquality W.eq → IsTrue result →
+        AgreeOnLevel (first_words rows.now) (second_words rows.now) first.now second.now }
+{
+    if first.above.node != second.above.node {
+        return true;
+    }
+    first.group == second.group && (first.pair.is_none() || rows.agree())
+}
+
 impl<
     'a,
     P: PackedValue,
@@ -207,8 +218,48 @@ impl<
     const N: usize,
     const D: usize,
 > Checker<'a, P, PW, H, C, [[PW::Value; D]; N], N, D> {
-    /// The last place that the checks of two openings share and at which they differ, with both inputs. `None` if they agree. Both openings must have their siblings up to the cap. It allocates at shared
-    /// places alone: the rows there, and the inputs that differ.
+    /// Whether the checks of two openings have the same inputs at every place that both share. Nothing is allocated.
+    pub(crate) fn agree(
+        &self,
+        first: OpeningRef<'_, P::Value, [PW::Value; D]>,
+        second: OpeningRef<'_, P::Value, [PW::Value; D]>,
+    ) -> bool
+        requires first { CanReach (shape_in self.now) self.now.cap_layer (length first.siblings.now) }
+        requires second { CanReach (shape_in self.now) self.now.cap_layer (length second.siblings.now) }
+        ensures { IsTrue result → AgreeBelow (functions_of self.now) (shape_in self.now) (opening_in first.entry)
+            (opening_in second.entry) self.now.cap_layer }
+    {
+        let leaves = RowPair {
+            dimensions: self.steps.dimensions,
+            exponent: self.steps.exponent,
+            first: first.rows,
+            second: second.rows,
+        };
+        if first.index == second.index && !leaves.agree() {
+            return false;
+        }
+        let mut first_progress = self.start(first);
+        let mut second_progress = self.start(second);
+        for level in 0..self.cap_layer {
+            let mine = self.compute_level(level, first, &first_progress);
+            let theirs = self.compute_level(level, second, &second_progress);
+            let rows = RowPair {
+                dimensions: self.steps.dimensions,
+                exponent: mine.above.exponent,
+                first: first.rows,
+                second: second.rows,
+            };
+            if !levels_agree(&rows, &mine, &theirs) {
+                return false;
+            }
+            first_progress = mine.above;
+            second_progress = theirs.above;
+        }
+        true
+    }
+
+    /// The inputs at the last place that the checks of two openings share and at which they differ.
+    // It allocates at shared places alone: the rows there, and the inputs that differ.
     pub(crate) fn last_difference(
         &self,
         alloc: Global,

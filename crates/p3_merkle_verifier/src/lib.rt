@@ -5,7 +5,6 @@
 //! pruned opening it can restore the path of each index. It borrows a hash and a compression, and knows no scheme.
 #![tactic(auto)]
 
-mod agreement;
 pub mod checker;
 mod extraction;
 pub mod openings;

@@ -39,8 +39,7 @@ pub struct Progress<X> {
 }
 
 impl<W: Copy, const D: usize> Progress<[W; D]> {
-    /// The group that is compressed to this node's parent: the node's siblings with its own digest at its position,
-    /// then default digests. `step` is how many children the parent has, and `siblings` are those of the whole path.
+    /// The node's siblings with its own digest at its position, then default digests. Its parent has `step` children.
     fn group<const N: usize>(
         &self,
         default_digest: [W; D],
@@ -71,8 +70,7 @@ pub struct ComputedLevel<X, G> {
     pub above: Progress<X>,
 }
 
-/// States that `siblings`, those of an opening up to layer `cap_layer`, have the `step - 1` ones of level `level` after
-/// the `used` ones of the levels below it.
+/// States that `siblings`, those of an opening up to layer `cap_layer`, have those of level `level` after `used` ones.
 fn lemma_step<X>(
     steps: &Steps<'_>,
     cap_layer: usize,
@@ -88,11 +86,7 @@ fn lemma_step<X>(
     ensures { CanStep steps.now.arity step used (length siblings.now) }
 {}
 
-/// Checks the form of an opening of the leaf `index`, before anything is hashed: one row for each matrix, of its width;
-/// heights that a tree can have; as many siblings as the levels below the cap need; and an index below the tallest
-/// height. The errors are those of [`check_opening`](Checker::check_opening) but `CapMismatch`.
-///
-/// The arity must be a power of two from 2 to 2^62, and `cap_layer` at most the number of levels.
+/// Checks the form of an opening of the leaf `index`, before anything is hashed.
 fn check_form<T>(
     steps: &Steps<'_>,
     cap_layer: usize,
@@ -140,7 +134,7 @@ impl<
     const N: usize,
     const D: usize,
 > Checker<'a, P, PW, H, C, [[PW::Value; D]; N], N, D> {
-    /// The digest of the rows of the matrices of one exponent, as one message. `rows` has a row of each matrix.
+    /// The digest of the rows of the matrices of one exponent, as one message.
     fn row_digest(&self, rows: &[Vec<P::Value>], exponent: usize) -> [PW::Value; D]
         ensures { let rows = zip (heights_of self.now.steps.dimensions.now) (row_lists rows.now) in
             result ≡ H.hash self.now.hash.now (words_of_exponent exponent rows) }
@@ -168,8 +162,7 @@ impl<
         }
     }
 
-    /// Computes level `level` of the check of an opening, which must be below the cap's layer: from the node of
-    /// `progress`, which the check has reached, to its parent. The opening must have all siblings up to the cap.
+    /// Computes level `level` of the check of an opening, from the node that it has reached to its parent.
     // A call that is not inlined writes the whole level to memory, and a verification needs only `above`.
     #[inline(always)]
     pub(crate) fn compute_level(

@@ -9,14 +9,13 @@ ghost use Rattle.std.specs.Prelude.{◌≡◌, ◌/◌, ◌<◌, ◌≤◌, ℕ,
 ghost use Rattle.std.specs.{Prelude.slice_index_or, Prelude.zip, List.list_all, List.range_with_len};
 ghost use Rattle.p3_support.specs.{Batches.heights_of, Shown.row_sets};
 ghost use Rattle.p3_merkle_core.specs.{Checks.params, Checks.words_of_exponent, Geometry.layer_exponent};
-ghost use Rattle.p3_merkle_core.specs.{Geometry.shape_of, Inner.Agreement.opened_with, Inner.Agreement.AreDistinctOf};
 ghost use Rattle.p3_merkle_core.specs.{Nodes.Functions, Pruning.restored_paths, Refusals.cap_refusal};
 ghost use Rattle.p3_merkle_core.specs.Refusals.{is_entry as is_entry_of, pruned_refusal, pruned_refusal_under};
 ghost use Rattle.p3_merkle_core.specs.{Refusals.AnswersUnlessMemory, Views.pruned_borrowed, Views.shown_paths};
 ghost use Rattle.p3_merkle_digests.specs.Inner.Slots.{rows_over};
 ghost use Rattle.p3_merkle_verifier.specs.Inner.Checks.{functions_of, params_in, shape_in};
 ghost use Rattle.p3_merkle_verifier.specs.Inner.NodeDigests.{child_group, group_digest};
-ghost use Rattle.p3_merkle_verifier.specs.Inner.{OpenedMatrices.row_in, Paths.CanCheck};
+ghost use Rattle.p3_merkle_verifier.specs.Inner.OpenedMatrices.{row_in};
 ghost use Rattle.p3_merkle_verifier.specs.Inner.RestoredLevels.{opened_by, pruned_in, row_values, tree_of, AreLayers};
 ghost use Rattle.p3_merkle_verifier.specs.Inner.RestoredLevels.{AreLeaves, AreQueriesAt, AreRestored, IsClimb};
 ghost use Rattle.p3_merkle_verifier.specs.Inner.RestoredLevels.{IsCoveredAt, IsLayer, IsLayerAbove};
@@ -26,10 +25,9 @@ use crate::openings::{OpenedMatrix, PrunedOpeningRef, RestorableOpening};
 use p3_merkle_core::error::MerkleTreeError;
 use p3_merkle_core::geometry::exponent_of;
 use p3_merkle_core::pruning::{
-    AuthPath, CoveredLayer, DistinctQueries, PrunedMerklePaths, check_pruned, children_of,
-    siblings_on_path,
+    AuthPath, CoveredLayer, PrunedMerklePaths, check_pruned, children_of, siblings_on_path,
 };
-use p3_merkle_core::steps::{Covered, StepUp, Steps};
+use p3_merkle_core::steps::{Covered, StepUp};
 use p3_merkle_digests::batched::{LayerRows, compress_children, inject_row_digests};
 use p3_support::compress::PseudoCompressionFunction;
 use p3_support::hasher::CryptographicHasher;
@@ -55,51 +53,7 @@ impl<'a, T, W: Copy, const D: usize> PrunedOpeningRef<'a, T, [W; D]> {
     }
 }
 
-/// Checks by [`check_pruned`], with its errors, the form of a pruned opening, and that its rows agree wherever queries
-/// share a node. Returns the opening with its steps, the cap's layer and its distinct indices, from which each path can
-/// be restored; and the layer of its covered leaves, from which the layers above are computed.
-///
-/// The arity of `steps` must be a power of two from 2 to 2^62, and `cap_layer` at most the number of levels.
-fn check_restorable<'a, P: PackedValue, X>(
-    alloc: Global,
-    steps: &'a Steps<'a>,
-    cap_layer: usize,
-    opening: PrunedOpeningRef<'a, P::Value, X>,
-) -> Result<(RestorableOpening<'a, P::Value, X>, CoveredLayer<'a, X>), MerkleTreeError>
-    requires { CanCheck (shape_of steps.now.arity steps.now.dimensions.now) cap_layer }
-    ensures answer { let s = shape_of steps.now.arity steps.now.dimensions.now in
-        let p = opened_with opening.entry.indices.now (row_sets opening.entry.sets.now)
-        (length opening.entry.sent.now) in
-        AnswersUnlessMemory result (pruned_refusal P.Value.eq s cap_layer p) }
-    ensures steps { IfOk result (λ made. made.0.steps.now ≡ steps.now) }
-    ensures layer { IfOk result (λ made. made.0.cap_layer ≡ cap_layer) }
-    ensures opening { IfOk result (λ made. made.0.opening ≡ opening.entry) }
-    ensures leaves { IfOk result (λ made. AreLeaves (tree_of made.0) made.0.opening.indices.now made.1) }
-{
-    let PrunedOpeningRef {
-        indices,
-        sets,
-        sent,
-    } = opening;
-    let leaves = check_pruned(alloc, steps, cap_layer, indices, sets, sent.len())?;
-    let nodes = Vec::from_slice(alloc, &leaves.indices)?;
-    let restorable = RestorableOpening {
-        steps,
-        cap_layer,
-        opening,
-        leaves,
-    };
-    let leaf_layer = CoveredLayer {
-        covered: Covered::new(steps, indices, nodes),
-        step: 0,
-        has_rows: true,
-        children: Vec::new(alloc),
-    };
-    Ok((restorable, leaf_layer))
-}
-
-/// The layer above `below`, which must be layer `level` and below the cap's layer. `digests` has the digest of each
-/// covered node of `below`; the other children of the layer above have the next digests of the proof.
+/// The layer above `below`, which is layer `level` and has `digests`; its other children are the proof's next digests.
 fn layer_above<'a, T, X: Copy>(
     alloc: Global,
     restorable: &RestorableOpening<'_, T, X>,
@@ -132,8 +86,7 @@ fn layer_above<'a, T, X: Copy>(
     })
 }
 
-/// For each covered node of the layer of this exponent, ascending, the position of a query under it: the first one of
-/// its lowest leaf.
+/// For each covered node of the layer of this exponent, ascending, the first query of the lowest leaf under it.
 fn queries_at<T, X>(
     alloc: Global,
     restorable: &RestorableOpening<'_, T, X>,
@@ -187,9 +140,8 @@ fn opened_matrices<'a, T, X>(
     Ok(matrices)
 }
 
-/// The path of each query of an opening, in query order, out of `layers`, its layers from the leaves to the cap's: the
-/// other children of the parent of each node on the path, ascending.
-fn paths_of<T, W: Copy, const D: usize>(
+/// The path of each query of an opening, in query order, out of its layers from the leaves to the cap's.
+pub(crate) fn paths_of<T, W: Copy, const D: usize>(
     alloc: Global,
     restorable: &RestorableOpening<'_, T, [W; D]>,
     layers: &[CoveredLayer<'_, [W; D]>],
@@ -258,8 +210,45 @@ impl<
     const N: usize,
     const D: usize,
 > Checker<'a, P, PW, H, C, [[PW::Value; D]; N], N, D> {
-    /// For each covered node of the layer with this exponent, ascending, the digest of the rows that the queries under
-    /// it opened of the layer's matrices.
+    /// The form of a pruned opening, checked by [`check_pruned`], with its errors; and the layer of its covered leaves.
+    pub(crate) fn check_restorable<'b>(
+        &'b self,
+        alloc: Global,
+        opening: PrunedOpeningRef<'b, P::Value, [PW::Value; D]>,
+    ) -> Result<
+        (
+            RestorableOpening<'b, P::Value, [PW::Value; D]>,
+            CoveredLayer<'b, [PW::Value; D]>,
+        ),
+        MerkleTreeError,
+    >
+        ensures answer { let refusal = pruned_refusal P.Value.eq (shape_in self.now) self.now.cap_layer in
+            AnswersUnlessMemory result (refusal (pruned_in opening.entry)) }
+        ensures steps { IfOk result (λ made. made.0.steps.now ≡ self.now.steps) }
+        ensures layer { IfOk result (λ made. made.0.cap_layer ≡ self.now.cap_layer) }
+        ensures opening { IfOk result (λ made. made.0.opening ≡ opening.entry) }
+        ensures leaves { IfOk result (λ made. AreLeaves (tree_of made.0) made.0.opening.indices.now made.1) }
+    {
+        let (steps, cap_layer, indices) = (&self.steps, self.cap_layer, opening.indices);
+        let num_sent = opening.sent.len();
+        let leaves = check_pruned(alloc, steps, cap_layer, indices, opening.sets, num_sent)?;
+        let nodes = Vec::from_slice(alloc, &leaves.indices)?;
+        let restorable = RestorableOpening {
+            steps,
+            cap_layer,
+            opening,
+            leaves,
+        };
+        let leaf_layer = CoveredLayer {
+            covered: Covered::new(steps, indices, nodes),
+            step: 0,
+            has_rows: true,
+            children: Vec::new(alloc),
+        };
+        Ok((restorable, leaf_layer))
+    }
+
+    /// The digest of the opened rows under each covered node of the layer with this exponent, ascending.
     fn row_digests(
         &self,
         alloc: Global,
@@ -305,9 +294,7 @@ impl<
         Ok(digests)
     }
 
-    /// The digests of the covered nodes of layer `layer`, which is `here`, ascending. A leaf's is that of the rows of
-    /// its first query. Any other node's is the compression of its children; where matrices belong to the layer, it is
-    /// compressed once more with the digest of their rows, which the queries under the node share.
+    /// The digests of the covered nodes of layer `layer`, which is `here`, ascending, from their children and rows.
     pub(crate) fn node_digests(
         &self,
         alloc: Global,
@@ -338,7 +325,7 @@ impl<
     }
 
     /// Checks that the roots of a cap have the digest of each covered node of its layer, `here`, else `CapMismatch`.
-    fn check_roots(
+    pub(crate) fn check_roots(
         &self,
         alloc: Global,
         restorable: &RestorableOpening<'_, P::Value, [PW::Value; D]>,
@@ -382,9 +369,8 @@ impl<
         Ok(layer)
     }
 
-    /// All layers of a pruned opening, from its covered leaves up to the cap's layer, with the digests of the covered
-    /// nodes' children: each is computed from the layer below, or is a digest of the proof.
-    fn restored_layers<'b>(
+    /// All layers of a pruned opening, from its covered leaves up to the cap's layer, each with its nodes' children.
+    pub(crate) fn restored_layers<'b>(
         &self,
         alloc: Global,
         restorable: &RestorableOpening<'_, P::Value, [PW::Value; D]>,
@@ -423,40 +409,9 @@ impl<
         ensures { let refusal = pruned_refusal_under P.Value.eq PW.Value.eq (params_in self.now) roots.now in
             AnswersUnlessMemory result (refusal (pruned_in opening.entry)) }
     {
-        let (restorable, leaves) = check_restorable::<P, [PW::Value; D]>(
-            alloc,
-            &self.steps,
-            self.cap_layer,
-            opening,
-        )?;
+        let (restorable, leaves) = self.check_restorable(alloc, opening)?;
         let top = self.top_layer(alloc, &restorable, leaves)?;
         self.check_roots(alloc, &restorable, &top, roots)
-    }
-
-    /// Checks a pruned opening as [`check_pruned_opening`](Self::check_pruned_opening) does, with its errors. Returns
-    /// its distinct leaves, and the restored path of each query, in query order.
-    pub(crate) fn checked_paths(
-        &self,
-        alloc: Global,
-        roots: &[[PW::Value; D]],
-        opening: PrunedOpeningRef<'_, P::Value, [PW::Value; D]>,
-    ) -> Result<(DistinctQueries, Vec<AuthPath<[PW::Value; D]>>), MerkleTreeError>
-        ensures answer { let refusal = pruned_refusal_under P.Value.eq PW.Value.eq (params_in self.now) roots.now in
-            AnswersUnlessMemory result (refusal (pruned_in opening.entry)) }
-        ensures paths { let paths = restored_paths (params_in self.now) (pruned_in opening.entry) in
-            IfOk result (λ made. shown_paths made.1.items ≡ paths) }
-        ensures leaves { IfOk result (λ made. AreDistinctOf made.0 opening.entry.indices.now) }
-    {
-        let (restorable, leaves) = check_restorable::<P, [PW::Value; D]>(
-            alloc,
-            &self.steps,
-            self.cap_layer,
-            opening,
-        )?;
-        let layers = self.restored_layers(alloc, &restorable, leaves)?;
-        self.check_roots(alloc, &restorable, &layers[restorable.cap_layer], roots)?;
-        let paths = paths_of(alloc, &restorable, &layers)?;
-        Ok((restorable.leaves, paths))
     }
 
     /// Restores the path of each query up to the cap's layer, in query order, from a pruned opening: each sibling is a
@@ -475,12 +430,7 @@ impl<
         ensures paths { let restored = restored_paths (params_in self.now) (pruned_in opening.entry) in
             IfOk result (λ paths. shown_paths paths.items ≡ restored) }
     {
-        let (restorable, leaves) = check_restorable::<P, [PW::Value; D]>(
-            alloc,
-            &self.steps,
-            self.cap_layer,
-            opening,
-        )?;
+        let (restorable, leaves) = self.check_restorable(alloc, opening)?;
         let layers = self.restored_layers(alloc, &restorable, leaves)?;
         Ok(paths_of(alloc, &restorable, &layers)?)
     }

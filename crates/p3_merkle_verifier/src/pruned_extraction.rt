@@ -5,14 +5,15 @@ ghost use Rattle.std.specs.Prelude.{◌≡◌, ◌⊎◌, ℕ, ◌<◌, IfOk, Is
 ghost use Rattle.std.specs.Option.{option_or};
 ghost use Rattle.p3_merkle_core.specs.Extraction.{difference_of, first_pair};
 ghost use Rattle.p3_merkle_core.specs.{Pruning.opening_at, Refusals.pruned_refusal_under, Refusals.AnswersUnlessMemory};
-ghost use Rattle.p3_merkle_verifier.specs.Inner.Checks.{functions_of, opening_in, params_in, shape_in};
+ghost use Rattle.p3_merkle_verifier.specs.Inner.Checks.{opening_in, params_in, shape_in};
 ghost use Rattle.p3_merkle_verifier.specs.Inner.{Paths.CanReach, QueryPairs.query_difference, QueryPairs.first_place};
-ghost use Rattle.p3_merkle_verifier.specs.Inner.QueryPairs.{query_in, AgreesWithAll, AreConsistent, AreQueriesOf};
-ghost use Rattle.p3_merkle_verifier.specs.Inner.QueryPairs.{CanCompare, HasLeaves, ShowsAt, ShowsPair, StandsBetween};
+ghost use Rattle.p3_merkle_verifier.specs.Inner.QueryPairs.{query_in, AgreesWithAll, AreQueriesOf, CanCompare};
+ghost use Rattle.p3_merkle_verifier.specs.Inner.QueryPairs.{CanSearch, HasLeaves, ShowsAt, ShowsPair, StandsBetween};
 ghost use Rattle.p3_merkle_verifier.specs.Inner.RestoredLevels.{pruned_in};
 
 use crate::checker::Checker;
 use crate::openings::{OpeningRef, PrunedOpeningRef};
+use crate::pruned_check::paths_of;
 use p3_merkle_core::collision::Collision;
 use p3_merkle_core::error::MerkleTreeError;
 use p3_merkle_core::pruning::{AuthPath, DistinctQueries};
@@ -47,8 +48,7 @@ impl<'a, T, W, const D: usize> RestoredQueries<'a, T, [W; D]> {
         }
     }
 
-    /// The positions of the queries with the nearest indices below and above `index`. They are one query if `index` is
-    /// queried itself, or if all queries are on one side of it. There must be a query.
+    /// The positions of the queries with the nearest indices below and above `index`; one query if there is no other.
     fn neighbours(&self, index: usize) -> (usize, usize)
         requires leaves { HasLeaves self.now }
         requires some { 0 < length self.now.paths.items }
@@ -78,8 +78,7 @@ impl<
     const N: usize,
     const D: usize,
 > Checker<'a, P, PW, H, C, [[PW::Value; D]; N], N, D> {
-    /// Checks a pruned opening against the roots of a cap, with the errors of
-    /// [`check_pruned_opening`](Self::check_pruned_opening), and returns its queries, each with its restored path.
+    /// The queries of a pruned opening, with the errors of [`check_pruned_opening`](Self::check_pruned_opening).
     fn checked_queries<'b>(
         &self,
         alloc: Global,
@@ -88,36 +87,31 @@ impl<
     ) -> Result<RestoredQueries<'b, P::Value, [PW::Value; D]>, MerkleTreeError>
         ensures answer { let refusal = pruned_refusal_under P.Value.eq PW.Value.eq (params_in self.now) roots.now in
             AnswersUnlessMemory result (refusal (pruned_in opening.entry)) }
-        ensures comparable { IfOk result (CanCompare (shape_in self.now) self.now.cap_layer) }
-        ensures consistent { let f = functions_of self.now in
-            IfOk result (AreConsistent f (shape_in self.now) self.now.cap_layer) }
-        ensures leaves { IfOk result (λ queries. HasLeaves queries) }
-        ensures restored { let f = functions_of self.now in
-            IfOk result (AreQueriesOf f (shape_in self.now) self.now.cap_layer (pruned_in opening.entry)) }
+        ensures queries { IfOk result (CanSearch (params_in self.now)) }
+        ensures restored { IfOk result (AreQueriesOf (params_in self.now) (pruned_in opening.entry)) }
     {
         let sets = opening.sets;
-        let (leaves, paths) = self.checked_paths(alloc, roots, opening)?;
+        let (restorable, leaves) = self.check_restorable(alloc, opening)?;
+        let layers = self.restored_layers(alloc, &restorable, leaves)?;
+        self.check_roots(alloc, &restorable, &layers[restorable.cap_layer], roots)?;
         Ok(RestoredQueries {
             sets,
-            paths,
-            leaves,
+            paths: paths_of(alloc, &restorable, &layers)?,
+            leaves: restorable.leaves,
         })
     }
 
-    /// Whether the check of the opening `first` agrees with that of each query, wherever both share a place. Only the
-    /// queries of the nearest indices below and above are compared: the opening's path shares with one of them each
-    /// node that it shares with any query, and the checks of the queries agree among themselves.
+    /// Whether the check of the opening `first` agrees with that of each query, wherever both share a place.
+    // The path shares with a neighbour each node that it shares with any query, and the queries agree among themselves.
     fn agrees_with_all(
         &self,
         first: OpeningRef<'_, P::Value, [PW::Value; D]>,
         queries: &RestoredQueries<'_, P::Value, [PW::Value; D]>,
     ) -> bool
         requires first { CanReach (shape_in self.now) self.now.cap_layer (length first.siblings.now) }
-        requires queries { CanCompare (shape_in self.now) self.now.cap_layer queries.now }
-        requires consistent { AreConsistent (functions_of self.now) (shape_in self.now) self.now.cap_layer queries.now }
-        requires leaves { HasLeaves queries.now }
-        ensures { IsTrue result → AgreesWithAll P.Value.eq PW.Value.eq (functions_of self.now) (shape_in self.now)
-            self.now.cap_layer (opening_in first.entry) queries.now }
+        requires queries { CanSearch (params_in self.now) queries.now }
+        ensures { let agrees = AgreesWithAll P.Value.eq PW.Value.eq (params_in self.now) in
+            IsTrue result → agrees (opening_in first.entry) queries.now }
     {
         if queries.paths.is_empty() {
             return true;
@@ -129,8 +123,7 @@ impl<
         above == below || self.agree(first, queries.opening(above))
     }
 
-    /// The first query whose check differs from that of the opening `first`: its position among the queries, and both
-    /// inputs at the last place that both checks share and at which they differ. `None` if there is no such query.
+    /// The position of the first query whose check differs from that of `first`, with the inputs where it does so last.
     fn differing_query(
         &self,
         alloc: Global,
@@ -138,12 +131,10 @@ impl<
         queries: &RestoredQueries<'_, P::Value, [PW::Value; D]>,
     ) -> Result<Option<(usize, Collision<P::Value, PW::Value, D>)>, AllocError>
         requires first { CanReach (shape_in self.now) self.now.cap_layer (length first.siblings.now) }
-        requires queries { CanCompare (shape_in self.now) self.now.cap_layer queries.now }
-        requires consistent { AreConsistent (functions_of self.now) (shape_in self.now) self.now.cap_layer queries.now }
-        requires leaves { HasLeaves queries.now }
-        ensures { let difference = query_difference P.Value.eq PW.Value.eq (functions_of self.now) (shape_in self.now)
-            self.now.cap_layer (opening_in first.entry) in
-            let differs = first_place (λ b. difference (query_in queries.now b)) (length queries.now.paths.items) in
+        requires queries { CanSearch (params_in self.now) queries.now }
+        ensures { let difference = query_difference P.Value.eq PW.Value.eq (params_in self.now) in
+            let differs = first_place (λ b. difference (opening_in first.entry) (query_in queries.now b))
+            (length queries.now.paths.items) in
             IfOk result (λ found. ShowsAt found differs) }
     {
         if self.agrees_with_all(first, queries) {
@@ -158,20 +149,16 @@ impl<
         Ok(None)
     }
 
-    /// The first pair of queries whose checks differ, in the order of `first`, then of `second`: the position of each
-    /// query in its list, and both inputs at the last place that both checks share and at which they differ.
+    /// The positions of the first two queries whose checks differ, with the inputs where they do so last.
     fn differing_pair(
         &self,
         alloc: Global,
         first: &RestoredQueries<'_, P::Value, [PW::Value; D]>,
         second: &RestoredQueries<'_, P::Value, [PW::Value; D]>,
     ) -> Result<Option<(usize, usize, Collision<P::Value, PW::Value, D>)>, AllocError>
-        requires first { CanCompare (shape_in self.now) self.now.cap_layer first.now }
-        requires second { CanCompare (shape_in self.now) self.now.cap_layer second.now }
-        requires consistent { AreConsistent (functions_of self.now) (shape_in self.now) self.now.cap_layer second.now }
-        requires leaves { HasLeaves second.now }
-        ensures { let difference = query_difference P.Value.eq PW.Value.eq (functions_of self.now) (shape_in self.now)
-            self.now.cap_layer in
+        requires first { CanCompare (params_in self.now) first.now }
+        requires second { CanSearch (params_in self.now) second.now }
+        ensures { let difference = query_difference P.Value.eq PW.Value.eq (params_in self.now) in
             let differ = first_pair (λ a b. difference (query_in first.now a) (query_in second.now b))
             (length first.now.paths.items) (length second.now.paths.items) in
             IfOk result (λ found. ShowsPair found differ) }

@@ -1,9 +1,9 @@
 -- Queries of two pruned openings, and the first pair of them whose checks differ.
 use Rattle.std.specs.Prelude.{◌≡◌, ◌<◌, ◌≤◌, ℕ, Bool, List, [], Option, None, length, option_map, slice_index}
 use Rattle.std.specs.{Prelude.slice_index_or, Prelude.◌⊎◌, List.range_with_len}
-use Rattle.p3_merkle_core.specs.{Views.shown_paths, Views.inputs_in, Extraction.difference_of, Geometry.Shape}
-use Rattle.p3_merkle_core.specs.{Inner.Agreement.IsAscending, Nodes.Functions, Openings.Opening, Openings.opening_of}
-use Rattle.p3_merkle_core.specs.{Checks.Input, Checks.params, Pruning.PrunedOpening, Pruning.opening_at}
+use Rattle.p3_merkle_core.specs.{Views.shown_paths, Views.inputs_in, Extraction.difference_of}
+use Rattle.p3_merkle_core.specs.{Inner.Agreement.IsAscending, Openings.Opening, Openings.opening_of}
+use Rattle.p3_merkle_core.specs.{Checks.Input, Checks.Params, Pruning.PrunedOpening, Pruning.opening_at}
 use Rattle.p3_merkle_core.specs.{Refusals.first_of, declared.collision.InputPair.InputPair}
 use Rattle.p3_support.specs.Shown.{row_sets}
 use Rattle.p3_merkle_verifier.specs.Inner.{Checks.AgreeBelow, Paths.CanReach}
@@ -16,15 +16,9 @@ query_in queries k =
     opening_of index (slice_index_or (row_sets queries.sets.now) k []) siblings
 
 -- the queries can be checked up to the cap's layer: each has a row set, and a path with its siblings
-pub record CanCompare {T W : Type 0} (s : Shape) (cap_layer : ℕ) (queries : RestoredQueries T (List W)) : Type 0 where
+pub record CanCompare {T W : Type 0} (c : Params T W) (queries : RestoredQueries T (List W)) : Type 0 where
   pub in_pairs : length queries.sets.now ≡ length queries.paths.items
-  pub reach : (k : ℕ) → k < length queries.paths.items → CanReach s cap_layer (length (query_in queries k).siblings)
-
--- the checks of any two of the queries agree up to the cap
-abbrev pub AreConsistent : {T W : Type 0} → Functions T W → Shape → ℕ → RestoredQueries T (List W) → Type 0
-AreConsistent f s cap_layer queries =
-    (a b : ℕ) → a < length queries.paths.items → b < length queries.paths.items →
-    AgreeBelow f s (query_in queries a) (query_in queries b) cap_layer
+  pub reach : (k : ℕ) → k < length queries.paths.items → CanReach c.shape c.layer (length (query_in queries k).siblings)
 
 -- v is between i and j, or one of them
 abbrev pub IsBetween : ℕ → ℕ → ℕ → Type 0
@@ -48,23 +42,29 @@ pub record HasLeaves {T W : Type 0} (queries : RestoredQueries T (List W)) : Typ
       (slot < length queries.leaves.indices.items) ×
       (slice_index queries.leaves.indices.items slot ≡ (query_in queries k).index)
 
+-- the queries can be compared, the checks of any two agree up to the cap, and their leaves are known
+pub record CanSearch {T W : Type 0} (c : Params T W) (queries : RestoredQueries T (List W)) : Type 0 where
+  pub comparable : CanCompare c queries
+  pub consistent : (a b : ℕ) → a < length queries.paths.items → b < length queries.paths.items →
+      AgreeBelow c.functions c.shape (query_in queries a) (query_in queries b) c.layer
+  pub leaves : HasLeaves queries
+
 -- the queries are those of a pruned opening, each with its restored path
-pub record AreQueriesOf {T W : Type 0} (f : Functions T W) (s : Shape) (cap_layer : ℕ) (p : PrunedOpening T W)
-    (queries : RestoredQueries T (List W)) : Type 0 where
+pub record AreQueriesOf {T W : Type 0} (c : Params T W) (p : PrunedOpening T W) (queries : RestoredQueries T (List W)) :
+    Type 0 where
   pub as_many : length queries.paths.items ≡ length p.indices
-  pub each : (k : ℕ) → k < length p.indices → query_in queries k ≡ opening_at (params f s cap_layer) p k
+  pub each : (k : ℕ) → k < length p.indices → query_in queries k ≡ opening_at c p k
 
 -- the last inputs that the checks of two openings share and that differ, kept folded
-unfoldable pub query_difference : {T W : Type 0} → (T → T → Bool) → (W → W → Bool) → Functions T W → Shape → ℕ →
-    Opening T W → Opening T W → Option (Input T W × Input T W)
-query_difference row_eq digest_eq f s cap_layer o u = difference_of row_eq digest_eq (params f s cap_layer) o u
+unfoldable pub query_difference : {T W : Type 0} → (T → T → Bool) → (W → W → Bool) → Params T W → Opening T W →
+    Opening T W → Option (Input T W × Input T W)
+query_difference row_eq digest_eq c o u = difference_of row_eq digest_eq c o u
 
 -- the check of an opening differs from that of no query
-abbrev pub AgreesWithAll : {T W : Type 0} → (T → T → Bool) → (W → W → Bool) → Functions T W → Shape → ℕ →
-    Opening T W → RestoredQueries T (List W) → Type 0
-AgreesWithAll row_eq digest_eq f s cap_layer o queries =
-    (k : ℕ) → k < length queries.paths.items →
-    query_difference row_eq digest_eq f s cap_layer o (query_in queries k) ≡ None
+abbrev pub AgreesWithAll : {T W : Type 0} → (T → T → Bool) → (W → W → Bool) → Params T W → Opening T W →
+    RestoredQueries T (List W) → Type 0
+AgreesWithAll row_eq digest_eq c o queries =
+    (k : ℕ) → k < length queries.paths.items → query_difference row_eq digest_eq c o (query_in queries k) ≡ None
 
 -- the first number below n for which d gives a value
 abbrev pub first_place : {X : Type 0} → (ℕ → Option X) → ℕ → Option (ℕ × X)

@@ -15,6 +15,5 @@ returns g c =
     let mine = ap (λ x. words_of_exponent x (zip heights o.rows)) steps.walked.leaves in
     let theirs = ap (λ x. words_of_exponent x (zip heights u.rows)) steps.walked.leaves in
     IfOk-weaker c.differing_words.result _ _
-    (λ found is. found_leaf g.T.PartialEq.eq g.W.PartialEq.eq (shape_of steps.arity steps.dimensions.now) o u
-    (words_of_exponent steps.exponent (zip heights o.rows)) (words_of_exponent steps.exponent (zip heights u.rows))
-    found c.if-first-second.false mine theirs is) c.differing_words.ensures
+    (λ found is. found_leaf g.T.PartialEq.eq g.W.PartialEq.eq (shape_of steps.arity steps.dimensions.now) o u found
+    c.if-first-second.false mine theirs is) c.differing_words.ensures

@@ -13,24 +13,22 @@ last_is_above : {T W : Type 0} (eq : Input T W → Input T W → Bool) (x y : In
     Shows (Some found) (last_difference eq (x ∷ xs) (y ∷ ys))
 last_is_above eq x y xs ys found above = rw (← above) refl
 
-last_is_group : {T W : Type 0} (eq : Input T W → Input T W → Bool) (same : Bool) (x y : Input T W)
+last_is_group : {T W : Type 0} (eq : Input T W → Input T W → Bool) {same : Bool} (x y : Input T W)
     (xs ys : List (Input T W)) (found : Option (InputPair T (List W))) →
     eq x y ≡ same → Shows None (last_difference eq xs ys) → IsDifference found same (x, y) →
     Shows found (last_difference eq (x ∷ xs) (y ∷ ys))
-last_is_group eq same x y xs ys found test none here = rw (← none, test) here
+last_is_group eq x y xs ys found test none here = rw (← none, test) here
 
 pub returns-in-Some : goal.returns-in-Some
 returns-in-Some g c =
-    let first = c.args.first.now in
-    let second = c.args.second.now in
-    let rows = c.args.rows.now in
-    let l = first.level in
+    let l = c.args.first.now.level in
     let eq = input_eq g.T.PartialEq.eq g.W.PartialEq.eq in
-    let shown = last_is_above eq (digests_at (Group l) first.group) (digests_at (Group l) second.group)
-    (inputs_above l (first_words rows) first.pair) (inputs_above l (second_words rows) second.pair) c.in-Some.above
+    let rows = c.args.rows.now in
+    let shown = last_is_above eq (digests_at (Group l) c.args.first.now.group)
+    (digests_at (Group l) c.args.second.now.group) (inputs_above l (first_words rows) c.args.first.now.pair)
+    (inputs_above l (second_words rows) c.args.second.now.pair) c.in-Some.above
     (rw c.in-Some.is at c.in_ok-above.ensures) in
-    λ f s l o u m n a b. found_here eq f s l o u (Some c.in-Some.above) first second (first_words rows)
-    (second_words rows) m n a b c.if-first-second.false shown
+    λ f s l o u m n a b. found_here eq (Some c.in-Some.above) m n a b c.if-first-second.false shown
 
 pub returns-in-None : goal.returns-in-None
 returns-in-None g c =
@@ -43,8 +41,7 @@ returns-in-None g c =
     let test : eq (digests_at (Group l) first.group) (digests_at (Group l) second.group)
     ≡ same = ap (λ at_one. at_one && same) (eq-eqb l l refl) in
     IfOk-weaker c.differing_digests.result _ _
-    (λ found here f s k o u m n a b. found_here eq f s k o u found first second (first_words rows) (second_words rows) m
-    n a b c.if-first-second.false (last_is_group eq same (digests_at (Group l) first.group)
-    (digests_at (Group l) second.group) (inputs_above l (first_words rows) first.pair)
-    (inputs_above l (second_words rows) second.pair) found test (rw c.in-None.is at c.in_ok-above.ensures) here))
-    c.differing_digests.ensures
+    (λ found here f s k o u m n a b. found_here eq found m n a b c.if-first-second.false
+    (last_is_group eq (digests_at (Group l) first.group) (digests_at (Group l) second.group)
+    (inputs_above l (first_words rows) first.pair) (inputs_above l (second_words rows) second.pair) found test
+    (rw c.in-None.is at c.in_ok-above.ensures) here)) c.differing_digests.ensures

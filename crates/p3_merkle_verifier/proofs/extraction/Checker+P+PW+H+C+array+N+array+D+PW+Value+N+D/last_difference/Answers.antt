@@ -19,8 +19,8 @@ loop-level-preserved g c =
     record {
       first_progress = rw add-one mine.progress;
       second_progress = rw add-one theirs.progress;
-      found = found_next (input_eq g.P.Value.PartialEq.eq g.PW.Value.PartialEq.eq) f s l o u c.loop-level.last
-          c.or-last.result c.in_ok-found.found c.loop-level.invariant.found
+      found = found_next (input_eq g.P.Value.PartialEq.eq g.PW.Value.PartialEq.eq) f s l o u c.in_ok-found.found
+          c.loop-level.last c.loop-level.invariant.found
           (c.in_ok-found.ensures f s l o u mine theirs
           (ap (λ x. words_of_exponent x (zip heights o.rows)) mine.progress.at_exponent)
           (ap (λ x. words_of_exponent x (zip heights u.rows)) mine.progress.at_exponent)) c.or-last.ensures;

@@ -1,11 +1,21 @@
 -- The leaf's rows are hashed.
-use Rattle.std.proofs.Common.{refl}
+use Rattle.std.proofs.Common.{◌∙◌, ap, sym, zip}
+use Rattle.p3_merkle_core.specs.{Checks.words_of_exponent, Geometry.heights}
+use Rattle.p3_merkle_core.proofs.{Checks.Completeness.reached_leaf, Shapes.SiblingFacts.siblings_start}
+use Rattle.p3_merkle_core.proofs.Shapes.StepFacts.{anc_start}
 use Rattle.p3_merkle_verifier.specs.Inner.Checks.{functions_of, opening_in, shape_in}
-use Rattle.p3_merkle_verifier.proofs.LevelFacts.{progress_first}
 use Rattle.p3_merkle_verifier.proofs.path.Checker+P+PW+H+C+array+N+array+D+PW+Value+N+D.start.Goals as goal
 
 pub returns : goal.returns
 returns g c =
     let f = functions_of c.args.self.now in
-    progress_first f (shape_in c.args.self.now) (opening_in c.args.opening) _
-    c.args.self.now.steps.walked.leaves refl refl c.row_digest.ensures
+    let s = shape_in c.args.self.now in
+    let o = opening_in c.args.opening in
+    let leaves = c.args.self.now.steps.walked.leaves in
+    record {
+      at_exponent = leaves;
+      at_node = sym (anc_start s o.index);
+      taken = sym (siblings_start s);
+      reached = c.row_digest.ensures ∙ ap (λ y. f.hash (words_of_exponent y (zip (heights s) o.rows))) leaves
+          ∙ sym (reached_leaf f s o);
+    }

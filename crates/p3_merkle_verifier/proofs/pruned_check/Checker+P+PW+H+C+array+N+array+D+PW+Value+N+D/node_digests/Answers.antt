@@ -21,39 +21,22 @@ returns-then-layer-eq0-clause-restored g c =
 
 pub returns-then-layer-eq0-clause-count : goal.returns-then-layer-eq0-clause-count
 returns-then-layer-eq0-clause-count g c =
-    let restorable = c.args.restorable.now in
-    let f = functions_of c.args.self.now in
-    IfOk-weaker c.row_digests.result _ _ (λ digests restored.
-    digests_long f (tree_of restorable) restorable.cap_layer (opened_by restorable) c.args.layer c.args.here.now
-    digests.items c.requires.covered.coverage restored)
+    IfOk-weaker c.row_digests.result _ _ (λ digests restored. digests_long digests.items c.requires.covered restored)
     (returns-then-layer-eq0-clause-restored g c)
 
 pub returns-then-not-here : goal.returns-then-not-here
 returns-then-not-here g c =
-    let restorable = c.args.restorable.now in
-    let covered = c.args.here.now in
-    let f = functions_of c.args.self.now in
-    let s = tree_of restorable in
-    let t = restorable.cap_layer in
-    let p = opened_by restorable in
-    let layer = c.requires.covered in
     let some : 0 < c.args.layer = omega arith in
-    let digests = c.in_ok-digests.digests.items in
-    let restored = restored_at f s t p c.args.layer some g.row.N c.requires.arity covered [] digests layer
+    let restored = restored_at some c.requires.arity [] c.in_ok-digests.digests.items c.requires.covered
     (λ present. absurd (true≢false (sym present ∙ c.if-not-here.true)))
     (rw c.if-not-here.true (rw c.deref.ensures.value at c.in_ok-digests.ensures.digests)) in
-    record {
-      count = digests_long f s t p c.args.layer covered digests layer.coverage restored;
-      restored = restored;
-    }
+    record { count = digests_long c.in_ok-digests.digests.items c.requires.covered restored; restored = restored }
 
 pub returns : goal.returns
 returns g c =
     let restorable = c.args.restorable.now in
-    let covered = c.args.here.now in
     let f = functions_of c.args.self.now in
     let s = tree_of restorable in
-    let t = restorable.cap_layer in
     let p = opened_by restorable in
     let layer = c.requires.covered in
     let some : 0 < c.args.layer = omega arith in
@@ -79,9 +62,6 @@ returns g c =
     ∙ pairs_injected f.compression g.row.N f.default_digest nodes rows slots same filled
     ∙ (λ i. map (pair_digest f.compression g.row.N f.default_digest)
     (zip (nodes_are i) (c.deref-2.ensures.value i))) in
-    let restored = restored_at f s t p c.args.layer some g.row.N c.requires.arity covered c.in_ok-rows.rows.items
-    digests layer (λ present. known) (rw c.if-not-here.false are) in
-    record {
-      count = digests_long f s t p c.args.layer covered digests layer.coverage restored;
-      restored = restored;
-    }
+    let restored = restored_at some c.requires.arity c.in_ok-rows.rows.items digests layer (λ present. known)
+    (rw c.if-not-here.false are) in
+    record { count = digests_long digests layer restored; restored = restored }

@@ -11,24 +11,22 @@ returns-then-above-below g c =
     let f = functions_of c.args.self.now in
     let s = shape_in c.args.self.now in
     let t = c.args.self.now.cap_layer in
-    let o = opening_in c.args.first in
-    let queries = c.args.queries.now in
-    let lower = subst (λ (u : Opening _ _). AgreeBelow f s o u t) c.opening.ensures
-    (c.agree.ensures c.if-not-agree.false) in
-    λ yes. neighbours_agree g.P.Value.PartialEq.eq g.PW.Value.PartialEq.eq f s t o queries
-    c.neighbours-below.result.0 c.neighbours-below.result.1 g.met.P.PackedValue.eq_is_equality
-    g.met.PW.PackedValue.eq_is_equality c.requires.first.arity c.requires.consistent c.neighbours-below.ensures.between
-    lower (subst (λ b. AgreeBelow f s o (query_in queries b) t) (sym c.if-above-below.true) lower)
+    let agrees = λ (u : Opening _ _). AgreeBelow f s (opening_in c.args.first) u t in
+    let lower = subst agrees c.opening.ensures (c.agree.ensures c.if-not-agree.false) in
+    λ yes. neighbours_agree g.P.Value.PartialEq.eq g.PW.Value.PartialEq.eq f s t (opening_in c.args.first)
+    c.args.queries.now c.neighbours-below.result.0 c.neighbours-below.result.1 g.met.P.PackedValue.eq_is_equality
+    g.met.PW.PackedValue.eq_is_equality c.requires.first.arity c.requires.queries.consistent
+    c.neighbours-below.ensures.between lower
+    (subst (λ b. agrees (query_in c.args.queries.now b)) (sym c.if-above-below.true) lower)
 
 pub returns-else-above-below : goal.returns-else-above-below
 returns-else-above-below g c =
     let f = functions_of c.args.self.now in
     let s = shape_in c.args.self.now in
     let t = c.args.self.now.cap_layer in
-    let o = opening_in c.args.first in
-    let agrees = λ (u : Opening _ _). AgreeBelow f s o u t in
-    λ yes. neighbours_agree g.P.Value.PartialEq.eq g.PW.Value.PartialEq.eq f s t o c.args.queries.now
-    c.neighbours-below.result.0 c.neighbours-below.result.1 g.met.P.PackedValue.eq_is_equality
-    g.met.PW.PackedValue.eq_is_equality c.requires.first.arity c.requires.consistent c.neighbours-below.ensures.between
-    (subst agrees c.opening.ensures (c.agree.ensures c.if-not-agree.false))
+    let agrees = λ (u : Opening _ _). AgreeBelow f s (opening_in c.args.first) u t in
+    λ yes. neighbours_agree g.P.Value.PartialEq.eq g.PW.Value.PartialEq.eq f s t (opening_in c.args.first)
+    c.args.queries.now c.neighbours-below.result.0 c.neighbours-below.result.1 g.met.P.PackedValue.eq_is_equality
+    g.met.PW.PackedValue.eq_is_equality c.requires.first.arity c.requires.queries.consistent
+    c.neighbours-below.ensures.between (subst agrees c.opening.ensures (c.agree.ensures c.if-not-agree.false))
     (subst agrees c.opening-else-above-below.ensures (c.agree-else-above-below.ensures yes))

@@ -1,42 +1,45 @@
--- What is restored of an opening that is accepted can be compared.
-use Rattle.std.proofs.Common.{refl}
-use Rattle.p3_merkle_verifier.specs.Inner.{Checks.functions_of, Checks.shape_in, RestoredLevels.pruned_in}
-use Rattle.p3_merkle_verifier.specs.declared.pruned_extraction.RestoredQueries.{RestoredQueries}
-use Rattle.p3_merkle_verifier.proofs.QueryFacts.{comparable, consistent, leaves_known, restored}
+-- The refusal is that of the form, else of the cap; what is restored of an opening that is accepted can be compared.
+use Rattle.std.proofs.Common.{◌∙◌, Err, Ok, refl, subst}
+use Rattle.p3_merkle_core.specs.{Checks.params, Geometry.shape_of, Inner.Agreement.AreDistinctOf}
+use Rattle.p3_merkle_core.specs.{Pruning.restored_paths, declared.steps.Steps.Steps}
+use Rattle.p3_merkle_verifier.specs.Inner.{Checks.functions_of, Checks.params_in, Checks.shape_in}
+use Rattle.p3_merkle_verifier.specs.Inner.RestoredLevels.{pruned_in}
+use Rattle.p3_merkle_verifier.specs.declared.openings.PrunedOpeningRef.{PrunedOpeningRef}
+use Rattle.p3_merkle_verifier.proofs.{QueryFacts.restored, QueryFacts.searchable, RefusalFacts.cap_decides}
+use Rattle.p3_merkle_verifier.proofs.RefusalFacts.{handed_on}
 use Rattle.p3_merkle_verifier.proofs.pruned_extraction.Checker+P+PW+H+C+array+N+array+D+PW+Value+N+D.checked_queries.Goals as goal
 
-pub returns-clause-comparable : goal.returns-clause-comparable
-returns-clause-comparable g c =
-    let f = functions_of c.args.self.now in
-    comparable g.P.Value.PartialEq.eq g.PW.Value.PartialEq.eq f (shape_in c.args.self.now)
-    c.args.self.now.cap_layer c.args.roots.now (pruned_in c.args.opening)
-    (record { sets = c.args.opening.sets; paths = c.in_ok-leaves.paths; leaves = c.in_ok-leaves.leaves })
-    g.met.P.PackedValue.eq_is_equality g.met.PW.PackedValue.eq_is_equality c.args.self.now.check
-    c.in_ok-leaves.ensures.answer refl c.in_ok-leaves.ensures.paths
+pub returns-in_err-check_roots-clause-answer : goal.returns-in_err-check_roots-clause-answer
+returns-in_err-check_roots-clause-answer g c =
+    let made = c.in_ok-restorable in
+    handed_on c.from_residual-in_err-check_roots.result c.in_err-check_roots.field-0.0 _
+    c.from_residual-in_err-check_roots.ensures.1
+    (cap_decides {V = Unit {0}} g.P.Value.PartialEq.eq g.PW.Value.PartialEq.eq (functions_of c.args.self.now)
+    c.args.roots.now made.restorable (Err c.in_err-check_roots.field-0.0) made.ensures.steps made.ensures.layer
+    made.ensures.opening made.ensures.answer c.in_err-check_roots.ensures)
 
-pub returns-clause-consistent : goal.returns-clause-consistent
-returns-clause-consistent g c =
-    let f = functions_of c.args.self.now in
-    consistent g.P.Value.PartialEq.eq g.PW.Value.PartialEq.eq f (shape_in c.args.self.now)
-    c.args.self.now.cap_layer c.args.roots.now (pruned_in c.args.opening)
-    (record { sets = c.args.opening.sets; paths = c.in_ok-leaves.paths; leaves = c.in_ok-leaves.leaves })
-    g.met.P.PackedValue.eq_is_equality g.met.PW.PackedValue.eq_is_equality c.args.self.now.check
-    c.in_ok-leaves.ensures.answer refl c.in_ok-leaves.ensures.paths
-
-pub returns-clause-leaves : goal.returns-clause-leaves
-returns-clause-leaves g c =
-    let f = functions_of c.args.self.now in
-    leaves_known g.P.Value.PartialEq.eq g.PW.Value.PartialEq.eq f (shape_in c.args.self.now)
-    c.args.self.now.cap_layer c.args.roots.now (pruned_in c.args.opening)
-    (record { sets = c.args.opening.sets; paths = c.in_ok-leaves.paths; leaves = c.in_ok-leaves.leaves })
-    g.met.P.PackedValue.eq_is_equality g.met.PW.PackedValue.eq_is_equality c.args.self.now.check
-    c.in_ok-leaves.ensures.answer refl c.in_ok-leaves.ensures.paths c.in_ok-leaves.ensures.leaves
+pub returns-clause-answer : goal.returns-clause-answer
+returns-clause-answer g c =
+    let made = c.in_ok-restorable in
+    cap_decides {V = Unit {0}} g.P.Value.PartialEq.eq g.PW.Value.PartialEq.eq (functions_of c.args.self.now)
+    c.args.roots.now made.restorable (Ok tt) made.ensures.steps made.ensures.layer made.ensures.opening
+    made.ensures.answer c.in_ok-check_roots.ensures
 
 pub returns-clause-restored : goal.returns-clause-restored
 returns-clause-restored g c =
     let f = functions_of c.args.self.now in
-    let s = shape_in c.args.self.now in
-    let queries : RestoredQueries _ _ =
-    record { sets = c.args.opening.sets; paths = c.in_ok-leaves.paths; leaves = c.in_ok-leaves.leaves } in
-    restored g.P.Value.PartialEq.eq g.PW.Value.PartialEq.eq f s c.args.self.now.cap_layer (pruned_in c.args.opening) queries
-    refl c.in_ok-leaves.ensures.paths
+    let made = c.in_ok-restorable.ensures in
+    let shape = λ (steps : Steps). shape_of steps.arity steps.dimensions.now in
+    restored (params_in c.args.self.now) (pruned_in c.args.opening) _ refl
+    (c.in_ok-paths_of.ensures f (rw c.deref.ensures.value c.in_ok-layers.ensures)
+    ∙ (λ i. restored_paths (params f (shape (made.steps i)) (made.layer i)) (pruned_in (made.opening i))))
+
+pub returns-clause-queries : goal.returns-clause-queries
+returns-clause-queries g c =
+    let made = c.in_ok-restorable in
+    searchable g.P.Value.PartialEq.eq g.PW.Value.PartialEq.eq (functions_of c.args.self.now) (shape_in c.args.self.now)
+    c.args.self.now.cap_layer c.args.roots.now (pruned_in c.args.opening) _ g.met.P.PackedValue.eq_is_equality
+    g.met.PW.PackedValue.eq_is_equality c.args.self.now.check (returns-clause-answer g c) refl
+    (returns-clause-restored g c)
+    (subst (λ (o : PrunedOpeningRef _ _). AreDistinctOf made.restorable.leaves o.indices.now) made.ensures.opening
+    made.restorable.distinct)

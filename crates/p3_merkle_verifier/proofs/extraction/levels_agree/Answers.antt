@@ -3,7 +3,7 @@ use Rattle.std.proofs.Common.{◌≡◌, ◌∙◌, Option, None, Some, ap, fals
 use Rattle.std.specs.Option.{is_some}
 use Rattle.std.proofs.lemmas.Bool.{true≢false}
 use Rattle.p3_merkle_verifier.proofs.AgreeFacts.{levels_same}
-use Rattle.p3_merkle_verifier.proofs.agreement.levels_agree.Goals as goal
+use Rattle.p3_merkle_verifier.proofs.extraction.levels_agree.Goals as goal
 
 is_absent : {A : Type 0} (o : Option A) → is_some o ≡ false → o ≡ None
 is_absent None e = refl

@@ -1,5 +1,5 @@
 use Rattle.p3_merkle_verifier.specs.Inner.Checks.{functions_of, opening_in, shape_in, AgreeBelow, IsProgress}
-use Rattle.p3_merkle_verifier.proofs.agreement.Checker+P+PW+H+C+array+N+array+D+PW+Value+N+D.agree.Given as goal
+use Rattle.p3_merkle_verifier.proofs.extraction.Checker+P+PW+H+C+array+N+array+D+PW+Value+N+D.agree.Given as goal
 
 -- both checks stand at the level, and agree below it
 abbrev pub invariant-loop-level : goal.invariant-loop-level
