@@ -59,9 +59,9 @@ fn committed<
     Ok((cap, tree, dimensions))
 }
 
-/// Commits to matrices, opens the row of each that belongs to an index, verifies the opening under the cap, and compares
-/// an opening that anybody claims for this index with it: what is found is a collision of both, or why `verify_batch`
-/// refuses the claimed one.
+/// Commits to matrices, opens the row of each that belongs to an index, verifies the opening under the cap, and
+/// compares an opening that anybody claims for this index with it: what is found is a collision of both, or why
+/// `verify_batch` refuses the claimed one.
 ///
 /// # Errors
 ///
@@ -115,9 +115,8 @@ pub fn commit_compare<
     })
 }
 
-/// Commits to matrices, opens the rows that belong to several indices by one proof, verifies the opening under the cap,
-/// and compares an opening that anybody claims for these indices with it: a row set for each index, and a pruned proof.
-/// The indices may come in any order, with repeats.
+/// Does for several indices, in any order, with repeats, and one proof what [`commit_compare`] does for one index. The
+/// claimed opening is a row set for each index, and a pruned proof.
 ///
 /// What is found is the place of a claimed query in the list of indices, the place of an honest one, and the collision
 /// of both; or why `verify_batch_pruned` refuses the claimed opening.

@@ -156,10 +156,8 @@ where
     })
 }
 
-/// Commits to matrices with `SALT_ELEMS` salts for each row, opens the rows that belong to several indices by one
-/// proof, with their salts, verifies the opening under the cap, and compares an opening that anybody claims for these
-/// indices with it: a row set and a salt set for each index, and a pruned proof. The indices may come in any order, with
-/// repeats.
+/// Does for several indices, in any order, with repeats, and one proof what [`salted_commit_compare`] does for one
+/// index. The claimed opening is a row set and a salt set for each index, and a pruned proof.
 ///
 /// What is found is the place of a claimed query in the list of indices, the place of an honest one, and the collision
 /// of both; or why the salted `verify_multi_batch` refuses the claimed opening.
