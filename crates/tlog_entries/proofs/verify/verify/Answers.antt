@@ -5,7 +5,7 @@ use Rattle.std.proofs.lemmas.Result.{err_from_is_err_and}
 use Rattle.p3_support.specs.{Shown.row_sets, declared.matrix.Dimensions.Dimensions}
 use Rattle.p3_merkle_core.specs.{Geometry.shape_of, Pruning.pruned_of}
 use Rattle.p3_merkle_mmcs.specs.Schemes.{params_of}
-use Rattle.tlog_entries.specs.{contracts.node.NodePartialEq.TheImpl.ghosts as node, declared.tree.Node.Node}
+use Rattle.tlog_entries.specs.{contracts.tree.NodePartialEq.TheImpl.ghosts as node, declared.tree.Node.Node}
 use Rattle.tlog_entries.proofs.EntriesFacts.{form_from, form_kept}
 use Rattle.tlog_entries.proofs.VerdictFacts.{meaning_kept, verdict_is}
 use Rattle.tlog_entries.proofs.verify.verify.Goals as goal
