@@ -16,8 +16,8 @@ NewRootFixesProof hash old new old_root path other_root other_path new_root =
     new ≤ size_limit → IsConsistent hash old new path old_root new_root →
     IsConsistent hash old new other_path other_root new_root → (old_root ≡ other_root) × (path ≡ other_path)
 
--- a leaf hash that is accepted of an index under an old root is that which is accepted of it under a new root, to which a
--- proof of consistency leads from the old one
+-- a leaf hash that is accepted of an index under an old root is that which is accepted of it under a new root, to which
+-- a proof of consistency leads from the old one
 abbrev pub GrowthKeepsLeaf : Hash → ℕ → ℕ → ℕ → List ℕ → List (List ℕ) → List ℕ → List (List ℕ) → List (List ℕ) →
     List ℕ → List ℕ → Type 0
 GrowthKeepsLeaf hash index old new old_leaf old_path new_leaf new_path growth old_root new_root =

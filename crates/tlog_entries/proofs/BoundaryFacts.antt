@@ -64,7 +64,8 @@ rising_past a (x ∷ xs) r missed =
 
 -- the siblings of ascending numbers that are not among them ascend
 pub siblings_rise : (here : List ℕ) (h : ℕ) (xs : List ℕ) →
-    ((j : ℕ) → is_listed xs j ≡ true → is_listed here j ≡ true) → IsRising (2 * h) xs → IsRising (2 * h) (filter (λ j. not (is_listed here j)) (map sibling xs))
+    ((j : ℕ) → is_listed xs j ≡ true → is_listed here j ≡ true) → IsRising (2 * h) xs →
+    IsRising (2 * h) (filter (λ j. not (is_listed here j)) (map sibling xs))
 siblings_rise here h [] within r = tt
 siblings_rise here h (x ∷ xs) within r =
     let k = sibling x in

@@ -7,7 +7,8 @@ ghost use Rattle.p3_support.specs.{Answers.AnswersUnless, Lists.is_among, Shown.
 ghost use Rattle.tlog.specs.{Rfc9162.Hash, Verdicts.size_limit};
 ghost use Rattle.tlog_tree.specs.Trees.{all_there, leaves_root, values_at};
 ghost use Rattle.tlog_entries.specs.Entries.{AreIncluded, digests_refusal, entries_opening, form_refusal};
-ghost use Rattle.tlog_entries.specs.Entries.{indices_refusal, is_node as is_node_by, proof_nodes, with_padding as with_padding_of};
+ghost use Rattle.tlog_entries.specs.Entries.{indices_refusal, is_node as is_node_by, proof_nodes};
+ghost use Rattle.tlog_entries.specs.Entries.{with_padding as with_padding_of};
 ghost use Rattle.tlog_entries.specs.{Inner.Siblings.sibling, Instance.leaf_row, Instance.log_shape};
 ghost use Rattle.tlog_entries.specs.declared.error.EntriesError.TheVariants.{OutOfMemory};
 

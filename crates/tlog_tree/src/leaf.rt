@@ -1,5 +1,6 @@
 //! The leaf hashes of entries, eight at a time.
-ghost use Rattle.std.specs.Prelude.{◌≡◌, ℕ, ◌<◌, ◌≤◌, IfOk, OnOk, All, Decides, List, length, map, slice_index_or, take};
+ghost use Rattle.std.specs.Prelude.{◌≡◌, ℕ, ◌<◌, ◌≤◌, IfOk, OnOk, All, Decides, List, length, map, take};
+ghost use Rattle.std.specs.Prelude.{slice_index_or};
 ghost use Rattle.sha2.specs.Sha256.{sha256};
 ghost use Rattle.tlog.specs.Rfc9162.{leaf_hash};
 ghost use Rattle.tlog_tree.specs.Inner.Leaves.{block_count, AreHashes, Fills, IsHashed, IsOfLength, IsPlaceOf};
