@@ -2,7 +2,6 @@
 
 use crate::case::{Case, Fault};
 use mmcs_engine::engine::run;
-use mmcs_engine::process::ProgramError;
 use std::alloc::Global;
 use std::fmt::Write as WriteText;
 use std::io;

@@ -3,12 +3,11 @@
 #![tactic(auto)]
 
 use mmcs_engine::engine::run;
-use mmcs_engine::fault::Fault;
 use mmcs_engine::process::{exit_code, read_args};
 use std::process::ExitCode;
 
 fn main(rt: HostRuntime) -> ExitCode {
-    let answer = read_args(&rt, Fault::Usage).and_then(|words| run(
+    let answer = read_args(&rt).and_then(|words| run(
         rt.alloc(),
         &words,
         &mut rt.stdin(),

@@ -1,12 +1,30 @@
 -- Lines that are rows of one matrix.
 use Rattle.std.proofs.Common.{◌≡◌, ℕ, ◌<◌, ◌⊎◌, ⊎_elim, false, List, [], ◌∷◌, ◌++◌, length, map, sym, refl, ap, ◌∙◌}
-use Rattle.std.proofs.Common.{subst, arith, append-nil}
-use Rattle.std.proofs.lemmas.List.{length_push, Concat.flat_map-append}
+use Rattle.std.proofs.Common.{subst, arith, append-nil, Bool, true, ◌&&◌}
+use Rattle.std.proofs.lemmas.List.{length_push, length-map, Concat.flat_map-append}
 use Rattle.std.proofs.lemmas.List.Elements.{All-nil, All-cons, All-head, All-tail, All-push, All-map}
-use Rattle.std.specs.Prelude.{All, flat_map}
-use Rattle.mmcs_engine.specs.{Numbers.IsNumberBelow, Input.is_blank, Input.numerals_of, Input.numbers_of}
-use Rattle.mmcs_engine.specs.{Input.IsMatrix, Inner.Blocks.IsBlock}
-use Rattle.mmcs_engine.proofs.BlankFacts.{row_has_number}
+use Rattle.std.specs.{Prelude.All, Prelude.flat_map, Str.Parse.digits_value}
+use Rattle.mmcs_engine.specs.Numbers.{IsNumberBelow}
+use Rattle.mmcs_engine.specs.Input.{is_blank, numerals_of, numbers_of, IsMatrix, is_gap}
+use Rattle.mmcs_engine.{specs.Inner.Blocks.IsBlock, proofs.Runs.run_skips, proofs.Runs.first_run}
+
+-- one more byte in front, that is a gap or not
+some_numeral_cons : (b : ℕ) (line : List ℕ) → (is_blank line ≡ false → 0 < length (numerals_of line)) →
+    is_blank (b ∷ line) ≡ false → (t : Bool) → is_gap b ≡ t → 0 < length (numerals_of (b ∷ line))
+some_numeral_cons b line rest full true gap =
+    omega (arith, ap length (run_skips is_gap b line gap), rest (ap (λ t. t && is_blank line) (sym gap) ∙ full))
+some_numeral_cons b line rest full false text =
+    let r = first_run is_gap (b ∷ []) line
+    (All-cons (λ c. is_gap c ≡ false) b [] text (All-nil (λ c. is_gap c ≡ false))) (omega arith) in
+    omega (arith, ap length r.runs)
+
+-- some byte is no gap, so there is a run of such bytes
+some_numeral : (line : List ℕ) → is_blank line ≡ false → 0 < length (numerals_of line)
+some_numeral [] full = absurd cc
+some_numeral (b ∷ line) full = some_numeral_cons b line (some_numeral line) full (is_gap b) refl
+
+pub row_has_number : (line : List ℕ) → is_blank line ≡ false → 0 < length (numbers_of line)
+row_has_number line full = omega (arith, some_numeral line full, length-map (numerals_of line) (digits_value 10))
 
 -- what holds of the images holds of the elements' images
 pub all_from_map : {X Y : Type 0} (P : Y → Type 0) (f : X → Y) (xs : List X) → All P (map f xs) → All (λ x. P (f x)) xs
@@ -14,14 +32,14 @@ all_from_map P f [] each = All-nil (λ x. P (f x))
 all_from_map P f (x ∷ xs) each = All-cons (λ y. P (f y)) x xs (All-head P (f x) (map f xs) each)
     (all_from_map P f xs (All-tail P (f x) (map f xs) each))
 
-module _ (limit : ℕ) (lines : List (List ℕ)) (values : List ℕ) (width : ℕ) (block : IsBlock limit lines values width)
+module _ {limit : ℕ} {lines : List (List ℕ)} {values : List ℕ} {width : ℕ} (block : IsBlock limit lines values width)
   where
     -- one more line
-    pub block_more : (line : List ℕ) (new_values : List ℕ) (new_width : ℕ) → is_blank line ≡ false →
+    pub block_more : (line : List ℕ) {new_values : List ℕ} {new_width : ℕ} → is_blank line ≡ false →
         All (IsNumberBelow limit) (numerals_of line) →
         new_values ≡ values ++ numbers_of line → length (numbers_of line) ≡ new_width →
         (width ≡ 0) ⊎ (width ≡ new_width) → IsBlock limit (lines ++ line ∷ []) new_values new_width
-    block_more line new_values new_width full numbers values_are width_is was =
+    block_more line {new_values} {new_width} full numbers values_are width_is was =
         let some : 0 < new_width = omega (arith, row_has_number line full, width_is) in
         let same : All (λ l. length (numbers_of l) ≡ new_width) lines =
         ⊎_elim

@@ -1,12 +1,10 @@
 -- Nothing is refused exactly if all is taken.
-use Rattle.std.proofs.Common.{◌≡◌, ◌⊎◌, ⊎_elim, inl, inr, ℕ, ◌<◌, ltb, List, [], ◌∷◌, Option, Some, None, Result, Err}
-use Rattle.std.proofs.Common.{refl, sym, ap, subst, arith}
+use Rattle.std.proofs.Common.{◌≡◌, ℕ, ◌<◌, ltb, List, [], ◌∷◌, Option, Some, None, refl, ap, arith}
 use Rattle.std.proofs.lemmas.{Bool.lt-ltb, List.Elements.All-head, List.Elements.All-tail}
 use Rattle.std.specs.{Prelude.All, Prelude.length, Option.option_or}
 use Rattle.p3_merkle_core.specs.{Geometry.Shape, Geometry.heights, Geometry.IsLawful, Gate.gate_refusal, Nodes.shape}
-use Rattle.p3_merkle_core.specs.Refusals.{queries_refusal, pruned_len_refusal, AnswersUnlessMemory}
-use Rattle.p3_merkle_core.specs.declared.error.MerkleTreeError.{MerkleTreeError}
-use Rattle.p3_merkle_core.specs.declared.error.MerkleTreeError.TheVariants.{IndexOutOfBounds, OutOfMemory}
+use Rattle.p3_merkle_core.specs.Refusals.{queries_refusal, pruned_len_refusal}
+use Rattle.p3_merkle_core.specs.declared.error.MerkleTreeError.TheVariants.{IndexOutOfBounds}
 use Rattle.p3_support.specs.Batches.{greatest}
 use Rattle.p3_merkle_core.proofs.Shapes.GateFacts.{gate_lawful}
 use Rattle.p3_merkle_core.proofs.Pruned.NoneFacts.{below_from, none_unless}
@@ -43,26 +41,3 @@ pub heights_are : (matrices : List (List (List ℕ))) (arity : ℕ) → heights 
     ≡ heights_of_rows matrices
 heights_are [] arity = refl
 heights_are (rows ∷ matrices) arity = ap (λ hs. length rows ∷ hs) (heights_are matrices arity)
-
--- ---- the heights are refused, or else the indices
-
-module _ {V : Type 0} (result : Result V MerkleTreeError) (e : MerkleTreeError) (s : Shape) (indices : List ℕ)
-    (is : result ≡ Err e) where
-  refused : (e ≡ OutOfMemory) ⊎ (pruned_len_refusal s indices ≡ Some e) →
-      AnswersUnlessMemory result (pruned_len_refusal s indices)
-  refused told =
-      subst (λ (r : Result V MerkleTreeError). AnswersUnlessMemory r (pruned_len_refusal s indices)) (sym is) told
-
-  pub heights_refused : (e ≡ OutOfMemory) ⊎ (gate_refusal (heights s) ≡ Some e) →
-      AnswersUnlessMemory result (pruned_len_refusal s indices)
-  heights_refused told =
-      let indices_refused = queries_refusal (greatest (heights s)) indices in
-      refused (⊎_elim inl (λ due. inr (ap (λ gate. option_or gate indices_refused) due)) told)
-
-  pub indices_refused : gate_refusal (heights s) ≡ None → queries_refusal (greatest (heights s)) indices ≡ Some e →
-      AnswersUnlessMemory result (pruned_len_refusal s indices)
-  indices_refused taken due = refused (inr (λ i. option_or (taken i) (due i)))
-
-pub none_refused : (s : Shape) (indices : List ℕ) → gate_refusal (heights s) ≡ None →
-    queries_refusal (greatest (heights s)) indices ≡ None → pruned_len_refusal s indices ≡ None
-none_refused s indices taken below = λ i. option_or (taken i) (below i)

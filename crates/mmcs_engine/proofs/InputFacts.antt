@@ -1,13 +1,12 @@
 -- An input that is read line by line.
-use Rattle.std.proofs.Common.{◌≡◌, ℕ, zero, suc, ◌+◌, ◌-◌, ◌<◌, ◌≤◌, ◌==◌, ◌⊎◌, ⊎_elim, inl, inr, true, false, List}
-use Rattle.std.proofs.Common.{Option, Some, None, [], ◌∷◌, ◌++◌, length, get_or, take, drop, map, sym, refl, ap, ◌∙◌}
-use Rattle.std.proofs.Common.{subst, arith, append_assoc, append-nil}
-use Rattle.std.proofs.lemmas.List.{take_more, take_all, take-append-drop, drop_more, get_or-map, length-drop}
-use Rattle.std.proofs.lemmas.List.{get_or-take, length-map, length-take-le}
-use Rattle.std.proofs.lemmas.List.Splits.{slice_split_at, slice_split_none, length-slice_split}
-use Rattle.std.proofs.lemmas.{Bool.false_from_ne_true, Grind.get_or_default_zero, List.Sums.count_by-le-length}
-use Rattle.std.specs.Prelude.{All, IfNone, IfSome}
-use Rattle.std.specs.{List.slice_split, List.AllZip, Str.Lines.strip_carriage_return}
+use Rattle.std.proofs.Common.{◌≡◌, ℕ, ◌+◌, ◌-◌, ◌<◌, ◌≤◌, ◌==◌, ◌⊎◌, ⊎_elim, inl, inr, true, false, List, [], ◌∷◌, ◌++◌}
+use Rattle.std.proofs.Common.{Option, Some, None, length, get_or, take, drop, map, sym, refl, ap, ◌∙◌, subst, arith}
+use Rattle.std.proofs.{Common.append_assoc, Common.append-nil, lemmas.List.take_more}
+use Rattle.std.proofs.lemmas.List.{take_all, take-append-drop, drop_more, get_or-map, length-drop, get_or-take}
+use Rattle.std.proofs.lemmas.List.{length-map, length-take-le, Sums.count_by-le-length, Splits.slice_split_at}
+use Rattle.std.proofs.lemmas.{List.Splits.slice_split_none, List.Splits.length-slice_split, Bool.cases_lt}
+use Rattle.std.{proofs.lemmas.Bool.false_from_ne_true, proofs.lemmas.Grind.get_or_default_zero, specs.Prelude.All}
+use Rattle.std.specs.{Prelude.IfNone, Prelude.IfSome, List.slice_split, List.AllZip, Str.Lines.strip_carriage_return}
 use Rattle.memchr.specs.Find.{is_byte, Nowhere, Passes}
 use Rattle.p3_merkle_core.specs.{Checks.last_of, declared.error.MerkleTreeError.TheVariants.OutOfMemory}
 use Rattle.mmcs_engine.specs.declared.fault.Fault.{Fault, TheVariants.Tree}
@@ -15,15 +14,7 @@ use Rattle.mmcs_engine.specs.Input.{is_blank, numbers_of, runs_between, pieces_o
 use Rattle.mmcs_engine.specs.{Input.IsFirstFault, Input.IsLineFault, Input.IsMatrix, Inner.Blocks.IsBlock}
 use Rattle.mmcs_engine.proofs.{Runs.run_whole, InputLaws.runs_apart, InputLaws.split_apart, BlockFacts.block_is_matrix}
 
--- one more pair at the end
-pub zip_push : {A B : Type 0} (R : A → B → Type 0) (xs : List A) (ys : List B) (x : A) (y : B) → AllZip R xs ys →
-    R x y → AllZip R (xs ++ x ∷ []) (ys ++ y ∷ [])
-zip_push R [] [] x y each last = (last, tt)
-zip_push R [] (b ∷ ys) x y each last = absurd each
-zip_push R (a ∷ xs) [] x y each last = absurd each
-zip_push R (a ∷ xs) (b ∷ ys) x y each last = (each.0, zip_push R xs ys x y each.1 last)
-
--- two such pairs of lists, one behind the other
+-- two pairs of lists, one behind the other
 pub zip_append : {A B : Type 0} (R : A → B → Type 0) (xs : List A) (ys : List B) (us : List A) (vs : List B) →
     AllZip R xs ys → AllZip R us vs → AllZip R (xs ++ us) (ys ++ vs)
 zip_append R [] [] us vs each more = more
@@ -96,10 +87,10 @@ pub record LinesSoFar {M : Type 0} (Shows : M → List (List ℕ) → Type 0) (l
   pub shown : AllZip Shows found matrices
   pub block : IsBlock limit rows values width
 
-module _ {M : Type 0} (Shows : M → List (List ℕ) → Type 0) (limit : ℕ) where
-  pub lines_start : (values : List ℕ) (width : ℕ) → IsBlock limit [] values width →
+module _ {M : Type 0} {Shows : M → List (List ℕ) → Type 0} {limit : ℕ} where
+  pub lines_start : {values : List ℕ} {width : ℕ} → IsBlock limit [] values width →
       LinesSoFar Shows limit [] [] values width
-  lines_start values width block = record {
+  lines_start block = record {
     front = [];
     rows = [];
     matrices = [];
@@ -110,7 +101,7 @@ module _ {M : Type 0} (Shows : M → List (List ℕ) → Type 0) (limit : ℕ) w
     block = block;
   }
 
-  module _ (seen : List (List ℕ)) (found : List M) (values : List ℕ) (width : ℕ)
+  module _ {seen : List (List ℕ)} {found : List M} {values : List ℕ} {width : ℕ}
       (so_far : LinesSoFar Shows limit seen found values width) where
     -- the runs, where the last lines were blank
     runs_at_0 : width ≡ 0 → runs_between is_blank seen ≡ runs_between is_blank so_far.front
@@ -135,13 +126,13 @@ module _ {M : Type 0} (Shows : M → List (List ℕ) → Type 0) (limit : ℕ) w
     good_above_0 some =
         subst (λ (runs : List (List (List ℕ))).
         AllZip (IsMatrix limit) runs (so_far.matrices ++ map numbers_of so_far.rows ∷ [])) (sym (runs_above_0 some))
-        (zip_push (IsMatrix limit) (runs_between is_blank so_far.front) so_far.matrices so_far.rows
-        (map numbers_of so_far.rows) so_far.are_matrices
-        (block_is_matrix limit so_far.rows values width so_far.block))
+        (zip_append (IsMatrix limit) (runs_between is_blank so_far.front) so_far.matrices (so_far.rows ∷ [])
+        (map numbers_of so_far.rows ∷ []) so_far.are_matrices (block_is_matrix so_far.block, tt))
 
-    good : (w : ℕ) → width ≡ w → (matrices : List (List (List ℕ))) × AreLinesOf limit seen matrices
-    good zero is = (so_far.matrices, good_at_0 is)
-    good (suc w) is = (so_far.matrices ++ map numbers_of so_far.rows ∷ [], good_above_0 (omega (arith, is)))
+    pub lines_good : (matrices : List (List (List ℕ))) × AreLinesOf limit seen matrices
+    lines_good =
+        ⊎_elim (λ some. (so_far.matrices ++ map numbers_of so_far.rows ∷ [], good_above_0 some))
+        (λ none. (so_far.matrices, good_at_0 (omega (arith, none)))) (cases_lt 0 width)
 
     module _ (line : List ℕ) where
       -- a blank line that ends a front
@@ -149,9 +140,9 @@ module _ {M : Type 0} (Shows : M → List (List ℕ) → Type 0) (limit : ℕ) w
       with_blank blank = runs_apart is_blank seen line [] blank ∙ append-nil (runs_between is_blank seen)
 
       -- a blank line behind no rows
-      pub lines_blank : (new_values : List ℕ) (new_width : ℕ) → is_blank line ≡ true → width ≡ 0 →
+      pub lines_blank : {new_values : List ℕ} {new_width : ℕ} → is_blank line ≡ true → width ≡ 0 →
           IsBlock limit [] new_values new_width → LinesSoFar Shows limit (seen ++ line ∷ []) found new_values new_width
-      lines_blank new_values new_width blank none emptied = record {
+      lines_blank blank none emptied = record {
         front = seen ++ line ∷ [];
         rows = [];
         matrices = so_far.matrices;
@@ -164,11 +155,11 @@ module _ {M : Type 0} (Shows : M → List (List ℕ) → Type 0) (limit : ℕ) w
       }
 
       -- a blank line ends the rows of a matrix
-      pub lines_ended : (new_values : List ℕ) (new_width : ℕ) (matrix : M) → is_blank line ≡ true → 0 < width →
+      pub lines_ended : {new_values : List ℕ} {new_width : ℕ} (matrix : M) → is_blank line ≡ true → 0 < width →
           IsBlock limit [] new_values new_width →
           ((rows : List (List ℕ)) → IsBlock limit rows values width → Shows matrix (map numbers_of rows)) →
           LinesSoFar Shows limit (seen ++ line ∷ []) (found ++ matrix ∷ []) new_values new_width
-      lines_ended new_values new_width matrix blank some emptied shows = record {
+      lines_ended matrix blank some emptied shows = record {
         front = seen ++ line ∷ [];
         rows = [];
         matrices = so_far.matrices ++ map numbers_of so_far.rows ∷ [];
@@ -178,17 +169,17 @@ module _ {M : Type 0} (Shows : M → List (List ℕ) → Type 0) (limit : ℕ) w
             subst (λ (runs : List (List (List ℕ))).
             AllZip (IsMatrix limit) runs (so_far.matrices ++ map numbers_of so_far.rows ∷ [])) (sym (with_blank blank))
             (good_above_0 some);
-        shown = zip_push Shows found so_far.matrices matrix (map numbers_of so_far.rows) so_far.shown
-            (shows so_far.rows so_far.block);
+        shown = zip_append Shows found so_far.matrices (matrix ∷ []) (map numbers_of so_far.rows ∷ []) so_far.shown
+            (shows so_far.rows so_far.block, tt);
         block = emptied;
       }
 
       -- any other line is a row
-      pub lines_row : (new_values : List ℕ) (new_width : ℕ) →
+      pub lines_row : {new_values : List ℕ} {new_width : ℕ} →
           ((rows : List (List ℕ)) → IsBlock limit rows values width →
           IsBlock limit (rows ++ line ∷ []) new_values new_width) →
           LinesSoFar Shows limit (seen ++ line ∷ []) found new_values new_width
-      lines_row new_values new_width pushed = record {
+      lines_row pushed = record {
         front = so_far.front;
         rows = so_far.rows ++ line ∷ [];
         matrices = so_far.matrices;
@@ -204,7 +195,7 @@ module _ {M : Type 0} (Shows : M → List (List ℕ) → Type 0) (limit : ℕ) w
           ≡ length seen + 1 → is_blank line ≡ false →
           IsLineFault limit so_far.rows at line fault → IsFirstFault limit all fault
       lines_fault all below at fault cut at_is full faulty =
-          let there = good width refl in
+          let there = lines_good in
           let last : rows_at_end seen ≡ so_far.rows = ap rows_at_end so_far.cut
           ∙ rows_are_last so_far.front so_far.rows so_far.ended so_far.block.none_blank in
           record {
@@ -242,8 +233,8 @@ module _ {M : Type 0} (Shows : M → List (List ℕ) → Type 0) (limit : ℕ) w
     lines_end_block matrix some shows = (
       so_far.matrices ++ map numbers_of so_far.rows ∷ [],
       good_above_0 some,
-      zip_push Shows found so_far.matrices matrix (map numbers_of so_far.rows) so_far.shown
-          (shows so_far.rows so_far.block),
+      zip_append Shows found so_far.matrices (matrix ∷ []) (map numbers_of so_far.rows ∷ []) so_far.shown
+          (shows so_far.rows so_far.block, tt),
     )
 
 -- the line of a piece of an input, behind those of the first n

@@ -1,9 +1,5 @@
 pub mod ArgFacts
-pub mod NumberFacts
-pub mod ByNumber
 pub mod Runs
-pub mod BlankFacts
-pub mod RowsCut
 pub mod BlockFacts
 pub mod MatrixFacts
 pub mod InputLaws
@@ -13,9 +9,6 @@ pub mod TextFacts
 pub mod FaultFacts
 pub mod GateFacts
 pub mod TreesInNumbers
-pub mod OpenedLines
 pub mod Outcomes
 pub mod ReplyFacts
-pub mod ArgCases
 pub mod LineCases
-pub mod SomeOutcome

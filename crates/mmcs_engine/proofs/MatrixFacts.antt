@@ -1,16 +1,54 @@
 -- A stored matrix by its rows.
 use Rattle.std.proofs.Common.{◌≡◌, ℕ, ◌+◌, ◌-◌, ◌*◌, ◌/◌, ◌<◌, ◌≤◌, cond, nat_lt, List, [], ◌∷◌, length, map, take, sym}
-use Rattle.std.proofs.Common.{ap, ◌∙◌, refl, arith, inl, inr}
-use Rattle.std.proofs.lemmas.Bool.{cases_lt, lt-ltb, le-ltb}
-use Rattle.std.proofs.lemmas.List.{drop_all, length-map, get_or-map, map-id, Elements.All-get_or}
-use Rattle.std.proofs.Math.{Nat.mul-div_cancel, Nat.mul-le-mul_right, Seq.take-nil}
-use Rattle.std.specs.{Prelude.slice_index_or, Prelude.flat_map, List.AllZip}
+use Rattle.std.proofs.Common.{ap, ◌∙◌, refl, arith, inl, inr, suc, zero, ◌++◌, get_or, drop, length-append}
+use Rattle.std.proofs.lemmas.{Bool.cases_lt, Bool.lt-ltb, Bool.le-ltb, List.drop_all, List.length-map}
+use Rattle.std.proofs.lemmas.List.{get_or-map, map-id, Elements.All-get_or, Elements.All-head, Elements.All-tail}
+use Rattle.std.proofs.Math.Nat.{mul-div_cancel, mul-le-mul_right, add-mul, one-mul, zero-mul}
+use Rattle.std.proofs.Math.Seq.{take-nil, drop-append-add, take-append_seam, drop-nil}
+use Rattle.std.specs.{Prelude.slice_index_or, Prelude.flat_map, Prelude.All, Prelude.slice_range, List.AllZip}
 use Rattle.p3_support.specs.{declared.matrix.RowMajorMatrix.RowMajorMatrix, Batches.dimensions_in, Lists.message}
 use Rattle.p3_support.specs.RowMajor.{values_of, row_width, row_count}
 use Rattle.mmcs_engine.specs.{Input.numbers_of, Input.StandsFor, Inner.Blocks.IsBlock, Matrices.matrix_of_rows}
 use Rattle.mmcs_engine.specs.Inner.Stored.{stored_batch, stored_matrix}
 use Rattle.p3_merkle_core.specs.{Nodes.shape, Nodes.Matrix, Views.matrix_of}
-use Rattle.mmcs_engine.proofs.RowsCut.{length_of_rows, row_range}
+
+module _ {X : Type 0} (row : X → List ℕ) (width : ℕ) where
+  -- all the values
+  pub length_of_rows : (xs : List X) → All (λ x. length (row x) ≡ width) xs → length (flat_map row xs)
+      ≡ length xs * width
+  length_of_rows [] each = sym (zero-mul width)
+  length_of_rows (x ∷ xs) each =
+      length-append (row x) (flat_map row xs)
+      ∙ (λ i. All-head (λ y. length (row y) ≡ width) x xs each i + length_of_rows xs
+      (All-tail (λ y. length (row y) ≡ width) x xs each) i)
+      ∙ (let one = add-mul 1 (length xs) width in let unit = one-mul width in omega (arith, one, unit))
+
+  -- the values from r * width on, width of them
+  row_at : (xs : List X) (r : ℕ) → All (λ x. length (row x) ≡ width) xs →
+      take width (drop (r * width) (flat_map row xs)) ≡ get_or (map row xs) r []
+  row_at [] r each = ap (take width) (drop-nil (r * width)) ∙ take-nil width
+  row_at (x ∷ xs) zero each =
+      let fits = All-head (λ y. length (row y) ≡ width) x xs each in
+      ap (λ n. take width (drop n (row x ++ flat_map row xs))) (zero-mul width)
+      ∙ ap (λ n. take n (row x ++ flat_map row xs)) (sym fits)
+      ∙ take-append_seam (row x) (flat_map row xs)
+  row_at (x ∷ xs) (suc r) each =
+      let fits = All-head (λ y. length (row y) ≡ width) x xs each in
+      let past : suc r * width ≡ length (row x) + r * width = let more = add-mul 1 r width in
+      let unit = one-mul width in omega (arith, more, unit, fits) in
+      ap (λ n. take width (drop n (row x ++ flat_map row xs))) past
+      ∙ ap (take width) (drop-append-add (row x) (flat_map row xs) (r * width))
+      ∙ row_at xs r (All-tail (λ y. length (row y) ≡ width) x xs each)
+
+  -- the same, as a range
+  pub row_range : (xs : List X) (values : List ℕ) (r : ℕ) → All (λ x. length (row x) ≡ width) xs → values
+      ≡ flat_map row xs →
+      slice_range values (r * width) ((r + 1) * width) ≡ slice_index_or (map row xs) r []
+  row_range xs values r each values_are =
+      let wide : (r + 1) * width - r * width ≡ width = let more = add-mul r 1 width in let unit = one-mul width in
+      omega (arith, more, unit) in
+      ap (λ n. take n (drop (r * width) values)) wide ∙ ap (λ vs. take width (drop (r * width) vs)) values_are
+      ∙ row_at xs r each
 
 module _ {W : Type 0} (value : W → ℕ) where
   -- a stored matrix has these rows

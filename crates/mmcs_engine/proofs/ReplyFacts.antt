@@ -1,10 +1,9 @@
 -- What is said of a batch is said of the input's matrices, and what is told of them is the outcome.
 use Rattle.std.proofs.Common.{◌≡◌, ◌⊎◌, ⊎_elim, inl, inr, ℕ, ◌+◌, List, Option, Some, None, Result, Ok, Err, sym, refl}
 use Rattle.std.proofs.Common.{ap, ◌∙◌, subst}
-use Rattle.std.specs.{Prelude.◌↔◌, Prelude.◌<◌, Prelude.All, Prelude.IfErr, Prelude.OnOk, Io.KnownBytes.Appends}
-use Rattle.p3_merkle_core.specs.Geometry.{IsLawful, Shape}
-use Rattle.p3_merkle_core.specs.{Refusals.pruned_len_refusal, Refusals.AnswersUnlessMemory, Checks.Params, Nodes.shape}
-use Rattle.p3_merkle_core.specs.{Nodes.Batch, Pruning.IsPrunedAccepted, Pruning.PrunedOpening}
+use Rattle.std.specs.{Prelude.◌↔◌, Prelude.◌<◌, Prelude.All, Io.KnownBytes.Appends}
+use Rattle.p3_merkle_core.specs.{Geometry.IsLawful, Geometry.Shape, Refusals.pruned_len_refusal, Checks.Params}
+use Rattle.p3_merkle_core.specs.{Nodes.shape, Nodes.Batch, Pruning.IsPrunedAccepted, Pruning.PrunedOpening}
 use Rattle.p3_merkle_core.specs.declared.error.MerkleTreeError.{MerkleTreeError, TheVariants.OutOfMemory}
 use Rattle.p3_support.specs.Batches.{greatest}
 use Rattle.mmcs_engine.specs.declared.{command.Command.Command, fault.Fault.Fault}
@@ -41,13 +40,10 @@ module _ (command : Command) (indices input : List ℕ) (max n : ℕ) (max_is : 
             (layer_of_cap command.cap (shape (batch_is i)))),
       )
 
-  pub reply_fault : {V : Type 0} (result : Result V Fault) (e : MerkleTreeError) → result ≡ Err (Tree e) →
-      (e ≡ OutOfMemory) ⊎ (pruned_len_refusal s indices ≡ Some e) →
-      IfErr result (λ f. (f ≡ Tree OutOfMemory) ⊎ IsReply command indices input (Err f))
-  reply_fault {V} result e result_is told =
-      subst (λ (r : Result V Fault). IfErr r (λ f. (f ≡ Tree OutOfMemory) ⊎ IsReply command indices input (Err f)))
-      (sym result_is)
-      (⊎_elim (λ memory. inl (ap Tree memory)) (λ due. inr (matrices, stands, sym refusal_is ∙ due)) told)
+  pub reply_fault : (e : MerkleTreeError) → (e ≡ OutOfMemory) ⊎ (pruned_len_refusal s indices ≡ Some e) →
+      (Tree e ≡ Tree OutOfMemory) ⊎ IsReply command indices input (Err (Tree e))
+  reply_fault e told =
+      ⊎_elim (λ memory. inl (ap Tree memory)) (λ due. inr (matrices, stands, sym refusal_is ∙ due)) told
 
 -- ---- the outcome
 
@@ -65,9 +61,9 @@ module _ {S D V : Type 0} (remaining : S → Option (List ℕ)) (contents : D �
     (input input_left : S) (output : D) (answer : Result V Fault)
     (usage : (answer ≡ Err Usage) ↔ AreNoCommand args) (unread : answer ≡ Err Usage → input_left ≡ input) where
   -- a fault before anything is written
-  at_fault : (fault : Fault) → answer ≡ Err fault → (fault ≡ Write → ⊥) × IsReported args (remaining input) fault →
+  pub failed : (fault : Fault) → answer ≡ Err fault → (fault ≡ Write → ⊥) × IsReported args (remaining input) fault →
       IsAnswer remaining contents args input input_left output output (Err fault)
-  at_fault fault answer_is told =
+  failed fault answer_is told =
       let is_usage : ◌≡◌ {A = Result (Unit {0}) Fault} (Err fault) (Err Usage) → answer ≡ Err Usage = λ is. answer_is
       ∙ ap Err (let same : fault ≡ Usage = cc in same) in
       let told_usage : ◌≡◌ {A = Result (Unit {0}) Fault} (Err fault) (Err Usage) →
@@ -90,16 +86,6 @@ module _ {S D V : Type 0} (remaining : S → Option (List ℕ)) (contents : D �
             bytes known outcome outcome_is (Err fault) told_usage tt last told.1;
       }
 
-  pub failed_answer : (result : Result (Unit {0}) Fault) (fault : Fault) → answer ≡ Err fault → result ≡ Err fault →
-      IfErr answer (λ f. (f ≡ Write → ⊥) × IsReported args (remaining input) f) →
-      IsAnswer remaining contents args input input_left output output result
-  failed_answer result fault answer_is result_is told =
-      subst (λ (r : Result (Unit {0}) Fault). IsAnswer remaining contents args input input_left output output r)
-      (sym result_is)
-      (at_fault fault answer_is
-      (subst (λ (r : Result V Fault). IfErr r (λ f. (f ≡ Write → ⊥) × IsReported args (remaining input) f)) answer_is
-      told))
-
   -- a text that is written
   module _ (output_left : D) (value : V) (text : List ℕ) (answer_is : answer ≡ Ok value)
       (prints : Prints args (remaining input) (λ t. text ≡ t)) where
@@ -112,10 +98,9 @@ module _ {S D V : Type 0} (remaining : S → Option (List ℕ)) (contents : D �
     printed None H holds there = tt
     printed (Some bytes) H holds there = (there.0, there.1, holds there.0 there.2)
 
-    pub written_answer : (result : Result (Unit {0}) Fault) →
-        OnOk result (Appends (contents output) (contents output_left) text) → IfErr result (λ f. f ≡ Write) →
-        IsAnswer remaining contents args input input_left output output_left result
-    written_answer (Ok tt) wrote failed =
+    pub written : Appends (contents output) (contents output_left) text →
+        IsAnswer remaining contents args input input_left output output_left (Ok tt)
+    written wrote =
         let told = printed (remaining input) (λ t. Appends (contents output) (contents output_left) t)
         (λ t same. subst (λ (s : List ℕ). Appends (contents output) (contents output_left) s) same wrote) prints in
         let never : ◌≡◌ {A = Result (Unit {0}) Fault} (Ok tt) (Err Usage) → ⊥ = λ is. cc in
@@ -130,18 +115,13 @@ module _ {S D V : Type 0} (remaining : S → Option (List ℕ)) (contents : D �
               (contents output_left) bytes known outcome outcome_is (Ok tt) (λ is. absurd (never is)) told
               (λ is. absurd cc) tt;
         }
-    written_answer (Err f) wrote failed =
-        subst (λ (e : Fault). IsAnswer remaining contents args input input_left output output_left (Err e))
-        (sym failed) at_write
-      where
-        told : Prints args (remaining input) (λ t. Unit {0})
-        told = printed (remaining input) (λ t. Unit {0}) (λ t same. tt) prints
 
-        never : ◌≡◌ {A = Result (Unit {0}) Fault} (Err Write) (Err Usage) → ⊥
-        never is = cc
-
-        at_write : IsAnswer remaining contents args input input_left output output_left (Err Write)
-        at_write = record {
+    pub unwritten : IsAnswer remaining contents args input input_left output output_left (Err Write)
+    unwritten =
+        let told : Prints args (remaining input) (λ t. Unit {0}) =
+        printed (remaining input) (λ t. Unit {0}) (λ t same. tt) prints in
+        let never : ◌≡◌ {A = Result (Unit {0}) Fault} (Err Write) (Err Usage) → ⊥ = λ is. cc in
+        record {
           usage = no_usage (Err Write) never;
           unread = λ is. absurd (never is);
           silent = inl refl;
@@ -152,11 +132,6 @@ module _ {S D V : Type 0} (remaining : S → Option (List ℕ)) (contents : D �
               (contents output_left) bytes known outcome outcome_is (Err Write) (λ is. absurd (never is)) tt
               (λ is. told) tt;
         }
-
--- what fails as a call that failed for memory alone
-pub failed_alone : {U V : Type 0} (r : Result V MerkleTreeError) (checked : Result U MerkleTreeError)
-    (e : MerkleTreeError) → r ≡ Err e → checked ≡ Err e → AnswersUnlessMemory checked None → AnswersUnlessMemory r None
-failed_alone r checked e is was told = rw is (rw was at told)
 
 -- an opening that is accepted is accepted in other words
 pub accepted_lent : {T W : Type 0} (params : Shape → Params T W) (s t : Shape) (roots cap : List (List W))

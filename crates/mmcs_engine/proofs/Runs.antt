@@ -1,7 +1,8 @@
 -- The runs between elements that pass a test, taken from the front.
-use Rattle.std.proofs.Common.{◌≡◌, ◌<◌, Bool, true, false, cond, not, eqb, List, [], ◌∷◌, ◌++◌, length, refl, ap, ◌∙◌}
-use Rattle.std.proofs.{Common.arith, Common.length-append, Math.Dec.eqb-suc-zero, lemmas.List.Splits.slice_split_none}
-use Rattle.std.proofs.lemmas.List.{Splits.slice_split_at, Elements.All-nil, Elements.All-head, Elements.All-tail}
+use Rattle.std.proofs.Common.{◌≡◌, ◌<◌, Bool, true, false, cond, not, eqb, List, [], ◌∷◌, ◌++◌, length, get_or, drop}
+use Rattle.std.proofs.{Common.refl, Common.ap, Common.◌∙◌, Common.arith, Common.length-append, Math.Dec.eqb-suc-zero}
+use Rattle.std.proofs.lemmas.List.Splits.{length-slice_split, slice_split-cons_no, slice_split-cons_yes}
+use Rattle.std.proofs.lemmas.List.{Splits.slice_split_none, Splits.slice_split_at, Elements.All-head, Elements.All-tail}
 use Rattle.std.specs.{Prelude.All, Prelude.filter, List.slice_split, List.onto_first}
 use Rattle.mmcs_engine.specs.Input.{runs_between}
 
@@ -15,39 +16,29 @@ pub record HasFirstPart {X : Type 0} (p : X → Bool) (xs : List X) : Type 0 whe
   pub others : List (List X)
   pub cut : slice_split p xs ≡ first ∷ others
 
--- a list with one more element in front
-first_part_cons : {X : Type 0} (p : X → Bool) (x : X) (xs : List X) (rest : HasFirstPart p xs) (b : Bool) → p x ≡ b →
-    HasFirstPart p (x ∷ xs)
-first_part_cons p x xs rest true passes =
-    record {
-      first = [];
-      others = slice_split p xs;
-      cut = ap (λ t. cond t ([] ∷ slice_split p xs) (onto_first x (slice_split p xs))) passes;
-    }
-first_part_cons p x xs rest false fails =
-    record {
-      first = x ∷ rest.first;
-      others = rest.others;
-      cut = ap (λ t. cond t ([] ∷ slice_split p xs) (onto_first x (slice_split p xs))) fails
-          ∙ ap (onto_first x) rest.cut;
-    }
+-- a list with an element, by its first
+headed : {A : Type 0} (xs : List A) (d : A) → 0 < length xs → xs ≡ get_or xs 0 d ∷ drop 1 xs
+headed [] d some = absurd (omega (arith, some))
+headed (x ∷ xs) d some = refl
 
 -- cutting gives at least one part
 pub first_part : {X : Type 0} (p : X → Bool) (xs : List X) → HasFirstPart p xs
-first_part p [] = record { first = []; others = []; cut = refl }
-first_part p (x ∷ xs) = first_part_cons p x xs (first_part p xs) (p x) refl
+first_part p xs = record {
+  first = get_or (slice_split p xs) 0 [];
+  others = drop 1 (slice_split p xs);
+  cut = headed (slice_split p xs) [] (omega (arith, length-slice_split p xs));
+}
 
 -- elements that do not pass join the first part of what follows them
 joined_front : {X : Type 0} (p : X → Bool) (xs ys : List X) (r : HasFirstPart p ys) → All (λ x. p x ≡ false) xs →
     slice_split p (xs ++ ys) ≡ (xs ++ r.first) ∷ r.others
 joined_front p [] ys r none = r.cut
 joined_front p (x ∷ xs) ys r none =
-    ap (λ t. cond t ([] ∷ slice_split p (xs ++ ys)) (onto_first x (slice_split p (xs ++ ys))))
-    (All-head (λ y. p y ≡ false) x xs none)
+    slice_split-cons_no p x (xs ++ ys) (All-head (λ y. p y ≡ false) x xs none)
     ∙ ap (onto_first x) (joined_front p xs ys r (All-tail (λ y. p y ≡ false) x xs none))
 
 -- a list with an element is a run
-is_run_cons : {X : Type 0} (xs : List X) → 0 < length xs → is_run xs ≡ true
+pub is_run_cons : {X : Type 0} (xs : List X) → 0 < length xs → is_run xs ≡ true
 is_run_cons [] short = absurd (omega (arith, short))
 is_run_cons (x ∷ xs) long = ap not (eqb-suc-zero (length xs))
 
@@ -61,7 +52,7 @@ run_ends p xs y ys none some passes =
 -- an element that passes at the front is left out
 pub run_skips : {X : Type 0} (p : X → Bool) (y : X) (ys : List X) → p y ≡ true → runs_between p (y ∷ ys)
     ≡ runs_between p ys
-run_skips p y ys passes = ap (filter is_run) (slice_split_at p [] y ys (All-nil (λ x. p x ≡ false)) passes)
+run_skips p y ys passes = ap (filter is_run) (slice_split-cons_yes p y ys passes)
 
 -- elements that do not pass are one run
 pub run_whole : {X : Type 0} (p : X → Bool) (xs : List X) → All (λ x. p x ≡ false) xs → 0 < length xs →

@@ -1,10 +1,49 @@
 -- Lines behind lines, and digits of words.
-use Rattle.std.proofs.Common.{◌≡◌, ℕ, zero, suc, ◌+◌, ◌/◌, ◌%◌, ◌<◌, ◌≤◌, List, [], ◌∷◌, ◌++◌, length, get_or, take}
-use Rattle.std.proofs.Common.{drop, map, refl, sym, ap, ◌∙◌, ◌-◌, add-one, add-suc, add-zero, arith}
-use Rattle.std.proofs.Math.{ListN.drop_of_length-le, Seq.take-length}
-use Rattle.std.proofs.lemmas.List.{drop-append-le, flat_map_more, length-append, map_more}
-use Rattle.std.specs.Prelude.{flat_map}
-use Rattle.mmcs_engine.specs.Text.{hex_digit, hex_word}
+use Rattle.std.proofs.Common.{◌≡◌, ℕ, zero, suc, ◌+◌, ◌/◌, ◌%◌, ◌<◌, List, [], ◌∷◌, ◌++◌, length, get_or, take}
+use Rattle.std.proofs.Common.{map, sym, ap, ◌∙◌, ◌-◌, arith, append_assoc}
+use Rattle.std.proofs.lemmas.List.{flat_map_more, map_more, get_or-map, length-map, take_more}
+use Rattle.std.{specs.Prelude.flat_map, specs.Prelude.codes, proofs.lemmas.Simd.map-map, specs.declared.vec.Vec.Vec}
+use Rattle.mmcs_engine.specs.{Text.hex_digit, Text.hex_word, Text.labelled, Text.row_line, Inner.Alike.opened_lines}
+use Rattle.p3_support.specs.Shown.{row_lists, row_sets}
+use Rattle.p3_merkle_core.specs.{Nodes.Batch, Openings.honest_rows}
+
+-- what is opened of one more index
+pub queries_more : {T : Type 0} (value : T → ℕ) (b : Batch T) (sets : List (List (List T))) (indices : List ℕ)
+    (k index : ℕ) (old before named after : List ℕ) (shown : List (List ℕ)) → sets ≡ map (honest_rows b) indices →
+    k < length indices → index
+    ≡ get_or indices k 0 → before ≡ old ++ flat_map (opened_lines value b) (take k indices) → named
+    ≡ before ++ labelled (codes "index") index →
+    after ≡ named ++ flat_map row_line shown → shown ≡ map (map value) (get_or sets k []) → after
+    ≡ old ++ flat_map (opened_lines value b) (take (k + 1) indices)
+queries_more value b sets indices k index old before named after shown sets_are within index_is before_is named_is
+    after_is shown_is =
+    let F : ℕ → List ℕ = opened_lines value b in
+    let own = get_or indices k 0 in
+    let rows : get_or sets k [] ≡ honest_rows b own = ap (λ s. get_or s k []) sets_are
+    ∙ get_or-map (honest_rows b) indices k 0 [] within in
+    after_is
+    ∙ (λ i. (named_is ∙ ap (λ x. before ++ labelled (codes "index") x) index_is) i
+    ++ flat_map row_line ((shown_is ∙ ap (map (map value)) rows) i))
+    ∙ append_assoc before (labelled (codes "index") own) (flat_map row_line (map (map value) (honest_rows b own)))
+    ∙ ap (λ t. t ++ F own) before_is
+    ∙ flat_map_more F old (take k indices) own
+    ∙ ap (λ xs. old ++ flat_map F xs) (sym (take_more indices k 0 within))
+
+-- the rows that are opened of one index, as they are lent
+pub rows_opened : {T A B : Type 0} (value : T → ℕ) (sets : List (Vec (Vec T A) B)) (k : ℕ) (set : Vec (Vec T A) B)
+    (lent : List (Vec T A)) → k < length sets → set ≡ get_or sets k set → lent ≡ set.items →
+    map (λ row. map value row.items) lent ≡ map (map value) (get_or (row_sets sets) k [])
+rows_opened value sets k set lent within set_is lent_is =
+    sym (map-map (map value) (λ row. row.items) lent)
+    ∙ ap (λ rows. map (map value) (row_lists rows)) lent_is
+    ∙ ap (map (map value)) (ap (λ s. row_lists s.items) set_is
+    ∙ sym (get_or-map (λ s. row_lists s.items) sets k set [] within))
+
+-- there are as many row sets as indices
+pub sets_long : {T A B : Type 0} (sets : List (Vec (Vec T A) B)) (f : ℕ → List (List T)) (indices : List ℕ) →
+    row_sets sets ≡ map f indices → length sets ≡ length indices
+sets_long sets f indices are =
+    sym (length-map sets (λ rows. row_lists rows.items)) ∙ ap length are ∙ length-map indices f
 
 -- one more item, whose text comes behind the others'
 pub texts_more : {R V : Type 0} (text : V → List ℕ) (value : R → V) (items : List R) (i : ℕ) (item : R)
@@ -18,32 +57,9 @@ texts_more text value items i item old before after within item_is before_is aft
     ∙ ap (λ xs. old ++ flat_map text xs)
     (sym (map_more value items i item within ∙ ap (λ r. map value (take i items) ++ value r ∷ []) (sym item_is)))
 
--- a word is printed with so many digits
-pub length-hex_word : (width word : ℕ) → length (hex_word width word) ≡ width
-length-hex_word zero word = refl
-length-hex_word (suc width) word =
-    length-append (hex_word width (word / 16)) (hex_digit (word % 16) ∷ [])
-    ∙ ap (λ n. n + 1) (length-hex_word width (word / 16)) ∙ add-one width
-
--- without those in front it is printed with fewer
-pub drop-hex_word : (skipped width word : ℕ) → drop skipped (hex_word (skipped + width) word) ≡ hex_word width word
-drop-hex_word skipped zero word =
-    rw add-zero (drop_of_length-le (hex_word skipped word) (omega (arith, length-hex_word skipped word)))
-drop-hex_word skipped (suc width) word =
-    let front = hex_word (skipped + width) (word / 16) in
-    let inside : skipped ≤ length front = omega (arith, length-hex_word (skipped + width) (word / 16)) in
-    ap (λ n. drop skipped (hex_word n word)) (add-suc skipped width)
-    ∙ drop-append-le skipped front (hex_digit (word % 16) ∷ []) inside
-    ∙ ap (λ digits. digits ++ hex_digit (word % 16) ∷ []) (drop-hex_word skipped width (word / 16))
-
--- the last of eight digits, which the program takes
-pub last_digits : (width word : ℕ) (digits : List ℕ) → width ≤ 8 → digits ≡ hex_word 8 word →
-    take (8 - (8 - width)) (drop (8 - width) digits) ≡ hex_word width word
-last_digits width word digits few digits_are =
-    let skipped = 8 - width in
-    let all : 8 ≡ skipped + width = omega arith in
-    let ends : drop skipped digits ≡ hex_word width word = ap (drop skipped) digits_are
-    ∙ ap (λ n. drop skipped (hex_word n word)) all ∙ drop-hex_word skipped width word in
-    let whole : 8 - skipped ≡ length (hex_word width word) = omega (arith, length-hex_word width word) in
-    ap (take (8 - skipped)) ends
-    ∙ ap (λ n. take n (hex_word width word)) whole ∙ take-length (hex_word width word)
+-- a word in hexadecimal, from the digits ahead of its last one
+pub hex_more : (width word : ℕ) → 0 < width →
+    hex_word (width - 1) (word / 16) ++ hex_digit (word % 16) ∷ [] ≡ hex_word width word
+hex_more zero word some = absurd (omega (arith, some))
+hex_more (suc width) word some =
+    let one : suc width - 1 ≡ width = omega arith in ap (λ n. hex_word n (word / 16) ++ hex_digit (word % 16) ∷ []) one

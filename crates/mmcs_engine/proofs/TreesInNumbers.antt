@@ -1,7 +1,6 @@
 -- A tree over words is the tree over their numbers.
 use Rattle.std.proofs.Common.{◌≡◌, ℕ, List, [], ◌∷◌, ◌++◌, map, refl, sym, ap, ◌∙◌}
-use Rattle.std.proofs.lemmas.{List.map-id, Result.IfOk-weaker}
-use Rattle.std.specs.Prelude.{flat_map, IfOk, Result}
+use Rattle.std.{proofs.lemmas.List.map-id, specs.Prelude.flat_map}
 use Rattle.p3_support.specs.{Batches.dimensions_in, RowMajor.row_count, RowMajor.row_width}
 use Rattle.p3_support.specs.declared.matrix.{Dimensions.Dimensions, RowMajorMatrix.RowMajorMatrix}
 use Rattle.p3_merkle_core.specs.{Caps.cap_layer, declared.cap.CapRule.CapRule, Geometry.shape_of}
@@ -14,8 +13,23 @@ use Rattle.mmcs_engine.specs.Inner.Stored.{stored_batch, stored_matrix}
 use Rattle.mmcs_engine.specs.Text.{digest_lines, hex_lines, ok_line, query_lines}
 use Rattle.mmcs_engine.specs.Program.{functions_of_hash, hex_digits, layer_of_cap, text_of}
 use Rattle.mmcs_engine.specs.Inner.Alike.{batch_in_numbers, matrix_in_numbers, opened_text, ComputeAlike, IsSchemeOf}
-use Rattle.mmcs_engine.proofs.ByNumber.{by_number}
 use Rattle.mmcs_engine.proofs.MatrixFacts.{digests_plain, stored_dimensions, stored_plain}
+use std.Equiv.{iso_to_equiv}
+use std.Univalence.{equiv_j}
+
+-- a fact of a type of words and of what their numbers are holds where each number is the number of one word, if it
+-- holds of the numbers themselves
+pub by_number : {W : Type 0} (value : W → ℕ) → ((n : ℕ) → (w : W) × (value w ≡ n)) →
+    ((v w : W) → value v ≡ value w → v ≡ w) → (P : (T : Type 0) → (T → ℕ) → Type 0) → P ℕ (λ n. n) → P W value
+unfolding std.Equiv.id_equiv
+by_number value some_word one_word P plain =
+    equiv_j (λ T e. P T e.0) plain
+    (iso_to_equiv (record {
+      fun = value;
+      inv = λ n. (some_word n).0;
+      rinv = λ n. (some_word n).1;
+      linv = λ w. one_word (some_word (value w)).0 w (some_word (value w)).1;
+    }))
 
 -- ---- numbers stand for themselves
 
@@ -54,7 +68,7 @@ printed digits g b indices t =
     flat_map (λ i. query_lines i (honest_rows b i)) indices
     ++ digest_lines digits (boundary_by (node_in [] (layers g b)) (shape b) indices t)
 
-record InNumbers {T : Type 0} (value : T → ℕ) : Type 0 where
+pub record InNumbers {T : Type 0} (value : T → ℕ) : Type 0 where
   pub stored : (ms : List (RowMajorMatrix T)) (matrices : List (List (List ℕ))) (arity : ℕ) →
       map (stored_matrix (map value)) ms ≡ map matrix_of_rows matrices →
       batch_in_numbers value (stored_batch arity ms) ≡ batch_of_rows arity matrices
@@ -82,24 +96,13 @@ plain = record {
 module _ {T : Type 0} (value : T → ℕ) (some_word : (n : ℕ) → (w : T) × (value w ≡ n))
     (one_word : (v w : T) → value v ≡ value w → v ≡ w) where
   -- and so of words
-  in_numbers : InNumbers value
+  pub in_numbers : InNumbers value
   in_numbers = by_number value some_word one_word (λ W v. InNumbers v) plain
-
-  -- matrices that an input stands for, once they are stored
-  pub stored_in_numbers : (ms : List (RowMajorMatrix T)) (matrices : List (List (List ℕ))) (arity : ℕ) →
-      map (stored_matrix (map value)) ms ≡ map matrix_of_rows matrices →
-      batch_in_numbers value (stored_batch arity ms) ≡ batch_of_rows arity matrices
-  stored_in_numbers = in_numbers.stored
-
-  -- the shape of a batch
-  pub shape_in_numbers : (b : Batch T) → shape b ≡ shape (batch_in_numbers value b)
-  shape_in_numbers = in_numbers.same_shape
 
   -- ---- what is printed
 
-  module _ {V E : Type 0} (hash : HashName) (cap : CapChoice) (max digits : ℕ) (f : Functions T T) (cap_height : ℕ)
-      (rule : CapRule) (asked : IsSchemeOf hash cap value max digits f cap_height rule) (b : Batch T)
-      (action : Action) (indices : List ℕ) (result : Result V E) (text : V → List ℕ) where
+  module _ {hash : HashName} {cap : CapChoice} {max digits : ℕ} {f : Functions T T} {cap_height : ℕ} {rule : CapRule}
+      (asked : IsSchemeOf hash cap value max digits f cap_height rule) (b : Batch T) (indices : List ℕ) where
     abbrev numbers : Batch ℕ
     numbers = batch_in_numbers value b
 
@@ -107,43 +110,25 @@ module _ {T : Type 0} (value : T → ℕ) (some_word : (n : ℕ) → (w : T) × 
     own_layer = cap_layer (shape b) rule cap_height
 
     abbrev due : Action → List ℕ
-    due asked_for = text_of hash asked_for indices numbers (layer_of_cap cap (shape numbers))
+    due action = text_of hash action indices numbers (layer_of_cap cap (shape numbers))
 
     own_layer_is : own_layer ≡ layer_of_cap cap (shape numbers)
     own_layer_is = λ i. cap_layer (in_numbers.same_shape b i) (asked.same_rule i) (asked.same_height i)
 
-    pub commit_printed : (roots : List (List T)) → roots ≡ layer f b own_layer → action ≡ Commit →
-        IfOk result (λ v. text v ≡ hex_lines digits (map (map value) roots)) → IfOk result (λ v. text v ≡ due action)
-    commit_printed roots roots_are action_is printed_is =
-        IfOk-weaker result _ _
-        (λ v text_is. text_is
-        ∙ (λ i. hex_lines (asked.printed_digits i) (map (map value) (roots_are i)))
+    pub commit_printed : hex_lines digits (map (map value) (layer f b own_layer)) ≡ due Commit
+    commit_printed =
+        ap (λ width. hex_lines width (map (map value) (layer f b own_layer))) asked.printed_digits
         ∙ ap (hex_lines (hex_digits hash)) (in_numbers.layer_is f (functions_of_hash hash) asked.alike b own_layer)
         ∙ ap (λ l. hex_lines (hex_digits hash) (layer (functions_of_hash hash) numbers l)) own_layer_is
-        ∙ ap due (sym action_is))
-        printed_is
 
-    pub open_printed : (nodes : List (List (List T))) (lent : List ℕ) → nodes ≡ layers f b → lent ≡ indices →
-        action ≡ Open → IfOk result (λ v. text v ≡ opened_text value digits b nodes lent own_layer) →
-        IfOk result (λ v. text v ≡ due action)
-    open_printed nodes lent nodes_are same action_is printed_is =
-        IfOk-weaker result _ _
-        (λ v text_is. text_is
-        ∙ (λ i. opened_text value (asked.printed_digits i) b (nodes_are i) (same i) own_layer)
+    pub open_printed : opened_text value digits b (layers f b) indices own_layer ≡ due Open
+    open_printed =
+        ap (λ width. opened_text value width b (layers f b) indices own_layer) asked.printed_digits
         ∙ in_numbers.opened_is f (functions_of_hash hash) asked.alike b (hex_digits hash) indices own_layer
         ∙ ap (printed (hex_digits hash) (functions_of_hash hash) numbers indices) own_layer_is
-        ∙ ap due (sym action_is))
-        printed_is
 
-    pub check_printed : (lent : List ℕ) → lent ≡ indices → action ≡ Check →
-        IfOk result (λ v. text v ≡ ok_line (pruned_len (shape b) lent own_layer)) →
-        IfOk result (λ v. text v ≡ due action)
-    check_printed lent same action_is printed_is =
-        IfOk-weaker result _ _
-        (λ v text_is. text_is
-        ∙ (λ i. ok_line (pruned_len (in_numbers.same_shape b i) (same i) (own_layer_is i)))
-        ∙ ap due (sym action_is))
-        printed_is
+    pub check_printed : ok_line (pruned_len (shape b) indices own_layer) ≡ due Check
+    check_printed = λ i. ok_line (pruned_len (in_numbers.same_shape b i) indices (own_layer_is i))
 
 -- ---- stored matrices
 

@@ -1,6 +1,6 @@
 //! The arguments of a command.
 
-ghost use Rattle.std.specs.Prelude.{◌≡◌, ◌⊎◌, All, Decides, List, ℕ, IfErr, IfNone, IfOk, IfSome, map};
+ghost use Rattle.std.specs.Prelude.{◌≡◌, ◌⊎◌, All, Decides, IfErr, IfNone, IfOk, IfSome, map};
 ghost use Rattle.std.specs.Str.Parse.{digits_value};
 ghost use Rattle.p3_merkle_core.specs.declared.error.MerkleTreeError.TheVariants.{OutOfMemory};
 ghost use Rattle.mmcs_engine.specs.declared.command.{CapChoice.CapChoice, HashName.HashName};
@@ -11,7 +11,7 @@ ghost use Rattle.mmcs_engine.specs.Args.{IsNumberArg, MayFollow};
 use crate::fault::Fault;
 use crate::number::parse_number;
 use p3_merkle_core::cap::CapRule;
-use std::alloc::{AllocError, Global};
+use std::alloc::Global;
 
 /// The arguments, parsed: a command, and the indices that it opens.
 #[derive(Drop)]
@@ -88,31 +88,14 @@ impl Args {
             ((fault ≡ Tree OutOfMemory) × (AreNoCommand (texts_of args.now) → ⊥))) }
     {
         let (command, index_args) = Command::parse(args).ok_or(Fault::Usage)?;
-        let indices = indices_of(alloc, index_args)?;
+        let mut indices = Vec::with_capacity(alloc, index_args.len())?;
+        for arg in index_args {
+            if let Some(index) = parse_number(arg.as_bytes()) {
+                indices.push(index)?;
+            }
+        }
         Ok(Args { command, indices })
     }
-}
-
-/// Whether each argument is a number that fits `usize`.
-pub fn are_numbers(args: &[String]) -> bool
-    ensures { Decides result (All IsNumberArg (texts_of args.now)) }
-{
-    args.iter()
-        .all(|arg| parse_number(arg.as_bytes()).is_some())
-}
-
-/// The numbers of arguments. Each argument must be a number that fits `usize`.
-pub fn indices_of(alloc: Global, args: &[String]) -> Result<Vec<usize>, AllocError>
-    requires { All IsNumberArg (texts_of args.now) }
-    ensures { IfOk result (λ indices. indices.items ≡ map (digits_value 10) (texts_of args.now)) }
-{
-    let mut indices = Vec::with_capacity(alloc, args.len())?;
-    for arg in args {
-        if let Some(index) = parse_number(arg.as_bytes()) {
-            indices.push(index)?;
-        }
-    }
-    Ok(indices)
 }
 
 impl Command {
@@ -131,10 +114,10 @@ impl Command {
             cap: CapChoice::parse(cap.as_bytes())?,
             action: Action::parse(action.as_str())?,
         };
-        command
-            .action
-            .may_precede(index_args)
-            .then_some((command, index_args))
+        if !command.action.may_precede(index_args) {
+            return None;
+        }
+        Some((command, index_args))
     }
 }
 
@@ -204,7 +187,9 @@ impl Action {
     {
         match self {
             Action::Commit => index_args.is_empty(),
-            Action::Open | Action::Check => are_numbers(index_args),
+            Action::Open | Action::Check => index_args
+                .iter()
+                .all(|arg| parse_number(arg.as_bytes()).is_some()),
         }
     }
 }

@@ -4,7 +4,6 @@ ghost use Rattle.std.specs.Prelude.{◌≡◌};
 ghost use Rattle.p3_merkle_core.specs.declared.error.MerkleTreeError.TheVariants.{OutOfMemory};
 ghost use Rattle.mmcs_engine.specs.{declared.fault.Fault.TheVariants.Tree, Faults.status_of};
 
-use crate::process::ProgramError;
 use p3_merkle_core::error::MerkleTreeError;
 use std::alloc::{AllocError, AllocFailed};
 use thiserror::Error;
@@ -53,14 +52,6 @@ impl Fault {
             Fault::Usage => 2,
             _ => 1,
         }
-    }
-}
-
-impl ProgramError for Fault {
-    ghost status_of = { status_of };
-
-    fn status(&self) -> u8 {
-        self.status()
     }
 }
 

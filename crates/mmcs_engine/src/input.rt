@@ -136,19 +136,16 @@ impl<W: Word> Block<W> {
             let max = W::MAX as usize;
             return Err(Fault::Number { line, max });
         };
-        if self.width == 0 {
-            self.width = got;
-        }
         let expected = self.width;
-        if got == expected {
-            Ok(())
-        } else {
-            Err(Fault::Count {
+        if expected != 0 && expected != got {
+            return Err(Fault::Count {
                 line,
                 expected,
                 got,
-            })
+            });
         }
+        self.width = got;
+        Ok(())
     }
 
     /// Takes the rows, if there are any, as a matrix. The values are those of rows of `width` values each.

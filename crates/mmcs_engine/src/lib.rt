@@ -9,7 +9,5 @@ pub mod input;
 pub mod laws;
 pub mod number;
 pub mod process;
-pub mod schemes;
-pub mod streams;
 pub mod text;
 pub mod word;

@@ -1,22 +1,18 @@
 //! Printed lines.
 
-ghost use Rattle.std.specs.Prelude.{◌≡◌, ◌∷◌, ◌++◌, ◌<◌, IfOk, OnOk, decimal, flat_map, map, string_bytes};
-ghost use Rattle.mmcs_engine.specs.Text.{hex_digit, hex_line, hex_lines, hex_word, labelled, row_line};
+ghost use Rattle.std.specs.Prelude.{◌≡◌, ◌++◌, ◌<◌, OnOk, flat_map, map, string_bytes};
+ghost use Rattle.mmcs_engine.specs.Text.{hex_digit, hex_line, hex_lines, hex_word, row_line};
 
 use crate::word::Word;
-use std::alloc::{AllocError, Global};
+use std::alloc::AllocError;
 
 /// Appends a line for each digest: its words in lower case hexadecimal, one after another.
-///
-/// # Errors
-///
-/// `AllocError` if memory runs out.
 pub fn push_digests<W: Word, const D: usize>(
-    text: &mut Vec<u8>,
+    text: &mut String,
     digests: &[[W; D]],
 ) -> Result<(), AllocError>
-    ensures { OnOk result
-        (text.new.items ≡ text.old.items ++ hex_lines W.HEX_DIGITS (map (map W.value) digests.now)) }
+    ensures { OnOk result (string_bytes text.new
+        ≡ string_bytes text.old ++ hex_lines W.HEX_DIGITS (map (map W.value) digests.now)) }
 {
     for digest in digests {
         push_hex_line(text, digest)?;
@@ -24,42 +20,35 @@ pub fn push_digests<W: Word, const D: usize>(
     Ok(())
 }
 
-/// Appends a line of words in lower case hexadecimal, `W::HEX_DIGITS` digits each, one after another.
-///
-/// # Errors
-///
-/// `AllocError` if memory runs out.
-pub fn push_hex_line<W: Word>(text: &mut Vec<u8>, words: &[W]) -> Result<(), AllocError>
-    ensures { OnOk result (text.new.items ≡ text.old.items ++ hex_line W.HEX_DIGITS (map W.value words.now)) }
+/// Appends a line of words in hexadecimal.
+fn push_hex_line<W: Word>(text: &mut String, words: &[W]) -> Result<(), AllocError>
+    ensures { OnOk result (string_bytes text.new
+        ≡ string_bytes text.old ++ hex_line W.HEX_DIGITS (map W.value words.now)) }
 {
     for word in words {
-        let digits = hex_digits(word.to_number());
-        text.extend_from_slice(&digits[8 - W::HEX_DIGITS..])?;
+        push_hex(text, W::HEX_DIGITS, word.to_number())?;
     }
-    text.push(b'\n')?;
+    text.push('\n')?;
     Ok(())
 }
 
-/// The eight digits of a number in hexadecimal.
-fn hex_digits(number: u32) -> [u8; 8]
-    ensures { result ≡ hex_word 8 number }
+/// Appends the last `digits` digits of a number in lower case hexadecimal.
+fn push_hex(text: &mut String, digits: usize, number: u32) -> Result<(), AllocError>
+    ensures { OnOk result (string_bytes text.new ≡ string_bytes text.old ++ hex_word digits number) }
 {
-    [
-        hex_digit(number / 0x1000_0000 % 16),
-        hex_digit(number / 0x100_0000 % 16),
-        hex_digit(number / 0x10_0000 % 16),
-        hex_digit(number / 0x1_0000 % 16),
-        hex_digit(number / 0x1000 % 16),
-        hex_digit(number / 0x100 % 16),
-        hex_digit(number / 0x10 % 16),
-        hex_digit(number % 16),
-    ]
+    if digits == 0 {
+        return Ok(());
+    }
+    push_hex(text, digits - 1, number / 16)?;
+    text.push(char::from(hex_digit(number % 16)))?;
+    Ok(())
 }
 
 /// A digit in lower case hexadecimal, of a number below 16.
 fn hex_digit(digit: u32) -> u8
     requires { digit < 16 }
-    ensures { result ≡ hex_digit digit }
+    ensures digit { result ≡ hex_digit digit }
+    ensures ascii { result < 128 }
 {
     let digit = digit as u8;
     if digit < 10 {
@@ -70,55 +59,28 @@ fn hex_digit(digit: u32) -> u8
 }
 
 /// Appends a line for each row: its numbers in decimal, with one space between.
-///
-/// # Errors
-///
-/// `AllocError` if memory runs out.
-pub fn push_rows<W: Word>(
-    alloc: Global,
-    text: &mut Vec<u8>,
-    rows: &[Vec<W>],
-) -> Result<(), AllocError>
-    ensures { OnOk result
-        (text.new.items ≡ text.old.items ++ flat_map row_line (map (λ row. map W.value row.items) rows.now)) }
+pub fn push_rows<W: Word>(text: &mut String, rows: &[Vec<W>]) -> Result<(), AllocError>
+    ensures { OnOk result (string_bytes text.new
+        ≡ string_bytes text.old ++ flat_map row_line (map (λ row. map W.value row.items) rows.now)) }
 {
     for row in rows {
-        let line = row_line(alloc, row)?;
-        text.extend_from_slice(line.as_bytes())?;
+        push_row(text, row)?;
     }
     Ok(())
 }
 
-/// The numbers of a row in decimal, with one space between, and a line feed.
-fn row_line<W: Word>(alloc: Global, row: &[W]) -> Result<String, AllocError>
-    ensures { IfOk result (λ line. string_bytes line ≡ row_line (map W.value row.now)) }
+/// Appends a line for a row.
+fn push_row<W: Word>(text: &mut String, row: &[W]) -> Result<(), AllocError>
+    ensures { OnOk result (string_bytes text.new ≡ string_bytes text.old ++ row_line (map W.value row.now)) }
 {
     let Some((first, rest)) = row.split_first() else {
-        return String::from_str(alloc, "\n");
+        return text.push('\n');
     };
     let first = first.to_number();
-    let mut line = format!(in alloc; "{first}")?;
+    write!(text, "{first}")?;
     for word in rest {
         let number = word.to_number();
-        write!(line, " {number}")?;
+        write!(text, " {number}")?;
     }
-    line.push('\n')?;
-    Ok(line)
-}
-
-/// Appends a label, a space, a number in decimal, and a line feed.
-///
-/// # Errors
-///
-/// `AllocError` if memory runs out.
-pub fn push_labelled(
-    alloc: Global,
-    text: &mut Vec<u8>,
-    label: &str,
-    number: usize,
-) -> Result<(), AllocError>
-    ensures { OnOk result (text.new.items ≡ text.old.items ++ labelled label.now number) }
-{
-    let line = format!(in alloc; "{label} {number}\n")?;
-    text.extend_from_slice(line.as_bytes())
+    text.push('\n')
 }

@@ -7,7 +7,7 @@ ghost use Rattle.std.proofs.Common.{rules};
 pub trait Word: Copy {
     /// The greatest of them.
     const MAX: u32;
-    /// How many hexadecimal digits a word is printed with, at most 8.
+    /// How many hexadecimal digits a word is printed with.
     const HEX_DIGITS: usize;
 
     // The constants above, and which number a word is.
@@ -25,9 +25,6 @@ pub trait Word: Copy {
     /// Its number.
     fn to_number(self) -> u32
         ensures { result ≡ value self };
-
-    // Its digits are among those of 32 bits.
-    ghost at_most_eight: { HEX_DIGITS ≤ 8 };
 
     // It takes some bytes of memory.
     ghost some_bytes: { 0 < type_size Self.row };
@@ -57,8 +54,6 @@ impl Word for u8 {
         u32::from(self)
     }
 
-    ghost at_most_eight = { Prim.search rules };
-
     ghost some_bytes = { Prim.search rules };
 
     ghost some_word = { λ n. (n, refl) };
@@ -84,8 +79,6 @@ impl Word for u32 {
     fn to_number(self) -> u32 {
         self
     }
-
-    ghost at_most_eight = { Prim.search rules };
 
     ghost some_bytes = { Prim.search rules };
 

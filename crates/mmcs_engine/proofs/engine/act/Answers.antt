@@ -1,15 +1,19 @@
 -- The tree is that of the matrices that were given.
-use Rattle.std.proofs.Common.{◌≡◌, ◌∙◌, ℕ, ◌<◌, All, IfOk, Err, None, rules, sym, ap, subst}
-use Rattle.std.proofs.lemmas.Result.{err_from_is_err_and}
-use Rattle.p3_support.specs.{Batches.greatest, Shown.roots_of}
-use Rattle.p3_merkle_core.specs.{Commitments.IsCommitment, Geometry.heights, Nodes.shape, Nodes.Batch}
-use Rattle.p3_merkle_core.specs.Pruning.{pruned_len}
-use Rattle.p3_merkle_core.specs.Refusals.{pruned_len_refusal, queries_refusal, AnswersUnlessMemory}
+use Rattle.std.proofs.Common.{◌≡◌, ◌∙◌, ◌++◌, List, None, map, refl, sym, ap, subst, ⊎_elim, inl, inr}
+use Rattle.std.{proofs.Common.rules, proofs.lemmas.Result.err_from_is_err_and, specs.Prelude.flat_map}
+use Rattle.std.specs.Option.{option_or}
+use Rattle.p3_support.specs.{Batches.greatest, Shown.roots_of, Shown.row_sets}
+use Rattle.p3_merkle_core.specs.{Commitments.IsCommitment, Commitments.cap_over, Geometry.heights, Geometry.shape_of}
+use Rattle.p3_merkle_core.specs.{Nodes.shape, Nodes.Batch, Openings.honest_rows, Pruning.pruned_len, Pruning.pruned_of}
+use Rattle.p3_merkle_core.specs.{Pruning.PrunedOpening, Views.pruned_borrowed, Views.pruned_made, Geometry.Shape}
+use Rattle.p3_merkle_core.specs.Refusals.{pruned_len_refusal, queries_refusal}
 use Rattle.p3_merkle_prover.specs.Parts.{layers_of, tree_batch}
 use Rattle.p3_merkle_mmcs.specs.Schemes.{cap_layer_of, params_of}
-use Rattle.mmcs_engine.specs.{Inner.Stored.stored_batch, Text.ok_line, Inner.Alike.opened_text}
-use Rattle.mmcs_engine.proofs.GateFacts.{heights_refused, indices_refused, none_refused}
+use Rattle.mmcs_engine.specs.Inner.{Stored.stored_batch, Alike.opened_lines, Alike.opened_text}
+use Rattle.mmcs_engine.specs.Text.{digest_lines, hex_lines, ok_line}
 use Rattle.mmcs_engine.proofs.TreesInNumbers.{check_printed, commit_printed, open_printed, stored_shape}
+use Rattle.mmcs_engine.proofs.{TextFacts.sets_long, ReplyFacts.accepted_lent}
+use Rattle.mmcs_engine.specs.declared.command.Action.{Action, TheVariants.Commit, TheVariants.Open, TheVariants.Check}
 use Rattle.mmcs_engine.proofs.engine.act.{Given.Over, Goals.After-check_indices}
 use Rattle.mmcs_engine.proofs.engine.act.Goals as goal
 
@@ -37,83 +41,122 @@ same_test g c = λ i. queries_refusal
 taken : (g : Over) (c : After-check_indices g) →
     queries_refusal c.get_max_height.result c.as_slice-indices.result.now ≡ None →
     pruned_len_refusal (shape (batch_given g c)) c.args.args.now.indices.items ≡ None
-taken g c below =
-    none_refused (shape (batch_given g c)) c.args.args.now.indices.items c.in_ok-roots.ensures.answer
-    (same_test g c ∙ below)
+taken g c below = λ i. option_or (c.in_ok-roots.ensures.answer i) ((same_test g c ∙ below) i)
 
 pub returns-in_err-roots-clause-answer : goal.returns-in_err-roots-clause-answer
 returns-in_err-roots-clause-answer g c =
     let r = c.from_residual-in_err-roots in
     let left = err_from_is_err_and r.result r.ensures.1 in
-    heights_refused r.result _ (shape (stored_batch g.row.N c.args.matrices.items)) c.args.args.now.indices.items
-    (left.1 ∙ ap Err left.2) c.in_err-roots.ensures.answer
+    let tallest = greatest (heights (shape (stored_batch g.row.N c.args.matrices.items))) in
+    rw (left.1, left.2)
+    (⊎_elim inl
+    (λ due. inr (ap (λ gate. option_or gate (queries_refusal tallest c.args.args.now.indices.items)) due))
+    c.in_err-roots.ensures.answer)
 
 pub returns-in_err-check_indices-clause-answer : goal.returns-in_err-check_indices-clause-answer
 returns-in_err-check_indices-clause-answer g c =
     let at = (goal.at.returns-in_err-check_indices-clause-answer g c).After-check_indices in
     let r = c.from_residual-in_err-check_indices in
     let left = err_from_is_err_and r.result r.ensures.1 in
-    indices_refused r.result _ (shape (batch_given g at)) c.args.args.now.indices.items (left.1 ∙ ap Err left.2)
-    c.in_ok-roots.ensures.answer (same_test g at ∙ c.in_err-check_indices.ensures.answer)
+    rw (left.1, left.2) (inr (λ i. option_or (c.in_ok-roots.ensures.answer i)
+    ((same_test g at ∙ c.in_err-check_indices.ensures.answer) i)))
 
 pub returns-in-Commit-clause-text : goal.returns-in-Commit-clause-text
 returns-in-Commit-clause-text g c =
     let w = g.met.W.Word in
-    commit_printed g.W.Word.value w.some_word w.one_word _ _ _ _ _ _ _ c.requires.scheme
-    (stored_batch g.row.N c.args.matrices.items) c.args.args.now.command.action c.args.args.now.indices.items
-    c.cap_text.result (λ text. text.items) (roots_of c.in_ok-roots.roots)
-    (own g (goal.at.returns-in-Commit-clause-text g c).After-check_indices).own_cap c.in-Commit.is
-    c.cap_text.ensures.text
+    let at = (goal.at.returns-in-Commit-clause-text g c).After-check_indices in
+    let lines = λ (ds : List (List g.row.W.Denot)). hex_lines g.W.Word.HEX_DIGITS (map (map g.W.Word.value) ds) in
+    rw c.in-Commit.is
+    (c.in_ok-push_digests.ensures
+    ∙ (λ i. c.new-text.ensures.bytes i ++ lines ((c.roots.ensures ∙ (own g at).own_cap) i))
+    ∙ commit_printed g.W.Word.value w.some_word w.one_word c.requires.scheme (batch_given g at)
+    c.args.args.now.indices.items)
 
 pub returns-in-Commit-clause-answer : goal.returns-in-Commit-clause-answer
 returns-in-Commit-clause-answer g c =
-    subst (AnswersUnlessMemory c.cap_text.result)
-    (sym (taken g (goal.at.returns-in-Commit-clause-answer g c).After-check_indices
-    c.in_ok-check_indices.ensures.answer)) c.cap_text.ensures.memory
+    taken g (goal.at.returns-in-Commit-clause-answer g c).After-check_indices c.in_ok-check_indices.ensures.answer
 
 pub returns-in-Open-clause-text : goal.returns-in-Open-clause-text
 returns-in-Open-clause-text g c =
     let w = g.met.W.Word in
-    let nodes = layers_of c.in_ok-roots.tree in
-    let lent = c.as_slice-indices.result.now in
-    open_printed g.W.Word.value w.some_word w.one_word _ _ _ _ _ _ _ c.requires.scheme
-    (stored_batch g.row.N c.args.matrices.items) c.args.args.now.command.action c.args.args.now.indices.items
-    c.open_text.result (λ text. text.items) nodes lent
-    (own g (goal.at.returns-in-Open-clause-text g c).After-check_indices).own_layers
-    c.as_slice-indices.ensures.value c.in-Open.is
-    (subst (λ (b : Batch g.row.W.Denot). IfOk c.open_text.result (λ text. text.items
-    ≡ opened_text g.W.Word.value g.W.Word.HEX_DIGITS b nodes lent (cap_layer_of c.args.scheme.now (shape b))))
-    (same_batch g (goal.at.returns-in-Open-clause-text g c).After-check_indices) c.open_text.ensures.text)
+    let at = (goal.at.returns-in-Open-clause-text g c).After-check_indices in
+    let b = tree_batch c.in_ok-roots.tree in
+    let indices = c.args.args.now.indices.items in
+    let value = g.W.Word.value in
+    let width = g.W.Word.HEX_DIGITS in
+    let opened = c.in_ok-opening.ensures.opened.in_layers in
+    let layer_at = λ (x : Batch g.row.W.Denot). cap_layer_of c.args.scheme.now (shape x) in
+    rw c.in-Open.is
+    (c.in_ok-text_of_opening.ensures b
+    (ap row_sets c.deref-in-Open.ensures.value ∙ ap (λ (z : PrunedOpening _ _). z.rows) opened)
+    ∙ ap (λ ds. flat_map (opened_lines value b) c.as_slice-indices.result.now
+    ++ digest_lines width (map (map value) ds))
+    (c.deref-in-Open-2.ensures.value ∙ ap (λ (z : PrunedOpening _ _). z.digests) opened)
+    ∙ (λ i. opened_text value width (same_batch g at i) (layers_of c.in_ok-roots.tree)
+    (c.as_slice-indices.ensures.value i) (layer_at (same_batch g at i)))
+    ∙ ap (λ nodes. opened_text value width (batch_given g at) nodes indices (layer_at (batch_given g at)))
+    (own g at).own_layers
+    ∙ open_printed value w.some_word w.one_word c.requires.scheme (batch_given g at) indices)
 
 pub returns-in-Open-clause-answer : goal.returns-in-Open-clause-answer
 returns-in-Open-clause-answer g c =
-    subst (AnswersUnlessMemory c.open_text.result)
-    (sym (taken g (goal.at.returns-in-Open-clause-answer g c).After-check_indices
-    c.in_ok-check_indices.ensures.answer)) c.open_text.ensures.memory
+    taken g (goal.at.returns-in-Open-clause-answer g c).After-check_indices c.in_ok-check_indices.ensures.answer
+
+pub text_of_opening-requires : goal.text_of_opening-requires
+text_of_opening-requires g c = (
+  search rules,
+  sets_long c.deref-in-Open.result.now (honest_rows (tree_batch c.in_ok-roots.tree)) c.as_slice-indices.result.now
+      (ap row_sets c.deref-in-Open.ensures.value
+      ∙ ap (λ (z : PrunedOpening _ _). z.rows) c.in_ok-opening.ensures.opened.in_layers),
+)
+
+-- the tree is the scheme's own, so that its opening is accepted, and has as many digests as it should
+pub returns-in_err-verify_batch_pruned-clause-answer :
+    goal.returns-in_err-verify_batch_pruned-clause-answer
+returns-in_err-verify_batch_pruned-clause-answer g c =
+    let at = (goal.at.returns-in_err-verify_batch_pruned-clause-answer g c).After-check_indices in
+    let r = c.from_residual-in_err-verify_batch_pruned in
+    let left = err_from_is_err_and r.result r.ensures.1 in
+    let params = params_of c.args.scheme.now in
+    let b = tree_batch c.in_ok-roots.tree in
+    let opening = c.in_ok-opening.opening in
+    let is = c.as_slice-indices.result.now in
+    let committed = c.in_ok-roots.ensures.committed in
+    let shapes = stored_shape c.deref.result.now c.args.matrices.items c.in_ok-dimensions.dimensions.items
+    c.deref-2.result.now g.row.N c.deref-2.ensures.value c.in_ok-dimensions.ensures
+    c.deref.ensures.value ∙ ap shape (sym (same_batch g at)) in
+    let told = c.verify_batch_pruned.ensures.accepted_is_ok
+    (accepted_lent params (shape_of g.row.N c.deref-2.result.now) (shape b) (roots_of c.in_ok-roots.roots)
+    (cap_over (params (shape b)) b) (pruned_borrowed is c.deref-3.result.now opening.pruned_proof)
+    (pruned_made is opening) shapes committed.own_cap
+    (ap (λ sets. pruned_of is (row_sets sets) opening.pruned_proof.sibling_hashes.items)
+    c.deref-3.ensures.value)
+    (c.in_ok-opening.ensures.opened.is_accepted (cap_over (params (shape b)) b)
+    (record { own_layers = committed.own_layers; own_cap = refl }))) in
+    rw (left.1, left.2)
+    (⊎_elim inl (λ none. absurd cc) (rw c.in_err-verify_batch_pruned.was at told))
+
+-- what is no other action is a check
+check_left : (a : Action) → (a ≡ Commit → ⊥) → (a ≡ Open → ⊥) → a ≡ Check
+check_left Commit no_commit no_open = absurd (no_commit refl)
+check_left Open no_commit no_open = absurd (no_open refl)
+check_left Check no_commit no_open = refl
 
 pub returns-clause-text : goal.returns-clause-text
 returns-clause-text g c =
     let w = g.met.W.Word in
-    let lent = c.as_slice-indices.result.now in
-    check_printed g.W.Word.value w.some_word w.one_word _ _ _ _ _ _ _ c.requires.scheme
-    (stored_batch g.row.N c.args.matrices.items) c.args.args.now.command.action c.args.args.now.indices.items
-    c.check_text.result (λ text. text.items) lent c.as_slice-indices.ensures.value c.in-Check.is
-    (subst (λ (b : Batch g.row.W.Denot). IfOk c.check_text.result (λ text. text.items
-    ≡ ok_line (pruned_len (shape b) lent (cap_layer_of c.args.scheme.now (shape b)))))
-    (same_batch g (goal.at.returns-clause-text g c).After-check_indices) c.check_text.ensures.text)
-
-pub returns-clause-answer : goal.returns-clause-answer
-returns-clause-answer g c =
-    subst (AnswersUnlessMemory c.check_text.result)
-    (sym (taken g (goal.at.returns-clause-answer g c).After-check_indices
-    c.in_ok-check_indices.ensures.answer)) c.check_text.ensures.memory
-
-pub check_text-requires : goal.check_text-requires
-check_text-requires g c =
-    let same = sym (same_batch g (goal.at.check_text-requires g c).After-check_indices) in
-    let below = subst (λ (m : ℕ). All (λ i. i < m) c.as_slice-indices.result.now) c.get_max_height.ensures
-    c.in_ok-check_indices.ensures.below in
+    let at = (goal.at.returns-clause-text g c).After-check_indices in
+    let is = c.as_slice-indices.result.now in
+    let opening = c.in_ok-opening.opening in
     let shapes = stored_shape c.deref.result.now c.args.matrices.items c.in_ok-dimensions.dimensions.items
-    c.deref-in-Check.result.now g.row.N c.deref-in-Check.ensures.value c.in_ok-dimensions.ensures
-    c.deref.ensures.value ∙ ap shape same in
-    (search rules, (search rules, (search rules, (search rules, (below, (shapes, c.in_ok-roots.ensures.committed))))))
+    c.deref-2.result.now g.row.N c.deref-2.ensures.value c.in_ok-dimensions.ensures
+    c.deref.ensures.value in
+    let count_of = λ (s : Shape). pruned_len s is (cap_layer_of c.args.scheme.now s) in
+    rw (check_left c.args.args.now.command.action c.in_default.not-Commit c.in_default-action.not-Open)
+    (c.in_ok-format.ensures.ok
+    ∙ ap ok_line (c.len-count.ensures ∙ opening.pruned_proof.sibling_hashes.ok.0
+    ∙ (c.in_ok-verify_batch_pruned.ensures.ok_is_accepted refl).restorable.count ∙ ap count_of shapes)
+    ∙ (λ i. ok_line (pruned_len (shape (batch_given g at)) (c.as_slice-indices.ensures.value i)
+    (cap_layer_of c.args.scheme.now (shape (batch_given g at)))))
+    ∙ check_printed g.W.Word.value w.some_word w.one_word c.requires.scheme (batch_given g at)
+    c.args.args.now.indices.items)

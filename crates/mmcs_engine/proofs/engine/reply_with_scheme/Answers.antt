@@ -1,8 +1,7 @@
-use Rattle.std.proofs.{Common.◌∙◌, Common.Err, Common.ap, lemmas.Result.err_from_is_err_and}
+use Rattle.std.proofs.{Common.string_bytes, lemmas.Result.err_from_is_err_and}
 use Rattle.p3_merkle_core.specs.Nodes.{shape}
 use Rattle.mmcs_engine.specs.Inner.{Stored.stored_batch, Alike.batch_in_numbers}
-use Rattle.mmcs_engine.proofs.TreesInNumbers.{shape_in_numbers, stored_in_numbers}
-use Rattle.mmcs_engine.proofs.ReplyFacts.{reply_fault, reply_text}
+use Rattle.mmcs_engine.proofs.{TreesInNumbers.in_numbers, ReplyFacts.reply_fault, ReplyFacts.reply_text}
 use Rattle.mmcs_engine.proofs.engine.reply_with_scheme.Goals as goal
 
 pub returns-in_err-act-clause-fault : goal.returns-in_err-act-clause-fault
@@ -11,12 +10,13 @@ returns-in_err-act-clause-fault g c =
     let given = stored_batch g.row.N c.in_ok-matrices.matrices.items in
     let found = c.in_ok-matrices.ensures.matrices in
     let read = rw c.deref.ensures.value at found.1 in
+    let numbers = in_numbers g.W.Word.value w.some_word w.one_word in
     let left = err_from_is_err_and c.from_residual-in_err-act.result c.from_residual-in_err-act.ensures.1 in
-    reply_fault c.args.args.now.command c.args.args.now.indices.items c.args.input.items g.W.Word.MAX g.row.N
+    rw (left.1, left.2)
+    (reply_fault c.args.args.now.command c.args.args.now.indices.items c.args.input.items g.W.Word.MAX g.row.N
     c.requires.scheme.greatest_word c.requires.arity found.0 read (batch_in_numbers g.W.Word.value given)
-    (stored_in_numbers g.W.Word.value w.some_word w.one_word c.in_ok-matrices.matrices.items found.0 g.row.N found.2)
-    (shape given) (shape_in_numbers g.W.Word.value w.some_word w.one_word given) c.from_residual-in_err-act.result _
-    (left.1 ∙ ap Err left.2) c.in_err-act.ensures.answer
+    (numbers.stored c.in_ok-matrices.matrices.items found.0 g.row.N found.2) (shape given) (numbers.same_shape given) _
+    c.in_err-act.ensures.answer)
 
 pub returns-clause-text : goal.returns-clause-text
 returns-clause-text g c =
@@ -24,8 +24,8 @@ returns-clause-text g c =
     let given = stored_batch g.row.N c.in_ok-matrices.matrices.items in
     let found = c.in_ok-matrices.ensures.matrices in
     let read = rw c.deref.ensures.value at found.1 in
+    let numbers = in_numbers g.W.Word.value w.some_word w.one_word in
     reply_text c.args.args.now.command c.args.args.now.indices.items c.args.input.items g.W.Word.MAX g.row.N
     c.requires.scheme.greatest_word c.requires.arity found.0 read (batch_in_numbers g.W.Word.value given)
-    (stored_in_numbers g.W.Word.value w.some_word w.one_word c.in_ok-matrices.matrices.items found.0 g.row.N found.2)
-    (shape given) (shape_in_numbers g.W.Word.value w.some_word w.one_word given) c.in_ok-act.field-0.items
-    c.in_ok-act.ensures.answer c.in_ok-act.ensures.text
+    (numbers.stored c.in_ok-matrices.matrices.items found.0 g.row.N found.2) (shape given) (numbers.same_shape given)
+    (string_bytes c.in_ok-act.field-0) c.in_ok-act.ensures.answer c.in_ok-act.ensures.text

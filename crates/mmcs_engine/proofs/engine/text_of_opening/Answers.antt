@@ -1,21 +1,19 @@
 use Rattle.std.proofs.Common.{◌++◌, ◌∙◌, [], ap, sym, map, length, append_assoc, refl, arith}
-use Rattle.std.specs.Prelude.{codes, flat_map}
-use Rattle.std.proofs.lemmas.List.{length-map, take_all}
-use Rattle.mmcs_engine.specs.{Text.hex_lines, Text.labelled, Text.row_line, Inner.Alike.opened_lines}
-use Rattle.mmcs_engine.proofs.OpenedLines.{queries_more, rows_opened}
+use Rattle.std.{specs.Prelude.codes, specs.Prelude.flat_map, proofs.lemmas.List.length-map, proofs.lemmas.List.take_all}
+use Rattle.mmcs_engine.specs.{Text.hex_lines, Text.labelled, Inner.Alike.opened_lines}
+use Rattle.mmcs_engine.proofs.TextFacts.{queries_more, rows_opened}
 use Rattle.mmcs_engine.proofs.engine.text_of_opening.Goals as goal
 
 pub loop-query-init : goal.loop-query-init
-loop-query-init g c = λ b are. c.new-text.ensures.items
+loop-query-init g c = λ b are. c.new-text.ensures.bytes
 
 pub loop-query-preserved : goal.loop-query-preserved
 loop-query-preserved g c = λ b are.
-    queries_more g.W.Word.value b _ c.args.indices.now c.loop-query.query _ [] _ _ _ are c.loop-query-test.true refl
-    (c.loop-query.invariant b are) c.in_ok-push_labelled.ensures
-    (c.in_ok-push_rows.ensures
-    ∙ ap (λ rows. c.push_labelled.new.text.items ++ flat_map row_line rows)
+    queries_more g.W.Word.value b _ c.args.indices.now c.loop-query.query _ [] _ _ _ _ are c.loop-query-test.true refl
+    (c.loop-query.invariant b are) c.in_ok-write.ensures.bytes
+    c.in_ok-push_rows.ensures
     (rows_opened g.W.Word.value c.args.opened.now c.loop-query.query c.index-opened-query.result c.deref.result.now
-    (omega (arith, c.requires)) c.index-opened-query.is c.deref.ensures.value))
+    (omega (arith, c.requires)) c.index-opened-query.is c.deref.ensures.value)
 
 pub returns : goal.returns
 returns g c = λ b are.
@@ -25,7 +23,7 @@ returns g c = λ b are.
     let lines = flat_map (opened_lines value b) c.args.indices.now in
     c.in_ok-push_digests.ensures
     ∙ ap (λ text. text ++ hex_lines width digests)
-    (c.in_ok-push_labelled-2.ensures
+    (c.in_ok-write-2.ensures.bytes
     ∙ (λ i. (c.loop-query.invariant b are ∙ ap (λ is. flat_map (opened_lines value b) is)
     (take_all c.loop-query.query c.args.indices.now c.loop-query-test.false)) i
     ++ labelled (codes "digests") (sym (length-map c.args.digests.now (map value)) i)))

@@ -1,6 +1,5 @@
 use Rattle.std.proofs.Common.{◌+◌, ◌≡◌, ◌≤◌, ◌++◌, Option, ℕ, length, map, sym, refl, ◌∙◌, subst, arith}
-use Rattle.std.specs.Prelude.{All}
-use Rattle.std.proofs.lemmas.List.{length-map}
+use Rattle.std.{specs.Prelude.All, proofs.lemmas.List.length-map}
 use Rattle.mmcs_engine.specs.{Numbers.IsNumberBelow, Input.numbers_of, Input.numerals_of}
 use Rattle.mmcs_engine.proofs.RowFacts.{RowSoFar, none_told, row_start, row_gap, row_ended, row_more, row_refused}
 use Rattle.mmcs_engine.proofs.RowFacts.{row_counted, row_end, row_end_number, row_fits, some_told, words_push}

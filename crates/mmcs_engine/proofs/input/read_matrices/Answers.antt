@@ -2,10 +2,9 @@
 use Rattle.std.proofs.Common.{◌≡◌, ◌+◌, ◌==◌, ◌<◌, ◌≤◌, List, ℕ, length, drop, get_or, map, sym, refl, ◌∙◌, subst, inl}
 use Rattle.std.proofs.{Common.arith, Common.rules, lemmas.Result.err_from_is_err_and}
 use Rattle.std.specs.{Prelude.IfNone, Prelude.IfSome, List.slice_split}
-use Rattle.mmcs_engine.specs.Input.{pieces_of}
-use Rattle.mmcs_engine.proofs.InputFacts.{LinesSoFar, lines_fit, lines_start, lines_blank, lines_ended, lines_row}
-use Rattle.mmcs_engine.proofs.InputFacts.{lines_refused, lines_end, lines_end_block, next_piece, pieces_all, pieces_cut}
-use Rattle.mmcs_engine.proofs.InputFacts.{pieces_more, seen_is}
+use Rattle.mmcs_engine.{specs.Input.pieces_of, proofs.InputFacts.LinesSoFar, proofs.InputFacts.lines_fit}
+use Rattle.mmcs_engine.proofs.InputFacts.{lines_start, lines_blank, lines_ended, lines_row, lines_refused, lines_end}
+use Rattle.mmcs_engine.proofs.InputFacts.{lines_end_block, next_piece, pieces_all, pieces_cut, pieces_more, seen_is}
 use Rattle.mmcs_engine.proofs.MatrixFacts.{Shows, matrices_found}
 use Rattle.mmcs_engine.proofs.input.read_matrices.{Given.Over, Goals.After-cut_line}
 use Rattle.mmcs_engine.proofs.input.read_matrices.Goals.{in-Some-take_matrix-2+in_ok-push-2, in_default-take_matrix-2}
@@ -35,15 +34,13 @@ loop-rest-init g c = record {
   left = refl;
   none = tt;
   lines = rw c.new-matrices.ensures.items
-      (lines_start (Shows g.W.Word.value) (g.W.Word.MAX + 1) (map g.W.Word.value c.new-block.result.values.items)
-      c.new-block.result.width (c.new-block.ensures (g.W.Word.MAX + 1)));
+      (lines_start (c.new-block.ensures (g.W.Word.MAX + 1)));
 }
 
 -- a blank line ends the matrix
 pub loop-rest-preserved-in-Continue-1 : goal.loop-rest-preserved-in-Continue-1
 loop-rest-preserved-in-Continue-1 g c =
     let t = turn g (goal.at.loop-rest-preserved-in-Continue-1 g c).After-cut_line in
-    let new = c.take_matrix.new.self in
     record {
       left = t.2;
       none = t.3;
@@ -53,11 +50,8 @@ loop-rest-preserved-in-Continue-1 g c =
             pieces_more c.args.input.now c.loop-rest.line c.cut_line.result.0.now
                 c.without_return-text.result.now t.0 t.1 c.without_return-text.ensures,
           )
-          (lines_ended (Shows g.W.Word.value) (g.W.Word.MAX + 1) _ c.loop-rest.matrices.items
-          (map g.W.Word.value c.loop-rest.block.values.items) c.loop-rest.block.width c.loop-rest.invariant.lines
-          c.without_return-text.result.now
-          (map g.W.Word.value new.values.items) new.width c.in-Some-take_matrix.matrix (sym c.is_blank.ensures
-          ∙ c.if-is_blank.true) c.in-Some-take_matrix.ensures.some
+          (lines_ended c.loop-rest.invariant.lines c.without_return-text.result.now c.in-Some-take_matrix.matrix
+          (sym c.is_blank.ensures ∙ c.if-is_blank.true) c.in-Some-take_matrix.ensures.some
           (c.take_matrix.ensures.emptied (g.W.Word.MAX + 1))
           (c.in-Some-take_matrix.ensures.matrix (g.W.Word.MAX + 1)));
     }
@@ -66,17 +60,14 @@ loop-rest-preserved-in-Continue-1 g c =
 pub loop-rest-preserved-in_default-take_matrix : goal.loop-rest-preserved-in_default-take_matrix
 loop-rest-preserved-in_default-take_matrix g c =
     let t = turn g (goal.at.loop-rest-preserved-in_default-take_matrix g c).After-cut_line in
-    let new = c.take_matrix.new.self in
     record {
       left = t.2;
       none = t.3;
       lines =
           rw (pieces_more c.args.input.now c.loop-rest.line c.cut_line.result.0.now c.without_return-text.result.now t.0
           t.1 c.without_return-text.ensures)
-          (lines_blank (Shows g.W.Word.value) (g.W.Word.MAX + 1) _ c.loop-rest.matrices.items
-          (map g.W.Word.value c.loop-rest.block.values.items) c.loop-rest.block.width c.loop-rest.invariant.lines
-          c.without_return-text.result.now
-          (map g.W.Word.value new.values.items) new.width (sym c.is_blank.ensures ∙ c.if-is_blank.true)
+          (lines_blank c.loop-rest.invariant.lines c.without_return-text.result.now
+          (sym c.is_blank.ensures ∙ c.if-is_blank.true)
           c.in_default-take_matrix.ensures.none (c.take_matrix.ensures.emptied (g.W.Word.MAX + 1)));
     }
 
@@ -84,17 +75,13 @@ loop-rest-preserved-in_default-take_matrix g c =
 pub loop-rest-preserved : goal.loop-rest-preserved
 loop-rest-preserved g c =
     let t = turn g (goal.at.loop-rest-preserved g c).After-cut_line in
-    let new = c.push_row.new.self in
     record {
       left = t.2;
       none = t.3;
       lines =
           rw (pieces_more c.args.input.now c.loop-rest.line c.cut_line.result.0.now c.without_return-text.result.now t.0
           t.1 c.without_return-text.ensures)
-          (lines_row (Shows g.W.Word.value) (g.W.Word.MAX + 1) _ c.loop-rest.matrices.items
-          (map g.W.Word.value c.loop-rest.block.values.items) c.loop-rest.block.width c.loop-rest.invariant.lines
-          c.without_return-text.result.now
-          (map g.W.Word.value new.values.items) new.width c.in_ok-push_row.ensures.row);
+          (lines_row c.loop-rest.invariant.lines c.without_return-text.result.now c.in_ok-push_row.ensures.row);
     }
 
 -- the first faulty line
@@ -106,10 +93,7 @@ returns-in_err-push_row-clause-fault g c =
     let seen = seen_is c.args.input.now n c.cut_line.result.0.now c.without_return-text.result.now t.0 t.1
     c.without_return-text.ensures in
     rw (left.1, left.2)
-    (lines_refused (Shows g.W.Word.value) (g.W.Word.MAX + 1) _ c.loop-rest.matrices.items
-    (map g.W.Word.value c.loop-rest.block.values.items) c.loop-rest.block.width c.loop-rest.invariant.lines
-    c.without_return-text.result.now
-    (pieces_of c.args.input.now) _ _ c.in_err-push_row.field-0.0
+    (lines_refused c.loop-rest.invariant.lines c.without_return-text.result.now (pieces_of c.args.input.now) _ _ _
     (pieces_cut c.args.input.now n c.cut_line.result.0.now c.without_return-text.result.now t.0 t.1
     c.without_return-text.ensures)
     (omega (arith, seen)) (sym c.is_blank.ensures ∙ c.if-is_blank.false) c.in_err-push_row.ensures.fault)
@@ -126,15 +110,11 @@ returns-clause-matrices g c =
           let m = w.in-Some-take_matrix-2 in
           rw (w.matrices-is, w.in_ok-push-2.ensures.items)
           (matrices_found g.W.Word.value limit c.args.input.now _
-          (lines_end_block (Shows g.W.Word.value) limit (pieces_of c.args.input.now) c.loop-rest.matrices.items
-          (map g.W.Word.value c.loop-rest.block.values.items) c.loop-rest.block.width lines m.matrix m.ensures.some
-          (m.ensures.matrix limit)))
+          (lines_end_block lines m.matrix m.ensures.some (m.ensures.matrix limit)))
       | in_default-take_matrix-2 w ↦
           rw w.matrices-is
           (matrices_found g.W.Word.value limit c.args.input.now _
-          (lines_end (Shows g.W.Word.value) limit (pieces_of c.args.input.now) c.loop-rest.matrices.items
-          (map g.W.Word.value c.loop-rest.block.values.items) c.loop-rest.block.width lines
-          w.in_default-take_matrix-2.ensures.none))
+          (lines_end lines w.in_default-take_matrix-2.ensures.none))
     ]
 
 -- the rows so far are a block

@@ -1,12 +1,20 @@
-use Rattle.std.proofs.Common.{rules, sym, ◌∙◌}
-use Rattle.mmcs_engine.proofs.NumberFacts.{no_number_from_bytes}
+use Rattle.std.proofs.Common.{◌≡◌, List, ℕ, None, Result, Ok, Err, rules, sym, ◌∙◌, ◌^◌}
+use Rattle.std.proofs.lemmas.{Str.IsUtf8-from_ascii, Fmt.IsAscii-from_digits}
+use Rattle.std.specs.{Result.MatchResult, Result.result_ok, Str.IsUtf8}
+use Rattle.mmcs_engine.specs.Numbers.{IsNumberBelow}
 use Rattle.mmcs_engine.proofs.number.parse_number.Goals as goal
 
--- digits are text
+-- bytes that are no text are no number: digits are text
+no_number : {S E : Type 0} (Y : S → Type 0) (N : E → Type 0) (bytes : List ℕ) (r : Result S E) → result_ok r ≡ None →
+    MatchResult r Y (λ e. ((IsUtf8 bytes) → ⊥) × N e) → (IsNumberBelow (2 ^ 64) bytes → ⊥)
+no_number Y N bytes (Ok s) none said = absurd cc
+no_number Y N bytes (Err e) none said =
+    λ number. said.0 (IsUtf8-from_ascii bytes (IsAscii-from_digits bytes number.numeral.1))
+
 pub returns-in_err-text : goal.returns-in_err-text
 returns-in_err-text c =
     rw c.from_residual.ensures
-    (no_number_from_bytes _ _ c.args.digits.now c.from_utf8.result (sym c.ok.ensures.value ∙ c.in_err-text.was)
+    (no_number _ _ c.args.digits.now c.from_utf8.result (sym c.ok.ensures.value ∙ c.in_err-text.was)
     c.from_utf8.ensures.cases)
 
 pub returns : goal.returns

@@ -1,27 +1,22 @@
-use Rattle.std.proofs.Common.{◌∙◌, ◌++◌, ◌∷◌, [], ◌-◌, ap, append_assoc, drop, map, take}
-use Rattle.std.specs.Prelude.{flat_map}
-use Rattle.std.proofs.lemmas.List.{take_all}
-use Rattle.mmcs_engine.specs.Text.{hex_word}
-use Rattle.mmcs_engine.proofs.TextFacts.{last_digits, texts_more}
+use Rattle.std.proofs.Common.{◌∙◌, ◌++◌, ◌∷◌, [], ap, append_assoc, arith, map, string_bytes}
+use Rattle.std.{proofs.lemmas.Str.encode_ascii, specs.Prelude.flat_map, proofs.lemmas.List.take_all}
+use Rattle.mmcs_engine.{specs.Text.hex_word, proofs.TextFacts.texts_more}
 use Rattle.mmcs_engine.proofs.text.push_hex_line.Goals as goal
 
 pub loop-word-preserved : goal.loop-word-preserved
 loop-word-preserved g c =
-    let digits = c.hex_digits-digits.result in
-    let printed = last_digits g.W.Word.HEX_DIGITS (g.W.Word.value c.word-item.result) digits
-    g.met.W.Word.at_most_eight (c.hex_digits-digits.ensures ∙ ap (hex_word 8) c.to_number.ensures) in
+    let before = string_bytes c.loop-word.text in
     texts_more (hex_word g.W.Word.HEX_DIGITS) g.W.Word.value c.args.words.now c.loop-word.word-index c.word-item.result
-    c.args.text.now.items c.loop-word.text.items _ c.loop-word-test.true c.word-item.is c.loop-word.invariant
-    (c.in_ok-extend_from_slice.ensures.items
-    ∙ ap (λ width. c.loop-word.text.items ++ take (8 - (8 - width)) (drop (8 - width) digits)) c.HEX_DIGITS.ensures
-    ∙ ap (λ text. c.loop-word.text.items ++ text) printed)
+    (string_bytes c.args.text.now) before _ c.loop-word-test.true c.word-item.is c.loop-word.invariant
+    (c.in_ok-push_hex.ensures
+    ∙ (λ i. before ++ hex_word (c.HEX_DIGITS.ensures i) (c.to_number.ensures i)))
 
 pub returns : goal.returns
 returns g c =
     let digits = hex_word g.W.Word.HEX_DIGITS in
     let value = g.W.Word.value in
-    let old = c.args.text.now.items in
-    c.in_ok-push.ensures.items
+    let old = string_bytes c.args.text.now in
+    c.in_ok-push.ensures.bytes ∙ ap (λ end. string_bytes c.loop-word.text ++ end) (encode_ascii 10 (omega arith))
     ∙ ap (λ text. text ++ 10 ∷ []) (c.loop-word.invariant
     ∙ ap (λ words. old ++ flat_map digits (map value words))
     (take_all c.loop-word.word-index c.args.words.now c.loop-word-test.false))

@@ -1,14 +1,20 @@
-use Rattle.mmcs_engine.proofs.ArgFacts.{cap_fixed, no_cap_fixed, with_mark}
+use Rattle.std.proofs.{Common.◌∷◌, Common.[], Common.Some, lemmas.Bool.Decides.Decides-eqb}
+use Rattle.std.proofs.lemmas.Slice.Eq.{strip_suffix_is}
+use Rattle.p3_merkle_core.specs.declared.cap.CapRule.TheVariants.{Fixed}
+use Rattle.mmcs_engine.proofs.ArgFacts.{only_cap}
 use Rattle.mmcs_engine.proofs.command.CapChoice.parse.Goals as goal
 
 pub returns-in_err-height-clause-none : goal.returns-in_err-height-clause-none
 returns-in_err-height-clause-none c =
-    rw c.from_residual.ensures
-    (λ cap spelled. no_cap_fixed c.args.arg.now c.in-Some.digits.now cap
-    (with_mark c.args.arg.now c.in-Some.digits.now c.in-Some.ensures.cases) c.in_err-height.ensures spelled)
+    let cut = strip_suffix_is Decides-eqb c.args.arg.now (102 ∷ []) (Some c.in-Some.digits) c.in-Some.ensures.cases in
+    rw c.from_residual.ensures (λ cap spelled. c.in_err-height.ensures
+    (only_cap c.args.arg.now c.in-Some.digits.now Fixed (record { cut = cut; unmarked = λ apart. absurd cc }) cap
+    spelled).1)
 
 pub returns-in-Some-clause-found : goal.returns-in-Some-clause-found
-returns-in-Some-clause-found c =
-    let number = c.in_ok-height.ensures in
-    cap_fixed c.args.arg.now c.in-Some.digits.now _
-    (with_mark c.args.arg.now c.in-Some.digits.now c.in-Some.ensures.cases) (number.0, number.1)
+returns-in-Some-clause-found c = (
+  c.in-Some.digits.now,
+  strip_suffix_is Decides-eqb c.args.arg.now (102 ∷ []) (Some c.in-Some.digits) c.in-Some.ensures.cases,
+  c.in_ok-height.ensures.0,
+  c.in_ok-height.ensures.1,
+)
