@@ -1,29 +1,29 @@
 -- Proofs of entries are made, and are accepted.
 use Rattle.std.proofs.Common.{◌≡◌, ◌≤◌, ◌<◌, ◌-◌, ◌∙◌, ℕ, List, [], ◌∷◌, ap, arith, get_or, length, map, refl, subst}
 use Rattle.std.proofs.Common.{sym, take, None, Some, Ok, Option, ◌^◌, Bool, true, is_some, All, map-id, le-leb}
-use Rattle.std.proofs.{Common.get_or-take, Common.inl, Common.inr, Common.ne_eqb, Common.◌↔◌, lemmas.Bool.cases_eq}
-use Rattle.std.proofs.lemmas.{Bool.eq-eqb, Simd.map-map, List.Folds.flat_map-map, List.get_or-map, List.length-map}
+use Rattle.std.proofs.Common.{get_or-take, inl, inr, ne_eqb, ◌↔◌}
 use Rattle.std.proofs.lemmas.List.Elements.{All-drop, All-head, All-map, All-tail, All-take}
-use Rattle.std.specs.{List.flat_map, Option.option_map}
+use Rattle.std.proofs.lemmas.{Bool.cases_eq, Bool.eq-eqb, List.get_or-map, List.length-map, List.Folds.flat_map-map}
+use Rattle.std.{proofs.lemmas.Simd.map-map, specs.List.flat_map, specs.Option.option_map}
 use Rattle.p3_merkle_core.specs.Refusals.{first_of, ok_unless}
 use Rattle.sha2.specs.Sha256.{sha256}
 use Rattle.tlog.specs.{Rfc9162.leaf_hash, Rfc9162.root_of, Verdicts.size_limit}
 use Rattle.tlog_tree.specs.Trees.{leaves_root, node_at}
-use Rattle.tlog_entries.specs.Entries.{entries_refusal, proof_nodes}
-use Rattle.tlog_entries.proofs.EntriesFacts.{unrefused as included_only}
-use Rattle.tlog_entries.proofs.{HonestEntries.honest_included, Leaves.mth_map, Smallest.nodes_within}
-use Rattle.log_text.specs.{Reading.checkpoint_in, Reading.entries_in as proof_in, Texts.IsEntriesProof}
-use Rattle.log_text.specs.Texts.{IsEntry, entries_text, CheckpointFields, EntriesFields, EntryFields, IsDigest}
+use Rattle.tlog_entries.proofs.{EntriesFacts.unrefused as included_only, HonestEntries.honest_included, Leaves.mth_map}
+use Rattle.tlog_entries.{proofs.Smallest.nodes_within, specs.Entries.entries_refusal, specs.Entries.proof_nodes}
+use Rattle.log_text.specs.Texts.{IsEntriesProof, IsEntry, entries_text, CheckpointFields, EntriesFields, EntryFields}
 use Rattle.log_text.proofs.{NoteLaws.notes, ProofLaws.entries_proofs}
+use Rattle.log_text.specs.{Reading.checkpoint_in, Reading.entries_in as proof_in, Texts.IsDigest}
 use Rattle.log_files.specs.{Entries.entries_in, Entries.entry_at, declared.cut.Cut.Cut}
-use Rattle.log_commands.specs.{Commands.prove_file, Commands.AreNumbers, Errors.entries_error, Outcomes.is_printable}
-use Rattle.log_commands.specs.Outcomes.{said_by, checkpoint_of, entries_under, entry_refusal, number_refusal, requested}
-use Rattle.log_commands.specs.Outcomes.{first_other, numbers_refusal, printed, proof_over, proof_refusal, prove_under}
+use Rattle.log_commands.specs.Outcomes.{is_printable, said_by, checkpoint_of, entries_under, entry_refusal}
+use Rattle.log_commands.specs.Outcomes.{number_refusal, requested, first_other, numbers_refusal, printed, proof_over}
 use Rattle.log_commands.specs.Laws.{printed_of, AreRequested, CanSay, NumbersAreCompared, ProofsAreAccepted}
-use Rattle.log_commands.specs.Laws.{ProofsAreProved}
+use Rattle.log_commands.specs.{Commands.prove_file, Commands.AreNumbers, Errors.entries_error, Laws.ProofsAreProved}
+use Rattle.log_commands.specs.Outcomes.{proof_refusal, prove_under}
 use Rattle.log_commands.specs.declared.{error.Source.TheVariants.Checkpoint, verify.Print.Print}
-use Rattle.log_commands.proofs.{FileLaws.prints, ProveFacts.numbers_inside, ProveFacts.within_size}
-use Rattle.log_commands.proofs.LawFacts.{are_under, digest_is, first_under, none_of, ok_none, root_is, said_ok, stepped}
+use Rattle.log_commands.proofs.OutcomeFacts.{are_under, digest_is, first_under, none_of, ok_none, root_is, said_ok}
+use Rattle.log_commands.proofs.OutcomeFacts.{prints, stepped}
+use Rattle.log_commands.proofs.ProveFacts.{numbers_inside, within_size}
 
 numbers_pass : (size : ℕ) (numbers : List ℕ) → All (λ n. n ≤ size) numbers →
     first_of (number_refusal size) numbers ≡ None
@@ -199,7 +199,8 @@ proofs_are_accepted cut print checkpoint file numbers asked proof is fits are ca
     let to = numbers_inside size numbers few in
     let inside : All (λ n. n ≤ length entries) numbers = subst (λ n. All (λ k. k ≤ n) numbers) (sym len) to in
     let q : EntriesFields = proof_over entries numbers in
-    let fields = is_text entries numbers are inside (omega (arith, len, small)) (still_said all size numbers are.1 to can)
+    let fields =
+    is_text entries numbers are inside (omega (arith, len, small)) (still_said all size numbers are.1 to can)
     in
     let read : proof_in proof ≡ Ok q =
     (entries_proofs proof q).1

@@ -14,14 +14,14 @@ use Rattle.tlog.proofs.{Accepted.consistency_accepted, Layers.itself, Roots.proo
 use Rattle.tlog.proofs.Honest.{honest_grown, root_of_none, sub_whole}
 use Rattle.log_text.specs.Reading.{checkpoint_in, consistency_in}
 use Rattle.log_text.specs.Texts.{consistency_text, CheckpointFields, ConsistencyFields, IsConsistencyProof, IsDigest}
-use Rattle.log_text.proofs.{NoteLaws.notes, ProofLaws.consistency_proofs}
+use Rattle.log_text.proofs.{ProofLaws.consistency_proofs, NoteLaws.notes}
 use Rattle.log_commands.specs.{Laws.GrowthIsAccepted, Laws.GrowthIsProved, Outcomes.verify_consistency_outcome}
 use Rattle.log_commands.specs.Outcomes.{and_then, checkpoint_of, compared, consistency_refused, entries_under}
 use Rattle.log_commands.specs.Outcomes.{growth_digests, growth_refusal, growth_text, prove_growth, said_by}
 use Rattle.log_commands.specs.declared.error.{Error.TheVariants.Refused, Source.Source}
 use Rattle.log_commands.specs.declared.error.Refusal.TheVariants.{Consistency, OtherOldEntries}
 use Rattle.log_commands.specs.declared.error.Source.TheVariants.{File, New, Old, Proof}
-use Rattle.log_commands.proofs.LawFacts.{are_under, entries_root, first_under, ok_none, said_ok, stepped}
+use Rattle.log_commands.proofs.OutcomeFacts.{are_under, entries_root, first_under, ok_none, said_ok, stepped}
 use Rattle.tlog_tree.specs.Trees.{all_there, values_at}
 use Rattle.tlog_entries.proofs.Subproofs.{subproof_map}
 
@@ -117,7 +117,8 @@ growth_is_accepted cut old new file proof is =
     let digests = growth_digests o.size entries in
     let p : ConsistencyFields = record { old_size = o.size; digests = digests; checkpoint = new } in
     let refusal = consistency_refusal sha256 o.size n.size digests o.root n.root in
-    let (none, text_is) = ok_none (option_map (λ e. Refused File OtherOldEntries) refusal) (consistency_text p) proof last in
+    let (none, text_is) =
+    ok_none (option_map (λ e. Refused File OtherOldEntries) refusal) (consistency_text p) proof last in
     let accepted = map_none (λ (e : ProofError). Refused File OtherOldEntries) refusal none in
     let ordered : o.size ≤ n.size =
     let size = none_parts (unless (nat_le o.size n.size) _) _
@@ -149,7 +150,8 @@ grown : (first more : List (List ℕ)) → length (first ++ more) ≤ size_limit
     (root_of sha256 first) (root_of sha256 (first ++ more))
 grown [] more small = record {
   ordered = omega arith;
-  from_nothing = λ z. (refl, root_of_none sha256 (leaf_hash sha256) [] refl, root_of_none sha256 (leaf_hash sha256) more);
+  from_nothing = λ z.
+      (refl, root_of_none sha256 (leaf_hash sha256) [] refl, root_of_none sha256 (leaf_hash sha256) more);
   unchanged = λ p same. absurd (omega arith);
   grown = λ p l. absurd (omega arith);
 }

@@ -1,11 +1,7 @@
 pub mod CollisionFacts
 pub mod EntryLaws
-pub mod FileFacts
-pub mod FileLaws
 pub mod GrowthLaws
-pub mod InputFacts
-pub mod LawFacts
-pub mod LoopFacts
+pub mod OutcomeFacts
 pub mod ProveFacts
+pub mod RunFacts
 pub mod SealLaws
-pub mod WriteFacts

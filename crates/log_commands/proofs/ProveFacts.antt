@@ -18,8 +18,7 @@ use Rattle.log_commands.specs.{Commands.AreNumbers, Commands.HoldsOfInput, Inner
 use Rattle.log_commands.specs.{Inner.ReadsAs, Outcomes.all_numbers}
 use Rattle.log_commands.specs.Outcomes.{bytes_in, Gives, and_then, bytes_from, entries_under, number_refusal, said_by}
 use Rattle.log_commands.specs.declared.error.{Error.Error, Source.Source, Source.TheVariants.File}
-use Rattle.log_commands.proofs.FileFacts.{goes, stops, whole}
-use Rattle.log_commands.proofs.LawFacts.{are_under, said_ok, stepped}
+use Rattle.log_commands.proofs.OutcomeFacts.{are_under, goes, said_ok, stepped, stops, whole}
 
 -- ---- entries under a checkpoint are as many as it has
 
@@ -66,7 +65,8 @@ pub numbered_are : (entries : List (List ℕ)) (numbers : List ℕ) →
     ≡ map (λ n. record { number = n; bytes = entry_at entries (n - 1) }) numbers
 numbered_are entries [] = refl
 numbered_are entries (n ∷ ns) =
-    ap (λ (es : List EntryFields). record { number = n; bytes = entry_at entries (n - 1) } ∷ es) (numbered_are entries ns)
+    ap (λ (es : List EntryFields). record { number = n; bytes = entry_at entries (n - 1) } ∷ es)
+    (numbered_are entries ns)
 
 -- numbers from 1 to the size are indices below it
 pub within_size : (size : ℕ) (numbers : List ℕ) → All (λ n. 1 ≤ n) numbers → All (λ n. n ≤ size) numbers →

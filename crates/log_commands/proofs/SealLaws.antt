@@ -2,28 +2,27 @@
 use Rattle.std.proofs.Common.{◌≡◌, ◌≤◌, ◌<◌, ◌+◌, ◌^◌, ◌==◌, ◌∙◌, ℕ, zero, suc, List, [], ◌∷◌, ◌++◌, ap, arith, eq-eqb}
 use Rattle.std.proofs.Common.{get_or, inl, inr, length, map, refl, subst, sym, append-nil, None, Ok, All, true, false}
 use Rattle.std.proofs.Common.{nat_le, eqb-true, le-leb, leb-true, ne_eqb}
-use Rattle.std.proofs.lemmas.{Bool.and_parts, Bool.cases_eq, Simd.map-map, List.length-map, List.map-append}
-use Rattle.std.proofs.lemmas.List.{Sums.sum-map, Concat.length-flat_map, Elements.All-cons, Elements.All-map}
-use Rattle.std.proofs.lemmas.List.{Elements.All-nil, FromFn.get_or-range_with_len, FromFn.length-range_with_len}
-use Rattle.std.specs.{Int.is_power_of_two, List.concat, List.flat_map, List.range_with_len, List.sum}
-use Rattle.p3_merkle_core.specs.Refusals.{ok_unless, unless}
-use Rattle.p3_merkle_core.proofs.Shapes.LeastFacts.{n_below_pow}
+use Rattle.std.specs.List.{concat, flat_map, range_with_len, sum}
+use Rattle.std.proofs.lemmas.{Bool.and_parts, Bool.cases_eq, List.length-map, List.map-append}
+use Rattle.std.proofs.lemmas.List.{Concat.length-flat_map, Elements.All-cons, Elements.All-map, Elements.All-nil}
+use Rattle.std.proofs.lemmas.List.{FromFn.get_or-range_with_len, FromFn.length-range_with_len, Sums.sum-map}
+use Rattle.std.{proofs.lemmas.Simd.map-map, specs.Int.is_power_of_two}
 use Rattle.p3_merkle_core.proofs.Pruned.NoneFacts.{none_parts, range_none, unless_none}
+use Rattle.p3_merkle_core.{proofs.Shapes.LeastFacts.n_below_pow, specs.Refusals.ok_unless, specs.Refusals.unless}
 use Rattle.sha2.specs.Sha256.{sha256}
-use Rattle.tlog.specs.{Rfc9162.leaf_hash, Rfc9162.root_of, Verdicts.size_limit}
-use Rattle.tlog.proofs.Powers.{power_is, power_only}
-use Rattle.tlog_tree.specs.{Parts.HaveSize, Trees.leaves_root}
-use Rattle.tlog_tree.proofs.Parts.{root_is_of_parts}
+use Rattle.tlog.{proofs.Powers.power_is, proofs.Powers.power_only, specs.Rfc9162.leaf_hash, specs.Rfc9162.root_of}
+use Rattle.tlog.specs.Verdicts.{size_limit}
+use Rattle.tlog_tree.{proofs.Parts.root_is_of_parts, specs.Parts.HaveSize, specs.Trees.leaves_root}
 use Rattle.tlog_entries.proofs.Leaves.{mth_map}
-use Rattle.log_text.specs.{Lines.part_origin, Reading.part_in, Texts.checkpoint_text, Texts.IsDigest}
 use Rattle.log_text.proofs.{LineFacts.part_is_origin, NoteLaws.parts, NoteLaws.read_again}
+use Rattle.log_text.specs.{Lines.part_origin, Reading.part_in, Texts.checkpoint_text, Texts.IsDigest}
 use Rattle.log_files.specs.{Entries.entries_in, Entries.is_refused, Entries.IsCut, declared.cut.Cut.Cut}
 use Rattle.log_commands.specs.Laws.{AreSealed, EndWithEntries, JoinsAreReadAgain, PartsJoin, Says, SealsAreReadAgain}
 use Rattle.log_commands.specs.Outcomes.{and_then, checkpoint_of, entries_read, is_part_size, join_outcome, join_refusal}
 use Rattle.log_commands.specs.Outcomes.{joined, part_refusal, parts_in, said_by, seal_outcome, sizes_refusal}
 use Rattle.log_commands.specs.declared.error.Source.TheVariants.{Part}
-use Rattle.log_commands.proofs.{FileFacts.read_ok, FileLaws.entries_of_all, FileLaws.none_refused, FileLaws.refused_as}
-use Rattle.log_commands.proofs.LawFacts.{entries_root, is_read, none_of, ok_none, root_is, said_ok, stepped}
+use Rattle.log_commands.proofs.OutcomeFacts.{entries_of_all, none_refused, refused_as, read_ok, entries_root, is_read}
+use Rattle.log_commands.proofs.OutcomeFacts.{none_of, ok_none, root_is, said_ok, stepped}
 
 -- ---- seal
 
@@ -150,7 +149,8 @@ test_from sizes k is =
           (leb-true 1 size both.0, leb-true size first both.1);
       other = λ more.
           let apart : k + 1 ≡ length sizes → ⊥ = λ e. absurd (omega arith) in
-          let both = and_parts (size == first) (is_power_of_two first) (rw (ne_eqb (k + 1) (length sizes) apart) at is) in
+          let both =
+          and_parts (size == first) (is_power_of_two first) (rw (ne_eqb (k + 1) (length sizes) apart) at is) in
           eqb-true size first both.0;
     }
 
@@ -183,7 +183,8 @@ test_to size sizes k within power part front =
 pub sizes_from : (sizes : List ℕ) → sizes_refusal sizes ≡ None → (power : ℕ) × HaveSize (2 ^ power) sizes
 sizes_from [] none = (0, tt)
 sizes_from (x ∷ []) none =
-    let test = unless_none (is_part_size (x ∷ []) 0) _ (range_none (part_refusal (x ∷ [])) 0 1 0 none (omega arith) (omega arith)) in
+    let test = unless_none (is_part_size (x ∷ []) 0) _
+    (range_none (part_refusal (x ∷ [])) 0 1 0 none (omega arith) (omega arith)) in
     let last = (test_from (x ∷ []) 0 test).last refl in
     (x, (last.0, omega (arith, n_below_pow x)))
 sizes_from (x ∷ y ∷ rest) none =
@@ -252,7 +253,8 @@ module _ (cut : Cut) (is : IsCut cut) where
       ∙ (λ i. map (λ file. sym (mth_map sha256 (leaf_hash sha256) (entries_in cut file)) i) files)
       ∙ sym (map-map (leaves_root sha256) (λ file. map (leaf_hash sha256) (entries_in cut file)) files)
 
-  lengths_are : (files : List (List ℕ)) → map (λ (part : List (List ℕ)). length part) (leaves_of cut files) ≡ sizes_of cut files
+  lengths_are : (files : List (List ℕ)) →
+      map (λ (part : List (List ℕ)). length part) (leaves_of cut files) ≡ sizes_of cut files
   lengths_are files =
       map-map (λ (part : List (List ℕ)). length part) (λ file. map (leaf_hash sha256) (entries_in cut file)) files
       ∙ (λ i. map (λ file. length-map (entries_in cut file) (leaf_hash sha256) i) files)

@@ -13,7 +13,7 @@ use Rattle.log_commands.specs.declared.command.Command.{Command, TheVariants.Joi
 use Rattle.log_commands.specs.declared.command.Command.TheVariants.{ProveConsistency, Seal, Verify, VerifyConsistency}
 use Rattle.log_commands.specs.declared.verify.Print.{Print, TheVariants.Blocks, TheVariants.Lines, TheVariants.Raw}
 use Rattle.log_commands.specs.declared.verify.Requested.{Requested}
-use Rattle.log_commands.specs.declared.verify.Requested.TheVariants.{All as AllEntries, Any, Numbers}
+use Rattle.log_commands.specs.declared.verify.Requested.TheVariants.{All as AllEntries, Numbers}
 
 -- ---- what can be run
 

@@ -1,5 +1,6 @@
 -- Definitions that only proofs and internal calls use.
-use Rattle.std.specs.Prelude.{◌≡◌, ◌⊎◌, ℕ, ◌-◌, ◌≤◌, List, length, map, All, MatchResult, None, Result, Ok, Err}
+use Rattle.std.specs.Prelude.{◌≡◌, ◌⊎◌, ℕ, ◌-◌, ◌≤◌, List, length, map, All, MatchResult, Option, None, Some, Result}
+use Rattle.std.specs.Prelude.{Ok, Err}
 use Rattle.sha2.specs.Sha256.{sha256}
 use Rattle.tlog.specs.Rfc9162.{leaf_hash, root_of}
 use Rattle.tlog_tree.specs.Builders.{IsBuilderOf}
@@ -12,6 +13,14 @@ use Rattle.log_commands.specs.declared.error.{Error.Error, Error.TheVariants.Out
 -- an error says that memory ran out
 abbrev pub IsMemory : Error → Type 0
 IsMemory error = error ≡ OutOfMemory
+
+-- a check refuses for this reason, and accepts where there is none; the second one may end as memory runs out, too
+abbrev pub Checks : Result (Unit {0}) Error → Option Error → Type 0
+Checks result refusal = MatchResult result (λ ok. refusal ≡ None) (λ error. refusal ≡ Some error)
+
+abbrev pub ChecksUnlessMemory : Result (Unit {0}) Error → Option Error → Type 0
+ChecksUnlessMemory result refusal =
+    MatchResult result (λ ok. refusal ≡ None) (λ error. (error ≡ OutOfMemory) ⊎ (refusal ≡ Some error))
 
 -- an entry of a number and its bytes
 abbrev pub entry_of : ℕ × List ℕ → EntryFields

@@ -11,8 +11,7 @@ ghost use Rattle.log_commands.specs.Outcomes.{Gives, entries_under, verify_consi
 ghost use Rattle.log_commands.specs.declared.{error.Error.TheVariants.OutOfMemory, verify.Print.TheVariants.Raw};
 
 use crate::error::{Error, Source};
-use crate::files::read_under;
-use crate::texts::{read_checkpoint, read_consistency, read_entries};
+use crate::inputs::{read_checkpoint, read_consistency, read_entries, read_under};
 use crate::verify::{Print, Requested, indices_of, leaves_of, verify};
 use crate::verify_consistency::verify_consistency;
 use log_files::{Cut, ReadLog};
@@ -105,7 +104,7 @@ fn read_entries_under(
 fn read_bytes(
     alloc: Global,
     cut: Cut,
-    checkpoint: &Checkpoint<'_>,
+    checkpoint: &Checkpoint,
     wanted: &[usize],
     file: &[u8],
 ) -> Result<ReadLog, Error>
@@ -162,19 +161,15 @@ fn bytes_collision(
 }
 
 /// A collision, if two entries of one leaf hash are different; else `None`.
-fn entry_collision(
-    alloc: Global,
-    entry: &[u8],
-    other: &[u8],
-) -> Result<Option<Collision>, AllocError>
-    requires { leaf_hash sha256 entry.now ≡ leaf_hash sha256 other.now }
-    ensures none { IfOk result (λ found. IsNone found ↔ (entry.now ≡ other.now)) }
+fn entry_collision(alloc: Global, one: &[u8], other: &[u8]) -> Result<Option<Collision>, AllocError>
+    requires { leaf_hash sha256 one.now ≡ leaf_hash sha256 other.now }
+    ensures none { IfOk result (λ found. IsNone found ↔ (one.now ≡ other.now)) }
     ensures collision { IfOk result (λ found. IfSome found (IsCollision sha256)) }
 {
-    if entry == other {
+    if one == other {
         return Ok(None);
     }
-    let first = leaf_input(alloc, entry)?;
+    let first = leaf_input(alloc, one)?;
     let second = leaf_input(alloc, other)?;
     Ok(Some(Collision { first, second }))
 }

@@ -1,70 +1,69 @@
 //! Runs commands.
 
-ghost use Rattle.std.specs.Prelude.{◌≡◌, ◌⊎◌, Decides, Err, List, OnErr, Result, map, option_map, ℕ};
+ghost use Rattle.std.specs.Prelude.{◌≡◌, ◌⊎◌, Decides, Err, IfErr, List, Ok, OnErr, Result, map, option_map, ℕ};
 ghost use Rattle.log_files.specs.Entries.{IsCut};
 ghost use Rattle.log_commands.specs.Commands.{AreNumbers, EndsIn, HasOutcome, HoldsOfInputs, IsLawful, IsPrint};
 ghost use Rattle.log_commands.specs.{Commands.bytes_of_parts, Outcomes.bytes_in, Outcomes.Gives};
 ghost use Rattle.log_commands.specs.declared.error.Error.{Error, TheVariants.Write as FailedWrite};
 
 use crate::error::{Error, Source};
+use crate::inputs::read_text;
 use crate::join::join;
 use crate::prove::{numbers_of, prove};
 use crate::prove_consistency::prove_consistency;
 use crate::seal::seal;
-use crate::texts::read_text;
 use crate::verify::{Print, Requested, verify};
 use crate::verify_consistency::verify_consistency;
-use crate::write::write_text;
 use log_files::Cut;
 use log_text::is_origin;
 use std::alloc::Global;
-use std::io::{Read, Write};
+use std::io::{ErrorKind, Read, Write};
 
 /// A command, with the inputs that it reads.
 #[derive(Drop)]
-pub enum Command<Src> {
+pub enum Command<R> {
     /// Prints the checkpoint of a file, or with the origin `PART_ORIGIN` of a part of a file.
     Seal {
         origin: String,
         cut: Cut,
-        file: Src,
+        file: R,
     },
     /// Prints a proof of entries of a file.
     Prove {
         cut: Cut,
         /// The checkpoint of the file, which may have grown since.
-        checkpoint: Src,
-        file: Src,
+        checkpoint: R,
+        file: R,
         /// The numbers of the entries, counted from 1: all of the checkpoint without.
         numbers: Option<Vec<usize>>,
     },
     /// Prints the entries of a proof that is accepted.
     Verify {
         print: Print,
-        checkpoint: Src,
-        proof: Src,
+        checkpoint: R,
+        proof: R,
         entries: Requested,
     },
     /// Prints a proof that the file of a new checkpoint begins with the entries of an old one.
     ProveConsistency {
         cut: Cut,
-        old: Src,
-        new: Src,
-        file: Src,
+        old: R,
+        new: R,
+        file: R,
     },
     /// Prints the new checkpoint of such a proof, if it is accepted.
     VerifyConsistency {
-        old: Src,
-        proof: Src,
+        old: R,
+        proof: R,
     },
     /// Prints the checkpoint of a file whose parts are sealed.
     Join {
         origin: String,
-        parts: Vec<Src>,
+        parts: Vec<R>,
     },
 }
 
-impl<Src> Command<Src> {
+impl<R> Command<R> {
     /// Whether it can be run: an origin is one, a block has 1 to 2^30 bytes, and numbers are from 1 on, at least one of
     /// them. Any entries are printed as lines alone, and raw bytes of one number.
     pub fn is_lawful(&self) -> bool
@@ -104,21 +103,15 @@ fn are_numbers(numbers: &[usize]) -> bool
 fn is_print(print: Print, requested: &Requested) -> bool
     ensures { Decides result (IsPrint print requested.now) }
 {
-    match requested {
-        Requested::Any => print == Print::Lines,
-        Requested::All => match print {
-            Print::Lines => true,
-            Print::Blocks(size) => is_cut(Cut::Blocks(size)),
-            Print::Raw => false,
-        },
-        Requested::Numbers(numbers) => {
-            let fits = match print {
-                Print::Lines => true,
-                Print::Blocks(size) => is_cut(Cut::Blocks(size)),
-                Print::Raw => numbers.len() == 1,
-            };
-            are_numbers(numbers) && fits
+    match (print, requested) {
+        (Print::Lines, Requested::Numbers(numbers)) => are_numbers(numbers),
+        (Print::Lines, _) => true,
+        (Print::Blocks(size), Requested::Numbers(numbers)) => {
+            are_numbers(numbers) && is_cut(Cut::Blocks(size))
         }
+        (Print::Blocks(size), Requested::All) => is_cut(Cut::Blocks(size)),
+        (Print::Raw, Requested::Numbers(numbers)) => are_numbers(numbers) && numbers.len() == 1,
+        _ => false,
     }
 }
 
@@ -129,24 +122,24 @@ fn is_print(print: Print, requested: &Requested) -> bool
 /// Those of the command's own call; `TooManyNumbers` for all entries of a checkpoint with more than `MOST_NUMBERS`;
 /// `Read` where an input cannot be read; `Write` if the output cannot be written. No other error leaves anything
 /// written.
-pub fn run<Src: Read + Drop, Dst: Write>(
+pub fn run<R: Read + Drop, W: Write>(
     alloc: Global,
-    command: Command<Src>,
-    output: &mut Dst,
+    command: Command<R>,
+    output: &mut W,
 ) -> Result<(), Error>
     requires { IsLawful command }
     ensures silent { OnErr result ((result ≡ Err FailedWrite) ⊎ (output.new ≡ output.old)) }
-    ensures outcome { (outcome : Result (List ℕ) Error) × HasOutcome Src.remaining command outcome
-        × EndsIn (Dst.contents output.old) (Dst.contents output.new) outcome result }
+    ensures outcome { (outcome : Result (List ℕ) Error) × HasOutcome R.remaining command outcome
+        × EndsIn (W.contents output.old) (W.contents output.new) outcome result }
 {
     let text = answer(alloc, command)?;
     write_text(output, &text)
 }
 
 /// What a command prints.
-fn answer<Src: Read + Drop>(alloc: Global, command: Command<Src>) -> Result<Vec<u8>, Error>
+fn answer<R: Read + Drop>(alloc: Global, command: Command<R>) -> Result<Vec<u8>, Error>
     requires { IsLawful command }
-    ensures { (outcome : Result (List ℕ) Error) × HasOutcome Src.remaining command outcome
+    ensures { (outcome : Result (List ℕ) Error) × HasOutcome R.remaining command outcome
         × Gives bytes_in result outcome }
 {
     match command {
@@ -195,8 +188,8 @@ fn answer<Src: Read + Drop>(alloc: Global, command: Command<Src>) -> Result<Vec<
 }
 
 /// All bytes of the parts.
-fn read_parts<Src: Read + Drop>(alloc: Global, parts: Vec<Src>) -> Result<Vec<Vec<u8>>, Error>
-    ensures { HoldsOfInputs (map Src.remaining parts.items)
+fn read_parts<R: Read + Drop>(alloc: Global, parts: Vec<R>) -> Result<Vec<Vec<u8>>, Error>
+    ensures { HoldsOfInputs (map R.remaining parts.items)
         (λ texts. Gives (λ all. map bytes_in all.items) result (bytes_of_parts 0 texts)) }
 {
     let mut texts = Vec::new(alloc);
@@ -205,4 +198,24 @@ fn read_parts<Src: Read + Drop>(alloc: Global, parts: Vec<Src>) -> Result<Vec<Ve
         texts.push(read_text(alloc, source, &mut part)?)?;
     }
     Ok(texts)
+}
+
+/// Writes a text, and flushes.
+fn write_text<W: Write>(output: &mut W, text: &[u8]) -> Result<(), Error>
+    ensures ends { EndsIn (W.contents output.old) (W.contents output.new) (Ok text.now) result }
+    ensures failed { IfErr result (λ error. error ≡ FailedWrite) }
+{
+    let mut rest = text;
+    for _turn in 0..u64::MAX {
+        if rest.is_empty() {
+            return output.flush().map_err(|_| Error::Write);
+        }
+        match output.write(rest) {
+            Ok(0) => return Err(Error::Write),
+            Ok(count) => rest = &rest[count..],
+            Err(error) if error.kind() == ErrorKind::Interrupted => {}
+            Err(_) => return Err(Error::Write),
+        }
+    }
+    Err(Error::Write)
 }

@@ -1,12 +1,12 @@
 //! Joins the parts of a file.
 
-ghost use Rattle.std.specs.Prelude.{◌≡◌, ◌≤◌, ◌<◌, None, Some, IfOk, MatchOption, MatchResult, length, map};
+ghost use Rattle.std.specs.Prelude.{◌≡◌, ◌≤◌, ◌<◌, IfOk, MatchOption, MatchResult, length, map};
 ghost use Rattle.p3_merkle_core.specs.Refusals.{ok_unless};
 ghost use Rattle.std.specs.List.{sum};
 ghost use Rattle.tlog.specs.Verdicts.{size_limit};
 ghost use Rattle.tlog_tree.specs.Trees.{leaves_root};
 ghost use Rattle.sha2.specs.Sha256.{sha256};
-ghost use Rattle.log_commands.specs.{Inner.IsMemory, Outcomes.bytes_in};
+ghost use Rattle.log_commands.specs.{Inner.Checks, Inner.IsMemory, Outcomes.bytes_in};
 ghost use Rattle.log_commands.specs.Outcomes.{Gives, is_part_size, join_outcome, join_refusal, parts_in, sizes_refusal};
 
 use crate::error::{Error, Refusal, Source, text_error};
@@ -60,8 +60,7 @@ fn check_sizes(alloc: Global, parts: &[(usize, [u8; 32])]) -> Result<usize, Erro
 
 /// Checks that each part has a size that fits.
 fn check_each(sizes: &[usize]) -> Result<(), Error>
-    ensures { MatchResult result (λ ok. sizes_refusal sizes.now ≡ None)
-        (λ error. sizes_refusal sizes.now ≡ Some error) }
+    ensures { Checks result (sizes_refusal sizes.now) }
 {
     for k in 0..sizes.len() {
         if !is_part_size(sizes, k) {

@@ -4,16 +4,14 @@
 pub mod collisions;
 pub mod command;
 pub mod error;
-mod files;
+mod inputs;
 pub mod join;
 pub mod laws;
 pub mod prove;
 pub mod prove_consistency;
 pub mod seal;
-mod texts;
 pub mod verify;
 pub mod verify_consistency;
-mod write;
 
 pub use command::{Command, run};
 pub use error::{Error, Refusal, Source};

@@ -1,20 +1,20 @@
 //! Proves entries of a file.
 
-ghost use Rattle.std.specs.Prelude.{◌≡◌, ℕ, ◌-◌, ◌≤◌, List, length, All, Err, IfOk, IfSome, MatchResult, None, Some};
+ghost use Rattle.std.specs.Prelude.{◌≡◌, ℕ, ◌-◌, ◌≤◌, List, length, All, Err, IfOk, IfSome};
 ghost use Rattle.std.specs.Prelude.{map, option_map, zip};
 ghost use Rattle.p3_merkle_core.specs.Refusals.{first_of};
 ghost use Rattle.tlog.specs.Verdicts.{size_limit};
 ghost use Rattle.tlog_entries.specs.Entries.{proof_nodes};
 ghost use Rattle.log_files.specs.Entries.{IsCut, entry_at, wanted_of};
 ghost use Rattle.log_text.specs.Texts.{checkpoint_fields, entries_text, entry_fields};
-ghost use Rattle.log_commands.specs.{Commands.AreNumbers, Commands.HoldsOfInput, Inner.entry_of, Inner.HasEntries};
+ghost use Rattle.log_commands.specs.{Commands.AreNumbers, Commands.HoldsOfInput};
+ghost use Rattle.log_commands.specs.Inner.{Checks, entry_of, HasEntries};
 ghost use Rattle.log_commands.specs.Outcomes.{all_numbers, and_then, bytes_from, bytes_in, Gives, number_refusal};
 ghost use Rattle.log_commands.specs.Outcomes.{numbers_under, proof_over, prove_under, requested};
 ghost use Rattle.log_commands.specs.declared.error.{Error.Error, Source.TheVariants.File};
 
 use crate::error::{Error, Refusal, Source};
-use crate::files::{digests_of, read_under};
-use crate::texts::read_checkpoint;
+use crate::inputs::{digests_of, read_checkpoint, read_under};
 use log_files::{Cut, ReadLog};
 use log_text::{Checkpoint, EntriesProof, Entry};
 use std::alloc::{AllocError, Global};
@@ -32,16 +32,16 @@ pub const MOST_NUMBERS: usize = 100_000_000;
 /// In this order: the first wrong line of the checkpoint; `NumberPastEnd` for the first number that it does not have,
 /// where the file is not read; `Read` if the file cannot be read; `EndsInsideLine`; `TooFewEntries`; `OtherEntries`.
 /// `OutOfMemory` may come at any time.
-pub fn prove<Src: Read>(
+pub fn prove<R: Read>(
     alloc: Global,
     cut: Cut,
     checkpoint: &[u8],
     numbers: &[usize],
-    file: &mut Src,
+    file: &mut R,
 ) -> Result<Vec<u8>, Error>
     requires cut { IsCut cut }
     requires numbers { AreNumbers numbers.now }
-    ensures answer { HoldsOfInput (Src.remaining file.old) (λ input. Gives bytes_in result
+    ensures answer { HoldsOfInput (R.remaining file.old) (λ input. Gives bytes_in result
         (and_then (requested checkpoint.now numbers.now) (λ c.
         and_then (bytes_from File input) (prove_under cut c numbers.now)))) }
     ensures unread { (error : Error) → requested checkpoint.now numbers.now ≡ Err error → file.new ≡ file.old }
@@ -72,7 +72,7 @@ pub(crate) fn numbers_of(
 }
 
 /// The numbers of all entries of a log of so many. One of none is refused by number 1.
-fn all_numbers(alloc: Global, size: usize) -> Result<Vec<usize>, AllocError>
+pub(crate) fn all_numbers(alloc: Global, size: usize) -> Result<Vec<usize>, AllocError>
     requires { size ≤ size_limit }
     ensures { IfOk result (λ numbers. (numbers.items ≡ all_numbers size) × AreNumbers numbers.items) }
 {
@@ -92,8 +92,7 @@ fn requested<'a>(checkpoint: &'a [u8], numbers: &[usize]) -> Result<Checkpoint<'
 
 /// Checks that a log of so many entries has these.
 fn check_numbers(size: usize, numbers: &[usize]) -> Result<(), Error>
-    ensures { let refusal = first_of (number_refusal size) numbers.now in
-        MatchResult result (λ ok. refusal ≡ None) (λ error. refusal ≡ Some error) }
+    ensures { Checks result (first_of (number_refusal size) numbers.now) }
 {
     for number in numbers {
         let number = *number;
@@ -105,21 +104,21 @@ fn check_numbers(size: usize, numbers: &[usize]) -> Result<(), Error>
 }
 
 /// The proof of entries under a checkpoint that has them.
-fn prove_under<Src: Read>(
+fn prove_under<R: Read>(
     alloc: Global,
     cut: Cut,
-    checkpoint: &Checkpoint<'_>,
+    checkpoint: &Checkpoint,
     numbers: &[usize],
-    file: &mut Src,
+    file: &mut R,
 ) -> Result<Vec<u8>, Error>
     requires cut { IsCut cut }
     requires numbers { AreNumbers numbers.now }
     requires inside { All (λ number. number ≤ checkpoint.now.size) numbers.now }
     requires limit { checkpoint.now.size ≤ size_limit }
-    ensures { HoldsOfInput (Src.remaining file.old) (λ input. Gives bytes_in result
+    ensures { HoldsOfInput (R.remaining file.old) (λ input. Gives bytes_in result
         (and_then (bytes_from File input) (prove_under cut (checkpoint_fields checkpoint.now) numbers.now))) }
 {
-    let indices = indices_of(alloc, numbers)?;
+    let indices: Vec<usize> = numbers.iter().map(|n| n.saturating_sub(1)).collect(alloc)?;
     let places = entry_places(alloc, &indices, checkpoint.size)?;
     let log = read_under(alloc, cut, checkpoint, &places, &indices, file)?;
     drop(places);
@@ -137,13 +136,6 @@ fn text_of(alloc: Global, numbers: &[usize], log: ReadLog) -> Result<Vec<u8>, Al
     let digests = digests_of(alloc, tree)?;
     let entries = numbered(alloc, numbers, entries)?;
     EntriesProof { entries, digests }.to_text(alloc)
-}
-
-/// The indices of entries, counted from 0.
-fn indices_of(alloc: Global, numbers: &[usize]) -> Result<Vec<usize>, AllocError>
-    ensures { IfOk result (λ indices. indices.items ≡ map (λ n. n - 1) numbers.now) }
-{
-    numbers.iter().map(|n| n.saturating_sub(1)).collect(alloc)
 }
 
 /// Entries of these numbers and bytes.

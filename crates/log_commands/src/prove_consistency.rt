@@ -11,8 +11,7 @@ ghost use Rattle.log_commands.specs.Outcomes.{bytes_in, compared, growth_digests
 ghost use Rattle.log_commands.specs.declared.error.{Error.Error, Source.TheVariants.File};
 
 use crate::error::{Error, Refusal, Source};
-use crate::files::{digests_of, read_under};
-use crate::texts::{check_growth, read_checkpoint};
+use crate::inputs::{check_growth, digests_of, read_checkpoint, read_under};
 use log_files::{Cut, ReadLog};
 use log_text::{Checkpoint, ConsistencyProof};
 use std::alloc::{AllocError, Global};
@@ -30,15 +29,15 @@ use tlog_tree::consistency_places;
 /// `TwoHistories` if the new one does not follow the old one, where the file is not read; `Read` if the file cannot be
 /// read; `EndsInsideLine`; `TooFewEntries`; `OtherEntries`; `OtherOldEntries` if the file does not begin with the
 /// entries of the old checkpoint. `OutOfMemory` may come at any time.
-pub fn prove_consistency<Src: Read>(
+pub fn prove_consistency<R: Read>(
     alloc: Global,
     cut: Cut,
     old: &[u8],
     new: &[u8],
-    file: &mut Src,
+    file: &mut R,
 ) -> Result<Vec<u8>, Error>
     requires { IsCut cut }
-    ensures answer { HoldsOfInput (Src.remaining file.old) (λ input. Gives bytes_in result
+    ensures answer { HoldsOfInput (R.remaining file.old) (λ input. Gives bytes_in result
         (and_then (compared old.now new.now) (λ (o, n).
         and_then (bytes_from File input) (prove_growth cut o n new.now)))) }
     ensures unread { (error : Error) → compared old.now new.now ≡ Err error → file.new ≡ file.old }
@@ -59,17 +58,17 @@ fn compared<'a, 'b>(old: &'a [u8], new: &'b [u8]) -> Result<(Checkpoint<'a>, Che
 }
 
 /// The proof between two checkpoints, the new one with its text.
-fn prove_growth<Src: Read>(
+fn prove_growth<R: Read>(
     alloc: Global,
     cut: Cut,
-    old: &Checkpoint<'_>,
-    new: &Checkpoint<'_>,
+    old: &Checkpoint,
+    new: &Checkpoint,
     checkpoint: &[u8],
-    file: &mut Src,
+    file: &mut R,
 ) -> Result<Vec<u8>, Error>
     requires cut { IsCut cut }
     requires ordered { old.now.size ≤ new.now.size }
-    ensures { HoldsOfInput (Src.remaining file.old) (λ input. Gives bytes_in result
+    ensures { HoldsOfInput (R.remaining file.old) (λ input. Gives bytes_in result
         (and_then (bytes_from File input)
         (prove_growth cut (checkpoint_fields old.now) (checkpoint_fields new.now) checkpoint.now))) }
 {
@@ -81,8 +80,8 @@ fn prove_growth<Src: Read>(
 /// The text of the proof between two checkpoints over the entries that were read.
 fn text_of(
     alloc: Global,
-    old: &Checkpoint<'_>,
-    new: &Checkpoint<'_>,
+    old: &Checkpoint,
+    new: &Checkpoint,
     checkpoint: &[u8],
     log: ReadLog,
 ) -> Result<Vec<u8>, Error>

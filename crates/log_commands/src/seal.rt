@@ -4,7 +4,7 @@ ghost use Rattle.log_files.specs.Entries.{IsCut};
 ghost use Rattle.log_commands.specs.{Commands.HoldsOfInput, Commands.seal_file, Outcomes.bytes_in, Outcomes.Gives};
 
 use crate::error::Error;
-use crate::files::{read_file, size_and_root};
+use crate::inputs::{read_file, size_and_root};
 use log_files::Cut;
 use log_text::Checkpoint;
 use std::alloc::Global;
@@ -16,14 +16,9 @@ use std::io::Read;
 /// # Errors
 ///
 /// `Read` if the file cannot be read; `TooManyEntries`, else `EndsInsideLine`; `OutOfMemory` at any time.
-pub fn seal<Src: Read>(
-    alloc: Global,
-    origin: &str,
-    cut: Cut,
-    file: &mut Src,
-) -> Result<Vec<u8>, Error>
+pub fn seal<R: Read>(alloc: Global, origin: &str, cut: Cut, file: &mut R) -> Result<Vec<u8>, Error>
     requires { IsCut cut }
-    ensures { HoldsOfInput (Src.remaining file.old)
+    ensures { HoldsOfInput (R.remaining file.old)
         (λ input. Gives bytes_in result (seal_file origin.now cut input)) }
 {
     let log = read_file(alloc, cut, None, &[], &[], file)?;

@@ -1,17 +1,17 @@
 //! Verifies proofs of entries.
 
-ghost use Rattle.std.specs.Prelude.{◌≡◌, ◌-◌, ◌++◌, ◌⊎◌, IfOk, MatchResult, None, OnOk, Some, flat_map, is_some, map};
-ghost use Rattle.std.specs.Prelude.{ℕ};
+ghost use Rattle.std.specs.Prelude.{◌≡◌, ◌≤◌, ◌-◌, ◌++◌, ℕ, IfOk, OnOk, Some, flat_map, is_some, map};
 ghost use Rattle.sha2.specs.Sha256.{sha256};
 ghost use Rattle.p3_merkle_core.specs.Refusals.{first_of};
-ghost use Rattle.tlog.specs.Rfc9162.{leaf_hash as leaf_hash_by};
+ghost use Rattle.tlog.specs.{Rfc9162.leaf_hash as leaf_hash_by, Verdicts.size_limit};
 ghost use Rattle.log_text.specs.Texts.{checkpoint_fields, entries_fields, entry_fields};
-ghost use Rattle.log_commands.specs.Outcomes.{all_numbers, bytes_in, entry_refusal, Gives, is_printable, numbers_in};
+ghost use Rattle.log_commands.specs.Inner.{Checks, ChecksUnlessMemory};
+ghost use Rattle.log_commands.specs.Outcomes.{bytes_in, entry_refusal, Gives, is_printable, numbers_in};
 ghost use Rattle.log_commands.specs.Outcomes.{numbers_refusal, printed, proof_refusal, verify_requested};
-ghost use Rattle.log_commands.specs.declared.error.Error.TheVariants.{OutOfMemory};
 
 use crate::error::{Error, Refusal, Source};
-use crate::texts::{read_checkpoint, read_entries};
+use crate::inputs::{read_checkpoint, read_entries};
+use crate::prove::all_numbers;
 use log_text::{Checkpoint, EntriesProof, Entry};
 use std::alloc::{AllocError, Global};
 use tlog::leaf_hash;
@@ -59,7 +59,7 @@ pub fn verify(
 {
     let checkpoint = read_checkpoint(Source::Checkpoint, checkpoint)?;
     let proof = read_entries(alloc, proof)?;
-    check_requested(requested, checkpoint.size, &proof.entries)?;
+    check_requested(alloc, requested, checkpoint.size, &proof.entries)?;
     check_entries(print, checkpoint.size, &proof.entries)?;
     check_proof(alloc, &checkpoint, &proof)?;
     Ok(text_of(alloc, print, is_compared(requested), &proof.entries)?)
@@ -73,46 +73,30 @@ fn is_compared(requested: &Requested) -> bool
 }
 
 /// Checks that entries are the requested ones of a log of so many, in their order.
-fn check_requested(requested: &Requested, size: usize, entries: &[Entry]) -> Result<(), Error>
-    ensures { let refusal = numbers_refusal (numbers_in requested.now size) (map entry_fields entries.now) in
-        MatchResult result (λ ok. refusal ≡ None) (λ error. refusal ≡ Some error) }
+fn check_requested(
+    alloc: Global,
+    requested: &Requested,
+    size: usize,
+    entries: &[Entry],
+) -> Result<(), Error>
+    requires { size ≤ size_limit }
+    ensures { ChecksUnlessMemory result
+        (numbers_refusal (numbers_in requested.now size) (map entry_fields entries.now)) }
 {
     match requested {
         Requested::Any => Ok(()),
-        Requested::All => check_all(size, entries),
+        Requested::All => {
+            // One number more than there are entries shows whether one is missing.
+            let count = size.min(entries.len().saturating_add(1));
+            check_numbers(&all_numbers(alloc, count)?, entries)
+        }
         Requested::Numbers(numbers) => check_numbers(numbers, entries),
     }
 }
 
-/// Checks that entries are all of a log of so many, in their order.
-#[tactic(auto, using(crate::proofs::LoopFacts::counted))]
-fn check_all(size: usize, entries: &[Entry]) -> Result<(), Error>
-    ensures { let refusal = numbers_refusal (Some (all_numbers size)) (map entry_fields entries.now) in
-        MatchResult result (λ ok. refusal ≡ None) (λ error. refusal ≡ Some error) }
-{
-    let mut left = size.max(1);
-    let mut checked = 0;
-    for entry in entries {
-        let got = entry.number;
-        if left == 0 {
-            return Err(Error::Refused(Source::Proof, Refusal::UnrequestedEntry(got)));
-        }
-        left -= 1;
-        checked += 1;
-        if got != checked {
-            return Err(Error::Refused(Source::Proof, Refusal::OtherNumber(got, checked)));
-        }
-    }
-    if left > 0 {
-        return Err(Error::Refused(Source::Proof, Refusal::MissingEntry(checked + 1)));
-    }
-    Ok(())
-}
-
 /// Checks that entries are those of these numbers, in their order.
 fn check_numbers(numbers: &[usize], entries: &[Entry]) -> Result<(), Error>
-    ensures { let refusal = numbers_refusal (Some numbers.now) (map entry_fields entries.now) in
-        MatchResult result (λ ok. refusal ≡ None) (λ error. refusal ≡ Some error) }
+    ensures { Checks result (numbers_refusal (Some numbers.now) (map entry_fields entries.now)) }
 {
     let mut rest = numbers;
     for entry in entries {
@@ -155,8 +139,7 @@ pub(crate) fn leaves_of(alloc: Global, entries: &[Entry]) -> Result<Vec<[u8; 32]
 
 /// Checks that entries can be printed.
 fn check_entries(print: Print, size: usize, entries: &[Entry]) -> Result<(), Error>
-    ensures { let refusal = first_of (entry_refusal print size) (map entry_fields entries.now) in
-        MatchResult result (λ ok. refusal ≡ None) (λ error. refusal ≡ Some error) }
+    ensures { Checks result (first_of (entry_refusal print size) (map entry_fields entries.now)) }
 {
     for entry in entries {
         if !is_printable(print, size, entry) {
@@ -180,13 +163,9 @@ fn is_printable(print: Print, size: usize, entry: &Entry) -> bool
 }
 
 /// Checks a proof by the verifier.
-fn check_proof(
-    alloc: Global,
-    checkpoint: &Checkpoint<'_>,
-    proof: &EntriesProof,
-) -> Result<(), Error>
-    ensures { let refusal = proof_refusal (checkpoint_fields checkpoint.now) (entries_fields proof.now) in
-        MatchResult result (λ ok. refusal ≡ None) (λ error. (error ≡ OutOfMemory) ⊎ (refusal ≡ Some error)) }
+fn check_proof(alloc: Global, checkpoint: &Checkpoint, proof: &EntriesProof) -> Result<(), Error>
+    ensures { ChecksUnlessMemory result
+        (proof_refusal (checkpoint_fields checkpoint.now) (entries_fields proof.now)) }
 {
     let indices = indices_of(alloc, &proof.entries)?;
     let leaves = leaves_of(alloc, &proof.entries)?;

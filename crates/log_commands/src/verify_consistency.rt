@@ -1,12 +1,12 @@
 //! Verifies that a log of a new checkpoint begins with the entries of an old one.
 
-ghost use Rattle.std.specs.Prelude.{◌≡◌, None, Some, MatchResult};
 ghost use Rattle.log_text.specs.{Reading.checkpoint_in, Texts.checkpoint_fields};
+ghost use Rattle.log_commands.specs.Inner.{Checks};
 ghost use Rattle.log_commands.specs.Outcomes.{bytes_in, consistency_refused, Gives, said_inside};
 ghost use Rattle.log_commands.specs.Outcomes.{verify_consistency_outcome};
 
 use crate::error::{Error, Refusal, Source};
-use crate::texts::{check_growth, read_checkpoint, read_consistency};
+use crate::inputs::{check_growth, read_checkpoint, read_consistency};
 use log_text::{Checkpoint, ConsistencyProof, TextError};
 use std::alloc::Global;
 use tlog::verify_consistency as verify;
@@ -31,7 +31,7 @@ pub fn verify_consistency(alloc: Global, old: &[u8], proof: &[u8]) -> Result<Vec
     }
     let new = read_new(&proof)?;
     check_growth(Source::Proof, &old, &new)?;
-    check_digests(&old, &new, &proof)?;
+    check_digests(&old, &new, &proof.digests)?;
     Ok(Vec::from_slice(alloc, proof.checkpoint)?)
 }
 
@@ -49,17 +49,10 @@ fn read_new<'a>(proof: &ConsistencyProof<'a>) -> Result<Checkpoint<'a>, Error>
 }
 
 /// Checks the digests of a proof.
-fn check_digests(
-    old: &Checkpoint<'_>,
-    new: &Checkpoint<'_>,
-    proof: &ConsistencyProof<'_>,
-) -> Result<(), Error>
-    ensures { let refusal = consistency_refused (checkpoint_fields old.now) (checkpoint_fields new.now)
-        proof.now.digests.items in
-        MatchResult result (λ ok. refusal ≡ None) (λ error. refusal ≡ Some error) }
+fn check_digests(old: &Checkpoint, new: &Checkpoint, digests: &[[u8; 32]]) -> Result<(), Error>
+    ensures { Checks result
+        (consistency_refused (checkpoint_fields old.now) (checkpoint_fields new.now) digests.now) }
 {
-    verify(old.size, new.size, &proof.digests, &old.root, &new.root).map_err(|error| Error::Refused(
-        Source::Proof,
-        Refusal::Consistency(error),
-    ))
+    let verdict = verify(old.size, new.size, digests, &old.root, &new.root);
+    verdict.map_err(|error| Error::Refused(Source::Proof, Refusal::Consistency(error)))
 }

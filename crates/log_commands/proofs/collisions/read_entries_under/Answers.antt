@@ -9,7 +9,7 @@ pub returns : goal.returns
 returns c =
     let size = c.in_ok-checkpoint.checkpoint.size in
     read_all c.args.source c.args.cut c.args.checkpoint.now c.args.file.now
-    (checkpoint_fields c.in_ok-checkpoint.checkpoint) c.deref.result.now c.in_ok-log.log c.in_ok-checkpoint.ensures
+    (checkpoint_fields c.in_ok-checkpoint.checkpoint) c.deref.result.now c.in_ok-log.log c.in_ok-checkpoint.ensures.said
     c.in_ok-log.ensures
     (c.deref.ensures.value
     ∙ items_from_collect {E = Unit {0}} (Ok c.in_ok-indices.indices) c.in_ok-indices.ensures.ran

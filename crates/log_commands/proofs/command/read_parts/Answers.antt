@@ -5,7 +5,7 @@ use Rattle.std.proofs.lemmas.{Result.err_from_is_err_and, List.length-map, List.
 use Rattle.log_commands.specs.{Commands.AreReadAs, Outcomes.bytes_in}
 use Rattle.log_commands.specs.declared.error.{Error.TheVariants.Read, Source.TheVariants.Part}
 use Rattle.std.specs.Vec.Iter.{into_iter_items}
-use Rattle.log_commands.proofs.InputFacts.{all_read, read_up_to, stops_at, unread}
+use Rattle.log_commands.proofs.RunFacts.{all_read, read_up_to, stops_at, unread}
 use Rattle.log_commands.proofs.command.read_parts.Goals as goal
 
 pub returns-in_err-read_text : goal.returns-in_err-read_text
@@ -14,9 +14,9 @@ returns-in_err-read_text g c =
     let done = map bytes_in c.loop-part.texts.items in
     rw (left.1, left.2)
     (⊎_elim
-    (λ memory. let none = unread g.Src.Read.remaining c.args.parts.items in (none.0, none.1, inl memory))
+    (λ memory. let none = unread g.R.Read.remaining c.args.parts.items in (none.0, none.1, inl memory))
     (λ failed.
-    let stops = stops_at g.Src.Read.remaining (into_iter_items c.loop-part.part-iterator)
+    let stops = stops_at g.R.Read.remaining (into_iter_items c.loop-part.part-iterator)
     (into_iter_items c.next.new.self) c.in-Some.part c.args.parts.items c.loop-part.texts.items
     c.in-Some.ensures.steps.0 c.loop-part.invariant in
     let len_is : c.len.result ≡ 0 + length done = omega (arith, length-map c.loop-part.texts.items bytes_in) in (
@@ -29,7 +29,7 @@ returns-in_err-read_text g c =
 pub returns-in_err-push : goal.returns-in_err-push
 returns-in_err-push g c =
     let left = err_from_is_err_and c.from_residual-in_err-push.result c.from_residual-in_err-push.ensures.1 in
-    let none = unread g.Src.Read.remaining c.args.parts.items in rw left.1 (none.0, none.1, inl left.2)
+    let none = unread g.R.Read.remaining c.args.parts.items in rw left.1 (none.0, none.1, inl left.2)
 
 pub returns : goal.returns
 returns g c =
@@ -37,9 +37,9 @@ returns g c =
     let left = nil_from_length (into_iter_items it) (omega (arith, it.rest.ok.0, c.in-None.ensures.steps.0)) in
     let texts = map bytes_in c.loop-part.texts.items in (
       map Some texts,
-      subst (λ (all : List (Option (List ℕ))). AreReadAs (map g.Src.Read.remaining c.args.parts.items) all)
+      subst (λ (all : List (Option (List ℕ))). AreReadAs (map g.R.Read.remaining c.args.parts.items) all)
           (append-nil (map Some texts))
           (c.loop-part.invariant []
-          (subst (λ (xs : List _). AreReadAs (map g.Src.Read.remaining xs) []) (sym left) tt)),
+          (subst (λ (xs : List _). AreReadAs (map g.R.Read.remaining xs) []) (sym left) tt)),
       all_read 0 texts,
     )

@@ -1,10 +1,17 @@
 -- Each turn checks one size.
-use Rattle.std.proofs.Common.{ap, get_or, length, sym}
+use Rattle.std.proofs.Common.{◌≡◌, ◌<◌, ◌+◌, ◌-◌, ap, arith, get_or, length, suc, sym, ℕ, Option}
+use Rattle.std.specs.{List.range_with_len, Option.option_or}
+use Rattle.p3_merkle_core.{proofs.Pruned.LeadFacts.found_or, proofs.Pruned.LeadFacts.kept_or, specs.Refusals.first_of}
 use Rattle.p3_merkle_core.specs.Refusals.{unless}
 use Rattle.log_commands.specs.{Outcomes.part_refusal, Outcomes.sizes_refusal, declared.error.Error.TheVariants.Refused}
 use Rattle.log_commands.specs.declared.error.{Source.TheVariants.Part, Refusal.TheVariants.PartSize}
-use Rattle.log_commands.proofs.LoopFacts.{found_or, kept_or, next_place}
 use Rattle.log_commands.proofs.join.check_each.Goals as goal
+
+-- the refusal of a place among so many, else of those after it
+next_place : {E : Type 0} (h : ℕ → Option E) (k n : ℕ) (total : Option E) → k < n →
+    first_of h (range_with_len k (n - k)) ≡ total →
+    option_or (h k) (first_of h (range_with_len (k + 1) (n - (k + 1)))) ≡ total
+next_place h k n total within so_far = let more : n - k ≡ suc (n - (k + 1)) = omega arith in rw more at so_far
 
 pub loop-k-preserved : goal.loop-k-preserved
 loop-k-preserved c =

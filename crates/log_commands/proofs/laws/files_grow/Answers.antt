@@ -1,4 +1,4 @@
-use Rattle.log_commands.proofs.FileLaws.{files_grow}
+use Rattle.log_commands.proofs.OutcomeFacts.{files_grow}
 use Rattle.log_commands.proofs.laws.files_grow.Goals as goal
 
 pub returns : goal.returns

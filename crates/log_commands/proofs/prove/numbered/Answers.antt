@@ -1,12 +1,23 @@
 -- Where either list is at its end, all entries are made.
-use Rattle.std.proofs.Common.{◌≡◌, ◌⊎◌, ◌∙◌, [], ap, inl, inr, map, sym, zip}
+use Rattle.std.proofs.Common.{◌≡◌, ◌⊎◌, ◌∙◌, ◌∷◌, ◌++◌, [], List, ap, append-nil, inl, inr, map, refl, sym, zip, ⊎_elim}
 use Rattle.std.specs.Iterator.Adapters.{zip_first, zip_second}
 use Rattle.std.specs.{Slice.Iter.iter_rest, Vec.Iter.into_iter_items}
 use Rattle.std.proofs.lemmas.List.{nil_from_length}
 use Rattle.log_text.specs.Texts.{entry_fields}
 use Rattle.log_commands.specs.{Inner.entry_of, Outcomes.bytes_in}
-use Rattle.log_commands.proofs.LoopFacts.{pairs_end}
 use Rattle.log_commands.proofs.prove.numbered.Goals as goal
+
+module _ {R V N B : Type 0} (shown : R → V) (value : N × B → V) (old : List R) (ns : List N) (bs : List B)
+    (total : List V) (so_far : map shown old ++ map value (zip ns bs) ≡ total) where
+  none_left : (ms : List N) (left : List B) → left ≡ [] → zip ms left ≡ []
+  none_left [] left is = refl
+  none_left (m ∷ ms) left is = ap (zip (m ∷ ms)) is
+
+  -- no pair is left where one of both lists is at its end
+  pairs_end : (ns ≡ []) ⊎ (bs ≡ []) → map shown old ≡ total
+  pairs_end ended =
+      let none : zip ns bs ≡ [] = ⊎_elim (λ is. ap (λ ms. zip ms bs) is) (none_left ns bs) ended in
+      sym (append-nil (map shown old)) ∙ ap (λ ps. map shown old ++ map value ps) (sym none) ∙ so_far
 
 pub returns : goal.returns
 returns c =

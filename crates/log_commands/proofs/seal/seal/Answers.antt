@@ -11,16 +11,17 @@ returns-in_err-log g c =
     let left = err_from_is_err_and c.from_residual.result c.from_residual.ensures.1 in
     whole_stops (entries_read c.args.cut None)
     (λ entries. Ok (checkpoint_text (checkpoint_of c.args.origin.now entries))) bytes_in
-    (g.Src.Read.remaining c.args.file.now) [] [] c.from_residual.result _ (left.1 ∙ ap Err left.2)
+    (g.R.Read.remaining c.args.file.now) [] [] c.from_residual.result _ (left.1 ∙ ap Err left.2)
     c.in_err-log.ensures
 
 pub returns : goal.returns
 returns g c =
     whole_goes (entries_read c.args.cut None)
     (λ entries. Ok (checkpoint_text (checkpoint_of c.args.origin.now entries))) bytes_in
-    (g.Src.Read.remaining c.args.file.now) [] [] c.in_ok-log.log
+    (g.R.Read.remaining c.args.file.now) [] [] c.in_ok-log.log
     (Ok c.in_ok-to_text.field-0) c.in_ok-log.ensures
-    (λ input entries is has. gives_text c.in_ok-to_text.field-0 (checkpoint_text (checkpoint_of c.args.origin.now entries))
+    (λ input entries is has. gives_text c.in_ok-to_text.field-0
+    (checkpoint_text (checkpoint_of c.args.origin.now entries))
     (c.in_ok-to_text.ensures
     ∙ ap (λ (p : ℕ × List ℕ). checkpoint_text (record { origin = c.args.origin.now; size = p.0; root = p.1 }))
     (c.size_and_root-size.ensures [] [] entries has)))

@@ -1,14 +1,14 @@
 -- Each turn writes the next bytes.
 use Rattle.std.proofs.Common.{List, ap, subst, sym, ℕ}
-use Rattle.log_commands.proofs.WriteFacts.{Wrote, step_err, step_ok, wrote_same}
-use Rattle.log_commands.proofs.write.write_text.Goals.{in-Ok, in-Err}
-use Rattle.log_commands.proofs.write.write_text.Goals as goal
+use Rattle.log_commands.proofs.RunFacts.{Wrote, step_err, step_ok, wrote_same}
+use Rattle.log_commands.proofs.command.write_text.Goals.{in-Ok, in-Err}
+use Rattle.log_commands.proofs.command.write_text.Goals as goal
 
 pub loop-turn-preserved : goal.loop-turn-preserved
 loop-turn-preserved g c =
-    let old = g.Dst.Write.contents c.args.output.now in
-    let now = g.Dst.Write.contents c.loop-turn.output in
-    let new = g.Dst.Write.contents c.write.new.self in
+    let old = g.W.Write.contents c.args.output.now in
+    let now = g.W.Write.contents c.loop-turn.output in
+    let new = g.W.Write.contents c.write.new.self in
     let rest = c.loop-turn.rest.now in
     elim c.match-write.branch [
       | in-Ok w ↦

@@ -5,13 +5,13 @@ use Rattle.sha2.specs.Sha256.{sha256}
 use Rattle.tlog.specs.Rfc9162.{leaf_hash}
 use Rattle.log_files.specs.{Entries.entries_in, Entries.first_of as first_entries, Entries.read_refusal, Logs.IsLogOf}
 use Rattle.log_commands.specs.Errors.{read_error}
-use Rattle.log_commands.proofs.FileFacts.{file_known, read_err, read_ok}
-use Rattle.log_commands.proofs.files.read_file.Goals as goal
+use Rattle.log_commands.proofs.OutcomeFacts.{file_known, read_err, read_ok}
+use Rattle.log_commands.proofs.inputs.read_file.Goals as goal
 
 pub returns : goal.returns
 returns g c =
     let log = c.in_ok-read_log.field-0 in
-    let found = file_known (g.Src.Read.remaining c.args.file.now)
+    let found = file_known (g.R.Read.remaining c.args.file.now)
     (IsLogOf log c.args.cut c.args.limit c.args.nodes.now c.args.wanted.now) c.in_ok-read_log.ensures.read in
     let entries = first_entries c.args.limit (entries_in c.args.cut found.0) in (
       Some found.0,
@@ -35,7 +35,7 @@ returns-in_err-read_log g c =
     (λ other. ⊎_elim
     (λ failed. (None, tt, inr (ap Err (sym (is ∙ ap read_error failed)))))
     (λ refused.
-    let found = file_known (g.Src.Read.remaining c.args.file.now)
+    let found = file_known (g.R.Read.remaining c.args.file.now)
     (λ bytes. read_refusal c.args.cut c.args.limit bytes ≡ Some _) refused in
     (Some found.0, found.1, inr (read_err c.args.cut c.args.limit found.0 _ found.2 ∙ ap Err (sym is))))
     other) c.in_err-read_log.ensures.refused)

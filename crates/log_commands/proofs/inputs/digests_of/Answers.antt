@@ -1,8 +1,8 @@
 -- Each turn is one digest more: all are there.
 use Rattle.std.proofs.Common.{◌∙◌, ap}
-use Rattle.log_commands.proofs.FileFacts.{there_at, there_more}
-use Rattle.log_commands.proofs.files.digests_of.Goals as goal
-use Rattle.log_commands.proofs.files.digests_of.Goals.{in-Some+in_ok-push, in_default}
+use Rattle.log_commands.proofs.OutcomeFacts.{there_at, there_more}
+use Rattle.log_commands.proofs.inputs.digests_of.Goals as goal
+use Rattle.log_commands.proofs.inputs.digests_of.Goals.{in-Some+in_ok-push, in_default}
 
 pub loop-value-preserved : goal.loop-value-preserved
 loop-value-preserved c all is =

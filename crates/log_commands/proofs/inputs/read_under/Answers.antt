@@ -2,8 +2,8 @@
 use Rattle.std.proofs.{Common.Err, Common.Ok, Common.Some, Common.inr, lemmas.Result.err_from_is_err_and}
 use Rattle.log_text.specs.Texts.{checkpoint_fields}
 use Rattle.log_commands.specs.{Inner.ReadsAs, Outcomes.entries_read}
-use Rattle.log_commands.proofs.FileFacts.{checked, checked_is, goes, stops}
-use Rattle.log_commands.proofs.files.read_under.Goals as goal
+use Rattle.log_commands.proofs.OutcomeFacts.{checked, checked_is, goes, stops}
+use Rattle.log_commands.proofs.inputs.read_under.Goals as goal
 
 pub returns-in_err-log : goal.returns-in_err-log
 returns-in_err-log g c =
@@ -26,5 +26,9 @@ returns g c =
     let fields = checkpoint_fields c.args.checkpoint.now in
     goes (entries_read c.args.cut (Some fields.size)) (checked fields) _ _ _ _
     (ReadsAs c.args.nodes.now c.args.wanted.now (Ok c.in_ok-log.log)) c.in_ok-log.ensures
-    (λ bytes entries is has.
-    (entries, checked_is fields _ entries _ (c.size_and_root-size.ensures _ _ entries has) c.in_ok-check_tree.ensures, has))
+    (λ bytes entries is has. (
+      entries,
+      checked_is fields _ entries _
+          (c.size_and_root-size.ensures _ _ entries has) c.in_ok-check_tree.ensures,
+      has,
+    ))
