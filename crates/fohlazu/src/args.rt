@@ -3,13 +3,14 @@
 ghost use Rattle.std.specs.Prelude.{IfOk, ◌≤◌};
 ghost use Rattle.log_commands.specs.Commands.{IsLawful};
 
-use crate::escaped::Escaped;
 use crate::input::{Input, Notes};
 use crate::output::is_same_file;
 use clap::{Arg, ArgMatches, Command as Syntax, arg, value_parser};
 use log_commands::prove::MOST_NUMBERS;
 use log_commands::{Command, Cut, PART_ORIGIN, PartialLine, Print, Requested, Source};
 use std::alloc::{AllocError, Global};
+use std::fmt;
+use std::fmt::{Display, Formatter, Write};
 use std::path::Path;
 use thiserror::Error;
 
@@ -58,7 +59,7 @@ const COMMANDS: [(&str, &str, &str, &str); 6] = [
 
 /// Why no command is run.
 #[derive(Debug, Drop, Error)]
-pub(crate) enum ArgsError<'a> {
+pub enum ArgsError<'a> {
     /// The arguments are not as the help says, or they ask for it.
     #[error("{0}")]
     Clap(#[from] clap::Error),
@@ -70,15 +71,32 @@ pub(crate) enum ArgsError<'a> {
     OutOfMemory(#[from(alloc)] AllocError),
 }
 
+/// An argument that prints with its control characters escaped.
+#[derive(Clone, Copy, Debug)]
+pub struct Escaped<'a>(pub &'a str);
+
+impl Display for Escaped<'_> {
+    fn fmt<W: Write>(&self, f: &mut Formatter<W>) -> fmt::Result {
+        for c in self.0.chars() {
+            if c.is_control() {
+                write!(f, "{}", c.escape_default())?;
+            } else {
+                f.write_char(c)?;
+            }
+        }
+        Ok(())
+    }
+}
+
 #[derive(Drop)]
-pub(crate) struct Args<'a> {
-    rt: &'a HostRuntime,
+pub struct Args<'a> {
+    pub rt: &'a HostRuntime,
     found: ArgMatches<'a>,
-    notes: &'a Notes,
+    pub notes: &'a Notes,
 }
 
 /// Reads the arguments: the command, and what its inputs are called. The notes take what happens while they are read.
-pub(crate) fn parse_args<'a>(
+pub fn parse_args<'a>(
     rt: &'a HostRuntime,
     notes: &'a Notes,
     words: &'a [String],
@@ -122,11 +140,8 @@ fn check_options(words: &[String]) -> Result<(), ArgsError<'_>> {
     let command = words.get(1).map_or("", |word| word.as_str());
     let row = COMMANDS.into_iter().find(|row| row.0 == command);
     let ids = row.map_or("version", |row| row.3); // one option is left where there is no such command
-    for word in words.iter().skip(1) {
-        let word = word.as_str();
-        if word == "--" {
-            break;
-        }
+    let words = words.iter().skip(1).map(|word| word.as_str());
+    for word in words.take_while(|word| *word != "--") {
         let name = match word.split('=').next() {
             Some("-h") => "--help",
             Some("-o") => "--output",
@@ -145,7 +160,7 @@ fn check_options(words: &[String]) -> Result<(), ArgsError<'_>> {
 }
 
 impl<'a> Args<'a> {
-    pub(crate) fn name_of(&self, source: Source) -> &'a str {
+    pub fn name_of(&self, source: Source) -> &'a str {
         let (id, k) = match source {
             Source::Checkpoint => ("CHECKPOINT", 0),
             Source::Old => ("OLD", 0),
@@ -195,7 +210,7 @@ impl<'a> Args<'a> {
     }
 
     /// The file that is written, if it is not standard output.
-    pub(crate) fn output(&self) -> Option<&'a str> {
+    pub fn output(&self) -> Option<&'a str> {
         self.found.get_str("output").filter(|name| *name != "-")
     }
 
@@ -214,11 +229,10 @@ impl<'a> Args<'a> {
     }
 
     fn parts(&self, alloc: Global) -> Result<Vec<Input<'a>>, AllocError> {
-        let mut parts = Vec::new(alloc);
-        for name in self.found.get_strs("PART").unwrap_or(&[]) {
-            parts.push(Input::new(self.rt, name, false, self.notes))?;
-        }
-        Ok(parts)
+        let names = self.found.get_strs("PART").unwrap_or(&[]).iter();
+        names
+            .map(|name| Input::new(self.rt, name, false, self.notes))
+            .collect(alloc)
     }
 
     /// The numbers of entries, or `None` for `all`.
@@ -254,9 +268,7 @@ impl<'a> Args<'a> {
         }
         let name = match self.found.get_str("FILE") {
             Some("-") => "stdin",
-            file => file
-                .and_then(|file| Path::new(file).file_name())
-                .unwrap_or(""),
+            file => Path::new(file.unwrap_or("")).file_name().unwrap_or(""),
         };
         format!(in alloc; "localhost/{name}")
     }

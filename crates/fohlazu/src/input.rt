@@ -10,18 +10,18 @@ use std::io::{Error, ErrorKind, Read};
 
 /// What is noted while arguments and inputs are read.
 #[derive(Default, Drop)]
-pub(crate) struct Notes {
+pub struct Notes {
     /// Why a read failed.
-    pub(crate) failure: Cell<Option<Error>>,
+    pub failure: Cell<Option<Error>>,
     /// Whether a line of progress stands on standard error.
-    pub(crate) is_shown: Cell<bool>,
+    pub is_shown: Cell<bool>,
     /// Whether a proof is verified without numbers to compare its own with.
-    pub(crate) lacks_numbers: Cell<bool>,
+    pub lacks_numbers: Cell<bool>,
 }
 
 impl Notes {
     /// Takes the line of progress away.
-    pub(crate) fn clear_progress(&self, rt: &HostRuntime) {
+    pub fn clear_progress(&self, rt: &HostRuntime) {
         if self.is_shown.replace(false) {
             let _ = eprint!(rt; "\r\u{1b}[K");
         }
@@ -30,7 +30,7 @@ impl Notes {
 
 /// An input that is opened when it is first read: a file, or standard input by the name `-`.
 #[derive(Drop)]
-pub(crate) struct Input<'a> {
+pub struct Input<'a> {
     rt: &'a HostRuntime,
     name: &'a str,
     /// The file that is open, and how many of the bytes have not been read that it had when it was opened, if it is a
@@ -41,17 +41,12 @@ pub(crate) struct Input<'a> {
 }
 
 impl<'a> Input<'a> {
-    pub(crate) fn new(
-        rt: &'a HostRuntime,
-        name: &'a str,
-        shows_progress: bool,
-        notes: &'a Notes,
-    ) -> Input<'a> {
+    pub fn new(rt: &'a HostRuntime, name: &'a str, shown: bool, notes: &'a Notes) -> Input<'a> {
         Input {
             rt,
             name,
             file: None,
-            progress: Progress::start(rt, shows_progress),
+            progress: Progress::start(rt, shown),
             notes,
         }
     }

@@ -2,15 +2,13 @@
 #![tactic(auto)]
 
 mod args;
-mod escaped;
 mod input;
 mod output;
 mod progress;
 
 ghost use Rattle.log_commands.specs.Commands.{IsLawful};
 
-use args::{Args, ArgsError, parse_args};
-use escaped::Escaped;
+use args::{Args, ArgsError, Escaped, parse_args};
 use input::{Input, Notes};
 use log_commands::{Command, Error, run};
 use output::{Replacement, StandardOutput};
@@ -29,11 +27,11 @@ fn main(rt: HostRuntime) -> ExitCode {
     let notes = Notes::default();
     match parse_args(&rt, &notes, &words) {
         Ok((command, args)) => match args.output() {
-            Some(name) => run_to_file(&rt, &args, &notes, command, name),
-            None => {
-                let mut output = StandardOutput(&rt, &notes);
-                finish(&rt, &args, &notes, run(rt.alloc(), command, &mut output))
-            }
+            Some(name) => run_to_file(&args, command, name),
+            None => finish(
+                &args,
+                run(rt.alloc(), command, &mut StandardOutput(&rt, &notes)),
+            ),
         },
         Err(ArgsError::Clap(error)) => print_help(&rt, &error),
         Err(error) => refuse(&rt, error),
@@ -50,15 +48,10 @@ fn read_words(rt: &HostRuntime) -> io::Result<Vec<String>> {
 }
 
 /// Runs a command, whose output replaces a file.
-fn run_to_file(
-    rt: &HostRuntime,
-    args: &Args<'_>,
-    notes: &Notes,
-    command: Command<Input<'_>>,
-    name: &str,
-) -> ExitCode
+fn run_to_file(args: &Args<'_>, command: Command<Input<'_>>, name: &str) -> ExitCode
     requires { IsLawful command }
 {
+    let rt = args.rt;
     let mut output = match Replacement::new(rt, name) {
         Ok(output) => output,
         Err(error) => return refuse_output(rt, name, error),
@@ -70,16 +63,17 @@ fn run_to_file(
         output.give_up()
     };
     match replaced {
-        Ok(()) => finish(rt, args, notes, done),
+        Ok(()) => finish(args, done),
         Err(error) => {
-            notes.clear_progress(rt);
+            args.notes.clear_progress(rt);
             refuse_output(rt, name, error)
         }
     }
 }
 
 /// Ends a run: prints why it failed and what the input is called, or that the caller has to compare numbers.
-fn finish(rt: &HostRuntime, args: &Args<'_>, notes: &Notes, done: Result<(), Error>) -> ExitCode {
+fn finish(args: &Args<'_>, done: Result<(), Error>) -> ExitCode {
+    let (rt, notes) = (args.rt, args.notes);
     notes.clear_progress(rt);
     let Err(error) = done else {
         if notes.lacks_numbers.get() {

@@ -9,7 +9,7 @@ use std::{fs, io};
 
 /// A file that is written beside its place, and put there once it is whole.
 #[derive(Drop)]
-pub(crate) struct Replacement<'a> {
+pub struct Replacement<'a> {
     rt: &'a HostRuntime,
     /// Where it goes. Symbolic links are followed.
     place: PathBuf,
@@ -23,7 +23,7 @@ pub(crate) struct Replacement<'a> {
 
 impl<'a> Replacement<'a> {
     /// A file of this name, which replaces a regular one if there is one.
-    pub(crate) fn new(rt: &'a HostRuntime, name: &str) -> io::Result<Replacement<'a>> {
+    pub fn new(rt: &'a HostRuntime, name: &str) -> io::Result<Replacement<'a>> {
         let place = match fs::canonicalize(rt, name) {
             Err(error) if error.kind() == ErrorKind::NotFound => {
                 Path::new(name).to_path_buf(rt.alloc())?
@@ -48,7 +48,7 @@ impl<'a> Replacement<'a> {
     }
 
     /// Puts the file in its place, with the mode of what it replaces, and makes sure that the disk has it.
-    pub(crate) fn finish(mut self) -> io::Result<()> {
+    pub fn finish(mut self) -> io::Result<()> {
         self.file()?;
         let done = self.put();
         if done.is_err() {
@@ -58,7 +58,7 @@ impl<'a> Replacement<'a> {
     }
 
     /// Gives the file up. The error is that of a write that failed.
-    pub(crate) fn give_up(self) -> io::Result<()> {
+    pub fn give_up(self) -> io::Result<()> {
         self.remove();
         self.failure.map_or(Ok(()), Err)
     }
@@ -112,7 +112,7 @@ impl Write for Replacement<'_> {
 }
 
 /// Whether an output is the regular file that an input is. The input `-` is standard input.
-pub(crate) fn is_same_file(rt: &HostRuntime, output: &str, input: &str) -> bool {
+pub fn is_same_file(rt: &HostRuntime, output: &str, input: &str) -> bool {
     let input = if input == "-" { "/dev/stdin" } else { input };
     match (fs::metadata(rt, output), fs::metadata(rt, input)) {
         (Ok(one), Ok(other)) => one.is_file()
@@ -124,7 +124,7 @@ pub(crate) fn is_same_file(rt: &HostRuntime, output: &str, input: &str) -> bool 
 
 /// Standard output. It takes the line of progress away first, which may stand on the same terminal.
 #[derive(Drop)]
-pub(crate) struct StandardOutput<'a>(pub(crate) &'a HostRuntime, pub(crate) &'a Notes);
+pub struct StandardOutput<'a>(pub &'a HostRuntime, pub &'a Notes);
 
 impl Write for StandardOutput<'_> {
     fn write(&mut self, buf: &[u8]) -> io::Result<usize> {
