@@ -1,9 +1,8 @@
 -- Bytes that are cut into rows: one row more, and the end.
 use Rattle.std.proofs.Common.{◌≡◌, ◌∙◌, ℕ, ◌+◌, ◌<◌, ◌≤◌, List, [], ◌∷◌, ◌++◌, map, length, take, drop, min, get_or}
 use Rattle.std.proofs.Common.{append-nil, sym, ap, true, false}
-use Rattle.std.proofs.{Math.Dec.eqb-suc-zero, lemmas.Bool.true≢false}
 use Rattle.std.proofs.lemmas.List.{append_assoc, drop_all, drop_min, drop_more, take_min}
-use Rattle.std.specs.Prelude.{◌==◌}
+use Rattle.std.{proofs.Math.Dec.eqb-suc-zero, proofs.lemmas.Bool.true≢false, specs.Prelude.◌==◌}
 use Rattle.p3_support.specs.Batches.{widths_of}
 use Rattle.fohlazu_c.specs.{Openings.cut_rows, Openings.size_shown, declared.setting.MatrixSize.MatrixSize}
 
@@ -11,9 +10,9 @@ use Rattle.fohlazu_c.specs.{Openings.cut_rows, Openings.size_shown, declared.set
 abbrev pub cut_from : List MatrixSize → ℕ → List ℕ → List (List ℕ)
 cut_from sizes k left = cut_rows (widths_of (map size_shown (drop k sizes))) left
 
-pub cut_more : (rows : List (List ℕ)) (sizes : List MatrixSize) (k : ℕ) (d : MatrixSize) (left row rest : List ℕ) (w : ℕ) →
-    k < length sizes → w ≡ min (get_or sizes k d).width (length left) → row ≡ take w left → rest ≡ drop w left →
-    (rows ++ row ∷ []) ++ cut_from sizes (k + 1) rest ≡ rows ++ cut_from sizes k left
+pub cut_more : (rows : List (List ℕ)) (sizes : List MatrixSize) (k : ℕ) (d : MatrixSize) (left row rest : List ℕ)
+    (w : ℕ) → k < length sizes → w ≡ min (get_or sizes k d).width (length left) → row ≡ take w left →
+    rest ≡ drop w left → (rows ++ row ∷ []) ++ cut_from sizes (k + 1) rest ≡ rows ++ cut_from sizes k left
 unfolding cut_rows
 cut_more rows sizes k d left row rest w inside is_w is_row is_rest =
     let size = get_or sizes k d in

@@ -4,7 +4,6 @@
 
 pub mod opening;
 pub mod setting;
-mod verdict;
 
 ghost use Rattle.std.specs.{Prelude.◌≡◌, Prelude.◌↔◌, Prelude.◌≤◌, Prelude.pos, Result.result_err};
 ghost use Rattle.sha2.specs.Sha256.{sha256};

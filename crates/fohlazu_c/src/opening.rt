@@ -1,12 +1,23 @@
 //! The call about openings of matrices.
 
-ghost use Rattle.std.specs.Prelude.{◌≡◌, ◌⊎◌, ◌↔◌, ℕ, pos, map, None, Some};
-ghost use Rattle.p3_merkle_core.specs.Checks.{IsAccepted, Params};
-ghost use Rattle.fohlazu_c.specs.Openings.{opening_status, params_shown, presented_opening, refusal_at, size_shown};
+ghost use Rattle.std.specs.Prelude.{◌≡◌, ◌⊎◌, ◌↔◌, ℕ, pos, map, Err, IfOk, IsOk, IsTrue, None, Some};
+ghost use Rattle.std.specs.Result.{result_err};
+ghost use Rattle.p3_support.specs.{Batches.widths_of, Shown.row_lists};
+ghost use Rattle.p3_merkle_core.specs.{Checks.IsAccepted, Checks.Params, Refusals.ok_unless};
+ghost use Rattle.p3_merkle_core.specs.declared.error.MerkleTreeError.TheVariants.{OutOfMemory};
+ghost use Rattle.fohlazu_c.specs.Openings.{cut_rows, is_arity_taken, opening_status, params_at, params_shown};
+ghost use Rattle.fohlazu_c.specs.Openings.{presented_opening, refusal_at, size_shown};
 
 use crate::setting::{MatrixSize, TreeSetting, rule};
-use crate::verdict::{Claim, status, verdict};
-use std::alloc::Global;
+use p3_hashes::sha::{Sha256Nodes, Sha256Rows};
+use p3_merkle_core::cap::CapRule;
+use p3_merkle_core::error::MerkleTreeError;
+use p3_merkle_mmcs::mmcs::MerkleTreeMmcs;
+use p3_support::matrix::Dimensions;
+use p3_support::opening::{BatchOpeningRef, MerkleCap};
+use std::alloc::{AllocError, Global};
+
+type Scheme<const N: usize> = MerkleTreeMmcs<u8, u8, Sha256Rows, Sha256Nodes<N>, N, 32>;
 
 /// No tree has such a number of children, or such a rule.
 const NO_SUCH_TREE: i32 = 8;
@@ -47,5 +58,88 @@ pub extern "C" fn fohlazu_verify_opening(
         (4, Some(rule)) => status(verdict::<4>(alloc, setting.cap_height, rule, claim)),
         (8, Some(rule)) => status(verdict::<8>(alloc, setting.cap_height, rule, claim)),
         _ => NO_SUCH_TREE,
+    }
+}
+
+/// What is claimed: the cap, the dimensions of the matrices, the index, their rows one after another, and the siblings.
+#[derive(Clone, Copy)]
+struct Claim<'a> {
+    roots: &'a [[u8; 32]],
+    sizes: &'a [MatrixSize],
+    index: usize,
+    rows: &'a [u8],
+    siblings: &'a [[u8; 32]],
+}
+
+/// The verdict on a claim under an arity.
+fn verdict<const N: usize>(
+    alloc: Global,
+    cap_height: usize,
+    rule: CapRule,
+    claim: Claim<'_>,
+) -> Result<(), MerkleTreeError>
+    requires { IsTrue (is_arity_taken N) }
+    ensures answer { let dimensions = map size_shown claim.entry.sizes.now in
+        (result ≡ Err OutOfMemory) ⊎ (result
+        ≡ ok_unless (refusal_at (params_at N cap_height rule dimensions) claim.entry.roots.now
+        (presented_opening dimensions claim.entry.index claim.entry.rows.now claim.entry.siblings.now)) tt) }
+    ensures accepted { let dimensions = map size_shown claim.entry.sizes.now in
+        IsOk result → IsAccepted (params_at N cap_height rule dimensions) claim.entry.roots.now
+        (presented_opening dimensions claim.entry.index claim.entry.rows.now claim.entry.siblings.now) }
+{
+    let dimensions = dimensions(alloc, claim.sizes)?;
+    let rows = cut(alloc, claim.sizes, claim.rows)?;
+    let siblings = Vec::from_slice(alloc, claim.siblings)?;
+    let cap = MerkleCap::new(Vec::from_slice(alloc, claim.roots)?);
+    let scheme = Scheme::<N>::new_with_rule(Sha256Rows, Sha256Nodes::<N>, cap_height, rule);
+    let opening = BatchOpeningRef::new(&rows, &siblings);
+    scheme.verify_batch(&cap, &dimensions, claim.index, opening)
+}
+
+/// The dimensions of matrices of these sizes.
+fn dimensions(alloc: Global, sizes: &[MatrixSize]) -> Result<Vec<Dimensions>, AllocError>
+    ensures { IfOk result (λ dimensions. dimensions.items ≡ map size_shown sizes.now) }
+{
+    let shown = |&MatrixSize { height, width }: &MatrixSize| Dimensions { height, width };
+    sizes.iter().map(shown).collect(alloc)
+}
+
+/// Rows one after another, cut by their widths: short where the bytes end, and one too many where some are left.
+fn cut(alloc: Global, sizes: &[MatrixSize], rows: &[u8]) -> Result<Vec<Vec<u8>>, AllocError>
+    ensures { IfOk result (λ cut. row_lists cut.items ≡ cut_rows (widths_of (map size_shown sizes.now)) rows.now) }
+{
+    let mut cut = Vec::new(alloc);
+    let mut left = rows;
+    for size in sizes {
+        let (row, rest) = left.split_at(size.width.min(left.len()));
+        cut.push(Vec::from_slice(alloc, row)?)?;
+        left = rest;
+    }
+    if !left.is_empty() {
+        cut.push(Vec::from_slice(alloc, left)?)?;
+    }
+    Ok(cut)
+}
+
+/// The status of a verdict.
+fn status(verdict: Result<(), MerkleTreeError>) -> i32
+    ensures { result ≡ opening_status (result_err verdict) }
+{
+    match verdict {
+        Ok(()) => 0,
+        Err(MerkleTreeError::TooLarge { .. }) => 1,
+        Err(MerkleTreeError::IndexOutOfBounds { .. }) => 2,
+        Err(
+            MerkleTreeError::WrongHeight {
+                expected_proof_len: expected,
+                num_siblings: got,
+            },
+        ) if got < expected => 4,
+        Err(MerkleTreeError::WrongHeight { .. }) => 5,
+        Err(MerkleTreeError::CapMismatch | MerkleTreeError::MalformedPrunedProof(_)) => 7,
+        Err(MerkleTreeError::EmptyBatch) => 9,
+        Err(MerkleTreeError::IncompatibleHeights { .. }) => 10,
+        Err(MerkleTreeError::WrongBatchSize { .. } | MerkleTreeError::WrongWidth { .. }) => 11,
+        Err(MerkleTreeError::OutOfMemory) => 12,
     }
 }

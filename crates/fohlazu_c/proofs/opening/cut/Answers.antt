@@ -2,8 +2,8 @@ use Rattle.std.proofs.Common.{◌≡◌, ◌∙◌, ◌+◌, ◌++◌, ◌∷◌
 use Rattle.std.proofs.lemmas.List.{map-append}
 use Rattle.p3_support.specs.Shown.{row_lists}
 use Rattle.fohlazu_c.proofs.CutFacts.{cut_from, cut_left, cut_more, cut_none}
-use Rattle.fohlazu_c.proofs.verdict.cut.Goals as goal
-use Rattle.fohlazu_c.proofs.verdict.cut.Goals.{then-not-is_empty+in_ok-from_slice-2+in_ok-push-2, else-not-is_empty}
+use Rattle.fohlazu_c.proofs.opening.cut.Goals as goal
+use Rattle.fohlazu_c.proofs.opening.cut.Goals.{then-not-is_empty+in_ok-from_slice-2+in_ok-push-2, else-not-is_empty}
 
 pub loop-size-preserved : goal.loop-size-preserved
 loop-size-preserved c =
@@ -25,7 +25,8 @@ returns c =
     let left = c.loop-size.left.now in
     elim c.if-not-is_empty.branch [
       | then-not-is_empty+in_ok-from_slice-2+in_ok-push-2 w ↦
-          ap (λ (cut : Vec (Vec ℕ Global) Global). row_lists cut.items) w.cut-is ∙ ap row_lists w.in_ok-push-2.ensures.items
+          ap (λ (cut : Vec (Vec ℕ Global) Global). row_lists cut.items) w.cut-is
+          ∙ ap row_lists w.in_ok-push-2.ensures.items
           ∙ map-append (λ row. row.items) c.loop-size.cut.items (w.in_ok-from_slice-2.field-0 ∷ [])
           ∙ ap (λ row. rows ++ row ∷ []) w.in_ok-from_slice-2.ensures.items
           ∙ sym (cut_left rows c.args.sizes.now k left c.loop-size-test.false
