@@ -103,7 +103,7 @@ documents:
 	@python3 tests/documents
 
 check-quick: toolchain documents quick
-	@$(ALONE) python3 tests/quick
+	@$(ALONE) python3 tests/check-quick
 
 check: toolchain documents
 	@python3 tests/size

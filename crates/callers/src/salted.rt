@@ -1,4 +1,4 @@
-//! Commits to rows with two random words behind each, and opens one, and two by one proof.
+//! Commits to rows with two random words after each, and opens one, and two by one proof.
 
 use anyhow::Result;
 use p3_hashes::fold::{FoldCompress, FoldHash};

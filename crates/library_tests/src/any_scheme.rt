@@ -67,7 +67,7 @@ fn verified_word_of<T: Copy, M: Matrix<T>, S: Mmcs<T, M>>(
     Ok(rows[query][matrix][column])
 }
 
-/// Commits to matrices, opens an index alone and behind the index 0, and reads the word at a place out of both openings
+/// Commits to matrices, opens an index alone and after the index 0, and reads the word at a place out of both openings
 /// once they are verified: None where the matrices have no such index.
 fn words_read<T: Copy, M: Matrix<T> + Drop, S: Mmcs<T, M>>(
     alloc: Global,

@@ -26,7 +26,7 @@ BeginsWith cut file first = (more : List (List ℕ)) × (entries_in cut file ≡
 abbrev pub IsCheckpointUnder : (origin text : List ℕ) → List (List ℕ) → Type 0
 IsCheckpointUnder origin text entries = checkpoint_in text ≡ Ok (checkpoint_of origin entries)
 
--- bytes behind the end of an entry are further entries
+-- bytes after the end of an entry are further entries
 abbrev pub FilesGrow : Type 0
 FilesGrow =
     (cut : Cut) (file more : List ℕ) → IsCut cut → EndsWithEntry cut file →

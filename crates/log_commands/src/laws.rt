@@ -14,7 +14,7 @@ pub fn joins_are_read_again()
     ensures { JoinsAreReadAgain }
 {}
 
-/// Bytes behind the end of an entry are further entries.
+/// Bytes after the end of an entry are further entries.
 pub fn files_grow()
     ensures { FilesGrow }
 {}

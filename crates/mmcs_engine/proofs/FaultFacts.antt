@@ -11,7 +11,7 @@ use Rattle.mmcs_engine.specs.Input.{IsFirstFault, IsLineFault, IsMatrix}
 use Rattle.mmcs_engine.proofs.{Runs.first_run, BlockFacts.all_from_map}
 use Rattle.mmcs_engine.proofs.InputFacts.{zip_at, rows_are_last, runs_ended, IsEnded}
 
--- ---- lines, cut behind the last blank one
+-- ---- lines, cut after the last blank one
 
 record HasEnd (lines : List (List ℕ)) : Type 0 where
   pub front : List (List ℕ)

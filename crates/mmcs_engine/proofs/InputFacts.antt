@@ -14,7 +14,7 @@ use Rattle.mmcs_engine.specs.Input.{is_blank, numbers_of, runs_between, pieces_o
 use Rattle.mmcs_engine.specs.{Input.IsFirstFault, Input.IsLineFault, Input.IsMatrix, Inner.Blocks.IsBlock}
 use Rattle.mmcs_engine.proofs.{Runs.run_whole, InputLaws.runs_apart, InputLaws.split_apart, BlockFacts.block_is_matrix}
 
--- two pairs of lists, one behind the other
+-- two pairs of lists, one after the other
 pub zip_append : {A B : Type 0} (R : A → B → Type 0) (xs : List A) (ys : List B) (us : List A) (vs : List B) →
     AllZip R xs ys → AllZip R us vs → AllZip R (xs ++ us) (ys ++ vs)
 zip_append R [] [] us vs each more = more
@@ -59,7 +59,7 @@ last_behind : {X : Type 0} (d x : X) (xs : List X) → last_of d (xs ++ x ∷ []
 last_behind d x [] = refl
 last_behind d x (y ∷ xs) = last_behind y x xs
 
--- lines behind a blank one, none of which is blank, are the rows at the end
+-- lines after a blank one, none of which is blank, are the rows at the end
 pub rows_are_last : (front rows : List (List ℕ)) → IsEnded front → All (λ line. is_blank line ≡ false) rows →
     rows_at_end (front ++ rows) ≡ rows
 rows_are_last front rows ended full =
@@ -139,7 +139,7 @@ module _ {M : Type 0} {Shows : M → List (List ℕ) → Type 0} {limit : ℕ} w
       with_blank : is_blank line ≡ true → runs_between is_blank (seen ++ line ∷ []) ≡ runs_between is_blank seen
       with_blank blank = runs_apart is_blank seen line [] blank ∙ append-nil (runs_between is_blank seen)
 
-      -- a blank line behind no rows
+      -- a blank line after no rows
       pub lines_blank : {new_values : List ℕ} {new_width : ℕ} → is_blank line ≡ true → width ≡ 0 →
           IsBlock limit [] new_values new_width → LinesSoFar Shows limit (seen ++ line ∷ []) found new_values new_width
       lines_blank blank none emptied = record {
@@ -237,7 +237,7 @@ module _ {M : Type 0} {Shows : M → List (List ℕ) → Type 0} {limit : ℕ} w
           (shows so_far.rows so_far.block, tt),
     )
 
--- the line of a piece of an input, behind those of the first n
+-- the line of a piece of an input, after those of the first n
 module _ (input : List ℕ) (n : ℕ) (raw line : List ℕ) (within : n < length (slice_split (λ b. b == 10) input))
     (raw_is : raw ≡ get_or (slice_split (λ b. b == 10) input) n raw)
     (line_is : line ≡ strip_carriage_return raw) where

@@ -47,7 +47,7 @@ pieces_apart front back =
     ap (map strip_carriage_return) (split_apart (λ b. b == 10) front 10 back refl)
     ∙ map-append strip_carriage_return (slice_split (λ b. b == 10) front) (slice_split (λ b. b == 10) back)
 
--- elements that all pass, in front and behind
+-- elements that all pass, in front and after
 runs_behind : {X : Type 0} (p : X → Bool) (xs ys : List X) → All (λ x. p x ≡ true) xs → runs_between p (xs ++ ys)
     ≡ runs_between p ys
 runs_behind p [] ys all = refl

@@ -19,7 +19,7 @@ value_push : (n : ℕ) (xs : List ℕ) (d : ℕ) → digits_value_after 10 n (xs
 value_push n [] d = refl
 value_push n (x ∷ xs) d = value_push (n * 10 + digit_value x) xs d
 
--- the value of digits behind digits
+-- the value of digits after digits
 value_behind : (n : ℕ) (xs ys : List ℕ) → digits_value_after 10 n (xs ++ ys)
     ≡ digits_value_after 10 (digits_value_after 10 n xs) ys
 value_behind n [] ys = refl
@@ -103,7 +103,7 @@ module _ (limit : ℕ) (digits : List ℕ) (before : Option ℕ) (digit : ℕ) (
 
 -- ---- one more byte
 
--- the numbers of the first n bytes of a line, behind those that were there before, and the number that has not ended
+-- the numbers of the first n bytes of a line, after those that were there before, and the number that has not ended
 pub record RowSoFar (limit : ℕ) (line : List ℕ) (n : ℕ) (before values : List ℕ) (number : Option ℕ) : Type 0 where
   pub done : List (List ℕ)
   pub run : List ℕ
@@ -138,7 +138,7 @@ module _ (limit : ℕ) (line before : List ℕ) where
     rest_is : drop n line ≡ byte ∷ drop (n + 1) line
     rest_is = at_drop_more (λ bs. bs) line n 0 within ∙ ap (λ b. b ∷ drop (n + 1) line) (sym byte_is)
 
-    -- a gap behind no number
+    -- a gap after no number
     pub row_gap : is_gap byte ≡ true → RowSoFar limit line n before values None →
         RowSoFar limit line (n + 1) before values None
     row_gap gap so_far = record {

@@ -1,4 +1,4 @@
--- Lines behind lines, and digits of words.
+-- Lines after lines, and digits of words.
 use Rattle.std.proofs.Common.{◌≡◌, ℕ, zero, suc, ◌+◌, ◌/◌, ◌%◌, ◌<◌, List, [], ◌∷◌, ◌++◌, length, get_or, take}
 use Rattle.std.proofs.Common.{map, sym, ap, ◌∙◌, ◌-◌, arith, append_assoc}
 use Rattle.std.proofs.lemmas.List.{flat_map_more, map_more, get_or-map, length-map, take_more}
@@ -45,7 +45,7 @@ pub sets_long : {T A B : Type 0} (sets : List (Vec (Vec T A) B)) (f : ℕ → Li
 sets_long sets f indices are =
     sym (length-map sets (λ rows. row_lists rows.items)) ∙ ap length are ∙ length-map indices f
 
--- one more item, whose text comes behind the others'
+-- one more item, whose text comes after the others'
 pub texts_more : {R V : Type 0} (text : V → List ℕ) (value : R → V) (items : List R) (i : ℕ) (item : R)
     (old before after : List ℕ) → i < length items → item ≡ get_or items i item → before
     ≡ old ++ flat_map text (map value (take i items)) → after ≡ before ++ text (value item) → after

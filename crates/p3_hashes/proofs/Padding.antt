@@ -27,7 +27,7 @@ byte_after m p q e =
     let rest : p - length m ≡ q = omega arith in
     get_or-append_right m (padding (length m)) (length m) p 0 refl high ∙ ap (slice_index (padding (length m))) rest
 
--- the mark stands behind the message
+-- the mark stands after the message
 pub byte_mark : (m : List ℕ) (p : ℕ) → p ≡ length m → slice_index (padded_message m) p ≡ 128
 byte_mark m p e = byte_after m p 0 (omega arith)
 

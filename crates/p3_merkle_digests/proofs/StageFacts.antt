@@ -71,7 +71,7 @@ length-all height width row h each r below (m ∷ ms) all =
     length-append (row m r) (rows_over row ms r)
     ∙ omega (arith, each m r (rw same below), rest, sum_by-cons width m ms)
 
--- with one more part behind the first a elements, these are longer
+-- with one more part after the first a elements, these are longer
 pub part_put : {X : Type 0} (xs ys : List X) (a k n : ℕ) → length ys ≡ n → a ≤ length xs →
     take (a + n) (put_mid a k xs ys) ≡ take a xs ++ ys
 part_put xs ys a k n long inside =
@@ -98,7 +98,7 @@ part_more f xs ys a k n d long made inside before j below =
           ∙ made (j - a) inner ∙ ap f (sym at)
     ]
 
--- what stands behind a part stays
+-- what stands after a part stays
 pub part_after : {X : Type 0} (xs ys : List X) (a k j : ℕ) (d : X) → length ys ≡ k → a ≤ length xs → a + k ≤ j →
     get_or (put_mid a k xs ys) j d ≡ get_or xs j d
 part_after xs ys a k j d long inside behind =

@@ -77,7 +77,7 @@ beside_at covered n place j h e other =
 -- ---- from one covered node to the next
 
 -- what lies below next is done with: the covered nodes up to the place do, and what is beside them from next on lies
--- behind the covered node at the place
+-- after the covered node at the place
 pub record IsGone (covered : List ℕ) (n place next : ℕ) : Type 0 where
   pub behind : (i : ℕ) → i < place → get_or covered i 0 < next
   pub before : place < length covered → next ≤ get_or covered place 0
@@ -263,7 +263,7 @@ others_more layer covered n place next from node end old so_far middle new d w f
     ∙ append_assoc old (before ++ take (node - from) (drop from layer))
     (take (end - (node + 1)) (drop (node + 1) layer)))
 
--- a part of a list without the place p: what is before it there, and what is behind it
+-- a part of a list without the place p: what is before it there, and what is after it
 part_without : {X : Type 0} (xs : List X) (a p n : ℕ) → p < n →
     take p (drop a xs) ++ take (n - suc p) (drop (a + suc p) xs) ≡ remove (take n (drop a xs)) p
 part_without xs a p n h =
@@ -289,7 +289,7 @@ others_without layer covered n place next from node end old so_far new d w fits 
     (is_new ∙ ap (λ ys. so_far ++ ys) (sym parts)
     ∙ sym (append_assoc so_far front (take (end - (node + 1)) (drop (node + 1) layer))))
 
--- behind the last covered node nothing is left
+-- after the last covered node nothing is left
 pub others_end : {X : Type 0} (layer : List X) (covered : List ℕ) (n place next : ℕ) (d : X) → length covered ≤ place →
     next ≤ length layer → IsGone covered n place next → others_beside layer covered n d
     ≡ others_below layer covered n next d

@@ -24,7 +24,7 @@ message_past xs w n i full past =
     let far = mul-le-mul_right w past in
     ap (take ((i + 1) * w - i * w)) (drop_all (i * w) xs (omega (arith, full, far))) ∙ take-nil ((i + 1) * w - i * w)
 
--- a row and the salts behind it: past the height both are empty
+-- a row and the salts after it: past the height both are empty
 pub salted_row : {T : Type 0} (h n : ℕ) (row : ℕ → List T) (values : List T) → length values ≡ h * n → (j : ℕ) →
     cond (nat_lt j h) (row j ++ message n values j) [] ≡ cond (nat_lt j h) (row j) [] ++ message n values j
 salted_row h n row values full j =

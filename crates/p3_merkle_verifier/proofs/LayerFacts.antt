@@ -33,7 +33,7 @@ zip_maps : {X Y Z : Type 0} (f : X × Y → Z) (g : ℕ → X) (h : ℕ → Y) (
 zip_maps f g h [] = refl
 zip_maps f g h (x ∷ xs) = ap (λ ys. f (g x, h x) ∷ ys) (zip_maps f g h xs)
 
--- pieces of one length, one after another behind a of that length
+-- pieces of one length, one after another after a of that length
 pieces_from : {X Y : Type 0} (g : List X → Y) (n : ℕ) (h : ℕ → List X) → ((j : ℕ) → length (h j) ≡ n) →
     (zs : List X) (a : ℕ) → length zs ≡ n * a → (js : List ℕ) →
     map (λ k. g (take n (drop (n * k) (zs ++ flat_map h js)))) (range_with_len a (length js)) ≡ map (λ j. g (h j)) js

@@ -44,7 +44,7 @@ no_place d n none =
 
 -- ---- pairs of places
 
--- a place behind a first place
+-- a place after a first place
 abbrev under : {X : Type 0} → ℕ → ℕ × X → ℕ × ℕ × X
 under a (b, x) = (a, b, x)
 

@@ -13,7 +13,7 @@ salts_joined of_word (suc a) b s =
     let count : suc a + b ≡ suc (a + b) = omega arith in
     rw count (ap (λ xs. of_word (next_u64 s).0 ∷ xs) (salts_joined of_word a b (next_u64 s).1))
 
--- and the stream behind them
+-- and the stream after them
 after_joined : (a b : ℕ) (s : Stream) → after_words (a + b) s ≡ after_words b (after_words a s)
 after_joined zero b s = let none : 0 + b ≡ b = omega arith in rw none refl
 after_joined (suc a) b s =

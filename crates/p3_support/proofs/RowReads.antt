@@ -225,7 +225,7 @@ joined_front xs ys c n fits =
     ap (take n) (drop-append-le c xs ys (omega arith))
     ∙ take-append-le n (drop c xs) ys (omega (arith, length-drop c xs))
 
--- what stands behind the first, which has n elements
+-- what stands after the first, which has n elements
 pub joined_back : {A : Type 0} (xs ys : List A) (n c : ℕ) → length xs ≡ n → n ≤ c → drop c (xs ++ ys) ≡ drop (c - n) ys
 joined_back xs ys n c long above =
     let at : c ≡ length xs + (c - n) = omega (arith, long) in

@@ -46,7 +46,7 @@ node_above hash L e slot h =
     ∙ root_of_parents hash m (take (m + m) rest) taken (omega arith)
     ∙ ap (leaves_root hash) (front ∙ ap (take m) back))
 
--- more leaves behind it change nothing
+-- more leaves after it change nothing
 pub node_stays : (hash : Hash) (L X : List (List ℕ)) (e slot : ℕ) → (slot + 1) * 2 ^ e ≤ length L →
     node_at hash (L ++ X) e slot ≡ node_at hash L e slot
 node_stays hash L X e slot h =

@@ -63,7 +63,7 @@ end_stays hash size L w = stays _ _ w
     stays true v u = refl
     stays false v u = refl
 
--- only those that end behind the first leaves, and within all, get their values
+-- only those that end after the first leaves, and within all, get their values
 unmoved : (hash : Hash) (size : ℕ) (L : List (List ℕ)) (w : WantedNode) → size ≤ size_limit → length L ≤ size_limit →
     (size < end_of w → end_of w ≤ length L → ⊥) → updated hash 0 size L w ≡ w
 unmoved hash size L w fits all not_new =

@@ -233,7 +233,7 @@ cut_whole hash L nodes higher lowest size at long are place front back =
       back = back ∙ ap (drop at) parts ∙ drop_at up (single L) at is;
     }
 
--- more nodes behind a layer: those above go behind the layer above
+-- more nodes after a layer: those above go after the layer above
 pub whole_grows : (hash : Hash) (L more : List (List ℕ)) →
     whole_nodes hash (L ++ more)
     ≡ whole_nodes hash (parents_of hash L ++ parents_of hash (single L ++ more)) ++ single (single L ++ more)
@@ -263,7 +263,7 @@ count_whole hash L = count_within (length L) hash L (omega arith)
 
 -- ---- pieces
 
--- the next piece, of what is left behind the first ones
+-- the next piece, of what is left after the first ones
 pub record IsNext (all rest chunk behind : List (List ℕ)) : Type 0 where
   pub left : behind ≡ drop (length all - length behind) all
   pub taken : take (length all - length behind) all ≡ take (length all - length rest) all ++ chunk
@@ -286,7 +286,7 @@ next_piece all rest chunk behind m within left fits front back =
       within = omega arith;
     }
 
--- ---- behind the first nodes of a layer
+-- ---- after the first nodes of a layer
 
 pub fewer_ones : (l n : ℕ) → count_ones (n / 2 ^ l) ≤ count_ones n
 fewer_ones zero n = let e : n / 1 ≡ n = omega arith in rw e (omega arith)
@@ -297,7 +297,7 @@ fewer_ones (suc l) n =
     rw half (omega (arith, ones_step n, deep))
 
 -- the whole nodes of the first nodes of a layer, as many as have all their leaves, come before those of the leaves
--- behind them
+-- after them
 pub behind_layer : (l : ℕ) (hash : Hash) (L : List (List ℕ)) →
     drop (count_ones (length L / 2 ^ l)) (whole_nodes hash L) ≡ whole_nodes hash (drop (length L / 2 ^ l * 2 ^ l) L)
 behind_layer zero hash L =

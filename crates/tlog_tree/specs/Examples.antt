@@ -15,7 +15,7 @@ whole_nodes_of_7 : map (take 4) (whole_nodes sha256 (leaves 7)) ≡
 unfolding first_words schedule rounds compress hash_after digest_bytes sha256 doubled mth_within whole_within
 whole_nodes_of_7 = refl
 
--- a leaf, a node, one that the end cuts off, and one behind the end
+-- a leaf, a node, one that the end cuts off, and one after the end
 nodes_of_7 : map (option_map (take 4)) (values_at sha256 (leaves 7) ((0, 3) ∷ (1, 0) ∷ (2, 1) ∷ (3, 1) ∷ [])) ≡
     Some (0x11 ∷ 0xe1 ∷ 0xf5 ∷ 0x58 ∷ []) ∷ Some (0xe8 ∷ 0xbc ∷ 0xd9 ∷ 0x7e ∷ [])
     ∷ Some (0x42 ∷ 0x93 ∷ 0xf3 ∷ 0x91 ∷ []) ∷ None ∷ []

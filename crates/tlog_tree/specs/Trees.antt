@@ -8,7 +8,7 @@ abbrev pub leaves_root : Hash → List (List ℕ) → List ℕ
 leaves_root hash leaves = mth hash (λ leaf. leaf) leaves
 
 -- the whole nodes, from left to right: the root of the first leaves, as many as the largest power of two that is not
--- above their number, then the whole nodes of the leaves behind these. There are no more than leaves.
+-- above their number, then the whole nodes of the leaves after these. There are no more than leaves.
 unfoldable pub whole_within : ℕ → Hash → List (List ℕ) → List (List ℕ)
 whole_within zero hash leaves = []
 whole_within (suc depth) hash [] = []

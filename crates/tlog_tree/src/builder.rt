@@ -48,7 +48,7 @@ impl TreeBuilder {
         })
     }
 
-    /// Puts leaf hashes behind those of the log. After an error the builder is gone.
+    /// Appends leaf hashes to those of the log. After an error the builder is gone.
     ///
     /// # Errors
     ///

@@ -86,7 +86,7 @@ impl Frontier {
         &self.nodes
     }
 
-    /// Puts leaf hashes behind those of the log. After an error the log is as it was.
+    /// Appends leaf hashes to those of the log. After an error the log is as it was.
     ///
     /// # Errors
     ///
@@ -148,7 +148,7 @@ impl Frontier {
         root_of_nodes(&self.nodes)
     }
 
-    /// The root of the leaves behind the first nodes of a layer, as many as have all their leaves, if there are any.
+    /// The root of the leaves after the first nodes of a layer, as many as have all their leaves, if there are any.
     pub(crate) fn root_behind(&self, whole: usize) -> Option<[u8; 32]>
         ensures { (leaves : List (List ℕ)) (layer : ℕ) → IsFrontierOf leaves self.now →
             whole ≡ length leaves / 2 ^ layer → result ≡ root_of_rest sha256 (drop (whole * 2 ^ layer) leaves) }
@@ -163,7 +163,7 @@ impl Frontier {
     }
 }
 
-/// The whole nodes of a layer, which were `nodes` of `size` nodes, once more nodes are put behind these. Wanted nodes
+/// The whole nodes of a layer, which were `nodes` of `size` nodes, once more nodes are put after these. Wanted nodes
 /// of this layer and of those above get their values.
 fn grown(
     alloc: Global,

@@ -66,7 +66,7 @@ beside_more p [] xs x h = absurd (omega arith)
 beside_more {X} p (j ∷ js) [] x h = grind (arith, common_steps, cases_Bool, beside_none)
 beside_more p (j ∷ js) (y ∷ xs) x h = grind (arith, common_steps, beside_more p js xs x (omega arith))
 
--- what passes stands in a filter behind what passed before it
+-- what passes stands in a filter after what passed before it
 filter_at : (p : ℕ → Bool) (xs : List ℕ) (i : ℕ) → i < length xs → p (get_or xs i 0) ≡ true →
     (length (filter p (take i xs)) < length (filter p xs)) ×
     (get_or (filter p xs) (length (filter p (take i xs))) 0 ≡ get_or xs i 0)

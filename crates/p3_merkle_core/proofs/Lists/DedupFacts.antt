@@ -4,7 +4,7 @@ use Rattle.std.proofs.Common.{refl, ap, sym, arith, length, get_or, take, add-on
 use Rattle.std.proofs.lemmas.{Grind.common_steps, Bool.ne_eqb, List.take_more}
 use Rattle.std.specs.List.{dedup, dedup_from}
 
--- the last element of x and those behind it
+-- the last element of x and those after it
 abbrev last_from : ℕ → List ℕ → ℕ
 last_from x [] = x
 last_from x (y ∷ ys) = last_from y ys

@@ -46,7 +46,7 @@ module _ {X : Type 0} (slots others : List X) (p : ℕ) (v : X) (h : p ≤ lengt
   put_before k x below is t =
       grind (arith, common_steps, length-set, get_or-insert_below, put_next, whole_long, at_value)
 
-  -- one more of those behind it
+  -- one more of those after it
   pub put_behind : (k : ℕ) (x : X) → k < length others → x ≡ get_or others k x → p ≤ k →
       set (take (slot_of p k) (insert others p v) ++ drop (slot_of p k) (set slots p v)) (k + 1) x
       ≡ take (slot_of p (k + 1)) (insert others p v) ++ drop (slot_of p (k + 1)) (set slots p v)
@@ -64,7 +64,7 @@ pub group_around_is : {X : Type 0} (n : ℕ) (default_element v : X) (others : L
 group_around_is n default_element v others p h =
     grind (arith, common_steps, length-append, length-take, length-drop, drop-replicate)
 
--- behind the children every slot has the default digest
+-- after the children every slot has the default digest
 default_behind : {X : Type 0} (d : X) (xs : List X) (r k : ℕ) → get_or (xs ++ replicate r d) k d ≡ get_or xs k d
 default_behind d [] zero k = refl
 default_behind d [] (suc r) zero = refl

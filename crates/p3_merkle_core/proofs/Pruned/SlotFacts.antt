@@ -111,7 +111,7 @@ sorted_leaves indices sorted moved up =
     distinct_once sorted (λ i j h k. IsNonDecreasingBy-from_sort (λ x. x) sorted up i j 0 h k)
     ∙ distinct_moved indices sorted moved
 
--- no sort by a first key and a second puts a lower first key behind a higher one
+-- no sort by a first key and a second puts a lower first key after a higher one
 first_key : (o p : Ordering) → is_lt (ordering_then o p) ≡ false → is_lt o ≡ false
 first_key Less p h = h
 first_key Equal p h = refl

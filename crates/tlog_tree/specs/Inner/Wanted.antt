@@ -19,7 +19,7 @@ kept_in layer first nodes w =
     with_value ((w.layer == layer) && is_new first (first + length nodes) (w.slot + 1))
     (slice_index_or nodes (w.slot - first) []) w
 
--- with its value, if it is in this layer or above, and the last of its nodes of this layer has come behind the first
+-- with its value, if it is in this layer or above, and the last of its nodes of this layer has come after the first
 -- `size`
 abbrev pub updated : Hash → ℕ → ℕ → List (List ℕ) → WantedNode → WantedNode
 updated hash layer size nodes w =

@@ -1,4 +1,4 @@
--- The block behind the last byte is padding alone.
+-- The block after the last byte is padding alone.
 use Rattle.std.proofs.Common.{◌≡◌, ◌+◌, ◌*◌, ◌/◌, ◌∙◌, ap, arith, drop, sym, take, ℕ}
 use Rattle.sha2.specs.Sha256.{padded_message, word_at}
 use Rattle.p3_hashes.proofs.Padding.{word_of_block}

@@ -1,4 +1,4 @@
--- The bytes that are put behind, as the standard writes them.
+-- The bytes that are put after, as the standard writes them.
 use Rattle.std.proofs.Common.{◌≡◌, ◌+◌, ◌-◌, ◌*◌, ◌%◌, ◌^◌, ◌++◌, ◌∷◌, [], List, ℕ, suc, ◌∙◌, ap, append_assoc, arith}
 use Rattle.std.proofs.{Common.length, Common.replicate, Common.take, Common.w64, lemmas.List.take-replicate}
 use Rattle.std.specs.Int.{to_be_bytes}

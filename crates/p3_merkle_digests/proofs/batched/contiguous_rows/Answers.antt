@@ -1,4 +1,4 @@
--- A lone matrix lends its own rows; else each turn puts that of one more matrix behind the words so far.
+-- A lone matrix lends its own rows; else each turn puts that of one more matrix after the words so far.
 use Rattle.std.proofs.Common.{arith, ℕ, ◌≡◌, ◌+◌, ◌-◌, ◌*◌, ◌^◌, ◌<◌, ◌≤◌, ◌++◌, ◌∙◌, List, add-one, ap, append_assoc}
 use Rattle.std.proofs.Common.{drop, get_or, length, refl, sym, take}
 use Rattle.std.proofs.lemmas.List.{take_all, take_at, Sums.sum_by_more, Sums.sum_by_more_le}

@@ -12,7 +12,7 @@ invariant-loop-j g l = record {
       ≡ flat_map (λ (j : ℕ). rows_over g.M.Matrix.row_of l.matrices (l.first + j)) (range_with_len 0 l.j);
 }
 
--- behind them stands the next row of the matrices so far
+-- after them stands the next row of the matrices so far
 abbrev pub invariant-loop-matrix : goal.invariant-loop-matrix
 invariant-loop-matrix g l = record {
   at : l.start ≡ l.j * l.len + sum_by g.M.Matrix.width_of (take l.matrix-index l.matrices);

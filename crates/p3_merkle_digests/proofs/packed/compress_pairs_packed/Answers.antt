@@ -1,4 +1,4 @@
--- Two digests, and default digests behind them.
+-- Two digests, and default digests after them.
 use Rattle.std.proofs.Common.{◌-◌, ◌∷◌, ◌∙◌, ap, map, replicate, List}
 use Rattle.p3_support.specs.Lists.{lane_of}
 use Rattle.p3_merkle_digests.proofs.LaneFacts.{default_lanes}

@@ -1,7 +1,7 @@
 use Rattle.std.proofs.Common.{◌≡◌, ◌+◌, ◌++◌, map, take, vec_len, vec_capacity}
 use Rattle.p3_support.proofs.salts.push_eight.Given as goal
 
--- the values so far are behind those before
+-- the values so far are after those before
 abbrev pub invariant-loop-word : goal.invariant-loop-word
 invariant-loop-word g l =
     (l.values.items ≡ l.initial.values.items ++ map g.T.SaltWord.of_salt_word (take l.word-index l.fn.words))

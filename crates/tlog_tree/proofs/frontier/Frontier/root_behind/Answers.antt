@@ -6,7 +6,7 @@ use Rattle.tlog_tree.specs.Trees.{whole_nodes}
 use Rattle.tlog_tree.proofs.Whole.{behind_layer, count_whole, fewer_ones, no_rest, root_by_rest}
 use Rattle.tlog_tree.proofs.frontier.Frontier.root_behind.Goals as goal
 
--- the whole nodes behind those of the first nodes of a layer
+-- the whole nodes after those of the first nodes of a layer
 behind_is : (L nodes behind : List (List ℕ)) (layer whole at : ℕ) → nodes ≡ whole_nodes sha256 L →
     whole ≡ length L / 2 ^ layer → at ≡ count_ones whole → behind ≡ drop at nodes →
     behind ≡ whole_nodes sha256 (drop (whole * 2 ^ layer) L)
