@@ -127,7 +127,7 @@ endif
 uninstall:
 	@cd "$(TO)" && rm -f $(INSTALLED) $(INSTALLED_LIBRARY)
 
-# `make bench PARTS='quick openings'` measures these parts alone.
+# `make bench PARTS='short openings'` measures these parts alone.
 bench: toolchain
 	@python3 bench/run $(PARTS)
 

@@ -45,7 +45,7 @@ const COMMANDS: [(&str, &str, &str, &str); 6] = [
     ),
     (
         "verify-consistency",
-        "Verifies a proof of growth, and prints the new checkpoint",
+        "Verifies a consistency proof, and prints the new checkpoint",
         "No signature is checked. Example: fohlazu verify-consistency old proof -o new",
         "output OLD PROOF",
     ),

@@ -12,7 +12,7 @@ use Rattle.log_commands.specs.declared.error.Refusal.TheVariants.{EndsInsideLine
 use Rattle.log_commands.specs.declared.error.{Refusal.TheVariants.TooManyEntries as TooMany, Source.Source}
 use Rattle.log_commands.specs.declared.error.Source.TheVariants.{Checkpoint, File, New, Old, Part, Proof}
 
--- 1 if a file or a proof is refused, 2 for a wrong line of a checkpoint and otherwise
+-- 2 for a wrong line of a checkpoint or part, 1 for any other refusal, 2 for what is no refusal
 abbrev pub status_of : Error → ℕ
 status_of (Refused Checkpoint (Line line)) = 2
 status_of (Refused Old (Line line)) = 2

@@ -119,8 +119,8 @@ impl Error {
         }
     }
 
-    /// The exit status of a program that stops so: 1 if a file or a proof is refused, 2 for a wrong line of a
-    /// checkpoint and otherwise.
+    /// The exit status of a program that stops so: 2 for a wrong line of a checkpoint or part, 1 for any other refusal,
+    /// 2 where an input can't be read, the output can't be written, or memory is out.
     pub fn status(&self) -> u8
         ensures { result ≡ status_of self.now }
     {
