@@ -6,7 +6,7 @@ import random
 from geometry import FIXED, LOWERED, MAX_HEIGHT
 from nodes import Scheme, Sha256
 from claims import Claim, refusal
-from trials import heights_of
+from random_batches import heights_of
 
 SEED = 70
 COUNT = 200

@@ -3,11 +3,11 @@
 import random
 
 import log_commands
-import log_users
+import random_files
 import logs
 from claims import Error
 from log_texts import checkpoint_text
-from log_users import printed
+from random_files import printed
 from running import faults
 
 MIB = 1 << 20
@@ -50,7 +50,7 @@ def known_trees(program):
     """Checkpoints of up to 2^62 entries of which some are proved."""
     source = random.Random(1)
     for _ in range(40):
-        checkpoint, proof, numbers = log_users.known(source)
+        checkpoint, proof, numbers = random_files.known(source)
         words = ["verify", "checkpoint", "proof", *map(str, numbers)]
         yield compared(program, f"entries {numbers}", words, {"checkpoint": checkpoint, "proof": proof})
 

@@ -7,7 +7,7 @@ import subprocess
 from pathlib import Path
 
 import log_commands
-from log_users import printed
+from random_files import printed
 from running import Ran, faults, is_line
 
 DATA = b"one\ntwo\n\nfour\n"

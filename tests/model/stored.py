@@ -11,7 +11,7 @@ from pathlib import Path
 sys.dont_write_bytecode = True
 import cases  # noqa: E402
 import log_answers  # noqa: E402
-import program  # noqa: E402
+import mmcs  # noqa: E402
 import replayed  # noqa: E402
 import salts  # noqa: E402
 
@@ -25,7 +25,7 @@ LONGEST = 300
 def of_library(line):
     """What a case is answered, and what the model answers: the same, where one of its answers is."""
     if line.startswith("mmcs"):
-        return program.case_of(line)
+        return mmcs.case_of(line)
     found, expected = cases.answers(line)
     return expected, next((answer for answer in found if answer != expected), expected)
 

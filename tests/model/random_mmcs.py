@@ -1,6 +1,6 @@
 """Models random users of `mmcs`: matrices and words, whole and damaged, and random bytes."""
 
-from trials import heights_of
+from random_batches import heights_of
 
 CAPS = ["0", "0", "0", "1", "2", "1f", "3f", "9"]
 BYTES = b"\n\n \t\r0123456789abcdefABFgx-+"
