@@ -112,17 +112,7 @@ pub fn parse_args<'a>(
         return Err(ArgsError::Refused("a command is wanted"));
     };
     let args = Args { rt, found, notes };
-    let names = args.input_names(alloc)?;
-    if names.iter().filter(|name| **name == "-").count() > 1 {
-        return Err(ArgsError::Refused("`-` is standard input, once at most"));
-    }
-    let output = args.output().unwrap_or("/dev/stdout");
-    for name in names {
-        if is_same_file(rt, output, name) {
-            let why = "it is the output too, which `>` empties: choose another output";
-            return Err(ArgsError::Word(Escaped(name), why));
-        }
-    }
+    args.check_inputs(alloc)?;
     let command = args.command(alloc, name)?;
     if !command.is_lawful() {
         let why = if matches!(command, Command::Verify { .. }) {
@@ -142,21 +132,25 @@ fn check_options(words: &[String]) -> Result<(), ArgsError<'_>> {
     let ids = row.map_or("version", |row| row.3); // one option is left where there is no such command
     let words = words.iter().skip(1).map(|word| word.as_str());
     for word in words.take_while(|word| *word != "--") {
-        let name = match word.split('=').next() {
-            Some("-h") => "--help",
-            Some("-o") => "--output",
-            Some("-V") => "--version",
-            name => name.unwrap_or(""),
-        };
-        let is_known = name == "--help"
-            || ids.split(' ').any(|id| name.strip_prefix("--") == Some(id.trim_end_matches('!')));
-        if word.len() > 1 && word.starts_with('-') && !is_known {
+        if word.len() > 1 && word.starts_with('-') && !is_option(word, ids) {
             let why =
                 "no such option here, and no number: a file of this name is `./` and the name";
             return Err(ArgsError::Word(Escaped(word), why));
         }
     }
     Ok(())
+}
+
+/// Whether an argument is one of these options, or asks for help.
+fn is_option(word: &str, ids: &str) -> bool {
+    let name = match word.split('=').next() {
+        Some("-h") => "--help",
+        Some("-o") => "--output",
+        Some("-V") => "--version",
+        name => name.unwrap_or(""),
+    };
+    name == "--help"
+        || ids.split(' ').any(|id| name.strip_prefix("--") == Some(id.trim_end_matches('!')))
 }
 
 impl<'a> Args<'a> {
@@ -214,12 +208,23 @@ impl<'a> Args<'a> {
         self.found.get_str("output").filter(|name| *name != "-")
     }
 
-    fn input_names(&self, alloc: Global) -> Result<Vec<&'a str>, AllocError> {
+    /// Checks that no input is the output, and at most one is standard input.
+    fn check_inputs(&self, alloc: Global) -> Result<(), ArgsError<'a>> {
         let mut names = Vec::new(alloc);
         for id in ["CHECKPOINT", "OLD", "NEW", "FILE", "PROOF", "PART"] {
             names.extend_from_slice(self.found.get_strs(id).unwrap_or(&[]))?;
         }
-        Ok(names)
+        if names.iter().filter(|name| **name == "-").count() > 1 {
+            return Err(ArgsError::Refused("`-` is standard input, once at most"));
+        }
+        let output = self.output().unwrap_or("/dev/stdout");
+        for name in names {
+            if is_same_file(self.rt, output, name) {
+                let why = "it is the output too, which `>` empties: choose another output";
+                return Err(ArgsError::Word(Escaped(name), why));
+            }
+        }
+        Ok(())
     }
 
     fn input(&self, id: &str) -> Input<'a> {
@@ -348,6 +353,7 @@ fn program<'a>(alloc: Global) -> Result<Syntax<'a>, AllocError> {
     Ok(program)
 }
 
+/// The option of this name, or else the operand.
 fn argument<'a>(alloc: Global, id: &str) -> Result<Arg<'a>, AllocError> {
     Ok(match id {
         "origin" => arg!(in alloc; --origin <ORIGIN> "The log's name, if not `localhost/FILE`"),
@@ -362,6 +368,12 @@ fn argument<'a>(alloc: Global, id: &str) -> Result<Arg<'a>, AllocError> {
         "raw" => arg!(in alloc; --raw "Print one entry byte for byte").group("cut")?,
         "output" => arg!(in alloc; -o --output <OUTPUT> "Write to this file, once all went well"),
         "quiet" => arg!(in alloc; --quiet "Do not show how far the file is read"),
+        _ => operand(alloc, id)?,
+    })
+}
+
+fn operand<'a>(alloc: Global, id: &str) -> Result<Arg<'a>, AllocError> {
+    Ok(match id {
         "CHECKPOINT" => arg!(in alloc; <CHECKPOINT> "The checkpoint"),
         "OLD" => arg!(in alloc; <OLD> "The old checkpoint"),
         "NEW" => arg!(in alloc; <NEW> "The new checkpoint"),
