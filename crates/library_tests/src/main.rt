@@ -38,7 +38,7 @@ use std::process::ExitCode;
 use std::{env, io};
 
 /// How many lines were checked.
-#[derive(Default)]
+#[derive(Default, Drop)]
 struct Counts {
     cases: usize,
     wrong: usize,
