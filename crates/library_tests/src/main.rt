@@ -37,60 +37,37 @@ use std::io::{BufRead, BufReader, BufWriter, Read, Write};
 use std::process::ExitCode;
 use std::{env, io};
 
-/// How many lines were checked.
-#[derive(Default, Drop)]
-struct Counts {
-    cases: usize,
-    wrong: usize,
-    /// Those whose answer is not that of the Rust crate.
-    differing: usize,
-}
-
-/// Answers or checks a line.
-fn answer_line<W: Write>(
-    alloc: Global,
-    line: &str,
-    counts: &mut Counts,
-    out: &mut W,
-) -> io::Result<()> {
-    let Some((case, mut expected)) = line.split_once(" | ") else {
-        let answer = text_of(alloc, &answer_to(alloc, line))?;
-        return writeln!(out, "{answer}");
-    };
-    let answer = text_of(alloc, &answer_to(alloc, case))?;
-    counts.cases = counts.cases.saturating_add(1);
-    if let Some((_, here)) = expected.split_once(" | ") {
-        counts.differing = counts.differing.saturating_add(1);
-        expected = here;
-    }
-    if answer.as_str() != expected {
-        counts.wrong = counts.wrong.saturating_add(1);
-        writeln!(out, "{line}\n  is answered {answer}")?;
-    }
-    Ok(())
-}
-
 /// Answers or checks each line of a reader, and returns how many are wrong.
 fn answer_lines<R: Read + Drop, W: Write>(
     alloc: Global,
     reader: R,
     out: &mut W,
 ) -> io::Result<usize> {
-    let mut counts = Counts::default();
+    let (mut cases, mut wrong, mut differing) = (0_usize, 0_usize, 0_usize);
     let mut lines_read = Sha256::new();
     for line in BufReader::new(alloc, reader)?.lines(alloc) {
         let line = line?;
         lines_read.update(line.as_bytes());
         lines_read.update(b"\n".as_slice());
-        if !line.is_empty() && !line.starts_with('#') {
-            answer_line(alloc, line.as_str(), &mut counts, out)?;
+        if line.is_empty() || line.starts_with('#') {
+            continue;
+        }
+        let Some((case, mut expected)) = line.split_once(" | ") else {
+            let answer = text_of(alloc, &answer_to(alloc, line.as_str()))?;
+            writeln!(out, "{answer}")?;
+            continue;
+        };
+        let answer = text_of(alloc, &answer_to(alloc, case))?;
+        cases = cases.saturating_add(1);
+        if let Some((_, here)) = expected.split_once(" | ") {
+            differing = differing.saturating_add(1);
+            expected = here;
+        }
+        if answer.as_str() != expected {
+            wrong = wrong.saturating_add(1);
+            writeln!(out, "{line}\n  is answered {answer}")?;
         }
     }
-    let Counts {
-        cases,
-        wrong,
-        differing,
-    } = counts;
     if cases > 0 {
         write!(
             out,

@@ -5,12 +5,11 @@ ghost use Rattle.std.specs.{Prelude.◌*◌, Prelude.◌<◌, Prelude.◌^◌, M
 use crate::numbers::{Fault, Numbers, Part};
 use crate::table::{Table, tables_in};
 use p3_merkle_tree::{
-    ArityAndPositions, BatchOpeningRef, MerkleCap, MerkleTreeError, MerkleTreeMmcs, PrunedProof,
-    check_indices,
+    ArityAndPositions, AuthPath, BatchOpeningRef, MerkleCap, MerkleTreeError, MerkleTreeMmcs,
+    PrunedProof, check_indices,
 };
 use p3_support::compress::PseudoCompressionFunction;
 use p3_support::hasher::CryptographicHasher;
-use p3_support::matrix::Dimensions;
 use p3_support::mmcs::Mmcs;
 use p3_support::packed::PackedValue;
 use p3_support::salts::SaltWord;
@@ -110,55 +109,6 @@ where
     Ok(Vec::new(alloc))
 }
 
-/// The layers of the tree over the matrices that are left to read, the leaves first.
-fn layers<
-    T: Word,
-    P: PackedValue<Value = T>,
-    H: CryptographicHasher<P, P, D>,
-    C: PseudoCompressionFunction<P, N, D>,
-    const N: usize,
-    const D: usize,
->(scheme: &MerkleTreeMmcs<P, P, H, C, N, D>, numbers: &mut Numbers<'_>) -> Answer
-    requires { D * type_size T.row < 2 ^ 63 }
-{
-    let alloc = numbers.alloc;
-    let (_, tree) = scheme.commit(alloc, tables_in::<T>(numbers)?)?;
-    let mut layers = Vec::new(alloc);
-    for cap_height in (0..tree.num_layers()).rev() {
-        let cap = tree.cap(alloc, cap_height)?;
-        layers.push(Vec::from_slice(alloc, cap.roots())?)?;
-    }
-    answer_of(alloc, &layers)
-}
-
-/// The restored paths of the pruned opening that is left to read.
-fn restored<
-    T: Word,
-    P: PackedValue<Value = T>,
-    H: CryptographicHasher<P, P, D>,
-    C: PseudoCompressionFunction<P, N, D>,
-    const N: usize,
-    const D: usize,
->(
-    scheme: &MerkleTreeMmcs<P, P, H, C, N, D>,
-    dimensions: &[Dimensions],
-    numbers: &mut Numbers<'_>,
-) -> Answer
-    requires { D * type_size T.row < 2 ^ 63 }
-{
-    let alloc = numbers.alloc;
-    let indices: Vec<usize> = numbers.read()?;
-    let rows: Vec<Vec<Vec<T>>> = numbers.read()?;
-    let proof: PrunedProof<[T; D]> = numbers.read()?;
-    numbers.end()?;
-    let paths = scheme.restore_and_recompute_paths(alloc, dimensions, &indices, &rows, &proof)?;
-    let mut shown = Vec::new(alloc);
-    for path in paths {
-        shown.push((path.leaf_index, path.siblings))?;
-    }
-    answer_of(alloc, &shown)
-}
-
 /// The answer of a scheme to a call that plain schemes alone have, and None to any other call:
 ///
 /// - `layers MATRICES`: each layer, the leaves first
@@ -177,7 +127,13 @@ pub fn answer_to_plain<
 {
     let alloc = numbers.alloc;
     if call == "layers" {
-        return layers(scheme, &mut numbers);
+        let (_, tree) = scheme.commit(alloc, tables_in::<T>(&mut numbers)?)?;
+        let mut layers = Vec::new(alloc);
+        for cap_height in (0..tree.num_layers()).rev() {
+            let cap = tree.cap(alloc, cap_height)?;
+            layers.push(Vec::from_slice(alloc, cap.roots())?)?;
+        }
+        return answer_of(alloc, &layers);
     }
     let dimensions = numbers.dimensions()?;
     match call {
@@ -195,6 +151,26 @@ pub fn answer_to_plain<
             } = scheme.replay_arity_and_positions(alloc, &dimensions, index, count)?;
             answer_of(alloc, &(arity_schedule, query_positions))
         }
-        _ => restored(scheme, &dimensions, &mut numbers),
+        _ => {
+            let indices: Vec<usize> = numbers.read()?;
+            let rows: Vec<Vec<Vec<T>>> = numbers.read()?;
+            let proof: PrunedProof<[T; D]> = numbers.read()?;
+            numbers.end()?;
+            let paths = scheme.restore_and_recompute_paths(
+                alloc,
+                &dimensions,
+                &indices,
+                &rows,
+                &proof,
+            )?;
+            let mut shown = Vec::new(alloc);
+            for AuthPath {
+                leaf_index,
+                siblings,
+            } in paths {
+                shown.push((leaf_index, siblings))?;
+            }
+            answer_of(alloc, &shown)
+        }
     }
 }
