@@ -148,7 +148,7 @@ $(CASES:%=build/%): build/%: $$(call sources_of,$$*,$$(ALL))
 help:
 	@sed -n 's/^#: \{0,1\}//p' Makefile
 
-#: make              the programs and the libraries for C, proved, for this processor, in build/: about an hour of
+#: make              the programs and the libraries for C, proved, for this processor, in build/: one to two hours of
 #:                   processor time the first time. CPU=x86-64-v2 or CPU=x86-64-v3 names another processor.
 #:                   `make build/libfohlazu.a` proves the library for C alone, in half an hour
 #: make quick        the programs with no proof, in build/quick/: two minutes
