@@ -1,6 +1,7 @@
 //! The digests of a proof of several entries, and the pruned opening of a log's tree that they give.
 ghost use Rattle.std.specs.Prelude.{◌≡◌, ℕ, List, [], length, slice_index_or, ◌+◌, ◌*◌, ◌^◌, ◌<◌, ◌≤◌, ◌++◌, All, IfOk};
-ghost use Rattle.std.specs.Prelude.{MatchResult, None, Some, filter, map, not};
+ghost use Rattle.std.specs.{Prelude.filter, Prelude.map, Prelude.not, Prelude.IfSome, Prelude.MatchResult};
+ghost use Rattle.std.specs.{Prelude.None, Prelude.Some, Result.result_err};
 ghost use Rattle.p3_merkle_core.specs.{Geometry.levels, Inner.Agreement.IsAscending, Pruning.boundary};
 ghost use Rattle.p3_merkle_core.specs.Views.{pruned_made};
 ghost use Rattle.p3_support.specs.{Answers.AnswersUnless, Lists.is_among, Shown.row_sets};
@@ -112,6 +113,7 @@ pub(crate) fn opening_of(
 ) -> Result<PrunedBatchOpening<Node, Node, 1>, EntriesError>
     ensures answer { AnswersUnless (λ e. e ≡ OutOfMemory) result
         (form_refusal size indices.now (length leaves.now) (length proof.now)) }
+    ensures checked { IfSome (indices_refusal size indices.now (length leaves.now)) (λ e. result_err result ≡ Some e) }
     ensures made { IfOk result (λ opening.
         pruned_made indices.now opening ≡ entries_opening size indices.now leaves.now proof.now) }
 {

@@ -1,9 +1,10 @@
 //! The verifier of several entries by one proof.
-ghost use Rattle.std.specs.Prelude.{◌≡◌, ◌≤◌, IsOk, None};
+ghost use Rattle.std.specs.{Prelude.◌≡◌, Prelude.◌≤◌, Prelude.length, Prelude.IfSome, Prelude.IsOk};
+ghost use Rattle.std.specs.{Prelude.None, Prelude.Some, Result.result_err};
 ghost use Rattle.sha2.specs.Sha256.{sha256};
 ghost use Rattle.p3_support.specs.Answers.{AnswersUnless};
 ghost use Rattle.tlog.specs.Verdicts.{size_limit};
-ghost use Rattle.tlog_entries.specs.Entries.{AreIncluded, entries_refusal};
+ghost use Rattle.tlog_entries.specs.Entries.{AreIncluded, entries_refusal, indices_refusal};
 ghost use Rattle.tlog_entries.specs.{Inner.Meanings.IsMeaning, declared.error.EntriesError.TheVariants.OutOfMemory};
 
 use crate::error::EntriesError;
@@ -18,11 +19,11 @@ use tlog::LogHash;
 /// Whether one proof shows that the log of `size` entries under `root` has these leaf hashes as those of the entries at
 /// these indices, counted from 0: one for each index, in their order. The indices may be in any order, with repeats.
 ///
-/// The proof has a digest for each node whose sibling is an entry of the indices, or above one, and that is neither
-/// itself: layer by layer from the leaves, each from left to right. A node that has no sibling is passed on. For one
-/// index these are the digests of its proof of inclusion (RFC 9162, 2.1.3.1). The proof is accepted exactly if the
-/// standard's verifier (RFC 9162, 2.1.3.2) accepts each leaf hash with the proof of inclusion that the leaf hashes and
-/// the digests give for it. It allocates a few lists of the indices, and a row for each.
+/// The proof has a digest for each node that is no entry of the indices, nor above one, and whose sibling is: layer by
+/// layer from the leaves, each from left to right. A node that has no sibling is passed on. For one index these are the
+/// digests of its proof of inclusion (RFC 9162, 2.1.3.1). The proof is accepted exactly if the standard's verifier (RFC
+/// 9162, 2.1.3.2) accepts each leaf hash with the proof of inclusion that the leaf hashes and the digests give for it.
+/// It allocates a few lists of the indices, and a row for each.
 ///
 /// # Errors
 ///
@@ -32,7 +33,7 @@ use tlog::LogHash;
 /// - `NoIndices` if there are no indices;
 /// - `LeafCountMismatch` if the number of leaf hashes is not that of the indices;
 /// - `IndexPastEnd` if an index is not below the size;
-/// - `TooFewDigests`, `TooManyDigests` if a proof of these indices has more digests, or fewer;
+/// - `TooFewDigests`, `TooManyDigests` if the proof has fewer digests than a proof of these indices, or more;
 /// - `TwoLeafHashes` if an index is there twice with different leaf hashes;
 /// - `RootMismatch` if the proof leads to another root.
 pub fn verify_entries(
@@ -47,6 +48,7 @@ pub fn verify_entries(
         → (size ≤ size_limit) × AreIncluded sha256 size indices.now leaves.now proof.now root.now }
     ensures complete { size ≤ size_limit → AreIncluded sha256 size indices.now leaves.now proof.now root.now
         → AnswersUnless (λ e. e ≡ OutOfMemory) result None }
+    ensures checked { IfSome (indices_refusal size indices.now (length leaves.now)) (λ e. result_err result ≡ Some e) }
     ensures refused { AnswersUnless (λ e. e ≡ OutOfMemory) result
         (entries_refusal sha256 size indices.now leaves.now proof.now root.now) }
 {
@@ -66,6 +68,7 @@ pub(crate) fn verify<H: LogHash<32>>(
         → (size ≤ size_limit) × AreIncluded H.hash size indices.now leaves.now proof.now root.now }
     ensures complete { size ≤ size_limit → AreIncluded H.hash size indices.now leaves.now proof.now root.now
         → AnswersUnless (λ e. e ≡ OutOfMemory) result None }
+    ensures checked { IfSome (indices_refusal size indices.now (length leaves.now)) (λ e. result_err result ≡ Some e) }
     ensures refused { AnswersUnless (λ e. e ≡ OutOfMemory) result
         (entries_refusal H.hash size indices.now leaves.now proof.now root.now) }
 {
@@ -89,7 +92,7 @@ fn meaning_of(verdict: Result<(), MerkleTreeError>) -> Result<(), EntriesError>
         Ok(()) => Ok(()),
         Err(MerkleTreeError::OutOfMemory) => Err(EntriesError::OutOfMemory),
         Err(MerkleTreeError::CapMismatch) => Err(EntriesError::RootMismatch),
-        // One of two openings of one index.
+        // The form is right, so it is `InconsistentDuplicateOpenings`: one index has two leaf hashes.
         Err(_) => Err(EntriesError::TwoLeafHashes),
     }
 }

@@ -4,7 +4,9 @@ use Rattle.std.specs.Bool.{Decides}
 use Rattle.std.proofs.lemmas.Result.{err_from_is_err_and}
 use Rattle.p3_support.specs.{Shown.row_sets, declared.matrix.Dimensions.Dimensions}
 use Rattle.p3_merkle_core.specs.{Geometry.shape_of, Pruning.pruned_of}
+use Rattle.p3_merkle_core.proofs.Pruned.NoneFacts.{none_parts}
 use Rattle.p3_merkle_mmcs.specs.Schemes.{params_of}
+use Rattle.tlog_entries.specs.Entries.{digests_refusal, indices_refusal, proof_nodes}
 use Rattle.tlog_entries.specs.{contracts.tree.NodePartialEq.TheImpl.ghosts as node, declared.tree.Node.Node}
 use Rattle.tlog_entries.proofs.EntriesFacts.{form_from, form_kept}
 use Rattle.tlog_entries.proofs.VerdictFacts.{meaning_kept, verdict_is}
@@ -36,4 +38,6 @@ returns g c =
     c.verify_batch_pruned.ensures in
     let k = meaning_kept g.H.LogHash.hash size indices leaves proof c.args.root.now form node.eq node.eq decides
     c.verify_batch_pruned.result c.meaning_of.result verdict c.meaning_of.ensures in
-    record { accepted = k.accepted; complete = k.complete; refused = k.refused }
+    let unrefused = none_parts (indices_refusal size indices (length leaves))
+        (digests_refusal (length (proof_nodes size indices)) (length proof)) c.in_ok-opening.ensures.answer in
+    record { accepted = k.accepted; complete = k.complete; checked = rw (unrefused.0) tt; refused = k.refused }
