@@ -21,7 +21,8 @@ use p3_support::matrix::{Dimensions, Matrix, dimensions_of};
 use p3_support::packed::PackedValue;
 use std::alloc::Global;
 
-/// Commits to matrices that have all the indices. Returns the cap, the tree, and the dimensions of the matrices.
+/// Commits to matrices, and checks that they have all the indices. Returns the cap, the tree, and the dimensions of the
+/// matrices.
 fn committed<
     P: PackedValue,
     PW: PackedValue,

@@ -29,8 +29,8 @@ use std::alloc::Global;
 /// The rows of several indices, and their proof.
 pub type SaltedRows<T, W, const D: usize> = (Vec<Vec<Vec<T>>>, SaltedMultiProof<T, W, D>);
 
-/// Commits to matrices that have all the indices, with salts for each row. Returns the cap, the tree, and the
-/// dimensions of the matrices without salts.
+/// Commits to matrices, with salts for each row, and then checks that they have all the indices: where they have not,
+/// the salts are drawn already. Returns the cap, the tree, and the dimensions of the matrices without salts.
 fn salted_committed<
     P: PackedValue,
     PW: PackedValue,

@@ -41,6 +41,8 @@ pub struct Input<'a> {
 }
 
 impl<'a> Input<'a> {
+    /// The input of this name, not opened yet. If `shown`, a terminal on standard error shows how far it is read.
+    /// `notes` takes why a read fails.
     pub fn new(rt: &'a HostRuntime, name: &'a str, shown: bool, notes: &'a Notes) -> Input<'a> {
         Input {
             rt,

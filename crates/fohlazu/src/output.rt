@@ -57,7 +57,7 @@ impl<'a> Replacement<'a> {
         done
     }
 
-    /// Gives the file up. The error is that of a write that failed.
+    /// Removes what is written, so that the place stays as it was. Returns the error of the last write, if that failed.
     pub fn give_up(self) -> io::Result<()> {
         self.remove();
         self.failure.map_or(Ok(()), Err)
@@ -85,14 +85,9 @@ impl<'a> Replacement<'a> {
     }
 
     fn file(&mut self) -> io::Result<&mut File> {
-        if self.written.is_none() {
-            let mode = self.mode.unwrap_or(0o666);
-            self.written = Some(create_beside(self.rt, self.place.as_path(), mode)?);
-        }
-        match &mut self.written {
-            Some((_, file)) => Ok(file),
-            None => Err(ErrorKind::NotFound.into()),
-        }
+        let (rt, place, mode) = (self.rt, self.place.as_path(), self.mode.unwrap_or(0o666));
+        let (_, file) = self.written.get_or_try_insert_with(|| create_beside(rt, place, mode))?;
+        Ok(file)
     }
 }
 

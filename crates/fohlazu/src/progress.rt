@@ -16,7 +16,8 @@ pub struct Progress<'a> {
 }
 
 impl<'a> Progress<'a> {
-    /// A file that is read from now on, if that is to be shown, and standard error is a terminal.
+    /// The progress of an input that is read from now on. `None` if it is not to be shown, standard error is no
+    /// terminal, or the clock can't be read.
     pub fn start(rt: &'a HostRuntime, is_wanted: bool) -> Option<Progress<'a>> {
         if !is_wanted || !rt.stderr().is_terminal() {
             return None;

@@ -11,7 +11,7 @@ ghost use Rattle.log_commands.specs.Outcomes.{Gives, entries_under, verify_consi
 ghost use Rattle.log_commands.specs.declared.{error.Error.TheVariants.OutOfMemory, verify.Print.TheVariants.Raw};
 
 use crate::error::{Error, Source};
-use crate::inputs::{read_checkpoint, read_consistency, read_entries, read_under};
+use crate::inputs::{parse_checkpoint, parse_consistency_proof, parse_entries_proof, read_under};
 use crate::verify::{Print, Requested, indices_of, leaves_of, verify};
 use crate::verify_consistency::verify_consistency;
 use log_files::{Cut, ReadLog};
@@ -45,7 +45,7 @@ pub fn file_entries_collision(
 {
     verify(alloc, Print::Raw, checkpoint, proof, &Requested::Any)?;
     let entries = read_entries_under(alloc, Source::Checkpoint, cut, checkpoint, file)?;
-    let proof = read_entries(alloc, proof)?;
+    let proof = parse_entries_proof(alloc, proof)?;
     Ok(proved_collision(alloc, &entries, &proof)?)
 }
 
@@ -77,7 +77,7 @@ pub fn file_prefix_collision(
     let new = verify_consistency(alloc, old, proof)?;
     let old_entries = read_entries_under(alloc, Source::Old, cut, old, old_file)?;
     let new_entries = read_entries_under(alloc, Source::Proof, cut, &new, new_file)?;
-    let proof = read_consistency(alloc, proof)?;
+    let proof = parse_consistency_proof(alloc, proof)?;
     Ok(prefix_collision::<Sha256, 32>(alloc, &old_entries, &new_entries, &proof.digests)?)
 }
 
@@ -92,7 +92,7 @@ fn read_entries_under(
     requires { IsCut cut }
     ensures { Gives (λ entries. entries_of entries.items) result (entries_by source cut checkpoint.now file.now) }
 {
-    let checkpoint = read_checkpoint(source, checkpoint)?;
+    let checkpoint = parse_checkpoint(source, checkpoint)?;
     // The file has so many entries, before memory is taken for them.
     read_bytes(alloc, cut, &checkpoint, &[], file)?;
     let indices: Vec<usize> = (0..checkpoint.size).collect(alloc)?;

@@ -94,7 +94,7 @@ fn entries_words(error: &EntriesError) -> &'static str {
         EntriesError::TooFewDigests => "it has too few digests: is it under another checkpoint?",
         EntriesError::TooManyDigests => "it has too many digests: is it under another checkpoint?",
         EntriesError::TwoLeafHashes => "it has two entries of one number",
-        // The others are no reasons of a proof: a checkpoint that is read has at most 2^62 entries.
+        // `RootMismatch`. The others are no reasons of a proof: a checkpoint that is read has at most 2^62 entries.
         _ => "its entries or digests are not those of the checkpoint",
     }
 }
@@ -105,7 +105,7 @@ fn consistency_words(error: &ProofError) -> &'static str {
         ProofError::TooFewDigests => "it has too few digests",
         ProofError::TooManyDigests => "it has too many digests",
         ProofError::OldRootMismatch => "it does not begin with the entries of the old checkpoint",
-        // The sizes are those of checkpoints that are compared before, and lead to no other reason.
+        // `RootMismatch`: the sizes are those of checkpoints that are compared before, and lead to no other reason.
         _ => "it does not lead to the new checkpoint",
     }
 }

@@ -1,4 +1,5 @@
-//! Inputs: files that are read in one pass, and texts that are read whole.
+//! Inputs: files that are read in one pass, and texts that are read whole. A call that takes an allocator may answer
+//! that memory ran out.
 
 ghost use Rattle.std.specs.Prelude.{◌≡◌, ◌⊎◌, ℕ, ◌≤◌, List, IfErr, IfOk, Some, length};
 ghost use Rattle.sha2.specs.Sha256.{sha256};
@@ -95,7 +96,7 @@ pub fn digests_of(alloc: Global, tree: TreeBuilder) -> Result<Vec<[u8; 32]>, All
     Ok(digests)
 }
 
-/// All bytes of an input.
+/// All bytes of an input, from where it stands. `Read` of `source` if a read fails.
 pub fn read_text<R: Read>(alloc: Global, source: Source, input: &mut R) -> Result<Vec<u8>, Error>
     ensures bytes { IfOk result (λ bytes. IsReadAs (R.remaining input.old) (Some bytes.items)) }
     ensures failed { IfErr result (λ error. (error ≡ OutOfMemory) ⊎ (error ≡ FailedRead source)) }
@@ -108,23 +109,23 @@ pub fn read_text<R: Read>(alloc: Global, source: Source, input: &mut R) -> Resul
     }
 }
 
-/// The checkpoint that a text says.
-pub fn read_checkpoint(source: Source, text: &[u8]) -> Result<Checkpoint<'_>, Error>
+/// Parses a checkpoint.
+pub fn parse_checkpoint(source: Source, text: &[u8]) -> Result<Checkpoint<'_>, Error>
     ensures said { Gives checkpoint_fields result (said_by source (checkpoint_in text.now)) }
     ensures limit { IfOk result (λ checkpoint. checkpoint.size ≤ size_limit) }
 {
     Checkpoint::parse(text).map_err(|error| text_error(source, error))
 }
 
-/// The proof of entries that a text says.
-pub fn read_entries(alloc: Global, text: &[u8]) -> Result<EntriesProof, Error>
+/// Parses a proof of entries.
+pub fn parse_entries_proof(alloc: Global, text: &[u8]) -> Result<EntriesProof, Error>
     ensures { Gives entries_fields result (said_by Proof (entries_in text.now)) }
 {
     EntriesProof::parse(alloc, text).map_err(|error| text_error(Source::Proof, error))
 }
 
-/// The consistency proof that a text says.
-pub fn read_consistency(alloc: Global, text: &[u8]) -> Result<ConsistencyProof<'_>, Error>
+/// Parses a consistency proof.
+pub fn parse_consistency_proof(alloc: Global, text: &[u8]) -> Result<ConsistencyProof<'_>, Error>
     ensures { Gives consistency_fields result (said_by Proof (consistency_in text.now)) }
 {
     ConsistencyProof::parse(alloc, text).map_err(|error| text_error(Source::Proof, error))

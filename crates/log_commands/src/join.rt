@@ -12,19 +12,18 @@ ghost use Rattle.log_commands.specs.Outcomes.{Gives, is_part_size, join_outcome,
 use crate::error::{Error, Refusal, Source, text_error};
 use log_text::Checkpoint;
 use std::alloc::{AllocError, Global};
+use tlog::SIZE_LIMIT;
 use tlog_tree::Frontier;
 
-/// The most entries of a log.
-const SIZE_LIMIT: usize = 1 << 62;
-
-/// The checkpoint, under this origin, of the file whose parts these texts are, in their order. Each part is a
-/// checkpoint of the origin `PART_ORIGIN`; all but the last have one size, a power of two, and the last has 1 entry to
-/// as many. The root is that of the whole file.
+/// The text of the checkpoint, under this origin, of the file whose parts these texts are, in their order. Each part is
+/// a checkpoint of the origin `PART_ORIGIN`; all but the last have one size, a power of two, and the last has 1 entry
+/// to as many. The root is that of the whole file; of no parts, that of no entries.
 ///
 /// # Errors
 ///
-/// In this order: the first wrong line of the first part that has one; `PartSize` for the first part whose size does
-/// not fit; `TooManyEntries` if all parts together have more than 2^62. `OutOfMemory` may come at any time.
+/// In this order, each within `Refused`: `Line` for the first wrong line of the first part that has one; `PartSize` for
+/// the first part whose size does not fit; `TooManyEntries`, of part 0, if all parts together have more than 2^62
+/// entries. `OutOfMemory` may come at any time.
 pub fn join(alloc: Global, origin: &str, texts: &[Vec<u8>]) -> Result<Vec<u8>, Error>
     ensures { Gives bytes_in result (join_outcome origin.now (map bytes_in texts.now)) }
 {

@@ -14,7 +14,7 @@ ghost use Rattle.log_commands.specs.Outcomes.{numbers_under, proof_over, prove_u
 ghost use Rattle.log_commands.specs.declared.error.{Error.Error, Source.TheVariants.File};
 
 use crate::error::{Error, Refusal, Source};
-use crate::inputs::{digests_of, read_checkpoint, read_under};
+use crate::inputs::{digests_of, parse_checkpoint, read_under};
 use log_files::{Cut, ReadLog};
 use log_text::{Checkpoint, EntriesProof, Entry};
 use std::alloc::{AllocError, Global};
@@ -64,7 +64,7 @@ pub(crate) fn numbers_of(
     if let Some(numbers) = numbers {
         return Ok(numbers);
     }
-    let checkpoint = read_checkpoint(Source::Checkpoint, checkpoint)?;
+    let checkpoint = parse_checkpoint(Source::Checkpoint, checkpoint)?;
     if checkpoint.size > MOST_NUMBERS {
         return Err(Error::Refused(Source::Checkpoint, Refusal::TooManyNumbers));
     }
@@ -85,7 +85,7 @@ fn requested<'a>(checkpoint: &'a [u8], numbers: &[usize]) -> Result<Checkpoint<'
     ensures numbers { IfOk result (λ c. All (λ number. number ≤ c.size) numbers.now) }
     ensures limit { IfOk result (λ c. c.size ≤ size_limit) }
 {
-    let checkpoint = read_checkpoint(Source::Checkpoint, checkpoint)?;
+    let checkpoint = parse_checkpoint(Source::Checkpoint, checkpoint)?;
     check_numbers(checkpoint.size, numbers)?;
     Ok(checkpoint)
 }

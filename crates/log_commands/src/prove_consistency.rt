@@ -11,7 +11,7 @@ ghost use Rattle.log_commands.specs.Outcomes.{bytes_in, compared, growth_digests
 ghost use Rattle.log_commands.specs.declared.error.{Error.Error, Source.TheVariants.File};
 
 use crate::error::{Error, Refusal, Source};
-use crate::inputs::{check_growth, digests_of, read_checkpoint, read_under};
+use crate::inputs::{check_growth, digests_of, parse_checkpoint, read_under};
 use log_files::{Cut, ReadLog};
 use log_text::{Checkpoint, ConsistencyProof};
 use std::alloc::{AllocError, Global};
@@ -51,8 +51,8 @@ fn compared<'a, 'b>(old: &'a [u8], new: &'b [u8]) -> Result<(Checkpoint<'a>, Che
     ensures answer { Gives (λ (o, n). (checkpoint_fields o, checkpoint_fields n)) result (compared old.now new.now) }
     ensures ordered { IfOk result (λ (o, n). o.size ≤ n.size) }
 {
-    let old = read_checkpoint(Source::Old, old)?;
-    let new = read_checkpoint(Source::New, new)?;
+    let old = parse_checkpoint(Source::Old, old)?;
+    let new = parse_checkpoint(Source::New, new)?;
     check_growth(Source::New, &old, &new)?;
     Ok((old, new))
 }

@@ -10,7 +10,7 @@ ghost use Rattle.log_commands.specs.Outcomes.{bytes_in, entry_refusal, Gives, is
 ghost use Rattle.log_commands.specs.Outcomes.{numbers_refusal, printed, proof_refusal, verify_requested};
 
 use crate::error::{Error, Refusal, Source};
-use crate::inputs::{read_checkpoint, read_entries};
+use crate::inputs::{parse_checkpoint, parse_entries_proof};
 use crate::prove::all_numbers;
 use log_text::{Checkpoint, EntriesProof, Entry};
 use std::alloc::{AllocError, Global};
@@ -57,8 +57,8 @@ pub fn verify(
 ) -> Result<Vec<u8>, Error>
     ensures { Gives bytes_in result (verify_requested print checkpoint.now proof.now requested.now) }
 {
-    let checkpoint = read_checkpoint(Source::Checkpoint, checkpoint)?;
-    let proof = read_entries(alloc, proof)?;
+    let checkpoint = parse_checkpoint(Source::Checkpoint, checkpoint)?;
+    let proof = parse_entries_proof(alloc, proof)?;
     check_requested(alloc, requested, checkpoint.size, &proof.entries)?;
     check_entries(print, checkpoint.size, &proof.entries)?;
     check_proof(alloc, &checkpoint, &proof)?;

@@ -6,7 +6,7 @@ ghost use Rattle.log_commands.specs.Outcomes.{bytes_in, consistency_refused, Giv
 ghost use Rattle.log_commands.specs.Outcomes.{verify_consistency_outcome};
 
 use crate::error::{Error, Refusal, Source};
-use crate::inputs::{check_growth, read_checkpoint, read_consistency};
+use crate::inputs::{check_growth, parse_checkpoint, parse_consistency_proof};
 use log_text::{Checkpoint, ConsistencyProof, TextError};
 use std::alloc::Global;
 use tlog::verify_consistency as verify;
@@ -23,8 +23,8 @@ use tlog::verify_consistency as verify;
 pub fn verify_consistency(alloc: Global, old: &[u8], proof: &[u8]) -> Result<Vec<u8>, Error>
     ensures { Gives bytes_in result (verify_consistency_outcome old.now proof.now) }
 {
-    let old = read_checkpoint(Source::Old, old)?;
-    let proof = read_consistency(alloc, proof)?;
+    let old = parse_checkpoint(Source::Old, old)?;
+    let proof = parse_consistency_proof(alloc, proof)?;
     let (got, expected) = (proof.old_size, old.size);
     if got != expected {
         return Err(Error::Refused(Source::Proof, Refusal::OtherOldSize { got, expected }));

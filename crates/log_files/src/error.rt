@@ -35,7 +35,8 @@ impl From<TreeError> for ReadError {
     fn from(error: TreeError) -> ReadError {
         match error {
             TreeError::SizeTooLarge => ReadError::TooManyEntries,
-            _ => ReadError::OutOfMemory,
+            // Nothing here hands nodes to a tree, so their number is never wrong.
+            TreeError::NodeCountMismatch | TreeError::OutOfMemory => ReadError::OutOfMemory,
         }
     }
 }

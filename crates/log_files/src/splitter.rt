@@ -76,15 +76,16 @@ impl<'a> Splitter<'a> {
         }
     }
 
-    /// Whether as many entries have ended as are read at most.
+    /// Whether `limit` entries have ended, so that no more are read.
     pub fn is_full(&self) -> bool
         ensures { result ≡ nat_le self.now.limit self.now.count }
     {
         self.count >= self.limit
     }
 
-    /// Reads whole entries from the head of the next bytes of the file, or bytes of one entry. Returns the leaf hashes
-    /// of the entries that have ended, and the bytes that are left.
+    /// Reads whole entries from the head of the next bytes of the file, or bytes of one entry: at least one byte.
+    /// Returns the leaf hashes of the entries that end there, and the bytes that are left. `bytes` must not be empty,
+    /// and the splitter not full. After an error, which means that memory ran out, it must not be used.
     pub fn read<'b>(
         &mut self,
         alloc: Global,
@@ -139,7 +140,8 @@ impl<'a> Splitter<'a> {
         Ok(vec![in alloc; entry.hasher.finalize()]?)
     }
 
-    /// Ends the file, or what is read of it. Returns the leaf hash of a last entry that ends with the file.
+    /// Ends the file, or what is read of it. Returns the leaf hash of a last entry that ends with the file, if there is
+    /// one. `EndsInsideLine` if an entry has begun and a partial line is refused; `OutOfMemory` if memory runs out.
     pub fn end_file(&mut self, alloc: Global) -> Result<Vec<[u8; 32]>, ReadError>
         requires { HasPlaces self.old.wanted }
         ensures all { (wanted front rest : List ℕ) (ended : List (List ℕ)) → IsAt wanted self.old front ended →

@@ -1,4 +1,4 @@
-//! The entries of a file that are wanted.
+//! The entries of a file that are wanted. An error means that memory ran out: then no other call may follow.
 
 ghost use Rattle.std.specs.Prelude.{◌≡◌, ℕ, ◌∷◌, ◌++◌, List, [], IfOk, OnOk, length, map};
 ghost use Rattle.std.specs.List.Sorted.{IsPermutation};
@@ -33,7 +33,8 @@ pub struct WantedEntries<'a> {
 }
 
 impl<'a> WantedEntries<'a> {
-    /// None of the wanted entries have come, which have these indices and places.
+    /// None of the wanted entries have come, which have these indices and places. The indices must ascend, perhaps with
+    /// repeats, as [`places_in_order`] has them.
     pub fn new(alloc: Global, places: &'a [(usize, usize)]) -> Result<WantedEntries<'a>, AllocError>
         requires { IsAscending 0 places.now }
         ensures holds { IfOk result (λ entries. (wanted : List ℕ) → IsPermutation (places_of wanted) places.now →
@@ -107,7 +108,7 @@ impl<'a> WantedEntries<'a> {
         Ok(())
     }
 
-    /// The wanted entries, if all of them have ended, else none.
+    /// The wanted entries, each at its place among the wanted ones, if all of them have ended, else an empty list.
     pub fn into_entries(self, alloc: Global) -> Vec<Vec<u8>>
         ensures { (wanted : List ℕ) (ended : List (List ℕ)) (bytes : List ℕ) →
             HoldsWanted self.entry wanted ended bytes →

@@ -66,8 +66,8 @@ impl<'a> Checkpoint<'a> {
     }
 }
 
-/// Whether this may be an origin: 1 to 100 characters, none below U+0020 nor U+007F, no byte order mark first, and no
-/// space first or last.
+/// Whether this may be an origin: 1 to 100 characters, none of them U+007F or below U+0020, no byte order mark first,
+/// and no space first or last.
 #[tactic(auto, unfolding(crate::specs::Lines::is_origin))]
 pub fn is_origin(text: &str) -> bool
     ensures { result ≡ is_origin text.now }
@@ -84,8 +84,8 @@ pub fn is_origin(text: &str) -> bool
     count <= 100 && bytes.iter().all(|byte| *byte >= b' ' && *byte != 0x7f)
 }
 
-/// Whether this may be the name of a key, as is the origin of a log that is signed: text without control characters, a
-/// space or `+`, which is not empty.
+/// Whether this may be the name of a key (C2SP signed-note), as is the origin of a log that is signed: it is not empty,
+/// and has no `+` and no character up to U+0020. The standard forbids Unicode's other spaces as well.
 pub fn is_key_name(name: &str) -> bool
     ensures { result ≡ is_key_name name.now }
 {

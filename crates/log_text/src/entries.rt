@@ -44,7 +44,7 @@ impl EntriesProof {
     }
 
     /// Prints the proof; `AllocError` if memory runs out. It is read again if its numbers, lengths and counts are at
-    /// most 2^62, and the numbers from 1 on.
+    /// most 2^62, and no number is 0.
     pub fn to_text(&self, alloc: Global) -> Result<Vec<u8>, AllocError>
         ensures { IfOk result (λ text. text.items ≡ entries_text (entries_fields self.now)) }
     {

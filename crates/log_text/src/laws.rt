@@ -3,8 +3,8 @@
 ghost use Rattle.log_text.specs.Laws.{CheckpointsAreReadAgain, ConsistencyProofsAreSpelled, EntriesProofsAreSpelled};
 ghost use Rattle.log_text.specs.Laws.{NotesAreSpelled, PartsAreSpelled, SignaturesChangeNothing, ThreeLinesAreSpelled};
 
-/// A note is read as a checkpoint exactly if it is that checkpoint's text with any extension lines and signatures, and
-/// the checkpoint is no part.
+/// A note is read as a checkpoint exactly if it has at most 10^6 bytes, it is that checkpoint's text with extension
+/// lines and up to 100 signatures, and the checkpoint is lawful (its origin is one, its size at most 2^62) and no part.
 pub fn notes_are_spelled()
     ensures { NotesAreSpelled }
 {}

@@ -90,14 +90,14 @@ fn digest_of(line: &[u8]) -> Option<[u8; 32]>
     Some(digest)
 }
 
-/// Whether this is UTF-8 without control characters.
+/// Whether this is UTF-8 without characters below U+0020.
 fn is_text(bytes: &[u8]) -> bool
     ensures { result ≡ is_text bytes.now }
 {
     str::from_utf8(bytes).is_ok() && bytes.iter().all(|byte| *byte >= b' ')
 }
 
-/// Whether this is the name of a key.
+/// Whether this may be the name of a key (C2SP signed-note): UTF-8, not empty, no `+`, no character up to U+0020.
 #[tactic(auto, unfolding(crate::specs::Lines::is_key_name))]
 pub fn is_key_name(name: &[u8]) -> bool
     ensures { result ≡ is_key_name name.now }
@@ -161,7 +161,8 @@ pub fn skip_lines(left: &[u8], expected: Expected, limit: usize) -> Result<&[u8]
     Ok(rest)
 }
 
-/// Reads a number after a word.
+/// Reads a line of a word and a number up to 2^62, without leading zeros. Returns the number and what follows the line;
+/// where no such line stands, that `expected` is missing.
 pub fn number_by<'a>(
     left: &'a [u8],
     word: &[u8],

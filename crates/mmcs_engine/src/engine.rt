@@ -206,7 +206,7 @@ fn act<
     Ok(format!(in alloc; "ok {count}\n")?)
 }
 
-/// The rows of each index, and the digests of their proof.
+/// The text of `open`: the rows of each index, then the digests of one proof for all.
 fn text_of_opening<W: Word, const D: usize>(
     alloc: Global,
     indices: &[usize],

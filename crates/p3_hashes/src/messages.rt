@@ -100,7 +100,7 @@ fn block_count(width: usize) -> usize
     ensures { result ≡ (width + 72) / 64 }
 {
     // The padding has at least nine bytes, one that marks its start and eight of the length, and fills the last block.
-    (width + 72) / 64
+    (width + 9).div_ceil(64)
 }
 
 /// Word `n` of a padded message of `width` bytes, where that word is padding alone.
@@ -174,10 +174,9 @@ fn padding_block(width: usize, t: usize) -> [u32x8; 16]
 /// How many blocks of 64 bytes have bytes of a message of `width` bytes, and not of its padding alone.
 #[inline(always)]
 fn filled_count(width: usize) -> usize
-    requires { width + 72 < 2 ^ 64 }
     ensures { result ≡ (width + 63) / 64 }
 {
-    (width + 63) / 64
+    width.div_ceil(64)
 }
 
 /// The inputs of the rounds over the last block, if that is padding alone. Otherwise zeros, which nothing reads.

@@ -1,6 +1,7 @@
 //! Laws of the definitions, each as the contract of a function that does nothing; and functions whose contracts say
 //! that `==` on errors, openings, proofs, paths and collisions is equality of values. The laws hold for every hash,
-//! every compression, every batch and every opening. The contracts of the crates above cite the same definitions.
+//! every compression, every batch of lawful heights and every opening. The contracts of the crates above cite the same
+//! definitions.
 //!
 //! - The honest opening of an index has the rows and siblings that the batch's own tree has.
 //! - A pruned opening restores if its form is right and its rows agree: then it gives the digest of each covered node,
@@ -76,7 +77,7 @@ pub fn pruned_batch_opening_eq<P: PackedValue, PW: PackedValue, const D: usize>(
     *a == *b
 }
 
-/// `==` holds of two paths exactly if they have the same leaf and siblings.
+/// `==` holds of two paths exactly if they have the same leaf index and siblings.
 pub fn merkle_auth_path_eq<PW: PackedValue, const D: usize>(
     a: &MerkleAuthPath<PW::Value, D>,
     b: &MerkleAuthPath<PW::Value, D>,
@@ -164,7 +165,7 @@ pub fn completeness<T, W>()
     ensures pruned { HonestQueryIsAccepted T W }
 {}
 
-/// What an honest pruned opening restores, and what is read from the layers of the batch's own tree, by clause:
+/// What an honest pruned opening of a lawful batch restores, and what is read from the layers of its tree, by clause:
 ///
 /// - `nodes`: each covered node, up to the cap's layer, is restored as the tree's own node;
 /// - `paths`: the restored path of each query has the siblings of the honest opening of its index;

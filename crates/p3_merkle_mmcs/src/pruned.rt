@@ -65,8 +65,8 @@ impl<
         })
     }
 
-    /// Opens several leaves as [`open_batch_pruned`](Self::open_batch_pruned) does, in the form of the trait `Mmcs`:
-    /// the row set of each index, in query order, and the proof.
+    /// Opens several leaves as [`open_batch_pruned`](Self::open_batch_pruned) does, under its condition on the indices,
+    /// in the form of the trait `Mmcs`: the row set of each index, in query order, and the proof.
     ///
     /// # Errors
     ///
@@ -149,10 +149,10 @@ impl<
         self.verify_batch_pruned(alloc, commit, dimensions, indices, rows, proof)
     }
 
-    /// Restores the path of each query, in query order, with its index: the siblings that
-    /// [`open_batch`](Self::open_batch) would open. They are computed from the rows of all queries and the digests of a
-    /// pruned proof. The parameters are as in [`verify_batch_pruned`](Self::verify_batch_pruned), and an opening whose
-    /// paths are restored has the form of an accepted one.
+    /// Restores the path of each query, in query order, with its index: its siblings, computed from the rows of all
+    /// queries and the digests of a pruned proof. If these are honest, they are what [`open_batch`](Self::open_batch)
+    /// opens. The parameters are as in [`verify_batch_pruned`](Self::verify_batch_pruned), and an opening whose paths
+    /// are restored has the form of an accepted one.
     ///
     /// No cap is compared, so a restored path proves nothing by itself. `verify_batch_pruned` accepts an opening under
     /// a cap exactly if its paths are restored and [`verify_batch`](Self::verify_batch) accepts each query with its

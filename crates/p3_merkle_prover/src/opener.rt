@@ -47,7 +47,8 @@ pub fn cap_at<F, W: Copy, M: Matrix<F>, const N: usize, const D: usize>(
 }
 
 /// The row of each matrix that belongs to leaf `index`, in input order: row `index >> k` of a matrix whose height is
-/// the tallest one halved `k` times. The index must be below [`max_height`]. The only error is `OutOfMemory`.
+/// the tallest one halved and rounded up `k` times. The index must be below [`max_height`]. The only error is
+/// `OutOfMemory`.
 pub fn rows_of_index<F: Copy, X, G, M: Matrix<F>, const N: usize>(
     alloc: Global,
     tree: &Tree<F, X, G, M, N>,

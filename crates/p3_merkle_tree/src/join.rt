@@ -45,7 +45,9 @@ pub fn salted_rows<T: Copy>(
     })
 }
 
-/// Checks that there are as many salt sets as row sets, and does for each pair what [`salted_rows`] does.
+/// Checks that there are as many salt sets as row sets, else `WrongBatchSize`; then each row set with its salt set;
+/// then that the widths with salts fit. Joins each row with its salts. All sets are of the same matrices, whose
+/// dimensions the result has once.
 pub fn salted_sets<T: Copy>(
     alloc: Global,
     dimensions: &[Dimensions],
@@ -64,8 +66,8 @@ pub fn salted_sets<T: Copy>(
             got: salts.len(),
         });
     }
-    for (rows, salt) in sets.iter().zip(salts) {
-        check_rows_and_salts(dimensions, rows, salt)?;
+    for (rows, salt_set) in sets.iter().zip(salts) {
+        check_rows_and_salts(dimensions, rows, salt_set)?;
     }
     Ok(Salted {
         dimensions: widened_dimensions(alloc, dimensions, salt_elems)?,

@@ -9,14 +9,13 @@ ghost use Rattle.std.specs.Option.{option_map};
 ghost use Rattle.p3_support.specs.{Batches.heights_of, Shown.row_lists};
 ghost use Rattle.p3_merkle_core.specs.Geometry.{layer_exponent, shape_of, step as step_of};
 ghost use Rattle.p3_merkle_core.specs.{Checks.siblings_below, Checks.words_of_exponent, Nodes.padded};
-ghost use Rattle.p3_merkle_core.specs.Refusals.{answer_under, form_refusal};
+ghost use Rattle.p3_merkle_core.specs.Refusals.{answer_under, form_refusal, is_entry as is_entry_of};
 ghost use Rattle.p3_merkle_verifier.specs.Inner.Checks.{functions_of, opening_in, params_in, shape_in};
 ghost use Rattle.p3_merkle_verifier.specs.Inner.Checks.{step_siblings, CanStep, IsLevelOfCheck, IsProgress};
 ghost use Rattle.p3_merkle_verifier.specs.Inner.Paths.{CanCheck, CanReach};
 
 use crate::checker::Checker;
 use crate::openings::{OpenedRows, OpeningRef};
-use crate::pruned_check::is_entry;
 use p3_merkle_core::error::MerkleTreeError;
 use p3_merkle_core::geometry::{check_widths, parent_of, position_of};
 use p3_merkle_core::group::{group_with, pair_group};
@@ -258,4 +257,11 @@ impl<
             Err(MerkleTreeError::CapMismatch)
         }
     }
+}
+
+/// Whether the roots of a cap have `digest` at the position `node`.
+pub(crate) fn is_entry<X: PartialEq>(roots: &[X], node: usize, digest: &X) -> bool
+    ensures { result ≡ is_entry_of X.eq roots.now node digest.now }
+{
+    roots.get(node).is_some_and(|root| *root == *digest)
 }

@@ -22,6 +22,7 @@ ghost use Rattle.p3_merkle_verifier.specs.Inner.RestoredLevels.{IsCoveredAt, IsL
 
 use crate::checker::Checker;
 use crate::openings::{OpenedMatrix, PrunedOpeningRef, RestorableOpening};
+use crate::path::is_entry;
 use p3_merkle_core::error::MerkleTreeError;
 use p3_merkle_core::geometry::exponent_of;
 use p3_merkle_core::pruning::{
@@ -179,16 +180,6 @@ pub(crate) fn paths_of<T, W: Copy, const D: usize>(
         });
     }
     Ok(paths)
-}
-
-/// Whether the roots of a cap have `digest` at the position `node`.
-pub(crate) fn is_entry<X: PartialEq>(roots: &[X], node: usize, digest: &X) -> bool
-    ensures { result ≡ is_entry_of X.eq roots.now node digest.now }
-{
-    match roots.get(node) {
-        Some(root) => *root == *digest,
-        None => false,
-    }
 }
 
 /// Whether the roots of a cap have the digest of each node at its position. `digests[k]` is the digest of `nodes[k]`.

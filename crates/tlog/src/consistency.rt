@@ -7,7 +7,7 @@ ghost use Rattle.tlog.specs.Verdicts.{consistency_end_refusal, consistency_refus
 
 use crate::error::ProofError;
 use crate::hash::LogHash;
-use crate::inclusion::{SIZE_LIMIT, is_left};
+use crate::inclusion::{SIZE_LIMIT, sibling_is_left};
 use sha2::Sha256;
 
 /// Whether a proof of consistency shows that a log of `new_size` entries under `new_root` begins with the `old_size`
@@ -147,7 +147,7 @@ impl<'a, const D: usize> Climb<'a, D> {
     ///
     /// # Errors
     ///
-    /// `TooManyDigests`, `TooFewDigests` if a path from this node has fewer digests, or more.
+    /// `TooManyDigests`, `TooFewDigests` if there are more digests than a path from this node has, or fewer.
     pub fn roots<H: LogHash<D>>(&self, size: usize) -> Result<([u8; D], [u8; D]), ProofError>
         requires some { 0 < size }
         requires layer { self.now.layer < 64 }
@@ -165,7 +165,7 @@ impl<'a, const D: usize> Climb<'a, D> {
             if last == 0 {
                 return Err(ProofError::TooManyDigests);
             }
-            if is_left(node, last) {
+            if sibling_is_left(node, last) {
                 let zeros = node.trailing_zeros();
                 node >>= zeros;
                 last >>= zeros;

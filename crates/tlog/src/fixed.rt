@@ -8,7 +8,7 @@ use crate::collision::{
 };
 use crate::consistency::{self, Climb};
 use crate::hash::LogHash;
-use crate::inclusion::{is_left, verify};
+use crate::inclusion::{sibling_is_left, verify};
 use std::alloc::{AllocError, Global};
 
 /// A collision, if two nodes with other children have one hash; else `None`.
@@ -64,7 +64,7 @@ pub fn proof_collision<H: LogHash<D>, const D: usize>(
     for i in 0..proof.len() {
         let (mut left, mut right) = (value, proof[i]);
         let (mut other_left, mut other_right) = (other, other_proof[i]);
-        if is_left(node, last) {
+        if sibling_is_left(node, last) {
             let zeros = node.trailing_zeros();
             node >>= zeros;
             last >>= zeros;
@@ -216,10 +216,11 @@ pub fn prefix_collision<H: LogHash<D>, const D: usize>(
     if consistency::verify::<H, D>(old.len(), new.len(), proof, &old_root, &new_root).is_err() {
         return Ok(None);
     }
-    let (first, _) = new.split_at(old.len());
-    let first_root = root::<H, D>(first);
-    if old_root == first_root {
-        return root_collision::<H, D>(alloc, old, first);
+    // The proof is accepted, so the old list is not the longer one.
+    let (prefix, _) = new.split_at(old.len());
+    let prefix_root = root::<H, D>(prefix);
+    if old_root == prefix_root {
+        return root_collision::<H, D>(alloc, old, prefix);
     }
     let honest = consistency_proof::<H, D>(alloc, new, old.len())?;
     consistency_collision::<H, D>(
@@ -228,7 +229,7 @@ pub fn prefix_collision<H: LogHash<D>, const D: usize>(
         new.len(),
         &old_root,
         proof,
-        &first_root,
+        &prefix_root,
         &honest,
         &new_root,
     )

@@ -1,7 +1,7 @@
 //! The verifier of inclusion (RFC 9162, 2.1.3.2).
 ghost use Rattle.std.specs.{Prelude.◌≡◌, Prelude.◌≤◌, Prelude.◌↔◌, Prelude.IsOk, Result.result_err};
 ghost use Rattle.sha2.specs.Sha256.{sha256};
-ghost use Rattle.tlog.specs.Rfc9162.{is_left as is_left_by};
+ghost use Rattle.tlog.specs.Rfc9162.{is_left};
 ghost use Rattle.tlog.specs.Verdicts.{IsIncluded, inclusion_refusal, size_limit};
 
 use crate::error::ProofError;
@@ -9,7 +9,7 @@ use crate::hash::LogHash;
 use sha2::Sha256;
 
 /// The greatest size of a log.
-pub(crate) const SIZE_LIMIT: usize = 1 << 62;
+pub const SIZE_LIMIT: usize = 1 << 62;
 
 /// Whether a proof of inclusion shows that the log of `size` entries under `root` has `leaf` as the leaf hash of its
 /// entry `index`, counted from 0 (RFC 9162, 2.1.3.2). It allocates nothing.
@@ -62,7 +62,9 @@ pub fn verify<H: LogHash<D>, const D: usize>(
         if last == 0 {
             return Err(ProofError::TooManyDigests);
         }
-        if is_left(node, last) {
+        if sibling_is_left(node, last) {
+            // A last node without a sibling is passed on to the layer where it has one. It is not 0, since `last` is
+            // not.
             let zeros = node.trailing_zeros();
             node >>= zeros;
             last >>= zeros;
@@ -82,9 +84,10 @@ pub fn verify<H: LogHash<D>, const D: usize>(
     Ok(())
 }
 
-/// Whether the next digest is the left sibling of node `node` of a layer whose last node is `last`.
-pub fn is_left(node: usize, last: usize) -> bool
-    ensures { result ≡ is_left_by node last }
+/// Whether the next digest of a path is a left sibling: of node `node` of a layer whose last node is `last`, or, if
+/// that is a last node without a sibling, of the ancestor that it is passed on as (RFC 9162, 2.1.3.2).
+pub fn sibling_is_left(node: usize, last: usize) -> bool
+    ensures { result ≡ is_left node last }
 {
     node % 2 == 1 || node == last
 }

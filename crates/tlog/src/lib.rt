@@ -19,4 +19,4 @@ pub use fixed::{
 };
 pub use growth::{compose, growth_collision};
 pub use hash::{EMPTY_ROOT, LogHash, leaf_hash, node_hash};
-pub use inclusion::verify_inclusion;
+pub use inclusion::{SIZE_LIMIT, verify_inclusion};

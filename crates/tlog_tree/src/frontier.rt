@@ -12,10 +12,7 @@ use crate::wanted::{WantedNode, keep};
 use p3_hashes::sha_eights::Sha256RowsInEights;
 use p3_support::hasher::CryptographicHasher;
 use std::alloc::{AllocError, Global};
-use tlog::{EMPTY_ROOT, node_hash};
-
-/// The greatest size.
-pub(crate) const SIZE_LIMIT: usize = 1 << 62;
+use tlog::{EMPTY_ROOT, SIZE_LIMIT, node_hash};
 
 /// So many leaf hashes of a piece are taken at once: what is computed of these needs less than 1 MiB.
 const CHUNK: usize = 4096;

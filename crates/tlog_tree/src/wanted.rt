@@ -3,7 +3,7 @@ ghost use Rattle.std.specs.Prelude.{◌≡◌, ◌≤◌, ◌/◌, ◌^◌, map}
 ghost use Rattle.tlog.specs.Verdicts.{size_limit};
 ghost use Rattle.tlog_tree.specs.{Wanted.end_of, Inner.Wanted.kept_in};
 
-use crate::frontier::SIZE_LIMIT;
+use tlog::SIZE_LIMIT;
 
 /// A node that is wanted.
 #[derive(Clone, Copy, Debug, PartialEq, Eq)]

@@ -7,7 +7,7 @@ use Rattle.tlog.specs.declared.error.ProofError.TheVariants.{TooManyDigests, Too
 use Rattle.tlog.proofs.Accepted.{different, equal, inclusion_accepted, inclusion_refused}
 use Rattle.tlog.proofs.Walks.{inclusion_ends, inclusion_left, inclusion_right, inclusion_stops}
 use Rattle.tlog.proofs.inclusion.verify.Goals as goal
-use Rattle.tlog.proofs.inclusion.verify.Goals.{then-is_left, else-is_left}
+use Rattle.tlog.proofs.inclusion.verify.Goals.{then-sibling_is_left, else-sibling_is_left}
 
 pub returns-then-last-eq0-clause-refused : goal.returns-then-last-eq0-clause-refused
 returns-then-last-eq0-clause-refused g c =
@@ -24,16 +24,16 @@ returns-then-last-eq0-clause-accepted g c =
 pub loop-digest-preserved : goal.loop-digest-preserved
 loop-digest-preserved g c =
     let z : (c.loop-digest.last == 0) ≡ false = grind (arith, nat_tests) in
-    elim c.if-is_left.branch [
-      | then-is_left w ↦
+    elim c.if-sibling_is_left.branch [
+      | then-sibling_is_left w ↦
           let e = inclusion_left g.H.LogHash.hash c.args.proof.now _ _ _ _ _ c.loop-digest-test.true z
-          (sym c.is_left.ensures ∙ w.if-is_left.true) in
+          (sym c.sibling_is_left.ensures ∙ w.if-sibling_is_left.true) in
           rw (w.node-is, w.last-is, w.value-is, w.node_hash-value.ensures, c.digest-item.is)
           (sym e ∙ c.loop-digest.invariant)
-      | else-is_left w ↦
+      | else-sibling_is_left w ↦
           let e = inclusion_right g.H.LogHash.hash c.args.proof.now _ _ _ _ _ c.loop-digest-test.true z
-          (sym c.is_left.ensures ∙ w.if-is_left.false) in
-          rw (w.node-is, w.last-is, w.value-is, w.node_hash-value-else-is_left.ensures, c.digest-item.is)
+          (sym c.sibling_is_left.ensures ∙ w.if-sibling_is_left.false) in
+          rw (w.node-is, w.last-is, w.value-is, w.node_hash-value-else-sibling_is_left.ensures, c.digest-item.is)
           (sym e ∙ c.loop-digest.invariant)
     ]
 

@@ -3,7 +3,7 @@ use Rattle.std.specs.Prelude.{◌==◌}
 use Rattle.tlog.specs.Verdicts.{consistency_end_refusal}
 use Rattle.tlog.proofs.Walks.{consistency_ends, consistency_left, consistency_right, consistency_stops}
 use Rattle.tlog.proofs.consistency.Climb.roots.Goals as goal
-use Rattle.tlog.proofs.consistency.Climb.roots.Goals.{then-is_left, else-is_left}
+use Rattle.tlog.proofs.consistency.Climb.roots.Goals.{then-sibling_is_left, else-sibling_is_left}
 
 pub returns-then-last-eq0-clause-refused : goal.returns-then-last-eq0-clause-refused
 returns-then-last-eq0-clause-refused g c = λ first second.
@@ -15,10 +15,10 @@ returns-then-last-eq0-clause-refused g c = λ first second.
 pub loop-digest-preserved : goal.loop-digest-preserved
 loop-digest-preserved g c =
     let z : (c.loop-digest.last == 0) ≡ false = grind (arith, nat_tests) in
-    elim c.if-is_left.branch [
-      | then-is_left w ↦
+    elim c.if-sibling_is_left.branch [
+      | then-sibling_is_left w ↦
           let e = consistency_left g.H.LogHash.hash c.args.self.now.digests.now _ _ _ _ _ _ c.loop-digest-test.true z
-          (sym c.is_left.ensures ∙ w.if-is_left.true) in
+          (sym c.sibling_is_left.ensures ∙ w.if-sibling_is_left.true) in
           rw (
             w.node-is,
             w.last-is,
@@ -29,10 +29,10 @@ loop-digest-preserved g c =
             c.digest-item.is,
           )
           (sym e ∙ c.loop-digest.invariant)
-      | else-is_left w ↦
+      | else-sibling_is_left w ↦
           let e = consistency_right g.H.LogHash.hash c.args.self.now.digests.now _ _ _ _ _ _ c.loop-digest-test.true z
-          (sym c.is_left.ensures ∙ w.if-is_left.false) in
-          rw (w.node-is, w.last-is, w.old-is, w.new-is, w.node_hash-new-else-is_left.ensures, c.digest-item.is)
+          (sym c.sibling_is_left.ensures ∙ w.if-sibling_is_left.false) in
+          rw (w.node-is, w.last-is, w.old-is, w.new-is, w.node_hash-new-else-sibling_is_left.ensures, c.digest-item.is)
           (sym e ∙ c.loop-digest.invariant)
     ]
 

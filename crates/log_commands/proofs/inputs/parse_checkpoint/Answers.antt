@@ -5,7 +5,7 @@ use Rattle.log_text.specs.{Reading.checkpoint_in, Texts.checkpoint_fields, decla
 use Rattle.log_commands.specs.{Outcomes.Gives, Outcomes.said_by}
 use Rattle.log_commands.specs.declared.error.{Error.Error, Source.Source}
 use Rattle.log_commands.proofs.ProveFacts.{limit_of}
-use Rattle.log_commands.proofs.inputs.read_checkpoint.Goals as goal
+use Rattle.log_commands.proofs.inputs.parse_checkpoint.Goals as goal
 
 small : (source : Source) (text : List ℕ) (r : Result Checkpoint Error) →
     Gives checkpoint_fields r (said_by source (checkpoint_in text)) → IfOk r (λ c. c.size ≤ size_limit)
