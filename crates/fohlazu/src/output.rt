@@ -86,7 +86,9 @@ impl<'a> Replacement<'a> {
 
     fn file(&mut self) -> io::Result<&mut File> {
         let (rt, place, mode) = (self.rt, self.place.as_path(), self.mode.unwrap_or(0o666));
-        let (_, file) = self.written.get_or_try_insert_with(|| create_beside(rt, place, mode))?;
+        let (_, file) = self
+            .written
+            .get_or_try_insert_with(|| create_beside(rt, place, mode))?;
         Ok(file)
     }
 }
