@@ -76,8 +76,8 @@ pub enum Action {
 }
 
 impl Args {
-    /// Parses the arguments after the program's name: a hash, an arity, a cap, an action, and the indices, of which
-    /// `commit` has none. A cap height or an index is one or more ASCII digits, and fits `usize`.
+    /// Parses the arguments after the program's name: a hash, an arity, a cap, an action, and the indices. The
+    /// action `commit` takes no index. A cap height or an index is one or more ASCII digits, and fits `usize`.
     ///
     /// # Errors
     ///

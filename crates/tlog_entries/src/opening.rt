@@ -113,7 +113,8 @@ pub(crate) fn opening_of(
 ) -> Result<PrunedBatchOpening<Node, Node, 1>, EntriesError>
     ensures answer { AnswersUnless (λ e. e ≡ OutOfMemory) result
         (form_refusal size indices.now (length leaves.now) (length proof.now)) }
-    ensures checked { IfSome (indices_refusal size indices.now (length leaves.now)) (λ e. result_err result ≡ Some e) }
+    ensures checked { IfSome (indices_refusal size indices.now (length leaves.now))
+        (λ e. result_err result ≡ Some e) }
     ensures made { IfOk result (λ opening.
         pruned_made indices.now opening ≡ entries_opening size indices.now leaves.now proof.now) }
 {

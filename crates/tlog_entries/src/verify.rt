@@ -48,7 +48,8 @@ pub fn verify_entries(
         → (size ≤ size_limit) × AreIncluded sha256 size indices.now leaves.now proof.now root.now }
     ensures complete { size ≤ size_limit → AreIncluded sha256 size indices.now leaves.now proof.now root.now
         → AnswersUnless (λ e. e ≡ OutOfMemory) result None }
-    ensures checked { IfSome (indices_refusal size indices.now (length leaves.now)) (λ e. result_err result ≡ Some e) }
+    ensures checked { IfSome (indices_refusal size indices.now (length leaves.now))
+        (λ e. result_err result ≡ Some e) }
     ensures refused { AnswersUnless (λ e. e ≡ OutOfMemory) result
         (entries_refusal sha256 size indices.now leaves.now proof.now root.now) }
 {
@@ -68,7 +69,8 @@ pub(crate) fn verify<H: LogHash<32>>(
         → (size ≤ size_limit) × AreIncluded H.hash size indices.now leaves.now proof.now root.now }
     ensures complete { size ≤ size_limit → AreIncluded H.hash size indices.now leaves.now proof.now root.now
         → AnswersUnless (λ e. e ≡ OutOfMemory) result None }
-    ensures checked { IfSome (indices_refusal size indices.now (length leaves.now)) (λ e. result_err result ≡ Some e) }
+    ensures checked { IfSome (indices_refusal size indices.now (length leaves.now))
+        (λ e. result_err result ≡ Some e) }
     ensures refused { AnswersUnless (λ e. e ≡ OutOfMemory) result
         (entries_refusal H.hash size indices.now leaves.now proof.now root.now) }
 {
