@@ -47,9 +47,13 @@ def digest(line):
     return found if found is not None and len(found) == 32 else None
 
 
+def is_key_name(name):
+    return is_text(name) and name != b"" and not any(char.isspace() or char == "+" for char in name.decode())
+
+
 def signature(line):
     words = line.split(b" ")
-    if len(words) != 3 or words[0] != DASH or not words[1] or not is_text(words[1]) or b"+" in words[1]:
+    if len(words) != 3 or words[0] != DASH or not is_key_name(words[1]):
         return None
     return line if len(unb64(words[2]) or b"") >= 5 else None
 

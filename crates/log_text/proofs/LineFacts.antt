@@ -4,7 +4,7 @@ use Rattle.std.proofs.Common.{ap, arith, ◌&&◌, if◌then◌else◌, not, nat
 use Rattle.std.proofs.Common.{ne_eqb, ◌^◌, Decides, [], ◌∷◌, ◌++◌, Option, refl, ◌∙◌, subst, inl, inr, ◌⊎◌, codes}
 use Rattle.std.proofs.Common.{decimal, All, eqb-true, leb-true}
 use Rattle.std.proofs.lemmas.List.Elements.{All-append, All-cons, All-nil, All-weaker}
-use Rattle.std.proofs.lemmas.Bool.{and_left, eqb-false, and_parts}
+use Rattle.std.proofs.lemmas.Bool.{and_left, eqb-false, and_parts, false_from_ne_true}
 use Rattle.std.proofs.lemmas.Bool.Decides.{Decides-and, Decides-eqb, Decides-not}
 use Rattle.std.proofs.lemmas.{List.nil_from_length, Str.is_utf8-from_IsUtf8, Str.IsUtf8-from_is_utf8}
 use Rattle.std.specs.{Cmp.Lexicographic.pointwise, Cmp.Lexicographic.bytes_decides, List.list_all, List.starts_with}
@@ -55,6 +55,14 @@ no_origin Y N (Ok s) bytes none said = absurd cc
 no_origin Y N (Err e) bytes none said =
     let other = and_left (is_utf8 bytes) _ (sym (utf8_tells Y N (Err e) bytes said)) in
     λ i. if sym other i then Some bytes else None
+
+-- bytes that are no text are no name
+pub no_name : (bytes : List ℕ) → (IsUtf8 bytes → ⊥) → is_key_name bytes ≡ false
+unfolding is_key_name is_text
+no_name bytes other =
+    false_from_ne_true (is_key_name bytes) (λ is.
+    let (text, named) = and_parts (is_text bytes) _ (and_parts (nat_le 1 (length bytes)) _ is).1 in
+    other (IsUtf8-from_is_utf8 bytes (and_parts (is_utf8 bytes) _ text).0))
 
 pub some_tested : (bytes : List ℕ) → (length bytes == 0) ≡ false → nat_le 1 (length bytes) ≡ true
 some_tested bytes some = le-leb 1 (length bytes) (omega (arith, eqb-false (length bytes) 0 some))

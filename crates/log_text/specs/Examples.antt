@@ -48,12 +48,13 @@ pub origins : (is_origin (codes "journal example") ≡ true) × (is_origin (code
 unfolding on_literals
 origins = (refl, refl, refl, refl, refl, refl, refl)
 
--- a signature has at least 5 bytes, and its name has no `+`
+-- a signature has at least 5 bytes, and its name has no `+` and no U+00A0
 pub signatures : (is_signature (dash ++ codes "witness AAAAAAA=") ≡ true)
     × (is_signature (dash ++ codes "witness AAAAAA==") ≡ false) × (is_signature (dash ++ codes "a+b AAAAAAA=") ≡ false)
     × (is_signature (codes "- witness AAAAAAA=") ≡ false)
+    × (is_signature (dash ++ 194 ∷ 160 ∷ codes "b AAAAAAA=") ≡ false)
 unfolding on_literals
-signatures = (refl, refl, refl, refl)
+signatures = (refl, refl, refl, refl, refl)
 
 -- ---- checkpoints
 

@@ -2,8 +2,9 @@
 use Rattle.std.specs.Prelude.{ℕ, ◌+◌, ◌-◌, ◌^◌, ◌==◌, ◌&&◌, not, nat_eq, nat_le, nat_lt, Bool, false, decimal}
 use Rattle.std.specs.Prelude.{if◌then◌else◌, List, ◌∷◌, [], length, take, drop, position, slice_index, codes, is_some}
 use Rattle.std.specs.Prelude.{option_map, Option, None, Some}
-use Rattle.std.specs.{Cmp.Lexicographic.pointwise, List.list_all, List.starts_with, Option.option_and_then}
-use Rattle.std.specs.{Option.option_map_or, Result.result_ok, Str.chars, Str.is_utf8, Str.Parse.digits_value}
+use Rattle.std.specs.{Char.is_whitespace, Cmp.Lexicographic.pointwise, List.list_all, List.starts_with}
+use Rattle.std.specs.{Option.option_and_then, Option.option_map_or, Result.result_ok, Str.chars, Str.is_utf8}
+use Rattle.std.specs.Str.Parse.{digits_value}
 use Rattle.base64.specs.{Engines.standard, GeneralPurpose.decode_of, GeneralPurpose.encode_of}
 use Rattle.log_text.specs.declared.error.Expected.{Expected}
 use Rattle.log_text.specs.declared.error.Expected.TheVariants.{Blank, Extension, PartOrigin, ProofVersion, Signature}
@@ -78,10 +79,13 @@ is_origin text =
     (not (slice_index text 0 == 32) && (not (slice_index text (length text - 1) == 32) &&
     (nat_le (length (chars text)) 100 && list_all (λ b. nat_le 32 b && not (b == 127)) text)))))
 
--- the name of a key: text that is not empty, without a space or `+`
+-- a character of a key's name: no space, be it one of Unicode's, and no `+`
+abbrev pub is_name_char : ℕ → Bool
+is_name_char c = not (is_whitespace c) && not (c == 43)
+
+-- the name of a key: such text, which is not empty
 unfoldable pub is_key_name : List ℕ → Bool
-is_key_name name =
-    nat_le 1 (length name) && (is_text name && list_all (λ b. not (b == 32) && not (b == 43)) name)
+is_key_name name = nat_le 1 (length name) && (is_text name && list_all is_name_char (chars name))
 
 -- an em dash in UTF-8, and a space
 abbrev pub dash : List ℕ

@@ -1,7 +1,7 @@
 //! Checkpoints of logs, and parts of files.
 
 ghost use Rattle.std.specs.{Prelude.◌≡◌, Prelude.IfOk, Prelude.option_map, Result.result_map_both};
-ghost use Rattle.log_text.specs.{Lines.is_key_name, Lines.is_origin, Lines.passing, Reading.after_origin};
+ghost use Rattle.log_text.specs.{Lines.is_origin, Lines.passing, Reading.after_origin};
 ghost use Rattle.log_text.specs.Reading.{checkpoint_in, log_origin_by, note_by, part_in, part_origin_by, signatures_by};
 ghost use Rattle.log_text.specs.{Inner.Rests.rest_of, Texts.checkpoint_fields, Texts.checkpoint_text};
 
@@ -82,14 +82,6 @@ pub fn is_origin(text: &str) -> bool
     }
     let count = text.chars().count();
     count <= 100 && bytes.iter().all(|byte| *byte >= b' ' && *byte != 0x7f)
-}
-
-/// Whether this may be the name of a key (C2SP signed-note), as is the origin of a log that is signed: it is not empty,
-/// and has no `+` and no character up to U+0020. The standard forbids Unicode's other spaces as well.
-pub fn is_key_name(name: &str) -> bool
-    ensures { result ≡ is_key_name name.now }
-{
-    line::is_key_name(name.as_bytes())
 }
 
 /// The origin that a line is.

@@ -10,7 +10,8 @@ pub mod error;
 pub mod laws;
 mod line;
 
-pub use checkpoint::{Checkpoint, PART_ORIGIN, is_key_name, is_origin};
+pub use checkpoint::{Checkpoint, PART_ORIGIN, is_origin};
 pub use consistency::ConsistencyProof;
 pub use entries::{EntriesProof, Entry};
 pub use error::{Expected, Found, TextError, WrongLine};
+pub use line::is_key_name;

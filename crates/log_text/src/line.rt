@@ -5,8 +5,8 @@ ghost use Rattle.std.specs.Prelude.{flat_map, length, option_map, take};
 ghost use Rattle.std.specs.{Option.SomeIff, Result.result_map_both};
 ghost use Rattle.std.specs.Str.Parse.{IsNumeral, digits_value};
 ghost use Rattle.base64.specs.Decode.{decoded_estimate};
-ghost use Rattle.log_text.specs.Lines.{base64_bytes, cut_at, digest_of, is_key_name, is_line, is_signature, is_text};
-ghost use Rattle.log_text.specs.Lines.{number_after, number_of};
+ghost use Rattle.log_text.specs.Lines.{base64_bytes, cut_at, digest_of, is_key_name, is_line, is_name_char};
+ghost use Rattle.log_text.specs.Lines.{is_signature, is_text, number_after, number_of};
 ghost use Rattle.log_text.specs.Reading.{at_blank, at_text_end, digest_by, digests_by, ended, line_by, line_that, many};
 ghost use Rattle.log_text.specs.{Inner.Rests.rest_of, Texts.digest_line, Texts.line};
 ghost use Rattle.log_text.specs.declared.error.Stop.TheVariants.{Memory};
@@ -97,19 +97,27 @@ fn is_text(bytes: &[u8]) -> bool
     str::from_utf8(bytes).is_ok() && bytes.iter().all(|byte| *byte >= b' ')
 }
 
-/// Whether this may be the name of a key (C2SP signed-note): UTF-8, not empty, no `+`, no character up to U+0020.
+/// Whether this may be a character of a key's name.
+fn is_name_char(c: char) -> bool
+    ensures { result ≡ is_name_char c }
+{
+    !c.is_whitespace() && c != '+'
+}
+
+/// Whether this may be the name of a key (C2SP signed-note), as is the origin of a log that is signed: it is not empty,
+/// and has no `+`, no character below U+0020, and no space, be it one of Unicode's.
 #[tactic(auto, unfolding(crate::specs::Lines::is_key_name))]
-pub fn is_key_name(name: &[u8]) -> bool
+pub fn is_key_name(name: &str) -> bool
     ensures { result ≡ is_key_name name.now }
 {
-    if name.is_empty() || !is_text(name) {
+    if name.is_empty() || !is_text(name.as_bytes()) {
         return false;
     }
-    name.iter().all(|byte| *byte != b' ' && *byte != b'+')
+    name.chars().all(is_name_char)
 }
 
 /// Whether a line is a signature.
-#[tactic(auto, unfolding(crate::specs::Lines::is_signature))]
+#[tactic(auto, using(crate::proofs::LineFacts::no_name), unfolding(crate::specs::Lines::is_signature))]
 fn is_signature(line: &[u8]) -> bool
     ensures { result ≡ is_signature line.now }
 {
@@ -119,7 +127,7 @@ fn is_signature(line: &[u8]) -> bool
     let Some((name, signature)) = cut_at(b' ', rest) else {
         return false;
     };
-    is_key_name(name) && base64_len(signature).is_some_and(|len| len >= 5)
+    str::from_utf8(name).is_ok_and(is_key_name) && base64_len(signature).is_some_and(|len| len >= 5)
 }
 
 /// Whether a line is what is expected, of the kinds that say nothing else.
