@@ -152,7 +152,7 @@ help:
 #:                   processor time the first time. CPU=x86-64-v2 or CPU=x86-64-v3 names another processor.
 #:                   `make build/libfohlazu.a` proves the library for C alone, in half an hour
 #: make quick        the programs with no proof, in build/quick/: two minutes
-#: make check-quick  what can be tried with no proof: documents, tests, stored runs, random cases; half an hour
+#: make check-quick  what can be tried with no proof: documents, tests, stored runs, random cases; 20 minutes
 #: make check        the gate: documents, then every proof, test and refused edit; 80 to 170 processor minutes
 #: make libraries    the proved libraries, with rattle-with: a crate over them is checked in a minute
 #: make dist         archives of the programs and of the libraries, with their checksums, in build/dist/

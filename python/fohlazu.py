@@ -119,7 +119,8 @@ NUMBER = "(0|[1-9][0-9]{0,18})"
 BASE64 = "(?:[A-Za-z0-9+/]{4})*(?:[A-Za-z0-9+/][AQgw]==|[A-Za-z0-9+/]{2}[AEIMQUYcgkosw048]=)?"
 DIGEST = "[A-Za-z0-9+/]{42}[AEIMQUYcgkosw048]="  # base64 of 32 bytes
 EXTENSION = f"(?!{DIGEST}$)[^{OUT}]+"
-SIGNATURE = f"\u2014 [^{OUT} +]+ (?=.{{8}})(?!.{{6}}==(?m:$)){BASE64}"  # base64 of at least 5 bytes
+NAME = f"[^{OUT}\\s+]+"  # of a key
+SIGNATURE = f"\u2014 {NAME} (?=.{{8}})(?!.{{6}}==(?m:$)){BASE64}"  # base64 of at least 5 bytes
 
 class Text:
     """A text that is read line by line. It is refused at the first line where something else is expected."""
@@ -187,7 +188,7 @@ def parse_consistency(proof: bytes) -> tuple[int, list[bytes], bytes]:
 def parse_key(vkey: str) -> tuple[str, bytes, Any]:
     """The name, id and public key of a verifier key of Ed25519, `NAME+HEX+BASE64` as Go prints it."""
     ed25519 = importlib.import_module("cryptography.hazmat.primitives.asymmetric.ed25519")
-    found = re.fullmatch(f"([^{OUT}\\s+]+)\\+([0-9A-Fa-f]{{8}})\\+({BASE64})", vkey)
+    found = re.fullmatch(f"({NAME})\\+([0-9A-Fa-f]{{8}})\\+({BASE64})", vkey)
     name, key = (found[1], base64.b64decode(found[3])) if found else ("", b"")
     key_id = hashlib.sha256(name.encode() + b"\n" + key).digest()[:4]
     if not found or found[2].lower() != key_id.hex() or key[:1] != b"\1" or len(key) != 33:
@@ -198,8 +199,8 @@ def verify_note(note: bytes, vkey: str) -> bytes:
     """The text of a note that this verifier key signed. It refuses what Go's note.Open refuses."""
     name, key_id, key = parse_key(vkey)
     found = re.fullmatch(f"((?:[^{OUT}]|\n)*\n)\n((?:{SIGNATURE}\n){{1,100}})", note.decode("utf-8", "surrogateescape"))
-    lines = [line.split(" ") for line in found[2].split("\n")[:-1]] if found else []
-    if not found or any(re.search(r"\s", signer) for _, signer, _ in lines): raise Refused("expected a signed note")
+    if not found: raise Refused("expected a signed note")
+    lines = [line.split(" ") for line in found[2].split("\n")[:-1]]
     signatures = [base64.b64decode(signature) for _, signer, signature in lines if signer == name]
     mine = [signature[4:] for signature in signatures if signature[:4] == key_id]
     if not mine: raise Refused("the note is not signed by this key")
