@@ -11,7 +11,7 @@ use std::io::{Error, ErrorKind, Read};
 /// What is noted while arguments and inputs are read.
 #[derive(Default, Drop)]
 pub struct Notes {
-    /// Why a read failed.
+    /// Why a read, or a write to standard output, last failed.
     pub failure: Cell<Option<Error>>,
     /// Whether a line of progress stands on standard error.
     pub is_shown: Cell<bool>,

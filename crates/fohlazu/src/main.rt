@@ -118,7 +118,7 @@ fn refuse_output(rt: &HostRuntime, name: &str, error: io::Error) -> ExitCode {
     ExitCode::from(2)
 }
 
-/// Prints why nothing is run.
+/// Prints why the program stops.
 fn refuse(rt: &HostRuntime, why: impl Display + Drop) -> ExitCode {
     let _ = eprintln!(rt; "fohlazu: {why}");
     ExitCode::from(2)

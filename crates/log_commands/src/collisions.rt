@@ -27,8 +27,8 @@ use tlog_entries::entries_collision;
 ///
 /// # Errors
 ///
-/// Those of `verify` as it prints raw bytes of all entries; then `EndsInsideLine`, `TooFewEntries` or `OtherEntries` if
-/// the checkpoint is not of the file.
+/// Those of `verify` as it prints raw bytes of the entries that the proof has; then `EndsInsideLine`, `TooFewEntries`
+/// or `OtherEntries` if the checkpoint is not of the file.
 pub fn file_entries_collision(
     alloc: Global,
     cut: Cut,
@@ -93,7 +93,7 @@ fn read_entries_under(
     ensures { Gives (λ entries. entries_of entries.items) result (entries_by source cut checkpoint.now file.now) }
 {
     let checkpoint = parse_checkpoint(source, checkpoint)?;
-    // The file has so many entries, before memory is taken for them.
+    // The first pass shows that the file has so many entries, before memory is taken for them.
     read_bytes(alloc, cut, &checkpoint, &[], file)?;
     let indices: Vec<usize> = (0..checkpoint.size).collect(alloc)?;
     let log = read_bytes(alloc, cut, &checkpoint, &indices, file)?;

@@ -34,7 +34,7 @@ pub enum Command<R> {
         /// The checkpoint of the file, which may have grown since.
         checkpoint: R,
         file: R,
-        /// The numbers of the entries, counted from 1: all of the checkpoint without.
+        /// The numbers of the entries, counted from 1; without, all entries of the checkpoint.
         numbers: Option<Vec<usize>>,
     },
     /// Prints the entries of a proof that is accepted.
@@ -64,8 +64,8 @@ pub enum Command<R> {
 }
 
 impl<R> Command<R> {
-    /// Whether it can be run: an origin is one, a block has 1 to 2^30 bytes, and numbers are from 1 on, at least one of
-    /// them. Any entries are printed as lines alone, and raw bytes of one number.
+    /// Whether it can be run: the origin passes [`is_origin`], a block has 1 to 2^30 bytes, and there is a number, each
+    /// from 1 on. `Requested::Any` goes with `Print::Lines` alone, `Print::Raw` with exactly one number.
     pub fn is_lawful(&self) -> bool
         ensures { Decides result (IsLawful self.now) }
     {
@@ -92,7 +92,7 @@ fn is_cut(cut: Cut) -> bool
     }
 }
 
-/// Whether these are numbers of entries.
+/// Whether these are numbers of entries: at least one, each from 1 on.
 fn are_numbers(numbers: &[usize]) -> bool
     ensures { Decides result (AreNumbers numbers.now) }
 {
@@ -115,7 +115,8 @@ fn is_print(print: Print, requested: &Requested) -> bool
     }
 }
 
-/// Runs a command: reads its inputs one after another, and writes what it answers.
+/// Runs a command that [`is_lawful`](Command::is_lawful): reads its inputs one after another, and writes what it
+/// answers.
 ///
 /// # Errors
 ///

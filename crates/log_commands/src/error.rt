@@ -119,8 +119,8 @@ impl Error {
         }
     }
 
-    /// The exit status of a program that stops so: 2 for a wrong line of a checkpoint or part, 1 for any other refusal,
-    /// 2 where an input can't be read, the output can't be written, or memory is out.
+    /// The exit status of a program that stops so: 2 for a wrong line of an input that is a checkpoint or part, 1 for
+    /// any other refusal, 2 where an input can't be read, the output can't be written, or memory is out.
     pub fn status(&self) -> u8
         ensures { result ≡ status_of self.now }
     {
@@ -128,7 +128,7 @@ impl Error {
             Error::Refused(Source::File | Source::Proof, _) => 1,
             Error::Refused(_, Refusal::Line(_)) => 2,
             Error::Refused(_, _) => 1,
-            _ => 2,
+            Error::Read(_) | Error::Write | Error::OutOfMemory => 2,
         }
     }
 }

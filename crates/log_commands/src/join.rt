@@ -17,7 +17,8 @@ use tlog_tree::Frontier;
 
 /// The text of the checkpoint, under this origin, of the file whose parts these texts are, in their order. Each part is
 /// a checkpoint of the origin `PART_ORIGIN`; all but the last have one size, a power of two, and the last has 1 entry
-/// to as many. The root is that of the whole file; of no parts, that of no entries.
+/// to as many. The root is that of the whole file; of no parts, that of no entries. It is read again if
+/// [`is_origin`](log_text::is_origin) takes the origin.
 ///
 /// # Errors
 ///
@@ -83,7 +84,7 @@ fn is_part_size(sizes: &[usize], k: usize) -> bool
     }
 }
 
-/// The sum of sizes, if it is one.
+/// The sum of sizes, if it is at most 2^62.
 fn total(sizes: &[usize]) -> Option<usize>
     ensures { MatchOption result (size_limit < sum sizes.now)
         (λ size. (size ≡ sum sizes.now) × (size ≤ size_limit)) }

@@ -21,11 +21,11 @@ use std::alloc::{AllocError, Global};
 use std::io::Read;
 use tlog_entries::entry_places;
 
-/// The most entries that a command takes at once.
+/// The most entries that `run` proves where no numbers are given.
 pub const MOST_NUMBERS: usize = 100_000_000;
 
-/// The proof of entries of a file under its checkpoint, by their numbers, counted from 1, in the order of these, also
-/// repeated. The file may have grown: of it as many entries are read as the checkpoint has, in one pass.
+/// The proof of entries of a file under its checkpoint, by one or more numbers, counted from 1, in the order of these,
+/// also repeated. The file may have grown: of it as many entries are read as the checkpoint has, in one pass.
 ///
 /// # Errors
 ///
@@ -50,7 +50,7 @@ pub fn prove<R: Read>(
     prove_under(alloc, cut, &checkpoint, numbers, file)
 }
 
-/// The numbers of entries to prove: those of all entries of a checkpoint, if it has not too many, where none are given.
+/// The given numbers, or those of all entries of a checkpoint, if it has at most `MOST_NUMBERS`.
 pub(crate) fn numbers_of(
     alloc: Global,
     numbers: Option<Vec<usize>>,
@@ -71,7 +71,7 @@ pub(crate) fn numbers_of(
     Ok(all_numbers(alloc, checkpoint.size)?)
 }
 
-/// The numbers of all entries of a log of so many. One of none is refused by number 1.
+/// The numbers of all entries of a log of so many; number 1, which it refuses, of a log of none.
 pub(crate) fn all_numbers(alloc: Global, size: usize) -> Result<Vec<usize>, AllocError>
     requires { size ≤ size_limit }
     ensures { IfOk result (λ numbers. (numbers.items ≡ all_numbers size) × AreNumbers numbers.items) }
@@ -94,8 +94,7 @@ fn requested<'a>(checkpoint: &'a [u8], numbers: &[usize]) -> Result<Checkpoint<'
 fn check_numbers(size: usize, numbers: &[usize]) -> Result<(), Error>
     ensures { Checks result (first_of (number_refusal size) numbers.now) }
 {
-    for number in numbers {
-        let number = *number;
+    for &number in numbers {
         if number > size {
             return Err(Error::Refused(Source::Checkpoint, Refusal::NumberPastEnd { number, size }));
         }

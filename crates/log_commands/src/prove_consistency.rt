@@ -42,8 +42,8 @@ pub fn prove_consistency<R: Read>(
         and_then (bytes_from File input) (prove_growth cut o n new.now)))) }
     ensures unread { (error : Error) → compared old.now new.now ≡ Err error → file.new ≡ file.old }
 {
-    let (one, other) = compared(old, new)?;
-    prove_growth(alloc, cut, &one, &other, new, file)
+    let (old, checkpoint) = compared(old, new)?;
+    prove_growth(alloc, cut, &old, &checkpoint, new, file)
 }
 
 /// The old checkpoint and the new one that texts say, if the new one may follow the old one.

@@ -11,7 +11,8 @@ use std::alloc::Global;
 use std::io::Read;
 
 /// The checkpoint of a file under this origin, in one pass over the file: how many entries it has, and the root of
-/// their tree (RFC 9162, 2.1.1). With `PART_ORIGIN` it is a part of a file.
+/// their tree (RFC 9162, 2.1.1). With `PART_ORIGIN` it is a part of a file. It is read again if
+/// [`is_origin`](log_text::is_origin) takes the origin.
 ///
 /// # Errors
 ///

@@ -20,7 +20,7 @@ use tlog_entries::verify_entries;
 /// How entries are printed.
 #[derive(Clone, Copy, Debug, PartialEq, Eq)]
 pub enum Print {
-    /// As lines, each with a line feed, after its number and a tab where no numbers are requested.
+    /// As lines, each with a line feed; for `Requested::Any` after its number and a tab.
     Lines,
     /// As blocks of so many bytes, one after another. The last of the log may be shorter.
     Blocks(usize),
@@ -199,8 +199,8 @@ fn push_entry(
         text.extend_from_slice(head.as_bytes())?;
     }
     text.extend_from_slice(&entry.bytes)?;
-    match print {
-        Print::Lines => text.extend_from_slice(b"\n"),
-        _ => Ok(()),
+    if print == Print::Lines {
+        text.push(b'\n')?;
     }
+    Ok(())
 }

@@ -64,7 +64,7 @@ digest_of line = option_and_then (λ bytes. if length bytes == 32 then Some byte
 
 -- ---- text
 
--- UTF-8 without control characters
+-- UTF-8 without characters below U+0020
 unfoldable pub is_text : List ℕ → Bool
 is_text bytes = is_utf8 bytes && list_all (λ b. nat_le 32 b) bytes
 

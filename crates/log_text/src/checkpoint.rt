@@ -42,19 +42,20 @@ impl<'a> Checkpoint<'a> {
         log_by(note).map_err(|stop| error_of(note, stop))
     }
 
-    /// Reads a part: a text of the same form with the origin `PART_ORIGIN`.
+    /// Reads a part of a file: a text of the form that [`parse`](Self::parse) reads, with the origin `PART_ORIGIN`.
     ///
     /// # Errors
     ///
-    /// `Line` for the first wrong line, as `parse` has it. Each other origin is wrong.
+    /// `Line` for the first wrong line. Another origin is wrong at the first line, and so is a text of more than
+    /// 1000000 bytes.
     pub fn parse_part(text: &'a [u8]) -> Result<Checkpoint<'a>, TextError>
         ensures { result_map_both checkpoint_fields (λ error. error) result ≡ part_in text.now }
     {
         part_by(text).map_err(|stop| error_of(text, stop))
     }
 
-    /// Prints the origin, the size and the root; `AllocError` if memory runs out. It is read again if the origin is
-    /// one, and the size at most 2^62.
+    /// Prints the origin, the size and the root; `AllocError` if memory runs out. It is read again if [`is_origin`]
+    /// takes the origin, and the size is at most 2^62: by `parse_part` if the origin is `PART_ORIGIN`, else by `parse`.
     pub fn to_text(&self, alloc: Global) -> Result<Vec<u8>, AllocError>
         ensures { IfOk result (λ text. text.items ≡ checkpoint_text (checkpoint_fields self.now)) }
     {

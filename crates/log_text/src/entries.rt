@@ -13,6 +13,9 @@ use crate::line::{
 };
 use std::alloc::{AllocError, Global};
 
+/// The first line of a proof of entries.
+pub(crate) const PROOF_VERSION: &str = "fohlazu proof 1";
+
 /// Entries of a log, with the digests that prove all of them.
 #[derive(Drop)]
 pub struct EntriesProof {
@@ -49,7 +52,7 @@ impl EntriesProof {
         ensures { IfOk result (λ text. text.items ≡ entries_text (entries_fields self.now)) }
     {
         let mut text = Vec::with_capacity(alloc, self.room())?;
-        push_line(&mut text, b"fohlazu proof 1")?;
+        push_line(&mut text, PROOF_VERSION.as_bytes())?;
         push_number(alloc, &mut text, "entries ", self.entries.len())?;
         push_entries(alloc, &mut text, &self.entries)?;
         push_number(alloc, &mut text, "digests ", self.digests.len())?;

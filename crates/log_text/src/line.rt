@@ -12,11 +12,12 @@ ghost use Rattle.log_text.specs.{Inner.Rests.rest_of, Texts.digest_line, Texts.l
 ghost use Rattle.log_text.specs.declared.error.Stop.TheVariants.{Memory};
 
 use crate::checkpoint::PART_ORIGIN;
+use crate::entries::PROOF_VERSION;
 use crate::error::{Expected, Stop, missing};
 use base64::engine::general_purpose::STANDARD;
 use std::alloc::{AllocError, Global};
 
-/// The bytes ahead of the first byte that is this one, and those after it.
+/// The bytes ahead of the first `mark`, and those after it.
 pub fn cut_at(mark: u8, bytes: &[u8]) -> Option<(&[u8], &[u8])>
     ensures { option_map (λ (front, back). (front.now, back.now)) result ≡ cut_at mark bytes.now }
 {
@@ -47,7 +48,7 @@ pub fn number_of(digits: &[u8]) -> Option<usize>
     (number <= 1 << 62).then_some(number)
 }
 
-/// Decodes base64, and returns how many bytes it is of.
+/// Decodes base64 to the front of `bytes`, and returns how many bytes that is.
 fn decode(text: &[u8], bytes: &mut [u8]) -> Option<usize>
     requires { decoded_estimate (length text.now) ≤ length bytes.old }
     ensures len { result ≡ option_map length (base64_bytes text.now) }
@@ -97,7 +98,7 @@ fn is_text(bytes: &[u8]) -> bool
     str::from_utf8(bytes).is_ok() && bytes.iter().all(|byte| *byte >= b' ')
 }
 
-/// Whether this may be a character of a key's name.
+/// Whether this is no space, be it one of Unicode's, and no `+`.
 fn is_name_char(c: char) -> bool
     ensures { result ≡ is_name_char c }
 {
@@ -139,7 +140,7 @@ fn is_line(expected: Expected, line: &[u8]) -> bool
         Expected::PartOrigin => line == PART_ORIGIN.as_bytes(),
         Expected::Extension => !line.is_empty() && is_text(line) && digest_of(line).is_none(),
         Expected::Signature => is_signature(line),
-        Expected::ProofVersion => line == b"fohlazu proof 1".as_slice(),
+        Expected::ProofVersion => line == PROOF_VERSION.as_bytes(),
         Expected::Blank => line.is_empty(),
         _ => false,
     }
@@ -154,14 +155,14 @@ pub fn skip_line(left: &[u8], expected: Expected) -> Result<&[u8], Stop>
     is_line(expected, line).then_some(rest).ok_or(stop)
 }
 
-/// Reads past such lines, at most so many, up to a blank line or the end.
+/// Reads past lines that are what is expected, at most `limit`, up to a blank line or the end.
 pub fn skip_lines(left: &[u8], expected: Expected, limit: usize) -> Result<&[u8], Stop>
     ensures { result_map_both (λ rest. rest.now) (λ stop. stop) result
         ≡ rest_of (many at_text_end (line_that expected) limit left.now) }
 {
     let mut rest = left;
     for _line in 0..limit {
-        if rest.is_empty() || rest[0] == b'\n' {
+        if rest.is_empty() || at_blank(rest) {
             return Ok(rest);
         }
         rest = skip_line(rest, expected)?;
@@ -186,7 +187,7 @@ pub fn number_by<'a>(
     Ok((number, rest))
 }
 
-/// Reads a digest, where a blank line may stand instead or not.
+/// Reads a digest. With `blank_stops` the error says that a blank line may stand instead.
 #[tactic(auto, unfolding(crate::specs::Reading::digest_by))]
 pub fn digest_by(left: &[u8], blank_stops: bool) -> Result<([u8; 32], &[u8]), Stop>
     ensures { result_map_both (λ (digest, rest). (digest, rest.now)) (λ stop. stop) result
@@ -205,7 +206,7 @@ pub fn digest_by(left: &[u8], blank_stops: bool) -> Result<([u8; 32], &[u8]), St
 fn at_blank(left: &[u8]) -> bool
     ensures { result ≡ at_blank left.now }
 {
-    !left.is_empty() && left[0] == b'\n'
+    left.first() == Some(&b'\n')
 }
 
 /// Reads so many digests; at most so many, where a blank line stops them.
@@ -232,12 +233,15 @@ pub fn digests_by(
     Ok((digests, rest))
 }
 
-/// Nothing is left.
+/// Checks that nothing is left.
 pub fn ended(left: &[u8]) -> Result<(), Stop>
     ensures { result ≡ ended tt left.now }
 {
-    let end = left.is_empty().then_some(());
-    end.ok_or(missing(left, Expected::End))
+    if left.is_empty() {
+        Ok(())
+    } else {
+        Err(missing(left, Expected::End))
+    }
 }
 
 /// Appends bytes and a line feed.

@@ -1,9 +1,9 @@
--- Lines after lines, and digits of words.
-use Rattle.std.proofs.Common.{◌≡◌, ℕ, zero, suc, ◌+◌, ◌/◌, ◌%◌, ◌<◌, List, [], ◌∷◌, ◌++◌, length, get_or, take}
-use Rattle.std.proofs.Common.{map, sym, ap, ◌∙◌, ◌-◌, arith, append_assoc}
+-- Lines after lines.
+use Rattle.std.proofs.Common.{◌≡◌, ℕ, ◌+◌, ◌<◌, List, [], ◌∷◌, ◌++◌, length, get_or, take}
+use Rattle.std.proofs.Common.{map, sym, ap, ◌∙◌, append_assoc}
 use Rattle.std.proofs.lemmas.List.{flat_map_more, map_more, get_or-map, length-map, take_more}
 use Rattle.std.{specs.Prelude.flat_map, specs.Prelude.codes, proofs.lemmas.Simd.map-map, specs.declared.vec.Vec.Vec}
-use Rattle.mmcs_engine.specs.{Text.hex_digit, Text.hex_word, Text.labelled, Text.row_line, Inner.Alike.opened_lines}
+use Rattle.mmcs_engine.specs.{Text.labelled, Text.row_line, Inner.Alike.opened_lines}
 use Rattle.p3_support.specs.Shown.{row_lists, row_sets}
 use Rattle.p3_merkle_core.specs.{Nodes.Batch, Openings.honest_rows}
 
@@ -56,10 +56,3 @@ texts_more text value items i item old before after within item_is before_is aft
     ∙ flat_map_more text old (map value (take i items)) (value item)
     ∙ ap (λ xs. old ++ flat_map text xs)
     (sym (map_more value items i item within ∙ ap (λ r. map value (take i items) ++ value r ∷ []) (sym item_is)))
-
--- a word in hexadecimal, from the digits ahead of its last one
-pub hex_more : (width word : ℕ) → 0 < width →
-    hex_word (width - 1) (word / 16) ++ hex_digit (word % 16) ∷ [] ≡ hex_word width word
-hex_more zero word some = absurd (omega (arith, some))
-hex_more (suc width) word some =
-    let one : suc width - 1 ≡ width = omega arith in ap (λ n. hex_word n (word / 16) ++ hex_digit (word % 16) ∷ []) one

@@ -1,7 +1,7 @@
 //! Printed lines.
 
-ghost use Rattle.std.specs.Prelude.{◌≡◌, ◌++◌, ◌<◌, OnOk, flat_map, map, string_bytes};
-ghost use Rattle.mmcs_engine.specs.Text.{hex_digit, hex_line, hex_lines, hex_word, row_line};
+ghost use Rattle.std.specs.Prelude.{◌≡◌, ◌++◌, OnOk, flat_map, map, string_bytes};
+ghost use Rattle.mmcs_engine.specs.Text.{hex_line, hex_lines, hex_word, row_line};
 
 use crate::word::Word;
 use std::alloc::AllocError;
@@ -40,22 +40,7 @@ fn push_hex(text: &mut String, digits: usize, number: u32) -> Result<(), AllocEr
         return Ok(());
     }
     push_hex(text, digits - 1, number / 16)?;
-    text.push(char::from(hex_digit(number % 16)))?;
-    Ok(())
-}
-
-/// A digit in lower case hexadecimal, of a number below 16.
-fn hex_digit(digit: u32) -> u8
-    requires { digit < 16 }
-    ensures digit { result ≡ hex_digit digit }
-    ensures ascii { result < 128 }
-{
-    let digit = digit as u8;
-    if digit < 10 {
-        b'0' + digit
-    } else {
-        b'a' + (digit - 10)
-    }
+    text.push(char::from_digit(number % 16, 16).unwrap())
 }
 
 /// Appends a line for each row: its numbers in decimal, with one space between.

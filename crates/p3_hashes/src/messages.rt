@@ -40,7 +40,7 @@ pub(crate) fn words(messages: &[u8], width: usize, at: usize) -> u32x8
     ])
 }
 
-/// Byte `at` of padded message `j` of eight, which is not one of the last eight.
+/// Byte `at` of padded message `j` of eight; `at` is not among the last eight bytes.
 #[inline(always)]
 fn padded_byte(messages: &[u8], width: usize, j: usize, at: usize) -> u8
     requires full { length messages.now ≡ 8 * width }

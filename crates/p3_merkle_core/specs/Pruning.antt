@@ -144,7 +144,8 @@ opening_at c p k = let i = slice_index p.indices k in opening_of i (slice_index_
 
 -- ---- agreed, accepted
 
--- queries of one index have one row set, and queries under one node the same rows of the matrices of its layer
+-- queries of one index have one row set, and queries under one node, up to layer t, the same rows of the matrices of
+-- its layer
 pub record IsAgreed {T W : Type 0} (s : Shape) (t : ℕ) (p : PrunedOpening T W) : Type 0 where
   pub in_pairs : length p.rows ≡ length p.indices
   pub repeats : (a b : ℕ) → a < length p.indices → b < length p.indices →

@@ -93,9 +93,9 @@ impl<
     /// accepted, [`verify_batch`](Self::verify_batch) accepts each query with its restored path.
     ///
     /// An accepted opening has a row set for each index: one row for each of `dimensions`, of that width. Queries of
-    /// one index have the same rows. Queries under one node have the same rows of the matrices that belong to the
-    /// node's layer. `dimensions` are those of the matrices, in input order. They must come from the verifier, never
-    /// from the proof: a cap does not bind them.
+    /// one index have the same rows. Queries under one node, at most as high as the cap, have the same rows of the
+    /// matrices that belong to the node's layer. `dimensions` are those of the matrices, in input order. They must come
+    /// from the verifier, never from the proof: a cap does not bind them.
     ///
     /// # Errors
     ///
@@ -109,8 +109,8 @@ impl<
     /// - `SiblingCountMismatch`: the number of digests is not [`pruned_len`](Self::pruned_len);
     /// - in ascending order of the indices, for each row set: `WrongBatchSize` if the number of rows is not that of the
     ///   dimensions, `WrongWidth` for the first row whose length is not the width of its matrix;
-    /// - `InconsistentGroupOpening`, layer by layer, then in ascending order of the indices: a row is not that of the
-    ///   lowest index under the same node;
+    /// - `InconsistentGroupOpening`, layer by layer up to the cap's, then in ascending order of the indices: a row is
+    ///   not that of the lowest index under the same node;
     /// - `CapMismatch`: the cap has no entry above a leaf, or another digest than the one computed.
     ///
     /// `SiblingCountMismatch` and the two `Inconsistent` errors come within `MalformedPrunedProof`.

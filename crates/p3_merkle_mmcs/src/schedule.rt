@@ -139,8 +139,8 @@ impl<
 
     /// Whether a cap over matrices of these dimensions authenticates the rows of one of them: its rows are hashed into
     /// the cap's layer, or into a layer below it. `matrix` is its position in `dimensions`, from 0, and must be below
-    /// their number. For any other matrix a verifier checks only the width of the row. Under the rule `Lowered` every
-    /// matrix is authenticated. The call does not allocate.
+    /// their number. Of a matrix that is not authenticated a verifier checks only the width of the row. Under the rule
+    /// `Lowered` every matrix is authenticated. The call does not allocate.
     ///
     /// # Errors
     ///

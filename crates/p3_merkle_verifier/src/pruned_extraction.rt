@@ -48,7 +48,8 @@ impl<'a, T, W, const D: usize> RestoredQueries<'a, T, [W; D]> {
         }
     }
 
-    /// The positions of the queries with the nearest indices below and above `index`; one query if there is no other.
+    /// The positions of the queries with the nearest indices below and above `index`; one query twice if it has
+    /// `index`, or if there is none on one side.
     fn neighbours(&self, index: usize) -> (usize, usize)
         requires leaves { HasLeaves self.now }
         requires some { 0 < length self.now.paths.items }
@@ -123,7 +124,8 @@ impl<
         above == below || self.agree(first, queries.opening(above))
     }
 
-    /// The position of the first query whose check differs from that of `first`, with the inputs where it does so last.
+    /// The position of the first query whose check differs from that of the opening `first`, with both inputs at the
+    /// last place where it does.
     fn differing_query(
         &self,
         alloc: Global,

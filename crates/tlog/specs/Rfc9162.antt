@@ -1,5 +1,6 @@
 -- The trees of RFC 9162 and its two verifiers, as sections 2.1.1 to 2.1.4 write them. A byte string is a list of bytes,
--- and what the standard writes as || is ++. The hash function is open; the calls of this crate take SHA-256.
+-- and what the standard writes as || is ++. The hash function is open: `verify_inclusion` and `verify_consistency` take
+-- SHA-256.
 use Rattle.std.specs.Prelude.{ℕ, zero, suc, ◌-◌, ◌*◌, ◌/◌, ◌%◌, ◌^◌, ◌==◌, nat_lt, nat_le, Bool, true, false, ◌||◌}
 use Rattle.std.specs.Prelude.{List, [], ◌∷◌, ◌++◌, length, take, drop, Option, Some, None}
 use Rattle.std.specs.Int.{w64, trailing_zeros, trailing_ones, is_power_of_two}
@@ -110,7 +111,8 @@ abbrev pub is_left : ℕ → ℕ → Bool
 is_left fn sn = (fn % 2 == 1) || (fn == sn)
 
 -- 4: each value p of the path in turn. None if the iteration stops, since sn is 0 before a value; else sn and r, when
--- all values are used. Where p is a left sibling, fn and sn are right-shifted until LSB(fn) is set; then once.
+-- all values are used. Where p is a left sibling, fn and sn are right-shifted until LSB(fn) is set; fn is not 0 there,
+-- the standard's other stop. After each value both are right-shifted once.
 unfoldable pub inclusion_walk : Hash → List (List ℕ) → ℕ → ℕ → List ℕ → Option (ℕ × List ℕ)
 inclusion_walk hash [] fn sn r = Some (sn, r)
 inclusion_walk hash (p ∷ path) fn sn r = elim (sn == 0) [
@@ -129,7 +131,7 @@ inclusion_end hash index size leaf path = inclusion_walk hash path index (size -
 
 -- ---- 2.1.4.2, verifying consistency, for 0 < first < second
 
--- 6: each value c of the path in turn, as for inclusion; at the end sn, fr and sr
+-- 6: each further value c of the path in turn, as for inclusion; at the end sn, fr and sr
 unfoldable pub consistency_walk : Hash → List (List ℕ) → ℕ → ℕ → List ℕ → List ℕ → Option (ℕ × List ℕ × List ℕ)
 consistency_walk hash [] fn sn fr sr = Some (sn, fr, sr)
 consistency_walk hash (c ∷ path) fn sn fr sr = elim (sn == 0) [

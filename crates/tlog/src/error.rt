@@ -9,7 +9,7 @@ use thiserror::Error;
 /// Why a proof is refused: the first reason that applies, in the order of the variants.
 #[derive(Clone, Copy, Debug, PartialEq, Eq, Error)]
 pub enum ProofError {
-    /// A size is above 2^62.
+    /// The size is above 2^62, in a proof of consistency the new one.
     #[error("the size is above 2^62")]
     SizeTooLarge,
     /// The index is not below the size.
@@ -44,7 +44,7 @@ pub enum ComposeError {
     /// The hash function has a collision, by which both proofs compute one middle root.
     #[error("two different byte strings have one hash")]
     Collision(Collision),
-    /// Memory ran out.
+    /// Memory ran out, which may come in place of `Collision`.
     #[error("out of memory")]
     OutOfMemory,
 }

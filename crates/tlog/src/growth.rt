@@ -142,7 +142,7 @@ fn lift<H: LogHash<D>, const D: usize>(
 ///
 /// - `First`, `Second` if that proof is not accepted, with the reason;
 /// - `Collision` if both proofs compute the middle root, and differ below it;
-/// - `OutOfMemory` if memory runs out.
+/// - `OutOfMemory` if memory runs out, also in place of `Collision`.
 pub fn compose<H: LogHash<D>, const D: usize>(
     alloc: Global,
     old_size: usize,

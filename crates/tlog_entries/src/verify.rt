@@ -21,9 +21,10 @@ use tlog::LogHash;
 ///
 /// The proof has a digest for each node that is no entry of the indices, nor above one, and whose sibling is: layer by
 /// layer from the leaves, each from left to right. A node that has no sibling is passed on. For one index these are the
-/// digests of its proof of inclusion (RFC 9162, 2.1.3.1). The proof is accepted exactly if the standard's verifier (RFC
-/// 9162, 2.1.3.2) accepts each leaf hash with the proof of inclusion that the leaf hashes and the digests give for it.
-/// It allocates a few lists of the indices, and a row for each.
+/// digests of its proof of inclusion (RFC 9162, 2.1.3.1). With these digests, no more and no fewer, and equal leaf
+/// hashes for a repeated index, the proof is accepted exactly if the standard's verifier (RFC 9162, 2.1.3.2) accepts
+/// each leaf hash with the proof of inclusion that the leaf hashes and the digests give for it. It allocates a few
+/// lists of the indices, and a row for each.
 ///
 /// # Errors
 ///

@@ -10,12 +10,11 @@ use p3_hashes::sha_eights::Sha256RowsInEights;
 use p3_support::hasher::CryptographicHasher;
 use std::alloc::{AllocError, Global};
 
-/// So many bytes of inputs of one length are hashed together at most, unless eight have more.
+/// The most bytes of inputs of one length that are hashed together, unless eight inputs have more.
 const BATCH_BYTES: usize = 1 << 16;
 
 /// The leaf hashes of entries, in their order (RFC 9162, 2.1.1). Entries that fill one number of blocks of SHA-256 are
-/// hashed eight at a time, wherever they stand.
-/// `AllocError` if memory runs out.
+/// hashed eight at a time, wherever they stand. `AllocError` if memory runs out.
 pub fn leaf_hashes(alloc: Global, entries: &[&[u8]]) -> Result<Vec<[u8; 32]>, AllocError>
     ensures { IfOk result (λ hashes. hashes.items ≡ map (λ entry. leaf_hash sha256 entry.now) entries.now) }
 {
@@ -34,8 +33,8 @@ pub fn leaf_hashes(alloc: Global, entries: &[&[u8]]) -> Result<Vec<[u8; 32]>, Al
     Ok(hashes)
 }
 
-/// Writes the leaf hashes of the first entries, by their length and index, and returns how many these are: those of one
-/// length, or if these are fewer than eight, eight that fill one number of blocks.
+/// Writes the leaf hashes of the first of `places`, lengths and indices of entries, and returns how many these are:
+/// those of one length, or, if these are fewer than eight, eight that fill one number of blocks.
 fn hash_first(
     alloc: Global,
     entries: &[&[u8]],

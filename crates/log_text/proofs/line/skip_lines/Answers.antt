@@ -1,8 +1,8 @@
-use Rattle.std.proofs.Common.{◌∷◌, ◌++◌, [], refl, sym, ap, ◌∙◌, slice_index, eq-eqb, ne_eqb}
+use Rattle.std.proofs.Common.{◌∷◌, ◌++◌, [], refl, sym, ap, ◌∙◌}
 use Rattle.std.proofs.lemmas.{Bool.or_from, Bool.or_left, Bool.or_right, Result.err_from_is_err_and}
 use Rattle.log_text.specs.Reading.{at_blank, at_end, at_text_end, line_that}
 use Rattle.log_text.proofs.ReadFacts.{many_ended, many_more, many_refused, many_start, many_stopped, rest_err, rest_ok}
-use Rattle.log_text.proofs.line.skip_lines.Goals.{then-is_empty-via-else-is_empty+then-rest-eq10}
+use Rattle.log_text.proofs.line.skip_lines.Goals.{then-is_empty-via-else-is_empty+then-at_blank}
 use Rattle.log_text.{proofs.line.skip_lines.Goals.then-is_empty-via-then-is_empty, specs.Inner.Rests.rest_of}
 use Rattle.log_text.proofs.line.skip_lines.Goals as goal
 
@@ -19,8 +19,8 @@ returns-then-is_empty c =
     (elim c.then-is_empty.branch [
       | then-is_empty-via-then-is_empty w ↦ or_left (at_end rest) (at_blank rest)
           (sym c.is_empty.ensures ∙ w.if-is_empty.true)
-      | then-is_empty-via-else-is_empty+then-rest-eq10 w ↦
-          or_right (at_end rest) (at_blank rest) (eq-eqb (slice_index rest 0) 10 w.if-rest-eq10.true)
+      | then-is_empty-via-else-is_empty+then-at_blank w ↦
+          or_right (at_end rest) (at_blank rest) (sym w.at_blank.ensures ∙ w.if-at_blank.true)
     ])))
 
 pub returns-in_err-rest : goal.returns-in_err-rest
@@ -33,7 +33,7 @@ returns-in_err-rest c =
     ∙ many_refused at_text_end (line_that c.args.expected) c.args.limit c.loop-line._line done rest
     c.in_err-rest.field-0.0 c.loop-line-test.true
     (or_from (at_end rest) (at_blank rest) (sym c.is_empty.ensures ∙ c.if-is_empty.false)
-    (ne_eqb (slice_index rest 0) 10 c.if-rest-eq10.false))
+    (sym c.at_blank.ensures ∙ c.if-at_blank.false))
     (rest_err (line_that c.args.expected rest) _ (sym c.in_err-rest.ensures)))))
 
 pub loop-line-preserved : goal.loop-line-preserved
@@ -46,7 +46,7 @@ loop-line-preserved c =
           ∙ many_more at_text_end (line_that c.args.expected) c.args.limit c.loop-line._line done rest line
           c.in_ok-rest.rest.now c.loop-line-test.true
           (or_from (at_end rest) (at_blank rest) (sym c.is_empty.ensures ∙ c.if-is_empty.false)
-          (ne_eqb (slice_index rest 0) 10 c.if-rest-eq10.false)) read,
+          (sym c.at_blank.ensures ∙ c.if-at_blank.false)) read,
     )
 
 pub returns : goal.returns
