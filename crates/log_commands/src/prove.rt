@@ -143,8 +143,7 @@ fn numbered(alloc: Global, numbers: &[usize], bytes: Vec<Vec<u8>>) -> Result<Vec
         ≡ map entry_of (zip numbers.now (map bytes_in bytes.items))) }
 {
     let mut numbered = Vec::with_capacity(alloc, numbers.len())?;
-    for (number, bytes) in numbers.iter().zip(bytes) {
-        let number = *number;
+    for (&number, bytes) in numbers.iter().zip(bytes) {
         numbered.push(Entry { number, bytes })?;
     }
     Ok(numbered)

@@ -7,7 +7,7 @@ use Rattle.p3_merkle_core.specs.{Geometry.layer_len, Geometry.levels, Nodes.node
 use Rattle.p3_merkle_core.specs.Openings.{honest, level_siblings}
 use Rattle.p3_merkle_core.specs.Pruning.{IsHonestQuery, boundary, boundary_at, honest_query, is_boundary, restored_path}
 use Rattle.p3_merkle_core.proofs.Covered.Restoration.{honest_paths}
-use Rattle.tlog.specs.{Rfc9162.Hash as HashFunction, Rfc9162.path, Rfc9162.path_within, Verdicts.size_limit}
+use Rattle.tlog.specs.{Rfc9162.Hash as HashFunction, Rfc9162.path, Verdicts.size_limit}
 use Rattle.tlog.proofs.Climbs.{parity, path_above}
 use Rattle.tlog.proofs.Layers.{itself, only_at, pair_at, sibling}
 use Rattle.tlog_entries.specs.Instance.{AreFilled, hash_in, log_batch, log_functions, log_params, log_shape, present}

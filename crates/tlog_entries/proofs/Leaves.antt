@@ -1,5 +1,5 @@
 -- MTH and PATH of entries are those of their leaf hashes.
-use Rattle.std.proofs.Common.{◌≡◌, ℕ, zero, suc, ◌<◌, List, [], ◌∷◌, ◌++◌, length, map, refl, sym, ap, ◌∙◌, arith}
+use Rattle.std.proofs.Common.{◌≡◌, ℕ, zero, suc, ◌<◌, List, [], ◌∷◌, length, map, refl, sym, ap, ◌∙◌, arith}
 use Rattle.std.proofs.lemmas.List.{length-map}
 use Rattle.tlog.specs.Rfc9162.{Hash as HashFunction, mth, mth_within, node_hash, path}
 use Rattle.tlog.proofs.{Climbs.path_above, Layers.above, Layers.itself, Layers.mth_above, Layers.sibling}

@@ -1,11 +1,10 @@
 -- The walk of inclusion past one level, along siblings some of which are absent.
-use Rattle.std.proofs.Common.{◌≡◌, ℕ, suc, ◌+◌, ◌-◌, ◌*◌, ◌/◌, ◌%◌, ◌^◌, ◌<◌, ◌≤◌, true, false, List, [], ◌∷◌, Some}
+use Rattle.std.proofs.Common.{◌≡◌, ℕ, suc, ◌+◌, ◌-◌, ◌*◌, ◌/◌, ◌%◌, ◌^◌, ◌<◌, ◌≤◌, List, [], ◌∷◌, Some}
 use Rattle.std.proofs.Common.{insert, refl, sym, ap, ◌∙◌, arith, inl, inr}
-use Rattle.std.proofs.lemmas.Bool.{cases_eq, cases_lt, Decides.nat_tests}
+use Rattle.std.proofs.lemmas.Bool.{cases_eq, cases_lt}
 use Rattle.std.proofs.{lemmas.Nat.pow_pos, Math.Nat.div-div-eq-div-mul}
-use Rattle.std.proofs.Math.Nat.{div-le_self, div-mul-le_self, le-div_iff_mul-le, mul-div-mul_left, pow-succ', pow-suc}
-use Rattle.std.specs.{Prelude.◌==◌, Int.w64, Int.trailing_zeros}
-use Rattle.tlog.specs.Rfc9162.{Hash as HashFunction, inclusion_walk, is_left, node_hash}
+use Rattle.std.proofs.Math.Nat.{div-le_self, div-mul-le_self, le-div_iff_mul-le, pow-suc}
+use Rattle.tlog.specs.Rfc9162.{Hash as HashFunction, inclusion_walk, node_hash}
 use Rattle.tlog.proofs.Climbs.{inclusion_even, inclusion_odd, inclusion_skip}
 use Rattle.tlog_entries.specs.{Nodes.parent_digest, Instance.sibling_slot, Instance.IsFilled, Instance.present}
 use Rattle.tlog_entries.specs.declared.tree.Node.{Node, TheVariants.Absent, TheVariants.Hash}
