@@ -21,7 +21,7 @@ use std::alloc::{AllocError, Global};
 use std::io::Read;
 use tlog_entries::entry_places;
 
-/// The most entries that `run` proves where no numbers are given.
+/// The most entries that `run` proves where no numbers are given, and the most numbers that `fohlazu` takes.
 pub const MOST_NUMBERS: usize = 100_000_000;
 
 /// The proof of entries of a file under its checkpoint, by one or more numbers, counted from 1, in the order of these,
