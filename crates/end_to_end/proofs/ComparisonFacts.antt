@@ -1,6 +1,6 @@
 -- What a claimed opening and the honest one lead to.
 use Rattle.std.proofs.Common.{lit<, ◌∙◌, ◌≡◌, ◌<◌, ℕ, Bool, List, Option, Some, None, ap, inl, refl, subst, sym}
-use Rattle.std.specs.Prelude.{◌↔◌, ◌⊎◌, Err, Ok, IfOk, IfSome, IsNone, IsSome, Result, length, slice_index}
+use Rattle.std.specs.Prelude.{◌↔◌, ◌⊎◌, Err, Ok, IfSome, IsNone, IsSome, Result, length, slice_index}
 use Rattle.p3_support.specs.{Batches.greatest, declared.matrix.Dimensions.Dimensions}
 use Rattle.p3_merkle_tree.specs.CapRule.{CapRule, TheVariants.Lowered}
 use Rattle.p3_merkle_tree.specs.{Checks.AgreeWhereShared, Checks.IsAccepted, Checks.Params, Extraction.EachPair}
