@@ -23,6 +23,7 @@ pub struct Compared<Cap, Tree, Opening, Found> {
     pub opening: Opening,
     /// What the verification of the opening under the cap answers.
     pub verdict: Result<(), MerkleTreeError>,
-    /// The collision, if the claimed opening differs from this one; or why the claimed opening is refused.
+    /// A collision of the claimed opening and this one; `None` if the claimed one is accepted and all checks agree; or
+    /// the error for the claimed one.
     pub found: Result<Option<Found>, MerkleTreeError>,
 }

@@ -61,8 +61,9 @@ fn committed<
 }
 
 /// Commits to matrices, opens the row of each that belongs to an index, verifies the opening under the cap, and
-/// compares an opening that anybody claims for this index with it: what is found is a collision of both, or why
-/// `verify_batch` refuses the claimed one.
+/// compares an opening that anybody claims for this index with it. What is found is a collision of both; or `None`, if
+/// the claimed one is accepted and has the honest siblings and the honest row of each authenticated matrix; or the
+/// error of `verify_batch` for the claimed one.
 ///
 /// # Errors
 ///
@@ -120,7 +121,8 @@ pub fn commit_compare<
 /// claimed opening is a row set for each index, and a pruned proof.
 ///
 /// What is found is the place of a claimed query in the list of indices, the place of an honest one, and the collision
-/// of both; or why `verify_batch_pruned` refuses the claimed opening.
+/// of both; or `None`, if the claimed opening is accepted and each of its queries agrees with each honest one wherever
+/// both check; or the error of `verify_batch_pruned` for the claimed opening.
 ///
 /// # Errors
 ///

@@ -85,8 +85,9 @@ where
 }
 
 /// Commits to matrices with `SALT_ELEMS` salts for each row, opens the row of each that belongs to an index, with its
-/// salts, verifies the opening under the cap, and compares an opening that anybody claims for this index with it: what
-/// is found is a collision of both, or why the salted `verify_batch` refuses the claimed one.
+/// salts, verifies the opening under the cap, and compares an opening that anybody claims for this index with it. What
+/// is found is a collision of both; or `None`, if the claimed one is accepted and has the honest siblings, and the
+/// honest row and salts of each authenticated matrix; or the error of the salted `verify_batch` for the claimed one.
 ///
 /// # Errors
 ///
@@ -160,7 +161,8 @@ where
 /// index. The claimed opening is a row set and a salt set for each index, and a pruned proof.
 ///
 /// What is found is the place of a claimed query in the list of indices, the place of an honest one, and the collision
-/// of both; or why the salted `verify_multi_batch` refuses the claimed opening.
+/// of both; or `None`, if the claimed opening is accepted and each of its queries agrees with each honest one wherever
+/// both check; or the error of the salted `verify_multi_batch` for the claimed opening.
 ///
 /// # Errors
 ///

@@ -14,7 +14,8 @@ ghost use Rattle.tlog.specs.Verdicts.{IsConsistent, IsIncluded, consistency_refu
 use tlog::{ProofError, leaf_hash, verify_consistency, verify_inclusion};
 
 /// Verifies that the log of `size` entries under `root` has `leaf` as the leaf hash of its entry `index`, counted from
-/// 0 (RFC 9162, 2.1.3.2). It returns 0 if the proof is accepted, else the number of the first reason that applies.
+/// 0 (RFC 9162, 2.1.3.2). It returns 0 if the proof is accepted, else the number of the first reason that applies in
+/// the order of [`verify_inclusion`]: the place of its variant in [`ProofError`], counted from 1.
 #[unsafe(no_mangle)]
 pub extern "C" fn fohlazu_verify_inclusion(
     index: u64,
@@ -30,8 +31,9 @@ pub extern "C" fn fohlazu_verify_inclusion(
     status(verify_inclusion(index as usize, size as usize, leaf, proof, root))
 }
 
-/// Verifies that a log of `new_size` entries under `new_root` begins with the `old_size` entries under `old_root`
-/// (RFC 9162, 2.1.4.2). It returns 0 if the proof is accepted, else the number of the first reason that applies.
+/// Verifies that a log of `new_size` entries under `new_root` begins with the `old_size` entries under `old_root` (RFC
+/// 9162, 2.1.4.2). It returns 0 if the proof is accepted, else the number of the first reason that applies in the order
+/// of [`verify_consistency`]: the place of its variant in [`ProofError`], counted from 1.
 #[unsafe(no_mangle)]
 pub extern "C" fn fohlazu_verify_consistency(
     old_size: u64,

@@ -24,10 +24,18 @@ const NO_SUCH_TREE: i32 = 8;
 
 /// Verifies an opening of the row `index` of the tallest matrix, counted from 0, as `verify_batch` of the library does,
 /// under SHA-256. `roots` has the digests of the cap, and `sizes` the dimensions of each matrix, in input order. `rows`
-/// has the bytes of the row of each matrix, one after another, and `siblings` the digests on the path to the cap.
+/// has the bytes of the row of each matrix, one after another: as many as all widths together. `siblings` has the
+/// digests on the path to the cap.
 ///
-/// It returns 0 if the opening is accepted, else the number of the first reason that applies, where that of memory may
-/// come at any time.
+/// It returns 8 if the arity is not 2, 4 or 8, or the rule not 0 or 1. Else it returns 0 if the opening is accepted, or
+/// the number of the first reason that applies, where 12, that memory ran out, may come at any time:
+///
+/// - 11: `rows` has more bytes than all widths together;
+/// - 9: no matrix has a row; 1: a height is above 2^62; 10: no tree has these heights;
+/// - 4, 5: there are fewer siblings than the levels below the cap need, or more;
+/// - 11: `rows` has fewer bytes than all widths together;
+/// - 2: the index is not below the tallest height;
+/// - 7: the cap has no digest above the leaf, or another than the one computed.
 #[unsafe(no_mangle)]
 pub extern "C" fn fohlazu_verify_opening(
     alloc: Global,

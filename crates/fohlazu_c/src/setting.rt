@@ -28,7 +28,7 @@ pub struct MatrixSize {
     pub width: usize,
 }
 
-/// The rule of caps of a number, if there is one.
+/// The rule of caps of a number: `Lowered` of 0, `Fixed` of 1, `None` of any other.
 pub fn rule(number: u8) -> Option<CapRule>
     ensures { result ≡ rule_shown number }
 {

@@ -54,8 +54,8 @@ impl Cut {
         }
     }
 
-    /// The whole entries at the head of some bytes, at most `most`, and the bytes after them. There is one if one is
-    /// whole and `most` is not 0.
+    /// Whole entries at the head of some bytes, at most `most` and `TOGETHER`, and the bytes after them. There is one
+    /// if one is whole and `most` is not 0.
     pub(crate) fn entries_at_head(
         self,
         alloc: Global,

@@ -59,7 +59,7 @@ pub struct Splitter<'a> {
 }
 
 impl<'a> Splitter<'a> {
-    /// Nothing of the file has come. At most `limit` entries of it are read.
+    /// Nothing of the file has come. At most `limit` entries of it are read. A block has from 1 to 2^30 bytes.
     pub fn new(cut: Cut, limit: usize, wanted: WantedEntries<'a>) -> Splitter<'a>
         requires { IsCut cut }
         ensures same { (result.cut ≡ cut) × (result.limit ≡ limit) }

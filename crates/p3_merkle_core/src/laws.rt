@@ -130,8 +130,8 @@ pub fn shape()
     ensures gate { UnrefusedIsLawful }
 {}
 
-/// The dimensions that [`dimensions_of`](p3_support::matrix::dimensions_of) returns of matrices are those for which the
-/// definitions accept the matrices' own openings.
+/// The dimensions in the shape of a batch of matrices are those that
+/// [`dimensions_of`](p3_support::matrix::dimensions_of) returns of the matrices.
 pub fn dimensions<T, M: Matrix<T>, const N: usize>()
     ensures { BatchHasDimensions M.height_of M.width_of M.row_of N }
 {}
@@ -222,8 +222,9 @@ pub fn extraction<T, W>()
     ensures last { LastInputIsReached T W }
 {}
 
-/// Why a pruned proof has the digests of the boundary, by clause. A list of nodes suffices if the digests of these and
-/// the queried leaves are enough to compute each covered node of the cap's layer.
+/// Why a pruned proof has the digests of the boundary, by clause. A node is known from a list of nodes if it is in the
+/// list, if it is a queried leaf, or if it is no padding and all its children are known. A list suffices if each
+/// covered node of the cap's layer is known from it.
 ///
 /// - `suffices`: the boundary suffices;
 /// - `smallest`: no list of uncovered nodes that suffices is shorter than the boundary;

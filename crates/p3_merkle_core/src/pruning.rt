@@ -297,8 +297,8 @@ fn check_shared_rows<T: Eq>(
 /// row set of each index, and the proof has `num_digests` digests. `cap_layer` must be at most the number of levels,
 /// and the arity a power of two from 2 to 2^62.
 ///
-/// It sorts the indices once, and allocates at most five numbers for each index at a time, and one for each matrix of a
-/// layer above the leaves.
+/// It sorts the indices once, and allocates at most five numbers for each index at a time, and a list of the matrices
+/// of one layer above the leaves.
 ///
 /// # Errors
 ///
@@ -311,8 +311,8 @@ fn check_shared_rows<T: Eq>(
 /// - `InconsistentDuplicateOpenings`: the row set of a query is not that of the first query of its index;
 /// - `SiblingCountMismatch`: the number of digests is not that of the boundary nodes;
 /// - `WrongBatchSize`, `WrongWidth`: by ascending indices, the error of [`check_widths`] for the first query of each;
-/// - `InconsistentGroupOpening`: layer by layer, by ascending indices and in input order of the matrices, a row is not
-///   that of the lowest index under the same node.
+/// - `InconsistentGroupOpening`: layer by layer up to `cap_layer`, by ascending indices and in input order of the
+///   layer's matrices, a row is not that of the lowest index under the same node.
 pub fn check_pruned<T: Eq>(
     alloc: Global,
     steps: &Steps<'_>,

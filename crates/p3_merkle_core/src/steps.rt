@@ -291,8 +291,8 @@ impl OwnedSteps {
 }
 
 impl<'a> Steps<'a> {
-    /// The layer, counted from the leaves, that is the cap of a height by a rule. `cap_height` counts levels below the
-    /// root. The arity must be a power of two from 2 to 2^62. It does not allocate.
+    /// The layer, counted from the leaves, that is the cap of this height by this rule (see [`CapRule`]). `cap_height`
+    /// counts levels below the root. The arity must be a power of two from 2 to 2^62. It does not allocate.
     pub fn cap_layer(&self, rule: CapRule, cap_height: usize) -> usize
         requires { IsArity self.now.arity }
         ensures { result ≡ cap_layer (shape_of self.now.arity self.now.dimensions.now) rule cap_height }

@@ -70,11 +70,10 @@ impl<
     ///
     /// The first opening is `indices1`, `rows1` and `proof1`, the second `indices2`, `rows2` and `proof2`: a row set
     /// for each index, and one proof. Both are verified as by [`verify_batch_pruned`](Self::verify_batch_pruned), and
-    /// the siblings of each query are computed. Then each query of the first opening is compared with each of the
-    /// second as [`extract_collision`](Self::extract_collision) compares two openings. Returns the first pair that
-    /// gives a collision, in the order of the first list, then of the second: the position of each query in its list,
-    /// from 0, and the collision. Beside both verifications the call takes the time of four checks for each query of
-    /// the first opening and of two for each query of the second.
+    /// the siblings of each query are computed. Returns the first pair of queries, in the order of the first list, then
+    /// of the second, for which [`extract_collision`](Self::extract_collision) gives a collision: the position of each
+    /// query in its list, from 0, and the collision. Not every pair is compared: beside both verifications the call
+    /// takes the time of at most four checks for each query of the first opening, and two for each of the second.
     ///
     /// # Errors
     ///

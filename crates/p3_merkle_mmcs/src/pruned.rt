@@ -35,9 +35,9 @@ impl<
     const N: usize,
     const D: usize,
 > MerkleTreeMmcs<P, PW, H, C, N, D> {
-    /// Opens several leaves of a tree by one pruned proof. For each index, in query order, the opening has the row of
-    /// each matrix that belongs to the leaf. The proof has as few digests as can be: see
-    /// [`pruned_len`](Self::pruned_len).
+    /// Opens several leaves of a tree by one pruned proof. For each index, in query order, the opening has one row of
+    /// each matrix: the one that belongs to the leaf. [`pruned_len`](Self::pruned_len) says how many digests the proof
+    /// has, and in which sense they are the fewest.
     ///
     /// The indices count rows of the tallest matrix and must be below its height, in any order; repeats are allowed.
     /// The digests are read from the tree. If the tree was built with this scheme's hasher and compression, the opening
@@ -109,8 +109,8 @@ impl<
     /// - `SiblingCountMismatch`: the number of digests is not [`pruned_len`](Self::pruned_len);
     /// - in ascending order of the indices, for each row set: `WrongBatchSize` if the number of rows is not that of the
     ///   dimensions, `WrongWidth` for the first row whose length is not the width of its matrix;
-    /// - `InconsistentGroupOpening`, layer by layer up to the cap's, then in ascending order of the indices: a row is
-    ///   not that of the lowest index under the same node;
+    /// - `InconsistentGroupOpening`, layer by layer up to the cap's, by ascending indices and in input order of the
+    ///   layer's matrices: a row is not that of the lowest index under the same node;
     /// - `CapMismatch`: the cap has no entry above a leaf, or another digest than the one computed.
     ///
     /// `SiblingCountMismatch` and the two `Inconsistent` errors come within `MalformedPrunedProof`.
@@ -150,9 +150,10 @@ impl<
     }
 
     /// Restores the path of each query, in query order, with its index: its siblings, computed from the rows of all
-    /// queries and the digests of a pruned proof. If these are honest, they are what [`open_batch`](Self::open_batch)
-    /// opens. The parameters are as in [`verify_batch_pruned`](Self::verify_batch_pruned), and an opening whose paths
-    /// are restored has the form of an accepted one.
+    /// queries and the digests of a pruned proof. From an honest opening it restores the siblings that
+    /// [`open_batch`](Self::open_batch) opens. The parameters are as in
+    /// [`verify_batch_pruned`](Self::verify_batch_pruned), and an opening whose paths are restored has the form of an
+    /// accepted one.
     ///
     /// No cap is compared, so a restored path proves nothing by itself. `verify_batch_pruned` accepts an opening under
     /// a cap exactly if its paths are restored and [`verify_batch`](Self::verify_batch) accepts each query with its

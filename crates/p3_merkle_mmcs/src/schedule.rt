@@ -107,10 +107,10 @@ impl<
         })
     }
 
-    /// The number of digests in a pruned proof of these indices, over matrices of these dimensions. The proof has the
-    /// digests that a verifier cannot compute from the rows: on each level below the cap, those of the children of
-    /// covered nodes that are not covered themselves. A node is covered if it is a queried leaf or above one. No
-    /// smaller set of digests suffices.
+    /// The number of digests in a pruned proof of these indices, over matrices of these dimensions. On each level below
+    /// the cap these are the children of covered nodes that are not covered themselves, padding too. A node is covered
+    /// if it is a queried leaf or above one. If padding counts as unknown, no smaller set of digests of uncovered nodes
+    /// is enough to compute the covered nodes of the cap's layer.
     ///
     /// The indices may be in any order, with repeats.
     ///
@@ -139,8 +139,9 @@ impl<
 
     /// Whether a cap over matrices of these dimensions authenticates the rows of one of them: its rows are hashed into
     /// the cap's layer, or into a layer below it. `matrix` is its position in `dimensions`, from 0, and must be below
-    /// their number. Of a matrix that is not authenticated a verifier checks only the width of the row. Under the rule
-    /// `Lowered` every matrix is authenticated. The call does not allocate.
+    /// their number. Rows of a matrix that is not authenticated are not hashed: a verifier checks their width, and that
+    /// queries of one index have the same. Under the rule `Lowered` every matrix is authenticated. The call does not
+    /// allocate.
     ///
     /// # Errors
     ///

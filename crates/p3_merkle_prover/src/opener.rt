@@ -19,7 +19,7 @@ use p3_support::matrix::Matrix;
 use p3_support::opening::MerkleCap;
 use std::alloc::{AllocError, Global};
 
-/// The steps of a tree, from the leaves to the root, which it stores.
+/// The steps from the leaves to the root, which the tree stores.
 pub fn tree_steps<F, X, G, M: Matrix<F>, const N: usize>(tree: &Tree<F, X, G, M, N>) -> Steps<'_>
     ensures { shape_of result.arity result.dimensions.now ≡ shape (tree_batch tree.now) }
 {

@@ -23,7 +23,9 @@ pub struct Salted<Rows> {
 }
 
 /// Checks a row set and its salt set, and joins each row with its salts. `dimensions` are those of the matrices without
-/// salts; in the result each has `salt_elems` more columns.
+/// salts; in the result each has `salt_elems` more columns. Refused, in this order: what [`check_widths`] refuses; by
+/// `WrongBatchSize` another number of lists of salts than of rows; by `TooLarge` the first width that with its salts
+/// does not fit `usize`. `OutOfMemory` may come at any time.
 // How many salts a row has is not checked: another number gives the joined row another width than its matrix.
 pub fn salted_rows<T: Copy>(
     alloc: Global,
@@ -45,9 +47,9 @@ pub fn salted_rows<T: Copy>(
     })
 }
 
-/// Checks that there are as many salt sets as row sets, else `WrongBatchSize`; then each row set with its salt set;
-/// then that the widths with salts fit. Joins each row with its salts. All sets are of the same matrices, whose
-/// dimensions the result has once.
+/// Checks row sets and their salt sets, and joins each row with its salts. All sets are of the same matrices, whose
+/// dimensions the result has once. Refused, in this order: by `WrongBatchSize` another number of salt sets than of row
+/// sets; then what [`salted_rows`] refuses, widths last. `OutOfMemory` may come at any time.
 pub fn salted_sets<T: Copy>(
     alloc: Global,
     dimensions: &[Dimensions],
@@ -113,7 +115,8 @@ fn check_widening(dimensions: &[Dimensions], salt_elems: usize) -> Result<(), Me
     Ok(())
 }
 
-/// The dimensions, each with `salt_elems` more columns; `TooLarge` for the first width that then does not fit `usize`.
+/// The dimensions, each with `salt_elems` more columns; `TooLarge` for the first width that then does not fit `usize`,
+/// or `OutOfMemory`.
 pub fn widened_dimensions(
     alloc: Global,
     dimensions: &[Dimensions],

@@ -87,9 +87,9 @@ impl<
     const D: usize,
     const SALT_ELEMS: usize,
 > MerkleTreeHidingMmcs<P, PW, H, C, R, N, D, SALT_ELEMS> {
-    /// Opens the leaf `index` of a tree, which must be below the tallest height. The opening has the row of each matrix
-    /// that belongs to the leaf, in input order; its proof has the salts of each row, and the siblings on the leaf's
-    /// path to the cap.
+    /// Opens the leaf `index` of a tree. The index must be below the tallest height. The opening has the row of each
+    /// matrix that belongs to the leaf, in input order; its proof has the salts of each row, and the siblings on the
+    /// leaf's path to the cap.
     ///
     /// It is the plain scheme's opening, with each row split into the matrix's own words and its salts. The opening is
     /// accepted under the cap of the tree if the tree has `SALT_ELEMS` salts a row and was built with this scheme's
@@ -217,9 +217,9 @@ impl<
     ///
     /// An accepted opening has a row set and a salt set for each index: one row for each of `dimensions`, of that
     /// width, and `SALT_ELEMS` salts for each row. Queries of one index have the same rows and salts. Queries under one
-    /// node have the same rows and salts of the matrices that belong to the node's layer. `dimensions` are those of the
-    /// matrices without salts, in input order; they must come from the verifier, never from the proof. The call
-    /// allocates the joined rows.
+    /// node, at most as high as the cap, have the same rows and salts of the matrices that belong to the node's layer.
+    /// `dimensions` are those of the matrices without salts, in input order; they must come from the verifier, never
+    /// from the proof. The call allocates the joined rows.
     ///
     /// # Errors
     ///

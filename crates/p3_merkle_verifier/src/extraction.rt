@@ -218,7 +218,8 @@ impl<
     const N: usize,
     const D: usize,
 > Checker<'a, P, PW, H, C, [[PW::Value; D]; N], N, D> {
-    /// Whether the checks of two openings have the same inputs at every place that both share. Nothing is allocated.
+    /// True only if the checks of two openings have the same inputs at every place that both share. Nothing is
+    /// allocated.
     pub(crate) fn agree(
         &self,
         first: OpeningRef<'_, P::Value, [PW::Value; D]>,

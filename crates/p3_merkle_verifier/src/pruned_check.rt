@@ -310,7 +310,7 @@ impl<
             return Ok(digests);
         }
         let rows = self.row_digests(alloc, restorable, here.covered.exponent)?;
-        let mut pairs = Vec::with_capacity(alloc, rows.len())?;
+        let mut pairs = Vec::new(alloc);
         inject_row_digests::<PW, C, N, D>(self.compress, &mut pairs, &rows, &mut digests)?;
         Ok(digests)
     }
@@ -374,7 +374,7 @@ impl<
             IfOk result (λ layers. AreLayers f (tree_of restorable.now) cap_layer (opened_by restorable.now) cap_layer
             layers.items) }
     {
-        let mut layers = Vec::with_capacity(alloc, restorable.cap_layer)?;
+        let mut layers = Vec::with_capacity(alloc, restorable.cap_layer + 1)?;
         layers.push(leaves)?;
         for level in 0..restorable.cap_layer {
             let below = &layers[level];

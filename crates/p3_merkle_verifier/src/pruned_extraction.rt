@@ -48,8 +48,8 @@ impl<'a, T, W, const D: usize> RestoredQueries<'a, T, [W; D]> {
         }
     }
 
-    /// The positions of the queries with the nearest indices below and above `index`; one query twice if it has
-    /// `index`, or if there is none on one side.
+    /// The positions of the two queries with the nearest indices below and above `index`, so that one of them stands
+    /// between it and any query; one query twice if it has `index`, or if there is none on one side.
     fn neighbours(&self, index: usize) -> (usize, usize)
         requires leaves { HasLeaves self.now }
         requires some { 0 < length self.now.paths.items }
@@ -102,7 +102,8 @@ impl<
         })
     }
 
-    /// Whether the check of the opening `first` agrees with that of each query, wherever both share a place.
+    /// True only if the check of the opening `first` agrees with that of each query, wherever both share a place. Where
+    /// it is false, each query has to be compared.
     // The path shares with a neighbour each node that it shares with any query, and the queries agree among themselves.
     fn agrees_with_all(
         &self,

@@ -19,7 +19,7 @@ pub trait CryptographicHasher<P: PackedValue, PW: PackedValue, const D: usize> {
     // The digest of a list of words.
     ghost hash: { Self → List P.Value → List PW.Value };
 
-    /// The digest of the items of `input`, which must be finite.
+    /// The digest of the items of `input`. `next` must be callable on it, and its items must end.
     fn hash_iter<I: Iterator<Item = P::Value>>(&self, input: I) -> [PW::Value; D]
         requires can { I.can_next input }
         requires ends { IsFinite (I.remaining input) }
@@ -29,7 +29,8 @@ pub trait CryptographicHasher<P: PackedValue, PW: PackedValue, const D: usize> {
     fn hash_slice(&self, input: &[P::Value]) -> [PW::Value; D]
         ensures { result ≡ hash self.now input.now };
 
-    /// The digest of the slices of `input`, one after another. `input` must be finite.
+    /// The digest of the slices of `input`, one after another. The conditions are those of
+    /// [`hash_iter`](Self::hash_iter).
     fn hash_iter_slices<S: AsSlice<P::Value> + Drop, I: Iterator<Item = S>>(
         &self,
         input: I,
@@ -56,7 +57,7 @@ pub trait CryptographicHasher<P: PackedValue, PW: PackedValue, const D: usize> {
     }
 
     /// The digests of `P::WIDTH` messages, packed word by word: lane `k` of the result is the digest of the lanes `k`
-    /// of the items, for each lane that both packings have. `input` must be finite.
+    /// of the items, for each lane that both packings have. The conditions are those of [`hash_iter`](Self::hash_iter).
     fn hash_packed<I: Iterator<Item = P>>(&self, input: I) -> [PW; D]
         requires can { I.can_next input }
         requires ends { IsFinite (I.remaining input) }

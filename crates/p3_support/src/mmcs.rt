@@ -88,7 +88,8 @@ pub trait Mmcs<T, M: Matrix<T>> {
         ensures memory { can_commit matrices.items → IfErr result is_out_of_memory };
 
     /// Opens an index of the matrices that `prover_data` has. The index must be below their tallest height. The opening
-    /// has one row of each matrix, in input order, and a proof of them. It is accepted under the commitment.
+    /// has one row of each matrix, in input order, and a proof of them. It is accepted under a commitment to this data
+    /// by this scheme.
     ///
     /// # Errors
     ///
@@ -151,7 +152,7 @@ pub trait Mmcs<T, M: Matrix<T>> {
 
     /// Opens several indices by one proof. The indices must be below the tallest height, in any order; repeats are
     /// allowed. The result has a row set for each index, in query order, and the proof. A row set has the rows of
-    /// [`open_batch`](Self::open_batch) for its index.
+    /// [`open_batch`](Self::open_batch) for its index. It is accepted under the same commitments.
     ///
     /// # Errors
     ///

@@ -16,7 +16,7 @@ pub struct Collision {
     pub second: Vec<u8>,
 }
 
-/// The largest power of two below `n`.
+/// The largest power of two below `n`, where RFC 9162 (2.1.1) splits a list of `n` entries. `n` must be above 1.
 pub fn split(n: usize) -> usize
     requires { 1 < n }
     ensures value { result ≡ split_of n }
@@ -26,7 +26,7 @@ pub fn split(n: usize) -> usize
     1 << (n - 1).ilog2()
 }
 
-/// The root of entries.
+/// The root of entries (RFC 9162, 2.1.1); of no entries the hash of nothing.
 pub fn root<H: LogHash<D>, const D: usize>(entries: &[Vec<u8>]) -> [u8; D]
     ensures { result ≡ root_of H.hash (entries_of entries.now) }
 {
@@ -47,7 +47,8 @@ fn are_equal(d: &[Vec<u8>], e: &[Vec<u8>]) -> bool
     d == e
 }
 
-/// The byte string whose hash is that of a leaf.
+/// The byte string whose hash is the leaf hash of an entry: a byte 0 and the entry (RFC 9162, 2.1.1). `AllocError` if
+/// memory runs out.
 pub fn leaf_input(alloc: Global, entry: &[u8]) -> Result<Vec<u8>, AllocError>
     ensures { IfOk result (λ input. input.items ≡ 0 ∷ entry.now) }
 {
@@ -56,7 +57,8 @@ pub fn leaf_input(alloc: Global, entry: &[u8]) -> Result<Vec<u8>, AllocError>
     Ok(input)
 }
 
-/// The byte string whose hash is that of a node.
+/// The byte string whose hash is that of a node: a byte 1 and the hashes of its children (RFC 9162, 2.1.1). `D` must be
+/// at most 64. `AllocError` if memory runs out.
 pub fn node_input<const D: usize>(
     alloc: Global,
     left: &[u8; D],
@@ -121,8 +123,8 @@ pub fn root_collision<H: LogHash<D>, const D: usize>(
     }
 }
 
-/// The proof of inclusion of entry `index`, counted from 0, under the root of the entries (RFC 9162, 2.1.3.1).
-/// `AllocError` if memory runs out.
+/// The proof of inclusion of entry `index`, counted from 0, under the root of the entries (RFC 9162, 2.1.3.1). The
+/// index must be below their number. `AllocError` if memory runs out.
 pub fn inclusion_proof<H: LogHash<D>, const D: usize>(
     alloc: Global,
     entries: &[Vec<u8>],
@@ -147,8 +149,8 @@ pub fn inclusion_proof<H: LogHash<D>, const D: usize>(
     }
 }
 
-/// The proof of consistency from the first `old_size` entries to all (RFC 9162, 2.1.4.1).
-/// `AllocError` if memory runs out.
+/// The proof of consistency from the first `old_size` entries to all (RFC 9162, 2.1.4.1). `old_size` must be from 1 to
+/// their number, where the proof has no digests. `AllocError` if memory runs out.
 pub fn consistency_proof<H: LogHash<D>, const D: usize>(
     alloc: Global,
     entries: &[Vec<u8>],

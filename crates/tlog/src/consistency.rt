@@ -12,7 +12,8 @@ use sha2::Sha256;
 
 /// Whether a proof of consistency shows that a log of `new_size` entries under `new_root` begins with the `old_size`
 /// entries under `old_root` (RFC 9162, 2.1.4.2). It allocates nothing. From size 0, whose root is
-/// [`EMPTY_ROOT`](crate::EMPTY_ROOT), and between equal sizes, whose roots are equal, there are no digests.
+/// [`EMPTY_ROOT`](crate::EMPTY_ROOT), there are no digests, and any root of a size above 0 is accepted. Between equal
+/// sizes there are no digests, and the roots must be equal.
 ///
 /// # Errors
 ///
@@ -37,7 +38,8 @@ pub fn verify_consistency(
     verify::<Sha256, 32>(old_size, new_size, proof, old_root, new_root)
 }
 
-/// The same under any hash function.
+/// [`verify_consistency`] under any hash function, with hashes of `D` bytes: the same errors in the same order. The
+/// root of size 0 is `H::empty_root()`.
 #[tactic(auto, unfolding(crate::specs::Verdicts::consistency_refusal))]
 pub fn verify<H: LogHash<D>, const D: usize>(
     old_size: usize,
@@ -118,7 +120,7 @@ pub struct Climb<'a, const D: usize> {
 
 impl<'a, const D: usize> Climb<'a, D> {
     /// From the node where a proof of consistency begins, the last whole one of the old tree (RFC 9162, 2.1.4.2, 1 to
-    /// 5). `None` if the proof has no digests.
+    /// 5). The old size must be above 0. `None` if the proof has no digests.
     pub fn of_proof(old_size: usize, proof: &'a [[u8; D]], old_root: &'a [u8; D]) -> Option<Self>
         requires { 0 < old_size }
         ensures { MatchOption result (proof.now ≡ []) (λ climb.
@@ -143,7 +145,8 @@ impl<'a, const D: usize> Climb<'a, D> {
         })
     }
 
-    /// The roots of the entries up to the last of the node, and of all `size` entries.
+    /// Both roots to which the digests lead in a tree of `size` entries: that of the entries up to the last one below
+    /// the node, then that of all. `size` must be above 0, and the node's layer below 64.
     ///
     /// # Errors
     ///

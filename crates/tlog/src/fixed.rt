@@ -133,9 +133,8 @@ pub fn consistency_collision<H: LogHash<D>, const D: usize>(
     )
 }
 
-/// A collision, if a proof of inclusion of a leaf hash is accepted under the root of the entries, and it is not that
-/// of entry `index`, counted from 0; else `None`.
-/// `AllocError` if memory runs out.
+/// A collision, if a proof of inclusion of `leaf` at `index`, counted from 0, is accepted under the root of the
+/// entries, and the entry there has another leaf hash; else `None`. `AllocError` if memory runs out.
 pub fn leaf_collision<H: LogHash<D>, const D: usize>(
     alloc: Global,
     entries: &[Vec<u8>],
@@ -168,9 +167,8 @@ pub fn leaf_collision<H: LogHash<D>, const D: usize>(
     )
 }
 
-/// A collision, if a proof of inclusion of an entry is accepted under the root of the entries, and it is not entry
-/// `index`, counted from 0; else `None`.
-/// `AllocError` if memory runs out.
+/// A collision, if a proof of inclusion of `entry` at `index`, counted from 0, is accepted under the root of the
+/// entries, and these have another entry there; else `None`. `AllocError` if memory runs out.
 pub fn entry_collision<H: LogHash<D>, const D: usize>(
     alloc: Global,
     entries: &[Vec<u8>],

@@ -39,15 +39,15 @@ pub trait LogHash<const D: usize> {
     // The function, on byte strings.
     ghost hash: { List ℕ → List ℕ };
 
-    /// The leaf hash of an entry.
+    /// The leaf hash of an entry: the hash of a byte 0 and the entry (RFC 9162, 2.1.1).
     fn leaf_hash(entry: &[u8]) -> [u8; D]
         ensures { result ≡ leaf_hash_by hash entry.now };
 
-    /// The hash of a node, from those of its children.
+    /// The hash of a node: the hash of a byte 1 and the hashes of its left and its right child (RFC 9162, 2.1.1).
     fn node_hash(left: &[u8; D], right: &[u8; D]) -> [u8; D]
         ensures { result ≡ node_hash_by hash left.now right.now };
 
-    /// The root of no entries.
+    /// The root of no entries: the hash of nothing (RFC 9162, 2.1.1).
     fn empty_root() -> [u8; D]
         ensures { result ≡ hash [] };
 

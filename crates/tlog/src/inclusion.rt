@@ -36,7 +36,7 @@ pub fn verify_inclusion(
     verify::<Sha256, 32>(index, size, leaf, proof, root)
 }
 
-/// The same under any hash function.
+/// [`verify_inclusion`] under any hash function, with hashes of `D` bytes: the same errors in the same order.
 #[tactic(auto, unfolding(crate::specs::Verdicts::inclusion_refusal))]
 pub fn verify<H: LogHash<D>, const D: usize>(
     index: usize,

@@ -41,7 +41,8 @@ impl Frontier {
         }
     }
 
-    /// The tree of a log of `size` entries by its whole nodes, from left to right: as if its entries had been pushed.
+    /// The tree of a log of `size` entries by its whole nodes, from left to right, as if the entries had been pushed.
+    /// Only the number of nodes is checked.
     ///
     /// # Errors
     ///
