@@ -1,15 +1,11 @@
 -- Printed lines.
-use Rattle.std.specs.Prelude.{ℕ, zero, suc, ◌+◌, ◌/◌, ◌%◌, nat_lt, if◌then◌else◌, List, [], ◌∷◌, ◌++◌, length, flat_map}
-use Rattle.std.specs.Prelude.{codes, decimal}
-
--- a digit in lower case hexadecimal: `0` to `9`, then `a` to `f`
-abbrev pub hex_digit : ℕ → ℕ
-hex_digit d = if nat_lt d 10 then 48 + d else 87 + d
+use Rattle.std.specs.Prelude.{ℕ, zero, suc, ◌/◌, ◌%◌, List, [], ◌∷◌, ◌++◌, length, flat_map, codes, decimal}
+use Rattle.std.specs.Char.{digit_char}
 
 -- a number in `width` digits of lower case hexadecimal
 abbrev pub hex_word : ℕ → ℕ → List ℕ
 hex_word zero word = []
-hex_word (suc width) word = hex_word width (word / 16) ++ hex_digit (word % 16) ∷ []
+hex_word (suc width) word = hex_word width (word / 16) ++ digit_char (word % 16) ∷ []
 
 -- a digest in hexadecimal, word after word, and a line feed
 abbrev pub hex_line : ℕ → List ℕ → List ℕ
