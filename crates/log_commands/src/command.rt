@@ -34,7 +34,7 @@ pub enum Command<R> {
         /// The checkpoint of the file, which may have grown since.
         checkpoint: R,
         file: R,
-        /// The numbers of the entries, counted from 1; without, all entries of the checkpoint.
+        /// The numbers of the entries, counted from 1; `None` for all entries of the checkpoint.
         numbers: Option<Vec<usize>>,
     },
     /// Prints the entries of a proof that is accepted.
@@ -64,8 +64,8 @@ pub enum Command<R> {
 }
 
 impl<R> Command<R> {
-    /// Whether it can be run: the origin passes [`is_origin`], a block has 1 to 2^30 bytes, and there is a number, each
-    /// from 1 on. `Requested::Any` goes with `Print::Lines` alone, `Print::Raw` with exactly one number.
+    /// Whether it can be run: the origin passes [`is_origin`], a block has 1 to 2^30 bytes, and given numbers are one
+    /// or more, each from 1 on. `Requested::Any` goes with `Print::Lines` alone, `Print::Raw` with exactly one number.
     pub fn is_lawful(&self) -> bool
         ensures { Decides result (IsLawful self.now) }
     {

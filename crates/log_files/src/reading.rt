@@ -30,7 +30,7 @@ pub struct ReadLog {
 /// values of wanted nodes, each by its layer and its slot, and the bytes of wanted entries, each by its index, counted
 /// from 0, in any order and as often as it is named. Blocks of `cut` must have from 1 to 2^30 bytes.
 ///
-/// With a limit it reads so many entries, and of the file less than 1 MiB more, which decides nothing. Without one it
+/// With a limit it reads so many entries, and of the file at most 1 MiB more, which decides nothing. Without one it
 /// reads to the end of the file. Beside wanted nodes and entries it holds less than 8 MiB, whatever the file has; of
 /// wanted entries at most three times their bytes.
 ///

@@ -83,7 +83,7 @@ is_origin text =
 abbrev pub is_name_char : ℕ → Bool
 is_name_char c = not (is_whitespace c) && not (c == 43)
 
--- the name of a key: such text, which is not empty
+-- the name of a key: text of one or more such characters
 unfoldable pub is_key_name : List ℕ → Bool
 is_key_name name = nat_le 1 (length name) && (is_text name && list_all is_name_char (chars name))
 

@@ -98,7 +98,7 @@ fn is_text(bytes: &[u8]) -> bool
     str::from_utf8(bytes).is_ok() && bytes.iter().all(|byte| *byte >= b' ')
 }
 
-/// Whether this is no space, be it one of Unicode's, and no `+`.
+/// Whether this is no white space of Unicode, and no `+`.
 fn is_name_char(c: char) -> bool
     ensures { result ≡ is_name_char c }
 {

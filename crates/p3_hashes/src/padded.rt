@@ -38,8 +38,8 @@ fn whole_states(messages: &[u8], count: usize) -> [u32x8; 8]
     state
 }
 
-/// The digests of eight messages, each of which fills `count` blocks of 64 bytes with its padding. `blocks` has the
-/// padded messages one after another, `8 * 64 * count` bytes.
+/// The digests of eight messages that fill `count` blocks of 64 bytes each with their padding. `blocks` has the padded
+/// messages one after another, `8 * 64 * count` bytes.
 pub fn hash_padded_eight(blocks: &[u8], count: usize) -> [[u8; 32]; 8]
     requires { length blocks.now ≡ 8 * (64 * count) }
     ensures { (j : ℕ) (m : List ℕ) → j < 8 → message (64 * count) blocks.now j ≡ padded_message m →

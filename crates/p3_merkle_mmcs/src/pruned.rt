@@ -37,7 +37,7 @@ impl<
 > MerkleTreeMmcs<P, PW, H, C, N, D> {
     /// Opens several leaves of a tree by one pruned proof. For each index, in query order, the opening has one row of
     /// each matrix: the one that belongs to the leaf. [`pruned_len`](Self::pruned_len) says how many digests the proof
-    /// has, and in which sense they are the fewest.
+    /// has, and that fewer are not enough.
     ///
     /// The indices count rows of the tallest matrix and must be below its height, in any order; repeats are allowed.
     /// The digests are read from the tree. If the tree was built with this scheme's hasher and compression, the opening

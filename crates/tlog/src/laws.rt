@@ -21,8 +21,8 @@ pub fn as_written()
 {}
 
 /// Honest proofs are accepted, for every hash function and sizes up to 2^62: the path of an entry under the root of all
-/// (RFC 9162, 2.1.3.1), and the proof of consistency (2.1.4.1) from the root of the first entries to that of all; if
-/// the first are none, no digests are.
+/// (RFC 9162, 2.1.3.1), and the proof of consistency (2.1.4.1) from the root of the first entries to that of all, or no
+/// digests if the first are none.
 pub fn honest_proofs()
     ensures included { HonestIsIncluded }
     ensures consistent { HonestIsConsistent }
