@@ -1,10 +1,15 @@
 -- Two groups of digests that collide under SHA-256 are two messages that do.
 use Rattle.std.proofs.Common.{◌≡◌, ◌≢◌, ◌∙◌, ℕ, List, Result, Option, Ok, Some, IfOk, IfSome, subst, sym, ap}
 use Rattle.std.specs.List.{concat}
-use Rattle.p3_hashes.specs.{Laws.AreDigests, Laws.GroupsAreMessages, Sha.sha256_nodes, Sha.sha256_rows}
+use Rattle.p3_hashes.specs.Laws.{AreDigests, GroupsAreMessages}
+use Rattle.p3_hashes.specs.Sha.{sha256_nodes, sha256_rows}
 use Rattle.p3_merkle_tree.specs.Checks.{Input, Params, digests_at}
-use Rattle.p3_merkle_tree.specs.{Extraction.IsFirstCollision, InputPair.InputPair, MerkleTreeError.MerkleTreeError}
-use Rattle.p3_merkle_tree.specs.{Place.Place, Presented.Presented, Views.found_alone, Views.inputs_in}
+use Rattle.p3_merkle_tree.specs.Extraction.{IsFirstCollision}
+use Rattle.p3_merkle_tree.specs.InputPair.{InputPair}
+use Rattle.p3_merkle_tree.specs.MerkleTreeError.{MerkleTreeError}
+use Rattle.p3_merkle_tree.specs.Place.{Place}
+use Rattle.p3_merkle_tree.specs.Presented.{Presented}
+use Rattle.p3_merkle_tree.specs.Views.{found_alone, inputs_in}
 
 pub messages_collide : (c : Params ℕ ℕ) (p q : Presented ℕ ℕ)
     (result : Result (Option (InputPair ℕ (List ℕ))) MerkleTreeError) (pair : InputPair ℕ (List ℕ)) (place : Place)

@@ -1,6 +1,8 @@
 -- Whether an odd number of coins show tails.
-use Rattle.std.specs.{Prelude.List, Prelude.[], Prelude.◌∷◌, Prelude.fold, List.flat_map}
-use Rattle.callers.specs.declared.coins.Coin.{Coin, TheVariants.Heads, TheVariants.Tails}
+use Rattle.std.specs.Prelude.{List, [], ◌∷◌, fold}
+use Rattle.std.specs.List.{flat_map}
+use Rattle.callers.specs.declared.coins.Coin.{Coin}
+use Rattle.callers.specs.declared.coins.Coin.TheVariants.{Heads, Tails}
 
 -- tails if one of two coins shows tails
 abbrev pub sum : Coin → Coin → Coin

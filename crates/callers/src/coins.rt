@@ -3,7 +3,8 @@
 ghost use Rattle.std.specs.Prelude.{◌≡◌, ℕ, ◌<◌, ◌∷◌, [], map, refl};
 ghost use Rattle.p3_support.specs.Lists.{lane_of};
 ghost use Rattle.callers.specs.Coins.{joint_parity, parity, sum};
-ghost use Rattle.callers.specs.{contracts.coins.Coin.the_type, declared.coins.Coin.TheVariants.Heads};
+ghost use Rattle.callers.specs.contracts.coins.Coin.{the_type};
+ghost use Rattle.callers.specs.declared.coins.Coin.TheVariants.{Heads};
 ghost use denote.Enum.Bare.{same_true, true_same};
 
 use anyhow::Result;

@@ -1,14 +1,19 @@
 -- What a claimed opening and the honest one lead to.
 use Rattle.std.proofs.Common.{lit<, ◌∙◌, ◌≡◌, ◌<◌, ℕ, Bool, List, Option, Some, None, ap, inl, refl, subst, sym}
 use Rattle.std.specs.Prelude.{◌↔◌, ◌⊎◌, Err, Ok, IfSome, IsNone, IsSome, Result, length, slice_index}
-use Rattle.p3_support.specs.{Batches.greatest, declared.matrix.Dimensions.Dimensions}
-use Rattle.p3_merkle_tree.specs.CapRule.{CapRule, TheVariants.Lowered}
-use Rattle.p3_merkle_tree.specs.{Checks.AgreeWhereShared, Checks.IsAccepted, Checks.Params, Extraction.EachPair}
+use Rattle.p3_support.specs.Batches.{greatest}
+use Rattle.p3_support.specs.declared.matrix.Dimensions.{Dimensions}
+use Rattle.p3_merkle_tree.specs.CapRule.{CapRule}
+use Rattle.p3_merkle_tree.specs.CapRule.TheVariants.{Lowered}
+use Rattle.p3_merkle_tree.specs.Checks.{AgreeWhereShared, IsAccepted, Params}
+use Rattle.p3_merkle_tree.specs.Extraction.{EachPair, RowsConflictSomewhere, RowsConflictWhereAuthenticated, SomePair}
 use Rattle.p3_merkle_tree.specs.Extraction.{IsCollision, IsExtraction, IsFirstCollision, RowsAgreeWhereAuthenticated}
-use Rattle.p3_merkle_tree.specs.Extraction.{RowsConflictSomewhere, RowsConflictWhereAuthenticated, SomePair}
 use Rattle.p3_merkle_tree.specs.Geometry.{halved_index, heights, IsArity}
-use Rattle.p3_merkle_tree.specs.{InputPair.InputPair, Laws.OneIndexIsBound, MerkleTreeError.MerkleTreeError}
-use Rattle.p3_merkle_tree.specs.{MerkleTreeError.TheVariants.OutOfMemory, Openings.Opening}
+use Rattle.p3_merkle_tree.specs.InputPair.{InputPair}
+use Rattle.p3_merkle_tree.specs.Laws.{OneIndexIsBound}
+use Rattle.p3_merkle_tree.specs.MerkleTreeError.{MerkleTreeError}
+use Rattle.p3_merkle_tree.specs.MerkleTreeError.TheVariants.{OutOfMemory}
+use Rattle.p3_merkle_tree.specs.Openings.{Opening}
 use Rattle.p3_merkle_tree.specs.Presented.{Presented, presented, presented_pruned}
 use Rattle.p3_merkle_tree.specs.Pruning.{IsPrunedAccepted, PrunedOpening, opening_at}
 use Rattle.p3_merkle_tree.specs.Refusals.{AnswersUnlessMemory, pruned_refusal_under, refusal_under}

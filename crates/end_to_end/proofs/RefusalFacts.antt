@@ -2,14 +2,21 @@
 use Rattle.std.proofs.Common.{◌≡◌, ◌∙◌, ◌⊎◌, ◌<◌, ◌+◌, ◌^◌, ℕ, List, [], ◌∷◌, Option, Some, None, Bool, ap, arith}
 use Rattle.std.proofs.Common.{eq-eqb, false, get_or, inl, inr, nat_le, nat_lt, length, map, refl, sym, zip}
 use Rattle.std.proofs.lemmas.Bool.{cond-false, le-ltb, lt-leb}
-use Rattle.std.proofs.lemmas.List.{get_or-map, length-map, Sums.position_or_len_is}
-use Rattle.std.specs.{Prelude.Ok, List.AllZip, List.enumerate_from, List.position_or_len}
+use Rattle.std.proofs.lemmas.List.{get_or-map, length-map}
+use Rattle.std.proofs.lemmas.List.Sums.{position_or_len_is}
+use Rattle.std.specs.Prelude.{Ok}
+use Rattle.std.specs.List.{AllZip, enumerate_from, position_or_len}
 use Rattle.std.specs.Option.{option_map, option_or}
-use Rattle.p3_support.specs.{Batches.widths_of, declared.matrix.Dimensions.Dimensions}
+use Rattle.p3_support.specs.Batches.{widths_of}
+use Rattle.p3_support.specs.declared.matrix.Dimensions.{Dimensions}
 use Rattle.p3_merkle_tree.specs.Checks.{IsAccepted, Params}
-use Rattle.p3_merkle_tree.specs.{Geometry.IsArity, Laws.OkIsAccepted, Laws.OkIsEachAccepted}
-use Rattle.p3_merkle_tree.specs.MerkleTreeError.{MerkleTreeError, TheVariants.OutOfMemory, TheVariants.TooLarge}
-use Rattle.p3_merkle_tree.specs.{Openings.Opening, Pruning.IsPrunedAccepted, Pruning.PrunedOpening, Refusals.IsEquality}
+use Rattle.p3_merkle_tree.specs.Geometry.{IsArity}
+use Rattle.p3_merkle_tree.specs.Laws.{OkIsAccepted, OkIsEachAccepted}
+use Rattle.p3_merkle_tree.specs.MerkleTreeError.{MerkleTreeError}
+use Rattle.p3_merkle_tree.specs.MerkleTreeError.TheVariants.{OutOfMemory, TooLarge}
+use Rattle.p3_merkle_tree.specs.Openings.{Opening}
+use Rattle.p3_merkle_tree.specs.Pruning.{IsPrunedAccepted, PrunedOpening}
+use Rattle.p3_merkle_tree.specs.Refusals.{IsEquality}
 use Rattle.p3_merkle_tree.specs.Refusals.{first_of, ok_unless, pruned_refusal_under, refusal_under, width_fault}
 use Rattle.p3_merkle_tree.specs.SaltedOpenings.{CanWiden, HaveSalts, IsSaltedAccepted, IsSaltedPrunedAccepted}
 use Rattle.p3_merkle_tree.specs.SaltedOpenings.{SaltedOpening, SaltedPruned, joined, joined_sets}

@@ -3,10 +3,15 @@ use Rattle.std.proofs.Common.{◌≡◌, ◌*◌, ◌+◌, ◌<◌, ℕ, List, [
 use Rattle.std.specs.Prelude.{All, Err, IfErr, None, Ok, Result, slice_index}
 use Rattle.std.proofs.lemmas.List.Elements.{All-head}
 use Rattle.rand_core.specs.Stream.{Stream}
-use Rattle.p3_support.specs.{Batches.heights_of, Salts.after_words, declared.matrix.Dimensions.Dimensions}
-use Rattle.p3_merkle_tree.specs.MerkleTreeError.{MerkleTreeError, TheVariants.OutOfMemory}
-use Rattle.p3_merkle_tree.specs.{Nodes.Matrix, Nodes.dimensions_of, Presented.IsVerdict, Presented.Presented}
-use Rattle.p3_merkle_tree.specs.{Salted.salted_matrices, SaltedOpenings.widened}
+use Rattle.p3_support.specs.Batches.{heights_of}
+use Rattle.p3_support.specs.Salts.{after_words}
+use Rattle.p3_support.specs.declared.matrix.Dimensions.{Dimensions}
+use Rattle.p3_merkle_tree.specs.MerkleTreeError.{MerkleTreeError}
+use Rattle.p3_merkle_tree.specs.MerkleTreeError.TheVariants.{OutOfMemory}
+use Rattle.p3_merkle_tree.specs.Nodes.{Matrix, dimensions_of}
+use Rattle.p3_merkle_tree.specs.Presented.{IsVerdict, Presented}
+use Rattle.p3_merkle_tree.specs.Salted.{salted_matrices}
+use Rattle.p3_merkle_tree.specs.SaltedOpenings.{widened}
 use Rattle.end_to_end.proofs.RefusalFacts.{memory_alone}
 
 -- salted matrices are so much wider

@@ -2,19 +2,25 @@
 use Rattle.std.specs.Prelude.{◌≡◌, ◌≢◌, ◌↔◌, ◌<◌, ℕ, Bool, IfOk, IfSome, IsNone, IsSome, IsTrue, List, [], MatchResult}
 use Rattle.std.specs.Prelude.{None, Option, Result, length, slice_index_or}
 use Rattle.p3_support.specs.declared.matrix.Dimensions.{Dimensions}
-use Rattle.p3_merkle_tree.specs.CapRule.{CapRule, TheVariants.Lowered}
+use Rattle.p3_merkle_tree.specs.CapRule.{CapRule}
+use Rattle.p3_merkle_tree.specs.CapRule.TheVariants.{Lowered}
 use Rattle.p3_merkle_tree.specs.Checks.{AgreeWhereShared, IsAccepted, Params, is_authenticated}
 use Rattle.p3_merkle_tree.specs.Extraction.{IsCollision, IsFirstCollision, RowsAgreeWhereAuthenticated}
 use Rattle.p3_merkle_tree.specs.Extraction.{RowsConflictSomewhere, SomePair}
-use Rattle.p3_merkle_tree.specs.{Geometry.heights, InputPair.InputPair, MerkleTreeError.MerkleTreeError}
-use Rattle.p3_merkle_tree.specs.{MerkleTreeError.TheVariants.OutOfMemory, Openings.Opening, Presented.presented_pruned}
+use Rattle.p3_merkle_tree.specs.Geometry.{heights}
+use Rattle.p3_merkle_tree.specs.InputPair.{InputPair}
+use Rattle.p3_merkle_tree.specs.MerkleTreeError.{MerkleTreeError}
+use Rattle.p3_merkle_tree.specs.MerkleTreeError.TheVariants.{OutOfMemory}
+use Rattle.p3_merkle_tree.specs.Openings.{Opening}
+use Rattle.p3_merkle_tree.specs.Presented.{presented_pruned}
 use Rattle.p3_merkle_tree.specs.Pruning.{IsPrunedAccepted, PrunedOpening, opening_at}
 use Rattle.p3_merkle_tree.specs.Refusals.{AnswersUnlessMemory, pruned_refusal_under, refusal_under}
 use Rattle.p3_merkle_tree.specs.SaltedExtraction.{AgreeWhereAuthenticated, ConflictSomewhere, SomeSaltedPair}
 use Rattle.p3_merkle_tree.specs.SaltedOpenings.{IsSaltedAccepted, IsSaltedPrunedAccepted, SaltedOpening, SaltedPruned}
 use Rattle.p3_merkle_tree.specs.SaltedOpenings.{joined, joined_sets}
-use Rattle.p3_merkle_tree.specs.{SaltedPresented.presented_salted_pruned, SaltRefusals.salted_pruned_refusal_under}
-use Rattle.p3_merkle_tree.specs.{SaltRefusals.salted_refusal_under, Views.inputs_in}
+use Rattle.p3_merkle_tree.specs.SaltedPresented.{presented_salted_pruned}
+use Rattle.p3_merkle_tree.specs.SaltRefusals.{salted_pruned_refusal_under, salted_refusal_under}
+use Rattle.p3_merkle_tree.specs.Views.{inputs_in}
 
 -- ---- openings of one index
 

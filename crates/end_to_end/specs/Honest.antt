@@ -4,15 +4,21 @@ use Rattle.std.specs.declared.default.Default as default
 use Rattle.std.specs.declared.cmp.PartialEq as equality
 use Rattle.p3_support.specs.declared.compress.PseudoCompressionFunction as compressor
 use Rattle.p3_support.specs.declared.hasher.CryptographicHasher as hasher
-use Rattle.p3_support.specs.declared.{matrix.Matrix.Ghosts, pair.HorizontalPair.HorizontalPair}
+use Rattle.p3_support.specs.declared.matrix.Matrix.{Ghosts}
+use Rattle.p3_support.specs.declared.pair.HorizontalPair.{HorizontalPair}
 use Rattle.p3_support.specs.declared.packed.PackedValue as packed
-use Rattle.p3_merkle_tree.specs.{Checks.IsAccepted, declared.hiding_mmcs.HidingScheme.HidingScheme}
-use Rattle.p3_merkle_tree.specs.{HidingSchemes.plain_of, HidingSchemes.salted_params_of, Nodes.shape, Openings.Opening}
-use Rattle.p3_merkle_tree.specs.{Openings.honest, Openings.honest_rows, Parts.matrices_of, Parts.tree_batch}
+use Rattle.p3_merkle_tree.specs.Checks.{IsAccepted}
+use Rattle.p3_merkle_tree.specs.declared.hiding_mmcs.HidingScheme.{HidingScheme}
+use Rattle.p3_merkle_tree.specs.HidingSchemes.{plain_of, salted_params_of}
+use Rattle.p3_merkle_tree.specs.Nodes.{shape}
+use Rattle.p3_merkle_tree.specs.Openings.{Opening, honest, honest_rows}
+use Rattle.p3_merkle_tree.specs.Parts.{matrices_of, tree_batch}
 use Rattle.p3_merkle_tree.specs.Pruning.{IsPrunedAccepted, PrunedOpening, honest_query}
 use Rattle.p3_merkle_tree.specs.SaltedOpenings.{IsSaltedAccepted, IsSaltedPrunedAccepted, SaltedOpening, SaltedPruned}
 use Rattle.p3_merkle_tree.specs.SaltedTrees.{left_batch, right_batch, unsalted_dimensions}
-use Rattle.p3_merkle_tree.specs.{Scheme.Scheme, Schemes.params_of, Tree.Tree}
+use Rattle.p3_merkle_tree.specs.Scheme.{Scheme}
+use Rattle.p3_merkle_tree.specs.Schemes.{params_of}
+use Rattle.p3_merkle_tree.specs.Tree.{Tree}
 
 module _ {P PW H C X G V W : Type 0} {N D : ℕ} {p : packed.Ghosts P V} {pd : default.Ghosts V} {pe : equality.Ghosts V}
     {q : packed.Ghosts PW W} {qd : default.Ghosts W} {qe : equality.Ghosts W} {h : hasher.Ghosts H P PW D V W}

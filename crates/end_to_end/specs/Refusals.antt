@@ -1,7 +1,11 @@
 -- Why matrices are not committed to, or an opening of them is refused.
-use Rattle.std.specs.{Prelude.ℕ, Prelude.List, Prelude.Option, Option.option_or}
-use Rattle.p3_support.specs.{Batches.greatest, Batches.heights_of, declared.matrix.Dimensions.Dimensions}
-use Rattle.p3_merkle_tree.specs.{Gate.gate_refusal, MerkleTreeError.MerkleTreeError, Refusals.queries_refusal}
+use Rattle.std.specs.Prelude.{ℕ, List, Option}
+use Rattle.std.specs.Option.{option_or}
+use Rattle.p3_support.specs.Batches.{greatest, heights_of}
+use Rattle.p3_support.specs.declared.matrix.Dimensions.{Dimensions}
+use Rattle.p3_merkle_tree.specs.Gate.{gate_refusal}
+use Rattle.p3_merkle_tree.specs.MerkleTreeError.{MerkleTreeError}
+use Rattle.p3_merkle_tree.specs.Refusals.{queries_refusal}
 use Rattle.p3_merkle_tree.specs.SaltRefusals.{salted_commit_refusal}
 
 -- why matrices of these heights are not committed to, else why indices of them are not opened

@@ -2,13 +2,19 @@
 //! committed row of each authenticated matrix, or a collision is returned.
 
 ghost use Rattle.std.specs.Prelude.{◌≡◌, ◌<◌, [], ◌∷◌, All, IfErr, IfOk, IsOk};
-ghost use Rattle.end_to_end.specs.{Honest.IsHonest, Honest.IsHonestPruned, Refusals.open_refusal};
+ghost use Rattle.end_to_end.specs.Honest.{IsHonest, IsHonestPruned};
+ghost use Rattle.end_to_end.specs.Refusals.{open_refusal};
 ghost use Rattle.end_to_end.specs.Comparisons.{IsComparison, IsPrunedComparison};
-ghost use Rattle.p3_merkle_tree.specs.{Committed.Commits, Geometry.heights, MerkleTreeError.TheVariants.OutOfMemory};
-ghost use Rattle.p3_merkle_tree.specs.{Nodes.shape, Parts.matrices_of, Parts.tree_batch, Refusals.AnswersUnlessMemory};
+ghost use Rattle.p3_merkle_tree.specs.Committed.{Commits};
+ghost use Rattle.p3_merkle_tree.specs.Geometry.{heights};
+ghost use Rattle.p3_merkle_tree.specs.MerkleTreeError.TheVariants.{OutOfMemory};
+ghost use Rattle.p3_merkle_tree.specs.Nodes.{shape};
+ghost use Rattle.p3_merkle_tree.specs.Parts.{matrices_of, tree_batch};
+ghost use Rattle.p3_merkle_tree.specs.Refusals.{AnswersUnlessMemory};
 ghost use Rattle.p3_merkle_tree.specs.Views.{heights_in, opening_made, pruned_made, opening_borrowed, pruned_borrowed};
 ghost use Rattle.p3_merkle_tree.specs.Schemes.{cap_rule_of, params_of};
-ghost use Rattle.p3_support.specs.{Batches.greatest, Shown.roots_of};
+ghost use Rattle.p3_support.specs.Batches.{greatest};
+ghost use Rattle.p3_support.specs.Shown.{roots_of};
 
 use crate::Compared;
 use p3_merkle_tree::{

@@ -2,16 +2,25 @@
 //! committed row of each authenticated matrix, or a collision is returned.
 
 ghost use Rattle.std.specs.Prelude.{◌≡◌, ◌<◌, ◌⊎◌, [], ◌∷◌, All, IfErr, IfOk, IsSome, map, slice_index};
-ghost use Rattle.end_to_end.specs.{Honest.IsHonestSalted, Honest.IsHonestSaltedPruned, Refusals.salted_open_refusal};
+ghost use Rattle.end_to_end.specs.Honest.{IsHonestSalted, IsHonestSaltedPruned};
+ghost use Rattle.end_to_end.specs.Refusals.{salted_open_refusal};
 ghost use Rattle.end_to_end.specs.Comparisons.{IsSaltedComparison, IsSaltedPrunedComparison};
-ghost use Rattle.p3_merkle_tree.specs.{Geometry.heights, HidingSchemes.generator_of, HidingSchemes.salted_made};
+ghost use Rattle.p3_merkle_tree.specs.Geometry.{heights};
+ghost use Rattle.p3_merkle_tree.specs.HidingSchemes.{generator_of, salted_made, salted_pruned_borrowed};
 ghost use Rattle.p3_merkle_tree.specs.HidingSchemes.{salted_pruned_made, plain_of, salted_borrowed, salted_params_of};
-ghost use Rattle.p3_merkle_tree.specs.{HidingSchemes.salted_pruned_borrowed, MerkleTreeError.TheVariants.OutOfMemory};
-ghost use Rattle.p3_merkle_tree.specs.{Nodes.shape, Parts.matrices_of, Parts.tree_batch, Refusals.AnswersUnlessMemory};
-ghost use Rattle.p3_merkle_tree.specs.{Salted.salted_batch, SaltRefusals.salted_commit_refusal};
+ghost use Rattle.p3_merkle_tree.specs.MerkleTreeError.TheVariants.{OutOfMemory};
+ghost use Rattle.p3_merkle_tree.specs.Nodes.{shape};
+ghost use Rattle.p3_merkle_tree.specs.Parts.{matrices_of, tree_batch};
+ghost use Rattle.p3_merkle_tree.specs.Refusals.{AnswersUnlessMemory};
+ghost use Rattle.p3_merkle_tree.specs.Salted.{salted_batch};
+ghost use Rattle.p3_merkle_tree.specs.SaltRefusals.{salted_commit_refusal};
 ghost use Rattle.p3_merkle_tree.specs.SaltedOpened.{CommitsSalted, Draws};
-ghost use Rattle.p3_merkle_tree.specs.{SaltedTrees.unsalted_dimensions, Views.batch_of, Schemes.cap_rule_of};
-ghost use Rattle.p3_support.specs.{Batches.greatest, Pairs.left_of, Shown.roots_of};
+ghost use Rattle.p3_merkle_tree.specs.SaltedTrees.{unsalted_dimensions};
+ghost use Rattle.p3_merkle_tree.specs.Views.{batch_of};
+ghost use Rattle.p3_merkle_tree.specs.Schemes.{cap_rule_of};
+ghost use Rattle.p3_support.specs.Batches.{greatest};
+ghost use Rattle.p3_support.specs.Pairs.{left_of};
+ghost use Rattle.p3_support.specs.Shown.{roots_of};
 
 use crate::Compared;
 use p3_merkle_tree::{

@@ -1,6 +1,7 @@
 //! Inputs by their names.
 
-ghost use Rattle.std.specs.{Counts.IsPrefixLen, Prelude.IfOk};
+ghost use Rattle.std.specs.Counts.{IsPrefixLen};
+ghost use Rattle.std.specs.Prelude.{IfOk};
 
 use crate::progress::Progress;
 use std::cell::Cell;

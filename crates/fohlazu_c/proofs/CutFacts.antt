@@ -2,9 +2,12 @@
 use Rattle.std.proofs.Common.{◌≡◌, ◌∙◌, ℕ, ◌+◌, ◌<◌, ◌≤◌, List, [], ◌∷◌, ◌++◌, map, length, take, drop, min, get_or}
 use Rattle.std.proofs.Common.{append-nil, sym, ap, true, false}
 use Rattle.std.proofs.lemmas.List.{append_assoc, drop_all, drop_min, drop_more, take_min}
-use Rattle.std.{proofs.Math.Dec.eqb-suc-zero, proofs.lemmas.Bool.true≢false, specs.Prelude.◌==◌}
+use Rattle.std.proofs.Math.Dec.{eqb-suc-zero}
+use Rattle.std.proofs.lemmas.Bool.{true≢false}
+use Rattle.std.specs.Prelude.{◌==◌}
 use Rattle.p3_support.specs.Batches.{widths_of}
-use Rattle.fohlazu_c.specs.{Openings.cut_rows, Openings.size_shown, declared.setting.MatrixSize.MatrixSize}
+use Rattle.fohlazu_c.specs.Openings.{cut_rows, size_shown}
+use Rattle.fohlazu_c.specs.declared.setting.MatrixSize.{MatrixSize}
 
 -- bytes that are left, cut by the sizes from k on
 abbrev pub cut_from : List MatrixSize → ℕ → List ℕ → List (List ℕ)

@@ -1,17 +1,25 @@
 -- What the call about openings is told, and what it returns.
 use Rattle.std.specs.Prelude.{ℕ, ℤ, pos, ◌==◌, ◌||◌, Bool, if◌then◌else◌, List, [], ◌∷◌, take, drop, replicate, nat_lt}
-use Rattle.std.specs.{Prelude.nat_eq, Prelude.Option, Prelude.None, Prelude.Some, Option.option_map}
-use Rattle.p3_support.specs.{Batches.widths_of, declared.matrix.Dimensions.Dimensions}
+use Rattle.std.specs.Prelude.{nat_eq, Option, None, Some}
+use Rattle.std.specs.Option.{option_map}
+use Rattle.p3_support.specs.Batches.{widths_of}
+use Rattle.p3_support.specs.declared.matrix.Dimensions.{Dimensions}
 use Rattle.p3_hashes.specs.Sha.{sha256_nodes, sha256_rows}
-use Rattle.p3_merkle_core.specs.{Caps.cap_layer, Checks.Params, Checks.params, Geometry.shape_of, Nodes.functions_of}
-use Rattle.p3_merkle_core.specs.{Openings.Opening, Openings.opening_of, Refusals.refusal_under}
-use Rattle.p3_merkle_core.specs.declared.cap.CapRule.{CapRule, TheVariants.Lowered, TheVariants.Fixed}
+use Rattle.p3_merkle_core.specs.Caps.{cap_layer}
+use Rattle.p3_merkle_core.specs.Checks.{Params, params}
+use Rattle.p3_merkle_core.specs.Geometry.{shape_of}
+use Rattle.p3_merkle_core.specs.Nodes.{functions_of}
+use Rattle.p3_merkle_core.specs.Openings.{Opening, opening_of}
+use Rattle.p3_merkle_core.specs.Refusals.{refusal_under}
+use Rattle.p3_merkle_core.specs.declared.cap.CapRule.{CapRule}
+use Rattle.p3_merkle_core.specs.declared.cap.CapRule.TheVariants.{Lowered, Fixed}
 use Rattle.p3_merkle_core.specs.declared.error.MerkleTreeError.{MerkleTreeError}
 use Rattle.p3_merkle_core.specs.declared.error.MerkleTreeError.TheVariants.{WrongBatchSize, WrongWidth, WrongHeight}
 use Rattle.p3_merkle_core.specs.declared.error.MerkleTreeError.TheVariants.{IncompatibleHeights, IndexOutOfBounds}
 use Rattle.p3_merkle_core.specs.declared.error.MerkleTreeError.TheVariants.{EmptyBatch, CapMismatch, TooLarge}
 use Rattle.p3_merkle_core.specs.declared.error.MerkleTreeError.TheVariants.{OutOfMemory, MalformedPrunedProof}
-use Rattle.fohlazu_c.specs.declared.setting.{MatrixSize.MatrixSize, TreeSetting.TreeSetting}
+use Rattle.fohlazu_c.specs.declared.setting.MatrixSize.{MatrixSize}
+use Rattle.fohlazu_c.specs.declared.setting.TreeSetting.{TreeSetting}
 
 -- the dimensions of a size
 abbrev pub size_shown : MatrixSize → Dimensions

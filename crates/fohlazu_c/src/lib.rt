@@ -5,7 +5,8 @@
 pub mod opening;
 pub mod setting;
 
-ghost use Rattle.std.specs.{Prelude.◌≡◌, Prelude.◌↔◌, Prelude.◌≤◌, Prelude.pos, Result.result_err};
+ghost use Rattle.std.specs.Prelude.{◌≡◌, ◌↔◌, ◌≤◌, pos};
+ghost use Rattle.std.specs.Result.{result_err};
 ghost use Rattle.sha2.specs.Sha256.{sha256};
 ghost use Rattle.fohlazu_c.specs.Statuses.{status_of};
 ghost use Rattle.tlog.specs.Rfc9162.{leaf_hash as leaf_hash_by};

@@ -1,5 +1,6 @@
 -- What a caller makes of refusals: some of them it handles by name.
-use Rattle.p3_merkle_tree.specs.MerkleTreeError.{MerkleTreeError, TheVariants.CapMismatch, TheVariants.IndexOutOfBounds}
+use Rattle.p3_merkle_tree.specs.MerkleTreeError.{MerkleTreeError}
+use Rattle.p3_merkle_tree.specs.MerkleTreeError.TheVariants.{CapMismatch, IndexOutOfBounds}
 use Rattle.library_tests.specs.declared.reasons.Rejection.{Rejection}
 use Rattle.library_tests.specs.declared.reasons.Rejection.TheVariants.{OtherCommitment, NoSuchIndex}
 use Rattle.library_tests.specs.declared.reasons.Rejection.TheVariants as rejection

@@ -5,8 +5,10 @@ ghost use Rattle.std.specs.Prelude.{◌≡◌, ◌<◌, ◌↔◌, IfErr, IfOk, 
 ghost use Rattle.library_tests.specs.Reasons.{rejection_of};
 ghost use Rattle.library_tests.specs.declared.reasons.Rejection.TheVariants as rejection;
 ghost use Rattle.p3_merkle_tree.specs.MerkleTreeError.TheVariants.{OutOfMemory};
-ghost use Rattle.p3_support.specs.{Answers.AnswersUnless, Batches.dimensions_in, Batches.greatest, Batches.heights_of};
-ghost use Rattle.p3_support.specs.{RowMajor.row_count, RowMajor.row_width, Shown.row_lists, Shown.row_sets};
+ghost use Rattle.p3_support.specs.Answers.{AnswersUnless};
+ghost use Rattle.p3_support.specs.Batches.{dimensions_in, greatest, heights_of};
+ghost use Rattle.p3_support.specs.RowMajor.{row_count, row_width};
+ghost use Rattle.p3_support.specs.Shown.{row_lists, row_sets};
 
 use crate::matrices::two_rows;
 use crate::reasons::Rejection;

@@ -1,6 +1,7 @@
 //! The answers of a scheme.
 
-ghost use Rattle.std.specs.{Prelude.◌*◌, Prelude.◌<◌, Prelude.◌^◌, Mem.type_size};
+ghost use Rattle.std.specs.Prelude.{◌*◌, ◌<◌, ◌^◌};
+ghost use Rattle.std.specs.Mem.{type_size};
 
 use crate::numbers::{Fault, Numbers, Part};
 use crate::table::{Table, tables_in};

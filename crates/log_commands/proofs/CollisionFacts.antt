@@ -2,32 +2,45 @@
 use Rattle.std.proofs.Common.{◌≡◌, ◌≤◌, ◌<◌, ◌-◌, ◌∙◌, ℕ, List, [], ◌∷◌, ap, arith, length, map, get_or, refl, subst}
 use Rattle.std.proofs.Common.{sym, take, Option, None, Result, Ok, Err, ◌↔◌, All, IsNone, flat_map, is_some, nat_lt}
 use Rattle.std.proofs.Common.{lt-ltb, length-take}
-use Rattle.std.proofs.lemmas.List.{get_or-map, length-map, take_min, Elements.All-weaker}
+use Rattle.std.proofs.lemmas.List.{get_or-map, length-map, take_min}
+use Rattle.std.proofs.lemmas.List.Elements.{All-weaker}
 use Rattle.std.proofs.lemmas.List.FromFn.{fill_by_all, get_or-range_with_len, length-range_with_len}
-use Rattle.std.{proofs.lemmas.List.Sums.list_all-from_AllPass, specs.List.range_with_len}
+use Rattle.std.proofs.lemmas.List.Sums.{list_all-from_AllPass}
+use Rattle.std.specs.List.{range_with_len}
 use Rattle.sha2.specs.Sha256.{sha256}
 use Rattle.p3_merkle_core.proofs.Pruned.NoneFacts.{map_none, none_parts}
 use Rattle.p3_merkle_core.specs.Refusals.{first_of, first_some, ok_unless}
-use Rattle.tlog.{proofs.Accepted.consistency_accepted, specs.Collisions.entries_of, specs.Fixed.RootsFixPrefix}
+use Rattle.tlog.proofs.Accepted.{consistency_accepted}
+use Rattle.tlog.specs.Collisions.{entries_of}
+use Rattle.tlog.specs.Fixed.{RootsFixPrefix}
 use Rattle.tlog.specs.Rfc9162.{leaf_hash, root_of}
 use Rattle.tlog.specs.Verdicts.{IsConsistent, consistency_refusal, size_limit}
 use Rattle.tlog.specs.declared.collision.Collision.{Collision}
-use Rattle.tlog_entries.{proofs.EntriesFacts.unrefused, specs.Entries.entries_refusal, specs.Fixed.RootFixesLeaves}
+use Rattle.tlog_entries.proofs.EntriesFacts.{unrefused}
+use Rattle.tlog_entries.specs.Entries.{entries_refusal}
+use Rattle.tlog_entries.specs.Fixed.{RootFixesLeaves}
 use Rattle.log_text.specs.Texts.{CheckpointFields, ConsistencyFields, EntriesFields, EntryFields, IsEntry}
-use Rattle.log_text.proofs.{NoteLaws.notes, ProofLaws.entries_proofs}
+use Rattle.log_text.proofs.NoteLaws.{notes}
+use Rattle.log_text.proofs.ProofLaws.{entries_proofs}
 use Rattle.log_text.specs.Reading.{checkpoint_in, consistency_in, entries_in as proof_in}
 use Rattle.log_text.specs.declared.error.TextError.{TextError}
-use Rattle.log_files.specs.{Entries.entries_in, Entries.entry_at, Entries.wanted_of, declared.cut.Cut.Cut}
+use Rattle.log_files.specs.Entries.{entries_in, entry_at, wanted_of}
+use Rattle.log_files.specs.declared.cut.Cut.{Cut}
 use Rattle.log_files.specs.declared.reading.ReadLog.{ReadLog}
 use Rattle.log_commands.specs.Collisions.{AreEntriesOfFile, BeginsWithOldFile, IsCheckpointOf, IsCheckpointOfFile}
 use Rattle.log_commands.specs.Inner.{AreProved, HasLeafIn, ReadsAs, entries_by}
 use Rattle.log_commands.specs.Outcomes.{and_then, checkpoint_of, consistency_refused, entries_under, entry_refusal}
 use Rattle.log_commands.specs.Outcomes.{growth_refusal, numbers_refusal, old_size_refusal, printed, proof_refusal}
 use Rattle.log_commands.specs.Outcomes.{said_by, said_inside, verify_consistency_outcome, verify_outcome}
-use Rattle.log_commands.specs.{Collisions.IsEntryOf, Errors.entries_error, declared.error.Error.Error}
-use Rattle.log_commands.specs.declared.error.{Error.TheVariants.Refused, Refusal.TheVariants.Consistency, Source.Source}
+use Rattle.log_commands.specs.Collisions.{IsEntryOf}
+use Rattle.log_commands.specs.Errors.{entries_error}
+use Rattle.log_commands.specs.declared.error.Error.{Error}
+use Rattle.log_commands.specs.declared.error.Error.TheVariants.{Refused}
+use Rattle.log_commands.specs.declared.error.Refusal.TheVariants.{Consistency}
+use Rattle.log_commands.specs.declared.error.Source.{Source}
 use Rattle.log_commands.specs.declared.error.Source.TheVariants.{Checkpoint, Old, Proof}
-use Rattle.log_commands.specs.declared.verify.Print.{Print, TheVariants.Raw}
+use Rattle.log_commands.specs.declared.verify.Print.{Print}
+use Rattle.log_commands.specs.declared.verify.Print.TheVariants.{Raw}
 use Rattle.log_commands.proofs.OutcomeFacts.{are_under, ok_none, said_ok, stepped, under_first}
 
 -- ---- results

@@ -3,24 +3,38 @@ use Rattle.std.proofs.Common.{◌≡◌, ◌≤◌, ◌<◌, ◌-◌, ◌∙◌,
 use Rattle.std.proofs.Common.{sym, take, None, Some, Ok, Option, ◌^◌, Bool, true, is_some, All, map-id, le-leb}
 use Rattle.std.proofs.Common.{get_or-take, inl, inr, ne_eqb, ◌↔◌}
 use Rattle.std.proofs.lemmas.List.Elements.{All-drop, All-head, All-map, All-tail, All-take}
-use Rattle.std.proofs.lemmas.{Bool.cases_eq, Bool.eq-eqb, List.get_or-map, List.length-map, List.Folds.flat_map-map}
-use Rattle.std.{proofs.lemmas.Simd.map-map, specs.List.flat_map, specs.Option.option_map}
+use Rattle.std.proofs.lemmas.Bool.{cases_eq, eq-eqb}
+use Rattle.std.proofs.lemmas.List.{get_or-map, length-map}
+use Rattle.std.proofs.lemmas.List.Folds.{flat_map-map}
+use Rattle.std.proofs.lemmas.Simd.{map-map}
+use Rattle.std.specs.List.{flat_map}
+use Rattle.std.specs.Option.{option_map}
 use Rattle.p3_merkle_core.specs.Refusals.{first_of, ok_unless}
 use Rattle.sha2.specs.Sha256.{sha256}
-use Rattle.tlog.specs.{Rfc9162.leaf_hash, Rfc9162.root_of, Verdicts.size_limit}
+use Rattle.tlog.specs.Rfc9162.{leaf_hash, root_of}
+use Rattle.tlog.specs.Verdicts.{size_limit}
 use Rattle.tlog_tree.specs.Trees.{leaves_root, node_at}
-use Rattle.tlog_entries.proofs.{EntriesFacts.unrefused as included_only, HonestEntries.honest_included, Leaves.mth_map}
-use Rattle.tlog_entries.{proofs.Smallest.nodes_within, specs.Entries.entries_refusal, specs.Entries.proof_nodes}
+use Rattle.tlog_entries.proofs.EntriesFacts.{unrefused as included_only}
+use Rattle.tlog_entries.proofs.HonestEntries.{honest_included}
+use Rattle.tlog_entries.proofs.Leaves.{mth_map}
+use Rattle.tlog_entries.proofs.Smallest.{nodes_within}
+use Rattle.tlog_entries.specs.Entries.{entries_refusal, proof_nodes}
 use Rattle.log_text.specs.Texts.{IsEntriesProof, IsEntry, entries_text, CheckpointFields, EntriesFields, EntryFields}
-use Rattle.log_text.proofs.{NoteLaws.notes, ProofLaws.entries_proofs}
-use Rattle.log_text.specs.{Reading.checkpoint_in, Reading.entries_in as proof_in, Texts.IsDigest}
-use Rattle.log_files.specs.{Entries.entries_in, Entries.entry_at, declared.cut.Cut.Cut}
+use Rattle.log_text.proofs.NoteLaws.{notes}
+use Rattle.log_text.proofs.ProofLaws.{entries_proofs}
+use Rattle.log_text.specs.Reading.{checkpoint_in, entries_in as proof_in}
+use Rattle.log_text.specs.Texts.{IsDigest}
+use Rattle.log_files.specs.Entries.{entries_in, entry_at}
+use Rattle.log_files.specs.declared.cut.Cut.{Cut}
 use Rattle.log_commands.specs.Outcomes.{is_printable, said_by, checkpoint_of, entries_under, entry_refusal}
 use Rattle.log_commands.specs.Outcomes.{number_refusal, requested, first_other, numbers_refusal, printed, proof_over}
 use Rattle.log_commands.specs.Laws.{printed_of, AreRequested, CanSay, NumbersAreCompared, ProofsAreAccepted}
-use Rattle.log_commands.specs.{Commands.prove_file, Commands.AreNumbers, Errors.entries_error, Laws.ProofsAreProved}
+use Rattle.log_commands.specs.Commands.{prove_file, AreNumbers}
+use Rattle.log_commands.specs.Errors.{entries_error}
+use Rattle.log_commands.specs.Laws.{ProofsAreProved}
 use Rattle.log_commands.specs.Outcomes.{proof_refusal, prove_under}
-use Rattle.log_commands.specs.declared.{error.Source.TheVariants.Checkpoint, verify.Print.Print}
+use Rattle.log_commands.specs.declared.error.Source.TheVariants.{Checkpoint}
+use Rattle.log_commands.specs.declared.verify.Print.{Print}
 use Rattle.log_commands.proofs.OutcomeFacts.{are_under, digest_is, first_under, none_of, ok_none, root_is, said_ok}
 use Rattle.log_commands.proofs.OutcomeFacts.{prints, stepped}
 use Rattle.log_commands.proofs.ProveFacts.{numbers_inside, within_size}

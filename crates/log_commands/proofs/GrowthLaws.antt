@@ -2,23 +2,31 @@
 use Rattle.std.proofs.Common.{◌≡◌, ◌≤◌, ◌<◌, ◌==◌, ◌∙◌, ℕ, zero, suc, List, [], ◌∷◌, ◌++◌, ap, arith, eq-eqb, inl, inr}
 use Rattle.std.proofs.Common.{length, length-append, refl, sym, subst, None, Some, Ok, Err, Option, map, ◌||◌, not}
 use Rattle.std.proofs.Common.{true, nat_le, le-leb, leb-true, ne_eqb, true≢false, append-nil, take_at}
-use Rattle.std.specs.{Cmp.Lexicographic.bytes_decides, Option.option_map}
-use Rattle.std.proofs.lemmas.{Bool.cases_eq, List.nil_from_length, List.length-map, List.Elements.All-nil}
+use Rattle.std.specs.Cmp.Lexicographic.{bytes_decides}
+use Rattle.std.specs.Option.{option_map}
+use Rattle.std.proofs.lemmas.Bool.{cases_eq}
+use Rattle.std.proofs.lemmas.List.{nil_from_length, length-map}
+use Rattle.std.proofs.lemmas.List.Elements.{All-nil}
 use Rattle.p3_merkle_core.specs.Refusals.{ok_unless, unless}
 use Rattle.p3_merkle_core.proofs.Pruned.NoneFacts.{map_none, none_parts, unless_none}
 use Rattle.sha2.specs.Sha256.{sha256}
 use Rattle.tlog.specs.Rfc9162.{leaf_hash, proof_of, root_of, Hash, consistency_proof, subproof_within}
 use Rattle.tlog.specs.Verdicts.{consistency_refusal, is_same, size_limit, IsConsistent}
 use Rattle.tlog.specs.declared.error.ProofError.{ProofError}
-use Rattle.tlog.proofs.{Accepted.consistency_accepted, Layers.itself, Roots.proof_few, Roots.AreFew}
+use Rattle.tlog.proofs.Accepted.{consistency_accepted}
+use Rattle.tlog.proofs.Layers.{itself}
+use Rattle.tlog.proofs.Roots.{proof_few, AreFew}
 use Rattle.tlog.proofs.Honest.{honest_grown, root_of_none, sub_whole}
 use Rattle.log_text.specs.Reading.{checkpoint_in, consistency_in}
 use Rattle.log_text.specs.Texts.{consistency_text, CheckpointFields, ConsistencyFields, IsConsistencyProof, IsDigest}
-use Rattle.log_text.proofs.{ProofLaws.consistency_proofs, NoteLaws.notes}
-use Rattle.log_commands.specs.{Laws.GrowthIsAccepted, Laws.GrowthIsProved, Outcomes.verify_consistency_outcome}
+use Rattle.log_text.proofs.ProofLaws.{consistency_proofs}
+use Rattle.log_text.proofs.NoteLaws.{notes}
+use Rattle.log_commands.specs.Laws.{GrowthIsAccepted, GrowthIsProved}
+use Rattle.log_commands.specs.Outcomes.{verify_consistency_outcome}
 use Rattle.log_commands.specs.Outcomes.{and_then, checkpoint_of, compared, consistency_refused, entries_under}
 use Rattle.log_commands.specs.Outcomes.{growth_digests, growth_refusal, growth_text, prove_growth, said_by}
-use Rattle.log_commands.specs.declared.error.{Error.TheVariants.Refused, Source.Source}
+use Rattle.log_commands.specs.declared.error.Error.TheVariants.{Refused}
+use Rattle.log_commands.specs.declared.error.Source.{Source}
 use Rattle.log_commands.specs.declared.error.Refusal.TheVariants.{Consistency, OtherOldEntries}
 use Rattle.log_commands.specs.declared.error.Source.TheVariants.{File, New, Old, Proof}
 use Rattle.log_commands.proofs.OutcomeFacts.{are_under, entries_root, first_under, ok_none, said_ok, stepped}

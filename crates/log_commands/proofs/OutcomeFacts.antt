@@ -6,33 +6,44 @@ use Rattle.std.proofs.Common.{All, slice_index, eqb-true, le-ltb, leb-true, leng
 use Rattle.std.proofs.lemmas.List.Elements.{All-append, All-cons, All-head, All-nil, All-tail, All-get_or}
 use Rattle.std.proofs.Common.{append-nil, ne_eqb}
 use Rattle.std.proofs.lemmas.Bool.{not-true, and_from, cases_eq}
-use Rattle.std.proofs.lemmas.List.{get_or-map, length-map, take_more, Sums.list_all-from_AllPass}
+use Rattle.std.proofs.lemmas.List.{get_or-map, length-map, take_more}
+use Rattle.std.proofs.lemmas.List.Sums.{list_all-from_AllPass}
 use Rattle.std.specs.Int.{byte_at, byte_len, bytes_high_first, to_be_bytes, w32}
-use Rattle.std.specs.{Cmp.Lexicographic.bytes_decides, List.concat, List.flat_map}
+use Rattle.std.specs.Cmp.Lexicographic.{bytes_decides}
+use Rattle.std.specs.List.{concat, flat_map}
 use Rattle.p3_merkle_core.proofs.Pruned.NoneFacts.{none_parts, unless_none}
 use Rattle.p3_merkle_core.specs.Refusals.{first_some, ok_unless, unless, first_of}
-use Rattle.tlog.{proofs.Roots.root_is as root_by, specs.Rfc9162.root_of, specs.Rfc9162.leaf_hash, specs.Rfc9162.mth}
+use Rattle.tlog.proofs.Roots.{root_is as root_by}
+use Rattle.tlog.specs.Rfc9162.{root_of, leaf_hash, mth}
 use Rattle.tlog.specs.Verdicts.{size_limit, is_same}
 use Rattle.tlog_tree.specs.Trees.{all_there}
 use Rattle.log_files.proofs.CutFiles.{block_is, entries_grow, lines_lack, no_entries, no_rest, rest_grows}
 use Rattle.log_files.specs.Entries.{entries_in, first_of as first_entries, is_refused, read_refusal, HoldsOfFile}
 use Rattle.log_files.specs.Entries.{partial_of, refuses, rest_of, entry_at, IsCut}
-use Rattle.log_files.specs.{Inner.Splitting.LacksFeed, declared.cut.Cut.Cut}
+use Rattle.log_files.specs.Inner.Splitting.{LacksFeed}
+use Rattle.log_files.specs.declared.cut.Cut.{Cut}
 use Rattle.log_files.specs.declared.cut.Cut.TheVariants.{Blocks as InBlocks, Lines as InLines}
-use Rattle.log_files.specs.declared.error.ReadError.{ReadError, TheVariants.EndsInsideLine, TheVariants.TooManyEntries}
+use Rattle.log_files.specs.declared.error.ReadError.{ReadError}
+use Rattle.log_files.specs.declared.error.ReadError.TheVariants.{EndsInsideLine, TooManyEntries}
 use Rattle.log_files.specs.declared.reading.ReadLog.{ReadLog}
-use Rattle.sha2.{proofs.Facts256.length-sha256, specs.Sha256.sha256, specs.Sha256.digest_bytes}
-use Rattle.log_text.{proofs.Base64Facts.all_bytes, specs.Texts.CheckpointFields, specs.Texts.IsDigest}
+use Rattle.sha2.proofs.Facts256.{length-sha256}
+use Rattle.sha2.specs.Sha256.{sha256, digest_bytes}
+use Rattle.log_text.proofs.Base64Facts.{all_bytes}
+use Rattle.log_text.specs.Texts.{CheckpointFields, IsDigest}
 use Rattle.log_text.specs.declared.error.TextError.{TextError}
 use Rattle.log_commands.specs.Outcomes.{and_then, bytes_from, entries_read, tree_refusal, checkpoint_of, cut_refusal}
 use Rattle.log_commands.specs.Laws.{BeginsWith, EndsWithEntry, EndWithEntries, FilesGrow, FitsCut}
-use Rattle.log_commands.specs.{Commands.HoldsOfInput, Commands.IsReadAs, Errors.read_error}
+use Rattle.log_commands.specs.Commands.{HoldsOfInput, IsReadAs}
+use Rattle.log_commands.specs.Errors.{read_error}
 use Rattle.log_commands.specs.Inner.{HasEntries, ReadsAs}
 use Rattle.log_commands.specs.Outcomes.{entries_under, said_by, is_printable}
-use Rattle.log_commands.specs.declared.error.Error.{Error, TheVariants.OutOfMemory, TheVariants.Refused}
+use Rattle.log_commands.specs.declared.error.Error.{Error}
+use Rattle.log_commands.specs.declared.error.Error.TheVariants.{OutOfMemory, Refused}
 use Rattle.log_commands.specs.declared.error.Refusal.TheVariants.{EndsInsideLine as InsideLine}
-use Rattle.log_commands.specs.declared.error.{Refusal.TheVariants.TooManyEntries as TooMany, Source.Source}
-use Rattle.log_commands.specs.declared.{error.Source.TheVariants.File, verify.Print.Print}
+use Rattle.log_commands.specs.declared.error.Refusal.TheVariants.{TooManyEntries as TooMany}
+use Rattle.log_commands.specs.declared.error.Source.{Source}
+use Rattle.log_commands.specs.declared.error.Source.TheVariants.{File}
+use Rattle.log_commands.specs.declared.verify.Print.{Print}
 use Rattle.log_commands.specs.declared.verify.Print.TheVariants.{Blocks, Lines, Raw}
 
 -- the bytes of which something holds

@@ -4,20 +4,32 @@ use Rattle.std.proofs.Common.{subst, sym, zip, Option, None, Some, Result, Ok, E
 use Rattle.std.proofs.Common.{All, filter, max, nat_le, nat_lt, leb-true, lt-ltb}
 use Rattle.std.proofs.Math.Nat.{le-max_right}
 use Rattle.std.proofs.lemmas.List.FromFn.{get_or-range_with_len, length-range_with_len}
-use Rattle.std.proofs.lemmas.{Bool.cases_Bool, List.get_or-map, List.length-map, List.Sums.list_all-from_AllPass}
-use Rattle.p3_merkle_core.specs.{Refusals.first_of, Geometry.levels, Pruning.boundary}
+use Rattle.std.proofs.lemmas.Bool.{cases_Bool}
+use Rattle.std.proofs.lemmas.List.{get_or-map, length-map}
+use Rattle.std.proofs.lemmas.List.Sums.{list_all-from_AllPass}
+use Rattle.p3_merkle_core.specs.Refusals.{first_of}
+use Rattle.p3_merkle_core.specs.Geometry.{levels}
+use Rattle.p3_merkle_core.specs.Pruning.{boundary}
 use Rattle.p3_merkle_core.proofs.Pruned.NoneFacts.{each_none, unless_none}
 use Rattle.sha2.specs.Sha256.{sha256}
-use Rattle.tlog.specs.{Rfc9162.Hash, Rfc9162.leaf_hash, Verdicts.size_limit}
+use Rattle.tlog.specs.Rfc9162.{Hash, leaf_hash}
+use Rattle.tlog.specs.Verdicts.{size_limit}
 use Rattle.tlog_tree.specs.Trees.{all_there, node_at, values_at}
-use Rattle.tlog_entries.specs.{Entries.is_node, Entries.proof_nodes, Instance.log_shape}
-use Rattle.log_text.specs.{Texts.CheckpointFields, Texts.EntryFields, Reading.checkpoint_in}
-use Rattle.log_files.specs.{Entries.entry_at, Entries.wanted_of, declared.cut.Cut.Cut, declared.reading.ReadLog.ReadLog}
+use Rattle.tlog_entries.specs.Entries.{is_node, proof_nodes}
+use Rattle.tlog_entries.specs.Instance.{log_shape}
+use Rattle.log_text.specs.Texts.{CheckpointFields, EntryFields}
+use Rattle.log_text.specs.Reading.{checkpoint_in}
+use Rattle.log_files.specs.Entries.{entry_at, wanted_of}
+use Rattle.log_files.specs.declared.cut.Cut.{Cut}
+use Rattle.log_files.specs.declared.reading.ReadLog.{ReadLog}
 use Rattle.log_text.proofs.NoteLaws.{notes}
-use Rattle.log_commands.specs.{Commands.AreNumbers, Commands.HoldsOfInput, Inner.entry_of, Inner.HasEntries}
-use Rattle.log_commands.specs.{Inner.ReadsAs, Outcomes.all_numbers}
+use Rattle.log_commands.specs.Commands.{AreNumbers, HoldsOfInput}
+use Rattle.log_commands.specs.Inner.{entry_of, HasEntries, ReadsAs}
+use Rattle.log_commands.specs.Outcomes.{all_numbers}
 use Rattle.log_commands.specs.Outcomes.{bytes_in, Gives, and_then, bytes_from, entries_under, number_refusal, said_by}
-use Rattle.log_commands.specs.declared.error.{Error.Error, Source.Source, Source.TheVariants.File}
+use Rattle.log_commands.specs.declared.error.Error.{Error}
+use Rattle.log_commands.specs.declared.error.Source.{Source}
+use Rattle.log_commands.specs.declared.error.Source.TheVariants.{File}
 use Rattle.log_commands.proofs.OutcomeFacts.{are_under, goes, said_ok, stepped, stops, whole}
 
 -- ---- entries under a checkpoint are as many as it has

@@ -5,8 +5,10 @@ use Rattle.std.proofs.Common.{append_assoc, drop, ◌-◌, take, take-append-dro
 use Rattle.std.proofs.KnownBytes.{Appends-kept, Appends-trans}
 use Rattle.std.specs.Io.KnownBytes.{Appends, Keeps, WriteAppends}
 use Rattle.log_commands.specs.Commands.{AreReadAs, EndsIn, bytes_of_parts}
-use Rattle.log_commands.specs.{Outcomes.bytes_in, Outcomes.Gives, Outcomes.and_then, declared.error.Error.Error}
-use Rattle.log_commands.specs.declared.error.{Error.TheVariants.OutOfMemory, Error.TheVariants.Read, Source.Source}
+use Rattle.log_commands.specs.Outcomes.{bytes_in, Gives, and_then}
+use Rattle.log_commands.specs.declared.error.Error.{Error}
+use Rattle.log_commands.specs.declared.error.Error.TheVariants.{OutOfMemory, Read}
+use Rattle.log_commands.specs.declared.error.Source.{Source}
 use Rattle.log_commands.specs.declared.error.Source.TheVariants.{Part}
 
 -- all parts are read

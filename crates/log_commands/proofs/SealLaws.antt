@@ -3,20 +3,32 @@ use Rattle.std.proofs.Common.{◌≡◌, ◌≤◌, ◌<◌, ◌+◌, ◌^◌, �
 use Rattle.std.proofs.Common.{get_or, inl, inr, length, map, refl, subst, sym, append-nil, None, Ok, All, true, false}
 use Rattle.std.proofs.Common.{nat_le, eqb-true, le-leb, leb-true, ne_eqb}
 use Rattle.std.specs.List.{concat, flat_map, range_with_len, sum}
-use Rattle.std.proofs.lemmas.{Bool.and_parts, Bool.cases_eq, List.length-map, List.map-append}
-use Rattle.std.proofs.lemmas.List.{Concat.length-flat_map, Elements.All-cons, Elements.All-map, Elements.All-nil}
-use Rattle.std.proofs.lemmas.List.{FromFn.get_or-range_with_len, FromFn.length-range_with_len, Sums.sum-map}
-use Rattle.std.{proofs.lemmas.Simd.map-map, specs.Int.is_power_of_two}
+use Rattle.std.proofs.lemmas.Bool.{and_parts, cases_eq}
+use Rattle.std.proofs.lemmas.List.{length-map, map-append}
+use Rattle.std.proofs.lemmas.List.Concat.{length-flat_map}
+use Rattle.std.proofs.lemmas.List.Elements.{All-cons, All-map, All-nil}
+use Rattle.std.proofs.lemmas.List.FromFn.{get_or-range_with_len, length-range_with_len}
+use Rattle.std.proofs.lemmas.List.Sums.{sum-map}
+use Rattle.std.proofs.lemmas.Simd.{map-map}
+use Rattle.std.specs.Int.{is_power_of_two}
 use Rattle.p3_merkle_core.proofs.Pruned.NoneFacts.{none_parts, range_none, unless_none}
-use Rattle.p3_merkle_core.{proofs.Shapes.LeastFacts.n_below_pow, specs.Refusals.ok_unless, specs.Refusals.unless}
+use Rattle.p3_merkle_core.proofs.Shapes.LeastFacts.{n_below_pow}
+use Rattle.p3_merkle_core.specs.Refusals.{ok_unless, unless}
 use Rattle.sha2.specs.Sha256.{sha256}
-use Rattle.tlog.{proofs.Powers.power_is, proofs.Powers.power_only, specs.Rfc9162.leaf_hash, specs.Rfc9162.root_of}
+use Rattle.tlog.proofs.Powers.{power_is, power_only}
+use Rattle.tlog.specs.Rfc9162.{leaf_hash, root_of}
 use Rattle.tlog.specs.Verdicts.{size_limit}
-use Rattle.tlog_tree.{proofs.Parts.root_is_of_parts, specs.Parts.HaveSize, specs.Trees.leaves_root}
+use Rattle.tlog_tree.proofs.Parts.{root_is_of_parts}
+use Rattle.tlog_tree.specs.Parts.{HaveSize}
+use Rattle.tlog_tree.specs.Trees.{leaves_root}
 use Rattle.tlog_entries.proofs.Leaves.{mth_map}
-use Rattle.log_text.proofs.{LineFacts.part_is_origin, NoteLaws.parts, NoteLaws.read_again}
-use Rattle.log_text.specs.{Lines.part_origin, Reading.part_in, Texts.checkpoint_text, Texts.IsDigest}
-use Rattle.log_files.specs.{Entries.entries_in, Entries.is_refused, Entries.IsCut, declared.cut.Cut.Cut}
+use Rattle.log_text.proofs.LineFacts.{part_is_origin}
+use Rattle.log_text.proofs.NoteLaws.{parts, read_again}
+use Rattle.log_text.specs.Lines.{part_origin}
+use Rattle.log_text.specs.Reading.{part_in}
+use Rattle.log_text.specs.Texts.{checkpoint_text, IsDigest}
+use Rattle.log_files.specs.Entries.{entries_in, is_refused, IsCut}
+use Rattle.log_files.specs.declared.cut.Cut.{Cut}
 use Rattle.log_commands.specs.Laws.{AreSealed, EndWithEntries, JoinsAreReadAgain, PartsJoin, Says, SealsAreReadAgain}
 use Rattle.log_commands.specs.Outcomes.{and_then, checkpoint_of, entries_read, is_part_size, join_outcome, join_refusal}
 use Rattle.log_commands.specs.Outcomes.{joined, part_refusal, parts_in, said_by, seal_outcome, sizes_refusal}

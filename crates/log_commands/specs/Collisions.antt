@@ -2,7 +2,8 @@
 use Rattle.std.specs.Prelude.{◌≡◌, ℕ, ◌-◌, ◌≤◌, List, length, take, flat_map, All, Option, is_some, Ok}
 use Rattle.log_text.specs.Reading.{checkpoint_in, entries_in as proof_in}
 use Rattle.log_text.specs.Texts.{EntriesFields, EntryFields}
-use Rattle.log_files.specs.{Entries.entries_in, Entries.entry_at, declared.cut.Cut.Cut}
+use Rattle.log_files.specs.Entries.{entries_in, entry_at}
+use Rattle.log_files.specs.declared.cut.Cut.{Cut}
 use Rattle.log_commands.specs.Outcomes.{checkpoint_of, printed, verify_consistency_outcome, verify_outcome}
 use Rattle.log_commands.specs.declared.verify.Print.{Print}
 

@@ -3,15 +3,19 @@ use Rattle.std.specs.Prelude.{◌≡◌, ◌⊎◌, ◌≤◌, ◌<◌, ◌+◌,
 use Rattle.std.specs.Prelude.{Some, IfSome, option_map, string_bytes, true, Result, Ok, Err}
 use Rattle.std.specs.Io.KnownBytes.{Appends}
 use Rattle.log_text.specs.Lines.{is_origin}
-use Rattle.log_files.specs.{Entries.IsCut, declared.cut.Cut.Cut}
+use Rattle.log_files.specs.Entries.{IsCut}
+use Rattle.log_files.specs.declared.cut.Cut.{Cut}
 use Rattle.log_commands.specs.Outcomes.{and_then, bytes_from, compared, join_outcome, numbers_under, prove_growth}
 use Rattle.log_commands.specs.Outcomes.{prove_under, requested, seal_outcome, verify_consistency_outcome}
 use Rattle.log_commands.specs.Outcomes.{verify_requested}
-use Rattle.log_commands.specs.declared.error.Error.{Error, TheVariants.OutOfMemory, TheVariants.Write}
+use Rattle.log_commands.specs.declared.error.Error.{Error}
+use Rattle.log_commands.specs.declared.error.Error.TheVariants.{OutOfMemory, Write}
 use Rattle.log_commands.specs.declared.error.Source.TheVariants.{Checkpoint, File, New, Old, Part, Proof}
-use Rattle.log_commands.specs.declared.command.Command.{Command, TheVariants.Join, TheVariants.Prove}
+use Rattle.log_commands.specs.declared.command.Command.{Command}
+use Rattle.log_commands.specs.declared.command.Command.TheVariants.{Join, Prove}
 use Rattle.log_commands.specs.declared.command.Command.TheVariants.{ProveConsistency, Seal, Verify, VerifyConsistency}
-use Rattle.log_commands.specs.declared.verify.Print.{Print, TheVariants.Blocks, TheVariants.Lines, TheVariants.Raw}
+use Rattle.log_commands.specs.declared.verify.Print.{Print}
+use Rattle.log_commands.specs.declared.verify.Print.TheVariants.{Blocks, Lines, Raw}
 use Rattle.log_commands.specs.declared.verify.Requested.{Requested}
 use Rattle.log_commands.specs.declared.verify.Requested.TheVariants.{All as AllEntries, Numbers}
 

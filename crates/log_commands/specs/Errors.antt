@@ -5,11 +5,13 @@ use Rattle.log_files.specs.declared.error.ReadError.TheVariants.{EndsInsideLine,
 use Rattle.log_files.specs.declared.error.ReadError.TheVariants.{Read as FailedRead, TooManyEntries}
 use Rattle.log_text.specs.declared.error.TextError.{TextError}
 use Rattle.log_text.specs.declared.error.TextError.TheVariants.{Line as WrongLine, OutOfMemory as NoTextMemory}
-use Rattle.tlog_entries.specs.declared.error.EntriesError.{EntriesError, TheVariants.OutOfMemory as NoEntriesMemory}
-use Rattle.log_commands.specs.declared.error.Error.{Error, TheVariants.OutOfMemory, TheVariants.Read}
-use Rattle.log_commands.specs.declared.error.{Error.TheVariants.Refused, Refusal.TheVariants.CheckpointLine}
+use Rattle.tlog_entries.specs.declared.error.EntriesError.{EntriesError}
+use Rattle.tlog_entries.specs.declared.error.EntriesError.TheVariants.{OutOfMemory as NoEntriesMemory}
+use Rattle.log_commands.specs.declared.error.Error.{Error}
+use Rattle.log_commands.specs.declared.error.Error.TheVariants.{OutOfMemory, Read, Refused}
+use Rattle.log_commands.specs.declared.error.Refusal.TheVariants.{CheckpointLine, TooManyEntries as TooMany}
 use Rattle.log_commands.specs.declared.error.Refusal.TheVariants.{EndsInsideLine as InsideLine, Entries, Line}
-use Rattle.log_commands.specs.declared.error.{Refusal.TheVariants.TooManyEntries as TooMany, Source.Source}
+use Rattle.log_commands.specs.declared.error.Source.{Source}
 use Rattle.log_commands.specs.declared.error.Source.TheVariants.{Checkpoint, File, New, Old, Part, Proof}
 
 -- 2 for a wrong line of a checkpoint or part, 1 for any other refusal, 2 for what is no refusal

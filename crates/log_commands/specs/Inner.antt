@@ -5,10 +5,15 @@ use Rattle.sha2.specs.Sha256.{sha256}
 use Rattle.tlog.specs.Rfc9162.{leaf_hash, root_of}
 use Rattle.tlog_tree.specs.Builders.{IsBuilderOf}
 use Rattle.tlog_entries.specs.Entries.{entries_refusal}
-use Rattle.log_text.specs.{Reading.checkpoint_in, Texts.EntriesFields, Texts.EntryFields}
-use Rattle.log_files.specs.{Entries.entry_at, Entries.wanted_of, declared.cut.Cut.Cut, declared.reading.ReadLog.ReadLog}
+use Rattle.log_text.specs.Reading.{checkpoint_in}
+use Rattle.log_text.specs.Texts.{EntriesFields, EntryFields}
+use Rattle.log_files.specs.Entries.{entry_at, wanted_of}
+use Rattle.log_files.specs.declared.cut.Cut.{Cut}
+use Rattle.log_files.specs.declared.reading.ReadLog.{ReadLog}
 use Rattle.log_commands.specs.Outcomes.{and_then, bytes_in, entries_under, said_by}
-use Rattle.log_commands.specs.declared.error.{Error.Error, Error.TheVariants.OutOfMemory, Source.Source}
+use Rattle.log_commands.specs.declared.error.Error.{Error}
+use Rattle.log_commands.specs.declared.error.Error.TheVariants.{OutOfMemory}
+use Rattle.log_commands.specs.declared.error.Source.{Source}
 
 -- an error says that memory ran out
 abbrev pub IsMemory : Error → Type 0

@@ -3,14 +3,17 @@ use Rattle.std.specs.Prelude.{◌≡◌, ◌≢◌, ◌↔◌, ℕ, ◌-◌, ◌
 use Rattle.std.specs.Prelude.{flat_map, map, Option, None, Some, Ok}
 use Rattle.std.specs.List.{concat}
 use Rattle.tlog_tree.specs.Parts.{HaveSize}
-use Rattle.log_text.specs.{Lines.is_origin, Lines.part_origin, Reading.checkpoint_in, Reading.part_in}
+use Rattle.log_text.specs.Lines.{is_origin, part_origin}
+use Rattle.log_text.specs.Reading.{checkpoint_in, part_in}
 use Rattle.log_text.specs.Texts.{CheckpointFields, EntryFields}
 use Rattle.log_files.specs.Entries.{entries_in, entry_at, rest_of, IsCut}
-use Rattle.log_files.specs.declared.cut.Cut.{Cut, TheVariants.Blocks as InBlocks, TheVariants.Lines as InLines}
+use Rattle.log_files.specs.declared.cut.Cut.{Cut}
+use Rattle.log_files.specs.declared.cut.Cut.TheVariants.{Blocks as InBlocks, Lines as InLines}
 use Rattle.log_commands.specs.Commands.{prove_file, prove_file_growth, AreNumbers}
 use Rattle.log_commands.specs.Outcomes.{checkpoint_of, join_outcome, joined, numbers_refusal, parts_in, printed}
 use Rattle.log_commands.specs.Outcomes.{seal_outcome, verify_consistency_outcome, verify_outcome}
-use Rattle.log_commands.specs.declared.verify.Print.{Print, TheVariants.Blocks, TheVariants.Lines, TheVariants.Raw}
+use Rattle.log_commands.specs.declared.verify.Print.{Print}
+use Rattle.log_commands.specs.declared.verify.Print.TheVariants.{Blocks, Lines, Raw}
 
 -- ---- files and checkpoints
 

@@ -2,7 +2,9 @@
 use Rattle.std.specs.Prelude.{◌≡◌, ◌⊎◌, ℕ, ◌+◌, ◌-◌, ◌==◌, ◌&&◌, max, nat_le, not, MatchResult, Vec, ◌||◌, Bool, true}
 use Rattle.std.specs.Prelude.{false, is_some, if◌then◌else◌, List, [], ◌∷◌, ◌++◌, length, map, flat_map, decimal}
 use Rattle.std.specs.Prelude.{slice_index, Option, None, Some, option_map, Result, Ok, Err}
-use Rattle.std.specs.{Global.Global, Int.is_power_of_two, List.list_all, List.range_with_len, List.sum}
+use Rattle.std.specs.Global.{Global}
+use Rattle.std.specs.Int.{is_power_of_two}
+use Rattle.std.specs.List.{list_all, range_with_len, sum}
 use Rattle.sha2.specs.Sha256.{sha256}
 use Rattle.p3_merkle_core.specs.Refusals.{first_of, first_some, ok_unless, unless}
 use Rattle.tlog.specs.Rfc9162.{leaf_hash, proof_of, root_of}
@@ -11,7 +13,8 @@ use Rattle.tlog_tree.specs.Trees.{leaves_root, node_at}
 use Rattle.tlog_entries.specs.Entries.{entries_refusal, proof_nodes}
 use Rattle.log_text.specs.Reading.{checkpoint_in, consistency_in, entries_in as proof_in, part_in}
 use Rattle.log_text.specs.Texts.{CheckpointFields, ConsistencyFields, EntriesFields, EntryFields, checkpoint_text}
-use Rattle.log_text.specs.{Texts.consistency_text, Texts.entries_text, declared.error.TextError.TextError}
+use Rattle.log_text.specs.Texts.{consistency_text, entries_text}
+use Rattle.log_text.specs.declared.error.TextError.{TextError}
 use Rattle.log_files.specs.Entries.{entries_in, entry_at, first_of as first_entries, is_refused}
 use Rattle.log_files.specs.declared.cut.Cut.{Cut}
 use Rattle.log_commands.specs.Errors.{checkpoint_error, entries_error, text_error}
@@ -22,9 +25,11 @@ use Rattle.log_commands.specs.declared.error.Refusal.TheVariants.{MissingEntry, 
 use Rattle.log_commands.specs.declared.error.Refusal.TheVariants.{OtherNumber, OtherOldEntries, OtherOldSize}
 use Rattle.log_commands.specs.declared.error.Refusal.TheVariants.{OtherOrigin, PartSize, SmallerSize, TooFewEntries}
 use Rattle.log_commands.specs.declared.error.Refusal.TheVariants.{TooManyEntries, TooManyNumbers, TwoHistories}
-use Rattle.log_commands.specs.declared.error.{Refusal.TheVariants.UnrequestedEntry, Source.Source}
+use Rattle.log_commands.specs.declared.error.Refusal.TheVariants.{UnrequestedEntry}
+use Rattle.log_commands.specs.declared.error.Source.{Source}
 use Rattle.log_commands.specs.declared.error.Source.TheVariants.{Checkpoint, File, New, Old, Part, Proof}
-use Rattle.log_commands.specs.declared.verify.Print.{Print, TheVariants.Blocks, TheVariants.Lines, TheVariants.Raw}
+use Rattle.log_commands.specs.declared.verify.Print.{Print}
+use Rattle.log_commands.specs.declared.verify.Print.TheVariants.{Blocks, Lines, Raw}
 use Rattle.log_commands.specs.declared.verify.Requested.{Requested}
 use Rattle.log_commands.specs.declared.verify.Requested.TheVariants.{All, Any, Numbers}
 

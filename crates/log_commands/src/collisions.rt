@@ -2,13 +2,15 @@
 
 ghost use Rattle.std.specs.Prelude.{◌≡◌, ◌⊎◌, ◌↔◌, ℕ, List, [], All, IfErr, IfOk, IfSome, IsNone, Err, None, Ok, map};
 ghost use Rattle.sha2.specs.Sha256.{sha256};
-ghost use Rattle.tlog.specs.{Collisions.IsCollision, Collisions.entries_of, Rfc9162.leaf_hash};
+ghost use Rattle.tlog.specs.Collisions.{IsCollision, entries_of};
+ghost use Rattle.tlog.specs.Rfc9162.{leaf_hash};
 ghost use Rattle.log_files.specs.Entries.{IsCut};
 ghost use Rattle.log_text.specs.Texts.{checkpoint_fields, entries_fields, entry_fields};
 ghost use Rattle.log_commands.specs.Collisions.{AreEntriesOfFile, BeginsWithOldFile, IsCheckpointOfFile, IsEntryOf};
 ghost use Rattle.log_commands.specs.Inner.{AreProved, HasLeafIn, ReadsAs, entries_by};
 ghost use Rattle.log_commands.specs.Outcomes.{Gives, entries_under, verify_consistency_outcome, verify_outcome};
-ghost use Rattle.log_commands.specs.declared.{error.Error.TheVariants.OutOfMemory, verify.Print.TheVariants.Raw};
+ghost use Rattle.log_commands.specs.declared.error.Error.TheVariants.{OutOfMemory};
+ghost use Rattle.log_commands.specs.declared.verify.Print.TheVariants.{Raw};
 
 use crate::error::{Error, Source};
 use crate::inputs::{parse_checkpoint, parse_consistency_proof, parse_entries_proof, read_under};

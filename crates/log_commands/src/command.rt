@@ -3,8 +3,10 @@
 ghost use Rattle.std.specs.Prelude.{◌≡◌, ◌⊎◌, Decides, Err, IfErr, List, Ok, OnErr, Result, map, option_map, ℕ};
 ghost use Rattle.log_files.specs.Entries.{IsCut};
 ghost use Rattle.log_commands.specs.Commands.{AreNumbers, EndsIn, HasOutcome, HoldsOfInputs, IsLawful, IsPrint};
-ghost use Rattle.log_commands.specs.{Commands.bytes_of_parts, Outcomes.bytes_in, Outcomes.Gives};
-ghost use Rattle.log_commands.specs.declared.error.Error.{Error, TheVariants.Write as FailedWrite};
+ghost use Rattle.log_commands.specs.Commands.{bytes_of_parts};
+ghost use Rattle.log_commands.specs.Outcomes.{bytes_in, Gives};
+ghost use Rattle.log_commands.specs.declared.error.Error.{Error};
+ghost use Rattle.log_commands.specs.declared.error.Error.TheVariants.{Write as FailedWrite};
 
 use crate::error::{Error, Source};
 use crate::inputs::read_text;

@@ -3,11 +3,13 @@
 
 ghost use Rattle.std.specs.Prelude.{◌≡◌, ◌⊎◌, ℕ, ◌≤◌, List, IfErr, IfOk, Some, length};
 ghost use Rattle.sha2.specs.Sha256.{sha256};
-ghost use Rattle.tlog.specs.{Rfc9162.root_of, Verdicts.size_limit};
+ghost use Rattle.tlog.specs.Rfc9162.{root_of};
+ghost use Rattle.tlog.specs.Verdicts.{size_limit};
 ghost use Rattle.log_files.specs.Entries.{IsCut};
 ghost use Rattle.log_text.specs.Reading.{checkpoint_in, consistency_in, entries_in};
 ghost use Rattle.log_text.specs.Texts.{checkpoint_fields, consistency_fields, entries_fields};
-ghost use Rattle.tlog_tree.specs.{Builders.IsBuilderOf, Trees.all_there, Trees.values_at};
+ghost use Rattle.tlog_tree.specs.Builders.{IsBuilderOf};
+ghost use Rattle.tlog_tree.specs.Trees.{all_there, values_at};
 ghost use Rattle.log_commands.specs.{Commands.HoldsOfInput, Commands.IsReadAs};
 ghost use Rattle.log_commands.specs.Inner.{Checks, HasEntries, ReadsAs};
 ghost use Rattle.log_commands.specs.Outcomes.{and_then, bytes_from, entries_read, entries_under, Gives, growth_refusal};

@@ -6,7 +6,8 @@ ghost use Rattle.std.specs.List.{sum};
 ghost use Rattle.tlog.specs.Verdicts.{size_limit};
 ghost use Rattle.tlog_tree.specs.Trees.{leaves_root};
 ghost use Rattle.sha2.specs.Sha256.{sha256};
-ghost use Rattle.log_commands.specs.{Inner.Checks, Inner.IsMemory, Outcomes.bytes_in};
+ghost use Rattle.log_commands.specs.Inner.{Checks, IsMemory};
+ghost use Rattle.log_commands.specs.Outcomes.{bytes_in};
 ghost use Rattle.log_commands.specs.Outcomes.{Gives, is_part_size, join_outcome, join_refusal, parts_in, sizes_refusal};
 
 use crate::error::{Error, Refusal, Source, text_error};

@@ -1,7 +1,6 @@
 //! Proves entries of a file.
 
-ghost use Rattle.std.specs.Prelude.{◌≡◌, ℕ, ◌-◌, ◌≤◌, List, length, All, Err, IfOk, IfSome};
-ghost use Rattle.std.specs.Prelude.{map, option_map, zip};
+ghost use Rattle.std.specs.Prelude.{◌≡◌, ℕ, ◌-◌, ◌≤◌, List, length, All, Err, IfOk, IfSome, map, option_map, zip};
 ghost use Rattle.p3_merkle_core.specs.Refusals.{first_of};
 ghost use Rattle.tlog.specs.Verdicts.{size_limit};
 ghost use Rattle.tlog_entries.specs.Entries.{proof_nodes};
@@ -11,7 +10,8 @@ ghost use Rattle.log_commands.specs.{Commands.AreNumbers, Commands.HoldsOfInput}
 ghost use Rattle.log_commands.specs.Inner.{Checks, entry_of, HasEntries};
 ghost use Rattle.log_commands.specs.Outcomes.{all_numbers, and_then, bytes_from, bytes_in, Gives, number_refusal};
 ghost use Rattle.log_commands.specs.Outcomes.{numbers_under, proof_over, prove_under, requested};
-ghost use Rattle.log_commands.specs.declared.error.{Error.Error, Source.TheVariants.File};
+ghost use Rattle.log_commands.specs.declared.error.Error.{Error};
+ghost use Rattle.log_commands.specs.declared.error.Source.TheVariants.{File};
 
 use crate::error::{Error, Refusal, Source};
 use crate::inputs::{digests_of, parse_checkpoint, read_under};

@@ -6,9 +6,12 @@ ghost use Rattle.tlog.specs.Rfc9162.{leaf_hash};
 ghost use Rattle.tlog_tree.specs.Trees.{all_there, values_at};
 ghost use Rattle.log_files.specs.Entries.{IsCut};
 ghost use Rattle.log_text.specs.Texts.{checkpoint_fields};
-ghost use Rattle.log_commands.specs.{Commands.HoldsOfInput, Inner.HasEntries, Outcomes.and_then, Outcomes.bytes_from};
+ghost use Rattle.log_commands.specs.Commands.{HoldsOfInput};
+ghost use Rattle.log_commands.specs.Inner.{HasEntries};
+ghost use Rattle.log_commands.specs.Outcomes.{and_then, bytes_from};
 ghost use Rattle.log_commands.specs.Outcomes.{bytes_in, compared, growth_digests, Gives, growth_text, prove_growth};
-ghost use Rattle.log_commands.specs.declared.error.{Error.Error, Source.TheVariants.File};
+ghost use Rattle.log_commands.specs.declared.error.Error.{Error};
+ghost use Rattle.log_commands.specs.declared.error.Source.TheVariants.{File};
 
 use crate::error::{Error, Refusal, Source};
 use crate::inputs::{check_growth, digests_of, parse_checkpoint, read_under};

@@ -1,7 +1,8 @@
 //! Seals a file.
 
 ghost use Rattle.log_files.specs.Entries.{IsCut};
-ghost use Rattle.log_commands.specs.{Commands.HoldsOfInput, Commands.seal_file, Outcomes.bytes_in, Outcomes.Gives};
+ghost use Rattle.log_commands.specs.Commands.{HoldsOfInput, seal_file};
+ghost use Rattle.log_commands.specs.Outcomes.{bytes_in, Gives};
 
 use crate::error::Error;
 use crate::inputs::{read_file, size_and_root};

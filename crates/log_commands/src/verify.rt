@@ -3,7 +3,8 @@
 ghost use Rattle.std.specs.Prelude.{◌≡◌, ◌≤◌, ◌-◌, ◌++◌, ℕ, IfOk, OnOk, Some, flat_map, is_some, map};
 ghost use Rattle.sha2.specs.Sha256.{sha256};
 ghost use Rattle.p3_merkle_core.specs.Refusals.{first_of};
-ghost use Rattle.tlog.specs.{Rfc9162.leaf_hash as leaf_hash_by, Verdicts.size_limit};
+ghost use Rattle.tlog.specs.Rfc9162.{leaf_hash as leaf_hash_by};
+ghost use Rattle.tlog.specs.Verdicts.{size_limit};
 ghost use Rattle.log_text.specs.Texts.{checkpoint_fields, entries_fields, entry_fields};
 ghost use Rattle.log_commands.specs.Inner.{Checks, ChecksUnlessMemory};
 ghost use Rattle.log_commands.specs.Outcomes.{bytes_in, entry_refusal, Gives, is_printable, numbers_in};

@@ -1,6 +1,7 @@
 //! Verifies that a log of a new checkpoint begins with the entries of an old one.
 
-ghost use Rattle.log_text.specs.{Reading.checkpoint_in, Texts.checkpoint_fields};
+ghost use Rattle.log_text.specs.Reading.{checkpoint_in};
+ghost use Rattle.log_text.specs.Texts.{checkpoint_fields};
 ghost use Rattle.log_commands.specs.Inner.{Checks};
 ghost use Rattle.log_commands.specs.Outcomes.{bytes_in, consistency_refused, Gives, said_inside};
 ghost use Rattle.log_commands.specs.Outcomes.{verify_consistency_outcome};

@@ -2,13 +2,17 @@
 use Rattle.std.proofs.Common.{◌≡◌, ℕ, zero, suc, ◌+◌, ◌*◌, ◌/◌, ◌<◌, ◌==◌, List, [], ◌∷◌, ◌++◌, length, map, take, drop}
 use Rattle.std.proofs.Common.{refl, sym, ap, ◌∙◌, arith, length-append, Bor, All, append_assoc, append-nil}
 use Rattle.std.proofs.lemmas.List.Elements.{All-append, All-cons, All-head, All-nil, All-tail}
-use Rattle.std.proofs.Math.{Nat.add-div_left, Nat.add-mul, Nat.zero-mul, Seq.take-append_seam, Seq.drop-append-add}
+use Rattle.std.proofs.Math.Nat.{add-div_left, add-mul, zero-mul}
+use Rattle.std.proofs.Math.Seq.{take-append_seam, drop-append-add}
 use Rattle.std.proofs.lemmas.List.Splits.{length-slice_split, slice_split_at, slice_split_none}
-use Rattle.std.{proofs.lemmas.Nat.div-mul-add, specs.List.range_with_len}
+use Rattle.std.proofs.lemmas.Nat.{div-mul-add}
+use Rattle.std.specs.List.{range_with_len}
 use Rattle.log_files.specs.Entries.{all_but_last, block_of, last_entry, last_of, pieces_of, rest_of, whole_entries}
 use Rattle.log_files.specs.Inner.Splitting.{ending, IsOpen, IsWhole, LacksFeed, joined, AreAtHead, IsCutAt}
-use Rattle.log_files.specs.{Entries.IsCut, Entries.entries_in, Entries.partial_of, declared.cut.Cut.Cut}
-use Rattle.log_files.specs.declared.cut.{Cut.TheVariants.Lines, Cut.TheVariants.Blocks, PartialLine.PartialLine}
+use Rattle.log_files.specs.Entries.{IsCut, entries_in, partial_of}
+use Rattle.log_files.specs.declared.cut.Cut.{Cut}
+use Rattle.log_files.specs.declared.cut.Cut.TheVariants.{Lines, Blocks}
+use Rattle.log_files.specs.declared.cut.PartialLine.{PartialLine}
 use Rattle.log_files.specs.declared.cut.PartialLine.TheVariants.{Include, LeaveOut, Refuse}
 
 -- the bytes of an entry that stands in a buffer

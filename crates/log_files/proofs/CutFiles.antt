@@ -2,12 +2,14 @@
 -- and blocks have their size.
 use Rattle.std.proofs.Common.{◌≡◌, ◌≤◌, ◌<◌, ◌+◌, ◌-◌, ◌==◌, ◌∙◌, ℕ, List, [], ◌∷◌, ◌++◌, ap, arith, eq-eqb, inl, inr}
 use Rattle.std.proofs.Common.{length, refl, sym, subst, append_assoc, append-nil, length-append, false, All, ne_eqb}
-use Rattle.std.proofs.lemmas.Bool.{cases_eq, cases_lt, Decides.eqb_tells}
+use Rattle.std.proofs.lemmas.Bool.{cases_eq, cases_lt}
+use Rattle.std.proofs.lemmas.Bool.Decides.{eqb_tells}
 use Rattle.std.proofs.lemmas.List.{get_or-append_right, get_or_append_left}
 use Rattle.std.proofs.lemmas.List.Elements.{All-append, All-cons, All-get_or, All-nil, All-push}
 use Rattle.log_files.specs.Entries.{entries_in, entry_at, last_entry, partial_of, rest_of, whole_entries, IsCut}
 use Rattle.log_files.specs.Inner.Splitting.{ending, IsCutAt, IsWhole, LacksFeed}
-use Rattle.log_files.specs.declared.cut.Cut.{Cut, TheVariants.Blocks as InBlocks, TheVariants.Lines as InLines}
+use Rattle.log_files.specs.declared.cut.Cut.{Cut}
+use Rattle.log_files.specs.declared.cut.Cut.TheVariants.{Blocks as InBlocks, Lines as InLines}
 use Rattle.log_files.specs.declared.cut.PartialLine.{PartialLine}
 use Rattle.log_files.specs.declared.cut.PartialLine.TheVariants.{Include, LeaveOut, Refuse}
 use Rattle.log_files.proofs.CutFacts.{cut_end, cut_more, cut_none, entries_are, rest_is}

@@ -3,21 +3,29 @@ use Rattle.std.proofs.Common.{if◌then◌else◌, length-append, append_assoc, 
 use Rattle.std.proofs.Common.{nat_le, nat_lt, Option, false, arith, subst, ◌++◌, List, Bool, true, refl, take, None, []}
 use Rattle.std.proofs.Common.{Some, ◌≡◌, ◌⊎◌, ◌∙◌, ◌+◌, ◌-◌, ◌^◌, ◌<◌, ◌≤◌, inl, inr, map, sym, ap, unwrap_or, le-leb}
 use Rattle.std.proofs.Common.{ltb-true, ⊎_elim, ◌==◌, ◌&&◌, not, take_all, lt-ltb}
-use Rattle.std.proofs.lemmas.{Bool.lt-leb, Bool.cases_lt, List.length-map, List.map-append}
+use Rattle.std.proofs.lemmas.Bool.{lt-leb, cases_lt}
+use Rattle.std.proofs.lemmas.List.{length-map, map-append}
 use Rattle.std.specs.Io.KnownBytes.{Consumes, IsAtEnd}
 use Rattle.sha2.specs.Sha256.{sha256}
-use Rattle.tlog.specs.{Rfc9162.leaf_hash, Verdicts.size_limit}
-use Rattle.tlog_tree.specs.{Builders.IsBuilderOf, declared.builder.TreeBuilder.TreeBuilder}
+use Rattle.tlog.specs.Rfc9162.{leaf_hash}
+use Rattle.tlog.specs.Verdicts.{size_limit}
+use Rattle.tlog_tree.specs.Builders.{IsBuilderOf}
+use Rattle.tlog_tree.specs.declared.builder.TreeBuilder.{TreeBuilder}
 use Rattle.tlog_tree.specs.declared.error.TreeError.{TreeError}
 use Rattle.tlog_tree.specs.declared.error.TreeError.TheVariants.{SizeTooLarge, OutOfMemory as NoTreeMemory}
 use Rattle.log_files.specs.Entries.{entries_in, is_refused, read_refusal, wanted_of, first_of, is_short, partial_of}
 use Rattle.log_files.specs.Inner.Splitting.{AreAll, AreTooMany, HasBuilt, HasGrown, ReadsTooMany}
-use Rattle.log_files.specs.{Entries.refuses, Entries.rest_of, Entries.HoldsOfFile, Errors.read_error_of}
-use Rattle.log_files.specs.{Inner.Wanted.HoldsWanted, Logs.IsLogOf, declared.cut.Cut.Cut}
+use Rattle.log_files.specs.Entries.{refuses, rest_of, HoldsOfFile}
+use Rattle.log_files.specs.Errors.{read_error_of}
+use Rattle.log_files.specs.Inner.Wanted.{HoldsWanted}
+use Rattle.log_files.specs.Logs.{IsLogOf}
+use Rattle.log_files.specs.declared.cut.Cut.{Cut}
 use Rattle.log_files.specs.declared.error.ReadError.{ReadError}
 use Rattle.log_files.specs.declared.error.ReadError.TheVariants.{EndsInsideLine, OutOfMemory, TooManyEntries}
-use Rattle.log_files.specs.declared.{error.ReadError.TheVariants.Read as FailedRead, reading.ReadLog.ReadLog}
-use Rattle.log_files.specs.declared.{splitter.Splitter.Splitter, wanted.WantedEntries.WantedEntries}
+use Rattle.log_files.specs.declared.error.ReadError.TheVariants.{Read as FailedRead}
+use Rattle.log_files.specs.declared.reading.ReadLog.{ReadLog}
+use Rattle.log_files.specs.declared.splitter.Splitter.{Splitter}
+use Rattle.log_files.specs.declared.wanted.WantedEntries.{WantedEntries}
 
 -- why a file is not read, by two tests
 abbrev pub refusal_of : Bool → Bool → Option ReadError

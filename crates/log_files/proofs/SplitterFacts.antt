@@ -2,17 +2,22 @@
 use Rattle.std.proofs.Common.{◌≡◌, ◌∙◌, ◌∷◌, ◌++◌, ◌<◌, ◌==◌, [], ℕ, List, ap, append-nil, append_assoc, arith, length}
 use Rattle.std.proofs.Common.{eqb-true, map, length-append, refl, subst, sym, true, length-take, ◌^◌, ◌≤◌, false, not}
 use Rattle.std.proofs.Common.{if◌then◌else◌, take, Some, take_all, le-ltb, lt-ltb, ne_eqb}
-use Rattle.std.proofs.lemmas.{Bool.and_from, Bool.and_left, Bool.and_right, List.take-append-le, List.Elements.All-head}
+use Rattle.std.proofs.lemmas.Bool.{and_from, and_left, and_right}
+use Rattle.std.proofs.lemmas.List.{take-append-le}
+use Rattle.std.proofs.lemmas.List.Elements.{All-head}
 use Rattle.sha2.specs.Sha256.{sha256}
 use Rattle.tlog.specs.Rfc9162.{leaf_hash}
 use Rattle.log_files.specs.Entries.{IsCut, entries_in, is_refused, last_entry, partial_of, refuses, rest_of}
 use Rattle.log_files.specs.Inner.Splitting.{IsWhole, ending, joined, AreAtHead, HasRead, Holds, IsAt, IsCutAt, IsOpen}
 use Rattle.log_files.specs.Inner.Splitting.{IsReady, AreAll, AreTooMany}
-use Rattle.log_files.specs.{Inner.Wanted.HasPlaces, Inner.Wanted.HoldsWanted, declared.cut.Cut.Cut}
+use Rattle.log_files.specs.Inner.Wanted.{HasPlaces, HoldsWanted}
+use Rattle.log_files.specs.declared.cut.Cut.{Cut}
 use Rattle.log_files.specs.declared.cut.PartialLine.TheVariants.{Include, LeaveOut, Refuse}
-use Rattle.log_files.specs.declared.{splitter.Splitter.Splitter, wanted.WantedEntries.WantedEntries}
+use Rattle.log_files.specs.declared.splitter.Splitter.{Splitter}
+use Rattle.log_files.specs.declared.wanted.WantedEntries.{WantedEntries}
 use Rattle.log_files.proofs.CutFacts.{cut_end, cut_more, cut_whole, fewer_left, none_open, entries_are, rest_is}
-use Rattle.log_files.{proofs.CutFacts.no_last, specs.Entries.whole_entries}
+use Rattle.log_files.proofs.CutFacts.{no_last}
+use Rattle.log_files.specs.Entries.{whole_entries}
 
 pub none_of : (bytes : List ℕ) → (length bytes == 0) ≡ true → bytes ≡ []
 none_of [] none = refl

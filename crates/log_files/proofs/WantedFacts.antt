@@ -2,15 +2,21 @@
 use Rattle.std.proofs.Common.{zero, if◌then◌else◌, slice_get, ext_get_or, get_or-set_other, get_or-set_same, length-set}
 use Rattle.std.proofs.Common.{Bool, true, false, List, ◌++◌, length, drop, get_or, arith, subst, nat_lt, le-ltb, lt-ltb}
 use Rattle.std.proofs.Common.{◌≡◌, ℕ, suc, ◌+◌, ◌<◌, ◌≤◌, [], ◌∷◌, map, set, refl, sym, ap, ◌∙◌, inl, inr, Some}
-use Rattle.std.specs.List.{list_all, range_with_len, Contains, Sorted.IsPermutation, Sorted.IsSorted}
+use Rattle.std.specs.List.{list_all, range_with_len, Contains}
+use Rattle.std.specs.List.Sorted.{IsPermutation, IsSorted}
 use Rattle.std.specs.Ordering.{nat_cmp, is_lt, ordering_then}
-use Rattle.std.specs.declared.cmp.Ordering.{Ordering, TheVariants.Less, TheVariants.Equal, TheVariants.Greater}
-use Rattle.std.proofs.lemmas.{Bool.cases_eq, List.get_or-map, List.get_or_default, List.length-map}
-use Rattle.std.proofs.lemmas.List.{Folds.list_all_at, Sums.list_all-from_AllPass}
+use Rattle.std.specs.declared.cmp.Ordering.{Ordering}
+use Rattle.std.specs.declared.cmp.Ordering.TheVariants.{Less, Equal, Greater}
+use Rattle.std.proofs.lemmas.Bool.{cases_eq}
+use Rattle.std.proofs.lemmas.List.{get_or-map, get_or_default, length-map}
+use Rattle.std.proofs.lemmas.List.Folds.{list_all_at}
+use Rattle.std.proofs.lemmas.List.Sums.{list_all-from_AllPass}
 use Rattle.std.proofs.lemmas.List.Sorted.{length_permutation, All-permutation, Contains-permutation}
-use Rattle.std.proofs.lemmas.List.{Sorted.IsNonDecreasingBy-from_sort, Elements.All-head, Elements.All-tail}
+use Rattle.std.proofs.lemmas.List.Sorted.{IsNonDecreasingBy-from_sort}
+use Rattle.std.proofs.lemmas.List.Elements.{All-head, All-tail}
 use Rattle.std.proofs.lemmas.List.FromFn.{get_or-map-range_with_len, length-map-range_with_len, map-range_with_len_more}
-use Rattle.log_files.specs.{Entries.entry_at, Entries.wanted_of, declared.wanted.WantedEntries.WantedEntries}
+use Rattle.log_files.specs.Entries.{entry_at, wanted_of}
+use Rattle.log_files.specs.declared.wanted.WantedEntries.{WantedEntries}
 use Rattle.log_files.specs.Inner.Wanted.{IsOwn, place_of, places_of, HoldsWanted, IsAscending, IsCopied, IsKept}
 
 -- ---- sorted places

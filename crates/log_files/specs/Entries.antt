@@ -2,10 +2,12 @@
 use Rattle.std.specs.Prelude.{ℕ, ◌*◌, ◌/◌, ◌^◌, ◌≤◌, ◌==◌, ◌&&◌, nat_le, nat_lt, not, Bool, true, false, if◌then◌else◌}
 use Rattle.std.specs.Prelude.{List, [], ◌∷◌, ◌++◌, length, take, drop, map, slice_index_or, Option, None, Some}
 use Rattle.std.specs.List.{list_all, range_with_len, slice_split}
-use Rattle.log_files.specs.declared.cut.Cut.{Cut, TheVariants.Lines, TheVariants.Blocks}
+use Rattle.log_files.specs.declared.cut.Cut.{Cut}
+use Rattle.log_files.specs.declared.cut.Cut.TheVariants.{Lines, Blocks}
 use Rattle.log_files.specs.declared.cut.PartialLine.{PartialLine}
 use Rattle.log_files.specs.declared.cut.PartialLine.TheVariants.{Refuse, LeaveOut, Include}
-use Rattle.log_files.specs.declared.error.ReadError.{ReadError, TheVariants.EndsInsideLine, TheVariants.TooManyEntries}
+use Rattle.log_files.specs.declared.error.ReadError.{ReadError}
+use Rattle.log_files.specs.declared.error.ReadError.TheVariants.{EndsInsideLine, TooManyEntries}
 
 -- the size of a block, from 1 byte to 2^30
 abbrev pub IsCut : Cut → Type 0

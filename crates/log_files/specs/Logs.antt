@@ -4,7 +4,8 @@ use Rattle.sha2.specs.Sha256.{sha256}
 use Rattle.tlog.specs.Rfc9162.{leaf_hash}
 use Rattle.tlog_tree.specs.Builders.{IsBuilderOf}
 use Rattle.log_files.specs.Entries.{entries_in, first_of, is_refused, wanted_of}
-use Rattle.log_files.specs.declared.{cut.Cut.Cut, reading.ReadLog.ReadLog}
+use Rattle.log_files.specs.declared.cut.Cut.{Cut}
+use Rattle.log_files.specs.declared.reading.ReadLog.{ReadLog}
 
 -- of a file of these bytes that is not refused: the tree of its first entries, and those of them that are wanted
 pub record IsLogOf (log : ReadLog) (cut : Cut) (limit : Option ℕ) (nodes : List (ℕ × ℕ)) (wanted bytes : List ℕ)

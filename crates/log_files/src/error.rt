@@ -1,7 +1,8 @@
 //! Why a file is not read.
 
 ghost use Rattle.std.specs.Prelude.{◌≡◌};
-ghost use Rattle.log_files.specs.{Errors.read_error_of, declared.error.ReadError.TheVariants.OutOfMemory};
+ghost use Rattle.log_files.specs.Errors.{read_error_of};
+ghost use Rattle.log_files.specs.declared.error.ReadError.TheVariants.{OutOfMemory};
 
 use std::alloc::AllocError;
 use thiserror::Error;

@@ -2,7 +2,8 @@
 
 ghost use Rattle.std.specs.Prelude.{◌≡◌, ◌⊎◌, ◌≤◌, ◌++◌, ℕ, List, [], IfErr, IfOk, OnOk, Some};
 ghost use Rattle.std.specs.Io.KnownBytes.{Consumes, IsAtEnd};
-ghost use Rattle.log_files.specs.{Entries.read_refusal, Entries.HoldsOfFile, Entries.IsCut, Logs.IsLogOf};
+ghost use Rattle.log_files.specs.Entries.{read_refusal, HoldsOfFile, IsCut};
+ghost use Rattle.log_files.specs.Logs.{IsLogOf};
 ghost use Rattle.log_files.specs.Inner.Splitting.{AreTooMany, HasBuilt, HasGrown, IsReady, ReadsTooMany};
 ghost use Rattle.log_files.specs.declared.error.ReadError.TheVariants.{OutOfMemory, Read as FailedRead, TooManyEntries};
 

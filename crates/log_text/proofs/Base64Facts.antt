@@ -5,17 +5,22 @@ use Rattle.std.proofs.Common.{subst, arith, inl, inr, add_assoc, length-append, 
 use Rattle.std.proofs.Common.{if◌then◌else◌, nat_eq, nat_lt, option_map, slice_index, All, IfErr, IfOk, IfSome, ne_eqb}
 use Rattle.std.proofs.Common.{take-append-drop, take_at, drop_at, get_or-append-add}
 use Rattle.std.specs.Cmp.Lexicographic.{pointwise, bytes_decides}
-use Rattle.std.specs.{Option.option_and_then, Result.result_ok}
-use Rattle.std.proofs.lemmas.{Bool.cases_lt, List.get_or_past, List.length-replicate}
+use Rattle.std.specs.Option.{option_and_then}
+use Rattle.std.specs.Result.{result_ok}
+use Rattle.std.proofs.lemmas.Bool.{cases_lt}
+use Rattle.std.proofs.lemmas.List.{get_or_past, length-replicate}
 use Rattle.std.proofs.lemmas.Bool.Decides.{Decides-and, Decides-eqb, Decides-like, Decides-ltb}
 use Rattle.std.proofs.lemmas.List.Elements.{All-append, All-cons, All-from_get_or, All-get_or, All-nil, All-replicate}
-use Rattle.base64.specs.{Engines.standard, Rfc4648.encode_symbols, Rfc4648.padding_len, Rfc4648.unpadded_len}
+use Rattle.base64.specs.Engines.{standard}
+use Rattle.base64.specs.Rfc4648.{encode_symbols, padding_len, unpadded_len}
 use Rattle.base64.specs.GeneralPurpose.{IsBytes, IsDecodedInto, decode_of}
-use Rattle.base64.specs.declared.{decode.DecodeError.DecodeError, engine.general_purpose.GeneralPurpose.GeneralPurpose}
+use Rattle.base64.specs.declared.decode.DecodeError.{DecodeError}
+use Rattle.base64.specs.declared.engine.general_purpose.GeneralPurpose.{GeneralPurpose}
 use Rattle.base64.proofs.EngineFacts.{decode_of-encode_of, decode_of_strict, encode_of-append, front_bytes}
 use Rattle.base64.proofs.RoundTrip.{length-encode_symbols}
 use Rattle.base64.proofs.Tables.{are_tables_alphabet, is_alphabet_printable, printable_range}
-use Rattle.log_text.specs.{Lines.are_bytes, Lines.base64, Lines.base64_bytes, Lines.digest_of, Texts.IsDigest}
+use Rattle.log_text.specs.Lines.{are_bytes, base64, base64_bytes, digest_of}
+use Rattle.log_text.specs.Texts.{IsDigest}
 use Rattle.log_text.proofs.TestFacts.{and_then, each_decided, found, itself, mapped, no_found, only_if, said_as}
 use Rattle.log_text.proofs.TestFacts.{same_found, IsFound}
 

@@ -6,21 +6,27 @@ use Rattle.std.proofs.Common.{decimal, All, eqb-true, leb-true}
 use Rattle.std.proofs.lemmas.List.Elements.{All-append, All-cons, All-nil, All-weaker}
 use Rattle.std.proofs.lemmas.Bool.{and_left, eqb-false, and_parts, false_from_ne_true}
 use Rattle.std.proofs.lemmas.Bool.Decides.{Decides-and, Decides-eqb, Decides-not}
-use Rattle.std.proofs.lemmas.{List.nil_from_length, Str.is_utf8-from_IsUtf8, Str.IsUtf8-from_is_utf8}
-use Rattle.std.specs.{Cmp.Lexicographic.pointwise, Cmp.Lexicographic.bytes_decides, List.list_all, List.starts_with}
-use Rattle.std.specs.{Option.option_map_or, Result.is_ok, Result.result_ok, Str.chars, Str.is_utf8, Str.IsUtf8}
+use Rattle.std.proofs.lemmas.List.{nil_from_length}
+use Rattle.std.proofs.lemmas.Str.{is_utf8-from_IsUtf8, IsUtf8-from_is_utf8}
+use Rattle.std.specs.Cmp.Lexicographic.{pointwise, bytes_decides}
+use Rattle.std.specs.List.{list_all, starts_with}
+use Rattle.std.specs.Option.{option_map_or}
+use Rattle.std.specs.Result.{is_ok, result_ok}
+use Rattle.std.specs.Str.{chars, is_utf8, IsUtf8}
 use lib.Utf8.{encode}
 use Rattle.log_text.specs.Lines.{byte_order_mark, is_origin, passing, after, base64, base64_bytes, cut_at, dash}
 use Rattle.log_text.specs.Lines.{digest_of, head_of, is_key_name, is_line, is_signature, is_signed, is_text}
 use Rattle.log_text.specs.Reading.{digest_by, line_by, line_that, log_origin_by}
 use Rattle.log_text.specs.declared.error.Expected.TheVariants.{Blank, Digest, DigestOrBlank, EntryHead, Extension}
 use Rattle.log_text.specs.declared.error.Expected.TheVariants.{Origin, PartOrigin, ProofVersion, Signature}
-use Rattle.log_text.specs.{Texts.digest_line, Texts.line, Texts.IsDigest, declared.error.Expected.Expected}
+use Rattle.log_text.specs.Texts.{digest_line, line, IsDigest}
+use Rattle.log_text.specs.declared.error.Expected.{Expected}
 use Rattle.log_text.proofs.TestFacts.{fails, and_then, each_decided, found, le_decided, said_as, unless, IsFound}
 use Rattle.log_text.proofs.TestFacts.{after_found, cut_found, lacks_below, Lacks, decimal_high, number_after_found}
 use Rattle.log_text.proofs.ReadFacts.{gives, in_turn, line_spelled, passes, passing_spelled, read_as, IsSpelled}
 use Rattle.log_text.proofs.Base64Facts.{base64_found, base64_plain, digest_found}
-use Rattle.log_text.{proofs.TestFacts.number_found, specs.Lines.number_after, specs.Lines.part_origin}
+use Rattle.log_text.proofs.TestFacts.{number_found}
+use Rattle.log_text.specs.Lines.{number_after, part_origin}
 
 -- what a call that reads UTF-8 tells
 pub utf8_tells : {S E : Type 0} (Y : S → Type 0) (N : E → Type 0) (r : Result S E) (bytes : List ℕ) →

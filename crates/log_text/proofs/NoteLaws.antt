@@ -3,10 +3,14 @@ use Rattle.std.proofs.Common.{◌≡◌, ◌<◌, ◌≤◌, true, false, ℕ, L
 use Rattle.std.proofs.Common.{inl, inr, append_assoc, length-append, flat_map, eqb-true, ne_eqb, append-nil, Ok, Err}
 use Rattle.std.proofs.Common.{sym, decimal, nat_lt, ◌+◌, ◌*◌, ◌==◌, cond, count_by}
 use Rattle.std.proofs.lemmas.List.Elements.{All-cons, All-head, All-nil, All-tail}
-use Rattle.std.proofs.lemmas.{Bool.or_from, Bool.or_right, Bool.Decides.Decides-ltb, Fmt.length-decimal-le}
-use Rattle.std.proofs.lemmas.List.{nil_from_length, Sums.sum_by-append}
+use Rattle.std.proofs.lemmas.Bool.{or_from, or_right}
+use Rattle.std.proofs.lemmas.Bool.Decides.{Decides-ltb}
+use Rattle.std.proofs.lemmas.Fmt.{length-decimal-le}
+use Rattle.std.proofs.lemmas.List.{nil_from_length}
+use Rattle.std.proofs.lemmas.List.Sums.{sum_by-append}
 use Rattle.std.proofs.lemmas.Str.{encodes-chars, length-encode, len_utf8_bounds}
-use Rattle.std.specs.{List.sum_by, Str.chars, Str.encode_utf8_all}
+use Rattle.std.specs.List.{sum_by}
+use Rattle.std.specs.Str.{chars, encode_utf8_all}
 use Rattle.base64.specs.Rfc4648.{padding_len, unpadded_len}
 use Rattle.log_text.specs.Reading.{at_end, at_text_end, extensions_by, line_that, signatures_by, after_origin, note_by}
 use Rattle.log_text.specs.Reading.{part_origin_by, then_read, Reads, checkpoint_in, error_of, log_origin_by}
@@ -14,11 +18,15 @@ use Rattle.log_text.specs.Texts.{line, signature_lines, AreLines, checkpoint_tex
 use Rattle.log_text.specs.declared.error.Expected.TheVariants.{Blank, Extension, Signature, PartOrigin, Size}
 use Rattle.log_text.specs.Lines.{is_origin, part_origin, base64, is_line}
 use Rattle.log_text.specs.Laws.{ThreeLinesAreSpelled, CheckpointsAreReadAgain, NotesAreSpelled, PartsAreSpelled}
-use Rattle.log_text.specs.{Inner.Rests.rest_of, Laws.SignaturesChangeNothing, Texts.IsNote, Texts.IsCheckpoint}
+use Rattle.log_text.specs.Inner.Rests.{rest_of}
+use Rattle.log_text.specs.Laws.{SignaturesChangeNothing}
+use Rattle.log_text.specs.Texts.{IsNote, IsCheckpoint}
 use Rattle.log_text.proofs.LineFacts.{blank_decided, is_solid, that_spelled, Fits, IsPlain, digest_spelled}
 use Rattle.log_text.proofs.LineFacts.{number_spelled, part_decided, IsLogOrigin, log_origin_spelled, origin_parts}
 use Rattle.log_text.proofs.ReadFacts.{either, gives, in_turn, read_as, turn, IsRead, IsSpelled, ends, passes, says}
-use Rattle.log_text.proofs.{Base64Facts.length-base64, LineFacts.part_is_origin, ReadFacts.many_spelled}
+use Rattle.log_text.proofs.Base64Facts.{length-base64}
+use Rattle.log_text.proofs.LineFacts.{part_is_origin}
+use Rattle.log_text.proofs.ReadFacts.{many_spelled}
 
 -- a line that is plain and not blank is no stop
 goes_on : (l left : List ℕ) → (1 ≤ length l) × IsPlain l → at_text_end (line l ++ left) ≡ false

@@ -4,19 +4,21 @@ use Rattle.std.proofs.Common.{refl, sym, ap, ◌∙◌, subst, arith, append-nil
 use Rattle.std.proofs.Common.{length-take, add-one, drop-cons, ◌&&◌, codes, decimal, flat_map, nat_lt, slice_index}
 use Rattle.std.proofs.Common.{take-append-drop, All, ne_eqb}
 use Rattle.std.proofs.Math.Seq.{drop-append-add, get_or-append_seam, take-append_seam}
-use Rattle.std.proofs.lemmas.Bool.{cases_lt, Decides.Decides-and, Decides.Decides-eqb, Decides.Decides-ltb}
+use Rattle.std.proofs.lemmas.Bool.{cases_lt}
+use Rattle.std.proofs.lemmas.Bool.Decides.{Decides-and, Decides-eqb, Decides-ltb}
 use Rattle.std.proofs.lemmas.List.Elements.{All-head}
 use Rattle.base64.specs.Rfc4648.{padding_len, unpadded_len}
 use Rattle.log_text.specs.Texts.{IsEntry, digest_line, entries_text, entry_lines, line, EntryFields, IsDigest}
 use Rattle.log_text.specs.Reading.{bytes_by, digests_by, entries_by, entry_by, error_of, never, at_blank}
 use Rattle.log_text.specs.declared.error.Expected.TheVariants.{DigestCount, EntryCount, ProofVersion, Blank, OldSize}
-use Rattle.log_text.specs.{Laws.EntriesProofsAreSpelled, Laws.ConsistencyProofsAreSpelled, Lines.base64}
+use Rattle.log_text.specs.Laws.{EntriesProofsAreSpelled, ConsistencyProofsAreSpelled}
+use Rattle.log_text.specs.Lines.{base64}
 use Rattle.log_text.specs.Reading.{consistency_by}
 use Rattle.log_text.specs.Texts.{IsEntriesProof, consistency_text, IsConsistencyProof}
 use Rattle.log_text.proofs.LineFacts.{digest_spelled, head_bytes, head_spelled, number_spelled, that_spelled}
-use Rattle.log_text.proofs.ReadFacts.{ends, gives, holds, in_turn, read_as, says, turn, IsSpelled}
+use Rattle.log_text.proofs.ReadFacts.{ends, gives, holds, in_turn, read_as, says, turn, IsSpelled, many_spelled}
 use Rattle.log_text.proofs.Base64Facts.{base64_plain, length-base64}
-use Rattle.log_text.proofs.{LineFacts.version_decided, LineFacts.blank_decided, ReadFacts.many_spelled}
+use Rattle.log_text.proofs.LineFacts.{version_decided, blank_decided}
 
 -- ---- entries
 

@@ -3,10 +3,15 @@ use Rattle.std.proofs.Common.{◌≡◌, Bool, true, false, Decides, ℕ, List, 
 use Rattle.std.proofs.Common.{Err, refl, sym, ap, ◌∙◌, append_assoc, subst, if◌then◌else◌, ◌↔◌, ◌<◌, ◌≤◌, ◌+◌, ◌-◌}
 use Rattle.std.proofs.Common.{zero, suc, length, append-nil, arith, flat_map, All}
 use Rattle.std.proofs.lemmas.List.Elements.{All-nil, All-cons, All-head, All-tail}
-use Rattle.std.specs.{Option.option_map_or, Result.result_map_both}
+use Rattle.std.specs.Option.{option_map_or}
+use Rattle.std.specs.Result.{result_map_both}
 use Rattle.log_text.specs.Reading.{ended, line_by, then_read, Reads, many}
-use Rattle.log_text.specs.{Inner.Rests.rest_of, Lines.cut_at, Lines.passing, Texts.line}
-use Rattle.log_text.specs.declared.error.{Expected.Expected, Stop.Stop, TextError.TextError}
+use Rattle.log_text.specs.Inner.Rests.{rest_of}
+use Rattle.log_text.specs.Lines.{cut_at, passing}
+use Rattle.log_text.specs.Texts.{line}
+use Rattle.log_text.specs.declared.error.Expected.{Expected}
+use Rattle.log_text.specs.declared.error.Stop.{Stop}
+use Rattle.log_text.specs.declared.error.TextError.{TextError}
 use Rattle.log_text.proofs.TestFacts.{cut_found, Lacks, found, only_if, said_as, IsFound}
 
 -- what was read if reading did not stop: just this is said of it

@@ -6,14 +6,22 @@ use Rattle.std.proofs.Common.{drop-cons, cond, nat_eq, nat_lt, position, eq-eqb,
 use Rattle.std.proofs.Common.{length-drop, take-append-drop, take_all, ◌^◌, zero, suc, Result, Ok, Err, inl, inr, ◌&&◌}
 use Rattle.std.proofs.Math.Seq.{drop-append-add, drop-append_seam, get_or-append_seam, take-append_seam}
 use Rattle.std.proofs.lemmas.Fmt.{decimal-digits_value, decimal_digit, decimal_is_IsNumeral, first_decimal}
-use Rattle.std.proofs.{Common.decimal, Common.MatchResult, lemmas.Bool.false_from_ne_true, lemmas.Bool.cases_lt}
+use Rattle.std.proofs.Common.{decimal, MatchResult}
+use Rattle.std.proofs.lemmas.Bool.{false_from_ne_true, cases_lt}
 use Rattle.std.proofs.lemmas.Bool.Decides.{Decides-by_and, Decides-ltb, Decides-and}
-use Rattle.std.proofs.lemmas.{Fmt.IsAscii-from_digits, List.get_or_append_left}
+use Rattle.std.proofs.lemmas.Fmt.{IsAscii-from_digits}
+use Rattle.std.proofs.lemmas.List.{get_or_append_left}
 use Rattle.std.proofs.lemmas.List.Elements.{All-from_get_or, All-get_or, All-weaker}
-use Rattle.std.proofs.lemmas.{List.Quantifiers.position-Some, List.Sums.position_or_len_is, Str.IsUtf8-from_ascii}
-use Rattle.std.{proofs.lemmas.Str.Parse.digit_at, proofs.lemmas.Str.Parse.IsNumeralModel, specs.Bool.then_some}
-use Rattle.std.specs.{Cmp.Lexicographic.pointwise, Cmp.Lexicographic.bytes_decides, List.list_all, List.position_or_len}
-use Rattle.std.specs.{Option.option_and_then, Option.SomeIff, Result.result_ok, Str.IsUtf8}
+use Rattle.std.proofs.lemmas.List.Quantifiers.{position-Some}
+use Rattle.std.proofs.lemmas.List.Sums.{position_or_len_is}
+use Rattle.std.proofs.lemmas.Str.{IsUtf8-from_ascii}
+use Rattle.std.proofs.lemmas.Str.Parse.{digit_at, IsNumeralModel}
+use Rattle.std.specs.Bool.{then_some}
+use Rattle.std.specs.Cmp.Lexicographic.{pointwise, bytes_decides}
+use Rattle.std.specs.List.{list_all, position_or_len}
+use Rattle.std.specs.Option.{option_and_then, SomeIff}
+use Rattle.std.specs.Result.{result_ok}
+use Rattle.std.specs.Str.{IsUtf8}
 use Rattle.std.specs.Str.Parse.{digits_value, AllDigits, IsNumeral}
 use Rattle.log_text.specs.Lines.{after, cut_at, number_after, number_of}
 

@@ -1,10 +1,12 @@
 -- Texts and what they say, which the checker computes. The digests are those of another implementation.
 use Rattle.std.specs.Prelude.{◌≡◌, ⊤, ℕ, List, [], ◌∷◌, ◌++◌, codes, None, Some, Ok, Err, true, false, refl}
-use Rattle.std.specs.{Fmt.digits, Str.chars, Str.is_utf8}
+use Rattle.std.specs.Fmt.{digits}
+use Rattle.std.specs.Str.{chars, is_utf8}
 use lib.Utf8.{encode}
 use Rattle.base64.proofs.OnLiterals.{base64_on_literals}
 use Rattle.log_text.specs.Lines.{base64, base64_bytes, dash, is_key_name, is_line, is_origin, is_signature, is_text}
-use Rattle.log_text.specs.{Lines.number_of, Reading.after_origin, Reading.bytes_by, Reading.checkpoint_in}
+use Rattle.log_text.specs.Lines.{number_of}
+use Rattle.log_text.specs.Reading.{after_origin, bytes_by, checkpoint_in}
 use Rattle.log_text.specs.Reading.{consistency_by, consistency_in, wrong_line, digest_by, digests_by, entries_by}
 use Rattle.log_text.specs.Reading.{entries_in, entry_by, extensions_by, log_origin_by, many, part_in, signatures_by}
 use Rattle.log_text.specs.Texts.{checkpoint_text, consistency_text, entries_text, line, CheckpointFields}

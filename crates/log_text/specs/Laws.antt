@@ -4,7 +4,8 @@ use Rattle.log_text.specs.Lines.{part_origin}
 use Rattle.log_text.specs.Reading.{checkpoint_in, consistency_in, entries_in, part_in}
 use Rattle.log_text.specs.Texts.{CheckpointFields, ConsistencyFields, EntriesFields, IsCheckpoint, IsConsistencyProof}
 use Rattle.log_text.specs.Texts.{IsEntriesProof, IsNote, checkpoint_text, consistency_text, entries_text, AreLines}
-use Rattle.log_text.specs.{Texts.signature_lines, declared.error.Expected.TheVariants.Signature}
+use Rattle.log_text.specs.Texts.{signature_lines}
+use Rattle.log_text.specs.declared.error.Expected.TheVariants.{Signature}
 
 -- a note is read as a checkpoint exactly if it is that checkpoint as it is published, and no part
 abbrev pub NotesAreSpelled : Type 0

@@ -2,10 +2,15 @@
 use Rattle.std.specs.Prelude.{ℕ, ◌+◌, ◌-◌, ◌^◌, ◌==◌, ◌&&◌, not, nat_eq, nat_le, nat_lt, Bool, false, decimal}
 use Rattle.std.specs.Prelude.{if◌then◌else◌, List, ◌∷◌, [], length, take, drop, position, slice_index, codes, is_some}
 use Rattle.std.specs.Prelude.{option_map, Option, None, Some}
-use Rattle.std.specs.{Char.is_whitespace, Cmp.Lexicographic.pointwise, List.list_all, List.starts_with}
-use Rattle.std.specs.{Option.option_and_then, Option.option_map_or, Result.result_ok, Str.chars, Str.is_utf8}
+use Rattle.std.specs.Char.{is_whitespace}
+use Rattle.std.specs.Cmp.Lexicographic.{pointwise}
+use Rattle.std.specs.List.{list_all, starts_with}
+use Rattle.std.specs.Option.{option_and_then, option_map_or}
+use Rattle.std.specs.Result.{result_ok}
+use Rattle.std.specs.Str.{chars, is_utf8}
 use Rattle.std.specs.Str.Parse.{digits_value}
-use Rattle.base64.specs.{Engines.standard, GeneralPurpose.decode_of, GeneralPurpose.encode_of}
+use Rattle.base64.specs.Engines.{standard}
+use Rattle.base64.specs.GeneralPurpose.{decode_of, encode_of}
 use Rattle.log_text.specs.declared.error.Expected.{Expected}
 use Rattle.log_text.specs.declared.error.Expected.TheVariants.{Blank, Extension, PartOrigin, ProofVersion, Signature}
 

@@ -1,18 +1,24 @@
 -- What a text says, or its first wrong line. Each part is read at the front of what is left of the text.
-use Rattle.std.specs.Prelude.{ℕ, zero, suc, ◌+◌, ◌-◌, ◌==◌, ◌&&◌, ◌||◌, nat_eq, nat_lt, Bool, true, false}
+use Rattle.std.specs.Prelude.{ℕ, zero, suc, ◌+◌, ◌-◌, ◌==◌, ◌&&◌, ◌||◌, nat_eq, nat_lt, Bool, true, false, Err}
 use Rattle.std.specs.Prelude.{if◌then◌else◌, List, [], ◌∷◌, length, take, drop, codes, slice_index, Option, Result, Ok}
-use Rattle.std.specs.{Prelude.Err, List.count_by, List.starts_with, Option.option_map_or, Result.result_map_both}
+use Rattle.std.specs.List.{count_by, starts_with}
+use Rattle.std.specs.Option.{option_map_or}
+use Rattle.std.specs.Result.{result_map_both}
 use Rattle.std.specs.Cmp.Lexicographic.{pointwise}
 use Rattle.log_text.specs.Lines.{byte_order_mark, cut_at, digest_of, head_of, is_line, is_origin, number_after}
-use Rattle.log_text.specs.{Lines.part_origin, Lines.passing, Texts.CheckpointFields, Texts.ConsistencyFields}
-use Rattle.log_text.specs.{Texts.EntriesFields, Texts.EntryFields, declared.error.Expected.Expected}
+use Rattle.log_text.specs.Lines.{part_origin, passing}
+use Rattle.log_text.specs.Texts.{CheckpointFields, ConsistencyFields, EntriesFields, EntryFields}
+use Rattle.log_text.specs.declared.error.Expected.{Expected}
 use Rattle.log_text.specs.declared.error.Expected.TheVariants.{Blank, Digest, DigestCount, DigestOrBlank, End}
 use Rattle.log_text.specs.declared.error.Expected.TheVariants.{EntryBytes, EntryCount, EntryHead, Extension, NotPart}
 use Rattle.log_text.specs.declared.error.Expected.TheVariants.{OldSize, Origin, PartOrigin, ProofVersion, ShortNote}
-use Rattle.log_text.specs.declared.error.{Expected.TheVariants.Signature, Expected.TheVariants.Size, Found.Found}
+use Rattle.log_text.specs.declared.error.Expected.TheVariants.{Signature, Size}
+use Rattle.log_text.specs.declared.error.Found.{Found}
 use Rattle.log_text.specs.declared.error.Found.TheVariants.{ByteOrderMark, CarriageReturn, NoLineFeed, Other, TextEnd}
-use Rattle.log_text.specs.declared.error.Stop.{Stop, TheVariants.Memory, TheVariants.Missing}
-use Rattle.log_text.specs.declared.error.TextError.{TextError, TheVariants.Line, TheVariants.OutOfMemory}
+use Rattle.log_text.specs.declared.error.Stop.{Stop}
+use Rattle.log_text.specs.declared.error.Stop.TheVariants.{Memory, Missing}
+use Rattle.log_text.specs.declared.error.TextError.{TextError}
+use Rattle.log_text.specs.declared.error.TextError.TheVariants.{Line, OutOfMemory}
 
 -- a value and what is left after it, or where reading stops
 abbrev pub Reads : Type 0 → Type 0

@@ -2,9 +2,12 @@
 use Rattle.std.specs.Prelude.{◌≡◌, ℕ, ◌^◌, ◌≤◌, List, [], ◌∷◌, ◌++◌, length, map, flat_map, All, codes, decimal, true}
 use Rattle.base64.specs.GeneralPurpose.{IsBytes}
 use Rattle.log_text.specs.Lines.{base64, is_line, is_origin}
-use Rattle.log_text.specs.declared.{checkpoint.Checkpoint.Checkpoint, consistency.ConsistencyProof.ConsistencyProof}
-use Rattle.log_text.specs.declared.entries.{EntriesProof.EntriesProof, Entry.Entry}
-use Rattle.log_text.specs.declared.error.Expected.{Expected, TheVariants.Extension, TheVariants.Signature}
+use Rattle.log_text.specs.declared.checkpoint.Checkpoint.{Checkpoint}
+use Rattle.log_text.specs.declared.consistency.ConsistencyProof.{ConsistencyProof}
+use Rattle.log_text.specs.declared.entries.EntriesProof.{EntriesProof}
+use Rattle.log_text.specs.declared.entries.Entry.{Entry}
+use Rattle.log_text.specs.declared.error.Expected.{Expected}
+use Rattle.log_text.specs.declared.error.Expected.TheVariants.{Extension, Signature}
 
 -- bytes and a line feed
 abbrev pub line : List ℕ → List ℕ

@@ -1,9 +1,12 @@
 //! Checkpoints of logs, and parts of files.
 
-ghost use Rattle.std.specs.{Prelude.◌≡◌, Prelude.IfOk, Prelude.option_map, Result.result_map_both};
-ghost use Rattle.log_text.specs.{Lines.is_origin, Lines.passing, Reading.after_origin};
+ghost use Rattle.std.specs.Prelude.{◌≡◌, IfOk, option_map};
+ghost use Rattle.std.specs.Result.{result_map_both};
+ghost use Rattle.log_text.specs.Lines.{is_origin, passing};
+ghost use Rattle.log_text.specs.Reading.{after_origin};
 ghost use Rattle.log_text.specs.Reading.{checkpoint_in, log_origin_by, note_by, part_in, part_origin_by, signatures_by};
-ghost use Rattle.log_text.specs.{Inner.Rests.rest_of, Texts.checkpoint_fields, Texts.checkpoint_text};
+ghost use Rattle.log_text.specs.Inner.Rests.{rest_of};
+ghost use Rattle.log_text.specs.Texts.{checkpoint_fields, checkpoint_text};
 
 use crate::error::{Expected, Stop, TextError, error_of, missing};
 use crate::line;

@@ -3,7 +3,8 @@
 ghost use Rattle.std.specs.Prelude.{◌≡◌, ◌⊎◌, Err, IfErr, IfOk, Ok};
 ghost use Rattle.log_text.specs.Reading.{consistency_by, consistency_in};
 ghost use Rattle.log_text.specs.Texts.{consistency_fields, consistency_text};
-ghost use Rattle.log_text.specs.declared.error.{Stop.TheVariants.Memory, TextError.TheVariants.OutOfMemory};
+ghost use Rattle.log_text.specs.declared.error.Stop.TheVariants.{Memory};
+ghost use Rattle.log_text.specs.declared.error.TextError.TheVariants.{OutOfMemory};
 
 use crate::error::{Expected, Stop, TextError, error_of};
 use crate::line::{digests_by, number_by, push_digests, push_line, push_number, skip_line};

@@ -4,7 +4,8 @@ ghost use Rattle.std.specs.Prelude.{◌≡◌, ◌⊎◌, ◌++◌, Err, IfErr, 
 ghost use Rattle.log_text.specs.Lines.{head_of};
 ghost use Rattle.log_text.specs.Reading.{entries_by, entries_in, entry_by, many, never};
 ghost use Rattle.log_text.specs.Texts.{entries_fields, entries_text, entry_fields, entry_lines};
-ghost use Rattle.log_text.specs.declared.error.{Stop.TheVariants.Memory, TextError.TheVariants.OutOfMemory};
+ghost use Rattle.log_text.specs.declared.error.Stop.TheVariants.{Memory};
+ghost use Rattle.log_text.specs.declared.error.TextError.TheVariants.{OutOfMemory};
 
 use crate::error::{Expected, Stop, TextError, error_of, missing};
 use crate::line::{

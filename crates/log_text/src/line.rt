@@ -2,13 +2,15 @@
 
 ghost use Rattle.std.specs.Prelude.{◌≡◌, ◌≤◌, ◌<◌, ◌^◌, ◌⊎◌, ◌++◌, Err, IfErr, IfOk, IfSome, Ok, OnOk, Some, decimal};
 ghost use Rattle.std.specs.Prelude.{flat_map, length, option_map, take};
-ghost use Rattle.std.specs.{Option.SomeIff, Result.result_map_both};
+ghost use Rattle.std.specs.Option.{SomeIff};
+ghost use Rattle.std.specs.Result.{result_map_both};
 ghost use Rattle.std.specs.Str.Parse.{IsNumeral, digits_value};
 ghost use Rattle.base64.specs.Decode.{decoded_estimate};
 ghost use Rattle.log_text.specs.Lines.{base64_bytes, cut_at, digest_of, is_key_name, is_line, is_name_char};
 ghost use Rattle.log_text.specs.Lines.{is_signature, is_text, number_after, number_of};
 ghost use Rattle.log_text.specs.Reading.{at_blank, at_text_end, digest_by, digests_by, ended, line_by, line_that, many};
-ghost use Rattle.log_text.specs.{Inner.Rests.rest_of, Texts.digest_line, Texts.line};
+ghost use Rattle.log_text.specs.Inner.Rests.{rest_of};
+ghost use Rattle.log_text.specs.Texts.{digest_line, line};
 ghost use Rattle.log_text.specs.declared.error.Stop.TheVariants.{Memory};
 
 use crate::checkpoint::PART_ORIGIN;

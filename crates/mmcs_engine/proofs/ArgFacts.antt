@@ -1,18 +1,29 @@
 -- What arguments can be: those of one command with its indices, or of none.
 use Rattle.std.proofs.Common.{◌≡◌, ◌≢◌, ◌-◌, ◌^◌, ◌==◌, ◌⊎◌, ⊎_elim, inl, inr, Bool, true, false, cond, Decides, ℕ}
 use Rattle.std.proofs.Common.{List, [], ◌∷◌, ◌++◌, length, get_or, take, drop, map, sym, refl, ap, ◌∙◌, subst, arith}
-use Rattle.std.proofs.{Common.append-nil, lemmas.Bool.false≢true, lemmas.Bool.Decides.Decides-eqb}
-use Rattle.std.proofs.lemmas.{Bool.Decides.Decides-ltb, Slice.Eq.bytes_eq-Decides, Slice.Eq.ends_is}
-use Rattle.std.proofs.lemmas.{Slice.Eq.slice_eq-Decides, Str.Parse.digit_at}
+use Rattle.std.proofs.Common.{append-nil}
+use Rattle.std.proofs.lemmas.Bool.{false≢true}
+use Rattle.std.proofs.lemmas.Bool.Decides.{Decides-eqb, Decides-ltb}
+use Rattle.std.proofs.lemmas.Slice.Eq.{bytes_eq-Decides, ends_is, slice_eq-Decides}
+use Rattle.std.proofs.lemmas.Str.Parse.{digit_at}
 use Rattle.std.proofs.lemmas.List.{append_cancel_right, get_or_push, length_push}
 use Rattle.std.proofs.lemmas.List.Elements.{All-nil, All-cons, All-head, All-tail}
-use Rattle.std.specs.{Prelude.All, Str.bytes_eq, Str.Parse.AllDigits, Str.Parse.digits_value, Char.digit_value}
-use Rattle.p3_merkle_core.specs.declared.cap.CapRule.{CapRule, TheVariants.Lowered, TheVariants.Fixed}
-use Rattle.mmcs_engine.specs.declared.command.Action.{Action, TheVariants.Commit, TheVariants.Open, TheVariants.Check}
-use Rattle.mmcs_engine.specs.declared.command.Arity.{Arity, TheVariants.Two, TheVariants.Four, TheVariants.Eight}
-use Rattle.mmcs_engine.specs.declared.command.{CapChoice.CapChoice, Command.Command, HashName.HashName}
+use Rattle.std.specs.Prelude.{All}
+use Rattle.std.specs.Str.{bytes_eq}
+use Rattle.std.specs.Str.Parse.{AllDigits, digits_value}
+use Rattle.std.specs.Char.{digit_value}
+use Rattle.p3_merkle_core.specs.declared.cap.CapRule.{CapRule}
+use Rattle.p3_merkle_core.specs.declared.cap.CapRule.TheVariants.{Lowered, Fixed}
+use Rattle.mmcs_engine.specs.declared.command.Action.{Action}
+use Rattle.mmcs_engine.specs.declared.command.Action.TheVariants.{Commit, Open, Check}
+use Rattle.mmcs_engine.specs.declared.command.Arity.{Arity}
+use Rattle.mmcs_engine.specs.declared.command.Arity.TheVariants.{Two, Four, Eight}
+use Rattle.mmcs_engine.specs.declared.command.CapChoice.{CapChoice}
+use Rattle.mmcs_engine.specs.declared.command.Command.{Command}
+use Rattle.mmcs_engine.specs.declared.command.HashName.{HashName}
 use Rattle.mmcs_engine.specs.declared.command.HashName.TheVariants.{Fold, Sha256}
-use Rattle.mmcs_engine.specs.{Numbers.IsNumberBelow, Args.action_arg}
+use Rattle.mmcs_engine.specs.Numbers.{IsNumberBelow}
+use Rattle.mmcs_engine.specs.Args.{action_arg}
 use Rattle.mmcs_engine.specs.Args.{arity_arg, hash_arg, rule_mark, AreArgs, IsCapArg, IsNumberArg, MayFollow}
 
 -- ---- facts that hold or do not

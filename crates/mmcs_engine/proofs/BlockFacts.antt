@@ -1,12 +1,15 @@
 -- Lines that are rows of one matrix.
 use Rattle.std.proofs.Common.{◌≡◌, ℕ, ◌<◌, ◌⊎◌, ⊎_elim, false, List, [], ◌∷◌, ◌++◌, length, map, sym, refl, ap, ◌∙◌}
 use Rattle.std.proofs.Common.{subst, arith, append-nil, Bool, true, ◌&&◌}
-use Rattle.std.proofs.lemmas.List.{length_push, length-map, Concat.flat_map-append}
+use Rattle.std.proofs.lemmas.List.{length_push, length-map}
+use Rattle.std.proofs.lemmas.List.Concat.{flat_map-append}
 use Rattle.std.proofs.lemmas.List.Elements.{All-nil, All-cons, All-head, All-tail, All-push, All-map}
-use Rattle.std.specs.{Prelude.All, Prelude.flat_map, Str.Parse.digits_value}
+use Rattle.std.specs.Prelude.{All, flat_map}
+use Rattle.std.specs.Str.Parse.{digits_value}
 use Rattle.mmcs_engine.specs.Numbers.{IsNumberBelow}
 use Rattle.mmcs_engine.specs.Input.{is_blank, numerals_of, numbers_of, IsMatrix, is_gap}
-use Rattle.mmcs_engine.{specs.Inner.Blocks.IsBlock, proofs.Runs.run_skips, proofs.Runs.first_run}
+use Rattle.mmcs_engine.specs.Inner.Blocks.{IsBlock}
+use Rattle.mmcs_engine.proofs.Runs.{run_skips, first_run}
 
 -- one more byte in front, that is a gap or not
 some_numeral_cons : (b : ℕ) (line : List ℕ) → (is_blank line ≡ false → 0 < length (numerals_of line)) →

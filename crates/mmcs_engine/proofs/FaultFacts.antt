@@ -1,14 +1,18 @@
 -- There is one first faulty line at most, and none where the lines stand for matrices.
 use Rattle.std.proofs.Common.{◌≡◌, ℕ, ◌+◌, ◌⊎◌, ⊎_elim, inl, inr, Bool, true, false, List, [], ◌∷◌, ◌++◌, length}
 use Rattle.std.proofs.Common.{get_or, sym, refl, ap, ◌∙◌, subst, arith, append_assoc}
-use Rattle.std.proofs.lemmas.List.{length_push, Elements.All-nil, Elements.All-cons, Elements.All-push}
+use Rattle.std.proofs.lemmas.List.{length_push}
+use Rattle.std.proofs.lemmas.List.Elements.{All-nil, All-cons, All-push}
 use Rattle.std.proofs.lemmas.List.Elements.{All-contains, Contains-append_left, Contains-push, Contains-get_or}
-use Rattle.std.specs.{Prelude.All, List.AllZip}
-use Rattle.mmcs_engine.specs.{Numbers.IsNumberBelow, declared.fault.Fault.Fault}
+use Rattle.std.specs.Prelude.{All}
+use Rattle.std.specs.List.{AllZip}
+use Rattle.mmcs_engine.specs.Numbers.{IsNumberBelow}
+use Rattle.mmcs_engine.specs.declared.fault.Fault.{Fault}
 use Rattle.mmcs_engine.specs.declared.fault.Fault.TheVariants.{Usage, Read, Number, Count, Tree, Write}
 use Rattle.mmcs_engine.specs.Input.{is_blank, numerals_of, numbers_of, rows_at_end, runs_between, AreLinesOf}
 use Rattle.mmcs_engine.specs.Input.{IsFirstFault, IsLineFault, IsMatrix}
-use Rattle.mmcs_engine.proofs.{Runs.first_run, BlockFacts.all_from_map}
+use Rattle.mmcs_engine.proofs.Runs.{first_run}
+use Rattle.mmcs_engine.proofs.BlockFacts.{all_from_map}
 use Rattle.mmcs_engine.proofs.InputFacts.{zip_at, rows_are_last, runs_ended, IsEnded}
 
 -- ---- lines, cut after the last blank one

@@ -1,14 +1,19 @@
 -- Nothing is refused exactly if all is taken.
 use Rattle.std.proofs.Common.{◌≡◌, ℕ, ◌<◌, ltb, List, [], ◌∷◌, Option, Some, None, refl, ap, arith}
-use Rattle.std.proofs.lemmas.{Bool.lt-ltb, List.Elements.All-head, List.Elements.All-tail}
-use Rattle.std.specs.{Prelude.All, Prelude.length, Option.option_or}
-use Rattle.p3_merkle_core.specs.{Geometry.Shape, Geometry.heights, Geometry.IsLawful, Gate.gate_refusal, Nodes.shape}
+use Rattle.std.proofs.lemmas.Bool.{lt-ltb}
+use Rattle.std.proofs.lemmas.List.Elements.{All-head, All-tail}
+use Rattle.std.specs.Prelude.{All, length}
+use Rattle.std.specs.Option.{option_or}
+use Rattle.p3_merkle_core.specs.Geometry.{Shape, heights, IsLawful}
+use Rattle.p3_merkle_core.specs.Gate.{gate_refusal}
+use Rattle.p3_merkle_core.specs.Nodes.{shape}
 use Rattle.p3_merkle_core.specs.Refusals.{queries_refusal, pruned_len_refusal}
 use Rattle.p3_merkle_core.specs.declared.error.MerkleTreeError.TheVariants.{IndexOutOfBounds}
 use Rattle.p3_support.specs.Batches.{greatest}
 use Rattle.p3_merkle_core.proofs.Shapes.GateFacts.{gate_lawful}
 use Rattle.p3_merkle_core.proofs.Pruned.NoneFacts.{below_from, none_unless}
-use Rattle.mmcs_engine.specs.{Matrices.batch_of_rows, Program.heights_of_rows}
+use Rattle.mmcs_engine.specs.Matrices.{batch_of_rows}
+use Rattle.mmcs_engine.specs.Program.{heights_of_rows}
 
 -- where both of two reasons fail
 both_none : {E : Type 0} (x y : Option E) → option_or x y ≡ None → (x ≡ None) × (y ≡ None)

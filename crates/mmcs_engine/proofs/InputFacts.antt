@@ -1,18 +1,27 @@
 -- An input that is read line by line.
 use Rattle.std.proofs.Common.{◌≡◌, ℕ, ◌+◌, ◌-◌, ◌<◌, ◌≤◌, ◌==◌, ◌⊎◌, ⊎_elim, inl, inr, true, false, List, [], ◌∷◌, ◌++◌}
 use Rattle.std.proofs.Common.{Option, Some, None, length, get_or, take, drop, map, sym, refl, ap, ◌∙◌, subst, arith}
-use Rattle.std.proofs.{Common.append_assoc, Common.append-nil, lemmas.List.take_more}
+use Rattle.std.proofs.Common.{append_assoc, append-nil}
+use Rattle.std.proofs.lemmas.List.{take_more, length-map, length-take-le}
 use Rattle.std.proofs.lemmas.List.{take_all, take-append-drop, drop_more, get_or-map, length-drop, get_or-take}
-use Rattle.std.proofs.lemmas.List.{length-map, length-take-le, Sums.count_by-le-length, Splits.slice_split_at}
-use Rattle.std.proofs.lemmas.{List.Splits.slice_split_none, List.Splits.length-slice_split, Bool.cases_lt}
-use Rattle.std.{proofs.lemmas.Bool.false_from_ne_true, proofs.lemmas.Grind.get_or_default_zero, specs.Prelude.All}
-use Rattle.std.specs.{Prelude.IfNone, Prelude.IfSome, List.slice_split, List.AllZip, Str.Lines.strip_carriage_return}
+use Rattle.std.proofs.lemmas.List.Sums.{count_by-le-length}
+use Rattle.std.proofs.lemmas.List.Splits.{slice_split_at, slice_split_none, length-slice_split}
+use Rattle.std.proofs.lemmas.Bool.{cases_lt, false_from_ne_true}
+use Rattle.std.proofs.lemmas.Grind.{get_or_default_zero}
+use Rattle.std.specs.Prelude.{All, IfNone, IfSome}
+use Rattle.std.specs.List.{slice_split, AllZip}
+use Rattle.std.specs.Str.Lines.{strip_carriage_return}
 use Rattle.memchr.specs.Find.{is_byte, Nowhere, Passes}
-use Rattle.p3_merkle_core.specs.{Checks.last_of, declared.error.MerkleTreeError.TheVariants.OutOfMemory}
-use Rattle.mmcs_engine.specs.declared.fault.Fault.{Fault, TheVariants.Tree}
+use Rattle.p3_merkle_core.specs.Checks.{last_of}
+use Rattle.p3_merkle_core.specs.declared.error.MerkleTreeError.TheVariants.{OutOfMemory}
+use Rattle.mmcs_engine.specs.declared.fault.Fault.{Fault}
+use Rattle.mmcs_engine.specs.declared.fault.Fault.TheVariants.{Tree}
 use Rattle.mmcs_engine.specs.Input.{is_blank, numbers_of, runs_between, pieces_of, rows_at_end, AreLinesOf}
-use Rattle.mmcs_engine.specs.{Input.IsFirstFault, Input.IsLineFault, Input.IsMatrix, Inner.Blocks.IsBlock}
-use Rattle.mmcs_engine.proofs.{Runs.run_whole, InputLaws.runs_apart, InputLaws.split_apart, BlockFacts.block_is_matrix}
+use Rattle.mmcs_engine.specs.Input.{IsFirstFault, IsLineFault, IsMatrix}
+use Rattle.mmcs_engine.specs.Inner.Blocks.{IsBlock}
+use Rattle.mmcs_engine.proofs.Runs.{run_whole}
+use Rattle.mmcs_engine.proofs.InputLaws.{runs_apart, split_apart}
+use Rattle.mmcs_engine.proofs.BlockFacts.{block_is_matrix}
 
 -- two pairs of lists, one after the other
 pub zip_append : {A B : Type 0} (R : A → B → Type 0) (xs : List A) (ys : List B) (us : List A) (vs : List B) →

@@ -1,8 +1,11 @@
 -- What an input stands for, from parts of it.
 use Rattle.std.proofs.Common.{◌≡◌, ℕ, ◌==◌, Bool, true, false, cond, List, [], ◌∷◌, ◌++◌, map, sym, refl, ap, ◌∙◌}
-use Rattle.std.proofs.{Common.append-nil, lemmas.List.map-append}
+use Rattle.std.proofs.Common.{append-nil}
+use Rattle.std.proofs.lemmas.List.{map-append}
 use Rattle.std.proofs.lemmas.List.Elements.{All-head, All-tail, filter-append}
-use Rattle.std.specs.{Prelude.All, Prelude.filter, List.slice_split, List.onto_first, Str.Lines.strip_carriage_return}
+use Rattle.std.specs.Prelude.{All, filter}
+use Rattle.std.specs.List.{slice_split, onto_first}
+use Rattle.std.specs.Str.Lines.{strip_carriage_return}
 use Rattle.mmcs_engine.specs.Input.{is_blank, runs_between, pieces_of}
 use Rattle.mmcs_engine.proofs.Runs.{HasFirstPart, first_part, is_run, run_skips}
 

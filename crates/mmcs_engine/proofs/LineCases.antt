@@ -1,12 +1,16 @@
 -- Lines stand for matrices, or one of them is the first faulty one.
 use Rattle.std.proofs.Common.{◌≡◌, ◌<◌, ◌+◌, ◌⊎◌, ⊎_elim, inl, inr, Bool, true, false, ℕ, List, [], ◌∷◌}
 use Rattle.std.proofs.Common.{◌++◌, length, sym, refl, ◌∙◌, subst, arith, append_assoc, append-nil}
-use Rattle.std.proofs.lemmas.{Bool.cases_eq, Bool.cases_lt, List.Elements.All-nil, List.Elements.All-get_or}
+use Rattle.std.proofs.lemmas.Bool.{cases_eq, cases_lt}
+use Rattle.std.proofs.lemmas.List.Elements.{All-nil, All-get_or}
 use Rattle.std.specs.Prelude.{All}
-use Rattle.mmcs_engine.specs.declared.fault.Fault.{Fault, TheVariants.Number, TheVariants.Count}
-use Rattle.mmcs_engine.specs.{Numbers.IsNumberBelow, Input.is_blank, Input.numerals_of, Input.numbers_of}
-use Rattle.mmcs_engine.specs.{Input.AreLinesOf, Input.IsFirstFault, Inner.Blocks.IsBlock}
-use Rattle.mmcs_engine.proofs.{BlockFacts.block_more, InputFacts.LinesSoFar, InputFacts.lines_start}
+use Rattle.mmcs_engine.specs.declared.fault.Fault.{Fault}
+use Rattle.mmcs_engine.specs.declared.fault.Fault.TheVariants.{Number, Count}
+use Rattle.mmcs_engine.specs.Numbers.{IsNumberBelow}
+use Rattle.mmcs_engine.specs.Input.{is_blank, numerals_of, numbers_of, AreLinesOf, IsFirstFault}
+use Rattle.mmcs_engine.specs.Inner.Blocks.{IsBlock}
+use Rattle.mmcs_engine.proofs.BlockFacts.{block_more}
+use Rattle.mmcs_engine.proofs.InputFacts.{LinesSoFar, lines_start}
 use Rattle.mmcs_engine.proofs.InputFacts.{lines_blank, lines_ended, lines_row, lines_fault, lines_good}
 use Rattle.mmcs_engine.proofs.ArgFacts.{settled_each, settled_number}
 

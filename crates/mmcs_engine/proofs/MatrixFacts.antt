@@ -1,16 +1,23 @@
 -- A stored matrix by its rows.
 use Rattle.std.proofs.Common.{◌≡◌, ℕ, ◌+◌, ◌-◌, ◌*◌, ◌/◌, ◌<◌, ◌≤◌, cond, nat_lt, List, [], ◌∷◌, length, map, take, sym}
 use Rattle.std.proofs.Common.{ap, ◌∙◌, refl, arith, inl, inr, suc, zero, ◌++◌, get_or, drop, length-append}
-use Rattle.std.proofs.lemmas.{Bool.cases_lt, Bool.lt-ltb, Bool.le-ltb, List.drop_all, List.length-map}
-use Rattle.std.proofs.lemmas.List.{get_or-map, map-id, Elements.All-get_or, Elements.All-head, Elements.All-tail}
+use Rattle.std.proofs.lemmas.Bool.{cases_lt, lt-ltb, le-ltb}
+use Rattle.std.proofs.lemmas.List.{drop_all, length-map, get_or-map, map-id}
+use Rattle.std.proofs.lemmas.List.Elements.{All-get_or, All-head, All-tail}
 use Rattle.std.proofs.Math.Nat.{mul-div_cancel, mul-le-mul_right, add-mul, one-mul, zero-mul}
 use Rattle.std.proofs.Math.Seq.{take-nil, drop-append-add, take-append_seam, drop-nil}
-use Rattle.std.specs.{Prelude.slice_index_or, Prelude.flat_map, Prelude.All, Prelude.slice_range, List.AllZip}
-use Rattle.p3_support.specs.{declared.matrix.RowMajorMatrix.RowMajorMatrix, Batches.dimensions_in, Lists.message}
+use Rattle.std.specs.Prelude.{slice_index_or, flat_map, All, slice_range}
+use Rattle.std.specs.List.{AllZip}
+use Rattle.p3_support.specs.declared.matrix.RowMajorMatrix.{RowMajorMatrix}
+use Rattle.p3_support.specs.Batches.{dimensions_in}
+use Rattle.p3_support.specs.Lists.{message}
 use Rattle.p3_support.specs.RowMajor.{values_of, row_width, row_count}
-use Rattle.mmcs_engine.specs.{Input.numbers_of, Input.StandsFor, Inner.Blocks.IsBlock, Matrices.matrix_of_rows}
+use Rattle.mmcs_engine.specs.Input.{numbers_of, StandsFor}
+use Rattle.mmcs_engine.specs.Inner.Blocks.{IsBlock}
+use Rattle.mmcs_engine.specs.Matrices.{matrix_of_rows}
 use Rattle.mmcs_engine.specs.Inner.Stored.{stored_batch, stored_matrix}
-use Rattle.p3_merkle_core.specs.{Nodes.shape, Nodes.Matrix, Views.matrix_of}
+use Rattle.p3_merkle_core.specs.Nodes.{shape, Matrix}
+use Rattle.p3_merkle_core.specs.Views.{matrix_of}
 
 module _ {X : Type 0} (row : X → List ℕ) (width : ℕ) where
   -- all the values

@@ -2,17 +2,22 @@
 use Rattle.std.proofs.Common.{◌≡◌, ◌⊎◌, ⊎_elim, inl, inr, ℕ, ◌+◌, List, [], ◌∷◌, Option, Some, None, Result, Ok, Err}
 use Rattle.std.proofs.Common.{sym, refl, ap, ◌∙◌, subst}
 use Rattle.std.specs.Prelude.{◌<◌, All, IfSome, IfErr, OnOk}
-use Rattle.std.specs.{Io.KnownBytes.Appends, List.AllZip}
-use Rattle.p3_merkle_core.specs.{Geometry.IsLawful, Nodes.shape}
-use Rattle.p3_merkle_core.specs.declared.error.MerkleTreeError.{MerkleTreeError, TheVariants.OutOfMemory}
+use Rattle.std.specs.Io.KnownBytes.{Appends}
+use Rattle.std.specs.List.{AllZip}
+use Rattle.p3_merkle_core.specs.Geometry.{IsLawful}
+use Rattle.p3_merkle_core.specs.Nodes.{shape}
+use Rattle.p3_merkle_core.specs.declared.error.MerkleTreeError.{MerkleTreeError}
+use Rattle.p3_merkle_core.specs.declared.error.MerkleTreeError.TheVariants.{OutOfMemory}
 use Rattle.p3_support.specs.Batches.{greatest}
-use Rattle.mmcs_engine.specs.declared.{command.Command.Command, fault.Fault.Fault}
+use Rattle.mmcs_engine.specs.declared.command.Command.{Command}
+use Rattle.mmcs_engine.specs.declared.fault.Fault.{Fault}
 use Rattle.mmcs_engine.specs.declared.fault.Fault.TheVariants.{Usage, Read, Number, Count, Tree, Write}
 use Rattle.mmcs_engine.specs.Input.{pieces_of, runs_between, is_blank, IsFirstFault, IsMatrix, StandsFor}
 use Rattle.mmcs_engine.specs.Args.{max_word, AreNoCommand, AreArgs, arity_number}
 use Rattle.mmcs_engine.specs.Program.{batch_of_command, output_of, refusal_of, AreTaken, EndsIn, IsOutcome, IsReply}
 use Rattle.mmcs_engine.specs.Program.{IsReported, Prints}
-use Rattle.mmcs_engine.proofs.{ArgFacts.same_command, FaultFacts.fault_excludes, FaultFacts.one_first_fault}
+use Rattle.mmcs_engine.proofs.ArgFacts.{same_command}
+use Rattle.mmcs_engine.proofs.FaultFacts.{fault_excludes, one_first_fault}
 use Rattle.mmcs_engine.proofs.GateFacts.{heights_are, taken_unrefused}
 
 -- blocks are of one list of matrices

@@ -1,17 +1,26 @@
 -- What is said of a batch is said of the input's matrices, and what is told of them is the outcome.
 use Rattle.std.proofs.Common.{◌≡◌, ◌⊎◌, ⊎_elim, inl, inr, ℕ, ◌+◌, List, Option, Some, None, Result, Ok, Err, sym, refl}
 use Rattle.std.proofs.Common.{ap, ◌∙◌, subst}
-use Rattle.std.specs.{Prelude.◌↔◌, Prelude.◌<◌, Prelude.All, Io.KnownBytes.Appends}
-use Rattle.p3_merkle_core.specs.{Geometry.IsLawful, Geometry.Shape, Refusals.pruned_len_refusal, Checks.Params}
-use Rattle.p3_merkle_core.specs.{Nodes.shape, Nodes.Batch, Pruning.IsPrunedAccepted, Pruning.PrunedOpening}
-use Rattle.p3_merkle_core.specs.declared.error.MerkleTreeError.{MerkleTreeError, TheVariants.OutOfMemory}
+use Rattle.std.specs.Prelude.{◌↔◌, ◌<◌, All}
+use Rattle.std.specs.Io.KnownBytes.{Appends}
+use Rattle.p3_merkle_core.specs.Geometry.{IsLawful, Shape}
+use Rattle.p3_merkle_core.specs.Refusals.{pruned_len_refusal}
+use Rattle.p3_merkle_core.specs.Checks.{Params}
+use Rattle.p3_merkle_core.specs.Nodes.{shape, Batch}
+use Rattle.p3_merkle_core.specs.Pruning.{IsPrunedAccepted, PrunedOpening}
+use Rattle.p3_merkle_core.specs.declared.error.MerkleTreeError.{MerkleTreeError}
+use Rattle.p3_merkle_core.specs.declared.error.MerkleTreeError.TheVariants.{OutOfMemory}
 use Rattle.p3_support.specs.Batches.{greatest}
-use Rattle.mmcs_engine.specs.declared.{command.Command.Command, fault.Fault.Fault}
+use Rattle.mmcs_engine.specs.declared.command.Command.{Command}
+use Rattle.mmcs_engine.specs.declared.fault.Fault.{Fault}
 use Rattle.mmcs_engine.specs.declared.fault.Fault.TheVariants.{Usage, Tree, Write}
-use Rattle.mmcs_engine.specs.{Input.StandsFor, Matrices.batch_of_rows, Args.arity_number, Args.max_word}
-use Rattle.mmcs_engine.specs.{Args.AreNoCommand, Program.batch_of_command}
+use Rattle.mmcs_engine.specs.Input.{StandsFor}
+use Rattle.mmcs_engine.specs.Matrices.{batch_of_rows}
+use Rattle.mmcs_engine.specs.Args.{arity_number, max_word, AreNoCommand}
+use Rattle.mmcs_engine.specs.Program.{batch_of_command}
 use Rattle.mmcs_engine.specs.Program.{layer_of_cap, refusal_of, text_of, IsAnswer, IsReply, IsReported, Prints}
-use Rattle.mmcs_engine.proofs.{GateFacts.heights_are, GateFacts.taken_from_none, Outcomes.ends_in}
+use Rattle.mmcs_engine.proofs.GateFacts.{heights_are, taken_from_none}
+use Rattle.mmcs_engine.proofs.Outcomes.{ends_in}
 
 -- a batch of numbers is that of the matrices that an input stands for
 module _ (command : Command) (indices input : List ℕ) (max n : ℕ) (max_is : max ≡ max_word command.hash)

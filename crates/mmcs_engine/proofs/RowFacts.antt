@@ -1,13 +1,17 @@
 -- The numbers of a line, byte by byte.
 use Rattle.std.proofs.Common.{Bool, MatchBool, ⊎_elim, ◌≡◌, ℕ, ◌+◌, ◌-◌, ◌*◌, ◌<◌, ◌≤◌, true, false, List, [], ◌∷◌}
 use Rattle.std.proofs.Common.{◌++◌, length, get_or, drop, map, Option, Some, None, sym, ap, ◌∙◌, subst, arith, refl}
-use Rattle.std.proofs.{Common.append_assoc, Common.append-nil, Common.length-append, lemmas.Str.Parse.digit_from_value}
+use Rattle.std.proofs.Common.{append_assoc, append-nil, length-append}
+use Rattle.std.proofs.lemmas.Str.Parse.{digit_from_value}
 use Rattle.std.proofs.lemmas.List.{at_drop_more, at_drop_all, map-append, length_push}
 use Rattle.std.proofs.lemmas.List.Elements.{All-nil, All-push, All-contains, Contains-append_right, Contains-get_or}
-use Rattle.std.specs.{Prelude.All, Prelude.IfSome, Prelude.IfNone, Option.is_some, Option.unwrap_or, Char.digit_value}
-use Rattle.std.specs.{Char.IsAsciiDigit, Char.IsNotAsciiDigit, Int.IsInRange}
+use Rattle.std.specs.Prelude.{All, IfSome, IfNone}
+use Rattle.std.specs.Option.{is_some, unwrap_or}
+use Rattle.std.specs.Char.{digit_value, IsAsciiDigit, IsNotAsciiDigit}
+use Rattle.std.specs.Int.{IsInRange}
 use Rattle.std.specs.Str.Parse.{AllDigits, digits_value, digits_value_after}
-use Rattle.mmcs_engine.specs.{Numbers.IsNumberBelow, Inner.Stored.IsRead}
+use Rattle.mmcs_engine.specs.Numbers.{IsNumberBelow}
+use Rattle.mmcs_engine.specs.Inner.Stored.{IsRead}
 use Rattle.mmcs_engine.specs.Input.{is_gap, numerals_of, numbers_of, runs_between}
 use Rattle.mmcs_engine.proofs.Runs.{run_ends, run_skips, run_whole, first_run}
 

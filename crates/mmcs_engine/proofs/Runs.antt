@@ -1,9 +1,12 @@
 -- The runs between elements that pass a test, taken from the front.
 use Rattle.std.proofs.Common.{◌≡◌, ◌<◌, Bool, true, false, cond, not, eqb, List, [], ◌∷◌, ◌++◌, length, get_or, drop}
-use Rattle.std.proofs.{Common.refl, Common.ap, Common.◌∙◌, Common.arith, Common.length-append, Math.Dec.eqb-suc-zero}
+use Rattle.std.proofs.Common.{refl, ap, ◌∙◌, arith, length-append}
+use Rattle.std.proofs.Math.Dec.{eqb-suc-zero}
 use Rattle.std.proofs.lemmas.List.Splits.{length-slice_split, slice_split-cons_no, slice_split-cons_yes}
-use Rattle.std.proofs.lemmas.List.{Splits.slice_split_none, Splits.slice_split_at, Elements.All-head, Elements.All-tail}
-use Rattle.std.specs.{Prelude.All, Prelude.filter, List.slice_split, List.onto_first}
+use Rattle.std.proofs.lemmas.List.Splits.{slice_split_none, slice_split_at}
+use Rattle.std.proofs.lemmas.List.Elements.{All-head, All-tail}
+use Rattle.std.specs.Prelude.{All, filter}
+use Rattle.std.specs.List.{slice_split, onto_first}
 use Rattle.mmcs_engine.specs.Input.{runs_between}
 
 -- whether a run has an element

@@ -2,10 +2,14 @@
 use Rattle.std.proofs.Common.{◌≡◌, ℕ, ◌+◌, ◌<◌, List, [], ◌∷◌, ◌++◌, length, get_or, take}
 use Rattle.std.proofs.Common.{map, sym, ap, ◌∙◌, append_assoc}
 use Rattle.std.proofs.lemmas.List.{flat_map_more, map_more, get_or-map, length-map, take_more}
-use Rattle.std.{specs.Prelude.flat_map, specs.Prelude.codes, proofs.lemmas.Simd.map-map, specs.declared.vec.Vec.Vec}
-use Rattle.mmcs_engine.specs.{Text.labelled, Text.row_line, Inner.Alike.opened_lines}
+use Rattle.std.specs.Prelude.{flat_map, codes}
+use Rattle.std.proofs.lemmas.Simd.{map-map}
+use Rattle.std.specs.declared.vec.Vec.{Vec}
+use Rattle.mmcs_engine.specs.Text.{labelled, row_line}
+use Rattle.mmcs_engine.specs.Inner.Alike.{opened_lines}
 use Rattle.p3_support.specs.Shown.{row_lists, row_sets}
-use Rattle.p3_merkle_core.specs.{Nodes.Batch, Openings.honest_rows}
+use Rattle.p3_merkle_core.specs.Nodes.{Batch}
+use Rattle.p3_merkle_core.specs.Openings.{honest_rows}
 
 -- what is opened of one more index
 pub queries_more : {T : Type 0} (value : T → ℕ) (b : Batch T) (sets : List (List (List T))) (indices : List ℕ)

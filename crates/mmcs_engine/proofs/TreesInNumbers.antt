@@ -1,13 +1,21 @@
 -- A tree over words is the tree over their numbers.
 use Rattle.std.proofs.Common.{◌≡◌, ℕ, List, [], ◌∷◌, ◌++◌, map, refl, sym, ap, ◌∙◌}
-use Rattle.std.{proofs.lemmas.List.map-id, specs.Prelude.flat_map}
-use Rattle.p3_support.specs.{Batches.dimensions_in, RowMajor.row_count, RowMajor.row_width}
-use Rattle.p3_support.specs.declared.matrix.{Dimensions.Dimensions, RowMajorMatrix.RowMajorMatrix}
-use Rattle.p3_merkle_core.specs.{Caps.cap_layer, declared.cap.CapRule.CapRule, Geometry.shape_of}
+use Rattle.std.proofs.lemmas.List.{map-id}
+use Rattle.std.specs.Prelude.{flat_map}
+use Rattle.p3_support.specs.Batches.{dimensions_in}
+use Rattle.p3_support.specs.RowMajor.{row_count, row_width}
+use Rattle.p3_support.specs.declared.matrix.Dimensions.{Dimensions}
+use Rattle.p3_support.specs.declared.matrix.RowMajorMatrix.{RowMajorMatrix}
+use Rattle.p3_merkle_core.specs.Caps.{cap_layer}
+use Rattle.p3_merkle_core.specs.declared.cap.CapRule.{CapRule}
+use Rattle.p3_merkle_core.specs.Geometry.{shape_of}
 use Rattle.p3_merkle_core.specs.Nodes.{layer, layers, shape, Batch, Functions, Matrix}
-use Rattle.p3_merkle_core.specs.{Openings.honest_rows, Openings.node_in, Pruning.boundary_by, Pruning.pruned_len}
-use Rattle.mmcs_engine.specs.declared.command.Action.{Action, TheVariants.Commit, TheVariants.Open, TheVariants.Check}
-use Rattle.mmcs_engine.specs.declared.command.{CapChoice.CapChoice, HashName.HashName}
+use Rattle.p3_merkle_core.specs.Openings.{honest_rows, node_in}
+use Rattle.p3_merkle_core.specs.Pruning.{boundary_by, pruned_len}
+use Rattle.mmcs_engine.specs.declared.command.Action.{Action}
+use Rattle.mmcs_engine.specs.declared.command.Action.TheVariants.{Commit, Open, Check}
+use Rattle.mmcs_engine.specs.declared.command.CapChoice.{CapChoice}
+use Rattle.mmcs_engine.specs.declared.command.HashName.{HashName}
 use Rattle.mmcs_engine.specs.Matrices.{batch_of_rows, matrix_of_rows}
 use Rattle.mmcs_engine.specs.Inner.Stored.{stored_batch, stored_matrix}
 use Rattle.mmcs_engine.specs.Text.{digest_lines, hex_lines, ok_line, query_lines}

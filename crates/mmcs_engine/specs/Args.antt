@@ -1,11 +1,16 @@
 -- The arguments of a command.
 use Rattle.std.specs.Prelude.{◌≡◌, ℕ, ◌-◌, ◌^◌, List, [], ◌∷◌, ◌++◌, All, codes, String, string_bytes, map}
 use Rattle.std.specs.Str.Parse.{digits_value}
-use Rattle.p3_merkle_core.specs.declared.cap.CapRule.{CapRule, TheVariants.Lowered, TheVariants.Fixed}
-use Rattle.mmcs_engine.specs.{Numbers.IsNumberBelow, declared.command.Action.Action}
+use Rattle.p3_merkle_core.specs.declared.cap.CapRule.{CapRule}
+use Rattle.p3_merkle_core.specs.declared.cap.CapRule.TheVariants.{Lowered, Fixed}
+use Rattle.mmcs_engine.specs.Numbers.{IsNumberBelow}
+use Rattle.mmcs_engine.specs.declared.command.Action.{Action}
 use Rattle.mmcs_engine.specs.declared.command.Action.TheVariants.{Commit, Open, Check}
-use Rattle.mmcs_engine.specs.declared.command.Arity.{Arity, TheVariants.Two, TheVariants.Four, TheVariants.Eight}
-use Rattle.mmcs_engine.specs.declared.command.{CapChoice.CapChoice, Command.Command, HashName.HashName}
+use Rattle.mmcs_engine.specs.declared.command.Arity.{Arity}
+use Rattle.mmcs_engine.specs.declared.command.Arity.TheVariants.{Two, Four, Eight}
+use Rattle.mmcs_engine.specs.declared.command.CapChoice.{CapChoice}
+use Rattle.mmcs_engine.specs.declared.command.Command.{Command}
+use Rattle.mmcs_engine.specs.declared.command.HashName.{HashName}
 use Rattle.mmcs_engine.specs.declared.command.HashName.TheVariants.{Fold, Sha256}
 
 -- the texts of some arguments

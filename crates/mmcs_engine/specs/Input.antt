@@ -1,9 +1,12 @@
 -- What an input stands for.
 use Rattle.std.specs.Prelude.{◌≡◌, ◌≢◌, ℕ, ◌+◌, ◌<◌, ◌==◌, ◌||◌, not, false, Bool, List, [], ◌∷◌, ◌++◌, map, filter}
-use Rattle.std.specs.{Prelude.length, Prelude.slice_index_or, Prelude.All, List.slice_split, List.list_all, List.AllZip}
-use Rattle.std.specs.Str.{Lines.strip_carriage_return, Parse.digits_value}
+use Rattle.std.specs.Prelude.{length, slice_index_or, All}
+use Rattle.std.specs.List.{slice_split, list_all, AllZip}
+use Rattle.std.specs.Str.Lines.{strip_carriage_return}
+use Rattle.std.specs.Str.Parse.{digits_value}
 use Rattle.p3_merkle_core.specs.Checks.{last_of}
-use Rattle.mmcs_engine.specs.declared.fault.Fault.{Fault, TheVariants.Number, TheVariants.Count}
+use Rattle.mmcs_engine.specs.declared.fault.Fault.{Fault}
+use Rattle.mmcs_engine.specs.declared.fault.Fault.TheVariants.{Number, Count}
 use Rattle.mmcs_engine.specs.Numbers.{IsNumberBelow}
 
 -- the longest runs of elements that do not pass

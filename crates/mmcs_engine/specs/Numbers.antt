@@ -1,5 +1,6 @@
 -- Numbers in decimal.
-use Rattle.std.specs.{Prelude.ℕ, Prelude.◌<◌, Prelude.List, Str.Parse.IsNumeral, Str.Parse.digits_value}
+use Rattle.std.specs.Prelude.{ℕ, ◌<◌, List}
+use Rattle.std.specs.Str.Parse.{IsNumeral, digits_value}
 
 -- one or more ASCII digits, of a value below the limit
 pub record IsNumberBelow (limit : ℕ) (digits : List ℕ) : Type 0 where

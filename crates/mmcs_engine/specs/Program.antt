@@ -2,19 +2,29 @@
 use Rattle.std.specs.Prelude.{◌≡◌, ◌⊎◌, ◌↔◌, ℕ, ◌+◌, ◌<◌, List, [], ◌∷◌, ◌++◌, length, map, replicate, flat_map, All}
 use Rattle.std.specs.Prelude.{Option, Some, IfSome, IfErr, OnOk, OnErr, Result, Ok, Err}
 use Rattle.std.specs.Io.KnownBytes.{Appends}
-use Rattle.p3_hashes.specs.{Fold.fold_hash, Fold.fold_compress, Sha.sha256_rows, Sha.sha256_nodes}
+use Rattle.p3_hashes.specs.Fold.{fold_hash, fold_compress}
+use Rattle.p3_hashes.specs.Sha.{sha256_rows, sha256_nodes}
 use Rattle.p3_support.specs.Batches.{greatest}
-use Rattle.p3_merkle_core.specs.{Refusals.pruned_len_refusal, Pruning.boundary_by, Pruning.pruned_len, Caps.cap_layer}
-use Rattle.p3_merkle_core.specs.{Geometry.Shape, Geometry.IsLawful, Nodes.Batch, Nodes.Functions, Nodes.functions_of}
-use Rattle.p3_merkle_core.specs.{Nodes.layer, Nodes.layers, Nodes.shape, Openings.honest_rows, Openings.node_in}
-use Rattle.p3_merkle_core.specs.declared.error.MerkleTreeError.{MerkleTreeError, TheVariants.OutOfMemory}
-use Rattle.mmcs_engine.specs.declared.command.Action.{Action, TheVariants.Commit, TheVariants.Open, TheVariants.Check}
-use Rattle.mmcs_engine.specs.declared.command.{CapChoice.CapChoice, Command.Command, HashName.HashName}
+use Rattle.p3_merkle_core.specs.Refusals.{pruned_len_refusal}
+use Rattle.p3_merkle_core.specs.Pruning.{boundary_by, pruned_len}
+use Rattle.p3_merkle_core.specs.Caps.{cap_layer}
+use Rattle.p3_merkle_core.specs.Geometry.{Shape, IsLawful}
+use Rattle.p3_merkle_core.specs.Nodes.{Batch, Functions, functions_of, layer, layers, shape}
+use Rattle.p3_merkle_core.specs.Openings.{honest_rows, node_in}
+use Rattle.p3_merkle_core.specs.declared.error.MerkleTreeError.{MerkleTreeError}
+use Rattle.p3_merkle_core.specs.declared.error.MerkleTreeError.TheVariants.{OutOfMemory}
+use Rattle.mmcs_engine.specs.declared.command.Action.{Action}
+use Rattle.mmcs_engine.specs.declared.command.Action.TheVariants.{Commit, Open, Check}
+use Rattle.mmcs_engine.specs.declared.command.CapChoice.{CapChoice}
+use Rattle.mmcs_engine.specs.declared.command.Command.{Command}
+use Rattle.mmcs_engine.specs.declared.command.HashName.{HashName}
 use Rattle.mmcs_engine.specs.declared.command.HashName.TheVariants.{Fold, Sha256}
-use Rattle.mmcs_engine.specs.declared.fault.Fault.{Fault, TheVariants.Usage, TheVariants.Read, TheVariants.Tree}
-use Rattle.mmcs_engine.specs.{declared.fault.Fault.TheVariants.Write, Input.pieces_of, Input.IsFirstFault}
-use Rattle.mmcs_engine.specs.{Input.StandsFor, Matrices.batch_of_rows, Text.digest_lines, Text.hex_lines, Text.ok_line}
-use Rattle.mmcs_engine.specs.{Text.query_lines, Args.arity_number, Args.max_word, Args.AreNoCommand, Args.AreArgs}
+use Rattle.mmcs_engine.specs.declared.fault.Fault.{Fault}
+use Rattle.mmcs_engine.specs.declared.fault.Fault.TheVariants.{Usage, Read, Tree, Write}
+use Rattle.mmcs_engine.specs.Input.{pieces_of, IsFirstFault, StandsFor}
+use Rattle.mmcs_engine.specs.Matrices.{batch_of_rows}
+use Rattle.mmcs_engine.specs.Text.{digest_lines, hex_lines, ok_line, query_lines}
+use Rattle.mmcs_engine.specs.Args.{arity_number, max_word, AreNoCommand, AreArgs}
 
 -- ---- what is printed
 

@@ -3,7 +3,8 @@
 ghost use Rattle.std.specs.Prelude.{◌≡◌, ◌⊎◌, All, Decides, IfErr, IfNone, IfOk, IfSome, map};
 ghost use Rattle.std.specs.Str.Parse.{digits_value};
 ghost use Rattle.p3_merkle_core.specs.declared.error.MerkleTreeError.TheVariants.{OutOfMemory};
-ghost use Rattle.mmcs_engine.specs.declared.command.{CapChoice.CapChoice, HashName.HashName};
+ghost use Rattle.mmcs_engine.specs.declared.command.CapChoice.{CapChoice};
+ghost use Rattle.mmcs_engine.specs.declared.command.HashName.{HashName};
 ghost use Rattle.mmcs_engine.specs.declared.fault.Fault.TheVariants.{Usage, Tree};
 ghost use Rattle.mmcs_engine.specs.Args.{action_arg, arity_arg, hash_arg, texts_of, AreNoCommand, AreArgs, IsCapArg};
 ghost use Rattle.mmcs_engine.specs.Args.{IsNumberArg, MayFollow};

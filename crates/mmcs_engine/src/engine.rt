@@ -3,12 +3,14 @@
 ghost use Rattle.std.specs.Prelude.{◌≡◌, ◌⊎◌, ◌++◌, ◌<◌, ◌↔◌, Ok, Err, IfOk, IfErr, IfSome, string_bytes};
 ghost use Rattle.std.specs.{Prelude.flat_map, Prelude.length, Prelude.map, Prelude.IsTrue};
 ghost use Rattle.p3_support.specs.{Shown.row_sets};
-ghost use Rattle.p3_merkle_core.specs.{Nodes.shape, Nodes.Batch, Openings.honest_rows};
+ghost use Rattle.p3_merkle_core.specs.Nodes.{shape, Batch};
+ghost use Rattle.p3_merkle_core.specs.Openings.{honest_rows};
 ghost use Rattle.p3_merkle_core.specs.Refusals.{pruned_len_refusal, AnswersUnlessMemory};
 ghost use Rattle.p3_merkle_core.specs.declared.error.MerkleTreeError.TheVariants.{OutOfMemory};
 ghost use Rattle.p3_merkle_mmcs.specs.Schemes.{cap_height_of, cap_rule_of, functions_of};
 ghost use Rattle.mmcs_engine.specs.declared.fault.Fault.TheVariants.{Usage, Read, Tree, Write};
-ghost use Rattle.mmcs_engine.specs.{Inner.Stored.stored_batch, Text.digest_lines};
+ghost use Rattle.mmcs_engine.specs.Inner.Stored.{stored_batch};
+ghost use Rattle.mmcs_engine.specs.Text.{digest_lines};
 ghost use Rattle.mmcs_engine.specs.Args.{arity_number, texts_of, AreNoCommand};
 ghost use Rattle.mmcs_engine.specs.Program.{layer_of_cap, text_of, IsAnswer, IsReply, IsReported, Prints};
 ghost use Rattle.mmcs_engine.specs.Inner.Alike.{batch_in_numbers, is_taken_arity, opened_lines, IsSchemeOf};

@@ -2,7 +2,8 @@
 
 ghost use Rattle.std.specs.Prelude.{◌≡◌};
 ghost use Rattle.p3_merkle_core.specs.declared.error.MerkleTreeError.TheVariants.{OutOfMemory};
-ghost use Rattle.mmcs_engine.specs.{declared.fault.Fault.TheVariants.Tree, Faults.status_of};
+ghost use Rattle.mmcs_engine.specs.declared.fault.Fault.TheVariants.{Tree};
+ghost use Rattle.mmcs_engine.specs.Faults.{status_of};
 
 use p3_merkle_core::error::MerkleTreeError;
 use std::alloc::{AllocError, AllocFailed};

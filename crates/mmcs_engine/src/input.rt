@@ -2,12 +2,16 @@
 
 ghost use Rattle.std.specs.Prelude.{◌≡◌, ◌⊎◌, ℕ, ◌+◌, ◌*◌, ◌<◌, ◌==◌, false, List, [], ◌∷◌, ◌++◌, map, length, take};
 ghost use Rattle.std.specs.Prelude.{◌≤◌, All, IfOk, IfErr, IfSome, IfNone, OnOk};
-ghost use Rattle.std.specs.{List.slice_split, Str.Lines.strip_carriage_return};
+ghost use Rattle.std.specs.List.{slice_split};
+ghost use Rattle.std.specs.Str.Lines.{strip_carriage_return};
 ghost use Rattle.p3_merkle_core.specs.declared.error.MerkleTreeError.TheVariants.{OutOfMemory};
-ghost use Rattle.mmcs_engine.specs.{declared.fault.Fault.TheVariants.Tree, Numbers.IsNumberBelow};
+ghost use Rattle.mmcs_engine.specs.declared.fault.Fault.TheVariants.{Tree};
+ghost use Rattle.mmcs_engine.specs.Numbers.{IsNumberBelow};
 ghost use Rattle.mmcs_engine.specs.Inner.Stored.{IsRead, stored_matrix};
 ghost use Rattle.mmcs_engine.specs.Input.{is_gap, is_blank, numerals_of, numbers_of, pieces_of, IsFirstFault};
-ghost use Rattle.mmcs_engine.specs.{Input.IsLineFault, Input.StandsFor, Inner.Blocks.IsBlock, Matrices.matrix_of_rows};
+ghost use Rattle.mmcs_engine.specs.Input.{IsLineFault, StandsFor};
+ghost use Rattle.mmcs_engine.specs.Inner.Blocks.{IsBlock};
+ghost use Rattle.mmcs_engine.specs.Matrices.{matrix_of_rows};
 
 use crate::fault::Fault;
 use crate::word::Word;

@@ -1,8 +1,11 @@
 //! What follows from the meaning of arguments and of inputs.
 
 ghost use Rattle.std.specs.Prelude.{◌≡◌, ◌↔◌, ℕ, true, List, ◌∷◌, ◌++◌, All, Result};
-ghost use Rattle.mmcs_engine.specs.declared.{command.Command.Command, fault.Fault.Fault};
-ghost use Rattle.mmcs_engine.specs.{Input.is_blank, Input.pieces_of, Input.StandsFor, Args.AreArgs, Program.IsOutcome};
+ghost use Rattle.mmcs_engine.specs.declared.command.Command.{Command};
+ghost use Rattle.mmcs_engine.specs.declared.fault.Fault.{Fault};
+ghost use Rattle.mmcs_engine.specs.Input.{is_blank, pieces_of, StandsFor};
+ghost use Rattle.mmcs_engine.specs.Args.{AreArgs};
+ghost use Rattle.mmcs_engine.specs.Program.{IsOutcome};
 
 /// Arguments are those of at most one command with its indices, an input stands for at most one list of matrices, and
 /// arguments and an input have at most one outcome. So an input has at most one first faulty line, with one error, and

@@ -1,6 +1,8 @@
 //! Numbers in decimal.
 
-ghost use Rattle.std.specs.{Prelude.◌^◌, Prelude.◌<◌, Option.SomeIff, Str.Parse.digits_value};
+ghost use Rattle.std.specs.Prelude.{◌^◌, ◌<◌};
+ghost use Rattle.std.specs.Option.{SomeIff};
+ghost use Rattle.std.specs.Str.Parse.{digits_value};
 ghost use Rattle.mmcs_engine.specs.Numbers.{IsNumberBelow};
 
 /// The number of one or more ASCII digits, if it fits `usize`; `None` for any other text.

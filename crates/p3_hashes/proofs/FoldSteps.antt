@@ -1,7 +1,9 @@
 -- Steps of the fold functions.
 use Rattle.std.proofs.Common.{◌≡◌, ℕ, ◌+◌, ◌*◌, ◌%◌, ◌^◌, ◌<◌, List, [], ◌∷◌, ◌++◌, length, map, take, get_or, ap, ◌∙◌}
-use Rattle.std.proofs.{Common.arith, lemmas.List.take_more, lemmas.List.map-append}
-use Rattle.std.proofs.lemmas.{List.length-map, List.length-take-le, List.Sums.fold-append, Simd.map-map}
+use Rattle.std.proofs.Common.{arith}
+use Rattle.std.proofs.lemmas.List.{take_more, map-append, length-map, length-take-le}
+use Rattle.std.proofs.lemmas.List.Sums.{fold-append}
+use Rattle.std.proofs.lemmas.Simd.{map-map}
 use Rattle.std.specs.List.{fold, enumerate_from}
 use Rattle.p3_hashes.specs.Fold.{take_in, fold_hash, mix_in, placed_elements}
 

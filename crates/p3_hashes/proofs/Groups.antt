@@ -1,6 +1,7 @@
 -- Digests of 32 bytes are read off the bytes in which they stand one after another.
 use Rattle.std.proofs.Common.{◌≡◌, ℕ, refl, List, [], ◌∷◌, ◌∙◌, sym, ap, length, take, drop, arith}
-use Rattle.std.proofs.lemmas.List.{drop_at, take_at, Elements.All-tail}
+use Rattle.std.proofs.lemmas.List.{drop_at, take_at}
+use Rattle.std.proofs.lemmas.List.Elements.{All-tail}
 use Rattle.std.specs.List.{concat}
 use Rattle.p3_hashes.specs.Laws.{AreDigests}
 

@@ -1,9 +1,11 @@
 -- Vectors of eight lanes, by what each lane holds.
 use Rattle.std.proofs.Common.{◌≡◌, ℕ, zero, suc, ◌<◌, List, [], map, length, slice_index, slice_index_or, refl, sym, ap}
-use Rattle.std.proofs.{Common.◌∙◌, Common.arith, lemmas.Simd.get_or-zip2, lemmas.Simd.length-zip2}
+use Rattle.std.proofs.Common.{◌∙◌, arith}
+use Rattle.std.proofs.lemmas.Simd.{get_or-zip2, length-zip2}
 use Rattle.std.proofs.lemmas.List.{get_or-map, length-map, get_or-replicate}
 use Rattle.std.proofs.Math.ListN as ListN
-use Rattle.std.specs.{Prelude.replicate, Simd.Lanes.zip2}
+use Rattle.std.specs.Prelude.{replicate}
+use Rattle.std.specs.Simd.Lanes.{zip2}
 use Rattle.p3_hashes.specs.Inner.Lanes.{lane}
 
 -- a vector of eight lanes, of which lane j holds f j

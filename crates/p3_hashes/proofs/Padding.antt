@@ -4,10 +4,13 @@ use Rattle.std.proofs.Common.{slice_index, take, drop, replicate, w64, refl, sym
 use Rattle.std.proofs.Common.{length-drop, add-one, arith}
 use Rattle.std.proofs.lemmas.List.{get_or_append_left, get_or-append_right, get_or-replicate, length-replicate}
 use Rattle.std.proofs.lemmas.List.{length-take-le, drop-take, take-take, drop-drop}
-use Rattle.std.proofs.{Math.Nat.add-mul, Math.Nat.one-mul, Math.Nat.mul-le-mul_right, lemmas.Simd.get_or-chunk}
-use Rattle.std.specs.{Int.to_be_bytes, Prelude.slice_range}
+use Rattle.std.proofs.Math.Nat.{add-mul, one-mul, mul-le-mul_right}
+use Rattle.std.proofs.lemmas.Simd.{get_or-chunk}
+use Rattle.std.specs.Int.{to_be_bytes}
+use Rattle.std.specs.Prelude.{slice_range}
 use Rattle.sha2.specs.Sha256.{compress, hash_after, padded_message, padding, word_at}
-use Rattle.p3_support.specs.{Lists.message, Inner.RowLengths.next_start}
+use Rattle.p3_support.specs.Lists.{message}
+use Rattle.p3_support.specs.Inner.RowLengths.{next_start}
 
 -- how many zeros stand between the mark and the length of a message of n bytes
 abbrev pub zeros : ℕ → ℕ

@@ -1,8 +1,10 @@
 -- Pieces of one length, one after another.
 use Rattle.std.proofs.Common.{◌≡◌, ℕ, zero, suc, ◌+◌, ◌-◌, ◌*◌, ◌<◌, List, [], ◌∷◌, ◌++◌, length, map, take, drop}
 use Rattle.std.proofs.Common.{get_or, refl, sym, ap, ◌∙◌, append_assoc, append-nil, length-append, arith}
-use Rattle.std.proofs.Math.{Nat.add-mul, Nat.one-mul, Seq.take-append_seam, Seq.drop-append-add}
-use Rattle.std.proofs.lemmas.List.{Folds.concat-append, get_or-map, length-map, take_more}
+use Rattle.std.proofs.Math.Nat.{add-mul, one-mul}
+use Rattle.std.proofs.Math.Seq.{take-append_seam, drop-append-add}
+use Rattle.std.proofs.lemmas.List.Folds.{concat-append}
+use Rattle.std.proofs.lemmas.List.{get_or-map, length-map, take_more}
 use Rattle.std.specs.List.{concat, flat_map}
 use Rattle.p3_support.specs.Lists.{message}
 

@@ -1,7 +1,9 @@
 -- Lists that are written into their places: one more, those of several lanes, and all.
 use Rattle.std.proofs.Common.{◌≡◌, ℕ, ◌+◌, ◌-◌, ◌<◌, ◌≤◌, ◌≢◌, List, [], length, map, get_or, set, ◌∙◌, sym, arith}
-use Rattle.std.proofs.{Common.inl, Common.inr, lemmas.Bool.cases_eq, lemmas.Bool.cases_lt, lemmas.List.length-set}
-use Rattle.std.proofs.lemmas.List.{FromFn.fill_by_all, get_or-map, get_or-set_same, get_or-set_other, length-map}
+use Rattle.std.proofs.Common.{inl, inr}
+use Rattle.std.proofs.lemmas.Bool.{cases_eq, cases_lt}
+use Rattle.std.proofs.lemmas.List.{length-set, get_or-map, get_or-set_same, get_or-set_other, length-map}
+use Rattle.std.proofs.lemmas.List.FromFn.{fill_by_all}
 use Rattle.p3_hashes.specs.Inner.Written.{AreWritten}
 
 pub one_written : {P : ℕ → List ℕ → Type 0} {from i end : ℕ} {old xs : List (List ℕ)} (y : List ℕ)

@@ -1,5 +1,6 @@
 -- Groups of digests as messages of SHA-256.
-use Rattle.std.specs.{Prelude.◌≡◌, Prelude.◌≢◌, Prelude.ℕ, Prelude.List, Prelude.All, Prelude.length, List.concat}
+use Rattle.std.specs.Prelude.{◌≡◌, ◌≢◌, ℕ, List, All, length}
+use Rattle.std.specs.List.{concat}
 
 -- each has the 32 bytes of a digest
 abbrev pub AreDigests : List (List ℕ) → Type 0

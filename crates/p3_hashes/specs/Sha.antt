@@ -1,6 +1,7 @@
 -- SHA-256 (FIPS 180-4) as the two functions of a tree, on lists of bytes. The standard leaves out messages of 2 ^ 64
 -- bits or more: their length is taken modulo 2 ^ 64.
-use Rattle.std.specs.{Prelude.ℕ, Prelude.List, List.concat}
+use Rattle.std.specs.Prelude.{ℕ, List}
+use Rattle.std.specs.List.{concat}
 use Rattle.sha2.specs.Sha256.{sha256}
 
 -- the digest of a row: that of its bytes

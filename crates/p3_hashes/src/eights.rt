@@ -1,9 +1,12 @@
 //! The fold functions of many messages and of many groups, eight at a time, each in a lane of its own. `messages` has
 //! messages of `width` words, one after another; column `c` is word `c` of each. A group is `N` digests, its children.
 ghost use Rattle.std.specs.Prelude.{◌≡◌, ℕ, ◌+◌, ◌*◌, ◌/◌, ◌^◌, ◌<◌, ◌≤◌, [], length, map, slice_index_or, slice_range};
-ghost use Rattle.std.specs.{Prelude.take, List.fold as folded};
+ghost use Rattle.std.specs.Prelude.{take};
+ghost use Rattle.std.specs.List.{fold as folded};
 ghost use Rattle.p3_support.specs.Lists.{lane_of, message as message_of};
-ghost use Rattle.p3_hashes.specs.Inner.{Eights.lanes_of, Turned.turned, Written.AreWritten};
+ghost use Rattle.p3_hashes.specs.Inner.Eights.{lanes_of};
+ghost use Rattle.p3_hashes.specs.Inner.Turned.{turned};
+ghost use Rattle.p3_hashes.specs.Inner.Written.{AreWritten};
 ghost use Rattle.p3_hashes.specs.Fold.{fold_hash, fold_compress, take_in};
 
 use crate::fold::{FoldLane, absorb, compress_group, compress_lanes, hash_words, initial_state};

@@ -1,6 +1,8 @@
 //! The fold functions: a hash and a compression by sums modulo 2^32, for tests of trees. They are not secure.
 ghost use Rattle.std.specs.Prelude.{◌≡◌, ℕ, ◌+◌, ◌%◌, ◌^◌, ◌<◌, List, [], length, map, slice_index_or};
-ghost use Rattle.std.specs.{Iterator.IsFinite, Iterator.Runs.WholeRun, List.fold as folded};
+ghost use Rattle.std.specs.Iterator.{IsFinite};
+ghost use Rattle.std.specs.Iterator.Runs.{WholeRun};
+ghost use Rattle.std.specs.List.{fold as folded};
 ghost use Rattle.p3_support.specs.Lists.{lane_of};
 ghost use Rattle.p3_hashes.specs.Fold.{fold_hash, fold_compress, take_in, start as start_of, mix_in};
 

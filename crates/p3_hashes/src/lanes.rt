@@ -1,7 +1,8 @@
 //! Packed values of two lanes, and of eight.
 ghost use Rattle.std.specs.Prelude.{◌≡◌, ℕ, ◌<◌, ◌∷◌, [], length, slice_index_or, refl};
 ghost use Rattle.std.specs.Cmp.{unsigned_Decides};
-ghost use Rattle.p3_hashes.specs.{Fold.take_in, Inner.Turned.turned};
+ghost use Rattle.p3_hashes.specs.Fold.{take_in};
+ghost use Rattle.p3_hashes.specs.Inner.Turned.{turned};
 
 use crate::fold::FoldLane;
 use p3_support::packed::PackedValue;

@@ -5,7 +5,9 @@
 ghost use Rattle.std.specs.Prelude.{◌≡◌, List, ℕ, [], ◌+◌, ◌*◌, ◌/◌, ◌^◌, ◌<◌, ◌≤◌, length, slice_index};
 ghost use Rattle.sha2.specs.Sha256.{digest_bytes, final_hash, initial_hash_256, padded_message, sha256, word_at};
 ghost use Rattle.p3_support.specs.Lists.{message};
-ghost use Rattle.p3_hashes.specs.Inner.{Inputs.IsPadding, Lanes.lane, Written.AreWritten};
+ghost use Rattle.p3_hashes.specs.Inner.Inputs.{IsPadding};
+ghost use Rattle.p3_hashes.specs.Inner.Lanes.{lane};
+ghost use Rattle.p3_hashes.specs.Inner.Written.{AreWritten};
 
 use crate::block::{compress_eight, compress_prepared, initial_state, round_inputs};
 use crate::digest_size::DigestSize;

@@ -1,9 +1,12 @@
 //! SHA-256 (FIPS 180-4, by the crate `sha2`) of rows of bytes, and of digests one after another. Words are bytes, each
 //! packed alone, and a digest has 32 of them.
 ghost use Rattle.std.specs.Prelude.{◌≡◌, ℕ, ◌<◌, ◌∷◌, [], IfOk, map};
-ghost use Rattle.std.specs.{List.concat, Iterator.IsFinite, Iterator.Runs.WholeRun};
+ghost use Rattle.std.specs.List.{concat};
+ghost use Rattle.std.specs.Iterator.{IsFinite};
+ghost use Rattle.std.specs.Iterator.Runs.{WholeRun};
 ghost use Rattle.p3_support.specs.Lists.{lane_of};
-ghost use Rattle.p3_hashes.specs.{Laws.AreDigests, Sha.sha256_rows, Sha.sha256_nodes};
+ghost use Rattle.p3_hashes.specs.Laws.{AreDigests};
+ghost use Rattle.p3_hashes.specs.Sha.{sha256_rows, sha256_nodes};
 
 pub use crate::digest_size::DigestSize;
 use p3_support::compress::PseudoCompressionFunction;

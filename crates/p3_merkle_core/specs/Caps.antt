@@ -1,7 +1,8 @@
 -- Caps: which layer of a tree is the cap, by the scheme's rule.
 use Rattle.std.specs.Prelude.{ℕ, min}
 use Rattle.p3_merkle_core.specs.Geometry.{Shape, has_rows, layer_below_root, least, levels}
-use Rattle.p3_merkle_core.specs.declared.cap.CapRule.{CapRule, TheVariants.Lowered, TheVariants.Fixed}
+use Rattle.p3_merkle_core.specs.declared.cap.CapRule.{CapRule}
+use Rattle.p3_merkle_core.specs.declared.cap.CapRule.TheVariants.{Lowered, Fixed}
 
 -- how many levels are above the last layer to which a matrix belongs
 abbrev pub levels_above_rows : Shape → ℕ

@@ -1,11 +1,13 @@
 -- The check of an opening: its inputs with their places, when it is accepted, where two checks meet.
 use Rattle.std.specs.Prelude.{◌≡◌, ◌≢◌, ◌⊎◌, ℕ, zero, suc, ◌+◌, ◌-◌, ◌<◌, ◌==◌, Bool, if◌then◌else◌, List, [], ◌∷◌, map}
 use Rattle.std.specs.Prelude.{length, take, drop, filter, flat_map, zip, insert, Some, slice_get, slice_index}
-use Rattle.std.specs.{Prelude.slice_index_or, Prelude.nat_le, List.range_with_len}
+use Rattle.std.specs.Prelude.{slice_index_or, nat_le}
+use Rattle.std.specs.List.{range_with_len}
 use Rattle.p3_merkle_core.specs.Geometry.{Shape, IsLawful, least, exponent, layer_exponent, layer_of, step, ancestor}
 use Rattle.p3_merkle_core.specs.Geometry.{position_in_group, heights, widths, has_rows}
 use Rattle.p3_merkle_core.specs.Nodes.{Functions, compress_padded, pair, with_rows, padded}
-use Rattle.p3_merkle_core.specs.{Openings.Opening, declared.collision.Place.Place}
+use Rattle.p3_merkle_core.specs.Openings.{Opening}
+use Rattle.p3_merkle_core.specs.declared.collision.Place.{Place}
 use Rattle.p3_merkle_core.specs.declared.collision.Place.TheVariants.{Leaf, Group, Rows, Pair}
 use Rattle.p3_support.specs.Batches.{greatest}
 

@@ -1,7 +1,8 @@
 -- What is committed to, and what is proved under a commitment.
 use Rattle.std.specs.Prelude.{◌≡◌, ℕ, List}
 use Rattle.p3_merkle_core.specs.Checks.{IsAccepted, Params}
-use Rattle.p3_merkle_core.specs.{Nodes.Batch, Nodes.layer, Nodes.layers, Openings.opening_of}
+use Rattle.p3_merkle_core.specs.Nodes.{Batch, layer, layers}
+use Rattle.p3_merkle_core.specs.Openings.{opening_of}
 
 -- the layers that a tree has are those of a batch under these functions: it is built by them
 abbrev pub IsOwn : {T W : Type 0} → Params T W → Batch T → List (List (List W)) → Type 0

@@ -1,10 +1,14 @@
 -- Words of the worked examples, and the functions by which they are worked out.
 use Rattle.std.specs.Prelude.{ℕ, ◌+◌, ◌*◌, List, [], ◌∷◌, map, length, slice_index, nat_eq, Option, Result}
 use Rattle.std.specs.List.{concat, enumerate_from, fold}
-use Rattle.p3_merkle_core.specs.{Geometry.Shape, Geometry.shape_of, Nodes.Batch, Nodes.Functions, Nodes.Matrix}
-use Rattle.p3_merkle_core.specs.{Nodes.functions_of, Openings.Opening, Checks.Input, Checks.Params}
-use Rattle.p3_merkle_core.specs.{Pruning.PrunedOpening, Pruning.pruned_of, Extraction.extraction, Presented.presented}
-use Rattle.p3_merkle_core.specs.{Presented.presented_pruned, declared.error.MerkleTreeError.MerkleTreeError}
+use Rattle.p3_merkle_core.specs.Geometry.{Shape, shape_of}
+use Rattle.p3_merkle_core.specs.Nodes.{Batch, Functions, Matrix, functions_of}
+use Rattle.p3_merkle_core.specs.Openings.{Opening}
+use Rattle.p3_merkle_core.specs.Checks.{Input, Params}
+use Rattle.p3_merkle_core.specs.Pruning.{PrunedOpening, pruned_of}
+use Rattle.p3_merkle_core.specs.Extraction.{extraction}
+use Rattle.p3_merkle_core.specs.Presented.{presented, presented_pruned}
+use Rattle.p3_merkle_core.specs.declared.error.MerkleTreeError.{MerkleTreeError}
 
 -- A hash and a compression to digests of one word, for work by hand. A row's digest d starts at 1, and each word x
 -- makes it 31 * d + x. A compression's starts at 0, and each child x makes it 31 * d + x, and its place is added.

@@ -1,13 +1,19 @@
 -- What two openings of one cap lead to: the last difference of two of their checks, which is a collision.
 use Rattle.std.specs.Prelude.{◌≡◌, ◌≢◌, ◌⊎◌, ◌↔◌, ◌<◌, ℕ, ◌==◌, ◌&&◌, Bool, true, false, IsTrue, IsNone, IsSome, IfOk}
 use Rattle.std.specs.Prelude.{IfSome, List, [], ◌∷◌, Option, None, Result, length, slice_index, option_map}
-use Rattle.std.specs.{List.range_with_len, Option.option_or, Cmp.Lexicographic.pointwise}
-use Rattle.p3_merkle_core.specs.{Geometry.Shape, Geometry.heights, Geometry.halved_index, Openings.Opening}
+use Rattle.std.specs.List.{range_with_len}
+use Rattle.std.specs.Option.{option_or}
+use Rattle.std.specs.Cmp.Lexicographic.{pointwise}
+use Rattle.p3_merkle_core.specs.Geometry.{Shape, heights, halved_index}
+use Rattle.p3_merkle_core.specs.Openings.{Opening}
 use Rattle.p3_merkle_core.specs.Checks.{AgreeWhereShared, Content, Digests, HasDigests, Input, IsAtOnePlace}
 use Rattle.p3_merkle_core.specs.Checks.{IsLastShared, Params, Words, input_digest, is_authenticated, opened_row}
-use Rattle.p3_merkle_core.specs.{Checks.shared_inputs, Presented.Presented}
+use Rattle.p3_merkle_core.specs.Checks.{shared_inputs}
+use Rattle.p3_merkle_core.specs.Presented.{Presented}
 use Rattle.p3_merkle_core.specs.Refusals.{AnswersUnlessMemory, first_of, ok_unless, unless}
-use Rattle.p3_merkle_core.specs.declared.{cap.CapRule.CapRule, cap.CapRule.TheVariants.Lowered, collision.Place.Place}
+use Rattle.p3_merkle_core.specs.declared.cap.CapRule.{CapRule}
+use Rattle.p3_merkle_core.specs.declared.cap.CapRule.TheVariants.{Lowered}
+use Rattle.p3_merkle_core.specs.declared.collision.Place.{Place}
 use Rattle.p3_merkle_core.specs.declared.collision.Place.TheVariants.{Leaf, Group, Rows, Pair}
 use Rattle.p3_merkle_core.specs.declared.error.MerkleTreeError.{MerkleTreeError}
 use Rattle.p3_support.specs.Batches.{greatest}

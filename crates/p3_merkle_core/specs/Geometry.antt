@@ -2,7 +2,8 @@
 -- leaves, and level l leads from layer l to layer l + 1.
 use Rattle.std.specs.Prelude.{◌≡◌, ℕ, zero, suc, ◌+◌, ◌-◌, ◌*◌, ◌/◌, ◌%◌, ◌^◌, ◌<◌, ◌≤◌, Bool, true, false, ◌&&◌, ◌==◌}
 use Rattle.std.specs.Prelude.{nat_lt, nat_le, if◌then◌else◌, List, map, All}
-use Rattle.std.specs.{List.list_any, List.range_with_len, Int.next_multiple_of}
+use Rattle.std.specs.List.{list_any, range_with_len}
+use Rattle.std.specs.Int.{next_multiple_of}
 use Rattle.p3_support.specs.declared.matrix.Dimensions.{Dimensions}
 use Rattle.p3_support.specs.Batches.{greatest, heights_of, widths_of}
 

@@ -18,10 +18,13 @@ use Rattle.p3_merkle_core.specs.Pruning.{restored_node, restored_path, IsGivenUn
 use Rattle.p3_merkle_core.specs.Pruning.{IsPrunedAccepted, restored_paths, pruned_in_layers, pruned_len}
 use Rattle.p3_merkle_core.specs.Refusals.{IsEquality, answer_under, pruned_answer, pruned_answer_under}
 use Rattle.p3_merkle_core.specs.Extraction.{IsExtraction, extraction, RowsAgreeWhereAuthenticated}
-use Rattle.p3_merkle_core.specs.{Presented.presented, Presented.presented_pruned, Views.batch_of}
-use Rattle.p3_merkle_core.specs.declared.error.MerkleTreeError.{MerkleTreeError, TheVariants.CapMismatch}
+use Rattle.p3_merkle_core.specs.Presented.{presented, presented_pruned}
+use Rattle.p3_merkle_core.specs.Views.{batch_of}
+use Rattle.p3_merkle_core.specs.declared.error.MerkleTreeError.{MerkleTreeError}
+use Rattle.p3_merkle_core.specs.declared.error.MerkleTreeError.TheVariants.{CapMismatch}
 use Rattle.p3_merkle_core.specs.Gate.{gate_refusal}
-use Rattle.p3_merkle_core.specs.declared.cap.CapRule.{CapRule, TheVariants.Lowered, TheVariants.Fixed}
+use Rattle.p3_merkle_core.specs.declared.cap.CapRule.{CapRule}
+use Rattle.p3_merkle_core.specs.declared.cap.CapRule.TheVariants.{Lowered, Fixed}
 use Rattle.p3_support.specs.Batches.{dimensions_in, greatest}
 
 -- ---- shapes

@@ -1,6 +1,7 @@
 -- Layers and nodes, worked out by the functions of `Examples`.
 use Rattle.std.specs.Prelude.{◌≡◌, [], ◌∷◌, refl}
-use Rattle.p3_merkle_core.specs.{Geometry.exponent, Geometry.layer_exponent, Geometry.raw_len, Nodes.node, Nodes.layer}
+use Rattle.p3_merkle_core.specs.Geometry.{exponent, layer_exponent, raw_len}
+use Rattle.p3_merkle_core.specs.Nodes.{node, layer}
 use Rattle.p3_merkle_core.specs.Examples.{batch, column, example}
 
 leaves_of_four_rows : layer example (batch 2 (column (1 ∷ 2 ∷ 3 ∷ 4 ∷ []) ∷ [])) 0

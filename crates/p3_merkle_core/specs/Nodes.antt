@@ -2,7 +2,8 @@
 use Rattle.std.specs.Prelude.{◌≡◌, ℕ, zero, suc, ◌+◌, ◌-◌, ◌*◌, ◌<◌, ◌==◌, Bool, nat_lt, if◌then◌else◌, List, [], ◌∷◌}
 use Rattle.std.specs.Prelude.{◌++◌, map, length, replicate, filter, flat_map, All}
 use Rattle.std.specs.List.{list_all, range_with_len}
-use Rattle.p3_support.specs.{Batches.dimensions_in, declared.matrix.Dimensions.Dimensions}
+use Rattle.p3_support.specs.Batches.{dimensions_in}
+use Rattle.p3_support.specs.declared.matrix.Dimensions.{Dimensions}
 use Rattle.p3_merkle_core.specs.Geometry.{Shape, exponent, layer_exponent, step, levels, raw_len, layer_len, has_rows}
 
 -- the hash of words, the compression of digests, and the default digest

@@ -1,8 +1,10 @@
 -- What is opened of a tree: it is read out of the tree's layers, and of an own tree it is honest, and accepted.
 use Rattle.std.specs.Prelude.{◌≡◌, List, length, map}
-use Rattle.p3_merkle_core.specs.{Checks.IsAccepted, Checks.Params, Commitments.IsCommitment, Commitments.IsOwn}
-use Rattle.p3_merkle_core.specs.{Nodes.Batch, Nodes.shape, Openings.Opening, Openings.honest}
-use Rattle.p3_merkle_core.specs.{Openings.opening_in_layers, Pruning.IsLeast, Pruning.IsPrunedAccepted}
+use Rattle.p3_merkle_core.specs.Checks.{IsAccepted, Params}
+use Rattle.p3_merkle_core.specs.Commitments.{IsCommitment, IsOwn}
+use Rattle.p3_merkle_core.specs.Nodes.{Batch, shape}
+use Rattle.p3_merkle_core.specs.Openings.{Opening, honest, opening_in_layers}
+use Rattle.p3_merkle_core.specs.Pruning.{IsLeast, IsPrunedAccepted}
 use Rattle.p3_merkle_core.specs.Pruning.{PrunedOpening, honest_query, pruned_in_layers, restored_paths}
 
 -- an opening of a tree over a batch, with these layers: it has the nodes of the layers; if the layers are the batch's

@@ -1,8 +1,9 @@
 -- Openings of one index, their refusals and collisions, worked out by the functions of `Examples`.
 use Rattle.std.specs.Prelude.{◌≡◌, [], ◌∷◌, refl, Some, None, Ok, Err, nat_eq}
 use Rattle.p3_merkle_core.specs.Geometry.{shape_of, exponent, layer_exponent, raw_len, leaves_under}
-use Rattle.p3_merkle_core.specs.{Nodes.node, Nodes.shape, Openings.honest_rows, Openings.opening_of}
-use Rattle.p3_merkle_core.specs.{Openings.siblings_by, Refusals.refusal_under}
+use Rattle.p3_merkle_core.specs.Nodes.{node, shape}
+use Rattle.p3_merkle_core.specs.Openings.{honest_rows, opening_of, siblings_by}
+use Rattle.p3_merkle_core.specs.Refusals.{refusal_under}
 use Rattle.p3_merkle_core.specs.Checks.{digests_at, params, words_at, siblings_below, path_digest, inputs, check_digest}
 use Rattle.p3_merkle_core.specs.Examples.{batch, column, narrow, example, extracts}
 use Rattle.p3_merkle_core.specs.declared.collision.Place.TheVariants.{Leaf, Group, Rows, Pair}

@@ -1,10 +1,12 @@
 -- An opening as a verifier reads it, and what a verifier returns.
 use Rattle.std.specs.Prelude.{◌≡◌, ◌↔◌, ℕ, Bool, IsOk, List, [], None, Option, Result, length}
-use Rattle.p3_merkle_core.specs.{Geometry.Shape, Openings.Opening, Openings.opening_of}
+use Rattle.p3_merkle_core.specs.Geometry.{Shape}
+use Rattle.p3_merkle_core.specs.Openings.{Opening, opening_of}
 use Rattle.p3_merkle_core.specs.Checks.{IsAccepted, Params}
 use Rattle.p3_merkle_core.specs.Pruning.{IsPrunedAccepted, IsRestorable, PrunedOpening, opening_at}
 use Rattle.p3_merkle_core.specs.Refusals.{AnswersUnlessMemory, ok_unless, pruned_refusal, pruned_refusal_under}
-use Rattle.p3_merkle_core.specs.{Refusals.refusal_under, declared.error.MerkleTreeError.MerkleTreeError}
+use Rattle.p3_merkle_core.specs.Refusals.{refusal_under}
+use Rattle.p3_merkle_core.specs.declared.error.MerkleTreeError.{MerkleTreeError}
 
 -- an opening of one index or of several, in a form that both have: when it is accepted, why it is refused, and the
 -- queries that are checked, each an opening of one index; `IsVerdict` says that a call keeps to both

@@ -8,7 +8,8 @@ use Rattle.p3_merkle_core.specs.Pruning.{restored_node, pruned_len, restored_pat
 use Rattle.p3_merkle_core.specs.Refusals.{pruned_answer_under, pruned_len_refusal}
 use Rattle.p3_merkle_core.specs.Examples.{batch, column, narrow, pruned, example}
 use Rattle.p3_merkle_core.specs.declared.error.MerkleTreeError.TheVariants.{CapMismatch, EmptyBatch, IndexOutOfBounds}
-use Rattle.p3_merkle_core.specs.{Openings.node_in, Checks.params}
+use Rattle.p3_merkle_core.specs.Openings.{node_in}
+use Rattle.p3_merkle_core.specs.Checks.{params}
 
 second_node_over_four_rows : node_in [] (layers example (batch 2 (column (1 ∷ 2 ∷ 3 ∷ 4 ∷ []) ∷ []))) 1 1
     ≡ 1090 ∷ []

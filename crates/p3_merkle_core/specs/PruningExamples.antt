@@ -4,8 +4,9 @@ use Rattle.p3_support.specs.Lists.{is_among}
 use Rattle.p3_merkle_core.specs.Geometry.{exponent, layer_exponent, raw_len, leaves_under}
 use Rattle.p3_merkle_core.specs.Nodes.{node}
 use Rattle.p3_merkle_core.specs.Pruning.{boundary, honest_query, restored_node, restored_path}
-use Rattle.p3_merkle_core.specs.Inner.{Covered.covered_at, Children.beside, Children.children_under}
-use Rattle.p3_merkle_core.specs.{Inner.Children.siblings_on_path, Refusals.pruned_refusal}
+use Rattle.p3_merkle_core.specs.Inner.Covered.{covered_at}
+use Rattle.p3_merkle_core.specs.Inner.Children.{beside, children_under, siblings_on_path}
+use Rattle.p3_merkle_core.specs.Refusals.{pruned_refusal}
 use Rattle.p3_merkle_core.specs.Checks.{digests_at, params, siblings_below, path_digest}
 use Rattle.p3_merkle_core.specs.Examples.{batch, column, narrow, pruned, example, extracts_pruned}
 use Rattle.p3_merkle_core.specs.declared.error.PrunedProofError.TheVariants.{SiblingCountMismatch}

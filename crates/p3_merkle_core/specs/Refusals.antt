@@ -3,9 +3,11 @@ use Rattle.std.specs.Prelude.{◌≡◌, ℕ, suc, false, slice_get, ◌==◌, �
 use Rattle.std.specs.Prelude.{map, length, filter, zip, unwrap_or, option_map, slice_index, slice_index_or, Option}
 use Rattle.std.specs.Prelude.{Some, None, Result, Ok, Err, Decides}
 use Rattle.std.specs.List.{list_all, range_with_len, enumerate_from}
-use Rattle.std.specs.{Option.option_or, Cmp.Lexicographic.pointwise}
+use Rattle.std.specs.Option.{option_or}
+use Rattle.std.specs.Cmp.Lexicographic.{pointwise}
 use Rattle.p3_merkle_core.specs.Geometry.{Shape, exponent, layer_exponent, ancestor, least, heights, widths}
-use Rattle.p3_merkle_core.specs.{Gate.gate_refusal, Openings.Opening}
+use Rattle.p3_merkle_core.specs.Gate.{gate_refusal}
+use Rattle.p3_merkle_core.specs.Openings.{Opening}
 use Rattle.p3_merkle_core.specs.Checks.{Params, siblings_below, path_digest}
 use Rattle.p3_merkle_core.specs.Pruning.{PrunedOpening, boundary, first_rows, restored_node}
 use Rattle.p3_merkle_core.specs.declared.error.PrunedProofError.TheVariants.{SiblingCountMismatch}
@@ -15,8 +17,10 @@ use Rattle.p3_merkle_core.specs.declared.error.MerkleTreeError.{MerkleTreeError}
 use Rattle.p3_merkle_core.specs.declared.error.MerkleTreeError.TheVariants.{WrongBatchSize, WrongWidth, WrongHeight}
 use Rattle.p3_merkle_core.specs.declared.error.MerkleTreeError.TheVariants.{CapMismatch, IndexOutOfBounds}
 use Rattle.p3_merkle_core.specs.declared.error.MerkleTreeError.TheVariants.{MalformedPrunedProof, OutOfMemory}
-use Rattle.p3_support.specs.{Answers.AnswersUnless, Batches.greatest, Batches.widths_of}
-use Rattle.p3_support.specs.{declared.matrix.Dimensions.Dimensions, Lists.is_among}
+use Rattle.p3_support.specs.Answers.{AnswersUnless}
+use Rattle.p3_support.specs.Batches.{greatest, widths_of}
+use Rattle.p3_support.specs.declared.matrix.Dimensions.{Dimensions}
+use Rattle.p3_support.specs.Lists.{is_among}
 
 -- the test decides equality
 abbrev pub IsEquality : {T : Type 0} → (T → T → Bool) → Type 0

@@ -2,7 +2,9 @@
 use Rattle.std.specs.Prelude.{◌≡◌, ◌+◌, ◌^◌, [], ◌∷◌, map, refl, Some, None}
 use Rattle.p3_merkle_core.specs.Geometry.{exponent, layer_exponent, arity_schedule, padded_len, raw_len, layer_len}
 use Rattle.p3_merkle_core.specs.Geometry.{halved_index, heights, leaves_under, position_in_group}
-use Rattle.p3_merkle_core.specs.{Caps.cap_layer, Gate.gate_refusal, Examples.narrow}
+use Rattle.p3_merkle_core.specs.Caps.{cap_layer}
+use Rattle.p3_merkle_core.specs.Gate.{gate_refusal}
+use Rattle.p3_merkle_core.specs.Examples.{narrow}
 use Rattle.p3_merkle_core.specs.declared.cap.CapRule.TheVariants.{Lowered, Fixed}
 use Rattle.p3_merkle_core.specs.declared.error.MerkleTreeError.TheVariants.{EmptyBatch, IncompatibleHeights, TooLarge}
 use Rattle.p3_support.specs.Batches.{greatest}

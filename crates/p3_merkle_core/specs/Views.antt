@@ -1,14 +1,21 @@
 -- How the values of the code are read by the definitions.
 use Rattle.std.specs.Prelude.{◌≡◌, ℕ, ◌<◌, List, [], map, nat_lt, if◌then◌else◌, Option, Result, option_map}
-use Rattle.std.specs.{Result.result_map_both, declared.vec.Vec.Vec}
-use Rattle.p3_support.specs.{Shown.row_lists, Shown.row_sets, declared.opening.BatchOpening.BatchOpening}
-use Rattle.p3_support.specs.{declared.opening.BatchOpeningRef.BatchOpeningRef, Batches.heights_of}
-use Rattle.p3_merkle_core.specs.{Nodes.Batch, Nodes.Matrix, Nodes.dimensions_of, Openings.Opening, Openings.opening_of}
+use Rattle.std.specs.Result.{result_map_both}
+use Rattle.std.specs.declared.vec.Vec.{Vec}
+use Rattle.p3_support.specs.Shown.{row_lists, row_sets}
+use Rattle.p3_support.specs.declared.opening.BatchOpening.{BatchOpening}
+use Rattle.p3_support.specs.declared.opening.BatchOpeningRef.{BatchOpeningRef}
+use Rattle.p3_support.specs.Batches.{heights_of}
+use Rattle.p3_merkle_core.specs.Nodes.{Batch, Matrix, dimensions_of}
+use Rattle.p3_merkle_core.specs.Openings.{Opening, opening_of}
 use Rattle.p3_merkle_core.specs.Checks.{Input, digests_at, words_at}
 use Rattle.p3_merkle_core.specs.Pruning.{PrunedOpening, pruned_of}
-use Rattle.p3_merkle_core.specs.declared.collision.InputPair.{InputPair, TheVariants.Words, TheVariants.Digests}
+use Rattle.p3_merkle_core.specs.declared.collision.InputPair.{InputPair}
+use Rattle.p3_merkle_core.specs.declared.collision.InputPair.TheVariants.{Words, Digests}
 use Rattle.p3_merkle_core.specs.declared.error.MerkleTreeError.{MerkleTreeError}
-use Rattle.p3_merkle_core.specs.declared.pruning.{AuthPath.AuthPath, PrunedProof.PrunedProof, PrunedRows.PrunedRows}
+use Rattle.p3_merkle_core.specs.declared.pruning.AuthPath.{AuthPath}
+use Rattle.p3_merkle_core.specs.declared.pruning.PrunedProof.{PrunedProof}
+use Rattle.p3_merkle_core.specs.declared.pruning.PrunedRows.{PrunedRows}
 
 -- ---- matrices
 

@@ -3,7 +3,9 @@
 ghost use Rattle.std.specs.Prelude.{◌≡◌, ◌/◌, ◌%◌, ◌^◌, ◌<◌, ◌≤◌, Some, None, MatchResult, map};
 ghost use Rattle.p3_support.specs.Batches.{heights_of, greatest};
 ghost use Rattle.p3_merkle_core.specs.Geometry.{bits_reduced, exponent, height_at, height_limit, padded_len};
-ghost use Rattle.p3_merkle_core.specs.{Gate.first_too_large, Refusals.width_refusal, Inner.Shapes.shortest};
+ghost use Rattle.p3_merkle_core.specs.Gate.{first_too_large};
+ghost use Rattle.p3_merkle_core.specs.Refusals.{width_refusal};
+ghost use Rattle.p3_merkle_core.specs.Inner.Shapes.{shortest};
 
 use crate::error::MerkleTreeError;
 use p3_support::matrix::Dimensions;

@@ -11,8 +11,9 @@
 //!   share a place if they reach one node there.
 
 ghost use Rattle.std.specs.Prelude.{◌≡◌, ◌↔◌, IsTrue};
-ghost use Rattle.p3_merkle_core.specs.{Refusals.IsEquality, Views.IsSamePair, Views.shown_opening, Views.shown_path};
-ghost use Rattle.p3_merkle_core.specs.{Views.shown_pruned, Laws.AnswerIsExtraction};
+ghost use Rattle.p3_merkle_core.specs.Refusals.{IsEquality};
+ghost use Rattle.p3_merkle_core.specs.Views.{IsSamePair, shown_opening, shown_path, shown_pruned};
+ghost use Rattle.p3_merkle_core.specs.Laws.{AnswerIsExtraction, TestedIsArity, UnrefusedIsLawful, WalkEnds};
 ghost use Rattle.p3_merkle_core.specs.Laws.{AnsweredAsEachPath, BatchHasDimensions, BoundaryIsAlone, BoundaryIsLeast};
 ghost use Rattle.p3_merkle_core.specs.Laws.{BoundaryIsSmallest, BoundaryNodesAreApart, BoundaryNodesAreHeld};
 ghost use Rattle.p3_merkle_core.specs.Laws.{BoundarySuffices, CappedIsEachAccepted, FixedIsBelowRoot, HonestIsAccepted};
@@ -24,7 +25,6 @@ ghost use Rattle.p3_merkle_core.specs.Laws.{OkIsRestorable, OkOrCapMismatch, One
 ghost use Rattle.p3_merkle_core.specs.Laws.{OwnPrunedOpeningIsHonest, PrunedAnswerIsExtraction, RefusedUnderEachCap};
 ghost use Rattle.p3_merkle_core.specs.Laws.{OneHeightIsEnough, OneHeightNodesAreChildren, RootIsAlone};
 ghost use Rattle.p3_merkle_core.specs.Laws.{RowsAreAncestors, RowsAreBound, RulesAgree, ScheduleStopsAtCap};
-ghost use Rattle.p3_merkle_core.specs.Laws.{TestedIsArity, UnrefusedIsLawful, WalkEnds};
 
 use crate::collision::{Collision, InputPair, Place};
 use crate::error::{MerkleTreeError, PrunedProofError};

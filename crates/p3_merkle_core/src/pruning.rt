@@ -5,9 +5,11 @@
 
 ghost use Rattle.std.specs.Prelude.{◌≡◌, ℕ, ◌+◌, ◌-◌, ◌*◌, ◌/◌, ◌%◌, ◌^◌, ◌<◌, ◌≤◌, ◌⊎◌, ◌++◌, Some, None, List, []};
 ghost use Rattle.std.specs.Prelude.{All, IfOk, MatchResult, length, map, remove, slice_index, slice_index_or, true};
-ghost use Rattle.std.specs.{Cmp.Lexicographic.pointwise, List.Sorted.IsStrictlyIncreasing};
+ghost use Rattle.std.specs.Cmp.Lexicographic.{pointwise};
+ghost use Rattle.std.specs.List.Sorted.{IsStrictlyIncreasing};
 ghost use Rattle.p3_support.specs.Batches.{heights_of, greatest};
-ghost use Rattle.p3_support.specs.{Lists.is_among, Shown.row_lists, Shown.row_sets};
+ghost use Rattle.p3_support.specs.Lists.{is_among};
+ghost use Rattle.p3_support.specs.Shown.{row_lists, row_sets};
 ghost use Rattle.p3_merkle_core.specs.Geometry.{height_limit, shape_of, IsArity};
 ghost use Rattle.p3_merkle_core.specs.Refusals.{digest_count_refusal, duplicate_refusal, pruned_refusal};
 ghost use Rattle.p3_merkle_core.specs.Refusals.{queries_refusal, AnswersUnlessMemory};
@@ -15,7 +17,8 @@ ghost use Rattle.p3_merkle_core.specs.Inner.Agreement.{distinct, early_refusal, 
 ghost use Rattle.p3_merkle_core.specs.Inner.Agreement.{nodes_refusal, opened_of, opened_with, rows_refusal, slot_rows};
 ghost use Rattle.p3_merkle_core.specs.Inner.Agreement.{AreDistinctOf, AreSlots, AreSorted, IsAscending};
 ghost use Rattle.p3_merkle_core.specs.Inner.Children.{levels_in, siblings_on_path, place_among, AreChildren, AreLinked};
-ghost use Rattle.p3_merkle_core.specs.{Inner.Children.IsFamily, declared.error.MerkleTreeError.TheVariants.OutOfMemory};
+ghost use Rattle.p3_merkle_core.specs.Inner.Children.{IsFamily};
+ghost use Rattle.p3_merkle_core.specs.declared.error.MerkleTreeError.TheVariants.{OutOfMemory};
 
 use crate::error::{MerkleTreeError, PrunedProofError};
 use crate::geometry::{check_widths, exponent_of, parent_of, position_of};

@@ -6,12 +6,18 @@ ghost use Rattle.std.specs.Prelude.{◌≡◌, suc, ◌-◌, ◌/◌, ◌<◌, �
 ghost use Rattle.std.specs.Prelude.{IfOk, IsOk, MatchResult, None, Some};
 ghost use Rattle.std.specs.List.{list_any, range_with_len};
 ghost use Rattle.p3_support.specs.Batches.{heights_of, greatest};
-ghost use Rattle.p3_merkle_core.specs.{Caps.cap_layer, Checks.siblings_below, Gate.gate_refusal};
+ghost use Rattle.p3_merkle_core.specs.Caps.{cap_layer};
+ghost use Rattle.p3_merkle_core.specs.Checks.{siblings_below};
+ghost use Rattle.p3_merkle_core.specs.Gate.{gate_refusal};
 ghost use Rattle.p3_merkle_core.specs.Geometry.{exponent, has_rows, is_bridge, layer_exponent, levels, height_limit};
 ghost use Rattle.p3_merkle_core.specs.Geometry.{positions_below, schedule_below, shape_of, step, IsArity, IsLawful};
-ghost use Rattle.p3_merkle_core.specs.Inner.{Agreement.distinct, Agreement.IsAscending, Covered.AreCovered};
-ghost use Rattle.p3_merkle_core.specs.Inner.{Levels.IsBelowTop, Levels.IsLevel, Shapes.shortest, Steps.IsWalk};
-ghost use Rattle.p3_merkle_core.specs.{Inner.Exponents.AreExponents, Inner.Exponents.AreMarked, Pruning.pruned_len};
+ghost use Rattle.p3_merkle_core.specs.Inner.Agreement.{distinct, IsAscending};
+ghost use Rattle.p3_merkle_core.specs.Inner.Covered.{AreCovered};
+ghost use Rattle.p3_merkle_core.specs.Inner.Levels.{IsBelowTop, IsLevel};
+ghost use Rattle.p3_merkle_core.specs.Inner.Shapes.{shortest};
+ghost use Rattle.p3_merkle_core.specs.Inner.Steps.{IsWalk};
+ghost use Rattle.p3_merkle_core.specs.Inner.Exponents.{AreExponents, AreMarked};
+ghost use Rattle.p3_merkle_core.specs.Pruning.{pruned_len};
 
 use crate::cap::CapRule;
 use crate::error::MerkleTreeError;

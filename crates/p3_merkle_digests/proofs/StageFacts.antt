@@ -1,13 +1,20 @@
 -- Messages that are laid one after another, and slots that are filled part by part.
 use Rattle.std.proofs.Common.{◌≡◌, ℕ, zero, suc, ◌+◌, ◌-◌, ◌*◌, ◌/◌, ◌<◌, ◌≤◌, List, [], ◌∷◌, ◌++◌, length, map, take}
 use Rattle.std.proofs.Common.{drop, get_or, replicate, All, refl, sym, ap, ◌∙◌, arith, inl, inr, length-append}
-use Rattle.std.proofs.{Common.length-drop, Common.append-nil, Common.append_assoc, lemmas.Bool.cases_lt}
+use Rattle.std.proofs.Common.{length-drop, append-nil, append_assoc}
+use Rattle.std.proofs.lemmas.Bool.{cases_lt}
 use Rattle.std.proofs.lemmas.List.{get_or-append_right, get_or-drop, get_or-take, drop-drop, length-take-le, length-map}
-use Rattle.std.proofs.lemmas.List.{get_or-map, get_or_append_left, take_at, FromFn.fill_by_all}
-use Rattle.std.proofs.lemmas.List.{FromFn.get_or-map-range_with_len, FromFn.length-map-range_with_len, Sums.sum_by-cons}
-use Rattle.std.proofs.{Math.Seq.drop-append-add, lemmas.Simd.map-map, Math.Nat.mul-le-mul_left, Math.Nat.mul-suc}
-use Rattle.std.specs.{List.flat_map, List.range_with_len, Prelude.sum_by, Simd.first_chunks}
-use Rattle.p3_support.specs.{Lists.message, Lists.messages, Inner.RowLengths.next_start}
+use Rattle.std.proofs.lemmas.List.{get_or-map, get_or_append_left, take_at}
+use Rattle.std.proofs.lemmas.List.FromFn.{fill_by_all, get_or-map-range_with_len, length-map-range_with_len}
+use Rattle.std.proofs.lemmas.List.Sums.{sum_by-cons}
+use Rattle.std.proofs.Math.Seq.{drop-append-add}
+use Rattle.std.proofs.lemmas.Simd.{map-map}
+use Rattle.std.proofs.Math.Nat.{mul-le-mul_left, mul-suc}
+use Rattle.std.specs.List.{flat_map, range_with_len}
+use Rattle.std.specs.Prelude.{sum_by}
+use Rattle.std.specs.Simd.{first_chunks}
+use Rattle.p3_support.specs.Lists.{message, messages}
+use Rattle.p3_support.specs.Inner.RowLengths.{next_start}
 use Rattle.p3_merkle_digests.specs.Inner.Slots.{rows_over, IsFilled, IsStaged}
 use Rattle.p3_merkle_digests.proofs.LaneFacts.{part_written, part_before}
 use borrow.Rule.Slice.PartMut.{put_mid, same_len_mid}

@@ -1,8 +1,9 @@
 //! The digests of as many rows or nodes as a packed value has lanes, each in a lane of its own.
 
-ghost use Rattle.std.specs.{Mem.FitsInMemory, Prelude.◌≡◌};
+ghost use Rattle.std.specs.Mem.{FitsInMemory};
+ghost use Rattle.std.specs.Prelude.{◌≡◌, replicate, slice_index_or};
 ghost use Rattle.std.specs.Prelude.{ℕ, ◌+◌, ◌-◌, ◌*◌, ◌^◌, ◌<◌, ◌≤◌, ◌++◌, [], ◌∷◌, length, map, take, drop, All, IfOk};
-ghost use Rattle.std.specs.{Prelude.replicate, Prelude.slice_index_or, List.range_with_len};
+ghost use Rattle.std.specs.List.{range_with_len};
 ghost use denote.Param.{ArrayAt};
 ghost use Rattle.p3_support.specs.Lists.{lane_of};
 ghost use Rattle.p3_merkle_digests.specs.Inner.Slots.{leaf_over, rows_over, IsFilled};

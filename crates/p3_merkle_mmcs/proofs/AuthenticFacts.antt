@@ -2,7 +2,8 @@
 use Rattle.std.proofs.Common.{◌≡◌, ◌↔◌, ℕ, ◌+◌, ◌-◌, ◌<◌, ◌≤◌, leb, sym, ◌∙◌, arith, inl, inr, length, get_or}
 use Rattle.std.proofs.lemmas.Bool.{cases_lt, le-leb, lt-leb}
 use Rattle.p3_merkle_core.specs.Geometry.{Shape, IsArity, exponent, heights, layer_exponent, layer_of, levels}
-use Rattle.p3_merkle_core.proofs.Shapes.{LeastFacts.least_le, LadderFacts.layer_of_is}
+use Rattle.p3_merkle_core.proofs.Shapes.LeastFacts.{least_le}
+use Rattle.p3_merkle_core.proofs.Shapes.LadderFacts.{layer_of_is}
 use Rattle.p3_merkle_core.proofs.Shapes.FallFacts.{exponents_fall, falls_above}
 
 -- the matrices with at least the exponent of layer t belong to it, or to a layer below it

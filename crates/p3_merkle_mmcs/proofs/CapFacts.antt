@@ -2,8 +2,10 @@
 use Rattle.std.proofs.Common.{◌≡◌, ℕ, suc, List, [], arith, length, slice_get, Some}
 use Rattle.std.proofs.lemmas.List.FromFn.{length-map-range_with_len, get_or-map-range_with_len}
 use Rattle.std.proofs.lemmas.Option.{slice_get-get_or}
-use Rattle.p3_merkle_core.specs.{Caps.cap_layer, Geometry.levels, Nodes.Functions, Nodes.Batch, Nodes.shape}
-use Rattle.p3_merkle_core.specs.{Nodes.layer, Nodes.layers, declared.cap.CapRule.CapRule}
+use Rattle.p3_merkle_core.specs.Caps.{cap_layer}
+use Rattle.p3_merkle_core.specs.Geometry.{levels}
+use Rattle.p3_merkle_core.specs.Nodes.{Functions, Batch, shape, layer, layers}
+use Rattle.p3_merkle_core.specs.declared.cap.CapRule.{CapRule}
 
 -- a tree over a, and the layer of its cap
 pub cap_is : {T W : Type 0} (f : Functions T W) (a : Batch T) (own : List (List (List W))) (rule : CapRule)

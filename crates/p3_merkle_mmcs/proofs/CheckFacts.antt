@@ -1,8 +1,12 @@
 -- What the scheme hands to its checker.
 use Rattle.std.proofs.Common.{◌≡◌, ◌∙◌, ℕ, List, ap}
 use Rattle.p3_support.specs.declared.matrix.Dimensions.{Dimensions}
-use Rattle.p3_merkle_core.specs.{Caps.cap_layer, Checks.params, Geometry.shape_of, Nodes.Functions}
-use Rattle.p3_merkle_core.specs.declared.{cap.CapRule.CapRule, steps.Steps.Steps}
+use Rattle.p3_merkle_core.specs.Caps.{cap_layer}
+use Rattle.p3_merkle_core.specs.Checks.{params}
+use Rattle.p3_merkle_core.specs.Geometry.{shape_of}
+use Rattle.p3_merkle_core.specs.Nodes.{Functions}
+use Rattle.p3_merkle_core.specs.declared.cap.CapRule.{CapRule}
+use Rattle.p3_merkle_core.specs.declared.steps.Steps.{Steps}
 
 -- what the steps of some dimensions are of, and the cap's layer by them
 pub record AreSteps (n : ℕ) (dimensions : List Dimensions) (rule : CapRule) (height : ℕ) (steps : Steps) (t : ℕ) :

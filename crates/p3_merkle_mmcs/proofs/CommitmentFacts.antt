@@ -1,8 +1,10 @@
 -- What the answers of the scheme's calls say in the words of the trait.
 use Rattle.std.proofs.Common.{◌≡◌, ◌⊎◌, ℕ, List, Option, Some, None, Result, inl, inr, refl, subst, sym}
 use Rattle.std.specs.Prelude.{Ok, Err, IfErr, IfOk, IsOk}
-use Rattle.p3_merkle_core.specs.{Gate.gate_refusal, Geometry.IsLawful}
-use Rattle.p3_merkle_core.specs.declared.error.MerkleTreeError.{TheVariants.OutOfMemory, MerkleTreeError}
+use Rattle.p3_merkle_core.specs.Gate.{gate_refusal}
+use Rattle.p3_merkle_core.specs.Geometry.{IsLawful}
+use Rattle.p3_merkle_core.specs.declared.error.MerkleTreeError.TheVariants.{OutOfMemory}
+use Rattle.p3_merkle_core.specs.declared.error.MerkleTreeError.{MerkleTreeError}
 use Rattle.p3_merkle_core.specs.Refusals.{ok_unless, AnswersUnlessMemory}
 use Rattle.p3_merkle_core.proofs.Shapes.GateFacts.{gate_lawful}
 

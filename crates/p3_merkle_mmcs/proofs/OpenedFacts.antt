@@ -4,17 +4,24 @@ use Rattle.std.specs.Prelude.{All}
 use Rattle.std.proofs.lemmas.List.{length-map}
 use Rattle.p3_support.specs.Batches.{greatest}
 use Rattle.p3_support.specs.declared.matrix.Matrix as matrix
-use Rattle.p3_merkle_core.specs.{Checks.IsAccepted, Checks.params, Commitments.IsOwn, Commitments.cap_over}
-use Rattle.p3_merkle_core.specs.{Geometry.heights, Geometry.levels, Nodes.Functions, Nodes.shape, Opened.IsOpened}
-use Rattle.p3_merkle_core.specs.{Opened.IsPrunedOpened, Openings.Opening, Openings.honest, Openings.opening_in_layers}
+use Rattle.p3_merkle_core.specs.Checks.{IsAccepted, params}
+use Rattle.p3_merkle_core.specs.Commitments.{IsOwn, cap_over}
+use Rattle.p3_merkle_core.specs.Geometry.{heights, levels}
+use Rattle.p3_merkle_core.specs.Nodes.{Functions, shape}
+use Rattle.p3_merkle_core.specs.Opened.{IsOpened, IsPrunedOpened}
+use Rattle.p3_merkle_core.specs.Openings.{Opening, honest, opening_in_layers}
 use Rattle.p3_merkle_core.specs.Pruning.{IsHonestQuery, IsPrunedAccepted, PrunedOpening, boundary, honest_query}
 use Rattle.p3_merkle_core.specs.Pruning.{pruned_in_layers, restored_paths}
-use Rattle.p3_merkle_core.proofs.Checks.{CheckFacts.honest_accepted, Completeness.IsHonest}
+use Rattle.p3_merkle_core.proofs.Checks.CheckFacts.{honest_accepted}
+use Rattle.p3_merkle_core.proofs.Checks.Completeness.{IsHonest}
 use Rattle.p3_merkle_core.proofs.Checks.OwnNodes.{honest_restored_paths, own_opening_is, own_pruned_opening_is}
-use Rattle.p3_merkle_core.proofs.Covered.{Equivalence.equivalent, Restoration.honest_capped, Sufficient.count_least}
+use Rattle.p3_merkle_core.proofs.Covered.Equivalence.{equivalent}
+use Rattle.p3_merkle_core.proofs.Covered.Restoration.{honest_capped}
+use Rattle.p3_merkle_core.proofs.Covered.Sufficient.{count_least}
 use Rattle.p3_merkle_core.proofs.Pruned.HonestAnswered.{honest_restorable}
 use Rattle.p3_merkle_prover.proofs.RowFacts.{full_rows}
-use Rattle.p3_merkle_prover.specs.{Parts.layers_of, Parts.tree_batch, declared.tree.Tree.Tree}
+use Rattle.p3_merkle_prover.specs.Parts.{layers_of, tree_batch}
+use Rattle.p3_merkle_prover.specs.declared.tree.Tree.{Tree}
 
 module _ {T W M B : Type 0} {n : ℕ} {m : matrix.Ghosts M T} (f : Functions T W) (tree : Tree T (List W) B M n m)
     (t : ℕ) (in_tree : t ≤ levels (shape (tree_batch tree)))

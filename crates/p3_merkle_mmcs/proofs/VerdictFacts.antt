@@ -1,13 +1,19 @@
 -- What the answer to an opening means.
 use Rattle.std.proofs.Common.{◌≡◌, ◌↔◌, ◌∙◌, ℕ, Bool, List, Option, None, Result, ap, refl, subst, sym}
 use Rattle.std.specs.Prelude.{Ok, Err, IsOk}
-use Rattle.p3_merkle_core.specs.{Checks.Params, Geometry.IsArity, Geometry.Shape, Openings.Opening}
+use Rattle.p3_merkle_core.specs.Checks.{Params}
+use Rattle.p3_merkle_core.specs.Geometry.{IsArity, Shape}
+use Rattle.p3_merkle_core.specs.Openings.{Opening}
 use Rattle.p3_merkle_core.specs.Presented.{IsExactVerdict, IsVerdict, Presented, presented, presented_pruned}
-use Rattle.p3_merkle_core.specs.{Presented.presented_to_restore, Pruning.PrunedOpening, Refusals.AnswersUnlessMemory}
+use Rattle.p3_merkle_core.specs.Presented.{presented_to_restore}
+use Rattle.p3_merkle_core.specs.Pruning.{PrunedOpening}
+use Rattle.p3_merkle_core.specs.Refusals.{AnswersUnlessMemory}
 use Rattle.p3_merkle_core.specs.Refusals.{IsEquality, answer_under, ok_unless, pruned_refusal, pruned_refusal_under}
 use Rattle.p3_merkle_core.specs.declared.error.MerkleTreeError.{MerkleTreeError}
 use Rattle.p3_merkle_core.proofs.Checks.Verdicts.{accepted_answer, accepted_from, pruned_accepted}
-use Rattle.p3_merkle_core.proofs.Pruned.{Answered.restorable, NoneFacts.verdict_ok, Unrefused.unrefused}
+use Rattle.p3_merkle_core.proofs.Pruned.Answered.{restorable}
+use Rattle.p3_merkle_core.proofs.Pruned.NoneFacts.{verdict_ok}
+use Rattle.p3_merkle_core.proofs.Pruned.Unrefused.{unrefused}
 
 -- there is one Ok
 ok_is : {E : Type 0} (r : Result (Unit {0}) E) → IsOk r → r ≡ Ok tt

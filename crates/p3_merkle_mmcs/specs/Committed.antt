@@ -1,19 +1,29 @@
 -- What a scheme commits to, what it opens of a tree, and what is presented to it.
-use Rattle.std.specs.{Prelude.ℕ, Prelude.List, declared.vec.Vec.Vec}
+use Rattle.std.specs.Prelude.{ℕ, List}
+use Rattle.std.specs.declared.vec.Vec.{Vec}
 use Rattle.std.specs.declared.default.Default as default
 use Rattle.std.specs.declared.cmp.PartialEq as equality
 use Rattle.p3_support.specs.declared.compress.PseudoCompressionFunction as compressor
 use Rattle.p3_support.specs.declared.hasher.CryptographicHasher as hasher
-use Rattle.p3_support.specs.declared.{matrix.Dimensions.Dimensions, opening.BatchOpeningRef.BatchOpeningRef}
-use Rattle.p3_support.specs.{declared.opening.MerkleCap.MerkleCap, Shown.roots_of}
+use Rattle.p3_support.specs.declared.matrix.Dimensions.{Dimensions}
+use Rattle.p3_support.specs.declared.opening.BatchOpeningRef.{BatchOpeningRef}
+use Rattle.p3_support.specs.declared.opening.MerkleCap.{MerkleCap}
+use Rattle.p3_support.specs.Shown.{roots_of}
 use Rattle.p3_support.specs.declared.matrix.Matrix as matrix
 use Rattle.p3_support.specs.declared.packed.PackedValue as packed
-use Rattle.p3_merkle_core.specs.{Commitments.IsCommitment, Geometry.shape_of, Nodes.shape, Opened.IsOpened}
-use Rattle.p3_merkle_core.specs.{Opened.IsPrunedOpened, Openings.Opening, Presented.Presented, Presented.presented}
-use Rattle.p3_merkle_core.specs.{Presented.presented_pruned, Pruning.PrunedOpening, Views.opening_borrowed}
-use Rattle.p3_merkle_core.specs.{Views.pruned_borrowed, declared.pruning.PrunedProof.PrunedProof}
-use Rattle.p3_merkle_prover.specs.{Parts.layers_of, Parts.tree_batch, declared.tree.Tree.Tree}
-use Rattle.p3_merkle_mmcs.specs.{Schemes.params_of, declared.mmcs.Scheme.Scheme}
+use Rattle.p3_merkle_core.specs.Commitments.{IsCommitment}
+use Rattle.p3_merkle_core.specs.Geometry.{shape_of}
+use Rattle.p3_merkle_core.specs.Nodes.{shape}
+use Rattle.p3_merkle_core.specs.Opened.{IsOpened, IsPrunedOpened}
+use Rattle.p3_merkle_core.specs.Openings.{Opening}
+use Rattle.p3_merkle_core.specs.Presented.{Presented, presented, presented_pruned}
+use Rattle.p3_merkle_core.specs.Pruning.{PrunedOpening}
+use Rattle.p3_merkle_core.specs.Views.{opening_borrowed, pruned_borrowed}
+use Rattle.p3_merkle_core.specs.declared.pruning.PrunedProof.{PrunedProof}
+use Rattle.p3_merkle_prover.specs.Parts.{layers_of, tree_batch}
+use Rattle.p3_merkle_prover.specs.declared.tree.Tree.{Tree}
+use Rattle.p3_merkle_mmcs.specs.Schemes.{params_of}
+use Rattle.p3_merkle_mmcs.specs.declared.mmcs.Scheme.{Scheme}
 
 module _ {P PW H C X G V W : Type 0} {N D : ℕ} {p : packed.Ghosts P V} {pd : default.Ghosts V} {pe : equality.Ghosts V}
     {q : packed.Ghosts PW W} {qd : default.Ghosts W} {qe : equality.Ghosts W} {h : hasher.Ghosts H P PW D V W}

@@ -2,7 +2,9 @@
 //! level, and has an input of the hash or of the compression at each place. Openings conflict in a row if both have it
 //! and its words differ.
 
-ghost use Rattle.p3_merkle_core.specs.{Extraction.IsExtraction, Geometry.shape_of, Views.found_alone, Views.found_pair};
+ghost use Rattle.p3_merkle_core.specs.Extraction.{IsExtraction};
+ghost use Rattle.p3_merkle_core.specs.Geometry.{shape_of};
+ghost use Rattle.p3_merkle_core.specs.Views.{found_alone, found_pair};
 ghost use Rattle.p3_merkle_mmcs.specs.Committed.{presented_one, presented_all};
 ghost use Rattle.p3_merkle_mmcs.specs.Schemes.{cap_rule_of, params_of};
 

@@ -2,7 +2,8 @@
 //! leads from a layer to the next above it; a cap height counts levels below the root.
 
 ghost use Rattle.std.specs.Prelude.{◌≡◌, ◌<◌, ◌≤◌, IfOk, IsTrue, None};
-ghost use Rattle.p3_merkle_core.specs.{Computed.Computes, Geometry.is_arity, Geometry.IsArity};
+ghost use Rattle.p3_merkle_core.specs.Computed.{Computes};
+ghost use Rattle.p3_merkle_core.specs.Geometry.{is_arity, IsArity};
 ghost use Rattle.p3_support.specs.Batches.{greatest};
 
 use p3_merkle_core::cap::CapRule;

@@ -2,9 +2,11 @@
 //! row of each matrix. Its restored path is its siblings, each from the proof or computed.
 
 ghost use Rattle.std.specs.Prelude.{◌≡◌, ◌<◌, All, IfOk, None};
-ghost use Rattle.p3_merkle_core.specs.{Geometry.heights, Geometry.shape_of, Nodes.shape};
+ghost use Rattle.p3_merkle_core.specs.Geometry.{heights, shape_of};
+ghost use Rattle.p3_merkle_core.specs.Nodes.{shape};
 ghost use Rattle.p3_merkle_core.specs.Presented.{presented_to_restore, IsVerdict};
-ghost use Rattle.p3_merkle_core.specs.{Pruning.restored_paths, Refusals.AnswersUnlessMemory};
+ghost use Rattle.p3_merkle_core.specs.Pruning.{restored_paths};
+ghost use Rattle.p3_merkle_core.specs.Refusals.{AnswersUnlessMemory};
 ghost use Rattle.p3_merkle_core.specs.Views.{multi_made, pruned_borrowed, pruned_made, shown_paths};
 ghost use Rattle.p3_support.specs.Batches.{greatest};
 ghost use Rattle.p3_merkle_prover.specs.Parts.{tree_batch};

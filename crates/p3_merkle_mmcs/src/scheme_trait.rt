@@ -2,10 +2,14 @@
 
 ghost use Rattle.std.specs.Prelude.{◌≡◌, ◌<◌, All, IfErr, IfOk, List, map};
 ghost use Rattle.p3_merkle_prover.specs.Parts.{layers_of, matrices_of, tree_batch};
-ghost use Rattle.p3_merkle_core.specs.{Commitments.HaveProof, Commitments.IsCommitment, Gate.gate_refusal};
+ghost use Rattle.p3_merkle_core.specs.Commitments.{HaveProof, IsCommitment};
+ghost use Rattle.p3_merkle_core.specs.Gate.{gate_refusal};
 ghost use Rattle.p3_merkle_core.specs.Geometry.{heights, shape_of, IsLawful, halved_index};
-ghost use Rattle.p3_merkle_core.specs.{Nodes.shape, Openings.opening_of, Checks.IsAccepted, Presented.IsExactVerdict};
-ghost use Rattle.p3_merkle_core.specs.{Presented.IsVerdict, Pruning.pruned_of, Pruning.IsPrunedAccepted};
+ghost use Rattle.p3_merkle_core.specs.Nodes.{shape};
+ghost use Rattle.p3_merkle_core.specs.Openings.{opening_of};
+ghost use Rattle.p3_merkle_core.specs.Checks.{IsAccepted};
+ghost use Rattle.p3_merkle_core.specs.Presented.{IsExactVerdict, IsVerdict};
+ghost use Rattle.p3_merkle_core.specs.Pruning.{pruned_of, IsPrunedAccepted};
 ghost use Rattle.p3_merkle_core.specs.Refusals.{pruned_refusal_under, refusal_under, AnswersUnlessMemory};
 ghost use Rattle.p3_merkle_core.specs.declared.error.MerkleTreeError.TheVariants.{OutOfMemory};
 ghost use Rattle.p3_merkle_core.specs.Views.{heights_in, multi_made, opening_made};

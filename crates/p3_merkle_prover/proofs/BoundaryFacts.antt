@@ -5,19 +5,25 @@ use Rattle.std.proofs.Common.{take, drop, drop-cons, All, Vec, append_assoc, eq-
 use Rattle.std.proofs.lemmas.Bool.{cases_eq, cases_lt, and_from, and_parts, eqb-true, false_from_ne_true, not-true}
 use Rattle.std.proofs.lemmas.Bool.{not_from_false, true≢false}
 use Rattle.std.proofs.lemmas.List.{map-append, append-nil, get_or_default, map_more, get_or-map, drop-drop, drop-take}
-use Rattle.std.proofs.lemmas.List.{take-take, Elements.filter-append, Elements.filter_agree, Folds.Any-from_list_any}
-use Rattle.std.proofs.lemmas.List.{Folds.list_any_at, Kept.AllPairs-from_increasing}
+use Rattle.std.proofs.lemmas.List.{take-take}
+use Rattle.std.proofs.lemmas.List.Elements.{filter-append, filter_agree}
+use Rattle.std.proofs.lemmas.List.Folds.{Any-from_list_any, list_any_at}
+use Rattle.std.proofs.lemmas.List.Kept.{AllPairs-from_increasing}
 use Rattle.std.proofs.Math.Nat.{mul-le-mul_left}
 use Rattle.std.specs.List.{list_any, range_with_len, remove}
-use Rattle.std.specs.{Cmp.both_ways, Prelude.slice_index_or, List.Sorted.IsStrictlyIncreasing}
+use Rattle.std.specs.Cmp.{both_ways}
+use Rattle.std.specs.Prelude.{slice_index_or}
+use Rattle.std.specs.List.Sorted.{IsStrictlyIncreasing}
 use Rattle.p3_merkle_core.specs.Geometry.{Shape, step, layer_len}
 use Rattle.p3_merkle_core.specs.Pruning.{CanQuery, is_covered, is_boundary, boundary_at, boundary, boundary_by}
-use Rattle.p3_merkle_core.specs.{Inner.Covered.covered_at, Openings.node_in}
+use Rattle.p3_merkle_core.specs.Inner.Covered.{covered_at}
+use Rattle.p3_merkle_core.specs.Openings.{node_in}
 use Rattle.p3_merkle_core.proofs.Lists.ListFacts.{joined_more}
 use Rattle.p3_merkle_core.proofs.Lists.RisingFacts.{all_kept, div_mono, increasing_from, is_listed, listed_at}
 use Rattle.p3_merkle_core.proofs.Lists.RisingFacts.{none_kept, place_of, range_joined, rising_filter}
 use Rattle.p3_merkle_core.proofs.Covered.CoveredFacts.{covered_child, covered_listed, group_fits, listed_covered}
-use Rattle.p3_merkle_core.proofs.{Shapes.StepFacts.step_above_1, Covered.Under.covered_up}
+use Rattle.p3_merkle_core.proofs.Shapes.StepFacts.{step_above_1}
+use Rattle.p3_merkle_core.proofs.Covered.Under.{covered_up}
 use Rattle.p3_support.specs.Shown.{row_lists, row_sets}
 use Rattle.p3_merkle_prover.specs.Inner.Own.{is_beside, others_beside}
 

@@ -4,12 +4,15 @@ use Rattle.std.proofs.Common.{subst, arith, length, get_or, Vec}
 use Rattle.std.specs.List.{range_with_len}
 use Rattle.std.proofs.lemmas.List.FromFn.{map-range_with_len_more, length-map-range_with_len, get_or-map-range_with_len}
 use Rattle.std.proofs.lemmas.List.{length-map, get_or-map}
-use Rattle.p3_support.specs.{Lists.rows_of_height, Batches.heights_of, Batches.greatest}
+use Rattle.p3_support.specs.Lists.{rows_of_height}
+use Rattle.p3_support.specs.Batches.{heights_of, greatest}
 use Rattle.p3_support.specs.declared.matrix.Dimensions.{Dimensions}
 use Rattle.p3_merkle_core.specs.Geometry.{Shape, shape_of, heights, layer_exponent, levels, raw_len, layer_len}
-use Rattle.p3_merkle_core.specs.{Geometry.padded_len, Geometry.height_limit, Geometry.IsLawful, Inner.Levels.IsBelowTop}
-use Rattle.p3_merkle_core.specs.{Inner.Levels.IsLevel, Nodes.Functions, Nodes.Batch, Nodes.shape, Nodes.layer}
-use Rattle.p3_merkle_core.specs.{Nodes.layers, Nodes.node, Views.batch_of, declared.levels.Level.Level}
+use Rattle.p3_merkle_core.specs.Geometry.{padded_len, height_limit, IsLawful}
+use Rattle.p3_merkle_core.specs.Inner.Levels.{IsBelowTop, IsLevel}
+use Rattle.p3_merkle_core.specs.Nodes.{Functions, Batch, shape, layer, layers, node}
+use Rattle.p3_merkle_core.specs.Views.{batch_of}
+use Rattle.p3_merkle_core.specs.declared.levels.Level.{Level}
 use Rattle.p3_merkle_core.proofs.Shapes.LevelFacts.{low}
 use Rattle.p3_merkle_prover.specs.Inner.Levels.{CanBuild}
 use Rattle.p3_merkle_prover.proofs.LayerFacts.{layer_first}

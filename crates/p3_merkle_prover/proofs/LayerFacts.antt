@@ -6,15 +6,21 @@ use Rattle.std.proofs.lemmas.Bool.{cases_Bool, cases_lt, cases_eq, cond-true, co
 use Rattle.std.proofs.lemmas.Bool.{ne_eqb, or_parts, eqb-true, true≢false}
 use Rattle.std.proofs.lemmas.List.FromFn.{fill_by_all, get_or-map-range_with_len, length-map-range_with_len}
 use Rattle.std.proofs.lemmas.List.{length-take-le, get_or-take, get_or-drop}
-use Rattle.std.proofs.{Math.Nat.mul-le-mul_left, Math.Nat.mul-suc, lemmas.Simd.map-map}
+use Rattle.std.proofs.Math.Nat.{mul-le-mul_left, mul-suc}
+use Rattle.std.proofs.lemmas.Simd.{map-map}
 use Rattle.std.specs.List.{range_with_len, list_any, list_all}
-use Rattle.p3_support.specs.{Lists.rows_of_height, Batches.greatest}
+use Rattle.p3_support.specs.Lists.{rows_of_height}
+use Rattle.p3_support.specs.Batches.{greatest}
 use Rattle.p3_merkle_core.specs.Views.{batch_of, matrix_of}
 use Rattle.p3_merkle_core.specs.Geometry.{heights, exponent, layer_exponent, step, raw_len, layer_len, expected_height}
-use Rattle.p3_merkle_core.specs.{Geometry.has_rows, Geometry.IsLawful, Geometry.height_at, Nodes.Functions, Nodes.Batch}
+use Rattle.p3_merkle_core.specs.Geometry.{has_rows, IsLawful, height_at}
+use Rattle.p3_merkle_core.specs.Nodes.{Functions, Batch, layer}
 use Rattle.p3_merkle_core.specs.Nodes.{shape, at_layer, joined_rows, row_digest, with_rows, compress_padded, node}
-use Rattle.p3_merkle_core.specs.{Nodes.layer, Inner.Levels.IsLevel, declared.levels.Level.Level, Openings.children_by}
-use Rattle.p3_merkle_core.proofs.{Checks.Completeness.node_next, Shapes.StepFacts.layer_start}
+use Rattle.p3_merkle_core.specs.Inner.Levels.{IsLevel}
+use Rattle.p3_merkle_core.specs.declared.levels.Level.{Level}
+use Rattle.p3_merkle_core.specs.Openings.{children_by}
+use Rattle.p3_merkle_core.proofs.Checks.Completeness.{node_next}
+use Rattle.p3_merkle_core.proofs.Shapes.StepFacts.{layer_start}
 use Rattle.p3_merkle_digests.specs.Inner.Slots.{leaf_over, rows_over}
 use Rattle.p3_merkle_prover.specs.Inner.Levels.{node_above}
 

@@ -2,8 +2,10 @@
 use Rattle.std.proofs.Common.{◌≡◌, ℕ, suc, ◌+◌, ◌-◌, ◌*◌, ◌<◌, ◌≤◌, List, ◌∷◌, ◌++◌, length, take, drop, replicate}
 use Rattle.std.proofs.Common.{true, false, sym, ap, ◌∙◌, arith, length-drop}
 use Rattle.std.proofs.Math.Nat.{mul-add, mul-le-mul_left, mul-suc}
-use Rattle.std.proofs.lemmas.{Bool.lt-ltb, List.drop-drop, List.length-take-le, List.take_all}
-use Rattle.p3_merkle_core.specs.{Nodes.Functions, Nodes.compress_padded, declared.levels.Level.Level}
+use Rattle.std.proofs.lemmas.Bool.{lt-ltb}
+use Rattle.std.proofs.lemmas.List.{drop-drop, length-take-le, take_all}
+use Rattle.p3_merkle_core.specs.Nodes.{Functions, compress_padded}
+use Rattle.p3_merkle_core.specs.declared.levels.Level.{Level}
 use Rattle.p3_merkle_prover.specs.Inner.Levels.{slot_above, HasChildren}
 
 -- the children of node j in the layer from those of the first node on

@@ -4,13 +4,18 @@ use Rattle.std.proofs.Common.{arith, length, get_or, take, drop, add-one, length
 use Rattle.std.proofs.lemmas.List.{ext_get_or, get_or-drop, get_or-map, get_or-take, length-take-le}
 use Rattle.std.proofs.lemmas.List.FromFn.{get_or-map-range_with_len, length-map-range_with_len}
 use Rattle.std.proofs.Math.Nat.{mul-le-mul_left}
-use Rattle.std.specs.{List.range_with_len, List.remove, Prelude.slice_index_or}
+use Rattle.std.specs.List.{range_with_len, remove}
+use Rattle.std.specs.Prelude.{slice_index_or}
 use Rattle.p3_merkle_core.specs.Geometry.{Shape, step, ancestor, levels, heights, raw_len, layer_len, IsArity, IsLawful}
-use Rattle.p3_merkle_core.specs.{Nodes.shape, Openings.node_in, Openings.level_siblings}
-use Rattle.p3_support.specs.{Batches.greatest, declared.matrix.Matrix.Ghosts}
-use Rattle.p3_merkle_core.proofs.Shapes.{RawFacts.anc_below, RawFacts.children_fit, StepFacts.anc_next}
-use Rattle.p3_merkle_core.proofs.{Shapes.StepFacts.step_above_1, Lists.ListFacts.joined, Lists.ListFacts.joined_more}
-use Rattle.p3_merkle_prover.specs.{Parts.tree_batch, declared.tree.Tree.Tree}
+use Rattle.p3_merkle_core.specs.Nodes.{shape}
+use Rattle.p3_merkle_core.specs.Openings.{node_in, level_siblings}
+use Rattle.p3_support.specs.Batches.{greatest}
+use Rattle.p3_support.specs.declared.matrix.Matrix.{Ghosts}
+use Rattle.p3_merkle_core.proofs.Shapes.RawFacts.{anc_below, children_fit}
+use Rattle.p3_merkle_core.proofs.Shapes.StepFacts.{anc_next, step_above_1}
+use Rattle.p3_merkle_core.proofs.Lists.ListFacts.{joined, joined_more}
+use Rattle.p3_merkle_prover.specs.Parts.{tree_batch}
+use Rattle.p3_merkle_prover.specs.declared.tree.Tree.{Tree}
 use Rattle.p3_merkle_prover.proofs.TreeFacts.{layer_long}
 
 -- the group, in layer l, of the node above leaf i: from `node - node % n` on, n of the layer's digests

@@ -1,11 +1,15 @@
 -- The rows that a tree opens: where they stand, and that they are the honest ones.
 use Rattle.std.proofs.Common.{◌≡◌, ℕ, zero, suc, ◌+◌, ◌<◌, ◌≤◌, List, [], ◌∷◌, ◌++◌, map, refl, ap, sym, subst, ◌∙◌}
 use Rattle.std.proofs.Common.{arith, length, get_or, take}
-use Rattle.std.proofs.lemmas.{Bool.lt-ltb, List.take_more, List.map-append, List.length-map}
+use Rattle.std.proofs.lemmas.Bool.{lt-ltb}
+use Rattle.std.proofs.lemmas.List.{take_more, map-append, length-map}
 use Rattle.p3_merkle_core.specs.Geometry.{bits_reduced, heights, halved_index, height_limit, IsLawful}
-use Rattle.p3_merkle_core.specs.{Views.batch_of, Views.matrix_of, Nodes.shape, Nodes.HasFullRows, Openings.honest_rows}
+use Rattle.p3_merkle_core.specs.Views.{batch_of, matrix_of}
+use Rattle.p3_merkle_core.specs.Nodes.{shape, HasFullRows}
+use Rattle.p3_merkle_core.specs.Openings.{honest_rows}
 use Rattle.p3_support.specs.Batches.{greatest}
-use Rattle.p3_merkle_core.proofs.Shapes.{LadderFacts.row_below, LeastFacts.exponent_le}
+use Rattle.p3_merkle_core.proofs.Shapes.LadderFacts.{row_below}
+use Rattle.p3_merkle_core.proofs.Shapes.LeastFacts.{exponent_le}
 use Rattle.p3_merkle_core.proofs.Shapes.GateFacts.{tallest_fits, none_large_from_lawful}
 
 -- lawful heights are within the limit

@@ -1,14 +1,19 @@
 -- What the facts of a tree say of its layers.
 use Rattle.std.proofs.Common.{◌≡◌, ℕ, suc, ◌<◌, ◌≤◌, cond, nat_lt, List, map, refl, ap, sym, ◌∙◌, arith, inl, inr}
 use Rattle.std.proofs.Common.{length, get_or, All}
-use Rattle.std.proofs.lemmas.{Bool.cases_lt, Bool.le-ltb, Option.slice_get_read, List.FromFn.length-map-range_with_len}
-use Rattle.std.proofs.lemmas.{List.FromFn.get_or-map-range_with_len, List.length-map, List.get_or-map, Simd.map-map}
-use Rattle.std.specs.{Prelude.[], Prelude.◌∷◌, Prelude.Some, Prelude.slice_get, List.AllZip, List.range_with_len}
+use Rattle.std.proofs.lemmas.Bool.{cases_lt, le-ltb}
+use Rattle.std.proofs.lemmas.Option.{slice_get_read}
+use Rattle.std.proofs.lemmas.List.FromFn.{length-map-range_with_len, get_or-map-range_with_len}
+use Rattle.std.proofs.lemmas.List.{length-map, get_or-map}
+use Rattle.std.proofs.lemmas.Simd.{map-map}
+use Rattle.std.specs.Prelude.{[], ◌∷◌, Some, slice_get}
+use Rattle.std.specs.List.{AllZip, range_with_len}
 use Rattle.p3_merkle_core.specs.Geometry.{Shape, heights, layer_len, levels, raw_len, padded_len, IsArity, IsLawful}
 use Rattle.p3_merkle_core.specs.Views.{batch_of, matrix_of, ClonesShowTheSame, ShowsTheSame}
 use Rattle.p3_merkle_core.specs.Nodes.{Functions, Batch, Matrix, shape, node, layer, layers}
 use Rattle.p3_merkle_prover.proofs.LayerFacts.{same_made}
-use Rattle.p3_merkle_core.proofs.Shapes.{LadderFacts.exponent_at_levels, RawFacts.filled}
+use Rattle.p3_merkle_core.proofs.Shapes.LadderFacts.{exponent_at_levels}
+use Rattle.p3_merkle_core.proofs.Shapes.RawFacts.{filled}
 
 module _ {V : Type 0} (len : V → ℕ) (vs : List V) (s : Shape) where
   -- a tree has one layer more than levels

@@ -1,7 +1,8 @@
 -- The parts of a tree that contracts cite.
 use Rattle.std.specs.Prelude.{ℕ, List, map}
 use Rattle.p3_support.specs.declared.matrix.Matrix.{Ghosts}
-use Rattle.p3_merkle_core.specs.{Nodes.Batch, Views.batch_of}
+use Rattle.p3_merkle_core.specs.Nodes.{Batch}
+use Rattle.p3_merkle_core.specs.Views.{batch_of}
 use Rattle.p3_merkle_prover.specs.declared.tree.Tree.{Tree}
 
 module _ {F X G M : Type 0} {n : ℕ} {matrix : Ghosts M F} where

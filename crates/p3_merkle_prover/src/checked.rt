@@ -3,8 +3,11 @@
 
 ghost use Rattle.std.specs.Prelude.{◌≡◌, ◌≤◌, IfOk, IsTrue, replicate};
 ghost use Rattle.p3_support.specs.Batches.{dimensions_in, heights_of};
-ghost use Rattle.p3_merkle_core.specs.{Gate.gate_refusal, Geometry.is_arity, Geometry.IsLawful, Nodes.functions_of};
-ghost use Rattle.p3_merkle_core.specs.{Nodes.layers as layers_over, Refusals.AnswersUnlessMemory, Views.heights_in};
+ghost use Rattle.p3_merkle_core.specs.Gate.{gate_refusal};
+ghost use Rattle.p3_merkle_core.specs.Geometry.{is_arity, IsLawful};
+ghost use Rattle.p3_merkle_core.specs.Nodes.{functions_of, layers as layers_over};
+ghost use Rattle.p3_merkle_core.specs.Refusals.{AnswersUnlessMemory};
+ghost use Rattle.p3_merkle_core.specs.Views.{heights_in};
 ghost use Rattle.p3_merkle_prover.specs.Parts.{layers_of, matrices_of, tree_batch};
 
 use crate::layers::TreeBuilder;

@@ -4,7 +4,8 @@
 //! take many messages fill the others.
 
 ghost use Rattle.std.specs.Prelude.{◌≡◌, ℕ, ◌+◌, ◌*◌, ◌<◌, ◌≤◌, All, IfOk, map, length, replicate, true};
-ghost use Rattle.std.specs.{List.range_with_len, Mem.FitsInMemory};
+ghost use Rattle.std.specs.List.{range_with_len};
+ghost use Rattle.std.specs.Mem.{FitsInMemory};
 ghost use denote.Param.{ArrayAt};
 ghost use Rattle.p3_support.specs.Lists.{lane_of};
 ghost use Rattle.p3_merkle_core.specs.Computed.{Computes};

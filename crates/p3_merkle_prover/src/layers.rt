@@ -4,8 +4,11 @@
 //! and its rows are read from those alone.
 
 ghost use Rattle.std.specs.Prelude.{◌≡◌, All, IfOk, map, filter, length, replicate, ◌==◌};
-ghost use Rattle.p3_merkle_core.specs.{Computed.Computes, Geometry.layer_len, Geometry.shape_of, Inner.Levels.IsLevel};
-ghost use Rattle.p3_merkle_core.specs.{Views.batch_of, Nodes.layer, Nodes.layers as layers_over};
+ghost use Rattle.p3_merkle_core.specs.Computed.{Computes};
+ghost use Rattle.p3_merkle_core.specs.Geometry.{layer_len, shape_of};
+ghost use Rattle.p3_merkle_core.specs.Inner.Levels.{IsLevel};
+ghost use Rattle.p3_merkle_core.specs.Views.{batch_of};
+ghost use Rattle.p3_merkle_core.specs.Nodes.{layer, layers as layers_over};
 ghost use Rattle.p3_merkle_prover.specs.Inner.Levels.{CanBuild, HasChildren};
 
 use crate::layer::{Buffers, LayerBuilder};

@@ -3,8 +3,10 @@
 
 ghost use Rattle.std.specs.Prelude.{◌≡◌, ◌<◌, ◌≤◌, ◌++◌, length, map, slice_get, IfOk, None, Some};
 ghost use Rattle.std.specs.List.{remove};
-ghost use Rattle.p3_support.specs.{Batches.greatest, Shown.roots_of, Shown.row_lists};
-ghost use Rattle.p3_merkle_core.specs.{Geometry.heights, Geometry.levels, Geometry.shape_of, Nodes.shape};
+ghost use Rattle.p3_support.specs.Batches.{greatest};
+ghost use Rattle.p3_support.specs.Shown.{roots_of, row_lists};
+ghost use Rattle.p3_merkle_core.specs.Geometry.{heights, levels, shape_of};
+ghost use Rattle.p3_merkle_core.specs.Nodes.{shape};
 ghost use Rattle.p3_merkle_core.specs.Openings.{honest_rows, node_in, siblings_by};
 ghost use Rattle.p3_merkle_core.specs.declared.error.MerkleTreeError.TheVariants.{OutOfMemory};
 ghost use Rattle.p3_merkle_core.specs.Refusals.{AnswersUnlessMemory};

@@ -4,11 +4,16 @@
 
 ghost use Rattle.std.specs.Prelude.{◌≡◌, ◌+◌, ◌-◌, ◌%◌, ◌^◌, ◌<◌, ◌≤◌, ◌++◌, length, map, All, IfOk, None};
 ghost use Rattle.std.specs.List.Sorted.{IsStrictlyIncreasing};
-ghost use Rattle.p3_merkle_core.specs.{Geometry.heights, Geometry.levels, Nodes.shape, Openings.honest_rows};
-ghost use Rattle.p3_merkle_core.specs.{Openings.node_in, declared.error.MerkleTreeError.TheVariants.OutOfMemory};
-ghost use Rattle.p3_merkle_core.specs.{Pruning.boundary_by, Refusals.AnswersUnlessMemory};
-ghost use Rattle.p3_support.specs.{Batches.greatest, Shown.row_sets};
-ghost use Rattle.p3_merkle_prover.specs.{Inner.Own.others_beside, Parts.layers_of, Parts.tree_batch};
+ghost use Rattle.p3_merkle_core.specs.Geometry.{heights, levels};
+ghost use Rattle.p3_merkle_core.specs.Nodes.{shape};
+ghost use Rattle.p3_merkle_core.specs.Openings.{honest_rows, node_in};
+ghost use Rattle.p3_merkle_core.specs.declared.error.MerkleTreeError.TheVariants.{OutOfMemory};
+ghost use Rattle.p3_merkle_core.specs.Pruning.{boundary_by};
+ghost use Rattle.p3_merkle_core.specs.Refusals.{AnswersUnlessMemory};
+ghost use Rattle.p3_support.specs.Batches.{greatest};
+ghost use Rattle.p3_support.specs.Shown.{row_sets};
+ghost use Rattle.p3_merkle_prover.specs.Inner.Own.{others_beside};
+ghost use Rattle.p3_merkle_prover.specs.Parts.{layers_of, tree_batch};
 
 use crate::opener::{rows_of_index, tree_steps};
 use crate::tree::Tree;

@@ -1,12 +1,15 @@
 //! The tree over a batch of matrices.
 
 ghost use Rattle.std.specs.Prelude.{◌≡◌, suc, ◌+◌, ◌-◌, ◌<◌, ◌≤◌, [], ◌∷◌, All, IfOk, IsTrue, MatchResult, Some, map};
-ghost use Rattle.std.specs.{Prelude.length, Prelude.replicate, Prelude.slice_get, List.AllZip, List.range_with_len};
+ghost use Rattle.std.specs.Prelude.{length, replicate, slice_get};
+ghost use Rattle.std.specs.List.{AllZip, range_with_len};
 ghost use Rattle.p3_merkle_core.specs.Geometry.{heights, is_arity, layer_below_root, layer_len, levels, shape_of};
-ghost use Rattle.p3_merkle_core.specs.{Geometry.IsArity, Geometry.IsLawful, Gate.gate_refusal};
+ghost use Rattle.p3_merkle_core.specs.Geometry.{IsArity, IsLawful};
+ghost use Rattle.p3_merkle_core.specs.Gate.{gate_refusal};
 ghost use Rattle.p3_merkle_core.specs.Nodes.{functions_of, layers as layers_over, shape};
 ghost use Rattle.p3_merkle_core.specs.declared.error.MerkleTreeError.TheVariants.{OutOfMemory};
-ghost use Rattle.p3_merkle_core.specs.{Refusals.AnswersUnlessMemory, Views.batch_of, Views.ClonesShowTheSame};
+ghost use Rattle.p3_merkle_core.specs.Refusals.{AnswersUnlessMemory};
+ghost use Rattle.p3_merkle_core.specs.Views.{batch_of, ClonesShowTheSame};
 
 use crate::checked::{checked_matrices, tree_over};
 use crate::opener::cap_at;

@@ -1,10 +1,13 @@
 -- One more matrix gets its salts.
 use Rattle.std.proofs.Common.{◌≡◌, ℕ, suc, ◌+◌, ◌-◌, ◌*◌, ◌<◌, ◌≤◌, ◌^◌, cond, nat_lt, List, [], ◌∷◌, ◌++◌, map, length}
 use Rattle.std.proofs.Common.{take, refl, sym, ap, ◌∙◌, arith, inl, inr, append_assoc}
-use Rattle.std.proofs.lemmas.{Bool.cases_lt, Bool.lt-ltb, Bool.le-ltb, List.drop_all, List.map-append, List.take-map}
-use Rattle.std.proofs.Math.{Nat.mul-le-mul_right, Seq.take-append_seam, Seq.take-nil}
+use Rattle.std.proofs.lemmas.Bool.{cases_lt, lt-ltb, le-ltb}
+use Rattle.std.proofs.lemmas.List.{drop_all, map-append, take-map}
+use Rattle.std.proofs.Math.Nat.{mul-le-mul_right}
+use Rattle.std.proofs.Math.Seq.{take-append_seam, take-nil}
 use Rattle.rand_core.specs.Stream.{Stream}
-use Rattle.p3_support.specs.{Lists.message, Salts.after_words, Salts.salts}
+use Rattle.p3_support.specs.Lists.{message}
+use Rattle.p3_support.specs.Salts.{after_words, salts}
 use Rattle.p3_merkle_core.specs.Nodes.{Matrix, dimensions_of}
 use Rattle.p3_merkle_tree.specs.Salted.{IsAfterSome, after_salts, salted, salted_matrices}
 use Rattle.p3_merkle_tree.specs.SaltedOpenings.{CanWiden}

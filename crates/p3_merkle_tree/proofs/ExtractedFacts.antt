@@ -1,19 +1,24 @@
 -- What a scheme answers to salted openings: before rows are joined with their salts, and as the plain scheme answers.
 use Rattle.std.proofs.Common.{◌≡◌, ◌↔◌, ◌∙◌, ◌⊎◌, ℕ, Bool, List, ap, inl, inr, refl, subst, sym, None, Some}
 use Rattle.std.specs.Prelude.{Ok, Err, IfOk, IsErr, Option, Result}
-use Rattle.std.specs.{Option.option_map, Option.option_or, Option.unwrap_or, Result.result_err, Result.result_map_both}
+use Rattle.std.specs.Option.{option_map, option_or, unwrap_or}
+use Rattle.std.specs.Result.{result_err, result_map_both}
 use Rattle.std.specs.declared.default.Default as default
 use Rattle.std.specs.declared.cmp.PartialEq as equality
 use Rattle.p3_support.specs.declared.compress.PseudoCompressionFunction as compressor
 use Rattle.p3_support.specs.declared.hasher.CryptographicHasher as hasher
 use Rattle.p3_support.specs.declared.packed.PackedValue as packed
 use Rattle.p3_support.specs.declared.matrix.Dimensions.{Dimensions}
-use Rattle.p3_merkle_core.specs.{Checks.Input, Checks.Params, Extraction.IsExtraction, Extraction.first_difference}
-use Rattle.p3_merkle_core.specs.{Geometry.shape_of, Openings.Opening, Pruning.PrunedOpening, Presented.Presented}
-use Rattle.p3_merkle_core.specs.Presented.{IsVerdict, presented, presented_pruned}
+use Rattle.p3_merkle_core.specs.Checks.{Input, Params}
+use Rattle.p3_merkle_core.specs.Extraction.{IsExtraction, first_difference}
+use Rattle.p3_merkle_core.specs.Geometry.{shape_of}
+use Rattle.p3_merkle_core.specs.Openings.{Opening}
+use Rattle.p3_merkle_core.specs.Pruning.{PrunedOpening}
+use Rattle.p3_merkle_core.specs.Presented.{Presented, IsVerdict, presented, presented_pruned}
 use Rattle.p3_merkle_core.specs.Refusals.{AnswersUnlessMemory, IsEquality}
 use Rattle.p3_merkle_core.specs.declared.cap.CapRule.{CapRule}
-use Rattle.p3_merkle_core.specs.declared.error.MerkleTreeError.{MerkleTreeError, TheVariants.OutOfMemory}
+use Rattle.p3_merkle_core.specs.declared.error.MerkleTreeError.{MerkleTreeError}
+use Rattle.p3_merkle_core.specs.declared.error.MerkleTreeError.TheVariants.{OutOfMemory}
 use Rattle.p3_merkle_core.proofs.Collisions.ExtractionFacts.{IsPresentation, all_authenticated, extracted}
 use Rattle.p3_merkle_mmcs.specs.Schemes.{cap_height_of, cap_rule_of, params_of}
 use Rattle.p3_merkle_mmcs.proofs.VerdictFacts.{verdict_by}

@@ -1,9 +1,10 @@
 -- Rows followed by their salts tell both.
 use Rattle.std.proofs.Common.{◌≡◌, ◌∙◌, ℕ, List, [], ◌++◌, ap, drop, length, map, refl, sym, take}
-use Rattle.std.proofs.{Math.ListN.get_or-map, lemmas.List.drop_at, lemmas.List.ext_get_or, lemmas.List.length-map}
-use Rattle.std.proofs.lemmas.List.{take_at}
+use Rattle.std.proofs.Math.ListN.{get_or-map}
+use Rattle.std.proofs.lemmas.List.{drop_at, ext_get_or, length-map, take_at}
 use Rattle.std.specs.Prelude.{slice_index_or}
-use Rattle.p3_merkle_tree.specs.{Inner.SaltedCommitmentLaws.pair_at, SaltedOpenings.salted_rows}
+use Rattle.p3_merkle_tree.specs.Inner.SaltedCommitmentLaws.{pair_at}
+use Rattle.p3_merkle_tree.specs.SaltedOpenings.{salted_rows}
 
 -- of equal joined lists whose fronts are equally long, the fronts are equal, and the rests
 front_same : {T : Type 0} (x y v w : List T) → length x ≡ length v → x ++ y ≡ v ++ w → x ≡ v

@@ -2,13 +2,20 @@
 use Rattle.std.proofs.Common.{◌≡◌, ◌↔◌, ℕ, zero, suc, ◌+◌, ◌<◌, ◌≤◌, ◌^◌, ◌⊎◌, inl, inr, Bool, List, [], ◌∷◌, ◌++◌}
 use Rattle.std.proofs.Common.{refl, sym, ap, ◌∙◌, length, get_or, map, zip, None, Some, Option, nat_le, append-nil}
 use Rattle.std.proofs.Common.{append_assoc, arith}
-use Rattle.std.proofs.lemmas.{Bool.cases_lt, Bool.le-leb, Bool.lt-leb, Iterator.Adapters.position_from-zero}
+use Rattle.std.proofs.lemmas.Bool.{cases_lt, le-leb, lt-leb}
+use Rattle.std.proofs.lemmas.Iterator.Adapters.{position_from-zero}
 use Rattle.std.proofs.lemmas.List.{get_or-map, map-append}
-use Rattle.std.specs.{List.position_from, Option.option_map, Option.option_or, declared.vec.Vec.Vec}
-use Rattle.p3_support.specs.{declared.matrix.Dimensions.Dimensions, Batches.widths_of, Shown.row_lists, Shown.row_sets}
+use Rattle.std.specs.List.{position_from}
+use Rattle.std.specs.Option.{option_map, option_or}
+use Rattle.std.specs.declared.vec.Vec.{Vec}
+use Rattle.p3_support.specs.declared.matrix.Dimensions.{Dimensions}
+use Rattle.p3_support.specs.Batches.{widths_of}
+use Rattle.p3_support.specs.Shown.{row_lists, row_sets}
 use Rattle.p3_merkle_core.specs.Refusals.{first_of, first_some}
-use Rattle.p3_merkle_core.specs.declared.error.MerkleTreeError.{MerkleTreeError, TheVariants.TooLarge}
-use Rattle.p3_merkle_core.proofs.{Pruned.NoneFacts.map_none, Pruned.Unrefused.size_none}
+use Rattle.p3_merkle_core.specs.declared.error.MerkleTreeError.{MerkleTreeError}
+use Rattle.p3_merkle_core.specs.declared.error.MerkleTreeError.TheVariants.{TooLarge}
+use Rattle.p3_merkle_core.proofs.Pruned.NoneFacts.{map_none}
+use Rattle.p3_merkle_core.proofs.Pruned.Unrefused.{size_none}
 use Rattle.p3_merkle_tree.specs.SaltRefusals.{first_too_wide, salt_refusal, salt_sets_refusal, widening_refusal}
 use Rattle.p3_merkle_tree.specs.SaltedOpenings.{CanWiden}
 

@@ -1,9 +1,10 @@
 -- What is not refused of rows and salts is accepted, and the other way round.
-use Rattle.std.proofs.Common.{◌≡◌, ◌↔◌, ℕ, Bool, List, [], ◌∷◌, refl, sym, ap, ◌∙◌, arith, length, map, zip}
-use Rattle.std.proofs.Common.{None, eqb}
-use Rattle.std.proofs.lemmas.{Bool.eqb-true, List.length-map}
+use Rattle.std.proofs.Common.{◌≡◌, ◌↔◌, ℕ, Bool, List, [], ◌∷◌, refl, sym, ap, ◌∙◌, arith, length, map, zip, None, eqb}
+use Rattle.std.proofs.lemmas.Bool.{eqb-true}
+use Rattle.std.proofs.lemmas.List.{length-map}
 use Rattle.std.specs.{List.AllZip}
-use Rattle.p3_support.specs.{declared.matrix.Dimensions.Dimensions, Batches.widths_of}
+use Rattle.p3_support.specs.declared.matrix.Dimensions.{Dimensions}
+use Rattle.p3_support.specs.Batches.{widths_of}
 use Rattle.p3_merkle_core.specs.{Geometry.IsArity}
 use Rattle.p3_merkle_core.specs.Refusals.{IsEquality, first_of, pruned_refusal_under}
 use Rattle.p3_merkle_core.specs.Refusals.{refusal_under, row_width_refusal, size_refusal, width_refusal, ok_unless}
@@ -13,9 +14,8 @@ use Rattle.p3_merkle_core.proofs.Pruned.NoneFacts.{fit_from, none_of_both, none_
 use Rattle.p3_merkle_core.proofs.Pruned.Unrefused.{each_width, size_none}
 use Rattle.p3_merkle_core.proofs.Checks.Verdicts.{accepted_answer, accepted_from, pruned_accepted}
 use Rattle.p3_merkle_tree.proofs.SaltFacts.{widening}
-use Rattle.p3_merkle_tree.specs.SaltRefusals.{salt_refusal, salt_sets_refusal}
+use Rattle.p3_merkle_tree.specs.SaltRefusals.{salt_refusal, salt_sets_refusal, salted_sets_refusal, widening_refusal}
 use Rattle.p3_merkle_tree.specs.SaltRefusals.{salted_pruned_refusal_under, salted_refusal_under, salted_rows_refusal}
-use Rattle.p3_merkle_tree.specs.SaltRefusals.{salted_sets_refusal, widening_refusal}
 use Rattle.p3_merkle_tree.specs.SaltedOpenings.{HaveSalts, IsSaltedAccepted, IsSaltedPrunedAccepted}
 use Rattle.p3_merkle_tree.specs.SaltedOpenings.{SaltedOpening, SaltedPruned, joined, joined_sets}
 use Rattle.p3_merkle_tree.specs.SaltedPresented.{presented_salted, presented_salted_pruned}

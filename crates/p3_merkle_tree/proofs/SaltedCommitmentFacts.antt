@@ -1,14 +1,20 @@
 -- What the answers of the salted calls say in the words of the trait.
 use Rattle.std.proofs.Common.{◌≡◌, ℕ, List, Result, None, inl, inr, map, subst, sym}
 use Rattle.std.specs.Prelude.{Ok, Err, IfErr, IfOk}
-use Rattle.p3_merkle_core.specs.{Refusals.AnswersUnlessMemory, Views.matrix_of, Gate.gate_refusal, Nodes.dimensions_of}
-use Rattle.p3_merkle_core.specs.declared.error.MerkleTreeError.{MerkleTreeError, TheVariants.OutOfMemory}
+use Rattle.p3_merkle_core.specs.Refusals.{AnswersUnlessMemory}
+use Rattle.p3_merkle_core.specs.Views.{matrix_of}
+use Rattle.p3_merkle_core.specs.Gate.{gate_refusal}
+use Rattle.p3_merkle_core.specs.Nodes.{dimensions_of}
+use Rattle.p3_merkle_core.specs.declared.error.MerkleTreeError.{MerkleTreeError}
+use Rattle.p3_merkle_core.specs.declared.error.MerkleTreeError.TheVariants.{OutOfMemory}
 use Rattle.p3_support.specs.Batches.{heights_of}
-use Rattle.p3_merkle_core.proofs.{Shapes.GateFacts.gate_lawful, Pruned.NoneFacts.none_of_both}
-use Rattle.p3_merkle_core.proofs.{Pruned.NoneFacts.none_parts, Lists.ViewFacts.dimensions_are}
+use Rattle.p3_merkle_core.proofs.Shapes.GateFacts.{gate_lawful}
+use Rattle.p3_merkle_core.proofs.Pruned.NoneFacts.{none_of_both, none_parts}
+use Rattle.p3_merkle_core.proofs.Lists.ViewFacts.{dimensions_are}
 use Rattle.p3_merkle_tree.proofs.SaltFacts.{widening}
 use Rattle.p3_merkle_tree.specs.SaltRefusals.{salted_commit_refusal, widening_refusal}
-use Rattle.p3_merkle_tree.specs.{SaltedCommitments.CanCommitSalted, SaltedOpenings.CanWiden}
+use Rattle.p3_merkle_tree.specs.SaltedCommitments.{CanCommitSalted}
+use Rattle.p3_merkle_tree.specs.SaltedOpenings.{CanWiden}
 
 module _ {T M : Type 0} (height width : M → ℕ) (row : M → ℕ → List T) (e : ℕ) (ms : List M) where
   -- matrices are refused exactly if they can't be committed to

@@ -1,15 +1,22 @@
 -- What the answer to two salted openings says of their rows and salts.
 use Rattle.std.proofs.Common.{◌≡◌, ◌↔◌, ◌∙◌, ◌++◌, ⊎_elim, ℕ, ◌<◌, Bool, List, [], ap, arith, length, refl, subst, sym}
-use Rattle.std.proofs.{Common.None, Common.Some, Common.Option, Common.Result, lemmas.List.Elements.AllZip-get_or}
+use Rattle.std.proofs.Common.{None, Some, Option, Result}
+use Rattle.std.proofs.lemmas.List.Elements.{AllZip-get_or}
 use Rattle.std.specs.Prelude.{Ok, Err, IfOk, IsNone, IsSome, slice_index}
-use Rattle.std.specs.{Option.option_map, Result.result_map_both}
+use Rattle.std.specs.Option.{option_map}
+use Rattle.std.specs.Result.{result_map_both}
 use Rattle.p3_support.specs.declared.matrix.Dimensions.{Dimensions}
 use Rattle.p3_merkle_core.specs.Checks.{Input, Params, opened_row}
 use Rattle.p3_merkle_core.specs.Extraction.{RowsAgreeWhereAuthenticated, RowsConflictAt, IsExtraction}
-use Rattle.p3_merkle_core.specs.{Geometry.Shape, Openings.Opening, Openings.opening_of, Presented.Presented}
-use Rattle.p3_merkle_core.specs.{Pruning.restored_path, Views.found_alone, Views.found_pair, Views.inputs_in}
-use Rattle.p3_merkle_core.specs.declared.cap.CapRule.{CapRule, TheVariants.Lowered}
-use Rattle.p3_merkle_core.specs.declared.{collision.InputPair.InputPair, error.MerkleTreeError.MerkleTreeError}
+use Rattle.p3_merkle_core.specs.Geometry.{Shape}
+use Rattle.p3_merkle_core.specs.Openings.{Opening, opening_of}
+use Rattle.p3_merkle_core.specs.Presented.{Presented}
+use Rattle.p3_merkle_core.specs.Pruning.{restored_path}
+use Rattle.p3_merkle_core.specs.Views.{found_alone, found_pair, inputs_in}
+use Rattle.p3_merkle_core.specs.declared.cap.CapRule.{CapRule}
+use Rattle.p3_merkle_core.specs.declared.cap.CapRule.TheVariants.{Lowered}
+use Rattle.p3_merkle_core.specs.declared.collision.InputPair.{InputPair}
+use Rattle.p3_merkle_core.specs.declared.error.MerkleTreeError.{MerkleTreeError}
 use Rattle.p3_merkle_tree.specs.SaltedExtraction.{AgreeWhereAuthenticated, ConflictAt, ConflictSomewhere}
 use Rattle.p3_merkle_tree.specs.SaltedExtraction.{ConflictWhereAuthenticated, IsSaltedExtraction, row_in}
 use Rattle.p3_merkle_tree.specs.SaltedExtraction.{IsSaltedPrunedExtraction, salted_opening_at, salts_in}

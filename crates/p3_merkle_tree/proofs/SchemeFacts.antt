@@ -1,5 +1,6 @@
 -- A salted scheme is its plain one and its generator.
-use Rattle.std.proofs.{Common.◌≡◌, Common.◌⊎◌, Common.ℕ, Common.Result, Common.inl, Common.inr, Math.Bridge.le_prop}
+use Rattle.std.proofs.Common.{◌≡◌, ◌⊎◌, ℕ, Result, inl, inr}
+use Rattle.std.proofs.Math.Bridge.{le_prop}
 use Rattle.std.specs.Prelude.{Ok, Err, IfErr}
 use Rattle.std.specs.declared.default.Default as default
 use Rattle.std.specs.declared.cmp.PartialEq as equality

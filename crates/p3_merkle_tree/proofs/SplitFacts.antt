@@ -1,16 +1,21 @@
 -- Rows of pairs, taken apart where the left matrix ends.
 use Rattle.std.proofs.Common.{◌≡◌, ℕ, zero, suc, ◌+◌, ◌/◌, ◌^◌, ◌<◌, cond, nat_lt, List, [], ◌∷◌, ◌++◌, map, refl, ap}
 use Rattle.std.proofs.Common.{sym, subst, ◌∙◌, arith, length, get_or, All}
-use Rattle.std.proofs.lemmas.{Bool.lt-ltb, List.drop_at, List.get_or_default, List.length-map, List.take-append-drop}
-use Rattle.std.proofs.lemmas.{List.take_at, Simd.map-map}
+use Rattle.std.proofs.lemmas.Bool.{lt-ltb}
+use Rattle.std.proofs.lemmas.List.{drop_at, get_or_default, length-map, take-append-drop, take_at}
+use Rattle.std.proofs.lemmas.Simd.{map-map}
 use Rattle.std.specs.List.{AllZip}
-use Rattle.p3_support.specs.declared.{matrix.Matrix.Ghosts, pair.HorizontalPair.HorizontalPair}
-use Rattle.p3_support.specs.{Pairs.left_of, Pairs.pair_row, Pairs.right_of, Batches.heights_of, Batches.greatest}
-use Rattle.p3_support.specs.{Batches.widths_of, declared.matrix.Dimensions.Dimensions}
-use Rattle.p3_merkle_core.specs.{Views.matrix_of, Geometry.IsLawful, Geometry.bits_reduced, Geometry.heights}
+use Rattle.p3_support.specs.declared.matrix.Matrix.{Ghosts}
+use Rattle.p3_support.specs.declared.pair.HorizontalPair.{HorizontalPair}
+use Rattle.p3_support.specs.Pairs.{left_of, pair_row, right_of}
+use Rattle.p3_support.specs.Batches.{heights_of, greatest, widths_of}
+use Rattle.p3_support.specs.declared.matrix.Dimensions.{Dimensions}
+use Rattle.p3_merkle_core.specs.Views.{matrix_of}
+use Rattle.p3_merkle_core.specs.Geometry.{IsLawful, bits_reduced, heights}
 use Rattle.p3_merkle_core.specs.Nodes.{Batch, Matrix, dimensions_of, shape}
 use Rattle.p3_merkle_core.specs.Pruning.{pruned_of, IsPrunedAccepted}
-use Rattle.p3_merkle_core.specs.{Openings.honest_rows, Openings.opening_of, Checks.IsAccepted, Checks.Params}
+use Rattle.p3_merkle_core.specs.Openings.{honest_rows, opening_of}
+use Rattle.p3_merkle_core.specs.Checks.{IsAccepted, Params}
 use Rattle.p3_merkle_prover.proofs.RowFacts.{row_inside}
 use Rattle.p3_merkle_tree.specs.SaltedOpenings.{CanWiden, HaveSalts, IsSaltedAccepted, IsSaltedPrunedAccepted}
 use Rattle.p3_merkle_tree.specs.SaltedOpenings.{SaltedOpening, SaltedPruned, salted_rows, salted_sets, widened}

@@ -1,16 +1,22 @@
 -- The fields of a salted scheme, the parameters of its checks, and openings with their salts as values of the code.
-use Rattle.std.specs.{Prelude.ℕ, Prelude.List, declared.vec.Vec.Vec}
+use Rattle.std.specs.Prelude.{ℕ, List}
+use Rattle.std.specs.declared.vec.Vec.{Vec}
 use Rattle.std.specs.declared.default.Default as default
 use Rattle.std.specs.declared.cmp.PartialEq as equality
 use Rattle.p3_support.specs.declared.compress.PseudoCompressionFunction as compressor
 use Rattle.p3_support.specs.declared.hasher.CryptographicHasher as hasher
-use Rattle.p3_support.specs.declared.{matrix.Dimensions.Dimensions, opening.BatchOpening.BatchOpening}
-use Rattle.p3_support.specs.declared.opening.{BatchOpeningRef.BatchOpeningRef, MerkleCap.MerkleCap}
+use Rattle.p3_support.specs.declared.matrix.Dimensions.{Dimensions}
+use Rattle.p3_support.specs.declared.opening.BatchOpening.{BatchOpening}
+use Rattle.p3_support.specs.declared.opening.BatchOpeningRef.{BatchOpeningRef}
+use Rattle.p3_support.specs.declared.opening.MerkleCap.{MerkleCap}
 use Rattle.p3_support.specs.Shown.{roots_of, row_lists, row_sets}
 use Rattle.p3_support.specs.declared.packed.PackedValue as packed
-use Rattle.p3_merkle_core.specs.{Checks.Params, Geometry.shape_of, Presented.Presented}
+use Rattle.p3_merkle_core.specs.Checks.{Params}
+use Rattle.p3_merkle_core.specs.Geometry.{shape_of}
+use Rattle.p3_merkle_core.specs.Presented.{Presented}
 use Rattle.p3_merkle_core.specs.declared.pruning.PrunedProof.{PrunedProof}
-use Rattle.p3_merkle_mmcs.specs.{Schemes.params_of, declared.mmcs.Scheme.Scheme}
+use Rattle.p3_merkle_mmcs.specs.Schemes.{params_of}
+use Rattle.p3_merkle_mmcs.specs.declared.mmcs.Scheme.{Scheme}
 use Rattle.p3_merkle_tree.specs.SaltedOpenings.{SaltedOpening, SaltedPruned, widened}
 use Rattle.p3_merkle_tree.specs.SaltedPresented.{presented_salted, presented_salted_pruned}
 use Rattle.p3_merkle_tree.specs.declared.hiding_mmcs.HidingScheme.{HidingScheme}

@@ -2,7 +2,8 @@
 use Rattle.std.specs.Prelude.{◌≡◌, ℕ, List, [], ◌∷◌, length, map, slice_index, refl}
 use Rattle.rand_core.specs.Stream.{Stream, next_u64}
 use Rattle.p3_support.specs.Salts.{after_words, salts}
-use Rattle.p3_merkle_core.specs.{Geometry.exponent, Geometry.layer_exponent, Geometry.raw_len, Nodes.layer, Nodes.node}
+use Rattle.p3_merkle_core.specs.Geometry.{exponent, layer_exponent, raw_len}
+use Rattle.p3_merkle_core.specs.Nodes.{layer, node}
 use Rattle.p3_merkle_core.specs.Examples.{batch, column, example}
 use Rattle.p3_merkle_tree.specs.Salted.{IsAfterSome, after_salts, salted_batch}
 

@@ -1,10 +1,13 @@
 -- Why an opening with salts is refused: the first reason that applies.
 use Rattle.std.specs.Prelude.{ℕ, ◌+◌, ◌^◌, nat_le, List, length, zip, Option, Bool, position, option_map, slice_index}
 use Rattle.std.specs.Option.{option_or}
-use Rattle.p3_support.specs.{declared.matrix.Dimensions.Dimensions, Batches.heights_of, Batches.widths_of}
-use Rattle.p3_merkle_core.specs.{Gate.gate_refusal, Checks.Params}
+use Rattle.p3_support.specs.declared.matrix.Dimensions.{Dimensions}
+use Rattle.p3_support.specs.Batches.{heights_of, widths_of}
+use Rattle.p3_merkle_core.specs.Gate.{gate_refusal}
+use Rattle.p3_merkle_core.specs.Checks.{Params}
 use Rattle.p3_merkle_core.specs.Refusals.{first_of, pruned_refusal_under, refusal_under, size_refusal, width_refusal}
-use Rattle.p3_merkle_core.specs.declared.error.MerkleTreeError.{MerkleTreeError, TheVariants.TooLarge}
+use Rattle.p3_merkle_core.specs.declared.error.MerkleTreeError.{MerkleTreeError}
+use Rattle.p3_merkle_core.specs.declared.error.MerkleTreeError.TheVariants.{TooLarge}
 use Rattle.p3_merkle_tree.specs.SaltedOpenings.{SaltedOpening, SaltedPruned, joined, joined_sets}
 
 -- the place of the first matrix whose width with e more columns does not fit usize

@@ -1,7 +1,8 @@
 -- Matrices whose rows are followed by salts.
 use Rattle.std.specs.Prelude.{◌≡◌, ℕ, ◌+◌, ◌*◌, List, [], ◌∷◌, ◌++◌, take}
 use Rattle.rand_core.specs.Stream.{Stream}
-use Rattle.p3_support.specs.{Lists.message, Salts.after_words, Salts.salts}
+use Rattle.p3_support.specs.Lists.{message}
+use Rattle.p3_support.specs.Salts.{after_words, salts}
 use Rattle.p3_merkle_core.specs.Nodes.{Batch, Matrix}
 
 -- a matrix, each row followed by its n values of a list, which has those of the first row first, then those of the

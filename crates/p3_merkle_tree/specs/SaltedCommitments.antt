@@ -1,8 +1,13 @@
 -- What a salted scheme commits to, and what is proved under its commitments.
 use Rattle.std.specs.Prelude.{ℕ, List}
-use Rattle.p3_support.specs.{Batches.dimensions_in, declared.matrix.Dimensions.Dimensions}
-use Rattle.p3_support.specs.declared.{matrix.Matrix.Ghosts, pair.HorizontalPair.HorizontalPair}
-use Rattle.p3_merkle_core.specs.{Commitments.IsCommitment, Views.heights_in, Geometry.IsLawful, Nodes.Batch}
+use Rattle.p3_support.specs.Batches.{dimensions_in}
+use Rattle.p3_support.specs.declared.matrix.Dimensions.{Dimensions}
+use Rattle.p3_support.specs.declared.matrix.Matrix.{Ghosts}
+use Rattle.p3_support.specs.declared.pair.HorizontalPair.{HorizontalPair}
+use Rattle.p3_merkle_core.specs.Commitments.{IsCommitment}
+use Rattle.p3_merkle_core.specs.Views.{heights_in}
+use Rattle.p3_merkle_core.specs.Geometry.{IsLawful}
+use Rattle.p3_merkle_core.specs.Nodes.{Batch}
 use Rattle.p3_merkle_core.specs.Checks.{Params}
 use Rattle.p3_merkle_tree.specs.SaltedOpenings.{CanWiden, IsSaltedAccepted, salted_of}
 use Rattle.p3_merkle_tree.specs.SaltedTrees.{HaveSaltColumns}

@@ -1,7 +1,8 @@
 -- Salted openings and their refusals, worked out.
 use Rattle.std.specs.Prelude.{◌≡◌, ◌^◌, ◌-◌, ℕ, List, [], ◌∷◌, refl, Some, None}
 use Rattle.p3_support.specs.declared.matrix.Dimensions.{Dimensions}
-use Rattle.p3_merkle_core.specs.{Geometry.exponent, declared.error.MerkleTreeError.TheVariants.EmptyBatch}
+use Rattle.p3_merkle_core.specs.Geometry.{exponent}
+use Rattle.p3_merkle_core.specs.declared.error.MerkleTreeError.TheVariants.{EmptyBatch}
 use Rattle.p3_merkle_core.specs.declared.error.MerkleTreeError.TheVariants.{TooLarge, WrongBatchSize, WrongWidth}
 use Rattle.p3_merkle_tree.specs.SaltRefusals.{salted_commit_refusal, salted_rows_refusal, salted_sets_refusal}
 use Rattle.p3_merkle_tree.specs.SaltedOpenings.{salted_rows, widened}

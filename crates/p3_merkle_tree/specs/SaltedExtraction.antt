@@ -1,12 +1,17 @@
 -- What two salted openings of one cap lead to, in the words of rows and salts.
 use Rattle.std.specs.Prelude.{◌≡◌, ◌≢◌, ◌⊎◌, ◌↔◌, ◌<◌, ℕ, Bool, IfOk, IsNone, IsSome, IsTrue, List, [], Option, Result}
 use Rattle.std.specs.Prelude.{length, slice_index, slice_index_or}
-use Rattle.p3_support.specs.{Batches.greatest, declared.matrix.Dimensions.Dimensions}
+use Rattle.p3_support.specs.Batches.{greatest}
+use Rattle.p3_support.specs.declared.matrix.Dimensions.{Dimensions}
 use Rattle.p3_merkle_core.specs.Geometry.{Shape, heights, halved_index}
 use Rattle.p3_merkle_core.specs.Checks.{Params, is_authenticated}
-use Rattle.p3_merkle_core.specs.{Extraction.IsExtraction, Pruning.restored_path, Views.found_alone, Views.found_pair}
-use Rattle.p3_merkle_core.specs.declared.cap.CapRule.{CapRule, TheVariants.Lowered}
-use Rattle.p3_merkle_core.specs.declared.{collision.InputPair.InputPair, error.MerkleTreeError.MerkleTreeError}
+use Rattle.p3_merkle_core.specs.Extraction.{IsExtraction}
+use Rattle.p3_merkle_core.specs.Pruning.{restored_path}
+use Rattle.p3_merkle_core.specs.Views.{found_alone, found_pair}
+use Rattle.p3_merkle_core.specs.declared.cap.CapRule.{CapRule}
+use Rattle.p3_merkle_core.specs.declared.cap.CapRule.TheVariants.{Lowered}
+use Rattle.p3_merkle_core.specs.declared.collision.InputPair.{InputPair}
+use Rattle.p3_merkle_core.specs.declared.error.MerkleTreeError.{MerkleTreeError}
 use Rattle.p3_merkle_tree.specs.SaltedOpenings.{SaltedOpening, SaltedPruned, joined_sets, salted_of}
 use Rattle.p3_merkle_tree.specs.SaltedPresented.{presented_salted, presented_salted_pruned}
 

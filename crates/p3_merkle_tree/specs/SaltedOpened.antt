@@ -4,15 +4,20 @@ use Rattle.std.specs.declared.default.Default as default
 use Rattle.std.specs.declared.cmp.PartialEq as equality
 use Rattle.p3_support.specs.declared.compress.PseudoCompressionFunction as compressor
 use Rattle.p3_support.specs.declared.hasher.CryptographicHasher as hasher
-use Rattle.p3_support.specs.declared.{matrix.Matrix.Ghosts, pair.HorizontalPair.HorizontalPair}
+use Rattle.p3_support.specs.declared.matrix.Matrix.{Ghosts}
+use Rattle.p3_support.specs.declared.pair.HorizontalPair.{HorizontalPair}
 use Rattle.p3_support.specs.declared.packed.PackedValue as packed
 use Rattle.rand_core.specs.Stream.{Stream}
-use Rattle.p3_merkle_core.specs.{Commitments.IsOwn, Nodes.Matrix, Nodes.shape, Openings.honest, Openings.honest_rows}
-use Rattle.p3_merkle_core.specs.{Openings.node_in, Openings.siblings_by, Pruning.boundary_by, Pruning.honest_query}
-use Rattle.p3_merkle_prover.specs.{Parts.layers_of, Parts.matrices_of, Parts.tree_batch, declared.tree.Tree.Tree}
+use Rattle.p3_merkle_core.specs.Commitments.{IsOwn}
+use Rattle.p3_merkle_core.specs.Nodes.{Matrix, shape}
+use Rattle.p3_merkle_core.specs.Openings.{honest, honest_rows, node_in, siblings_by}
+use Rattle.p3_merkle_core.specs.Pruning.{boundary_by, honest_query}
+use Rattle.p3_merkle_prover.specs.Parts.{layers_of, matrices_of, tree_batch}
+use Rattle.p3_merkle_prover.specs.declared.tree.Tree.{Tree}
 use Rattle.p3_merkle_mmcs.specs.Schemes.{cap_layer_of, params_of}
 use Rattle.p3_merkle_tree.specs.HidingSchemes.{generator_of, plain_of, salted_params_of}
-use Rattle.p3_merkle_tree.specs.{Salted.IsAfterSome, Salted.after_salts, SaltedCommitments.IsSaltedCommitment}
+use Rattle.p3_merkle_tree.specs.Salted.{IsAfterSome, after_salts}
+use Rattle.p3_merkle_tree.specs.SaltedCommitments.{IsSaltedCommitment}
 use Rattle.p3_merkle_tree.specs.SaltedOpenings.{IsSaltedAccepted, IsSaltedPrunedAccepted, SaltedOpening, SaltedPruned}
 use Rattle.p3_merkle_tree.specs.SaltedTrees.{left_batch, right_batch, unsalted_dimensions}
 use Rattle.p3_merkle_tree.specs.declared.hiding_mmcs.HidingScheme.{HidingScheme}

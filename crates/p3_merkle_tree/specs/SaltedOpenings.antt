@@ -1,8 +1,10 @@
 -- Rows followed by their salts, and when openings of such rows are accepted.
 use Rattle.std.specs.Prelude.{◌≡◌, ℕ, ◌+◌, ◌<◌, ◌^◌, List, ◌++◌, map, length, zip, All}
 use Rattle.std.specs.List.{AllZip}
-use Rattle.p3_support.specs.{declared.matrix.Dimensions.Dimensions, Batches.widths_of}
-use Rattle.p3_merkle_core.specs.{Openings.Opening, Openings.opening_of, Checks.IsAccepted, Checks.Params}
+use Rattle.p3_support.specs.declared.matrix.Dimensions.{Dimensions}
+use Rattle.p3_support.specs.Batches.{widths_of}
+use Rattle.p3_merkle_core.specs.Openings.{Opening, opening_of}
+use Rattle.p3_merkle_core.specs.Checks.{IsAccepted, Params}
 use Rattle.p3_merkle_core.specs.Pruning.{IsPrunedAccepted, PrunedOpening, pruned_of}
 
 -- ---- what is hashed

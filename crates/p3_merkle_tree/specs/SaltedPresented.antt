@@ -1,7 +1,9 @@
 -- A salted opening as a verifier takes it.
 use Rattle.std.specs.Prelude.{ℕ, Bool, List, length}
 use Rattle.p3_support.specs.declared.matrix.Dimensions.{Dimensions}
-use Rattle.p3_merkle_core.specs.{Checks.Params, Presented.Presented, Pruning.opening_at}
+use Rattle.p3_merkle_core.specs.Checks.{Params}
+use Rattle.p3_merkle_core.specs.Presented.{Presented}
+use Rattle.p3_merkle_core.specs.Pruning.{opening_at}
 use Rattle.p3_merkle_tree.specs.SaltRefusals.{salted_pruned_refusal_under, salted_refusal_under}
 use Rattle.p3_merkle_tree.specs.SaltedOpenings.{IsSaltedAccepted, IsSaltedPrunedAccepted, SaltedOpening, SaltedPruned}
 use Rattle.p3_merkle_tree.specs.SaltedOpenings.{joined, joined_sets}

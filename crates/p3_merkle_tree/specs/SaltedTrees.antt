@@ -1,8 +1,11 @@
 -- Pairs of a matrix and its salts, and what is committed to.
 use Rattle.std.specs.Prelude.{◌≡◌, ℕ, List, map, All}
-use Rattle.p3_support.specs.declared.{matrix.Matrix.Ghosts, pair.HorizontalPair.HorizontalPair}
-use Rattle.p3_support.specs.{Pairs.left_of, Pairs.right_of, declared.matrix.Dimensions.Dimensions}
-use Rattle.p3_merkle_core.specs.{Views.batch_of, Nodes.Batch, Nodes.dimensions_of}
+use Rattle.p3_support.specs.declared.matrix.Matrix.{Ghosts}
+use Rattle.p3_support.specs.declared.pair.HorizontalPair.{HorizontalPair}
+use Rattle.p3_support.specs.Pairs.{left_of, right_of}
+use Rattle.p3_support.specs.declared.matrix.Dimensions.{Dimensions}
+use Rattle.p3_merkle_core.specs.Views.{batch_of}
+use Rattle.p3_merkle_core.specs.Nodes.{Batch, dimensions_of}
 
 module _ {T A B : Type 0} {a : Ghosts A T} {b : Ghosts B T} where
   -- the left matrices, under an arity: those that were handed in

@@ -1,12 +1,16 @@
 //! The salted scheme: its type, its constructors, its commitments, and forks with a generator of their own.
 
 ghost use Rattle.std.specs.Prelude.{◌≡◌, ◌≤◌, ◌⊎◌, IfErr, IfOk, IsOk, IsTrue, OnOk, map};
-ghost use Rattle.p3_support.specs.{Batches.dimensions_in, Batches.heights_of, Pairs.left_of};
-ghost use Rattle.p3_merkle_core.specs.{Geometry.is_arity, Geometry.IsLawful, Refusals.AnswersUnlessMemory};
+ghost use Rattle.p3_support.specs.Batches.{dimensions_in, heights_of};
+ghost use Rattle.p3_support.specs.Pairs.{left_of};
+ghost use Rattle.p3_merkle_core.specs.Geometry.{is_arity, IsLawful};
+ghost use Rattle.p3_merkle_core.specs.Refusals.{AnswersUnlessMemory};
 ghost use Rattle.p3_merkle_core.specs.Views.{matrix_of};
-ghost use Rattle.p3_merkle_tree.specs.{Inner.SaltedParts.pair_matrix, SaltRefusals.salted_commit_refusal};
+ghost use Rattle.p3_merkle_tree.specs.Inner.SaltedParts.{pair_matrix};
+ghost use Rattle.p3_merkle_tree.specs.SaltRefusals.{salted_commit_refusal};
 ghost use Rattle.p3_merkle_tree.specs.Salted.{after_salts, salted_matrices, IsAfterSome};
-ghost use Rattle.p3_merkle_tree.specs.{SaltedOpenings.widened, SaltedOpenings.CanWiden, SaltedTrees.HaveSaltColumns};
+ghost use Rattle.p3_merkle_tree.specs.SaltedOpenings.{widened, CanWiden};
+ghost use Rattle.p3_merkle_tree.specs.SaltedTrees.{HaveSaltColumns};
 
 use crate::join::widened_dimensions;
 use p3_merkle_core::cap::CapRule;
@@ -149,11 +153,14 @@ impl<
     const SALT_ELEMS: usize,
 > MerkleTreeHidingMmcs<P, PW, H, C, R, N, D, SALT_ELEMS> {
     ghost use Rattle.p3_support.specs.Shown.{roots_of};
-    ghost use Rattle.p3_merkle_core.specs.{Nodes.shape, Views.batch_of, declared.cap.CapRule.TheVariants.Lowered};
+    ghost use Rattle.p3_merkle_core.specs.Nodes.{shape};
+    ghost use Rattle.p3_merkle_core.specs.Views.{batch_of};
+    ghost use Rattle.p3_merkle_core.specs.declared.cap.CapRule.TheVariants.{Lowered};
     ghost use Rattle.p3_merkle_core.specs.declared.error.MerkleTreeError.TheVariants.{OutOfMemory};
     ghost use Rattle.p3_merkle_prover.specs.Parts.{matrices_of, tree_batch};
     ghost use Rattle.p3_merkle_mmcs.specs.Schemes.{cap_height_of, cap_rule_of, compression_of, hash_of};
-    ghost use Rattle.p3_merkle_tree.specs.{HidingSchemes.generator_of, HidingSchemes.plain_of, Salted.salted_batch};
+    ghost use Rattle.p3_merkle_tree.specs.HidingSchemes.{generator_of, plain_of};
+    ghost use Rattle.p3_merkle_tree.specs.Salted.{salted_batch};
     ghost use Rattle.p3_merkle_tree.specs.SaltedOpened.{CommitsSalted, Draws};
 
     /// The salted scheme of a hasher and a compression. Its cap is the layer `cap_height` levels below the root, or the

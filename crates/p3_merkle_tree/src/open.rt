@@ -4,9 +4,13 @@
 //! other words or salts.
 
 ghost use Rattle.std.specs.Prelude.{◌≡◌, ◌<◌, All, IfOk, None, map};
-ghost use Rattle.p3_merkle_core.specs.{Geometry.heights, Nodes.shape, Presented.IsVerdict};
+ghost use Rattle.p3_merkle_core.specs.Geometry.{heights};
+ghost use Rattle.p3_merkle_core.specs.Nodes.{shape};
+ghost use Rattle.p3_merkle_core.specs.Presented.{IsVerdict};
 ghost use Rattle.p3_merkle_core.specs.Refusals.{AnswersUnlessMemory};
-ghost use Rattle.p3_support.specs.{Batches.greatest, Pairs.left_of, Shown.roots_of, Shown.row_lists, Shown.row_sets};
+ghost use Rattle.p3_support.specs.Batches.{greatest};
+ghost use Rattle.p3_support.specs.Pairs.{left_of};
+ghost use Rattle.p3_support.specs.Shown.{roots_of, row_lists, row_sets};
 ghost use Rattle.p3_merkle_prover.specs.Parts.{matrices_of, tree_batch};
 ghost use Rattle.p3_merkle_mmcs.specs.Schemes.{cap_rule_of};
 ghost use Rattle.p3_merkle_tree.specs.HidingSchemes.{plain_of, presented_all, presented_one, salted_borrowed};

@@ -3,27 +3,35 @@
 use Rattle.std.proofs.Common.{◌≡◌, ◌∙◌, ◌⊎◌, ℕ, suc, ◌+◌, ◌<◌, ◌≤◌, Bool, true, false, cond, eqb, List, [], ◌∷◌, length}
 use Rattle.std.proofs.Common.{zip, None, ap, sym, refl, arith, inl, inr}
 use Rattle.std.specs.Cmp.Lexicographic.{pointwise, pointwise_decides}
-use Rattle.std.specs.{List.flat_map, Prelude.slice_index}
+use Rattle.std.specs.List.{flat_map}
+use Rattle.std.specs.Prelude.{slice_index}
 use Rattle.std.proofs.lemmas.Bool.{cases_Bool, cases_eq, eqb-true, eq-eqb, ne_eqb, cond-true, true≢false}
 use Rattle.std.proofs.lemmas.List.{map-id}
-use Rattle.p3_support.specs.{Batches.heights_of, Shown.row_lists}
+use Rattle.p3_support.specs.Batches.{heights_of}
+use Rattle.p3_support.specs.Shown.{row_lists}
 use Rattle.p3_merkle_core.specs.Geometry.{Shape, IsArity, ancestor, has_rows, leaves_under}
-use Rattle.p3_merkle_core.specs.{Nodes.Functions, Nodes.padded, Openings.Opening, Checks.AgreeWhereShared}
+use Rattle.p3_merkle_core.specs.Nodes.{Functions, padded}
+use Rattle.p3_merkle_core.specs.Openings.{Opening}
+use Rattle.p3_merkle_core.specs.Checks.{AgreeWhereShared}
 use Rattle.p3_merkle_core.specs.Checks.{group_at, inputs_at, layer_words, leaf_input, params, words_at}
 use Rattle.p3_merkle_core.specs.Pruning.{IsAgreed, PrunedOpening, is_covered, opening_at, restored_node, value_of}
-use Rattle.p3_merkle_core.specs.{Refusals.IsEquality, declared.collision.Place.TheVariants.Leaf}
+use Rattle.p3_merkle_core.specs.Refusals.{IsEquality}
+use Rattle.p3_merkle_core.specs.declared.collision.Place.TheVariants.{Leaf}
 use Rattle.p3_merkle_core.proofs.Checks.CheckFacts.{full_group, inputs_with_rows, inputs_alone, same_group}
 use Rattle.p3_merkle_core.proofs.Checks.PathFacts.{group_values, joined_same, path_group}
 use Rattle.p3_merkle_core.proofs.Covered.CoveredFacts.{leaves_above_0}
 use Rattle.p3_merkle_core.proofs.Covered.Equivalence.{path_reaches, query_covered, rows_agree}
-use Rattle.p3_merkle_core.proofs.{Collisions.Extracted.no_difference, Lists.RisingFacts.div_mono}
+use Rattle.p3_merkle_core.proofs.Collisions.Extracted.{no_difference}
+use Rattle.p3_merkle_core.proofs.Lists.RisingFacts.{div_mono}
 use Rattle.p3_merkle_verifier.specs.Inner.Checks.{AgreeBelow, AgreeOnLevel, IsLevelOfCheck}
 use Rattle.p3_merkle_verifier.specs.Inner.Collisions.{first_rows, first_words, second_rows, second_words}
 use Rattle.p3_merkle_verifier.specs.Inner.QueryPairs.{query_difference, query_in, AgreesWithAll, IsBetween}
 use Rattle.p3_merkle_verifier.specs.Inner.QueryPairs.{StandsBetween}
-use Rattle.p3_merkle_verifier.specs.declared.{extraction.RowPair.RowPair, path.ComputedLevel.ComputedLevel}
+use Rattle.p3_merkle_verifier.specs.declared.extraction.RowPair.{RowPair}
+use Rattle.p3_merkle_verifier.specs.declared.path.ComputedLevel.{ComputedLevel}
 use Rattle.p3_merkle_verifier.specs.declared.pruned_extraction.RestoredQueries.{RestoredQueries}
-use Rattle.p3_merkle_verifier.proofs.{LevelFacts.words_read, SharedFacts.meets, SharedFacts.so_far_all}
+use Rattle.p3_merkle_verifier.proofs.LevelFacts.{words_read}
+use Rattle.p3_merkle_verifier.proofs.SharedFacts.{meets, so_far_all}
 
 module _ {T W : Type 0} (f : Functions T W) (s : Shape) where
   -- ---- one level

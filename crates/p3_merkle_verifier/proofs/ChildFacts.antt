@@ -1,18 +1,25 @@
 -- The queries under the covered nodes of a layer, and the nodes' children.
 use Rattle.std.proofs.Common.{◌≡◌, ◌∙◌, ℕ, suc, ◌-◌, ◌/◌, ◌^◌, ◌<◌, ◌≤◌, true, eqb, All, List, [], ◌∷◌, map, refl, ap}
-use Rattle.std.proofs.{Common.sym, Common.arith, Common.length, Common.get_or, lemmas.Nat.pow_pos}
-use Rattle.std.specs.{List.dedup, Cmp.both_ways}
-use Rattle.p3_support.specs.{Batches.greatest, Lists.is_among}
+use Rattle.std.proofs.Common.{sym, arith, length, get_or}
+use Rattle.std.proofs.lemmas.Nat.{pow_pos}
+use Rattle.std.specs.List.{dedup}
+use Rattle.std.specs.Cmp.{both_ways}
+use Rattle.p3_support.specs.Batches.{greatest}
+use Rattle.p3_support.specs.Lists.{is_among}
 use Rattle.p3_merkle_core.specs.Geometry.{Shape, ancestor, exponent, heights, layer_exponent, layer_len}
 use Rattle.p3_merkle_core.specs.Pruning.{CanQuery, is_covered}
 use Rattle.p3_merkle_core.specs.Inner.Agreement.{distinct, first_query, AreDistinctOf}
-use Rattle.p3_merkle_core.specs.{declared.pruning.DistinctQueries.DistinctQueries, Inner.Covered.covered_at}
+use Rattle.p3_merkle_core.specs.declared.pruning.DistinctQueries.{DistinctQueries}
+use Rattle.p3_merkle_core.specs.Inner.Covered.{covered_at}
 use Rattle.p3_merkle_core.proofs.Covered.CoveredFacts.{covered_leaf, covered_listed, listed_below, listed_covered}
 use Rattle.p3_merkle_core.proofs.Lists.RisingFacts.{is_listed, listed_at, listed_map, map_lists, rising_filter}
-use Rattle.p3_merkle_core.proofs.Pruned.{AgreeFacts.firsts_inside, LeadFacts.first_there, LeadFacts.nodes_by_bits}
+use Rattle.p3_merkle_core.proofs.Pruned.AgreeFacts.{firsts_inside}
+use Rattle.p3_merkle_core.proofs.Pruned.LeadFacts.{first_there, nodes_by_bits}
 use Rattle.p3_merkle_core.proofs.Pruned.SlotFacts.{distinct_from, distinct_is, distinct_queried, parents_once}
 use Rattle.p3_merkle_core.proofs.Pruned.SlotFacts.{rising_either}
-use Rattle.p3_merkle_core.proofs.Shapes.{LadderFacts.shifted_is_anc, LevelFacts.exponent_low, StepFacts.anc_start}
+use Rattle.p3_merkle_core.proofs.Shapes.LadderFacts.{shifted_is_anc}
+use Rattle.p3_merkle_core.proofs.Shapes.LevelFacts.{exponent_low}
+use Rattle.p3_merkle_core.proofs.Shapes.StepFacts.{anc_start}
 use Rattle.p3_merkle_verifier.specs.Inner.RestoredLevels.{node_of_query, AreQueriesAt}
 
 -- functions that are equal on a list, mapped

@@ -1,7 +1,9 @@
 -- The answer of `eq` on two iterators that yield lists.
 use Rattle.std.proofs.Common.{◌≡◌, ◌∙◌, Bool, true, false, List, [], ◌∷◌, Option, None, Some, ap, sym, subst}
-use Rattle.std.specs.{Prelude.◌&&◌, Prelude.IfSome, Prelude.MatchOption, Cmp.Lexicographic.pointwise}
-use Rattle.std.specs.{Iterator.AlwaysYields, Iterator.ComparesItemsByEq, Iterator.YieldsThen, List.AllZip}
+use Rattle.std.specs.Prelude.{◌&&◌, IfSome, MatchOption}
+use Rattle.std.specs.Cmp.Lexicographic.{pointwise}
+use Rattle.std.specs.Iterator.{AlwaysYields, ComparesItemsByEq, YieldsThen}
+use Rattle.std.specs.List.{AllZip}
 use Rattle.std.proofs.lemmas.Iterator.{YieldsList}
 
 module _ {S T A B : Type 0} (steps : S → Option A → S → Type 0) (others : T → Option A → T → Type 0) (v : A → B)

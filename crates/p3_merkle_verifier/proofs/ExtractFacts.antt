@@ -1,6 +1,7 @@
 -- Which refusal of two an extraction answers.
 use Rattle.std.proofs.Common.{◌≡◌, Option, None, Some}
-use Rattle.std.specs.{Prelude.Ok, Prelude.Err, Option.option_or}
+use Rattle.std.specs.Prelude.{Ok, Err}
+use Rattle.std.specs.Option.{option_or}
 use Rattle.p3_merkle_core.specs.Refusals.{ok_unless}
 
 -- the first refusal comes before the second

@@ -1,11 +1,15 @@
 -- An opening of the right form is answered by the cap's entry.
 use Rattle.std.proofs.Common.{◌≡◌, ◌∙◌, ℕ, Bool, List, None, length, sym}
-use Rattle.std.specs.{Option.option_or, Cmp.Lexicographic.pointwise}
-use Rattle.p3_merkle_core.specs.{Checks.params, Checks.path_digest, Geometry.Shape, Geometry.ancestor}
-use Rattle.p3_merkle_core.specs.{Nodes.Functions, Openings.Opening}
+use Rattle.std.specs.Option.{option_or}
+use Rattle.std.specs.Cmp.Lexicographic.{pointwise}
+use Rattle.p3_merkle_core.specs.Checks.{params, path_digest}
+use Rattle.p3_merkle_core.specs.Geometry.{Shape, ancestor}
+use Rattle.p3_merkle_core.specs.Nodes.{Functions}
+use Rattle.p3_merkle_core.specs.Openings.{Opening}
 use Rattle.p3_merkle_core.specs.Refusals.{answer_under, form_refusal, is_entry, unless, ok_unless}
 use Rattle.p3_merkle_core.specs.declared.error.MerkleTreeError.TheVariants.{CapMismatch}
-use Rattle.p3_merkle_verifier.specs.{Inner.Checks.IsProgress, declared.path.Progress.Progress}
+use Rattle.p3_merkle_verifier.specs.Inner.Checks.{IsProgress}
+use Rattle.p3_merkle_verifier.specs.declared.path.Progress.{Progress}
 
 pub answered_by_entry : {T W : Type 0} (same : W → W → Bool) (roots : List (List W)) {f : Functions T W} {s : Shape}
     {t : ℕ} {o : Opening T W} {progress : Progress (List W)} {entry known : Bool} →

@@ -2,7 +2,8 @@
 use Rattle.std.proofs.Common.{◌≡◌, ◌∙◌, ℕ, suc, ◌-◌, ◌*◌, ◌/◌, ◌≤◌, List, [], ◌∷◌, ◌++◌, map, ap, sym, arith, length}
 use Rattle.std.proofs.Common.{length-drop, get_or, drop, replicate, take, zip}
 use Rattle.std.proofs.Math.Nat.{div-mul-le_self, mul-le-mul_left, mul-suc, mul_comm}
-use Rattle.std.proofs.lemmas.List.{get_or-map, length-map, length-take-le, FromFn.fill_by_all}
+use Rattle.std.proofs.lemmas.List.{get_or-map, length-map, length-take-le}
+use Rattle.std.proofs.lemmas.List.FromFn.{fill_by_all}
 use Rattle.std.proofs.lemmas.Slice.Zip.{get_or-zip, length-zip}
 use Rattle.std.specs.List.{range_with_len}
 use Rattle.p3_merkle_digests.specs.Inner.Slots.{IsFilled}

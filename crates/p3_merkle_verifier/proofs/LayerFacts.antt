@@ -1,17 +1,23 @@
 -- The digests of a layer's nodes are the restored ones.
 use Rattle.std.proofs.Common.{◌≡◌, ◌∙◌, ℕ, zero, suc, ◌+◌, ◌*◌, ◌/◌, ◌<◌, ◌≤◌, Bool, true, false, List, [], ◌∷◌, ◌++◌}
 use Rattle.std.proofs.Common.{map, refl, ap, sym, arith, inl, inr, length, length-append, take, drop, zip, append_assoc}
-use Rattle.std.proofs.lemmas.{Bool.cases_Bool, Bool.cond_both, List.drop_at, List.length-map, List.map-id, List.take_at}
-use Rattle.std.proofs.{lemmas.List.FromFn.length-range_with_len, Math.Nat.mul-div_cancel_left}
+use Rattle.std.proofs.lemmas.Bool.{cases_Bool, cond_both}
+use Rattle.std.proofs.lemmas.List.{drop_at, length-map, map-id, take_at}
+use Rattle.std.proofs.lemmas.List.FromFn.{length-range_with_len}
+use Rattle.std.proofs.Math.Nat.{mul-div_cancel_left}
 use Rattle.std.specs.List.{flat_map, range_with_len}
 use Rattle.p3_merkle_core.specs.Geometry.{Shape, has_rows, heights, is_bridge, layer_exponent, step}
-use Rattle.p3_merkle_core.specs.{Nodes.Functions, Nodes.compress_padded, Pruning.CanQuery, Pruning.IsAgreed}
+use Rattle.p3_merkle_core.specs.Nodes.{Functions, compress_padded}
+use Rattle.p3_merkle_core.specs.Pruning.{CanQuery, IsAgreed}
 use Rattle.p3_merkle_core.specs.Pruning.{PrunedOpening, boundary, pruned_of, restored_node, value_of, words_under}
 use Rattle.p3_merkle_core.specs.Inner.Covered.{covered_at, AreCovered}
-use Rattle.p3_merkle_core.specs.{declared.pruning.CoveredLayer.CoveredLayer, Checks.params}
-use Rattle.p3_merkle_core.proofs.Covered.{ClimbFacts.covered_here, Equivalence.restored_leaf, Equivalence.restored_next}
-use Rattle.p3_merkle_core.proofs.{Covered.Equivalence.rows_agree, Checks.PathFacts.group_values}
-use Rattle.p3_merkle_core.proofs.{Lists.ListFacts.map_shift, Shapes.StepFacts.step_above_1}
+use Rattle.p3_merkle_core.specs.declared.pruning.CoveredLayer.{CoveredLayer}
+use Rattle.p3_merkle_core.specs.Checks.{params}
+use Rattle.p3_merkle_core.proofs.Covered.ClimbFacts.{covered_here}
+use Rattle.p3_merkle_core.proofs.Covered.Equivalence.{restored_leaf, restored_next, rows_agree}
+use Rattle.p3_merkle_core.proofs.Checks.PathFacts.{group_values}
+use Rattle.p3_merkle_core.proofs.Lists.ListFacts.{map_shift}
+use Rattle.p3_merkle_core.proofs.Shapes.StepFacts.{step_above_1}
 use Rattle.p3_merkle_core.proofs.Covered.ValueFacts.{IsWalkedLevel, children_are, map_agree}
 use Rattle.p3_merkle_verifier.proofs.ChildFacts.{map_on}
 use Rattle.p3_merkle_verifier.specs.Inner.NodeDigests.{group_digest, layer_digests, pair_digest, query_digest}

@@ -1,13 +1,16 @@
 -- One level of the check of an opening.
 use Rattle.std.proofs.Common.{insert, ◌≡◌, ℕ, zero, suc, ◌+◌, ◌-◌, ◌%◌, ◌<◌, ◌≤◌, add-suc, Bool, true, false, eqb, List}
 use Rattle.std.proofs.Common.{[], ◌∷◌, refl, ap, sym, ◌∙◌, arith, map, zip, None, Some}
-use Rattle.std.proofs.lemmas.{Bool.cond_both, List.Folds.flat_map-map}
+use Rattle.std.proofs.lemmas.Bool.{cond_both}
+use Rattle.std.proofs.lemmas.List.Folds.{flat_map-map}
 use Rattle.std.specs.List.{filter, flat_map}
 use Rattle.p3_merkle_core.specs.Geometry.{Shape, exponent, has_rows, heights, is_bridge, layer_exponent, shape_of, step}
 use Rattle.p3_support.specs.declared.matrix.Dimensions.{Dimensions}
-use Rattle.p3_merkle_core.specs.{Nodes.Functions, Nodes.padded, Openings.Opening}
+use Rattle.p3_merkle_core.specs.Nodes.{Functions, padded}
+use Rattle.p3_merkle_core.specs.Openings.{Opening}
 use Rattle.p3_merkle_core.specs.Checks.{layer_words, path_digest, siblings_below, words_of_exponent}
-use Rattle.p3_merkle_core.proofs.{Checks.Completeness.reached_next, Shapes.SiblingFacts.siblings_next}
+use Rattle.p3_merkle_core.proofs.Checks.Completeness.{reached_next}
+use Rattle.p3_merkle_core.proofs.Shapes.SiblingFacts.{siblings_next}
 use Rattle.p3_merkle_core.proofs.Shapes.StepFacts.{anc_next, step_above_1}
 use Rattle.p3_merkle_verifier.specs.Inner.Checks.{CanStep, IsAbove, IsLevelOfCheck, IsProgress, step_siblings}
 use Rattle.p3_merkle_verifier.specs.Inner.Paths.{CanReach, rows_of_exponent}

@@ -1,8 +1,11 @@
 -- The neighbours of an index among the leaves of some queries.
 use Rattle.std.proofs.Common.{◌≡◌, ◌∙◌, ◌⊎◌, ℕ, ◌-◌, ◌<◌, ◌≤◌, List, get_or, arith, inl, inr, length}
-use Rattle.std.proofs.lemmas.{Bool.cases_lt, Grind.get_or_default_zero, List.Sorted.searched}
+use Rattle.std.proofs.lemmas.Bool.{cases_lt}
+use Rattle.std.proofs.lemmas.Grind.{get_or_default_zero}
+use Rattle.std.proofs.lemmas.List.Sorted.{searched}
 use Rattle.std.specs.Prelude.{min, slice_index, Err}
-use Rattle.std.specs.{List.Sorted.IsBinarySearchResult, Ordering.nat_cmp}
+use Rattle.std.specs.List.Sorted.{IsBinarySearchResult}
+use Rattle.std.specs.Ordering.{nat_cmp}
 use Rattle.p3_merkle_verifier.specs.Inner.QueryPairs.{query_in, HasLeaves, StandsBetween}
 use Rattle.p3_merkle_verifier.specs.declared.pruned_extraction.RestoredQueries.{RestoredQueries}
 

@@ -1,12 +1,17 @@
 -- The rows that queries opened of the matrices of one exponent.
 use Rattle.std.proofs.Common.{◌≡◌, ◌∙◌, ℕ, ◌+◌, ◌<◌, true, false, eqb, List, [], ◌∷◌, ◌++◌, All, append-nil, ap, sym}
 use Rattle.std.proofs.Common.{arith, refl, length, map, get_or, take, zip}
-use Rattle.std.proofs.lemmas.{Bool.eq-eqb, Bool.ne_eqb, Grind.flat_map-append, List.flat_map_more}
-use Rattle.std.proofs.lemmas.List.{get_or-map, length-map, take_more, Elements.filter-append, FromFn.fill_by_all}
+use Rattle.std.proofs.lemmas.Bool.{eq-eqb, ne_eqb}
+use Rattle.std.proofs.lemmas.Grind.{flat_map-append}
+use Rattle.std.proofs.lemmas.List.{flat_map_more, get_or-map, length-map, take_more}
+use Rattle.std.proofs.lemmas.List.Elements.{filter-append}
+use Rattle.std.proofs.lemmas.List.FromFn.{fill_by_all}
 use Rattle.std.proofs.lemmas.Slice.Zip.{get_or-zip, length-zip}
 use Rattle.std.specs.List.{flat_map, range_with_len}
-use Rattle.p3_support.specs.{Batches.widths_of, declared.matrix.Dimensions.Dimensions}
-use Rattle.p3_merkle_core.specs.{Checks.words_of_exponent, Geometry.exponent}
+use Rattle.p3_support.specs.Batches.{widths_of}
+use Rattle.p3_support.specs.declared.matrix.Dimensions.{Dimensions}
+use Rattle.p3_merkle_core.specs.Checks.{words_of_exponent}
+use Rattle.p3_merkle_core.specs.Geometry.{exponent}
 use Rattle.p3_merkle_verifier.specs.Inner.OpenedRows.{HaveRows}
 
 -- row sets whose rows have the widths of all matrices have a row of this width in this place

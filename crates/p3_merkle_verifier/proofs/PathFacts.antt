@@ -1,13 +1,18 @@
 -- The layers of a pruned opening, and the paths out of them.
 use Rattle.std.proofs.Common.{◌≡◌, ◌∙◌, ℕ, suc, ◌+◌, ◌/◌, ◌<◌, List, [], ◌∷◌, ◌++◌, add-one, ap, arith, drop, get_or}
 use Rattle.std.proofs.Common.{inl, inr, length, length-append, map, refl, sym}
-use Rattle.std.proofs.lemmas.{Bool.cases_lt, List.drop-append-le, List.get_or_append_left, List.get_or_default}
-use Rattle.std.proofs.{lemmas.List.map-append, lemmas.List.FromFn.map-range_with_len_more, Math.Seq.get_or-append_seam}
-use Rattle.p3_merkle_core.specs.{Geometry.Shape, Geometry.step, Nodes.Functions}
+use Rattle.std.proofs.lemmas.Bool.{cases_lt}
+use Rattle.std.proofs.lemmas.List.{drop-append-le, get_or_append_left, get_or_default, map-append}
+use Rattle.std.proofs.lemmas.List.FromFn.{map-range_with_len_more}
+use Rattle.std.proofs.Math.Seq.{get_or-append_seam}
+use Rattle.p3_merkle_core.specs.Geometry.{Shape, step}
+use Rattle.p3_merkle_core.specs.Nodes.{Functions}
 use Rattle.p3_merkle_core.specs.Pruning.{CanQuery, PrunedOpening, value_of}
-use Rattle.p3_merkle_core.specs.{declared.pruning.CoveredLayer.CoveredLayer, Checks.params}
+use Rattle.p3_merkle_core.specs.declared.pruning.CoveredLayer.{CoveredLayer}
+use Rattle.p3_merkle_core.specs.Checks.{params}
 use Rattle.p3_merkle_core.proofs.Covered.CoveredFacts.{covered_listed, listed_covered}
-use Rattle.p3_merkle_core.proofs.Covered.{KeptFacts.covered_up_list, KeptFacts.level_of, Under.covered_up}
+use Rattle.p3_merkle_core.proofs.Covered.KeptFacts.{covered_up_list, level_of}
+use Rattle.p3_merkle_core.proofs.Covered.Under.{covered_up}
 use Rattle.p3_merkle_verifier.specs.Inner.RestoredLevels.{AreLayers, AreLeaves, IsLayer}
 use Rattle.p3_merkle_verifier.proofs.LayerFacts.{covers, leaves_are}
 

@@ -1,8 +1,11 @@
 -- The first place, and the first pair of places, at which there is an answer.
 use Rattle.std.proofs.Common.{◌≡◌, ◌∙◌, ℕ, zero, suc, ◌+◌, ◌<◌, ◌≤◌, List, [], ◌∷◌, refl, ap, sym, arith, inl, inr}
-use Rattle.std.proofs.{Common.Option, Common.Some, Common.None, lemmas.Bool.cases_eq}
-use Rattle.std.specs.{List.range_with_len, Option.option_or, Option.option_map}
-use Rattle.p3_merkle_core.specs.{Extraction.first_pair, Refusals.first_of}
+use Rattle.std.proofs.Common.{Option, Some, None}
+use Rattle.std.proofs.lemmas.Bool.{cases_eq}
+use Rattle.std.specs.List.{range_with_len}
+use Rattle.std.specs.Option.{option_or, option_map}
+use Rattle.p3_merkle_core.specs.Extraction.{first_pair}
+use Rattle.p3_merkle_core.specs.Refusals.{first_of}
 use Rattle.p3_merkle_core.proofs.Pruned.Unrefused.{all_in_range}
 use Rattle.p3_merkle_verifier.specs.Inner.QueryPairs.{first_place}
 

@@ -3,20 +3,29 @@ use Rattle.std.proofs.Common.{◌≡◌, ◌∙◌, ℕ, ◌<◌, Bool, List, []
 use Rattle.std.specs.Prelude.{slice_index, slice_index_or}
 use Rattle.std.proofs.lemmas.List.{get_or-map, length-map}
 use Rattle.p3_support.specs.Shown.{row_lists, row_sets}
-use Rattle.p3_merkle_core.specs.{Views.shown_path, Views.shown_paths, Extraction.difference_of, Extraction.first_pair}
-use Rattle.p3_merkle_core.specs.{Geometry.Shape, Nodes.Functions, Openings.Opening, Openings.opening_of}
-use Rattle.p3_merkle_core.specs.{Checks.Params, Checks.params, Inner.Agreement.AreDistinctOf}
+use Rattle.p3_merkle_core.specs.Views.{shown_path, shown_paths}
+use Rattle.p3_merkle_core.specs.Extraction.{difference_of, first_pair}
+use Rattle.p3_merkle_core.specs.Geometry.{Shape}
+use Rattle.p3_merkle_core.specs.Nodes.{Functions}
+use Rattle.p3_merkle_core.specs.Openings.{Opening, opening_of}
+use Rattle.p3_merkle_core.specs.Checks.{Params, params}
+use Rattle.p3_merkle_core.specs.Inner.Agreement.{AreDistinctOf}
 use Rattle.p3_merkle_core.specs.Pruning.{PrunedOpening, opening_at, restored_path, restored_paths}
 use Rattle.p3_merkle_core.specs.Refusals.{IsEquality, pruned_refusal_under, ok_unless}
 use Rattle.p3_merkle_core.specs.declared.collision.InputPair.{InputPair}
-use Rattle.p3_merkle_verifier.specs.Inner.{Paths.CanCheck, Collisions.Shows, Checks.AgreeBelow}
+use Rattle.p3_merkle_verifier.specs.Inner.Paths.{CanCheck}
+use Rattle.p3_merkle_verifier.specs.Inner.Collisions.{Shows}
+use Rattle.p3_merkle_verifier.specs.Inner.Checks.{AgreeBelow}
 use Rattle.p3_merkle_verifier.specs.Inner.QueryPairs.{query_difference, query_in, AreQueriesOf, CanSearch, ShowsPair}
 use Rattle.p3_merkle_verifier.specs.Inner.RestoredLevels.{node_of_query}
 use Rattle.p3_merkle_verifier.specs.declared.pruned_extraction.RestoredQueries.{RestoredQueries}
-use Rattle.p3_merkle_core.proofs.{Pruned.AgreeFacts.firsts_inside, Checks.Verdicts.pruned_accepted}
+use Rattle.p3_merkle_core.proofs.Pruned.AgreeFacts.{firsts_inside}
+use Rattle.p3_merkle_core.proofs.Checks.Verdicts.{pruned_accepted}
 use Rattle.p3_merkle_core.proofs.Pruned.SlotFacts.{queried_at, rising_either, some_place}
 use Rattle.p3_merkle_core.proofs.Shapes.StepFacts.{anc_start}
-use Rattle.p3_merkle_verifier.proofs.{ChildFacts.leaf_queries, AgreeFacts.agree_restored, PlaceFacts.pairs_alike}
+use Rattle.p3_merkle_verifier.proofs.ChildFacts.{leaf_queries}
+use Rattle.p3_merkle_verifier.proofs.AgreeFacts.{agree_restored}
+use Rattle.p3_merkle_verifier.proofs.PlaceFacts.{pairs_alike}
 
 -- what is restored is read query by query
 pub restored : {T W : Type 0} (c : Params T W) (p : PrunedOpening T W) (queries : RestoredQueries T (List W)) →

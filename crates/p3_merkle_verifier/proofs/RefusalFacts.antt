@@ -1,9 +1,12 @@
 -- Why a pruned opening is refused under a cap: by its form, else by the cap.
 use Rattle.std.proofs.Common.{◌≡◌, ◌⊎◌, ℕ, List, Bool, sym, subst, IsErrAnd, None, Some, Ok, Err, Option, Result}
 use Rattle.std.specs.Option.{option_or}
-use Rattle.p3_merkle_core.specs.{Checks.params, Geometry.shape_of, Nodes.Functions}
+use Rattle.p3_merkle_core.specs.Checks.{params}
+use Rattle.p3_merkle_core.specs.Geometry.{shape_of}
+use Rattle.p3_merkle_core.specs.Nodes.{Functions}
 use Rattle.p3_merkle_core.specs.Refusals.{AnswersUnlessMemory, cap_refusal, pruned_refusal, pruned_refusal_under}
-use Rattle.p3_merkle_core.specs.declared.error.MerkleTreeError.{MerkleTreeError, TheVariants.OutOfMemory}
+use Rattle.p3_merkle_core.specs.declared.error.MerkleTreeError.{MerkleTreeError}
+use Rattle.p3_merkle_core.specs.declared.error.MerkleTreeError.TheVariants.{OutOfMemory}
 use Rattle.p3_merkle_core.specs.declared.steps.Steps.{Steps}
 use Rattle.p3_merkle_verifier.specs.Inner.RestoredLevels.{opened_by, pruned_in, tree_of}
 use Rattle.p3_merkle_verifier.specs.declared.openings.PrunedOpeningRef.{PrunedOpeningRef}

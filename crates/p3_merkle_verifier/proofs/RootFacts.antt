@@ -1,14 +1,18 @@
 -- The cap has the digest of each covered node if it has that of each query's.
 use Rattle.std.proofs.Common.{◌≡◌, ◌∙◌, ℕ, ◌&&◌, Bool, true, eqb, List, [], ◌∷◌, map, refl, ap, sym, arith, inl, inr}
 use Rattle.std.proofs.Common.{zip, eq-eqb}
-use Rattle.std.specs.{List.list_all, Cmp.both_ways, Cmp.Lexicographic.pointwise}
+use Rattle.std.specs.List.{list_all}
+use Rattle.std.specs.Cmp.{both_ways}
+use Rattle.std.specs.Cmp.Lexicographic.{pointwise}
 use Rattle.std.proofs.lemmas.Bool.{and_from, and_parts, eqb-true, or_cases, or_left, or_right, true≢false}
 use Rattle.std.proofs.lemmas.List.Folds.{list_all-map}
-use Rattle.p3_merkle_core.specs.{Geometry.Shape, Geometry.ancestor, Nodes.Functions}
+use Rattle.p3_merkle_core.specs.Geometry.{Shape, ancestor}
+use Rattle.p3_merkle_core.specs.Nodes.{Functions}
 use Rattle.p3_merkle_core.specs.Refusals.{cap_refusal, unless, is_entry}
 use Rattle.p3_merkle_core.specs.declared.error.MerkleTreeError.TheVariants.{CapMismatch}
 use Rattle.p3_merkle_core.specs.Pruning.{CanQuery, PrunedOpening, restored_node}
-use Rattle.p3_merkle_core.specs.{Inner.Covered.covered_at, Checks.params}
+use Rattle.p3_merkle_core.specs.Inner.Covered.{covered_at}
+use Rattle.p3_merkle_core.specs.Checks.{params}
 use Rattle.p3_merkle_core.proofs.Covered.CoveredFacts.{covered_listed, listed_covered}
 use Rattle.p3_merkle_core.proofs.Lists.RisingFacts.{is_listed}
 use Rattle.p3_merkle_verifier.proofs.ChildFacts.{covered_listed_above}

@@ -4,15 +4,20 @@ use Rattle.std.proofs.Common.{refl, arith, inl, inr, length, add-suc, append_ass
 use Rattle.std.specs.Option.{option_or}
 use Rattle.std.proofs.lemmas.Bool.{cases_Bool, cases_eq, cond-true, cond-false, eqb-true, eq-eqb, ne_eqb}
 use Rattle.std.proofs.lemmas.List.{append-nil}
-use Rattle.p3_merkle_core.specs.{Extraction.last_difference, Geometry.Shape, Geometry.ancestor, Nodes.Functions}
+use Rattle.p3_merkle_core.specs.Extraction.{last_difference}
+use Rattle.p3_merkle_core.specs.Geometry.{Shape, ancestor}
+use Rattle.p3_merkle_core.specs.Nodes.{Functions}
 use Rattle.p3_merkle_core.specs.Openings.{Opening}
 use Rattle.p3_merkle_core.specs.Checks.{Input, inputs_at, meeting_level, shared_inputs, params, leaf_input}
-use Rattle.p3_merkle_core.specs.{Refusals.unless, declared.collision.InputPair.InputPair}
+use Rattle.p3_merkle_core.specs.Refusals.{unless}
+use Rattle.p3_merkle_core.specs.declared.collision.InputPair.{InputPair}
 use Rattle.p3_merkle_core.proofs.Checks.Binding.{pieces_long}
 use Rattle.p3_merkle_core.proofs.Collisions.Extraction.{anc_same, level_lengths}
-use Rattle.p3_merkle_core.proofs.{Lists.ListFacts.joined, Lists.ListFacts.joined_more, Checks.PathFacts.joined_same}
+use Rattle.p3_merkle_core.proofs.Lists.ListFacts.{joined, joined_more}
+use Rattle.p3_merkle_core.proofs.Checks.PathFacts.{joined_same}
 use Rattle.p3_merkle_core.proofs.Shapes.LeastFacts.{least_le, least_passes, below_least}
-use Rattle.p3_merkle_verifier.specs.Inner.{Checks.leaf_difference, Checks.level_difference, Collisions.Shows}
+use Rattle.p3_merkle_verifier.specs.Inner.Checks.{leaf_difference, level_difference}
+use Rattle.p3_merkle_verifier.specs.Inner.Collisions.{Shows}
 
 -- ---- lists
 

@@ -1,14 +1,20 @@
 -- The checks of two openings, one level higher.
 use Rattle.std.proofs.Common.{◌≡◌, ℕ, suc, ◌+◌, Bool, List, subst, sym, ◌∙◌, inl, inr, add-one, Option}
-use Rattle.std.specs.{Cmp.Lexicographic.pointwise, Option.option_or}
+use Rattle.std.specs.Cmp.Lexicographic.{pointwise}
+use Rattle.std.specs.Option.{option_or}
 use Rattle.std.proofs.lemmas.Bool.{cases_Bool, eq-eqb}
-use Rattle.p3_merkle_core.specs.{Extraction.input_eq, Extraction.last_difference, Geometry.Shape, Geometry.ancestor}
-use Rattle.p3_merkle_core.specs.{Nodes.Functions, Openings.Opening, Checks.Input, Checks.layer_words}
-use Rattle.p3_merkle_core.specs.{Checks.leaf_input, Checks.words_at, Refusals.unless}
-use Rattle.p3_merkle_core.specs.declared.collision.{Place.TheVariants.Leaf, InputPair.InputPair}
+use Rattle.p3_merkle_core.specs.Extraction.{input_eq, last_difference}
+use Rattle.p3_merkle_core.specs.Geometry.{Shape, ancestor}
+use Rattle.p3_merkle_core.specs.Nodes.{Functions}
+use Rattle.p3_merkle_core.specs.Openings.{Opening}
+use Rattle.p3_merkle_core.specs.Checks.{Input, layer_words, leaf_input, words_at}
+use Rattle.p3_merkle_core.specs.Refusals.{unless}
+use Rattle.p3_merkle_core.specs.declared.collision.Place.TheVariants.{Leaf}
+use Rattle.p3_merkle_core.specs.declared.collision.InputPair.{InputPair}
 use Rattle.p3_merkle_verifier.specs.Inner.Checks.{IsLevelOfCheck, IsProgress, leaf_difference, level_difference}
 use Rattle.p3_merkle_verifier.specs.Inner.Collisions.{IsDifference, Shows, level_inputs}
-use Rattle.p3_merkle_verifier.specs.declared.path.{ComputedLevel.ComputedLevel, Progress.Progress}
+use Rattle.p3_merkle_verifier.specs.declared.path.ComputedLevel.{ComputedLevel}
+use Rattle.p3_merkle_verifier.specs.declared.path.Progress.{Progress}
 use Rattle.p3_merkle_verifier.proofs.SharedFacts.{difference_below, shows_later}
 
 -- the checks of two openings stand at layer l, and this is the last difference below it

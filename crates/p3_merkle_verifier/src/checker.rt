@@ -1,7 +1,8 @@
 //! What checks of openings compute with.
 
 ghost use Rattle.std.specs.Prelude.{◌≡◌};
-ghost use Rattle.p3_merkle_core.specs.{Computed.Computes, Geometry.shape_of};
+ghost use Rattle.p3_merkle_core.specs.Computed.{Computes};
+ghost use Rattle.p3_merkle_core.specs.Geometry.{shape_of};
 ghost use Rattle.p3_merkle_verifier.specs.Inner.Paths.{CanCheck};
 
 use p3_merkle_core::steps::Steps;

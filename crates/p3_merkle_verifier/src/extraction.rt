@@ -6,8 +6,10 @@
 //! digests. Two checks share the leaf or a level if they reach one node there.
 
 ghost use Rattle.std.specs.Prelude.{◌≡◌, zip, IfOk, IsTrue, length, replicate};
-ghost use Rattle.std.specs.{Cmp.Lexicographic.pointwise, Option.option_or};
-ghost use Rattle.p3_support.specs.{Batches.heights_of, Shown.row_lists};
+ghost use Rattle.std.specs.Cmp.Lexicographic.{pointwise};
+ghost use Rattle.std.specs.Option.{option_or};
+ghost use Rattle.p3_support.specs.Batches.{heights_of};
+ghost use Rattle.p3_support.specs.Shown.{row_lists};
 ghost use Rattle.p3_merkle_core.specs.Checks.{digests_at, words_at, words_of_exponent};
 ghost use Rattle.p3_merkle_core.specs.Extraction.{difference_of, input_eq, last_difference};
 ghost use Rattle.p3_merkle_core.specs.Geometry.{layer_exponent, shape_of};
@@ -16,7 +18,8 @@ ghost use Rattle.p3_merkle_verifier.specs.Inner.Checks.{functions_of, leaf_diffe
 ghost use Rattle.p3_merkle_verifier.specs.Inner.Checks.{AgreeBelow, AgreeOnLevel, ShowsLevel};
 ghost use Rattle.p3_merkle_verifier.specs.Inner.{Collisions.first_rows, Collisions.first_words};
 ghost use Rattle.p3_merkle_verifier.specs.Inner.Collisions.{inputs_above, second_rows, second_words, IsDifference};
-ghost use Rattle.p3_merkle_verifier.specs.Inner.{Collisions.Shows, Paths.CanReach};
+ghost use Rattle.p3_merkle_verifier.specs.Inner.Collisions.{Shows};
+ghost use Rattle.p3_merkle_verifier.specs.Inner.Paths.{CanReach};
 
 use crate::checker::Checker;
 use crate::openings::{OpenedRows, OpeningRef};

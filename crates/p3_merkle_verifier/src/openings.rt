@@ -8,7 +8,8 @@ ghost use Rattle.p3_support.specs.Shown.{row_lists, row_sets};
 ghost use Rattle.p3_merkle_core.specs.Geometry.{height_limit, shape_of};
 ghost use Rattle.p3_merkle_core.specs.Inner.Agreement.{opened_of, AreDistinctOf};
 ghost use Rattle.p3_merkle_core.specs.Pruning.{boundary, CanQuery, IsAgreed};
-ghost use Rattle.p3_merkle_verifier.specs.Inner.{OpenedRows.opened_row, OpenedRows.HaveRows, Paths.rows_of_exponent};
+ghost use Rattle.p3_merkle_verifier.specs.Inner.OpenedRows.{opened_row, HaveRows};
+ghost use Rattle.p3_merkle_verifier.specs.Inner.Paths.{rows_of_exponent};
 
 use p3_merkle_core::geometry::exponent_of;
 use p3_merkle_core::pruning::DistinctQueries;

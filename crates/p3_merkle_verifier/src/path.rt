@@ -6,9 +6,11 @@
 ghost use Rattle.std.specs.Prelude.{insert, suc, ◌≡◌, ◌==◌, ◌+◌, ◌-◌, ◌%◌, ◌<◌, length, replicate, slice_get, zip};
 ghost use Rattle.std.specs.Prelude.{false, unwrap_or, IfOk, MatchResult, None, Some};
 ghost use Rattle.std.specs.Option.{option_map};
-ghost use Rattle.p3_support.specs.{Batches.heights_of, Shown.row_lists};
+ghost use Rattle.p3_support.specs.Batches.{heights_of};
+ghost use Rattle.p3_support.specs.Shown.{row_lists};
 ghost use Rattle.p3_merkle_core.specs.Geometry.{layer_exponent, shape_of, step as step_of};
-ghost use Rattle.p3_merkle_core.specs.{Checks.siblings_below, Checks.words_of_exponent, Nodes.padded};
+ghost use Rattle.p3_merkle_core.specs.Checks.{siblings_below, words_of_exponent};
+ghost use Rattle.p3_merkle_core.specs.Nodes.{padded};
 ghost use Rattle.p3_merkle_core.specs.Refusals.{answer_under, form_refusal, is_entry as is_entry_of};
 ghost use Rattle.p3_merkle_verifier.specs.Inner.Checks.{functions_of, opening_in, params_in, shape_in};
 ghost use Rattle.p3_merkle_verifier.specs.Inner.Checks.{step_siblings, CanStep, IsLevelOfCheck, IsProgress};

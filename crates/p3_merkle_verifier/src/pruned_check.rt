@@ -6,12 +6,17 @@
 //! log2 of its height, rounded up. A restored path has the siblings of a query, computed or from the proof.
 
 ghost use Rattle.std.specs.Prelude.{◌≡◌, ◌/◌, ◌<◌, ◌≤◌, ℕ, [], All, IfOk, length, map, replicate, slice_index};
-ghost use Rattle.std.specs.{Prelude.slice_index_or, Prelude.zip, List.list_all, List.range_with_len};
-ghost use Rattle.p3_support.specs.{Batches.heights_of, Shown.row_sets};
-ghost use Rattle.p3_merkle_core.specs.{Checks.params, Checks.words_of_exponent, Geometry.layer_exponent};
-ghost use Rattle.p3_merkle_core.specs.{Nodes.Functions, Pruning.restored_paths, Refusals.cap_refusal};
+ghost use Rattle.std.specs.Prelude.{slice_index_or, zip};
+ghost use Rattle.std.specs.List.{list_all, range_with_len};
+ghost use Rattle.p3_support.specs.Batches.{heights_of};
+ghost use Rattle.p3_support.specs.Shown.{row_sets};
+ghost use Rattle.p3_merkle_core.specs.Checks.{params, words_of_exponent};
+ghost use Rattle.p3_merkle_core.specs.Geometry.{layer_exponent};
+ghost use Rattle.p3_merkle_core.specs.Nodes.{Functions};
+ghost use Rattle.p3_merkle_core.specs.Pruning.{restored_paths};
+ghost use Rattle.p3_merkle_core.specs.Refusals.{cap_refusal, AnswersUnlessMemory};
 ghost use Rattle.p3_merkle_core.specs.Refusals.{is_entry as is_entry_of, pruned_refusal, pruned_refusal_under};
-ghost use Rattle.p3_merkle_core.specs.{Refusals.AnswersUnlessMemory, Views.pruned_borrowed, Views.shown_paths};
+ghost use Rattle.p3_merkle_core.specs.Views.{pruned_borrowed, shown_paths};
 ghost use Rattle.p3_merkle_digests.specs.Inner.Slots.{rows_over};
 ghost use Rattle.p3_merkle_verifier.specs.Inner.Checks.{functions_of, params_in, shape_in};
 ghost use Rattle.p3_merkle_verifier.specs.Inner.NodeDigests.{child_group, group_digest};

@@ -4,9 +4,11 @@
 ghost use Rattle.std.specs.Prelude.{◌≡◌, ◌⊎◌, ℕ, ◌<◌, IfOk, IsTrue, length, replicate};
 ghost use Rattle.std.specs.Option.{option_or};
 ghost use Rattle.p3_merkle_core.specs.Extraction.{difference_of, first_pair};
-ghost use Rattle.p3_merkle_core.specs.{Pruning.opening_at, Refusals.pruned_refusal_under, Refusals.AnswersUnlessMemory};
+ghost use Rattle.p3_merkle_core.specs.Pruning.{opening_at};
+ghost use Rattle.p3_merkle_core.specs.Refusals.{pruned_refusal_under, AnswersUnlessMemory};
 ghost use Rattle.p3_merkle_verifier.specs.Inner.Checks.{opening_in, params_in, shape_in};
-ghost use Rattle.p3_merkle_verifier.specs.Inner.{Paths.CanReach, QueryPairs.query_difference, QueryPairs.first_place};
+ghost use Rattle.p3_merkle_verifier.specs.Inner.Paths.{CanReach};
+ghost use Rattle.p3_merkle_verifier.specs.Inner.QueryPairs.{query_difference, first_place};
 ghost use Rattle.p3_merkle_verifier.specs.Inner.QueryPairs.{query_in, AgreesWithAll, AreQueriesOf, CanCompare};
 ghost use Rattle.p3_merkle_verifier.specs.Inner.QueryPairs.{CanSearch, HasLeaves, ShowsAt, ShowsPair, StandsBetween};
 ghost use Rattle.p3_merkle_verifier.specs.Inner.RestoredLevels.{pruned_in};

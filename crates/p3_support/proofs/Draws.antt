@@ -1,9 +1,13 @@
 -- Values made from the words of a stream: one more, and all.
 use Rattle.std.proofs.Common.{◌≡◌, ℕ, zero, suc, ◌+◌, ◌*◌, ◌/◌, ◌<◌, ◌≤◌, ◌∷◌, ◌++◌, refl, sym, ap, ◌∙◌, arith}
-use Rattle.std.proofs.{Common.append_assoc, Common.map, Math.Nat.mul-div_cancel}
-use Rattle.std.specs.{Prelude.Option, Prelude.Some, Option.SomeIff, declared.vec.Vec.Vec}
+use Rattle.std.proofs.Common.{append_assoc, map}
+use Rattle.std.proofs.Math.Nat.{mul-div_cancel}
+use Rattle.std.specs.Prelude.{Option, Some}
+use Rattle.std.specs.Option.{SomeIff}
+use Rattle.std.specs.declared.vec.Vec.{Vec}
 use Rattle.rand_core.specs.Stream.{Stream, next_u64}
-use Rattle.p3_support.specs.{Salts.after_words, Salts.salts, Inner.Drawn.AreDrawn}
+use Rattle.p3_support.specs.Salts.{after_words, salts}
+use Rattle.p3_support.specs.Inner.Drawn.{AreDrawn}
 
 -- the values of some words and of those after them
 salts_joined : {A : Type 0} (of_word : ℕ → A) (a b : ℕ) (s : Stream) →

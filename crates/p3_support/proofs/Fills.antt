@@ -1,6 +1,7 @@
 -- Lists that are filled place by place.
 use Rattle.std.proofs.Common.{◌≡◌, ℕ, ◌+◌, ◌-◌, ◌<◌, ◌≤◌, List, ◌++◌, length, take, get_or, set, ap, ◌∙◌, arith, inl}
-use Rattle.std.proofs.{Common.inr, lemmas.Bool.cases_eq}
+use Rattle.std.proofs.Common.{inr}
+use Rattle.std.proofs.lemmas.Bool.{cases_eq}
 use Rattle.std.proofs.lemmas.List.{get_or-append_right, get_or-set_other, get_or-set_same, length-take-le}
 use lib.ListN.{get_or-append}
 use borrow.Rule.Slice.PartMut.{put_mid, post_of}

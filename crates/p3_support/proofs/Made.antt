@@ -1,8 +1,12 @@
 -- What arrays are that are made index by index.
 use Rattle.std.proofs.Common.{◌≡◌, ℕ, zero, suc, ◌+◌, ◌<◌, ◌≤◌, List, [], ◌∷◌, length, map, sym, ◌∙◌, subst, arith}
-use Rattle.std.proofs.{Common.get_or, Common.inl, Common.inr, Math.Nat.eq-or-lt_of_le}
-use Rattle.std.proofs.lemmas.List.{get_or-map, length-map, FromFn.fill_by_all}
-use Rattle.std.specs.{Array.IsFromFnResult, Array.IsFromFnResultFrom, Fn.Mut, Fn.Called, List.range_with_len}
+use Rattle.std.proofs.Common.{get_or, inl, inr}
+use Rattle.std.proofs.Math.Nat.{eq-or-lt_of_le}
+use Rattle.std.proofs.lemmas.List.{get_or-map, length-map}
+use Rattle.std.proofs.lemmas.List.FromFn.{fill_by_all}
+use Rattle.std.specs.Array.{IsFromFnResult, IsFromFnResultFrom}
+use Rattle.std.specs.Fn.{Mut, Called}
+use Rattle.std.specs.List.{range_with_len}
 
 module _ {F B : Type 0} (g : Mut F (ℕ × Unit {0}) B) (f : F) (P : ℕ → B → Type 0) (keeps : (k : ℕ) (y : B) (q : F) →
     Called g f (k, tt) y q → (q ≡ f) × P k y) where

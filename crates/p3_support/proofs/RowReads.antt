@@ -2,16 +2,20 @@
 use Rattle.std.proofs.Common.{◌≡◌, ℕ, zero, suc, take, ◌+◌, ◌-◌, ◌*◌, ◌<◌, ◌≤◌, List, [], ◌∷◌, ◌++◌, length, drop, map}
 use Rattle.std.proofs.Common.{All, get_or, refl, sym, ap, ◌∙◌, arith, true, add-one}
 use Rattle.std.proofs.Math.Seq.{drop-append-add, drop-cons, take-append-add}
-use Rattle.std.proofs.lemmas.{List.Folds.drop_split, Option.slice_get_within, Option.slice_get_read}
-use Rattle.std.proofs.{lemmas.Option.get_or_from_slice_get, lemmas.List.Edits.get_or-between, Math.ListN.get_or-append}
+use Rattle.std.proofs.lemmas.List.Folds.{drop_split}
+use Rattle.std.proofs.lemmas.Option.{slice_get_within, slice_get_read, get_or_from_slice_get}
+use Rattle.std.proofs.lemmas.List.Edits.{get_or-between}
+use Rattle.std.proofs.Math.ListN.{get_or-append}
 use Rattle.std.proofs.lemmas.List.{drop_all, drop-append-le, get_or-append_right, length-append, length-drop}
 use Rattle.std.proofs.lemmas.List.{get_or-take, map-append, take-append-le, take-take}
 use Rattle.std.proofs.lemmas.List.FromFn.{fill_by_all, get_or-map-range_with_len, length-map-range_with_len}
-use Rattle.std.proofs.lemmas.{Simd.map-map, Bool.eqb-true}
+use Rattle.std.proofs.lemmas.Simd.{map-map}
+use Rattle.std.proofs.lemmas.Bool.{eqb-true}
 use Rattle.std.specs.Prelude.{Bool, false, cond, ◌==◌, slice_get, slice_index_or, Some}
 use Rattle.std.specs.List.{flat_map, range_with_len}
 use Rattle.p3_support.specs.Lists.{message, rows_left, rows_of_height, column_of_rows, columns, lane_of, columns_left}
-use Rattle.p3_support.specs.{Lists.columns_over, Inner.RowLengths.next_start, Inner.RowLengths.length-message}
+use Rattle.p3_support.specs.Lists.{columns_over}
+use Rattle.p3_support.specs.Inner.RowLengths.{next_start, length-message}
 
 -- what is left from an element on
 pub drop_at : {A : Type 0} (xs : List A) (c : ℕ) (x : A) → slice_get xs c ≡ Some x → drop c xs ≡ x ∷ drop (c + 1) xs

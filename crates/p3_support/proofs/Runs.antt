@@ -1,7 +1,9 @@
 -- What a `for` over an iterator has run, as one run of its calls, and what a whole run has read.
 use Rattle.std.proofs.Common.{◌≡◌, List, map, subst, Option, None, true}
-use Rattle.std.proofs.{iter.runs.Consumers.total_runs, lemmas.Iterator.YieldsList, lemmas.Iterator.items_from_drains}
-use Rattle.std.specs.Iterator.{Yields, Runs.Run, Runs.WholeRun, Runs.YieldsRun}
+use Rattle.std.proofs.iter.runs.Consumers.{total_runs}
+use Rattle.std.proofs.lemmas.Iterator.{YieldsList, items_from_drains}
+use Rattle.std.specs.Iterator.{Yields}
+use Rattle.std.specs.Iterator.Runs.{Run, WholeRun, YieldsRun}
 
 pub run_of_loop : {S A : Type 0} (steps : S → Option A → S → Type 0) (P : List A → Type 0) (xs : List A) {s it t : S}
     (u : S) {r : Option A}

@@ -1,8 +1,14 @@
 -- Words of rows that fit dimensions.
 use Rattle.std.proofs.Common.{◌≡◌, ◌∙◌, ℕ, zero, suc, ◌<◌, List, [], ◌∷◌, Vec, ap, arith, get_or, length, map, sym}
-use Rattle.std.proofs.{Common.subst, lemmas.List.get_or-map, lemmas.List.length-map, lemmas.Slice.Zip.AllZip-long}
-use Rattle.std.specs.{Prelude.slice_index, List.AllZip, Vec.vec_len}
-use Rattle.p3_support.specs.{Batches.widths_of, Shown.row_lists, Shown.row_sets, declared.matrix.Dimensions.Dimensions}
+use Rattle.std.proofs.Common.{subst}
+use Rattle.std.proofs.lemmas.List.{get_or-map, length-map}
+use Rattle.std.proofs.lemmas.Slice.Zip.{AllZip-long}
+use Rattle.std.specs.Prelude.{slice_index}
+use Rattle.std.specs.List.{AllZip}
+use Rattle.std.specs.Vec.{vec_len}
+use Rattle.p3_support.specs.Batches.{widths_of}
+use Rattle.p3_support.specs.Shown.{row_lists, row_sets}
+use Rattle.p3_support.specs.declared.matrix.Dimensions.{Dimensions}
 
 module _ {T A : Type 0} (ds : List Dimensions) (rows : List (Vec T A))
     (fit : map length (row_lists rows) ≡ widths_of ds)

@@ -1,6 +1,7 @@
 -- Parts of lists: messages, lanes, rows and columns.
 use Rattle.std.specs.Prelude.{Bool, ℕ, ◌==◌, cond, ◌++◌, drop, ◌+◌, ◌*◌, List, [], ◌∷◌, map, slice_range}
-use Rattle.std.specs.{Prelude.slice_index_or, List.flat_map, List.list_any, List.range_with_len}
+use Rattle.std.specs.Prelude.{slice_index_or}
+use Rattle.std.specs.List.{flat_map, list_any, range_with_len}
 
 -- whether a number is in a list
 abbrev pub is_among : List ℕ → ℕ → Bool

@@ -1,6 +1,7 @@
 -- The rows of two matrices side by side.
 use Rattle.std.specs.Prelude.{ℕ, List, ◌++◌}
-use Rattle.p3_support.specs.declared.{matrix.Matrix.Ghosts, pair.HorizontalPair.HorizontalPair}
+use Rattle.p3_support.specs.declared.matrix.Matrix.{Ghosts}
+use Rattle.p3_support.specs.declared.pair.HorizontalPair.{HorizontalPair}
 
 module _ {T A B : Type 0} {a : Ghosts A T} {b : Ghosts B T} where
   -- the left matrix

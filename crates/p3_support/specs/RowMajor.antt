@@ -1,5 +1,6 @@
 -- The fields of a matrix that is stored row after row.
-use Rattle.std.specs.{Prelude.◌≡◌, Prelude.ℕ, Prelude.List, List.AllZip}
+use Rattle.std.specs.Prelude.{◌≡◌, ℕ, List}
+use Rattle.std.specs.List.{AllZip}
 use Rattle.p3_support.specs.declared.matrix.RowMajorMatrix.{RowMajorMatrix}
 
 -- all elements, row after row

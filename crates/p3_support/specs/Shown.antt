@@ -1,7 +1,9 @@
 -- The digests and words in the values that a commitment scheme returns: `.items` is the list in a Vec, `.now` what a
 -- reference refers to.
-use Rattle.std.specs.{Prelude.List, Prelude.map, declared.vec.Vec.Vec}
-use Rattle.p3_support.specs.declared.opening.{DigestRef.DigestRef, MerkleCap.MerkleCap}
+use Rattle.std.specs.Prelude.{List, map}
+use Rattle.std.specs.declared.vec.Vec.{Vec}
+use Rattle.p3_support.specs.declared.opening.DigestRef.{DigestRef}
+use Rattle.p3_support.specs.declared.opening.MerkleCap.{MerkleCap}
 
 -- the digest that a reference holds
 abbrev pub digest_of_ref : {F X : Type 0} → DigestRef F X → X

@@ -1,6 +1,8 @@
 //! The trait of hashers: functions from a list of words to a digest.
 ghost use Rattle.std.specs.Prelude.{◌≡◌, ℕ, ◌*◌, ◌<◌, List, length, map};
-ghost use Rattle.std.specs.{Iterator.IsFinite, Iterator.Runs.WholeRun, List.flat_map};
+ghost use Rattle.std.specs.Iterator.{IsFinite};
+ghost use Rattle.std.specs.Iterator.Runs.{WholeRun};
+ghost use Rattle.std.specs.List.{flat_map};
 ghost use Rattle.p3_support.specs.Lists.{messages as messages_of, lane_of};
 
 use crate::packed::PackedValue;

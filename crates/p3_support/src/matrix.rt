@@ -3,7 +3,8 @@ ghost use Rattle.std.specs.Prelude.{◌≡◌, ℕ, ◌+◌, ◌-◌, ◌*◌, �
 ghost use Rattle.std.specs.Prelude.{take, ◌↔◌, IfErr, IfOk, IfSome, IsOk, Some};
 ghost use Rattle.std.specs.List.{flat_map, range_with_len};
 ghost use Rattle.std.specs.Iterator.{YieldsFirst, YieldsFirstBy, item_count};
-ghost use Rattle.p3_support.specs.{Batches.dimensions_in, Lists.message, Lists.column_of_rows, Lists.columns};
+ghost use Rattle.p3_support.specs.Batches.{dimensions_in};
+ghost use Rattle.p3_support.specs.Lists.{message, column_of_rows, columns};
 ghost use Rattle.p3_support.specs.Inner.RowLengths.{length-message};
 
 use crate::packed::PackedValue;

@@ -3,7 +3,8 @@ ghost use Rattle.std.specs.Prelude.{◌≡◌, ◌⊎◌, ℕ, ◌<◌, All, IfE
 ghost use Rattle.std.specs.List.{AllZip};
 ghost use Rattle.p3_support.specs.Answers.{AnswersUnless};
 ghost use Rattle.p3_support.specs.Batches.{dimensions_in, greatest, rows_in, FitDimensions, IsEquivalence};
-ghost use Rattle.p3_support.specs.{Shown.row_lists, Shown.row_sets, declared.matrix.Dimensions.Dimensions};
+ghost use Rattle.p3_support.specs.Shown.{row_lists, row_sets};
+ghost use Rattle.p3_support.specs.declared.matrix.Dimensions.{Dimensions};
 
 use crate::matrix::{Dimensions, Matrix};
 use crate::opening::{BatchOpening, BatchOpeningRef};

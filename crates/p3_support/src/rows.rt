@@ -1,7 +1,8 @@
 //! The rows of several matrices of one height, one after another.
 ghost use Rattle.std.specs.Prelude.{◌≡◌, ℕ, ◌+◌, ◌*◌, ◌^◌, ◌<◌, ◌≤◌, All, IfSome, length, slice_index_or};
 ghost use Rattle.std.specs.Iterator.{YieldsFirst, YieldsFirstBy, item_count};
-ghost use Rattle.p3_support.specs.{Lists.columns_over, Lists.rows_of_height, Inner.Stored.BeginsWith};
+ghost use Rattle.p3_support.specs.Lists.{columns_over, rows_of_height};
+ghost use Rattle.p3_support.specs.Inner.Stored.{BeginsWith};
 
 use crate::matrix::{Matrix, packed_column};
 use crate::packed::PackedValue;

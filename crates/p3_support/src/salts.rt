@@ -1,7 +1,8 @@
 //! Random matrices, whose rows serve as salts.
 ghost use Rattle.std.specs.Prelude.{◌≡◌, ℕ, ◌*◌, ◌%◌, ◌^◌, ◌≤◌, ◌+◌, ◌++◌, vec_len, vec_capacity, map, IfOk, IsErr};
 ghost use Rattle.std.specs.Prelude.{OnErr, OnOk};
-ghost use Rattle.p3_support.specs.{Salts.after_words, Salts.salts, Inner.Drawn.AreDrawn};
+ghost use Rattle.p3_support.specs.Salts.{after_words, salts};
+ghost use Rattle.p3_support.specs.Inner.Drawn.{AreDrawn};
 
 use crate::matrix::RowMajorMatrix;
 use rand_core::Rng;

@@ -2,10 +2,12 @@
 use Rattle.std.proofs.Common.{◌≡◌, ℕ, suc, ◌<◌, ◌≤◌, List, [], ◌∷◌, length, Some, None, Bool, true, false}
 use Rattle.std.proofs.Common.{refl, sym, ap, ◌∙◌, arith, inl, inr}
 use Rattle.std.specs.Prelude.{not, Option, ◌==◌, nat_lt, Result, Ok, Err, IsOk, ◌↔◌, ◌⊎◌}
-use Rattle.std.specs.{Result.result_err, Cmp.Lexicographic.bytes_decides}
+use Rattle.std.specs.Result.{result_err}
+use Rattle.std.specs.Cmp.Lexicographic.{bytes_decides}
 use Rattle.std.proofs.lemmas.Bool.Decides.{leb_tells, eqb_tells, nat_tests}
 use Rattle.sha2.specs.Sha256.{compress, digest_bytes, first_words, hash_after, rounds, schedule, sha256}
-use Rattle.tlog.specs.{declared.hash.TheConstants.EMPTY_ROOT, Rfc9162.Hash, Rfc9162.consistency_end}
+use Rattle.tlog.specs.declared.hash.TheConstants.{EMPTY_ROOT}
+use Rattle.tlog.specs.Rfc9162.{Hash, consistency_end}
 use Rattle.tlog.specs.{Rfc9162.inclusion_end}
 use Rattle.tlog.specs.Verdicts.{IsConsistent, IsIncluded, bare_end, consistency_end_refusal, consistency_refusal}
 use Rattle.tlog.specs.Verdicts.{growth_end, inclusion_end_refusal, inclusion_refusal, is_same, size_limit}

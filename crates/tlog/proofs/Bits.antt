@@ -1,11 +1,14 @@
 -- The lowest bits of a number and of twice that number.
 use Rattle.std.proofs.Common.{◌≡◌, ℕ, zero, suc, ◌+◌, ◌*◌, ◌/◌, ◌%◌, ◌^◌, ◌<◌, ◌≤◌, ◌≢◌, refl, sym, ap, ◌∙◌, arith}
 use Rattle.std.proofs.Common.{inl, inr}
-use Rattle.std.proofs.lemmas.Nat.{zero_from_ones, Bits.bit_at_lowest, Bits.bit_at-suc, Bits.bit_at-trailing_ones}
-use Rattle.std.proofs.lemmas.{Nat.Bits.bit_at-trailing_zeros, Bool.Decides.leb_tells, Bool.Decides.nat_tests}
-use Rattle.std.proofs.{Math.Nat.div-div-eq-div-mul, Math.Nat.mul_left_comm, Math.Nat.pow-succ', lemmas.Bool.cases_eq}
+use Rattle.std.proofs.lemmas.Nat.{zero_from_ones}
+use Rattle.std.proofs.lemmas.Nat.Bits.{bit_at_lowest, bit_at-suc, bit_at-trailing_ones, bit_at-trailing_zeros}
+use Rattle.std.proofs.lemmas.Bool.Decides.{leb_tells, nat_tests}
+use Rattle.std.proofs.Math.Nat.{div-div-eq-div-mul, mul_left_comm, pow-succ'}
+use Rattle.std.proofs.lemmas.Bool.{cases_eq}
 use Rattle.std.specs.Prelude.{◌==◌, true, false}
-use Rattle.std.specs.Int.{bit_at, w64, is_power_of_two, trailing_zeros, trailing_ones, Count.ones, Count.ones_step}
+use Rattle.std.specs.Int.{bit_at, w64, is_power_of_two, trailing_zeros, trailing_ones}
+use Rattle.std.specs.Int.Count.{ones, ones_step}
 
 pub half_double : (n : ℕ) → (n + n) / 2 ≡ n
 half_double n = omega arith

@@ -1,11 +1,13 @@
 -- The verifiers' walks: the new root of one of consistency is the root of one of inclusion.
 use Rattle.std.proofs.Common.{◌≡◌, ℕ, suc, ◌+◌, ◌/◌, ◌%◌, ◌^◌, ◌<◌, ◌≤◌, refl, sym, ap, ◌∙◌, arith, inl, inr, List, []}
 use Rattle.std.proofs.{Common.◌∷◌, Common.◌++◌}
-use Rattle.std.proofs.{Common.length, Common.Some, Common.None, lemmas.Bool.cases_Bool, lemmas.Bool.Decides.eqb_tells}
+use Rattle.std.proofs.Common.{length, Some, None}
+use Rattle.std.proofs.lemmas.Bool.{cases_Bool}
+use Rattle.std.proofs.lemmas.Bool.Decides.{eqb_tells}
 use Rattle.std.specs.{Prelude.◌⊎◌, Prelude.Option, Prelude.option_map}
 use Rattle.tlog.specs.Rfc9162.{Hash, consistency_walk, inclusion_walk, is_left, node_hash, path}
-use Rattle.tlog.proofs.{Halves.skip_end, Halves.step_even, Halves.step_odd, Layers.above, Layers.itself}
-use Rattle.tlog.proofs.Layers.{path-above, sibling}
+use Rattle.tlog.proofs.Halves.{skip_end, step_even, step_odd}
+use Rattle.tlog.proofs.Layers.{above, itself, path-above, sibling}
 
 -- n is i + i, or one more
 pub parity : (n : ℕ) → ((i : ℕ) × (n ≡ i + i)) ⊎ ((i : ℕ) × (n ≡ suc (i + i)))

@@ -1,14 +1,21 @@
 -- Accepted proofs as a log grows: two of consistency one after the other, and the leaf hash of an entry.
 use Rattle.std.proofs.Common.{◌≡◌, ◌≢◌, ℕ, ◌-◌, ◌/◌, ◌^◌, ◌<◌, ◌≤◌, refl, sym, ◌∙◌, arith, List, [], ◌∷◌, Some, None}
 use Rattle.std.proofs.Common.{true, false}
-use Rattle.std.specs.{Prelude.Option, Prelude.Result, Prelude.Ok, Prelude.Err, Result.IfErr, Result.IsErrAnd}
-use Rattle.std.specs.{Int.is_power_of_two, Prelude.◌↔◌}
-use Rattle.tlog.specs.{Climbs.Begins, Climbs.climb_end, Fixed.GrowthKeepsLeaf, Fixed.RootFixesProof, Inner.Lifts.Lifts}
-use Rattle.tlog.specs.{Rfc9162.Hash, Verdicts.IsConsistent, Verdicts.IsIncluded, Verdicts.size_limit}
-use Rattle.tlog.specs.{declared.error.ProofError.ProofError, Composed.IsReason}
+use Rattle.std.specs.Prelude.{Option, Result, Ok, Err, ◌↔◌}
+use Rattle.std.specs.Result.{IfErr, IsErrAnd}
+use Rattle.std.specs.Int.{is_power_of_two}
+use Rattle.tlog.specs.Climbs.{Begins, climb_end}
+use Rattle.tlog.specs.Fixed.{GrowthKeepsLeaf, RootFixesProof}
+use Rattle.tlog.specs.Inner.Lifts.{Lifts}
+use Rattle.tlog.specs.Rfc9162.{Hash}
+use Rattle.tlog.specs.Verdicts.{IsConsistent, IsIncluded, size_limit}
+use Rattle.tlog.specs.declared.error.ProofError.{ProofError}
+use Rattle.tlog.specs.Composed.{IsReason}
 use Rattle.tlog.specs.declared.error.ComposeError.{ComposeError}
 use Rattle.tlog.proofs.Consistencies.{bare_unchanged, begins_whole, begun}
-use Rattle.tlog.proofs.{Climbs.as_consistency, Climbs.as_inclusion, Lifts.bare_end, Sides.more_nodes}
+use Rattle.tlog.proofs.Climbs.{as_consistency, as_inclusion}
+use Rattle.tlog.proofs.Lifts.{bare_end}
+use Rattle.tlog.proofs.Sides.{more_nodes}
 
 -- ---- proofs of consistency
 

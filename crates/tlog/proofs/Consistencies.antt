@@ -1,18 +1,27 @@
 -- Accepted proofs of consistency, as proofs of inclusion of the node where they begin.
 use Rattle.std.proofs.Common.{◌≡◌, ◌≢◌, ℕ, ◌+◌, ◌-◌, ◌*◌, ◌/◌, ◌^◌, ◌<◌, ◌≤◌, refl, sym, ap, ◌∙◌, arith, inl, inr}
 use Rattle.std.proofs.Common.{List, [], ◌∷◌, length, take, Some, true, false, Vec, Global}
-use Rattle.std.proofs.lemmas.{Bool.cases_Bool, Bool.Decides.eqb_tells, List.length-take-le, List.take-map}
-use Rattle.std.proofs.{Math.Nat.div-le_self, Math.Nat.div-mul-le_self, lemmas.Nat.le-div, lemmas.Nat.pow_pos}
+use Rattle.std.proofs.lemmas.Bool.{cases_Bool}
+use Rattle.std.proofs.lemmas.Bool.Decides.{eqb_tells}
+use Rattle.std.proofs.lemmas.List.{length-take-le, take-map}
+use Rattle.std.proofs.Math.Nat.{div-le_self, div-mul-le_self}
+use Rattle.std.proofs.lemmas.Nat.{le-div, pow_pos}
 use Rattle.std.proofs.lemmas.Nat.Bits.{bit_at-trailing_ones}
 use Rattle.std.specs.Prelude.{Bool, Result, IsOk, ◌↔◌, ◌⊎◌}
-use Rattle.std.specs.{Result.is_err, Int.is_power_of_two, Int.w64}
-use Rattle.tlog.specs.{Collisions.RootsFixEntries, Collisions.entries_of, Climbs.Begins, Climbs.climb_end}
+use Rattle.std.specs.Result.{is_err}
+use Rattle.std.specs.Int.{is_power_of_two, w64}
+use Rattle.tlog.specs.Collisions.{RootsFixEntries, entries_of}
+use Rattle.tlog.specs.Climbs.{Begins, climb_end}
 use Rattle.tlog.specs.Rfc9162.{Hash, consistency_end, consistency_from, inclusion_walk, leaf_hash, proof_of, root_of}
 use Rattle.tlog.specs.Verdicts.{IsConsistent, IsIncluded, is_same, size_limit}
 use Rattle.tlog.specs.declared.error.ProofError.{ProofError}
 use Rattle.tlog.specs.Fixed.{NewRootFixesProof, RootFixesProof, RootsFixPrefix}
-use Rattle.tlog.proofs.{Bits.ones_whole, Climbs.as_inclusion, Entries.length-entries, Honest.end-at}
-use Rattle.tlog.proofs.{Honest.honest_grown, Honest.root_of_none, TwoWalks.accepted_by, TwoWalks.unequal, Walks.end_of}
+use Rattle.tlog.proofs.Bits.{ones_whole}
+use Rattle.tlog.proofs.Climbs.{as_inclusion}
+use Rattle.tlog.proofs.Entries.{length-entries}
+use Rattle.tlog.proofs.Honest.{end-at, honest_grown, root_of_none}
+use Rattle.tlog.proofs.TwoWalks.{accepted_by, unequal}
+use Rattle.tlog.proofs.Walks.{end_of}
 
 module _ {hash : Hash} {old new : ℕ} {path : List (List ℕ)} {root new_root : List ℕ} where
   -- a proof with digests is between different sizes

@@ -2,10 +2,13 @@
 use Rattle.std.proofs.Common.{◌≡◌, ◌≢◌, ℕ, suc, ◌-◌, ◌<◌, ◌≤◌, ◌++◌, List, [], ◌∷◌, length, get_or, take, drop, refl}
 use Rattle.std.proofs.Common.{sym, ap, ◌∙◌, arith, Vec, Global}
 use Rattle.std.proofs.lemmas.List.{drop-map, drop_at, take-append-drop, take-map, take_at}
-use Rattle.std.specs.{Prelude.nat_eq, Prelude.Bool, Prelude.true, Prelude.false, Bool.Decides}
+use Rattle.std.specs.Prelude.{nat_eq, Bool, true, false}
+use Rattle.std.specs.Bool.{Decides}
 use Rattle.std.specs.Cmp.Lexicographic.{bytes_decides, pointwise, pointwise_decides}
 use Rattle.std.specs.Cmp.Derive.Mapped.{pointwise-map}
-use Rattle.tlog.specs.{Collisions.entries_of, Inner.Inputs.root_input, Rfc9162.path_of}
+use Rattle.tlog.specs.Collisions.{entries_of}
+use Rattle.tlog.specs.Inner.Inputs.{root_input}
+use Rattle.tlog.specs.Rfc9162.{path_of}
 use Rattle.tlog.specs.Rfc9162.{path_within, subproof_of, Hash, leaf_hash, mth_within, node_hash, root_of, split}
 use Rattle.tlog.proofs.Honest.{path_left, path_right, root_more, sub_left, sub_right, sub_whole}
 

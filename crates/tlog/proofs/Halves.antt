@@ -1,11 +1,14 @@
 -- Walks up to a root, by the children of the root: the last digest is the root of the other half.
 use Rattle.std.proofs.Common.{◌≡◌, ℕ, zero, suc, ◌+◌, ◌-◌, ◌/◌, ◌%◌, ◌^◌, ◌<◌, ◌≤◌, refl, sym, ap, ◌∙◌, arith, inl, inr}
 use Rattle.std.proofs.Common.{List, [], ◌∷◌, ◌++◌, length, length-append, Some, None, true, false}
-use Rattle.std.specs.{Prelude.◌==◌, Prelude.◌↔◌, Prelude.◌⊎◌, Int.w64, Int.trailing_zeros}
-use Rattle.std.proofs.lemmas.Bool.{cases_eq, Decides.nat_tests}
+use Rattle.std.specs.Prelude.{◌==◌, ◌↔◌, ◌⊎◌}
+use Rattle.std.specs.Int.{w64, trailing_zeros}
+use Rattle.std.proofs.lemmas.Bool.{cases_eq}
+use Rattle.std.proofs.lemmas.Bool.Decides.{nat_tests}
 use Rattle.tlog.specs.Rfc9162.{Hash, consistency_walk, is_left, node_hash, split}
-use Rattle.tlog.proofs.{Bits.half_pow, Bits.zeros_of_double, Bits.zeros_of_odd, Splits.split_is, Splits.split_of_half}
-use Rattle.tlog.proofs.{Splits.split_of_two, Walks.end_of}
+use Rattle.tlog.proofs.Bits.{half_pow, zeros_of_double, zeros_of_odd}
+use Rattle.tlog.proofs.Splits.{split_is, split_of_half, split_of_two}
+use Rattle.tlog.proofs.Walks.{end_of}
 
 -- ---- one layer
 

@@ -9,13 +9,16 @@ use Rattle.std.specs.Prelude.{◌==◌, Bool, true, false, nat_le, Option, ◌�
 use Rattle.std.specs.Int.{w64, trailing_ones, is_power_of_two}
 use Rattle.tlog.specs.Rfc9162.{node_hash, Hash, consistency_end, consistency_from, consistency_proof, consistency_walk}
 use Rattle.tlog.specs.Rfc9162.{inclusion_end, leaf_hash, proof_of, root_of, mth, mth_within, path, path_within, split}
-use Rattle.tlog.specs.{Climbs.climb_end, Rfc9162.subproof, Rfc9162.subproof_within, Verdicts.IsConsistent}
-use Rattle.tlog.specs.Verdicts.{size_limit}
+use Rattle.tlog.specs.Climbs.{climb_end}
+use Rattle.tlog.specs.Rfc9162.{subproof, subproof_within}
+use Rattle.tlog.specs.Verdicts.{IsConsistent, size_limit}
 use Rattle.tlog.proofs.Bits.{ones_of_double, ones_of_odd, power_of_double, power_of_odd, power_of_one}
-use Rattle.tlog.proofs.{Splits.split_is, Splits.split_parity, Layers.above, Layers.above_parts}
+use Rattle.tlog.proofs.Splits.{split_is, split_parity}
+use Rattle.tlog.proofs.Layers.{above, above_parts}
 use Rattle.tlog.proofs.Layers.{itself, length-above, mth-above, mth_above, parts_of, mth-more, path-above, path-more}
-use Rattle.tlog.proofs.{Climbs.as_inclusion, Climbs.parity, Climbs.path_above, Sides.climb_left, Sides.climb_right}
-use Rattle.tlog.proofs.{Sides.same_split, Walks.end_of}
+use Rattle.tlog.proofs.Climbs.{as_inclusion, parity, path_above}
+use Rattle.tlog.proofs.Sides.{climb_left, climb_right, same_split}
+use Rattle.tlog.proofs.Walks.{end_of}
 
 -- ---- consistency: SUBPROOF from layer to layer
 

@@ -1,7 +1,8 @@
 -- The layer above a list of nodes, and what the standard's recursions from the root give from layer to layer.
 use Rattle.std.proofs.Common.{◌≡◌, ℕ, zero, suc, ◌+◌, ◌-◌, ◌/◌, ◌<◌, ◌≤◌, refl, sym, ap, ◌∙◌, arith, inl, inr, List, []}
 use Rattle.std.proofs.Common.{◌∷◌, ◌++◌, length, take, drop, get_or, append_assoc, length-drop}
-use Rattle.std.proofs.lemmas.{Bool.Decides.leb_tells, Bool.Decides.nat_tests, List.length-take-le}
+use Rattle.std.proofs.lemmas.Bool.Decides.{leb_tells, nat_tests}
+use Rattle.std.proofs.lemmas.List.{length-take-le}
 use Rattle.std.specs.Prelude.{true, false, nat_lt}
 use Rattle.tlog.specs.Rfc9162.{Hash, doubled, mth, mth_within, node_hash, path_within, split}
 use Rattle.tlog.proofs.Splits.{IsSplit, split_is, split_of_half, split_of_two}

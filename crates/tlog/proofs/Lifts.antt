@@ -1,12 +1,19 @@
 -- Digests that lead from a node to the root, as the tree grows: by the halves of the new tree.
 use Rattle.std.proofs.Common.{◌≡◌, ℕ, ◌+◌, ◌-◌, ◌*◌, ◌/◌, ◌^◌, ◌<◌, ◌≤◌, sym, ap, ◌∙◌, arith, inl, inr, List, [], ◌∷◌}
 use Rattle.std.proofs.Common.{◌++◌, length, Some, true}
-use Rattle.std.proofs.lemmas.{Bool.Decides.eqb_tells, Bool.Decides.nat_tests, Nat.div-mul-add, Nat.pow_pos}
-use Rattle.std.specs.{Prelude.Option, Int.w64, Int.trailing_zeros}
-use Rattle.tlog.specs.{Climbs.climb_end, Rfc9162.Hash, Rfc9162.consistency_walk, Rfc9162.is_left, Rfc9162.node_hash}
-use Rattle.tlog.specs.{Rfc9162.split, Verdicts.consistency_end_refusal, declared.error.ProofError.ProofError}
-use Rattle.tlog.specs.Inner.{Lifts.Lifts, Nodes.HashFixesChildren}
-use Rattle.tlog.proofs.{Accepted.accepted_both, Splits.split_is, Walks.end_of}
+use Rattle.std.proofs.lemmas.Bool.Decides.{eqb_tells, nat_tests}
+use Rattle.std.proofs.lemmas.Nat.{div-mul-add, pow_pos}
+use Rattle.std.specs.Prelude.{Option}
+use Rattle.std.specs.Int.{w64, trailing_zeros}
+use Rattle.tlog.specs.Climbs.{climb_end}
+use Rattle.tlog.specs.Rfc9162.{Hash, consistency_walk, is_left, node_hash, split}
+use Rattle.tlog.specs.Verdicts.{consistency_end_refusal}
+use Rattle.tlog.specs.declared.error.ProofError.{ProofError}
+use Rattle.tlog.specs.Inner.Lifts.{Lifts}
+use Rattle.tlog.specs.Inner.Nodes.{HashFixesChildren}
+use Rattle.tlog.proofs.Accepted.{accepted_both}
+use Rattle.tlog.proofs.Splits.{split_is}
+use Rattle.tlog.proofs.Walks.{end_of}
 use Rattle.tlog.proofs.Sides.{IsWhole, at_layer, climb_left, climb_right, in_right, left_of, more_nodes, next, right_of}
 use Rattle.tlog.proofs.Sides.{room, same_split, whole_within}
 

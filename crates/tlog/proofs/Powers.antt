@@ -1,7 +1,10 @@
 -- Powers of two, by their test.
 use Rattle.std.proofs.Common.{◌≡◌, ◌≤◌, ◌+◌, ◌/◌, ◌^◌, ◌∙◌, ℕ, zero, suc, ap, arith, inl, inr, sym}
-use Rattle.std.proofs.{lemmas.Bool.cases_eq, lemmas.Bool.eqb-true, lemmas.Nat.ones_le_self, Math.Nat.pow-succ'}
-use Rattle.std.specs.{Prelude.true, Prelude.false, Int.is_power_of_two}
+use Rattle.std.proofs.lemmas.Bool.{cases_eq, eqb-true}
+use Rattle.std.proofs.lemmas.Nat.{ones_le_self}
+use Rattle.std.proofs.Math.Nat.{pow-succ'}
+use Rattle.std.specs.Prelude.{true, false}
+use Rattle.std.specs.Int.{is_power_of_two}
 use Rattle.tlog.proofs.Bits.{power_of_double, power_of_odd, power_of_one}
 
 power_from : (depth n : ℕ) → n ≤ depth → is_power_of_two n ≡ true → (power : ℕ) × (n ≡ 2 ^ power)

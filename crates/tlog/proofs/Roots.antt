@@ -1,12 +1,15 @@
 -- Roots are hashes, or leaf hashes, and the digests of a proof of growth are few roots.
 use Rattle.std.proofs.Common.{◌≡◌, ◌≤◌, ◌<◌, ◌-◌, ◌^◌, ℕ, zero, suc, List, [], ◌∷◌, ◌++◌, length, take, drop, All}
 use Rattle.std.proofs.Common.{arith, eq-eqb, inl, inr, sym, subst, length-append, length-drop}
-use Rattle.std.proofs.lemmas.{Bool.cases_lt, Bool.Decides.leb_tells, List.length-take-le}
+use Rattle.std.proofs.lemmas.Bool.{cases_lt}
+use Rattle.std.proofs.lemmas.Bool.Decides.{leb_tells}
+use Rattle.std.proofs.lemmas.List.{length-take-le}
 use Rattle.std.proofs.lemmas.List.Elements.{All-append, All-cons, All-head, All-nil}
 use Rattle.std.proofs.Math.Nat.{pow-le-pow_right}
 use Rattle.std.specs.Prelude.{Bool, true, false}
 use Rattle.tlog.specs.Rfc9162.{Hash, leaf_hash, mth, mth_within, proof_of, root_of, split, subproof_within}
-use Rattle.tlog.proofs.{Honest.root_more, Honest.sub-more, Splits.split_is}
+use Rattle.tlog.proofs.Honest.{root_more, sub-more}
+use Rattle.tlog.proofs.Splits.{split_is}
 
 -- what holds of hashes and of leaf hashes holds of roots
 pub root_is : {X : Type 0} (P : List ℕ → Type 0) (hash : Hash) (leaf : X → List ℕ) (L : List X) →

@@ -1,12 +1,15 @@
 -- The way up from a node of any layer, by the halves of the tree.
 use Rattle.std.proofs.Common.{◌≡◌, ℕ, zero, suc, ◌+◌, ◌-◌, ◌*◌, ◌/◌, ◌%◌, ◌^◌, ◌<◌, ◌≤◌, refl, sym, ap, subst, ◌∙◌}
 use Rattle.std.proofs.Common.{arith, inl, inr, List, [], ◌∷◌, ◌++◌, Some}
-use Rattle.std.proofs.lemmas.{Bool.Decides.leb_tells, Nat.div-add-mod', Nat.div-mul-add, Nat.le-div, Nat.pow_pos}
+use Rattle.std.proofs.lemmas.Bool.Decides.{leb_tells}
+use Rattle.std.proofs.lemmas.Nat.{div-add-mod', div-mul-add, le-div, pow_pos}
 use Rattle.std.proofs.Math.Nat.{add-mul, div-le_self, mod-lt, mul-div_cancel, mul_left_comm}
 use Rattle.std.proofs.Math.Nat.{mul-le-mul_right, pow-le-pow_right, pow-succ'}
 use Rattle.std.specs.Prelude.{◌↔◌}
-use Rattle.tlog.specs.{Climbs.climb_end, Rfc9162.Hash, Rfc9162.node_hash, Rfc9162.split}
-use Rattle.tlog.proofs.{Bits.half_pow, Splits.split_by_power, Splits.split_is, Splits.split_of_half}
+use Rattle.tlog.specs.Climbs.{climb_end}
+use Rattle.tlog.specs.Rfc9162.{Hash, node_hash, split}
+use Rattle.tlog.proofs.Bits.{half_pow}
+use Rattle.tlog.proofs.Splits.{split_by_power, split_is, split_of_half}
 use Rattle.tlog.proofs.Halves.{left_half, right_half}
 
 -- ---- the split, in nodes of a layer

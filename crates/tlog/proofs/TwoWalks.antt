@@ -5,11 +5,15 @@ use Rattle.std.proofs.lemmas.Bool.Decides.{leb_tells, eqb_tells, nat_tests}
 use Rattle.std.proofs.lemmas.Nat.Bits.{bit_at-trailing_zeros}
 use Rattle.std.proofs.lemmas.List.{at_drop_more, at_drop_all, get_or_default, get_or-map}
 use Rattle.std.specs.Prelude.{◌==◌, Option, ◌↔◌, Bool, Result, Ok, Err, IfOk, IsNone, IsOk}
-use Rattle.std.specs.{Cmp.Lexicographic.bytes_decides, Result.is_err, Int.w64, Int.trailing_zeros}
-use Rattle.tlog.specs.{Collisions.entries_of, Fixed.RootFixesEntry, Fixed.RootFixesLeaf, Fixed.RootFixesProof}
+use Rattle.std.specs.Cmp.Lexicographic.{bytes_decides}
+use Rattle.std.specs.Result.{is_err}
+use Rattle.std.specs.Int.{w64, trailing_zeros}
+use Rattle.tlog.specs.Collisions.{entries_of}
+use Rattle.tlog.specs.Fixed.{RootFixesEntry, RootFixesLeaf, RootFixesProof}
 use Rattle.tlog.specs.Rfc9162.{Hash, inclusion_walk, is_left, leaf_hash, node_hash, path_of, root_of}
 use Rattle.tlog.specs.Verdicts.{IsIncluded, is_same}
-use Rattle.tlog.proofs.{Entries.halves_equal, Entries.length-entries, Honest.included}
+use Rattle.tlog.proofs.Entries.{halves_equal, length-entries}
+use Rattle.tlog.proofs.Honest.{included}
 use Rattle.tlog.proofs.Walks.{inclusion_ends, inclusion_left, inclusion_right, inclusion_stops}
 
 -- where both walks stand: they lead to the root, and both values and the digests that are left are equal exactly if

@@ -1,7 +1,9 @@
 -- The verifiers' walks over a slice of digests, a digest at a time.
 use Rattle.std.proofs.Common.{◌≡◌, ℕ, ◌+◌, ◌/◌, ◌^◌, ◌<◌, ◌≤◌, List, [], length, drop, get_or, Some, None, true, false}
-use Rattle.std.proofs.{Common.◌∙◌, lemmas.List.at_drop_more, lemmas.List.at_drop_all}
-use Rattle.std.specs.{Prelude.◌==◌, Prelude.Option, Int.w64, Int.trailing_zeros}
+use Rattle.std.proofs.Common.{◌∙◌}
+use Rattle.std.proofs.lemmas.List.{at_drop_more, at_drop_all}
+use Rattle.std.specs.Prelude.{◌==◌, Option}
+use Rattle.std.specs.Int.{w64, trailing_zeros}
 use Rattle.tlog.specs.Rfc9162.{Hash, consistency_walk, inclusion_walk, is_left, node_hash}
 
 module _ {s t : ℕ} {fr sr a b : List ℕ} where

@@ -1,6 +1,8 @@
 -- Collisions of a log's hash function: two different byte strings with one hash.
-use Rattle.std.specs.{Prelude.◌≡◌, Prelude.◌≢◌, Prelude.ℕ, Prelude.List, Prelude.map, Prelude.Vec, Global.Global}
-use Rattle.tlog.specs.{Rfc9162.Hash, Rfc9162.root_of, declared.collision.Collision.Collision}
+use Rattle.std.specs.Prelude.{◌≡◌, ◌≢◌, ℕ, List, map, Vec}
+use Rattle.std.specs.Global.{Global}
+use Rattle.tlog.specs.Rfc9162.{Hash, root_of}
+use Rattle.tlog.specs.declared.collision.Collision.{Collision}
 
 -- entries, as byte strings
 abbrev pub entries_of : List (Vec ℕ Global) → List (List ℕ)

@@ -1,7 +1,9 @@
 -- What two proofs of consistency, one after the other, come to.
 use Rattle.std.specs.Prelude.{◌≡◌, Option, Some, None}
-use Rattle.tlog.specs.{Collisions.IsCollision, Rfc9162.Hash}
-use Rattle.tlog.specs.declared.error.{ProofError.ProofError, ComposeError.ComposeError}
+use Rattle.tlog.specs.Collisions.{IsCollision}
+use Rattle.tlog.specs.Rfc9162.{Hash}
+use Rattle.tlog.specs.declared.error.ProofError.{ProofError}
+use Rattle.tlog.specs.declared.error.ComposeError.{ComposeError}
 use Rattle.tlog.specs.declared.error.ComposeError.TheVariants.{First, Second, Collision, OutOfMemory}
 
 -- why there is no composed proof, where the proofs are refused for the reasons that are given: the first proof is

@@ -1,6 +1,7 @@
 -- What the verifiers accept, and why they refuse: the first reason that applies.
 use Rattle.std.specs.Prelude.{◌≡◌, ℕ, ◌==◌, nat_eq, ◌^◌, ◌<◌, ◌≤◌, nat_lt, Bool, true, false, List, [], ◌∷◌, Option}
-use Rattle.std.specs.{Prelude.Some, Prelude.None, Cmp.Lexicographic.pointwise}
+use Rattle.std.specs.Prelude.{Some, None}
+use Rattle.std.specs.Cmp.Lexicographic.{pointwise}
 use Rattle.tlog.specs.Rfc9162.{Hash, inclusion_end, consistency_end}
 use Rattle.tlog.specs.declared.error.ProofError.{ProofError}
 use Rattle.tlog.specs.declared.error.ProofError.TheVariants.{SizeTooLarge, IndexPastEnd, SmallerNewSize, TooFewDigests}

@@ -2,7 +2,8 @@
 ghost use Rattle.std.specs.Prelude.{◌≡◌, ℕ, ◌<◌, ◌≤◌, ◌↔◌, List, [], IsOk, IfOk, IfErr, MatchOption, Some};
 ghost use Rattle.std.specs.Result.{result_err};
 ghost use Rattle.sha2.specs.Sha256.{sha256};
-ghost use Rattle.tlog.specs.{Climbs.Begins, Climbs.climb_end, Verdicts.IsConsistent};
+ghost use Rattle.tlog.specs.Climbs.{Begins, climb_end};
+ghost use Rattle.tlog.specs.Verdicts.{IsConsistent};
 ghost use Rattle.tlog.specs.Verdicts.{consistency_end_refusal, consistency_refusal, growth_end, size_limit};
 
 use crate::error::ProofError;

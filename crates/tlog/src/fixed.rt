@@ -1,6 +1,7 @@
 //! What accepted proofs fix, under one root or under that of entries, or else a collision of the hash function.
 ghost use Rattle.std.specs.Prelude.{◌↔◌, IfOk, IfSome, IsNone};
-ghost use Rattle.tlog.specs.{Collisions.IsCollision, Collisions.entries_of, Inner.Nodes.HashFixesChildren};
+ghost use Rattle.tlog.specs.Collisions.{IsCollision, entries_of};
+ghost use Rattle.tlog.specs.Inner.Nodes.{HashFixesChildren};
 ghost use Rattle.tlog.specs.Fixed.{NewRootFixesProof, RootFixesEntry, RootFixesLeaf, RootFixesProof, RootsFixPrefix};
 
 use crate::collision::{

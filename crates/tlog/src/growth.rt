@@ -1,9 +1,13 @@
 //! Accepted proofs across the growth of a log.
 ghost use Rattle.std.specs.Prelude.{◌≡◌, ℕ, ◌+◌, ◌*◌, ◌^◌, ◌<◌, ◌≤◌, ◌↔◌, List, [], ◌∷◌, ◌++◌};
 ghost use Rattle.std.specs.Prelude.{IfErr, IfOk, IfSome, IsNone, None, OnOk, Some};
-ghost use Rattle.tlog.specs.{Climbs.climb_end, Collisions.IsCollision, Verdicts.IsConsistent};
-ghost use Rattle.tlog.specs.{Verdicts.consistency_refusal, Verdicts.size_limit, Composed.IsReason};
-ghost use Rattle.tlog.specs.{Fixed.GrowthKeepsLeaf, Inner.Lifts.Lifts, Inner.Nodes.HashFixesChildren};
+ghost use Rattle.tlog.specs.Climbs.{climb_end};
+ghost use Rattle.tlog.specs.Collisions.{IsCollision};
+ghost use Rattle.tlog.specs.Verdicts.{IsConsistent, consistency_refusal, size_limit};
+ghost use Rattle.tlog.specs.Composed.{IsReason};
+ghost use Rattle.tlog.specs.Fixed.{GrowthKeepsLeaf};
+ghost use Rattle.tlog.specs.Inner.Lifts.{Lifts};
+ghost use Rattle.tlog.specs.Inner.Nodes.{HashFixesChildren};
 
 use crate::collision::{Collision, split};
 use crate::consistency::{self, Climb};

@@ -1,5 +1,6 @@
 //! The verifier of inclusion (RFC 9162, 2.1.3.2).
-ghost use Rattle.std.specs.{Prelude.◌≡◌, Prelude.◌≤◌, Prelude.◌↔◌, Prelude.IsOk, Result.result_err};
+ghost use Rattle.std.specs.Prelude.{◌≡◌, ◌≤◌, ◌↔◌, IsOk};
+ghost use Rattle.std.specs.Result.{result_err};
 ghost use Rattle.sha2.specs.Sha256.{sha256};
 ghost use Rattle.tlog.specs.Rfc9162.{is_left};
 ghost use Rattle.tlog.specs.Verdicts.{IsIncluded, inclusion_refusal, size_limit};

@@ -2,10 +2,15 @@
 use Rattle.std.proofs.Common.{◌≡◌, ℕ, suc, ◌+◌, ◌*◌, ◌/◌, ◌%◌, ◌<◌, Bool, true, false, not, List, [], ◌∷◌, ◌++◌, map}
 use Rattle.std.proofs.Common.{filter, ap, sym, ◌∙◌, arith, length, take, get_or, append_assoc, eqb, eq-eqb, inl, inr}
 use Rattle.std.proofs.lemmas.Bool.{cases_Bool, cases_eq, cases_lt, eqb-true, false_from_ne_true, or_left, or_right}
-use Rattle.std.proofs.lemmas.{Bool.true≢false, List.map-append, List.take_more}
-use Rattle.std.proofs.lemmas.List.{get_or_default, Elements.filter-append, Folds.Any-from_list_any, Sorted.searched}
+use Rattle.std.proofs.lemmas.Bool.{true≢false}
+use Rattle.std.proofs.lemmas.List.{map-append, take_more, get_or_default}
+use Rattle.std.proofs.lemmas.List.Elements.{filter-append}
+use Rattle.std.proofs.lemmas.List.Folds.{Any-from_list_any}
+use Rattle.std.proofs.lemmas.List.Sorted.{searched}
 use Rattle.std.specs.Prelude.{Result, Ok, Err}
-use Rattle.std.specs.{Result.is_err, List.Sorted.IsBinarySearchResult, Ordering.nat_cmp}
+use Rattle.std.specs.Result.{is_err}
+use Rattle.std.specs.List.Sorted.{IsBinarySearchResult}
+use Rattle.std.specs.Ordering.{nat_cmp}
 use Rattle.p3_support.specs.Lists.{is_among}
 use Rattle.p3_merkle_core.specs.Inner.Agreement.{IsAscending}
 use Rattle.p3_merkle_core.proofs.Lists.RisingFacts.{IsRising, is_listed, listed_at, rising_lower}

@@ -2,10 +2,14 @@
 use Rattle.std.proofs.Common.{◌≡◌, ℕ, suc, ◌<◌, ◌≤◌, Bool, true, not, ◌||◌, List, [], ◌∷◌, refl, ap, sym, ◌∙◌, arith}
 use Rattle.std.proofs.Common.{eqb, eq-eqb, inl, inr, length, get_or, nat_le, nat_lt, zip, All, Option, Some, None}
 use Rattle.std.proofs.lemmas.Bool.{and_from, cases_eq, eqb-true, le-leb, leb-true, lt-ltb, ltb-true, ne_eqb, true≢false}
-use Rattle.std.proofs.lemmas.{List.Sums.AllPass-from_list_all, Slice.Zip.get_or-zip, Slice.Zip.length-zip}
+use Rattle.std.proofs.lemmas.List.Sums.{AllPass-from_list_all}
+use Rattle.std.proofs.lemmas.Slice.Zip.{get_or-zip, length-zip}
 use Rattle.std.specs.Prelude.{Result, Ok, Err, IsOk, ◌↔◌, ◌⊎◌}
-use Rattle.std.specs.{List.list_all, Option.option_map, Option.option_or, Cmp.Lexicographic.bytes_decides}
-use Rattle.p3_support.specs.{Answers.AnswersUnless, Batches.greatest}
+use Rattle.std.specs.List.{list_all}
+use Rattle.std.specs.Option.{option_map, option_or}
+use Rattle.std.specs.Cmp.Lexicographic.{bytes_decides}
+use Rattle.p3_support.specs.Answers.{AnswersUnless}
+use Rattle.p3_support.specs.Batches.{greatest}
 use Rattle.p3_merkle_core.specs.Refusals.{first_of, first_some, unless}
 use Rattle.p3_merkle_core.proofs.Pruned.NoneFacts.{none_of_both, none_parts, paired_none, unless_none}
 use Rattle.p3_merkle_core.proofs.Pruned.SlotFacts.{all_below}

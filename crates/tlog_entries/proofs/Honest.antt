@@ -1,13 +1,18 @@
 -- The honest openings of a log's tree are the honest proofs of the standard.
 use Rattle.std.proofs.Common.{◌≡◌, ℕ, zero, suc, ◌+◌, ◌-◌, ◌*◌, ◌/◌, ◌%◌, ◌^◌, ◌<◌, ◌≤◌, List, [], ◌∷◌, ◌++◌, length}
 use Rattle.std.proofs.Common.{get_or, map, filter, refl, sym, ap, ◌∙◌, arith, inl, inr}
-use Rattle.std.proofs.{lemmas.Bool.cases_lt, lemmas.List.map-append, Math.Nat.div-eq_of_lt, Math.Nat.div-mul-le_self}
-use Rattle.std.specs.{Prelude.All, List.flat_map, List.range_with_len}
-use Rattle.p3_merkle_core.specs.{Geometry.layer_len, Geometry.levels, Nodes.node}
+use Rattle.std.proofs.lemmas.Bool.{cases_lt}
+use Rattle.std.proofs.lemmas.List.{map-append}
+use Rattle.std.proofs.Math.Nat.{div-eq_of_lt, div-mul-le_self}
+use Rattle.std.specs.Prelude.{All}
+use Rattle.std.specs.List.{flat_map, range_with_len}
+use Rattle.p3_merkle_core.specs.Geometry.{layer_len, levels}
+use Rattle.p3_merkle_core.specs.Nodes.{node}
 use Rattle.p3_merkle_core.specs.Openings.{honest, level_siblings}
 use Rattle.p3_merkle_core.specs.Pruning.{IsHonestQuery, boundary, boundary_at, honest_query, is_boundary, restored_path}
 use Rattle.p3_merkle_core.proofs.Covered.Restoration.{honest_paths}
-use Rattle.tlog.specs.{Rfc9162.Hash as HashFunction, Rfc9162.path, Verdicts.size_limit}
+use Rattle.tlog.specs.Rfc9162.{Hash as HashFunction, path}
+use Rattle.tlog.specs.Verdicts.{size_limit}
 use Rattle.tlog.proofs.Climbs.{parity, path_above}
 use Rattle.tlog.proofs.Layers.{itself, only_at, pair_at, sibling}
 use Rattle.tlog_entries.specs.Instance.{AreFilled, hash_in, log_batch, log_functions, log_params, log_shape, present}
@@ -15,8 +20,9 @@ use Rattle.tlog_entries.specs.declared.tree.Node.{Node}
 use Rattle.tlog_tree.specs.Inner.Layers.{layer_of}
 use Rattle.tlog_tree.proofs.Paths.{layer_next, path_of_one}
 use Rattle.tlog_entries.proofs.Nodes.{length-layer, node_filled, node_in_layer, outside_slot}
-use Rattle.tlog_entries.proofs.{Nodes.padding_is_absent, Nodes.slot_inside, Shapes.lawful, Shapes.one_level_sibling}
-use Rattle.tlog_entries.proofs.{Shapes.root_covers, Shapes.tallest, Shapes.two_is_arity, Walks.half_of}
+use Rattle.tlog_entries.proofs.Nodes.{padding_is_absent, slot_inside}
+use Rattle.tlog_entries.proofs.Shapes.{lawful, one_level_sibling, root_covers, tallest, two_is_arity}
+use Rattle.tlog_entries.proofs.Walks.{half_of}
 
 module _ (hash : HashFunction) (leaves : List (List ℕ)) (i : ℕ) (inside : i < length leaves) where
   abbrev value : ℕ → ℕ → List Node

@@ -1,19 +1,26 @@
 -- The values of the nodes of a proof of entries are accepted under the root.
 use Rattle.std.proofs.Common.{◌≡◌, ℕ, zero, suc, ◌+◌, ◌-◌, ◌*◌, ◌^◌, ◌<◌, ◌≤◌, List, [], ◌∷◌, ◌++◌, length, map, filter}
 use Rattle.std.proofs.Common.{get_or, refl, sym, ap, ◌∙◌, arith, inl, inr, All}
-use Rattle.std.proofs.lemmas.{Bool.cases_Bool, Bool.ltb-true, Bool.ltb-false, List.get_or-map, List.length-map}
-use Rattle.std.specs.{Prelude.nat_lt, List.flat_map, List.range_with_len}
+use Rattle.std.proofs.lemmas.Bool.{cases_Bool, ltb-true, ltb-false}
+use Rattle.std.proofs.lemmas.List.{get_or-map, length-map}
+use Rattle.std.specs.Prelude.{nat_lt}
+use Rattle.std.specs.List.{flat_map, range_with_len}
 use Rattle.p3_merkle_core.specs.Geometry.{exponent, heights, halved_index, layer_len, levels}
-use Rattle.p3_merkle_core.specs.{Nodes.node, Openings.honest_rows}
+use Rattle.p3_merkle_core.specs.Nodes.{node}
+use Rattle.p3_merkle_core.specs.Openings.{honest_rows}
 use Rattle.p3_merkle_core.specs.Pruning.{boundary_at, honest_query, is_boundary, restored_path}
 use Rattle.p3_support.specs.Batches.{greatest}
-use Rattle.tlog.specs.{Rfc9162.Hash as HashFunction, Verdicts.size_limit}
-use Rattle.tlog.proofs.{Honest.included, Layers.itself}
+use Rattle.tlog.specs.Rfc9162.{Hash as HashFunction}
+use Rattle.tlog.specs.Verdicts.{size_limit}
+use Rattle.tlog.proofs.Honest.{included}
+use Rattle.tlog.proofs.Layers.{itself}
 use Rattle.tlog_tree.specs.Trees.{all_there, leaves_root, node_at, values_at as tree_values}
 use Rattle.tlog_entries.specs.Entries.{AreIncluded, entries_opening, is_node, proof_nodes, with_padding}
 use Rattle.tlog_entries.specs.Instance.{leaf_row, log_batch, log_functions, log_params, log_shape, present}
 use Rattle.tlog_entries.specs.declared.tree.Node.{Node}
-use Rattle.tlog_entries.proofs.{Honest.restored_is_path, Nodes.node_is_mth, Nodes.padding_is_absent, Shapes.tallest}
+use Rattle.tlog_entries.proofs.Honest.{restored_is_path}
+use Rattle.tlog_entries.proofs.Nodes.{node_is_mth, padding_is_absent}
+use Rattle.tlog_entries.proofs.Shapes.{tallest}
 
 module _ (hash : HashFunction) (leaves : List (List ℕ)) (some : 0 < length leaves) where
   -- the leaf hashes at indices

@@ -1,17 +1,22 @@
 -- An opening of a log's tree is accepted exactly if the standard's algorithm accepts its siblings that are there.
 use Rattle.std.proofs.Common.{◌≡◌, ℕ, zero, suc, ◌+◌, ◌-◌, ◌/◌, ◌%◌, ◌^◌, ◌<◌, ◌≤◌, List, [], ◌∷◌, length, drop, get_or}
 use Rattle.std.proofs.Common.{insert, add-one, Some, refl, sym, ap, ◌∙◌, arith}
-use Rattle.std.proofs.{lemmas.List.at_drop_all, lemmas.List.drop_more, Math.Nat.div-eq_of_lt}
+use Rattle.std.proofs.lemmas.List.{at_drop_all, drop_more}
+use Rattle.std.proofs.Math.Nat.{div-eq_of_lt}
 use Rattle.std.specs.Prelude.{Option, ◌↔◌, slice_get}
 use Rattle.p3_merkle_core.specs.Geometry.{ancestor, levels}
-use Rattle.p3_merkle_core.specs.{Openings.opening_of, Checks.IsAccepted, Checks.path_digest}
+use Rattle.p3_merkle_core.specs.Openings.{opening_of}
+use Rattle.p3_merkle_core.specs.Checks.{IsAccepted, path_digest}
 use Rattle.p3_merkle_core.proofs.Checks.CheckFacts.{accepted_by_walk, accepted_walk}
-use Rattle.tlog.specs.{Rfc9162.Hash as HashFunction, Rfc9162.inclusion_walk, Verdicts.IsIncluded, Verdicts.size_limit}
+use Rattle.tlog.specs.Rfc9162.{Hash as HashFunction, inclusion_walk}
+use Rattle.tlog.specs.Verdicts.{IsIncluded, size_limit}
 use Rattle.tlog_entries.specs.Nodes.{parent_digest}
 use Rattle.tlog_entries.specs.Instance.{IsPathFilled, leaf_row, log_functions, log_params, log_shape, present, root_cap}
-use Rattle.tlog_entries.specs.declared.tree.Node.{Node, TheVariants.Hash}
+use Rattle.tlog_entries.specs.declared.tree.Node.{Node}
+use Rattle.tlog_entries.specs.declared.tree.Node.TheVariants.{Hash}
 use Rattle.tlog_entries.proofs.Shapes.{ancestor_of_two, lawful, leaf_reached, more_below, next_reached, one_sibling}
-use Rattle.tlog_entries.proofs.{Shapes.root_covers, Shapes.tallest, Walks.half_of, Walks.level_passed}
+use Rattle.tlog_entries.proofs.Shapes.{root_covers, tallest}
+use Rattle.tlog_entries.proofs.Walks.{half_of, level_passed}
 
 module _ (hash : HashFunction) (size i : ℕ) (leaf : List ℕ) (path : List (List Node)) (inside : i < size)
     (small : size ≤ size_limit) (filled : IsPathFilled size i path) where

@@ -2,7 +2,8 @@
 use Rattle.std.proofs.Common.{◌≡◌, ℕ, zero, suc, ◌<◌, List, [], ◌∷◌, length, map, refl, sym, ap, ◌∙◌, arith}
 use Rattle.std.proofs.lemmas.List.{length-map}
 use Rattle.tlog.specs.Rfc9162.{Hash as HashFunction, mth, mth_within, node_hash, path}
-use Rattle.tlog.proofs.{Climbs.path_above, Layers.above, Layers.itself, Layers.mth_above, Layers.sibling}
+use Rattle.tlog.proofs.Climbs.{path_above}
+use Rattle.tlog.proofs.Layers.{above, itself, mth_above, sibling}
 
 module _ {X : Type 0} (hash : HashFunction) (leaf : X → List ℕ) where
   above_map : (D : List X) → above hash itself (map leaf D) ≡ above hash leaf D

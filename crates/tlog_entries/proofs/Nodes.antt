@@ -1,9 +1,13 @@
 -- The nodes of a log's tree are the standard's: MTH of the entries below them.
 use Rattle.std.proofs.Common.{◌≡◌, ℕ, zero, suc, ◌+◌, ◌-◌, ◌*◌, ◌/◌, ◌^◌, ◌<◌, ◌≤◌, List, [], ◌∷◌, length, take, drop}
 use Rattle.std.proofs.Common.{get_or, map, refl, sym, ap, ◌∙◌, arith, inl, inr}
-use Rattle.std.proofs.lemmas.{Bool.cases_lt, List.take_all, Nat.pow_pos}
+use Rattle.std.proofs.lemmas.Bool.{cases_lt}
+use Rattle.std.proofs.lemmas.List.{take_all}
+use Rattle.std.proofs.lemmas.Nat.{pow_pos}
 use Rattle.std.proofs.Math.Nat.{le-div_iff_mul-le}
-use Rattle.p3_merkle_core.specs.{Geometry.layer_len, Geometry.levels, Commitments.cap_over, Nodes.node}
+use Rattle.p3_merkle_core.specs.Geometry.{layer_len, levels}
+use Rattle.p3_merkle_core.specs.Commitments.{cap_over}
+use Rattle.p3_merkle_core.specs.Nodes.{node}
 use Rattle.p3_merkle_core.proofs.Shapes.FallFacts.{root_alone}
 use Rattle.std.specs.List.{range_with_len}
 use Rattle.p3_merkle_core.proofs.Checks.OneHeightFacts.{leaf_of, next_of, padding_of}
@@ -15,7 +19,8 @@ use Rattle.tlog_tree.specs.Inner.Layers.{layer_of}
 use Rattle.tlog_tree.proofs.Paths.{layer_next, layer_value}
 use Rattle.tlog_entries.specs.Nodes.{parent_digest}
 use Rattle.tlog_entries.specs.Instance.{IsFilled, root_cap, log_batch, log_params, log_functions, log_shape}
-use Rattle.tlog_entries.specs.declared.tree.Node.{Node, TheVariants.Absent, TheVariants.Hash}
+use Rattle.tlog_entries.specs.declared.tree.Node.{Node}
+use Rattle.tlog_entries.specs.declared.tree.Node.TheVariants.{Absent, Hash}
 use Rattle.tlog_entries.proofs.Shapes.{root_covers, tallest, one_column, two_is_arity}
 use Rattle.tlog_entries.proofs.Walks.{half_of}
 

@@ -2,12 +2,17 @@
 use Rattle.std.proofs.Common.{◌≡◌, ℕ, suc, ◌+◌, ◌-◌, ◌*◌, ◌/◌, ◌^◌, ◌<◌, ◌≤◌, true, false, List, [], ◌∷◌, ◌++◌, map}
 use Rattle.std.proofs.Common.{filter, refl, ap, sym, ◌∙◌, arith, inl, inr, length, take, drop, drop-cons, get_or, Some}
 use Rattle.std.proofs.Common.{append_assoc, take-append-drop, length-append, length-drop, nat_le}
-use Rattle.std.proofs.lemmas.Bool.{cases_Bool, cases_lt, lt-ltb, ltb-true, true≢false, Decides.nat_tests}
-use Rattle.std.proofs.lemmas.List.{drop-drop, take_more, Elements.filter-append}
-use Rattle.std.proofs.{lemmas.Nat.pow_pos, Math.Nat.le-div_iff_mul-le}
+use Rattle.std.proofs.lemmas.Bool.{cases_Bool, cases_lt, lt-ltb, ltb-true, true≢false}
+use Rattle.std.proofs.lemmas.Bool.Decides.{nat_tests}
+use Rattle.std.proofs.lemmas.List.{drop-drop, take_more}
+use Rattle.std.proofs.lemmas.List.Elements.{filter-append}
+use Rattle.std.proofs.lemmas.Nat.{pow_pos}
+use Rattle.std.proofs.Math.Nat.{le-div_iff_mul-le}
 use Rattle.tlog_entries.specs.Entries.{digests_refusal, is_node, with_padding}
-use Rattle.tlog_entries.specs.{Instance.AreFilled, declared.error.EntriesError.TheVariants.TooFewDigests}
-use Rattle.tlog_entries.specs.declared.tree.Node.{Node, TheVariants.Absent, TheVariants.Hash}
+use Rattle.tlog_entries.specs.Instance.{AreFilled}
+use Rattle.tlog_entries.specs.declared.error.EntriesError.TheVariants.{TooFewDigests}
+use Rattle.tlog_entries.specs.declared.tree.Node.{Node}
+use Rattle.tlog_entries.specs.declared.tree.Node.TheVariants.{Absent, Hash}
 use Rattle.tlog_entries.proofs.Shapes.{one_taken}
 
 -- ---- nodes

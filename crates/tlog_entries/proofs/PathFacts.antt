@@ -1,12 +1,19 @@
 -- What accepted leaf hashes show, path by path.
 use Rattle.std.proofs.Common.{◌≡◌, ℕ, ◌<◌, ◌≤◌, List, [], map, ap, sym, subst, ◌∙◌, arith, length, get_or}
-use Rattle.std.proofs.lemmas.{List.get_or-map, Simd.map-map}
+use Rattle.std.proofs.lemmas.List.{get_or-map}
+use Rattle.std.proofs.lemmas.Simd.{map-map}
 use Rattle.std.specs.Prelude.{◌↔◌}
-use Rattle.p3_merkle_core.specs.{Pruning.restored_path, Views.shown_path, Views.shown_paths}
+use Rattle.p3_merkle_core.specs.Pruning.{restored_path}
+use Rattle.p3_merkle_core.specs.Views.{shown_path, shown_paths}
 use Rattle.p3_merkle_core.specs.declared.pruning.AuthPath.{AuthPath}
-use Rattle.tlog.specs.{Rfc9162.Hash as HashFunction, Rfc9162.root_of, Verdicts.size_limit, Fixed.RootFixesLeaf}
-use Rattle.tlog_entries.specs.{Entries.AreIncluded, Entries.entries_opening, Fixed.RootFixesLeaves}
-use Rattle.tlog_entries.specs.{Inner.Paths.siblings_of, Instance.log_params, Instance.present, declared.tree.Node.Node}
+use Rattle.tlog.specs.Rfc9162.{Hash as HashFunction, root_of}
+use Rattle.tlog.specs.Verdicts.{size_limit}
+use Rattle.tlog.specs.Fixed.{RootFixesLeaf}
+use Rattle.tlog_entries.specs.Entries.{AreIncluded, entries_opening}
+use Rattle.tlog_entries.specs.Fixed.{RootFixesLeaves}
+use Rattle.tlog_entries.specs.Inner.Paths.{siblings_of}
+use Rattle.tlog_entries.specs.Instance.{log_params, present}
+use Rattle.tlog_entries.specs.declared.tree.Node.{Node}
 
 -- the siblings of restored paths
 pub siblings_are : {X : Type 0} (paths : List (AuthPath X)) (path : ℕ → List X) (indices : List ℕ) →

@@ -3,24 +3,33 @@
 use Rattle.std.proofs.Common.{◌≡◌, ℕ, zero, suc, ◌+◌, ◌-◌, ◌*◌, ◌/◌, ◌%◌, ◌^◌, ◌<◌, ◌≤◌, true, List, [], ◌∷◌, length}
 use Rattle.std.proofs.Common.{◌==◌, ◌&&◌, eqb, map, get_or, refl, sym, ap, ◌∙◌, arith, inl, inr, zip}
 use Rattle.std.proofs.lemmas.Bool.{and_parts, cases_Bool, cases_lt, cond-false, cond-true, eqb-true, true≢false}
-use Rattle.std.proofs.lemmas.List.{get_or-map, length-map, FromFn.get_or-map-range_with_len}
+use Rattle.std.proofs.lemmas.List.{get_or-map, length-map}
+use Rattle.std.proofs.lemmas.List.FromFn.{get_or-map-range_with_len}
 use Rattle.std.specs.Prelude.{All, ◌↔◌}
-use Rattle.std.specs.{List.find, List.flat_map, List.range_with_len, Option.option_map, Option.unwrap_or}
-use Rattle.p3_merkle_core.specs.{Geometry.ancestor, Geometry.levels, Nodes.compress_padded, Nodes.with_rows}
-use Rattle.p3_merkle_core.specs.{Openings.level_siblings, Checks.IsAccepted, Checks.layer_words}
+use Rattle.std.specs.List.{find, flat_map, range_with_len}
+use Rattle.std.specs.Option.{option_map, unwrap_or}
+use Rattle.p3_merkle_core.specs.Geometry.{ancestor, levels}
+use Rattle.p3_merkle_core.specs.Nodes.{compress_padded, with_rows}
+use Rattle.p3_merkle_core.specs.Openings.{level_siblings}
+use Rattle.p3_merkle_core.specs.Checks.{IsAccepted, layer_words}
 use Rattle.p3_merkle_core.specs.Pruning.{PrunedOpening, boundary, is_covered, is_in, opening_at, pruned_of}
 use Rattle.p3_merkle_core.specs.Pruning.{restored_node, restored_path, sent_digest, value_of, first_rows}
 use Rattle.p3_merkle_core.proofs.Checks.PathFacts.{group_values, path_length}
 use Rattle.p3_merkle_core.proofs.Covered.Equivalence.{query_covered, restored_leaf, restored_next, rows_under_is}
-use Rattle.p3_merkle_core.proofs.{Covered.Sufficient.child_listed, Checks.OneHeightFacts.leaf_words}
+use Rattle.p3_merkle_core.proofs.Covered.Sufficient.{child_listed}
+use Rattle.p3_merkle_core.proofs.Checks.OneHeightFacts.{leaf_words}
 use Rattle.p3_merkle_core.proofs.Shapes.OneHeight.{full_group, no_rows_above}
-use Rattle.tlog.specs.{Rfc9162.Hash as HashFunction, Rfc9162.node_hash, Verdicts.IsIncluded, Verdicts.size_limit}
-use Rattle.tlog_entries.specs.{Nodes.last_word, Nodes.parent_digest, Instance.sibling_slot, Instance.AreFilled}
+use Rattle.tlog.specs.Rfc9162.{Hash as HashFunction, node_hash}
+use Rattle.tlog.specs.Verdicts.{IsIncluded, size_limit}
+use Rattle.tlog_entries.specs.Nodes.{last_word, parent_digest}
+use Rattle.tlog_entries.specs.Instance.{sibling_slot, AreFilled}
 use Rattle.tlog_entries.specs.Instance.{IsFilled, leaf_row, log_functions, log_params, log_shape, present, root_cap}
-use Rattle.tlog_entries.specs.declared.tree.Node.{Node, TheVariants.Absent, TheVariants.Hash}
+use Rattle.tlog_entries.specs.declared.tree.Node.{Node}
+use Rattle.tlog_entries.specs.declared.tree.Node.TheVariants.{Absent, Hash}
 use Rattle.tlog_entries.proofs.Shapes.{ancestor_of_two, one_column, one_level_sibling, one_sibling, step_of_two}
 use Rattle.tlog_entries.proofs.Shapes.{covered_inside, double_slot, two_is_arity}
-use Rattle.tlog_entries.proofs.{ShapeFacts.log_query, Included.accepted_if_included}
+use Rattle.tlog_entries.proofs.ShapeFacts.{log_query}
+use Rattle.tlog_entries.proofs.Included.{accepted_if_included}
 
 -- what is found for a slot that is listed
 found_filled : (size l j : ℕ) (slots : List (ℕ × ℕ)) (digests : List (List Node)) (d : List Node) →

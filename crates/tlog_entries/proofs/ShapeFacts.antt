@@ -3,21 +3,30 @@ use Rattle.std.proofs.Common.{◌≡◌, ℕ, zero, suc, ◌+◌, ◌^◌, ◌<�
 use Rattle.std.proofs.Common.{◌∙◌, arith, add-one, eqb, length, get_or, All}
 use Rattle.std.proofs.lemmas.Bool.{and_from, and_parts, both_ways, eqb-true, false_from_ne_true, not-true}
 use Rattle.std.proofs.lemmas.Bool.{not_from_false, true≢false}
-use Rattle.std.proofs.lemmas.List.{get_or_default, get_or-map, length-map, Elements.All-append, Folds.Any-from_list_any}
-use Rattle.std.proofs.{lemmas.Map.Views.any-filter_same, Math.Nat.div-le_self}
-use Rattle.std.specs.{Prelude.◌/◌, Prelude.◌&&◌, Prelude.◌≢◌, List.range_with_len}
+use Rattle.std.proofs.lemmas.List.{get_or_default, get_or-map, length-map}
+use Rattle.std.proofs.lemmas.List.Elements.{All-append}
+use Rattle.std.proofs.lemmas.List.Folds.{Any-from_list_any}
+use Rattle.std.proofs.lemmas.Map.Views.{any-filter_same}
+use Rattle.std.proofs.Math.Nat.{div-le_self}
+use Rattle.std.specs.Prelude.{◌/◌, ◌&&◌, ◌≢◌}
+use Rattle.std.specs.List.{range_with_len}
 use Rattle.p3_support.specs.Lists.{is_among}
 use Rattle.p3_merkle_core.specs.Geometry.{Shape, ancestor, exponent, layer_len, leaves_under, levels, step}
-use Rattle.p3_merkle_core.specs.Inner.{Agreement.IsAscending, Covered.covered_at}
+use Rattle.p3_merkle_core.specs.Inner.Agreement.{IsAscending}
+use Rattle.p3_merkle_core.specs.Inner.Covered.{covered_at}
 use Rattle.p3_merkle_core.specs.Pruning.{CanQuery, boundary, boundary_at, is_boundary, is_covered}
 use Rattle.p3_merkle_core.proofs.Covered.CoveredFacts.{covered_child, covered_listed, group_fits, listed_covered}
-use Rattle.p3_merkle_core.proofs.{Covered.Under.covered_up, Lists.ListFacts.joined_more}
+use Rattle.p3_merkle_core.proofs.Covered.Under.{covered_up}
+use Rattle.p3_merkle_core.proofs.Lists.ListFacts.{joined_more}
 use Rattle.p3_merkle_core.proofs.Lists.RisingFacts.{filter_is, listed_at, listed_map, map_lists, rising_filter}
 use Rattle.p3_merkle_core.proofs.Pruned.SlotFacts.{ascending_from}
-use Rattle.p3_merkle_core.proofs.Shapes.{LadderFacts.levels_le, LeastFacts.exponent_le}
+use Rattle.p3_merkle_core.proofs.Shapes.LadderFacts.{levels_le}
+use Rattle.p3_merkle_core.proofs.Shapes.LeastFacts.{exponent_le}
 use Rattle.tlog.specs.Verdicts.{size_limit}
-use Rattle.tlog_entries.specs.{Instance.log_shape, Inner.Siblings.sibling}
-use Rattle.tlog_entries.proofs.{BoundaryFacts.siblings_rise, Shapes.step_of_two, Shapes.tallest, Shapes.two_is_arity}
+use Rattle.tlog_entries.specs.Instance.{log_shape}
+use Rattle.tlog_entries.specs.Inner.Siblings.{sibling}
+use Rattle.tlog_entries.proofs.BoundaryFacts.{siblings_rise}
+use Rattle.tlog_entries.proofs.Shapes.{step_of_two, tallest, two_is_arity}
 
 -- indices below the size can be queried
 pub log_query : (size : ℕ) (indices : List ℕ) → All (λ i. i < size) indices →

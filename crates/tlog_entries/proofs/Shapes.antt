@@ -1,13 +1,17 @@
 -- The tree of a log of some entries: its layers, and what a check of an opening reaches in them.
 use Rattle.std.proofs.Common.{◌≡◌, ℕ, zero, suc, ◌+◌, ◌-◌, ◌*◌, ◌/◌, ◌%◌, ◌^◌, ◌<◌, ◌≤◌, List, [], ◌∷◌, length, take}
 use Rattle.std.proofs.Common.{drop, get_or, insert, refl, ap, sym, ◌∙◌, arith, true, inl, inr}
-use Rattle.std.proofs.lemmas.{Bool.cases_eq, List.at_drop_more, List.Edits.length-insert}
+use Rattle.std.proofs.lemmas.Bool.{cases_eq}
+use Rattle.std.proofs.lemmas.List.{at_drop_more}
+use Rattle.std.proofs.lemmas.List.Edits.{length-insert}
 use Rattle.std.proofs.Math.Nat.{div-mul-le_self, mul_assoc, pow-succ'}
 use Rattle.std.specs.Prelude.{All}
 use Rattle.p3_support.specs.Batches.{greatest}
 use Rattle.p3_merkle_core.specs.Geometry.{IsArity, expected_height, height_limit, IsLawful, ancestor, exponent, heights}
-use Rattle.p3_merkle_core.specs.{Geometry.levels, Geometry.step, Geometry.position_in_group, Nodes.compress_padded}
-use Rattle.p3_merkle_core.specs.{Nodes.with_rows, OneHeight.HasHeight, Openings.Opening, Openings.level_siblings}
+use Rattle.p3_merkle_core.specs.Geometry.{levels, step, position_in_group}
+use Rattle.p3_merkle_core.specs.Nodes.{compress_padded, with_rows}
+use Rattle.p3_merkle_core.specs.OneHeight.{HasHeight}
+use Rattle.p3_merkle_core.specs.Openings.{Opening, level_siblings}
 use Rattle.p3_merkle_core.specs.Checks.{group_at, layer_words, path_digest, siblings_at, siblings_below}
 use Rattle.p3_merkle_core.specs.Pruning.{is_covered}
 use Rattle.p3_merkle_core.proofs.Shapes.OneHeight.{full_group, greatest_is, levels_are, levels_cover, no_rows_above}
@@ -15,10 +19,12 @@ use Rattle.p3_merkle_core.proofs.Shapes.OneHeight.{step_is_arity}
 use Rattle.p3_merkle_core.proofs.Checks.OneHeightFacts.{ancestor_is, leaf_words, power_below, siblings_are}
 use Rattle.p3_merkle_core.proofs.Covered.Sufficient.{covered_query}
 use Rattle.p3_merkle_core.proofs.Checks.Completeness.{reached_leaf, reached_next}
-use Rattle.tlog.specs.{Rfc9162.Hash as HashFunction, Verdicts.size_limit}
+use Rattle.tlog.specs.Rfc9162.{Hash as HashFunction}
+use Rattle.tlog.specs.Verdicts.{size_limit}
 use Rattle.tlog_entries.specs.Nodes.{last_word, parent_digest}
 use Rattle.tlog_entries.specs.Instance.{leaf_row, log_functions, log_shape, sibling_slot}
-use Rattle.tlog_entries.specs.declared.tree.Node.{Node, TheVariants.Hash}
+use Rattle.tlog_entries.specs.declared.tree.Node.{Node}
+use Rattle.tlog_entries.specs.declared.tree.Node.TheVariants.{Hash}
 
 pub two_is_arity : IsArity 2
 unfolding exponent

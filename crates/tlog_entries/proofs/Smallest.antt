@@ -4,14 +4,19 @@ use Rattle.std.proofs.Common.{◌&&◌, List, [], ◌∷◌, ◌++◌, length, f
 use Rattle.std.proofs.Common.{eq-eqb}
 use Rattle.std.proofs.lemmas.Bool.{and_from, and_parts, both_ways, cases_Bool, cases_eq, false_from_ne_true, eqb-true}
 use Rattle.std.proofs.lemmas.Bool.{ltb-false, ltb-true, not-true, or_cases, or_left, or_right, true≢false}
-use Rattle.std.proofs.lemmas.List.{Folds.list_any-append, FromFn.length-map-range_with_len}
-use Rattle.std.specs.{Prelude.◌||◌, List.range_with_len}
+use Rattle.std.proofs.lemmas.List.Folds.{list_any-append}
+use Rattle.std.proofs.lemmas.List.FromFn.{length-map-range_with_len}
+use Rattle.std.specs.Prelude.{◌||◌}
+use Rattle.std.specs.List.{range_with_len}
 use Rattle.p3_merkle_core.specs.Geometry.{Shape, levels, step}
 use Rattle.p3_merkle_core.specs.Pruning.{IsKnown, IsUncovered, Suffices, boundary, is_covered, is_in, is_under}
 use Rattle.p3_merkle_core.proofs.Covered.Minimal.{above, boundary_known, boundary_one, in_boundary}
-use Rattle.p3_merkle_core.proofs.Covered.{Sufficient.boundary_suffices, Under.child_parent, Under.covered_up}
-use Rattle.p3_merkle_core.proofs.{Covered.Under.member_counts, Covered.Under.under_parent, Lists.ListFacts.tally}
-use Rattle.tlog_entries.specs.{Entries.is_node, Entries.proof_nodes, Instance.log_shape, Laws.ArePadding}
+use Rattle.p3_merkle_core.proofs.Covered.Sufficient.{boundary_suffices}
+use Rattle.p3_merkle_core.proofs.Covered.Under.{child_parent, covered_up, member_counts, under_parent}
+use Rattle.p3_merkle_core.proofs.Lists.ListFacts.{tally}
+use Rattle.tlog_entries.specs.Entries.{is_node, proof_nodes}
+use Rattle.tlog_entries.specs.Instance.{log_shape}
+use Rattle.tlog_entries.specs.Laws.{ArePadding}
 use Rattle.tlog_entries.proofs.ShapeFacts.{log_query}
 use Rattle.tlog_entries.proofs.Shapes.{covered_inside, double_slot, step_of_two, two_is_arity}
 

@@ -2,13 +2,15 @@
 use Rattle.std.proofs.Common.{◌≡◌, ℕ, zero, suc, ◌<◌, ◌≤◌, Bool, true, false, List, [], ◌∷◌, refl, ap}
 use Rattle.std.proofs.Common.{sym, subst, ◌∙◌, arith, eqb, inl, inr, length, get_or, nat_lt, zip, Option, Some, None}
 use Rattle.std.specs.Prelude.{Result, Ok, Err, ◌⊎◌, ◌≢◌, ◌||◌}
-use Rattle.std.specs.{Bool.Decides, Option.option_map, Option.option_or}
+use Rattle.std.specs.Bool.{Decides}
+use Rattle.std.specs.Option.{option_map, option_or}
 use Rattle.std.specs.Cmp.Lexicographic.{pointwise, pointwise_decides}
 use Rattle.std.proofs.lemmas.Bool.{cases_Bool, cond-false, lt-ltb, ne_eqb, true≢false}
 use Rattle.std.proofs.lemmas.List.{get_or-map, length-map}
 use Rattle.p3_support.specs.Batches.{greatest}
-use Rattle.p3_merkle_core.specs.{Checks.Params, Checks.layer_rows, Geometry.Shape, Geometry.ancestor, Geometry.exponent}
-use Rattle.p3_merkle_core.specs.{Geometry.heights, Geometry.layer_exponent, Geometry.levels, Gate.gate_refusal}
+use Rattle.p3_merkle_core.specs.Checks.{Params, layer_rows}
+use Rattle.p3_merkle_core.specs.Geometry.{Shape, ancestor, exponent, heights, layer_exponent, levels}
+use Rattle.p3_merkle_core.specs.Gate.{gate_refusal}
 use Rattle.p3_merkle_core.specs.Presented.{IsVerdict, Presented, presented_pruned}
 use Rattle.p3_merkle_core.specs.Pruning.{IsPrunedAccepted, IsRestorable, PrunedOpening, boundary}
 use Rattle.p3_merkle_core.specs.Refusals.{cap_refusal, digest_count_refusal, duplicate_refusal, first_of, first_some}
@@ -21,16 +23,21 @@ use Rattle.p3_merkle_core.specs.declared.error.PrunedProofError.TheVariants.{Inc
 use Rattle.p3_merkle_core.proofs.Pruned.NoneFacts.{none_unless, paired_none, unless_none, verdict_ok}
 use Rattle.p3_merkle_core.proofs.Pruned.SlotFacts.{all_below}
 use Rattle.p3_merkle_core.proofs.Pruned.Unrefused.{size_none, unrefused as port_unrefused}
-use Rattle.p3_merkle_core.proofs.Shapes.{GateFacts.gate_lawful, OneHeight.no_rows_above}
-use Rattle.tlog.specs.{Rfc9162.Hash as HashFunction, Verdicts.inclusion_refusal}
+use Rattle.p3_merkle_core.proofs.Shapes.GateFacts.{gate_lawful}
+use Rattle.p3_merkle_core.proofs.Shapes.OneHeight.{no_rows_above}
+use Rattle.tlog.specs.Rfc9162.{Hash as HashFunction}
+use Rattle.tlog.specs.Verdicts.{inclusion_refusal}
 use Rattle.tlog_entries.specs.Entries.{AreIncluded, entries_opening, entries_refusal, entry_path, form_refusal}
-use Rattle.tlog_entries.specs.{Entries.is_one_leaf_each, Instance.AreFilled, Instance.leaf_row, Instance.log_params}
-use Rattle.tlog_entries.specs.{Instance.log_shape, Instance.root_cap, Inner.Meanings.IsMeaning}
-use Rattle.tlog_entries.specs.declared.error.EntriesError.{EntriesError, TheVariants.TwoLeafHashes}
-use Rattle.tlog_entries.specs.declared.{error.EntriesError.TheVariants.RootMismatch, tree.Node.Node}
+use Rattle.tlog_entries.specs.Entries.{is_one_leaf_each}
+use Rattle.tlog_entries.specs.Instance.{AreFilled, leaf_row, log_params, log_shape, root_cap}
+use Rattle.tlog_entries.specs.Inner.Meanings.{IsMeaning}
+use Rattle.tlog_entries.specs.declared.error.EntriesError.{EntriesError}
+use Rattle.tlog_entries.specs.declared.error.EntriesError.TheVariants.{TwoLeafHashes, RootMismatch}
+use Rattle.tlog_entries.specs.declared.tree.Node.{Node}
 use Rattle.tlog_entries.proofs.EntriesFacts.{HaveForm, HaveOneLeaf, accepted_from, form_to, one_leaf_from, Keeps, keeps}
 use Rattle.tlog_entries.proofs.EntriesFacts.{one_leaf_to, paths_refusal, unrefused}
-use Rattle.tlog_entries.proofs.{PaddingFacts.filled_length, PaddingFacts.padded_filled, Restored.query_accepted}
+use Rattle.tlog_entries.proofs.PaddingFacts.{filled_length, padded_filled}
+use Rattle.tlog_entries.proofs.Restored.{query_accepted}
 use Rattle.tlog_entries.proofs.Shapes.{ancestor_of_two, lawful, one_column, tallest, two_is_arity}
 
 -- ---- options

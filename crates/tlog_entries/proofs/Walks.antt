@@ -2,12 +2,14 @@
 use Rattle.std.proofs.Common.{◌≡◌, ℕ, suc, ◌+◌, ◌-◌, ◌*◌, ◌/◌, ◌%◌, ◌^◌, ◌<◌, ◌≤◌, List, [], ◌∷◌, Some}
 use Rattle.std.proofs.Common.{insert, refl, sym, ap, ◌∙◌, arith, inl, inr}
 use Rattle.std.proofs.lemmas.Bool.{cases_eq, cases_lt}
-use Rattle.std.proofs.{lemmas.Nat.pow_pos, Math.Nat.div-div-eq-div-mul}
-use Rattle.std.proofs.Math.Nat.{div-le_self, div-mul-le_self, le-div_iff_mul-le, pow-suc}
+use Rattle.std.proofs.lemmas.Nat.{pow_pos}
+use Rattle.std.proofs.Math.Nat.{div-div-eq-div-mul, div-le_self, div-mul-le_self, le-div_iff_mul-le, pow-suc}
 use Rattle.tlog.specs.Rfc9162.{Hash as HashFunction, inclusion_walk, node_hash}
 use Rattle.tlog.proofs.Climbs.{inclusion_even, inclusion_odd, inclusion_skip}
-use Rattle.tlog_entries.specs.{Nodes.parent_digest, Instance.sibling_slot, Instance.IsFilled, Instance.present}
-use Rattle.tlog_entries.specs.declared.tree.Node.{Node, TheVariants.Absent, TheVariants.Hash}
+use Rattle.tlog_entries.specs.Nodes.{parent_digest}
+use Rattle.tlog_entries.specs.Instance.{sibling_slot, IsFilled, present}
+use Rattle.tlog_entries.specs.declared.tree.Node.{Node}
+use Rattle.tlog_entries.specs.declared.tree.Node.TheVariants.{Absent, Hash}
 
 -- what one level gives: the digest of the group, and the walk from below it
 abbrev pub IsPassed : HashFunction → List (List Node) → List Node → ℕ → ℕ → List ℕ → Type 0

@@ -1,14 +1,18 @@
 -- Several entries by one proof: its digests, when it is accepted, and why it is refused.
 use Rattle.std.specs.Prelude.{◌≡◌, ℕ, ◌*◌, ◌^◌, ◌<◌, ◌==◌, nat_lt, nat_le, if◌then◌else◌, Bool, not, ◌||◌, All, List}
 use Rattle.std.specs.Prelude.{[], ◌∷◌, ◌++◌, length, map, filter, zip, take, drop, slice_index, slice_index_or, Option}
-use Rattle.std.specs.{Prelude.option_map, List.list_all, Option.option_or}
+use Rattle.std.specs.Prelude.{option_map}
+use Rattle.std.specs.List.{list_all}
+use Rattle.std.specs.Option.{option_or}
 use Rattle.p3_support.specs.Batches.{greatest}
-use Rattle.p3_merkle_core.specs.{Geometry.levels, Pruning.PrunedOpening, Pruning.boundary, Pruning.pruned_of}
-use Rattle.p3_merkle_core.specs.{Pruning.restored_path, Refusals.first_of, Refusals.first_some, Refusals.unless}
+use Rattle.p3_merkle_core.specs.Geometry.{levels}
+use Rattle.p3_merkle_core.specs.Pruning.{PrunedOpening, boundary, pruned_of, restored_path}
+use Rattle.p3_merkle_core.specs.Refusals.{first_of, first_some, unless}
 use Rattle.tlog.specs.Rfc9162.{Hash as HashFunction}
 use Rattle.tlog.specs.Verdicts.{IsIncluded, inclusion_refusal, is_same, size_limit}
 use Rattle.tlog_entries.specs.Instance.{leaf_row, log_params, log_shape, present}
-use Rattle.tlog_entries.specs.declared.tree.Node.{Node, TheVariants.Absent, TheVariants.Hash}
+use Rattle.tlog_entries.specs.declared.tree.Node.{Node}
+use Rattle.tlog_entries.specs.declared.tree.Node.TheVariants.{Absent, Hash}
 use Rattle.tlog_entries.specs.declared.error.EntriesError.{EntriesError}
 use Rattle.tlog_entries.specs.declared.error.EntriesError.TheVariants.{SizeTooLarge, NoIndices, LeafCountMismatch}
 use Rattle.tlog_entries.specs.declared.error.EntriesError.TheVariants.{IndexPastEnd, TooFewDigests, TooManyDigests}

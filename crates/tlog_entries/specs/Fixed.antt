@@ -1,6 +1,7 @@
 -- What a root fixes, but for collisions of the hash function.
 use Rattle.std.specs.Prelude.{◌≡◌, ◌<◌, ◌≤◌, ℕ, List, [], length, slice_index, slice_index_or}
-use Rattle.tlog.specs.{Rfc9162.Hash as HashFunction, Rfc9162.leaf_hash, Rfc9162.root_of, Verdicts.size_limit}
+use Rattle.tlog.specs.Rfc9162.{Hash as HashFunction, leaf_hash, root_of}
+use Rattle.tlog.specs.Verdicts.{size_limit}
 use Rattle.tlog_entries.specs.Entries.{AreIncluded}
 
 -- leaf hashes that one proof shows under MTH(D) are those of D's entries at their indices

@@ -3,10 +3,12 @@ use Rattle.std.specs.Prelude.{◌≡◌, ℕ, suc, ◌+◌, ◌-◌, ◌*◌, �
 use Rattle.std.specs.Prelude.{slice_index_or}
 use Rattle.p3_support.specs.declared.matrix.Dimensions.{Dimensions}
 use Rattle.p3_merkle_core.specs.Geometry.{Shape, levels, shape_of}
-use Rattle.p3_merkle_core.specs.{Nodes.Batch, Nodes.Functions, Nodes.functions_of, Checks.Params, Checks.params}
+use Rattle.p3_merkle_core.specs.Nodes.{Batch, Functions, functions_of}
+use Rattle.p3_merkle_core.specs.Checks.{Params, params}
 use Rattle.tlog.specs.Rfc9162.{Hash as HashFunction}
 use Rattle.tlog_entries.specs.Nodes.{last_word, parent_digest}
-use Rattle.tlog_entries.specs.declared.tree.Node.{Node, TheVariants.Absent, TheVariants.Hash}
+use Rattle.tlog_entries.specs.declared.tree.Node.{Node}
+use Rattle.tlog_entries.specs.declared.tree.Node.TheVariants.{Absent, Hash}
 
 -- a row of one word is its own digest, a node has the hash of its children, and padding is absent
 abbrev pub log_functions : HashFunction → Functions Node Node

@@ -2,14 +2,20 @@
 -- list of entries.
 use Rattle.std.specs.Prelude.{◌≡◌, ◌↔◌, ℕ, ◌*◌, ◌^◌, ◌<◌, ◌≤◌, All, List, [], ◌∷◌, length, map, take, drop, slice_index}
 use Rattle.std.specs.Prelude.{slice_index_or, IsTrue, ◌++◌}
-use Rattle.p3_merkle_core.specs.{Geometry.levels, Nodes.Batch, Nodes.node, Openings.honest, Openings.opening_of}
-use Rattle.p3_merkle_core.specs.{Checks.IsAccepted, Commitments.cap_over, Pruning.IsUncovered}
+use Rattle.p3_merkle_core.specs.Geometry.{levels}
+use Rattle.p3_merkle_core.specs.Nodes.{Batch, node}
+use Rattle.p3_merkle_core.specs.Openings.{honest, opening_of}
+use Rattle.p3_merkle_core.specs.Checks.{IsAccepted}
+use Rattle.p3_merkle_core.specs.Commitments.{cap_over}
+use Rattle.p3_merkle_core.specs.Pruning.{IsUncovered}
 use Rattle.p3_merkle_core.specs.Pruning.{Suffices, is_in, boundary, honest_query, opening_at, pruned_of, restored_path}
 use Rattle.tlog.specs.Rfc9162.{Hash as HashFunction, leaf_hash, path_of, root_of}
 use Rattle.tlog.specs.Verdicts.{IsIncluded, size_limit}
-use Rattle.tlog_entries.specs.{Entries.proof_nodes, Instance.AreFilled, Instance.IsPathFilled}
+use Rattle.tlog_entries.specs.Entries.{proof_nodes}
+use Rattle.tlog_entries.specs.Instance.{AreFilled, IsPathFilled}
 use Rattle.tlog_entries.specs.Instance.{leaf_row, log_batch, log_functions, log_params, log_shape, present, root_cap}
-use Rattle.tlog_entries.specs.declared.tree.Node.{Node, TheVariants.Absent, TheVariants.Hash}
+use Rattle.tlog_entries.specs.declared.tree.Node.{Node}
+use Rattle.tlog_entries.specs.declared.tree.Node.TheVariants.{Absent, Hash}
 
 -- the leaf hashes of entries, as a matrix of one column
 abbrev pub entries_batch : HashFunction → List (List ℕ) → Batch Node

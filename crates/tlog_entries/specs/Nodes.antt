@@ -1,7 +1,8 @@
 -- The nodes of a log's tree (RFC 9162, 2.1.1), where a slot of a layer without a node is absent.
 use Rattle.std.specs.Prelude.{List, [], ◌∷◌, fold}
 use Rattle.tlog.specs.Rfc9162.{Hash as HashFunction, node_hash}
-use Rattle.tlog_entries.specs.declared.tree.Node.{Node, TheVariants.Absent, TheVariants.Hash}
+use Rattle.tlog_entries.specs.declared.tree.Node.{Node}
+use Rattle.tlog_entries.specs.declared.tree.Node.TheVariants.{Absent, Hash}
 
 -- the parent of two nodes: the hash of both, or the only child
 abbrev pub parent : HashFunction → Node → Node → Node

@@ -1,7 +1,10 @@
 //! What an accepted proof of several entries shows of them, or else a collision of the hash function.
 ghost use Rattle.std.specs.Prelude.{◌≡◌, ◌↔◌, ◌<◌, ℕ, [], IfOk, IfSome, IsNone, length, slice_index, slice_index_or};
-ghost use Rattle.tlog.specs.{Collisions.IsCollision, Collisions.entries_of, Fixed.RootFixesLeaf};
-ghost use Rattle.tlog_entries.specs.{Fixed.RootFixesLeaves, Inner.Paths.siblings_of, Instance.present as present_in};
+ghost use Rattle.tlog.specs.Collisions.{IsCollision, entries_of};
+ghost use Rattle.tlog.specs.Fixed.{RootFixesLeaf};
+ghost use Rattle.tlog_entries.specs.Fixed.{RootFixesLeaves};
+ghost use Rattle.tlog_entries.specs.Inner.Paths.{siblings_of};
+ghost use Rattle.tlog_entries.specs.Instance.{present as present_in};
 
 use crate::error::EntriesError;
 use crate::opening::opening_of;

@@ -1,6 +1,7 @@
 //! Laws of the definitions, each as the contract of a function that does nothing.
 ghost use Rattle.std.specs.Prelude.{◌≡◌, ◌≤◌, ◌↔◌, ℕ, List, None};
-ghost use Rattle.tlog.specs.{Verdicts.size_limit, Rfc9162.Hash};
+ghost use Rattle.tlog.specs.Verdicts.{size_limit};
+ghost use Rattle.tlog.specs.Rfc9162.{Hash};
 ghost use Rattle.tlog_entries.specs.Entries.{AreIncluded, entries_refusal};
 ghost use Rattle.tlog_entries.specs.Laws.{CapIsMth, NodesAreMth, OpeningIsInclusion, QueryIsInclusion};
 ghost use Rattle.tlog_entries.specs.Laws.{ProofIsSmallest, RestoredArePaths, SiblingsArePath};

@@ -1,16 +1,23 @@
 //! The digests of a proof of several entries, and the pruned opening of a log's tree that they give.
 ghost use Rattle.std.specs.Prelude.{◌≡◌, ℕ, List, [], length, slice_index_or, ◌+◌, ◌*◌, ◌^◌, ◌<◌, ◌≤◌, ◌++◌, All, IfOk};
 ghost use Rattle.std.specs.{Prelude.filter, Prelude.map, Prelude.not, Prelude.IfSome, Prelude.MatchResult};
-ghost use Rattle.std.specs.{Prelude.None, Prelude.Some, Result.result_err};
-ghost use Rattle.p3_merkle_core.specs.{Geometry.levels, Inner.Agreement.IsAscending, Pruning.boundary};
+ghost use Rattle.std.specs.Prelude.{None, Some};
+ghost use Rattle.std.specs.Result.{result_err};
+ghost use Rattle.p3_merkle_core.specs.Geometry.{levels};
+ghost use Rattle.p3_merkle_core.specs.Inner.Agreement.{IsAscending};
+ghost use Rattle.p3_merkle_core.specs.Pruning.{boundary};
 ghost use Rattle.p3_merkle_core.specs.Views.{pruned_made};
-ghost use Rattle.p3_support.specs.{Answers.AnswersUnless, Lists.is_among, Shown.row_sets};
-ghost use Rattle.tlog.specs.{Rfc9162.Hash, Verdicts.size_limit};
+ghost use Rattle.p3_support.specs.Answers.{AnswersUnless};
+ghost use Rattle.p3_support.specs.Lists.{is_among};
+ghost use Rattle.p3_support.specs.Shown.{row_sets};
+ghost use Rattle.tlog.specs.Rfc9162.{Hash};
+ghost use Rattle.tlog.specs.Verdicts.{size_limit};
 ghost use Rattle.tlog_tree.specs.Trees.{all_there, leaves_root, values_at};
 ghost use Rattle.tlog_entries.specs.Entries.{AreIncluded, digests_refusal, entries_opening, form_refusal};
 ghost use Rattle.tlog_entries.specs.Entries.{indices_refusal, is_node as is_node_by, proof_nodes};
 ghost use Rattle.tlog_entries.specs.Entries.{with_padding as with_padding_of};
-ghost use Rattle.tlog_entries.specs.{Inner.Siblings.sibling, Instance.leaf_row, Instance.log_shape};
+ghost use Rattle.tlog_entries.specs.Inner.Siblings.{sibling};
+ghost use Rattle.tlog_entries.specs.Instance.{leaf_row, log_shape};
 ghost use Rattle.tlog_entries.specs.declared.error.EntriesError.TheVariants.{OutOfMemory};
 
 use crate::error::EntriesError;

@@ -3,8 +3,9 @@ ghost use Rattle.std.specs.Prelude.{◌≡◌, ℕ, ◌<◌, ◌∷◌, [], map,
 ghost use Rattle.std.proofs.Common.{rules};
 ghost use Rattle.p3_merkle_mmcs.specs.Schemes.{params_of};
 ghost use Rattle.p3_support.specs.Lists.{lane_of};
-ghost use Rattle.tlog_entries.specs.{Instance.log_dimensions, Instance.log_params, Instance.log_shape, Nodes.last_word};
-ghost use Rattle.tlog_entries.specs.{Nodes.parent_digest, Nodes.parent, declared.tree.Node.TheVariants.Absent};
+ghost use Rattle.tlog_entries.specs.Instance.{log_dimensions, log_params, log_shape};
+ghost use Rattle.tlog_entries.specs.Nodes.{last_word, parent_digest, parent};
+ghost use Rattle.tlog_entries.specs.declared.tree.Node.TheVariants.{Absent};
 
 use p3_merkle_mmcs::mmcs::MerkleTreeMmcs;
 use p3_support::compress::PseudoCompressionFunction;

@@ -1,11 +1,13 @@
 //! The verifier of several entries by one proof.
 ghost use Rattle.std.specs.{Prelude.◌≡◌, Prelude.◌≤◌, Prelude.length, Prelude.IfSome, Prelude.IsOk};
-ghost use Rattle.std.specs.{Prelude.None, Prelude.Some, Result.result_err};
+ghost use Rattle.std.specs.Prelude.{None, Some};
+ghost use Rattle.std.specs.Result.{result_err};
 ghost use Rattle.sha2.specs.Sha256.{sha256};
 ghost use Rattle.p3_support.specs.Answers.{AnswersUnless};
 ghost use Rattle.tlog.specs.Verdicts.{size_limit};
 ghost use Rattle.tlog_entries.specs.Entries.{AreIncluded, entries_refusal, indices_refusal};
-ghost use Rattle.tlog_entries.specs.{Inner.Meanings.IsMeaning, declared.error.EntriesError.TheVariants.OutOfMemory};
+ghost use Rattle.tlog_entries.specs.Inner.Meanings.{IsMeaning};
+ghost use Rattle.tlog_entries.specs.declared.error.EntriesError.TheVariants.{OutOfMemory};
 
 use crate::error::EntriesError;
 use crate::opening::opening_of;

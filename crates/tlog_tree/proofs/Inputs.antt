@@ -1,8 +1,10 @@
 -- The hashes of inputs of one length, which lie one after another, are the parents of a layer.
 use Rattle.std.proofs.Common.{◌≡◌, ℕ, zero, suc, ◌+◌, ◌-◌, ◌*◌, ◌/◌, ◌<◌, List, [], ◌∷◌, ◌++◌, length, map, take, drop}
 use Rattle.std.proofs.Common.{get_or, refl, sym, ap, ◌∙◌, arith, append_assoc, length-append, ◌%◌}
-use Rattle.std.proofs.Math.{Nat.add-mul, Nat.one-mul, Seq.take-append_seam, Seq.drop-append-add}
-use Rattle.std.proofs.lemmas.List.{append-nil, drop_more, get_or-map, length-map, FromFn.fill_by_all}
+use Rattle.std.proofs.Math.Nat.{add-mul, one-mul}
+use Rattle.std.proofs.Math.Seq.{take-append_seam, drop-append-add}
+use Rattle.std.proofs.lemmas.List.{append-nil, drop_more, get_or-map, length-map}
+use Rattle.std.proofs.lemmas.List.FromFn.{fill_by_all}
 use Rattle.std.proofs.lemmas.Simd.{map-map}
 use Rattle.std.specs.List.{flat_map, range_with_len}
 use Rattle.tlog.specs.Rfc9162.{Hash}

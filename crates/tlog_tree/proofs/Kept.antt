@@ -2,15 +2,20 @@
 use Rattle.std.proofs.Common.{◌≡◌, ℕ, suc, ◌+◌, ◌-◌, ◌*◌, ◌/◌, ◌^◌, ◌<◌, ◌≤◌, refl, sym, ap, ◌∙◌, arith, inl, inr, List}
 use Rattle.std.proofs.Common.{[], ◌∷◌, ◌++◌, length, map, take, drop, get_or, length-append, length-drop, subst}
 use Rattle.std.proofs.Math.Nat.{div-add-mod', div-mul-le_self, mod-lt, mul-le-mul_right, pow-succ'}
-use Rattle.std.proofs.lemmas.{Nat.pow_pos, Bool.Decides.eqb_tells, Bool.Decides.leb_tells, Bool.Decides.nat_tests}
+use Rattle.std.proofs.lemmas.Nat.{pow_pos}
+use Rattle.std.proofs.lemmas.Bool.Decides.{eqb_tells, leb_tells, nat_tests}
 use Rattle.std.proofs.lemmas.List.{drop-append-le, drop_all, drop_more, take_all, get_or-append_right, length-take-le}
-use Rattle.std.proofs.lemmas.List.{take-append-le, Elements.All-map, Elements.All-weaker}
+use Rattle.std.proofs.lemmas.List.{take-append-le}
+use Rattle.std.proofs.lemmas.List.Elements.{All-map, All-weaker}
 use Rattle.std.specs.Prelude.{Bool, true, false, nat_le, nat_lt, ◌==◌, ◌⊎◌, Some, None}
 use Rattle.std.specs.List.{All}
 use Rattle.tlog.specs.Rfc9162.{Hash, mth_within}
-use Rattle.tlog_tree.specs.{Builders.indexed_of, Inner.Layers.parents_of, Inner.Layers.root_of_rest, Wanted.HasValue}
+use Rattle.tlog_tree.specs.Builders.{indexed_of}
+use Rattle.tlog_tree.specs.Inner.Layers.{parents_of, root_of_rest}
+use Rattle.tlog_tree.specs.Wanted.{HasValue}
 use Rattle.tlog_tree.specs.Inner.Wanted.{is_new, kept_in, updated, with_value}
-use Rattle.tlog_tree.specs.{Trees.leaves_root, Trees.node_at, Trees.value_at, declared.wanted.WantedNode.WantedNode}
+use Rattle.tlog_tree.specs.Trees.{leaves_root, node_at, value_at}
+use Rattle.tlog_tree.specs.declared.wanted.WantedNode.{WantedNode}
 use Rattle.tlog_tree.proofs.Whole.{length-parents, parents_parts, root_of_parents}
 
 root_of_one : (hash : Hash) (node : List ℕ) (rest : List (List ℕ)) → leaves_root hash (take 1 (node ∷ rest)) ≡ node

@@ -1,11 +1,13 @@
 -- Entries that are hashed together with others.
 use Rattle.std.proofs.Common.{◌≡◌, ℕ, suc, ◌+◌, ◌*◌, ◌<◌, ◌≤◌, List, [], ◌∷◌, ◌++◌, All, length, map, get_or, set, take}
 use Rattle.std.proofs.Common.{sym, ap, ◌∙◌, arith, refl, subst, inl, inr}
-use Rattle.std.proofs.lemmas.{Bool.cases_eq, List.ext_get_or, List.get_or-map}
+use Rattle.std.proofs.lemmas.Bool.{cases_eq}
+use Rattle.std.proofs.lemmas.List.{ext_get_or, get_or-map}
 use Rattle.std.proofs.lemmas.List.{get_or-set_other, get_or-set_same, get_or-take, length-map, length-take-le}
 use Rattle.std.proofs.lemmas.List.FromFn.{get_or-map-range_with_len, length-map-range_with_len, map-range_with_len_more}
 use Rattle.std.proofs.lemmas.List.Sorted.{All-permutation, Contains-permutation}
-use Rattle.std.specs.List.{flat_map, range_with_len, Sorted.IsPermutation}
+use Rattle.std.specs.List.{flat_map, range_with_len}
+use Rattle.std.specs.List.Sorted.{IsPermutation}
 use Rattle.sha2.specs.Sha256.{padded_message, sha256}
 use Rattle.tlog.specs.Rfc9162.{leaf_hash}
 use Rattle.p3_hashes.proofs.Padding.{length-padded_message}

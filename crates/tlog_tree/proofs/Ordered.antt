@@ -1,18 +1,23 @@
 -- Wanted nodes in the order of their ends, and in that of the call.
 use Rattle.std.proofs.Common.{◌≡◌, ℕ, suc, ◌+◌, ◌-◌, ◌*◌, ◌^◌, ◌<◌, ◌≤◌, refl, sym, ap, ◌∙◌, arith, subst, inl, inr}
 use Rattle.std.proofs.Common.{leb, leb-true, leb-false, List, [], ◌∷◌, ◌++◌, length, length-drop, map, take, drop}
-use Rattle.std.proofs.{Common.get_or, Common.set, Common.All, lemmas.Bool.cases_eq}
+use Rattle.std.proofs.Common.{get_or, set, All}
+use Rattle.std.proofs.lemmas.Bool.{cases_eq}
 use Rattle.std.proofs.lemmas.List.{ext_get_or, get_or-drop, get_or-map, get_or-set_other, get_or-set_same, get_or-take}
 use Rattle.std.proofs.lemmas.List.{get_or_default, length-map, length-take-le, map-append, take-append-drop}
-use Rattle.std.proofs.lemmas.List.{Elements.All-map, FromFn.get_or-map-range_with_len, FromFn.length-map-range_with_len}
+use Rattle.std.proofs.lemmas.List.Elements.{All-map}
+use Rattle.std.proofs.lemmas.List.FromFn.{get_or-map-range_with_len, length-map-range_with_len}
 use Rattle.std.proofs.lemmas.List.Sorted.{All-permutation, Contains-permutation, length_permutation}
 use Rattle.std.specs.Prelude.{Bool, true, false, None, Option}
 use Rattle.std.specs.List.Sorted.{IsNonDecreasingBy, IsPartitionPoint, IsPermutation}
 use borrow.Rule.Slice.PartMut.{mid_of, put_mid}
-use Rattle.tlog.specs.{Rfc9162.Hash, Verdicts.size_limit}
-use Rattle.tlog_tree.specs.{Builders.indexed, Builders.indexed_of, Wanted.end_of}
+use Rattle.tlog.specs.Rfc9162.{Hash}
+use Rattle.tlog.specs.Verdicts.{size_limit}
+use Rattle.tlog_tree.specs.Builders.{indexed, indexed_of}
+use Rattle.tlog_tree.specs.Wanted.{end_of}
 use Rattle.tlog_tree.specs.Inner.Wanted.{updated, with_value}
-use Rattle.tlog_tree.specs.{Trees.node_at, Trees.value_at, Trees.values_at, declared.wanted.WantedNode.WantedNode}
+use Rattle.tlog_tree.specs.Trees.{node_at, value_at, values_at}
+use Rattle.tlog_tree.specs.declared.wanted.WantedNode.{WantedNode}
 use Rattle.tlog_tree.proofs.Kept.{at_leaves, new_tells}
 
 -- ---- a part of a list

@@ -1,11 +1,13 @@
 -- The root of the roots of parts is that of all their leaf hashes.
 use Rattle.std.proofs.Common.{◌≡◌, ◌<◌, ◌+◌, ◌^◌, ◌∙◌, ℕ, zero, suc, List, [], ◌∷◌, ◌++◌, ap, arith, length, map, refl}
 use Rattle.std.proofs.Common.{subst, sym, append-nil, length-append}
-use Rattle.std.proofs.{lemmas.Nat.pow_pos, Math.Nat.pow-succ'}
+use Rattle.std.proofs.lemmas.Nat.{pow_pos}
+use Rattle.std.proofs.Math.Nat.{pow-succ'}
 use Rattle.std.specs.List.{flat_map}
 use Rattle.tlog.specs.Rfc9162.{Hash, mth_within, node_hash}
 use Rattle.tlog.proofs.Layers.{above, itself, length-above, mth_above}
-use Rattle.tlog_tree.specs.{Parts.HaveSize, Parts.RootIsOfParts, Trees.leaves_root}
+use Rattle.tlog_tree.specs.Parts.{HaveSize, RootIsOfParts}
+use Rattle.tlog_tree.specs.Trees.{leaves_root}
 
 abbrev Parts : Type 0
 Parts = List (List (List ℕ))

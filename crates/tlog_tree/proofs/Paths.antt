@@ -1,11 +1,16 @@
 -- The values of nodes are those of the layers, and proofs go from layer to layer.
 use Rattle.std.proofs.Common.{◌≡◌, ℕ, zero, suc, ◌+◌, ◌-◌, ◌*◌, ◌/◌, ◌%◌, ◌^◌, ◌<◌, ◌≤◌, refl, sym, ap, ◌∙◌, arith, inl}
 use Rattle.std.proofs.Common.{inr, List, [], ◌∷◌, ◌++◌, length, take, drop, get_or, append_assoc, length-drop}
-use Rattle.std.proofs.{Common.length-take, Math.Nat.pow-succ', lemmas.Nat.pow_pos}
-use Rattle.std.proofs.lemmas.{Bool.cases_eq, Bool.Decides.leb_tells, Bool.Decides.nat_tests, List.map-append}
+use Rattle.std.proofs.Common.{length-take}
+use Rattle.std.proofs.Math.Nat.{pow-succ'}
+use Rattle.std.proofs.lemmas.Nat.{pow_pos}
+use Rattle.std.proofs.lemmas.Bool.{cases_eq}
+use Rattle.std.proofs.lemmas.Bool.Decides.{leb_tells, nat_tests}
+use Rattle.std.proofs.lemmas.List.{map-append}
 use Rattle.std.specs.Prelude.{true, false, nat_lt, Some, ◌⊎◌}
 use Rattle.tlog.specs.Rfc9162.{Hash, node_hash, path, path_within, subproof}
-use Rattle.tlog.proofs.{Honest.sub-even, Honest.sub-odd, Honest.sub-one, Climbs.path_above}
+use Rattle.tlog.proofs.Honest.{sub-even, sub-odd, sub-one}
+use Rattle.tlog.proofs.Climbs.{path_above}
 use Rattle.tlog.proofs.Layers.{above, above_parts, itself, length-above, mth_above, only_at, pair_at, sibling}
 use Rattle.tlog_tree.specs.Inner.Layers.{above_of, layer_of}
 use Rattle.tlog_tree.specs.Trees.{all_there, leaves_root, value_at, values_at}

@@ -1,13 +1,16 @@
 -- The whole nodes of a log: step by step from the left, and from layer to layer.
 use Rattle.std.proofs.Common.{◌≡◌, ℕ, zero, suc, ◌+◌, ◌-◌, ◌*◌, ◌/◌, ◌%◌, ◌^◌, ◌<◌, ◌≤◌, refl, sym, ap, ◌∙◌, arith}
 use Rattle.std.proofs.Common.{List, [], ◌∷◌, ◌++◌, length, take, drop, length-append, length-drop, inl, inr}
-use Rattle.std.proofs.Math.{Nat.div-div-eq-div-mul, Nat.div-mul-le_self, Nat.pow-succ', Seq.take-add}
+use Rattle.std.proofs.Math.Nat.{div-div-eq-div-mul, div-mul-le_self, pow-succ'}
+use Rattle.std.proofs.Math.Seq.{take-add}
 use Rattle.std.proofs.lemmas.List.{drop-append-le, drop-drop, drop_all, drop_at, length-take-le, take_all, take_at}
-use Rattle.std.proofs.lemmas.{Bool.Decides.leb_tells, Nat.ones_le_self}
+use Rattle.std.proofs.lemmas.Bool.Decides.{leb_tells}
+use Rattle.std.proofs.lemmas.Nat.{ones_le_self}
 use Rattle.std.specs.Prelude.{Some, None, count_ones}
 use lib.Count.{ones_step}
 use Rattle.tlog.specs.Rfc9162.{Hash, mth_within, node_hash, split}
-use Rattle.tlog.proofs.{Honest.root_more, Layers.above, Layers.itself, Layers.mth_above}
+use Rattle.tlog.proofs.Honest.{root_more}
+use Rattle.tlog.proofs.Layers.{above, itself, mth_above}
 use Rattle.tlog.proofs.Splits.{split_by_power, split_is, split_of_half}
 use Rattle.tlog_tree.specs.Inner.Layers.{joined, parents_of, root_of_rest}
 use Rattle.tlog_tree.specs.Trees.{leaves_root, whole_nodes, whole_within}

@@ -1,9 +1,12 @@
 -- What a builder stands for.
 use Rattle.std.specs.Prelude.{ℕ, List, length, map, slice_index_or}
-use Rattle.std.specs.List.{All, range_with_len, Sorted.IsNonDecreasingBy, Sorted.IsPermutation}
+use Rattle.std.specs.List.{All, range_with_len}
+use Rattle.std.specs.List.Sorted.{IsNonDecreasingBy, IsPermutation}
 use Rattle.sha2.specs.Sha256.{sha256}
-use Rattle.tlog_tree.specs.{Frontiers.IsFrontierOf, Wanted.HasValue, Wanted.end_of}
-use Rattle.tlog_tree.specs.declared.{builder.TreeBuilder.TreeBuilder, wanted.WantedNode.WantedNode}
+use Rattle.tlog_tree.specs.Frontiers.{IsFrontierOf}
+use Rattle.tlog_tree.specs.Wanted.{HasValue, end_of}
+use Rattle.tlog_tree.specs.declared.builder.TreeBuilder.{TreeBuilder}
+use Rattle.tlog_tree.specs.declared.wanted.WantedNode.{WantedNode}
 
 -- the layer and the slot of a wanted node
 abbrev pub place_of : WantedNode → ℕ × ℕ

@@ -1,7 +1,9 @@
 -- When a wanted node comes, and its value.
 use Rattle.std.specs.Prelude.{◌≡◌, ℕ, ◌+◌, ◌*◌, ◌^◌, ◌≤◌, List, length, min}
-use Rattle.tlog.specs.{Rfc9162.Hash, Verdicts.size_limit}
-use Rattle.tlog_tree.specs.{Trees.node_at, declared.wanted.WantedNode.WantedNode}
+use Rattle.tlog.specs.Rfc9162.{Hash}
+use Rattle.tlog.specs.Verdicts.{size_limit}
+use Rattle.tlog_tree.specs.Trees.{node_at}
+use Rattle.tlog_tree.specs.declared.wanted.WantedNode.{WantedNode}
 
 -- how many leaves there are when the last one below it comes, or one more than a log has at most
 abbrev pub end_of : WantedNode → ℕ

@@ -5,7 +5,9 @@ ghost use Rattle.std.specs.List.Sorted.{IsNonDecreasingBy};
 ghost use Rattle.sha2.specs.Sha256.{sha256};
 ghost use Rattle.tlog.specs.Verdicts.{size_limit};
 ghost use Rattle.tlog_tree.specs.Inner.Layers.{joined, parents_of, root_of_rest};
-ghost use Rattle.tlog_tree.specs.{Wanted.end_of, Inner.Wanted.updated, Trees.leaves_root, Trees.whole_nodes};
+ghost use Rattle.tlog_tree.specs.Wanted.{end_of};
+ghost use Rattle.tlog_tree.specs.Inner.Wanted.{updated};
+ghost use Rattle.tlog_tree.specs.Trees.{leaves_root, whole_nodes};
 
 use crate::error::TreeError;
 use crate::wanted::{WantedNode, keep};

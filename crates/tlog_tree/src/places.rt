@@ -1,7 +1,9 @@
 //! Which nodes the digests of honest proofs are.
 ghost use Rattle.std.specs.Prelude.{◌≡◌, ℕ, ◌<◌, ◌≤◌, ◌+◌, ◌^◌, ◌++◌, List, IfOk, OnOk, length};
-ghost use Rattle.tlog.specs.{Rfc9162.Hash, Rfc9162.consistency_proof, Rfc9162.path, Verdicts.size_limit};
-ghost use Rattle.tlog_tree.specs.{Inner.Layers.layer_of, Trees.all_there, Trees.values_at};
+ghost use Rattle.tlog.specs.Rfc9162.{Hash, consistency_proof, path};
+ghost use Rattle.tlog.specs.Verdicts.{size_limit};
+ghost use Rattle.tlog_tree.specs.Inner.Layers.{layer_of};
+ghost use Rattle.tlog_tree.specs.Trees.{all_there, values_at};
 
 use std::alloc::{AllocError, Global};
 

@@ -1,7 +1,8 @@
 //! Nodes that are wanted, and what becomes of them as a log grows.
 ghost use Rattle.std.specs.Prelude.{◌≡◌, ◌≤◌, ◌/◌, ◌^◌, map};
 ghost use Rattle.tlog.specs.Verdicts.{size_limit};
-ghost use Rattle.tlog_tree.specs.{Wanted.end_of, Inner.Wanted.kept_in};
+ghost use Rattle.tlog_tree.specs.Wanted.{end_of};
+ghost use Rattle.tlog_tree.specs.Inner.Wanted.{kept_in};
 
 use tlog::SIZE_LIMIT;
 

@@ -1,13 +1,18 @@
 -- A file whose bytes come piece by piece: entries that have ended, and one that is open.
 use Rattle.std.specs.Prelude.{◌≡◌, ◌⊎◌, ℕ, ◌-◌, ◌^◌, ◌<◌, ◌≤◌, ◌==◌, min, false, List, [], ◌∷◌, ◌++◌, length, map, take}
-use Rattle.std.specs.{Prelude.All, Prelude.Option, Prelude.Some, Io.KnownBytes.Consumes}
-use Rattle.sha2.specs.{Hashers.Holds256, Sha256.sha256}
+use Rattle.std.specs.Prelude.{All, Option, Some}
+use Rattle.std.specs.Io.KnownBytes.{Consumes}
+use Rattle.sha2.specs.Hashers.{Holds256}
+use Rattle.sha2.specs.Sha256.{sha256}
 use Rattle.tlog.specs.Rfc9162.{leaf_hash}
-use Rattle.tlog_tree.specs.{Builders.IsBuilderOf, declared.builder.TreeBuilder.TreeBuilder}
+use Rattle.tlog_tree.specs.Builders.{IsBuilderOf}
+use Rattle.tlog_tree.specs.declared.builder.TreeBuilder.{TreeBuilder}
 use Rattle.log_files.specs.Entries.{entries_in, is_refused, rest_of, whole_entries, IsCut}
-use Rattle.log_files.specs.{Inner.Wanted.HasPlaces, Inner.Wanted.HoldsWanted, declared.cut.Cut.Cut}
+use Rattle.log_files.specs.Inner.Wanted.{HasPlaces, HoldsWanted}
+use Rattle.log_files.specs.declared.cut.Cut.{Cut}
 use Rattle.log_files.specs.declared.{cut.Cut.TheVariants.Lines, cut.Cut.TheVariants.Blocks}
-use Rattle.log_files.specs.declared.splitter.{OpenEntry.OpenEntry, Splitter.Splitter}
+use Rattle.log_files.specs.declared.splitter.OpenEntry.{OpenEntry}
+use Rattle.log_files.specs.declared.splitter.Splitter.{Splitter}
 use Rattle.log_files.specs.declared.wanted.WantedEntries.{WantedEntries}
 
 -- what follows an entry that has ended

@@ -1,7 +1,9 @@
 -- Entries that are wanted, as far as they have come.
 use Rattle.std.specs.Prelude.{◌≡◌, ◌⊎◌, ℕ, ◌<◌, ◌≤◌, ◌==◌, Bool, false, if◌then◌else◌, List, [], ◌∷◌, length, map, All}
-use Rattle.std.specs.{Prelude.slice_index, List.range_with_len, List.Contains}
-use Rattle.log_files.specs.{Entries.entry_at, declared.wanted.WantedEntries.WantedEntries}
+use Rattle.std.specs.Prelude.{slice_index}
+use Rattle.std.specs.List.{range_with_len, Contains}
+use Rattle.log_files.specs.Entries.{entry_at}
+use Rattle.log_files.specs.declared.wanted.WantedEntries.{WantedEntries}
 
 -- an index at its place among the wanted ones
 abbrev pub place_of : List ℕ → ℕ → ℕ × ℕ

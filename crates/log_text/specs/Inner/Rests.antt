@@ -1,6 +1,8 @@
 -- What is left of a text.
-use Rattle.std.specs.{Prelude.List, Prelude.ℕ, Prelude.Result, Result.result_map_both}
-use Rattle.log_text.specs.{Reading.Reads, declared.error.Stop.Stop}
+use Rattle.std.specs.Prelude.{List, ℕ, Result}
+use Rattle.std.specs.Result.{result_map_both}
+use Rattle.log_text.specs.Reading.{Reads}
+use Rattle.log_text.specs.declared.error.Stop.{Stop}
 
 -- what is left after what was read
 abbrev pub rest_of : {V : Type 0} → Reads V → Result (List ℕ) Stop

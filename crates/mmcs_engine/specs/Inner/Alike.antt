@@ -1,9 +1,13 @@
 -- Words that stand for numbers, what a scheme of words computes in numbers, and which arities are taken.
 use Rattle.std.specs.Prelude.{◌≡◌, ℕ, ◌==◌, ◌||◌, Bool, List, [], ◌++◌, flat_map, map}
-use Rattle.p3_merkle_core.specs.{Nodes.shape, Nodes.Batch, Nodes.Functions, Nodes.Matrix, Openings.honest_rows}
-use Rattle.p3_merkle_core.specs.{Openings.node_in, Pruning.boundary_by, declared.cap.CapRule.CapRule}
-use Rattle.mmcs_engine.specs.declared.command.{CapChoice.CapChoice, HashName.HashName}
-use Rattle.mmcs_engine.specs.{Text.digest_lines, Text.query_lines, Args.max_word}
+use Rattle.p3_merkle_core.specs.Nodes.{shape, Batch, Functions, Matrix}
+use Rattle.p3_merkle_core.specs.Openings.{honest_rows, node_in}
+use Rattle.p3_merkle_core.specs.Pruning.{boundary_by}
+use Rattle.p3_merkle_core.specs.declared.cap.CapRule.{CapRule}
+use Rattle.mmcs_engine.specs.declared.command.CapChoice.{CapChoice}
+use Rattle.mmcs_engine.specs.declared.command.HashName.{HashName}
+use Rattle.mmcs_engine.specs.Text.{digest_lines, query_lines}
+use Rattle.mmcs_engine.specs.Args.{max_word}
 use Rattle.mmcs_engine.specs.Program.{functions_of_hash, hex_digits}
 
 -- whether a number is 2, 4 or 8

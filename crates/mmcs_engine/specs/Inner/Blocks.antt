@@ -1,6 +1,7 @@
 -- The rows of a matrix so far.
 use Rattle.std.specs.Prelude.{◌≡◌, ℕ, ◌<◌, false, List, [], length, flat_map, All}
-use Rattle.mmcs_engine.specs.{Numbers.IsNumberBelow, Input.is_blank, Input.numerals_of, Input.numbers_of}
+use Rattle.mmcs_engine.specs.Numbers.{IsNumberBelow}
+use Rattle.mmcs_engine.specs.Input.{is_blank, numerals_of, numbers_of}
 
 -- the values of lines that are rows of numbers below the limit, of one width, which is 0 exactly of no lines
 pub record IsBlock (limit : ℕ) (lines : List (List ℕ)) (values : List ℕ) (width : ℕ) : Type 0 where

@@ -1,9 +1,11 @@
 -- What is read and stored of an input.
 use Rattle.std.specs.Prelude.{◌≡◌, ℕ, List, [], Option, None, Some}
 use Rattle.std.specs.Str.Parse.{digits_value}
-use Rattle.p3_support.specs.{declared.matrix.RowMajorMatrix.RowMajorMatrix, Lists.message}
+use Rattle.p3_support.specs.declared.matrix.RowMajorMatrix.{RowMajorMatrix}
+use Rattle.p3_support.specs.Lists.{message}
 use Rattle.p3_support.specs.RowMajor.{values_of, row_width, row_count}
-use Rattle.p3_merkle_core.specs.{Nodes.Matrix, Nodes.Batch, Views.batch_of}
+use Rattle.p3_merkle_core.specs.Nodes.{Matrix, Batch}
+use Rattle.p3_merkle_core.specs.Views.{batch_of}
 use Rattle.mmcs_engine.specs.Numbers.{IsNumberBelow}
 
 -- the number that was read of some bytes: none of no bytes

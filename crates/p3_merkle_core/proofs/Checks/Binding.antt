@@ -6,10 +6,13 @@ use Rattle.std.proofs.Common.{eq-eqb}
 use Rattle.std.specs.List.{list_any}
 use Rattle.std.proofs.lemmas.Bool.{cases_Bool, cases_eq, or_parts, ne_eqb}
 use Rattle.p3_merkle_core.specs.Geometry.{Shape, exponent, layer_exponent, ancestor, heights, has_rows}
-use Rattle.p3_merkle_core.specs.{Nodes.Functions, Openings.Opening, Checks.IsAccepted}
+use Rattle.p3_merkle_core.specs.Nodes.{Functions}
+use Rattle.p3_merkle_core.specs.Openings.{Opening}
+use Rattle.p3_merkle_core.specs.Checks.{IsAccepted}
 use Rattle.p3_merkle_core.specs.Checks.{inputs_at, shared_inputs, meeting_level, layer_words, layer_rows, params}
 use Rattle.p3_merkle_core.specs.declared.collision.Place.TheVariants.{Leaf, Rows}
-use Rattle.p3_merkle_core.proofs.Shapes.{LeastFacts.least_bound, StepFacts.anc_start}
+use Rattle.p3_merkle_core.proofs.Shapes.LeastFacts.{least_bound}
+use Rattle.p3_merkle_core.proofs.Shapes.StepFacts.{anc_start}
 use Rattle.p3_merkle_core.proofs.Collisions.Extraction.{same_ends, level_lengths}
 use Rattle.p3_merkle_core.proofs.Checks.CheckFacts.{same_words, inputs_with_rows}
 use Rattle.p3_merkle_core.proofs.Lists.ListFacts.{joined, joined_more}

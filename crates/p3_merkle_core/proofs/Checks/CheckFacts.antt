@@ -2,20 +2,27 @@
 -- accepted under its cap.
 use Rattle.std.proofs.Common.{◌≡◌, ℕ, zero, suc, ◌<◌, true, false, List, [], ◌∷◌, ◌++◌, map, refl, ap, sym, ◌∙◌, inl}
 use Rattle.std.proofs.Common.{inr, drop, length, Some, slice_get, get_or, ◌≤◌, arith, All}
-use Rattle.std.proofs.lemmas.{Grind.common_steps, Bool.cases_Bool, Option.slice_get-get_or, List.append_assoc}
+use Rattle.std.proofs.lemmas.Grind.{common_steps}
+use Rattle.std.proofs.lemmas.Bool.{cases_Bool}
+use Rattle.std.proofs.lemmas.Option.{slice_get-get_or}
+use Rattle.std.proofs.lemmas.List.{append_assoc}
 use Rattle.std.proofs.lemmas.List.FromFn.{length-map-range_with_len, get_or-map-range_with_len}
 use Rattle.p3_merkle_core.specs.Geometry.{Shape, IsLawful, ancestor, has_rows, heights, widths, raw_len, layer_len}
-use Rattle.p3_merkle_core.specs.{Geometry.padded_len, Geometry.halved_index, Nodes.Functions}
+use Rattle.p3_merkle_core.specs.Geometry.{padded_len, halved_index}
+use Rattle.p3_merkle_core.specs.Nodes.{Functions}
 use Rattle.p3_merkle_core.specs.Nodes.{pair, padded, Batch, Matrix, shape, node, layer, dimensions_of, HasFullRows}
 use Rattle.p3_merkle_core.specs.Openings.{Opening, honest}
 use Rattle.p3_merkle_core.specs.Checks.{Input, IsAccepted, check_digest, group_at, input_digest, inputs, inputs_at}
 use Rattle.p3_merkle_core.specs.Checks.{last_input, last_of, layer_words, path_digest, siblings_below, params}
 use Rattle.p3_merkle_core.specs.Checks.{leaf_input, words_at, digests_at, Content, Words, Digests}
-use Rattle.p3_merkle_core.specs.declared.collision.Place.{Place, TheVariants.Group, TheVariants.Rows, TheVariants.Pair}
+use Rattle.p3_merkle_core.specs.declared.collision.Place.{Place}
+use Rattle.p3_merkle_core.specs.declared.collision.Place.TheVariants.{Group, Rows, Pair}
 use Rattle.p3_support.specs.Batches.{greatest, heights_of, widths_of}
-use Rattle.p3_merkle_core.proofs.{Lists.ListFacts.joined_more, Checks.Completeness.reached_next}
+use Rattle.p3_merkle_core.proofs.Lists.ListFacts.{joined_more}
+use Rattle.p3_merkle_core.proofs.Checks.Completeness.{reached_next}
 use Rattle.p3_merkle_core.proofs.Checks.Completeness.{reached_leaf, IsHonest, honest_reaches, honest_count}
-use Rattle.p3_merkle_core.proofs.Shapes.{LadderFacts.row_below, RawFacts.anc_below}
+use Rattle.p3_merkle_core.proofs.Shapes.LadderFacts.{row_below}
+use Rattle.p3_merkle_core.proofs.Shapes.RawFacts.{anc_below}
 
 -- ---- what inputs are made of
 

@@ -1,7 +1,8 @@
 -- A check of an honest opening reaches the ancestors of its index.
 use Rattle.std.proofs.Common.{◌≡◌, ℕ, zero, suc, ◌<◌, ◌≤◌, true, eqb, nat_lt, List, [], ◌∷◌, map, refl, ap, sym, ◌∙◌}
 use Rattle.std.proofs.Common.{arith, inl, inr, length, filter, flat_map, zip, All}
-use Rattle.std.proofs.lemmas.{Grind.common_steps, Bool.cond-true, Bool.cases_Bool, Bool.lt-ltb, Bool.eqb-true}
+use Rattle.std.proofs.lemmas.Grind.{common_steps}
+use Rattle.std.proofs.lemmas.Bool.{cond-true, cases_Bool, lt-ltb, eqb-true}
 use Rattle.std.specs.List.{list_all}
 use Rattle.p3_merkle_core.specs.Geometry.{Shape, IsLawful, exponent, layer_exponent, levels, ancestor, halved_index}
 use Rattle.p3_merkle_core.specs.Geometry.{heights, expected_height, raw_len, has_rows, IsArity}
@@ -10,7 +11,8 @@ use Rattle.p3_merkle_core.specs.Nodes.{row_digest, with_rows, node, dimensions_o
 use Rattle.p3_merkle_core.specs.Openings.{honest, honest_rows, Opening, siblings_by, children_by}
 use Rattle.p3_merkle_core.specs.Checks.{siblings_below, layer_words, group_at, path_digest}
 use Rattle.p3_support.specs.Batches.{greatest, heights_of}
-use Rattle.p3_merkle_core.proofs.Shapes.{LadderFacts.row_is_anc_at, LadderFacts.row_below, RawFacts.anc_below}
+use Rattle.p3_merkle_core.proofs.Shapes.LadderFacts.{row_is_anc_at, row_below}
+use Rattle.p3_merkle_core.proofs.Shapes.RawFacts.{anc_below}
 use Rattle.p3_merkle_core.proofs.Checks.PathFacts.{path_length, path_group}
 
 -- an index below M of a lawful batch, checked up to layer t

@@ -3,16 +3,20 @@
 use Rattle.std.proofs.Common.{◌≡◌, ℕ, zero, suc, ◌-◌, ◌<◌, ◌≤◌, List, [], ◌∷◌, ◌∙◌, arith, inl, inr, length, All}
 use Rattle.std.proofs.Common.{replicate, length-append, eqb, ◌+◌, ◌++◌, eq-eqb}
 use Rattle.std.proofs.lemmas.Grind.{common_steps}
-use Rattle.std.proofs.lemmas.{Bool.cases_Bool, Bool.cond_both, Bool.cases_eq, Bool.ne_eqb, List.length-replicate}
-use Rattle.std.proofs.lemmas.List.{Edits.length-insert, Elements.All-append, Elements.All-cons, Elements.All-nil}
+use Rattle.std.proofs.lemmas.Bool.{cases_Bool, cond_both, cases_eq, ne_eqb}
+use Rattle.std.proofs.lemmas.List.{length-replicate}
+use Rattle.std.proofs.lemmas.List.Edits.{length-insert}
+use Rattle.std.proofs.lemmas.List.Elements.{All-append, All-cons, All-nil}
 use Rattle.p3_merkle_core.specs.Geometry.{Shape, IsArity, is_bridge, layer_exponent, step, position_in_group, has_rows}
-use Rattle.p3_merkle_core.specs.{Nodes.Functions, Nodes.pair, Nodes.padded, Openings.Opening}
+use Rattle.p3_merkle_core.specs.Nodes.{Functions, pair, padded}
+use Rattle.p3_merkle_core.specs.Openings.{Opening}
 use Rattle.p3_merkle_core.specs.Checks.{HasDigests, inputs, inputs_at, group_at, path_digest, siblings_at}
 use Rattle.p3_merkle_core.specs.Checks.{siblings_below, layer_words, IsLastDifference, shared_inputs, meeting_level}
 use Rattle.p3_merkle_core.specs.Checks.{params, leaf_input, words_at, digests_at, Input, IsAtOnePlace, IsLastShared}
 use Rattle.p3_merkle_core.specs.declared.collision.Place.TheVariants.{Group, Rows, Pair}
-use Rattle.p3_merkle_core.proofs.{Shapes.StepFacts.step_above_1, Collisions.Extraction.siblings_full}
-use Rattle.p3_merkle_core.proofs.{Collisions.Extraction.in_group, Lists.ListFacts.joined, Lists.ListFacts.joined_more}
+use Rattle.p3_merkle_core.proofs.Shapes.StepFacts.{step_above_1}
+use Rattle.p3_merkle_core.proofs.Collisions.Extraction.{siblings_full, in_group}
+use Rattle.p3_merkle_core.proofs.Lists.ListFacts.{joined, joined_more}
 
 pub filled_long : {T W : Type 0} (f : Functions T W) (n : ℕ) (ds : List (List W)) → length ds ≤ n →
     length (padded n f.default_digest ds) ≡ n

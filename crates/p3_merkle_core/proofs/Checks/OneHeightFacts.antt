@@ -1,18 +1,24 @@
 -- Trees over matrices of one height: ancestors, siblings, the words of a leaf, and nodes by the leaves below them.
 use Rattle.std.proofs.Common.{◌≡◌, ℕ, zero, suc, ◌+◌, ◌-◌, ◌*◌, ◌/◌, ◌^◌, ◌<◌, ◌≤◌, nat_le, List, [], ◌∷◌, ◌++◌, map}
 use Rattle.std.proofs.Common.{length, zip, refl, ap, sym, ◌∙◌, arith, true}
-use Rattle.std.proofs.lemmas.{Grind.common_steps, Bool.cases_lt, Bool.eq-eqb, Bool.leb-false}
+use Rattle.std.proofs.lemmas.Grind.{common_steps}
+use Rattle.std.proofs.lemmas.Bool.{cases_lt, eq-eqb, leb-false}
 use Rattle.std.proofs.Math.Nat.{mul-le-mul_right, pow-suc, pow-zero, suc-mul}
-use Rattle.std.specs.{Prelude.All, Prelude.◌==◌, List.flat_map, List.range_with_len}
-use Rattle.p3_support.specs.{Batches.heights_of, declared.matrix.Dimensions.Dimensions}
+use Rattle.std.specs.Prelude.{All, ◌==◌}
+use Rattle.std.specs.List.{flat_map, range_with_len}
+use Rattle.p3_support.specs.Batches.{heights_of}
+use Rattle.p3_support.specs.declared.matrix.Dimensions.{Dimensions}
 use Rattle.p3_merkle_core.specs.Geometry.{IsArity, Shape, ancestor, exponent, layer_exponent, leaves_under, levels}
 use Rattle.p3_merkle_core.specs.Nodes.{Batch, Functions, joined_rows, node, shape}
 use Rattle.p3_merkle_core.specs.OneHeight.{HasHeight, levels_of_height, nodes_of_height}
 use Rattle.p3_merkle_core.specs.Checks.{layer_words, siblings_below, words_of_exponent}
-use Rattle.p3_merkle_core.proofs.{Lists.ListFacts.map_shift, Shapes.LeastFacts.below_least}
+use Rattle.p3_merkle_core.proofs.Lists.ListFacts.{map_shift}
+use Rattle.p3_merkle_core.proofs.Shapes.LeastFacts.{below_least}
 use Rattle.p3_merkle_core.proofs.Shapes.OneHeight.{arity_power_pos, greatest_is, leaf_is, node_is, padding_is}
-use Rattle.p3_merkle_core.proofs.Shapes.{OneHeight.step_is_arity, QuotientFacts.ceil_covers, QuotientFacts.ceil_le}
-use Rattle.p3_merkle_core.proofs.Shapes.{SiblingFacts.siblings_next, SiblingFacts.siblings_start, StepFacts.layer_start}
+use Rattle.p3_merkle_core.proofs.Shapes.OneHeight.{step_is_arity}
+use Rattle.p3_merkle_core.proofs.Shapes.QuotientFacts.{ceil_covers, ceil_le}
+use Rattle.p3_merkle_core.proofs.Shapes.SiblingFacts.{siblings_next, siblings_start}
+use Rattle.p3_merkle_core.proofs.Shapes.StepFacts.{layer_start}
 
 -- below its root a tree has layers whose nodes have fewer leaves under them than it has rows
 pub power_below : (n h l : ℕ) → l < levels_of_height n h → n ^ l < h

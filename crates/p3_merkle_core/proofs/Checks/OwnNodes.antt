@@ -2,17 +2,24 @@
 -- opening, in query order.
 use Rattle.std.proofs.Common.{◌≡◌, ℕ, zero, suc, ◌+◌, ◌*◌, ◌<◌, ◌≤◌, Bool, List, [], ◌∷◌, map, refl, ap, ◌∙◌, arith}
 use Rattle.std.proofs.Common.{inl, inr, length, get_or, filter, remove}
-use Rattle.std.proofs.lemmas.{Grind.common_steps, Bool.cases_Bool, List.map-append}
-use Rattle.std.proofs.{lemmas.List.FromFn.get_or-map-range_with_len, Math.Nat.mul-le-mul_left, Math.Nat.mul-suc}
+use Rattle.std.proofs.lemmas.Grind.{common_steps}
+use Rattle.std.proofs.lemmas.Bool.{cases_Bool}
+use Rattle.std.proofs.lemmas.List.{map-append}
+use Rattle.std.proofs.lemmas.List.FromFn.{get_or-map-range_with_len}
+use Rattle.std.proofs.Math.Nat.{mul-le-mul_left, mul-suc}
 use Rattle.std.specs.List.{range_with_len}
 use Rattle.p3_merkle_core.specs.Pruning.{boundary, boundary_at, is_boundary, honest_query, restored_path, IsHonestQuery}
-use Rattle.p3_merkle_core.specs.{Pruning.restored_paths, Pruning.pruned_in_layers, Checks.params, Openings.siblings_by}
+use Rattle.p3_merkle_core.specs.Pruning.{restored_paths, pruned_in_layers}
+use Rattle.p3_merkle_core.specs.Checks.{params}
+use Rattle.p3_merkle_core.specs.Openings.{siblings_by}
 use Rattle.p3_merkle_core.specs.Openings.{node_in, level_siblings, opening_in_layers, opening_of, honest, honest_rows}
 use Rattle.p3_merkle_core.specs.Nodes.{Functions, Batch, shape, node, layer, layers}
 use Rattle.p3_merkle_core.specs.Geometry.{Shape, levels, layer_len, ancestor, position_in_group, step, raw_len}
-use Rattle.p3_merkle_core.proofs.Checks.{Completeness.IsHonest, PathFacts.joined_same, PathFacts.map_same}
+use Rattle.p3_merkle_core.proofs.Checks.Completeness.{IsHonest}
+use Rattle.p3_merkle_core.proofs.Checks.PathFacts.{joined_same, map_same}
 use Rattle.p3_merkle_core.proofs.Shapes.RawFacts.{anc_below, children_fit}
-use Rattle.p3_merkle_core.proofs.{Lists.ListFacts.joined_more, Covered.Restoration.honest_paths}
+use Rattle.p3_merkle_core.proofs.Lists.ListFacts.{joined_more}
+use Rattle.p3_merkle_core.proofs.Covered.Restoration.{honest_paths}
 
 -- a tree's layers have its nodes
 pub own_node_is : {T W : Type 0} (f : Functions T W) (b : Batch T) (l j : ℕ) → l ≤ levels (shape b) →

@@ -1,10 +1,12 @@
 -- Paths made of values of nodes: their length, and the groups that they complete.
 use Rattle.std.proofs.Common.{◌≡◌, ℕ, zero, suc, ◌+◌, ◌-◌, ◌*◌, ◌/◌, ◌<◌, ◌≤◌, List, map, refl, ap, ◌∙◌, arith, length}
-use Rattle.std.proofs.{Common.get_or, Common.remove, Common.length-append, Common.sym, lemmas.Grind.common_steps}
+use Rattle.std.proofs.Common.{get_or, remove, length-append, sym}
+use Rattle.std.proofs.lemmas.Grind.{common_steps}
 use Rattle.std.proofs.lemmas.List.FromFn.{length-map-range_with_len, get_or-map-range_with_len}
 use Rattle.std.specs.List.{range_with_len}
 use Rattle.p3_merkle_core.specs.Geometry.{Shape, step, ancestor, position_in_group, IsArity}
-use Rattle.p3_merkle_core.specs.{Nodes.Functions, Openings.Opening}
+use Rattle.p3_merkle_core.specs.Nodes.{Functions}
+use Rattle.p3_merkle_core.specs.Openings.{Opening}
 use Rattle.p3_merkle_core.specs.Checks.{siblings_below, siblings_at, group_at}
 use Rattle.p3_merkle_core.proofs.Shapes.StepFacts.{anc_next, step_above_1}
 use Rattle.p3_merkle_core.proofs.Lists.ListFacts.{joined_piece, insert-remove, length-remove, joined, joined_more}

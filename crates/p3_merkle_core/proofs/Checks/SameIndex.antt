@@ -2,20 +2,27 @@
 -- to the cap layer: those of the authenticated matrices.
 use Rattle.std.proofs.Common.{◌≡◌, ◌↔◌, ℕ, zero, suc, ◌-◌, ◌<◌, ◌≤◌, List, ◌++◌, refl, ap, sym, ◌∙◌, subst, arith}
 use Rattle.std.proofs.Common.{length, take, drop, insert, replicate, flat_map, eq-eqb, true, eqb, get_or}
-use Rattle.std.proofs.lemmas.{Grind.common_steps, List.take_all, List.length-map, List.Edits.length-insert}
+use Rattle.std.proofs.lemmas.Grind.{common_steps}
+use Rattle.std.proofs.lemmas.List.{take_all, length-map}
+use Rattle.std.proofs.lemmas.List.Edits.{length-insert}
 use Rattle.std.proofs.lemmas.Bool.{eqb-true, leb-true, le-leb}
 use Rattle.p3_merkle_core.specs.Geometry.{Shape, IsArity, step, ancestor, position_in_group, heights, exponent}
 use Rattle.p3_merkle_core.specs.Geometry.{layer_exponent, layer_of, levels, halved_index}
-use Rattle.p3_merkle_core.specs.{Nodes.Functions, Openings.Opening, Checks.IsAccepted, Checks.inputs, Checks.inputs_at}
+use Rattle.p3_merkle_core.specs.Nodes.{Functions}
+use Rattle.p3_merkle_core.specs.Openings.{Opening}
+use Rattle.p3_merkle_core.specs.Checks.{IsAccepted, inputs, inputs_at}
 use Rattle.p3_merkle_core.specs.Checks.{shared_inputs, group_at, path_digest, layer_words, layer_rows, siblings_at}
 use Rattle.p3_merkle_core.specs.Checks.{siblings_below, params, AgreeWhereShared, is_authenticated, opened_row}
 use Rattle.p3_merkle_core.proofs.Checks.CheckFacts.{full_group, group_first, same_group}
-use Rattle.p3_merkle_core.proofs.Checks.{Completeness.reached_leaf, Completeness.reached_next, PathFacts.joined_same}
+use Rattle.p3_merkle_core.proofs.Checks.Completeness.{reached_leaf, reached_next}
+use Rattle.p3_merkle_core.proofs.Checks.PathFacts.{joined_same}
 use Rattle.p3_merkle_core.proofs.Collisions.Extraction.{same_ends, siblings_full, in_group}
 use Rattle.p3_merkle_core.proofs.Checks.Binding.{insert_same, take_more_of, level_shared, rows_bound}
 use Rattle.p3_merkle_core.proofs.Lists.ListFacts.{joined, joined_more}
-use Rattle.p3_merkle_core.proofs.Shapes.{LeastFacts.least_bound, LeastFacts.widths_in_pairs, LadderFacts.layer_of_is}
-use Rattle.p3_merkle_core.proofs.{Shapes.LadderFacts.row_is_anc, Pruned.Unrefused.kept_same, Pruned.Answered.same_kept}
+use Rattle.p3_merkle_core.proofs.Shapes.LeastFacts.{least_bound, widths_in_pairs}
+use Rattle.p3_merkle_core.proofs.Shapes.LadderFacts.{layer_of_is, row_is_anc}
+use Rattle.p3_merkle_core.proofs.Pruned.Unrefused.{kept_same}
+use Rattle.p3_merkle_core.proofs.Pruned.Answered.{same_kept}
 use Rattle.std.specs.Prelude.{IsTrue}
 use Rattle.p3_support.specs.Batches.{greatest}
 

@@ -1,19 +1,24 @@
 -- The answers under a cap: what is accepted is what is not refused.
 use Rattle.std.proofs.Common.{◌≡◌, ◌↔◌, ℕ, zero, suc, ◌<◌, Bool, true, false, eqb, nat_lt, List, [], ◌∷◌, map, refl, ap}
 use Rattle.std.proofs.Common.{sym, ◌∙◌, arith, length, get_or, slice_get, Option, Some, None, eq-eqb}
-use Rattle.std.proofs.lemmas.{Grind.common_steps, Bool.and_parts, Bool.and_from, Bool.eqb-true, Bool.ltb-true}
-use Rattle.std.proofs.lemmas.{Bool.lt-ltb, Bool.true≢false, List.length-map}
-use Rattle.std.specs.{Prelude.Ok, Prelude.Decides, Cmp.Lexicographic.pointwise, Cmp.Lexicographic.pointwise_decides}
-use Rattle.std.specs.{List.list_all, Option.unwrap_or, Option.option_map, Option.option_or}
+use Rattle.std.proofs.lemmas.Grind.{common_steps}
+use Rattle.std.proofs.lemmas.Bool.{and_parts, and_from, eqb-true, ltb-true, lt-ltb, true≢false}
+use Rattle.std.proofs.lemmas.List.{length-map}
+use Rattle.std.specs.Prelude.{Ok, Decides}
+use Rattle.std.specs.Cmp.Lexicographic.{pointwise, pointwise_decides}
+use Rattle.std.specs.List.{list_all}
+use Rattle.std.specs.Option.{unwrap_or, option_map, option_or}
 use Rattle.p3_merkle_core.proofs.Checks.CheckFacts.{accepted_walk, accepted_by_walk}
 use Rattle.p3_merkle_core.proofs.Covered.Equivalence.{query_covered, rows_under_is, equivalent}
 use Rattle.p3_merkle_core.proofs.Pruned.Answered.{restorable}
 use Rattle.p3_merkle_core.proofs.Pruned.NoneFacts.{none_parts, unless_none, none_unless, verdict_ok, rows_fit_from}
 use Rattle.p3_merkle_core.proofs.Pruned.Unrefused.{unrefused, size_none, each_width}
-use Rattle.p3_merkle_core.proofs.Shapes.{GateFacts.gate_lawful, LeastFacts.length-widths}
+use Rattle.p3_merkle_core.proofs.Shapes.GateFacts.{gate_lawful}
+use Rattle.p3_merkle_core.proofs.Shapes.LeastFacts.{length-widths}
 use Rattle.p3_support.specs.Batches.{greatest}
 use Rattle.p3_merkle_core.specs.Geometry.{Shape, IsArity, ancestor, heights, widths, IsLawful}
-use Rattle.p3_merkle_core.specs.{Nodes.Functions, Openings.Opening}
+use Rattle.p3_merkle_core.specs.Nodes.{Functions}
+use Rattle.p3_merkle_core.specs.Openings.{Opening}
 use Rattle.p3_merkle_core.specs.Checks.{IsAccepted, siblings_below, path_digest, params}
 use Rattle.p3_merkle_core.specs.Pruning.{PrunedOpening, restored_node, IsCapped, IsPrunedAccepted, IsRestorable}
 use Rattle.p3_merkle_core.specs.Refusals.{unless, is_entry, row_width_refusal, refusal_under, answer_under}

@@ -2,19 +2,26 @@
 -- collision. The first pair of places at which something is found.
 use Rattle.std.proofs.Common.{◌≡◌, ◌≢◌, ◌↔◌, ℕ, ◌+◌, Bool, List, [], ◌∷◌, refl, ap, sym, ◌∙◌, arith, inl, inr, length}
 use Rattle.std.proofs.Common.{Option, Some, None, eq-eqb, ◌⊎◌, zero, suc, ◌<◌, ◌≤◌}
-use Rattle.std.proofs.lemmas.{Grind.common_steps, Bool.cases_Bool}
+use Rattle.std.proofs.lemmas.Grind.{common_steps}
+use Rattle.std.proofs.lemmas.Bool.{cases_Bool}
 use Rattle.std.proofs.lemmas.Bool.{cases_eq, cond-false, and_parts, and_from, eqb-true, ne_eqb, true≢false, false≢true}
-use Rattle.std.specs.{Option.option_or, Option.option_map, Cmp.Lexicographic.pointwise_decides, List.range_with_len}
+use Rattle.std.specs.Option.{option_or, option_map}
+use Rattle.std.specs.Cmp.Lexicographic.{pointwise_decides}
+use Rattle.std.specs.List.{range_with_len}
 use Rattle.p3_merkle_core.specs.Checks.{AgreeWhereShared, Input, IsAccepted, IsLastDifference, shared_inputs}
 use Rattle.p3_merkle_core.specs.Checks.{params, Params, Words, Digests, HasDigests}
 use Rattle.p3_merkle_core.specs.Extraction.{difference_of, input_eq, last_difference, IsCollision, place_eq, content_eq}
-use Rattle.p3_merkle_core.specs.{Extraction.first_pair, Geometry.IsArity, Geometry.Shape, Nodes.Functions}
-use Rattle.p3_merkle_core.specs.{Openings.Opening, Refusals.unless, Refusals.IsEquality, Refusals.first_of}
+use Rattle.p3_merkle_core.specs.Extraction.{first_pair}
+use Rattle.p3_merkle_core.specs.Geometry.{IsArity, Shape}
+use Rattle.p3_merkle_core.specs.Nodes.{Functions}
+use Rattle.p3_merkle_core.specs.Openings.{Opening}
+use Rattle.p3_merkle_core.specs.Refusals.{unless, IsEquality, first_of}
 use Rattle.p3_merkle_core.specs.declared.collision.Place.TheVariants.{Leaf, Group, Rows, Pair}
 use Rattle.p3_merkle_core.proofs.Pruned.NoneFacts.{none_unless, map_none, none_map, range_none}
 use Rattle.p3_merkle_core.proofs.Collisions.Extraction.{collides, level_lengths}
 use Rattle.p3_merkle_core.proofs.Checks.InputFacts.{of_last_difference, shared_full, at_one_place}
-use Rattle.p3_merkle_core.proofs.{Checks.Binding.pieces_long, Pruned.Unrefused.all_in_range}
+use Rattle.p3_merkle_core.proofs.Checks.Binding.{pieces_long}
+use Rattle.p3_merkle_core.proofs.Pruned.Unrefused.{all_in_range}
 
 -- ---- the test on inputs
 

@@ -1,15 +1,19 @@
 -- The last difference of two checks that reach one digest is a collision.
 use Rattle.std.proofs.Common.{◌≡◌, ℕ, zero, suc, ◌+◌, ◌-◌, ◌%◌, ◌<◌, ◌≤◌, Bool, eqb, List, [], ◌∷◌, ◌++◌, refl, ap, sym}
 use Rattle.std.proofs.Common.{◌∙◌, arith, inl, inr, ◌⊎◌, length, insert, length-append, length-take, length-drop}
-use Rattle.std.proofs.{Common.add-suc, Common.eq-eqb, Common.slice_get, lemmas.Grind.common_steps}
+use Rattle.std.proofs.Common.{add-suc, eq-eqb, slice_get}
+use Rattle.std.proofs.lemmas.Grind.{common_steps}
 use Rattle.std.proofs.lemmas.Bool.{cases_Bool, cases_lt, cases_eq, eqb-true, ne_eqb}
 use Rattle.std.specs.List.{flat_map, range_with_len}
 use Rattle.p3_merkle_core.specs.Geometry.{Shape, step, ancestor, position_in_group, has_rows, IsArity}
-use Rattle.p3_merkle_core.specs.{Nodes.Functions, Nodes.pair, Openings.Opening, Checks.Input, Checks.input_digest}
+use Rattle.p3_merkle_core.specs.Nodes.{Functions, pair}
+use Rattle.p3_merkle_core.specs.Openings.{Opening}
+use Rattle.p3_merkle_core.specs.Checks.{Input, input_digest}
 use Rattle.p3_merkle_core.specs.Checks.{inputs_at, path_digest, siblings_at, siblings_below, IsLastDifference}
 use Rattle.p3_merkle_core.specs.Checks.{shared_inputs, meeting_level, IsAccepted, params, digests_at, layer_words}
 use Rattle.p3_merkle_core.specs.declared.collision.Place.TheVariants.{Pair}
-use Rattle.p3_merkle_core.proofs.Shapes.{LeastFacts.least_passes, StepFacts.anc_next, StepFacts.step_above_1}
+use Rattle.p3_merkle_core.proofs.Shapes.LeastFacts.{least_passes}
+use Rattle.p3_merkle_core.proofs.Shapes.StepFacts.{anc_next, step_above_1}
 use Rattle.p3_merkle_core.proofs.Checks.Completeness.{reached_next, reached_leaf}
 use Rattle.p3_merkle_core.proofs.Checks.CheckFacts.{accepted_walk, group_first, same_digests, same_group}
 use Rattle.p3_merkle_core.proofs.Lists.ListFacts.{joined, joined_more}

@@ -1,24 +1,33 @@
 -- The definition's answer to two openings of one cap, and what it means.
 use Rattle.std.proofs.Common.{◌≡◌, ◌↔◌, ℕ, ◌<◌, Bool, List, [], refl, ap, sym, subst, ◌∙◌, arith, inr, length}
-use Rattle.std.proofs.{Common.Option, Common.Some, Common.None, lemmas.List.ext_get_or, lemmas.List.length-map}
+use Rattle.std.proofs.Common.{Option, Some, None}
+use Rattle.std.proofs.lemmas.List.{ext_get_or, length-map}
 use Rattle.std.proofs.lemmas.Grind.{common_steps}
 use Rattle.std.specs.Prelude.{Ok, Err, Result, IfOk, IsTrue}
-use Rattle.std.specs.{Option.option_map, Option.option_or, Result.result_map_both}
-use Rattle.p3_merkle_core.specs.{Caps.cap_layer, Geometry.Shape, Geometry.IsArity, Geometry.heights, Openings.Opening}
+use Rattle.std.specs.Option.{option_map, option_or}
+use Rattle.std.specs.Result.{result_map_both}
+use Rattle.p3_merkle_core.specs.Caps.{cap_layer}
+use Rattle.p3_merkle_core.specs.Geometry.{Shape, IsArity, heights}
+use Rattle.p3_merkle_core.specs.Openings.{Opening}
 use Rattle.p3_merkle_core.specs.Checks.{AgreeWhereShared, Input, IsAccepted, Params, is_authenticated, shared_inputs}
-use Rattle.p3_merkle_core.specs.{Pruning.PrunedOpening, Pruning.opening_at, Refusals.AnswersUnlessMemory}
+use Rattle.p3_merkle_core.specs.Pruning.{PrunedOpening, opening_at}
+use Rattle.p3_merkle_core.specs.Refusals.{AnswersUnlessMemory}
 use Rattle.p3_merkle_core.specs.Refusals.{IsEquality, ok_unless, pruned_refusal_under, refusal_under}
 use Rattle.p3_merkle_core.specs.Extraction.{RowsAgreeWhereAuthenticated, RowsConflictWhereAuthenticated, EachPair}
 use Rattle.p3_merkle_core.specs.Extraction.{IsExtraction, IsFirstCollision, difference_of, extraction, first_difference}
-use Rattle.p3_merkle_core.specs.{Extraction.first_pair, Presented.Presented, Presented.presented}
-use Rattle.p3_merkle_core.specs.{Presented.presented_pruned, Views.found_alone, Views.found_pair, Views.inputs_in}
-use Rattle.p3_merkle_core.specs.declared.{collision.InputPair.InputPair, cap.CapRule.CapRule}
-use Rattle.p3_merkle_core.specs.declared.{cap.CapRule.TheVariants.Lowered, error.MerkleTreeError.MerkleTreeError}
+use Rattle.p3_merkle_core.specs.Extraction.{first_pair}
+use Rattle.p3_merkle_core.specs.Presented.{Presented, presented, presented_pruned}
+use Rattle.p3_merkle_core.specs.Views.{found_alone, found_pair, inputs_in}
+use Rattle.p3_merkle_core.specs.declared.collision.InputPair.{InputPair}
+use Rattle.p3_merkle_core.specs.declared.cap.CapRule.{CapRule}
+use Rattle.p3_merkle_core.specs.declared.cap.CapRule.TheVariants.{Lowered}
+use Rattle.p3_merkle_core.specs.declared.error.MerkleTreeError.{MerkleTreeError}
 use Rattle.p3_merkle_core.proofs.Checks.SameIndex.{authenticated_at_one_index, authenticated_bound}
 use Rattle.p3_merkle_core.proofs.Checks.Verdicts.{accepted_answer, accepted_from, pruned_accepted}
 use Rattle.p3_merkle_core.proofs.Collisions.Extracted.{difference_collides, no_difference, no_pair, one_pair}
 use Rattle.p3_merkle_core.proofs.Pruned.NoneFacts.{none_parts, verdict_ok}
-use Rattle.p3_merkle_core.proofs.Shapes.{CapFacts.none_out, LeastFacts.widths_in_pairs}
+use Rattle.p3_merkle_core.proofs.Shapes.CapFacts.{none_out}
+use Rattle.p3_merkle_core.proofs.Shapes.LeastFacts.{widths_in_pairs}
 
 -- ---- what is presented
 

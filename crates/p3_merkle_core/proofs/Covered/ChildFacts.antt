@@ -1,11 +1,15 @@
 -- The values of the children of covered nodes, as a walk over them takes them.
 use Rattle.std.proofs.Common.{◌≡◌, ℕ, zero, suc, ◌+◌, ◌-◌, ◌*◌, ◌/◌, ◌%◌, ◌<◌, ◌≤◌, Bool, true, false, not, cond}
 use Rattle.std.proofs.Common.{List, [], ◌∷◌, ◌++◌, refl, ap, sym, ◌∙◌, arith, inl, inr, length, filter, get_or, take}
-use Rattle.std.proofs.{Common.append-nil, Common.length-append, Math.Nat.mul_comm, Math.Nat.div-lt_iff_lt-mul}
-use Rattle.std.proofs.lemmas.{Nat.div-mul-add, Nat.mod-mul-add, Nat.mul-add-lt, Grind.common_steps, Bool.cases_Bool}
-use Rattle.std.proofs.lemmas.{Bool.cases_eq, Bool.not_from_false, Bool.false_from_ne_true, List.take_more}
-use Rattle.std.proofs.lemmas.List.{length-take-le, take_all, Concat.get_or-flat_map, FromFn.length-range_with_len}
-use Rattle.std.proofs.lemmas.List.{FromFn.get_or-range_with_len, Filters.length-filter_both, Filters.length-filter_more}
+use Rattle.std.proofs.Common.{append-nil, length-append}
+use Rattle.std.proofs.Math.Nat.{mul_comm, div-lt_iff_lt-mul}
+use Rattle.std.proofs.lemmas.Nat.{div-mul-add, mod-mul-add, mul-add-lt}
+use Rattle.std.proofs.lemmas.Grind.{common_steps}
+use Rattle.std.proofs.lemmas.Bool.{cases_Bool, cases_eq, not_from_false, false_from_ne_true}
+use Rattle.std.proofs.lemmas.List.{take_more, length-take-le, take_all}
+use Rattle.std.proofs.lemmas.List.Concat.{get_or-flat_map}
+use Rattle.std.proofs.lemmas.List.FromFn.{length-range_with_len, get_or-range_with_len}
+use Rattle.std.proofs.lemmas.List.Filters.{length-filter_both, length-filter_more}
 use Rattle.std.specs.List.{range_with_len}
 use Rattle.p3_merkle_core.specs.Inner.Children.{AreChildren, IsFamily, beside, children_under, unknown_count}
 use Rattle.p3_support.specs.Lists.{is_among}

@@ -2,12 +2,15 @@
 use Rattle.std.proofs.Common.{◌≡◌, ℕ, suc, ◌+◌, ◌-◌, ◌*◌, ◌/◌, ◌^◌, ◌<◌, ◌≤◌, List, length, map, sym, ◌∙◌}
 use Rattle.std.proofs.Common.{add-one, ap, arith, refl}
 use Rattle.p3_merkle_core.specs.Geometry.{Shape, layer_exponent, layer_len, shape_of, step}
-use Rattle.p3_merkle_core.specs.{Pruning.CanQuery, Pruning.is_covered, Inner.Agreement.distinct}
-use Rattle.p3_merkle_core.specs.Inner.{Agreement.IsAscending, Covered.covered_at, Covered.AreCovered}
-use Rattle.p3_merkle_core.specs.declared.steps.{Covered.Covered, StepUp.StepUp}
+use Rattle.p3_merkle_core.specs.Pruning.{CanQuery, is_covered}
+use Rattle.p3_merkle_core.specs.Inner.Agreement.{distinct, IsAscending}
+use Rattle.p3_merkle_core.specs.Inner.Covered.{covered_at, AreCovered}
+use Rattle.p3_merkle_core.specs.declared.steps.Covered.{Covered}
+use Rattle.p3_merkle_core.specs.declared.steps.StepUp.{StepUp}
 use Rattle.p3_merkle_core.proofs.Covered.CoveredFacts.{counted_at, covered_above, pruned_next}
-use Rattle.p3_merkle_core.proofs.{Lists.RisingFacts.rising_filter, Pruned.SlotFacts.ascending_from}
-use Rattle.p3_merkle_core.proofs.{Pruned.SlotFacts.parents_once, Shapes.StepFacts.step_above_1}
+use Rattle.p3_merkle_core.proofs.Lists.RisingFacts.{rising_filter}
+use Rattle.p3_merkle_core.proofs.Pruned.SlotFacts.{ascending_from, parents_once}
+use Rattle.p3_merkle_core.proofs.Shapes.StepFacts.{step_above_1}
 
 abbrev pub shape_over : Covered → Shape
 shape_over covered = shape_of covered.steps.now.arity covered.steps.now.dimensions.now

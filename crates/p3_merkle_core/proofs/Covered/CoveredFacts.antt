@@ -5,18 +5,23 @@ use Rattle.std.proofs.Common.{◌∷◌, map, refl, ap, sym, ◌∙◌, arith, i
 use Rattle.std.proofs.lemmas.Grind.{common_steps}
 use Rattle.std.proofs.lemmas.Bool.{cases_eq, and_parts, and_from, or_cases, or_left, or_right, eqb-true, true≢false}
 use Rattle.std.proofs.lemmas.Bool.{both_ways, not-true, not_from_false, false_from_ne_true}
-use Rattle.std.proofs.{lemmas.List.length-map, lemmas.List.length-append, Math.Nat.mul-le-mul_left, Math.Pow.pow_mono}
+use Rattle.std.proofs.lemmas.List.{length-map, length-append}
+use Rattle.std.proofs.Math.Nat.{mul-le-mul_left}
+use Rattle.std.proofs.Math.Pow.{pow_mono}
 use Rattle.std.specs.{List.dedup, List.range_with_len}
 use Rattle.p3_merkle_core.specs.Geometry.{Shape, step, ancestor, raw_len, layer_len, padded_len}
 use Rattle.p3_merkle_core.specs.Geometry.{leaves_under, levels, layer_exponent, exponent, heights, height_limit}
 use Rattle.p3_support.specs.Batches.{greatest}
 use Rattle.p3_merkle_core.specs.Pruning.{CanQuery, is_covered, is_boundary, boundary_at, boundary, pruned_len}
 use Rattle.p3_merkle_core.specs.Inner.Covered.{covered_at}
-use Rattle.p3_merkle_core.proofs.Shapes.{LeastFacts.exponent_le, LadderFacts.levels_le, LadderFacts.exact}
+use Rattle.p3_merkle_core.proofs.Shapes.LeastFacts.{exponent_le}
+use Rattle.p3_merkle_core.proofs.Shapes.LadderFacts.{levels_le, exact}
 use Rattle.p3_merkle_core.proofs.Shapes.RawFacts.{children_fit, filled, positive_below}
 use Rattle.p3_merkle_core.proofs.Shapes.StepFacts.{anc_next, anc_start, step_above_1}
-use Rattle.p3_merkle_core.proofs.{Lists.ListFacts.joined_more, Covered.Under.covered_up}
-use Rattle.p3_merkle_core.proofs.{Covered.Sufficient.covered_below, Checks.CheckFacts.padded_ge}
+use Rattle.p3_merkle_core.proofs.Lists.ListFacts.{joined_more}
+use Rattle.p3_merkle_core.proofs.Covered.Under.{covered_up}
+use Rattle.p3_merkle_core.proofs.Covered.Sufficient.{covered_below}
+use Rattle.p3_merkle_core.proofs.Checks.CheckFacts.{padded_ge}
 use Rattle.p3_merkle_core.proofs.Lists.RisingFacts.{is_listed, rising_filter, filter_is, listed_in, listed_there}
 use Rattle.p3_merkle_core.proofs.Lists.RisingFacts.{by_groups, groups_are, groups_count, listed_dedup, listed_map}
 use Rattle.p3_merkle_core.proofs.Lists.RisingFacts.{map_lists, rising_dedup, rising_length}

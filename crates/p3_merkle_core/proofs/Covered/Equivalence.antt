@@ -1,8 +1,10 @@
 -- A pruned opening is accepted exactly if each query is with its restored path.
 use Rattle.std.proofs.Common.{◌≡◌, ◌==◌, ◌↔◌, ℕ, zero, suc, ◌<◌, ◌≤◌, true, eqb, List, [], ◌∷◌, map, refl, ap, sym, ◌∙◌}
 use Rattle.std.proofs.Common.{arith, inl, inr, length, get_or, All, Some, zip, flat_map}
-use Rattle.std.proofs.lemmas.{Grind.common_steps, Bool.cases_Bool, Bool.cond-true, Bool.eqb-true, Bool.true≢false}
-use Rattle.std.specs.{List.find, Option.unwrap_or, Option.option_map}
+use Rattle.std.proofs.lemmas.Grind.{common_steps}
+use Rattle.std.proofs.lemmas.Bool.{cases_Bool, cond-true, eqb-true, true≢false}
+use Rattle.std.specs.List.{find}
+use Rattle.std.specs.Option.{unwrap_or, option_map}
 use Rattle.p3_merkle_core.specs.Geometry.{Shape, IsLawful, ancestor, heights, widths, has_rows, IsArity}
 use Rattle.p3_support.specs.Batches.{greatest}
 use Rattle.p3_merkle_core.specs.Nodes.{Functions, compress_padded, with_rows}

@@ -2,25 +2,35 @@
 use Rattle.std.proofs.Common.{◌≡◌, ℕ, zero, suc, ◌+◌, ◌-◌, ◌*◌, ◌/◌, ◌%◌, ◌<◌, ◌≤◌, true, eqb, nat_lt, List, [], ◌∷◌}
 use Rattle.std.proofs.Common.{◌++◌, map, refl, ap, sym, ◌∙◌, arith, add-one, inl, inr, length, filter, get_or, take}
 use Rattle.std.proofs.Common.{drop, remove, subst, length-drop, eq-eqb, append_assoc, drop-cons, fold}
-use Rattle.std.proofs.Math.{Nat.div-div-eq-div-mul, Nat.mul-le-mul_left, Nat.mul-suc, Seq.drop-append-add}
+use Rattle.std.proofs.Math.Nat.{div-div-eq-div-mul, mul-le-mul_left, mul-suc}
+use Rattle.std.proofs.Math.Seq.{drop-append-add}
 use Rattle.std.proofs.lemmas.Bool.{cases_lt, eqb-true, or_cases, or_left, or_right, true≢false, lt-ltb, le-ltb}
-use Rattle.std.proofs.lemmas.{Grind.common_steps, List.map-append, List.take-append-le, List.take_all, List.take_more}
-use Rattle.std.proofs.lemmas.List.{get_or-map, get_or_default, length-map, get_or-drop, Edits.get_or-remove_above}
-use Rattle.std.proofs.lemmas.List.{Edits.get_or-remove_below, Edits.length-remove, Folds.Any-from_list_any}
+use Rattle.std.proofs.lemmas.Grind.{common_steps}
+use Rattle.std.proofs.lemmas.List.{map-append, take-append-le, take_all, take_more}
+use Rattle.std.proofs.lemmas.List.{get_or-map, get_or_default, length-map, get_or-drop}
+use Rattle.std.proofs.lemmas.List.Edits.{get_or-remove_above, get_or-remove_below, length-remove}
+use Rattle.std.proofs.lemmas.List.Folds.{Any-from_list_any}
 use Rattle.std.proofs.lemmas.List.FromFn.{length-range_with_len, map-range_with_len_more, take-map-range_with_len}
-use Rattle.std.proofs.lemmas.{List.Kept.AllPairs-from_increasing, List.Sums.fold-append, Simd.map-map}
-use Rattle.std.specs.List.{enumerate_from, flat_map, range_with_len, take-map, drop-map, Sorted.IsStrictlyIncreasing}
+use Rattle.std.proofs.lemmas.List.Kept.{AllPairs-from_increasing}
+use Rattle.std.proofs.lemmas.List.Sums.{fold-append}
+use Rattle.std.proofs.lemmas.Simd.{map-map}
+use Rattle.std.specs.List.{enumerate_from, flat_map, range_with_len, take-map, drop-map}
+use Rattle.std.specs.List.Sorted.{IsStrictlyIncreasing}
 use Rattle.p3_merkle_core.specs.Inner.Children.{children_at, children_under, node_over, siblings_on_path, paths_out_of}
 use Rattle.p3_merkle_core.specs.Inner.Children.{levels_in, place_among, siblings_out_of, AreLinked, IsLinked}
 use Rattle.p3_merkle_core.specs.declared.pruning.CoveredLayer.{CoveredLayer}
 use Rattle.p3_merkle_core.specs.Geometry.{Shape, step, ancestor, layer_len, leaves_under, schedule_below}
-use Rattle.p3_merkle_core.specs.{Nodes.Functions, Pruning.CanQuery, Pruning.PrunedOpening, Pruning.is_covered}
-use Rattle.p3_merkle_core.specs.{Pruning.value_of, Pruning.restored_paths, Inner.Covered.covered_at, Checks.params}
+use Rattle.p3_merkle_core.specs.Nodes.{Functions}
+use Rattle.p3_merkle_core.specs.Pruning.{CanQuery, PrunedOpening, is_covered, value_of, restored_paths}
+use Rattle.p3_merkle_core.specs.Inner.Covered.{covered_at}
+use Rattle.p3_merkle_core.specs.Checks.{params}
 use Rattle.p3_support.specs.Lists.{is_among}
-use Rattle.p3_merkle_core.proofs.{Covered.CoveredFacts.covered_listed, Lists.ListFacts.joined}
+use Rattle.p3_merkle_core.proofs.Covered.CoveredFacts.{covered_listed}
+use Rattle.p3_merkle_core.proofs.Lists.ListFacts.{joined}
 use Rattle.p3_merkle_core.proofs.Checks.PathFacts.{joined_same, piece}
 use Rattle.p3_merkle_core.proofs.Lists.RisingFacts.{IsRising, rising_from, rising_filter, increasing_from}
-use Rattle.p3_merkle_core.proofs.{Shapes.StepFacts.anc_next, Covered.ValueFacts.map_children}
+use Rattle.p3_merkle_core.proofs.Shapes.StepFacts.{anc_next}
+use Rattle.p3_merkle_core.proofs.Covered.ValueFacts.{map_children}
 
 -- ---- places
 

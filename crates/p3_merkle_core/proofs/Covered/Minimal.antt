@@ -1,7 +1,8 @@
 -- No set of uncovered nodes that suffices has fewer members than the boundary.
 use Rattle.std.proofs.Common.{◌≡◌, ℕ, zero, suc, ◌+◌, ◌-◌, ◌*◌, ◌/◌, ◌<◌, ◌≤◌, Bool, true, false, not, eqb, nat_le}
 use Rattle.std.proofs.Common.{◌&&◌, List, [], ◌∷◌, ◌++◌, map, refl, sym, ◌∙◌, arith, inl, inr, ◌⊎◌, length, filter}
-use Rattle.std.proofs.{Common.eq-eqb, Common.subst, Common.◌≢◌, Common.ap, lemmas.Grind.common_steps}
+use Rattle.std.proofs.Common.{eq-eqb, subst, ◌≢◌, ap}
+use Rattle.std.proofs.lemmas.Grind.{common_steps}
 use Rattle.std.proofs.lemmas.Bool.{cases_Bool, eqb-true, and_parts, and_from, or_cases, or_left, or_right, leb-true}
 use Rattle.std.proofs.lemmas.Bool.{not-true, both_ways, true≢false, false_from_ne_true}
 use Rattle.std.specs.List.{range_with_len, count_by}

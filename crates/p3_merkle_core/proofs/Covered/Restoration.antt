@@ -2,11 +2,14 @@
 use Rattle.std.proofs.Common.{◌≡◌, ◌==◌, ℕ, zero, suc, ◌+◌, ◌*◌, ◌<◌, ◌≤◌, true, eqb, ◌&&◌, List, [], ◌∷◌, map, refl}
 use Rattle.std.proofs.Common.{ap, sym, ◌∙◌, arith, inl, inr, length, get_or, remove, Some, zip}
 use Rattle.std.proofs.lemmas.Bool.{cases_Bool, cond-true, cond-false, eqb-true, and_parts, true≢false}
-use Rattle.std.proofs.lemmas.List.{length-map, get_or-map, FromFn.length-map-range_with_len}
-use Rattle.std.proofs.lemmas.{List.FromFn.get_or-map-range_with_len, Option.slice_get-get_or}
-use Rattle.std.specs.{List.find, Option.unwrap_or, Option.option_map}
+use Rattle.std.proofs.lemmas.List.{length-map, get_or-map}
+use Rattle.std.proofs.lemmas.List.FromFn.{length-map-range_with_len, get_or-map-range_with_len}
+use Rattle.std.proofs.lemmas.Option.{slice_get-get_or}
+use Rattle.std.specs.List.{find}
+use Rattle.std.specs.Option.{unwrap_or, option_map}
 use Rattle.p3_merkle_core.specs.Openings.{honest_rows, siblings_by, children_by, level_siblings}
-use Rattle.p3_merkle_core.specs.{Nodes.Functions, Nodes.Batch, Nodes.shape, Nodes.node, Nodes.layer, Checks.params}
+use Rattle.p3_merkle_core.specs.Nodes.{Functions, Batch, shape, node, layer}
+use Rattle.p3_merkle_core.specs.Checks.{params}
 use Rattle.p3_merkle_core.specs.Pruning.{is_covered, boundary, is_in, sent_digest, restored_node, value_of}
 use Rattle.p3_merkle_core.specs.Pruning.{restored_path, honest_query, IsHonestQuery, IsCapped, first_rows}
 use Rattle.p3_merkle_core.specs.Geometry.{step, ancestor, raw_len, layer_len, position_in_group}

@@ -1,17 +1,20 @@
 -- The boundary suffices, and a set of no more nodes that suffices has its members.
 use Rattle.std.proofs.Common.{◌≡◌, ℕ, zero, suc, ◌+◌, ◌*◌, ◌/◌, ◌<◌, ◌≤◌, Bool, true, false, not, eqb, ◌&&◌, ◌||◌, List}
 use Rattle.std.proofs.Common.{[], ◌∷◌, map, refl, sym, ◌∙◌, arith, inl, inr, length, filter, eq-eqb, All, ap, subst}
-use Rattle.std.proofs.lemmas.{List.Folds.list_any-append, Grind.common_steps, Bool.cases_Bool, Bool.cases_eq}
+use Rattle.std.proofs.lemmas.List.Folds.{list_any-append}
+use Rattle.std.proofs.lemmas.Grind.{common_steps}
+use Rattle.std.proofs.lemmas.Bool.{cases_Bool, cases_eq, true≢false, cases_lt, not-true}
 use Rattle.std.proofs.lemmas.Bool.{eqb-true, and_parts, and_from, or_cases, or_left, or_right, or_parts, not_from_false}
-use Rattle.std.proofs.{lemmas.Bool.true≢false, lemmas.Bool.cases_lt, lemmas.Bool.not-true, Math.Nat.mul-le-mul_left}
+use Rattle.std.proofs.Math.Nat.{mul-le-mul_left}
 use Rattle.std.specs.List.{list_any, range_with_len}
 use Rattle.p3_merkle_core.specs.Geometry.{Shape, step, ancestor, raw_len, layer_len, heights, IsArity}
 use Rattle.p3_support.specs.Batches.{greatest}
 use Rattle.p3_merkle_core.specs.Pruning.{is_covered, is_boundary, boundary_at, boundary, is_in, IsKnown, Suffices}
 use Rattle.p3_merkle_core.specs.Pruning.{IsUncovered, CanQuery, IsLeast, pruned_len}
-use Rattle.p3_merkle_core.proofs.{Shapes.RawFacts.anc_below, Shapes.RawFacts.children_fit, Covered.Under.under_self}
-use Rattle.p3_merkle_core.proofs.Covered.{Under.child_parent, Minimal.above, Minimal.boundary_one, Minimal.minimal}
-use Rattle.p3_merkle_core.proofs.{Covered.Minimal.in_boundary, Lists.ListFacts.tally, Lists.ListFacts.joined_more}
+use Rattle.p3_merkle_core.proofs.Shapes.RawFacts.{anc_below, children_fit}
+use Rattle.p3_merkle_core.proofs.Covered.Under.{under_self, child_parent}
+use Rattle.p3_merkle_core.proofs.Covered.Minimal.{above, boundary_one, minimal, in_boundary}
+use Rattle.p3_merkle_core.proofs.Lists.ListFacts.{tally, joined_more}
 
 -- ---- a covered node
 

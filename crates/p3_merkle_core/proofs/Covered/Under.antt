@@ -1,11 +1,15 @@
 -- How many elements of a list pass, and which nodes stand under a node.
 use Rattle.std.proofs.Common.{◌≡◌, ℕ, suc, ◌+◌, ◌-◌, ◌*◌, ◌/◌, ◌<◌, ◌≤◌, Bool, true, eqb, nat_le, ◌&&◌, List, [], ◌∷◌}
 use Rattle.std.proofs.Common.{◌++◌, refl, ap, sym, ◌∙◌, arith, inl, inr, eq-eqb}
-use Rattle.std.proofs.{Math.Nat.mul_comm, lemmas.Grind.common_steps, lemmas.Nat.div-mul-add, lemmas.Bool.eqb-true}
+use Rattle.std.proofs.Math.Nat.{mul_comm}
+use Rattle.std.proofs.lemmas.Grind.{common_steps}
+use Rattle.std.proofs.lemmas.Nat.{div-mul-add}
+use Rattle.std.proofs.lemmas.Bool.{eqb-true}
 use Rattle.std.proofs.lemmas.Bool.{and_parts, and_from, or_cases, or_left, or_right, le-leb, leb-true, true≢false}
 use Rattle.p3_merkle_core.specs.Geometry.{Shape, step, ancestor}
 use Rattle.p3_merkle_core.specs.Pruning.{is_covered, is_in, up, is_under}
-use Rattle.p3_merkle_core.proofs.{Shapes.StepFacts.anc_next, Lists.ListFacts.tally}
+use Rattle.p3_merkle_core.proofs.Shapes.StepFacts.{anc_next}
+use Rattle.p3_merkle_core.proofs.Lists.ListFacts.{tally}
 
 -- ---- how many elements pass
 

@@ -2,22 +2,29 @@
 -- nodes, in order.
 use Rattle.std.proofs.Common.{◌≡◌, ℕ, ◌+◌, ◌<◌, ◌≤◌, true, false, cond, eqb, ◌&&◌, List, [], ◌∷◌, map, refl, ap, sym}
 use Rattle.std.proofs.Common.{◌∙◌, arith, inl, inr, length, filter, take, drop, zip, eq-eqb, suc, ◌-◌, ◌*◌, Bool, not}
-use Rattle.std.proofs.{Common.◌++◌, Common.get_or, lemmas.Grind.common_steps}
+use Rattle.std.proofs.Common.{◌++◌, get_or}
+use Rattle.std.proofs.lemmas.Grind.{common_steps}
 use Rattle.std.proofs.lemmas.Bool.{cases_Bool, and_from, or_cases, true≢false, false_from_ne_true}
-use Rattle.std.proofs.lemmas.List.{length-map, map-append, Elements.filter-append, Elements.filter_agree}
+use Rattle.std.proofs.lemmas.List.{length-map, map-append}
+use Rattle.std.proofs.lemmas.List.Elements.{filter-append, filter_agree}
 use Rattle.std.specs.List.{find, range_with_len, take-map, drop-map, flat_map}
-use Rattle.std.specs.{Option.unwrap_or, Option.option_map, Cmp.both_ways}
+use Rattle.std.specs.Option.{unwrap_or, option_map}
+use Rattle.std.specs.Cmp.{both_ways}
 use Rattle.p3_merkle_core.specs.Inner.Children.{AreChildren, IsFamily, beside, children_under, unknown_count}
-use Rattle.p3_merkle_core.specs.{Inner.Covered.covered_at, Checks.params, Nodes.Functions}
+use Rattle.p3_merkle_core.specs.Inner.Covered.{covered_at}
+use Rattle.p3_merkle_core.specs.Checks.{params}
+use Rattle.p3_merkle_core.specs.Nodes.{Functions}
 use Rattle.p3_merkle_core.specs.Pruning.{PrunedOpening, is_boundary, boundary_at, boundary, is_in, sent_digest}
 use Rattle.p3_merkle_core.specs.Pruning.{CanQuery, is_covered, restored_node, value_of}
 use Rattle.p3_merkle_core.specs.Geometry.{Shape, layer_len, step, heights, height_limit}
 use Rattle.p3_merkle_core.proofs.Lists.ListFacts.{tally, joined_piece, length-joined_le}
-use Rattle.p3_merkle_core.proofs.Covered.{Sufficient.same, Sufficient.listed_once, ChildFacts.children_length}
+use Rattle.p3_merkle_core.proofs.Covered.Sufficient.{same, listed_once}
+use Rattle.p3_merkle_core.proofs.Covered.ChildFacts.{children_length}
 use Rattle.p3_merkle_core.proofs.Lists.RisingFacts.{by_groups, listed_at}
 use Rattle.p3_merkle_core.proofs.Covered.CoveredFacts.{listed_covered, covered_listed, covered_by_groups}
 use Rattle.p3_merkle_core.proofs.Covered.CoveredFacts.{boundary_by_lists, covered_count, group_fits, counted_at}
-use Rattle.p3_support.specs.{Batches.greatest, Lists.is_among}
+use Rattle.p3_support.specs.Batches.{greatest}
+use Rattle.p3_support.specs.Lists.{is_among}
 
 -- ---- nodes that stand once
 

@@ -1,7 +1,9 @@
 -- A list with repeats dropped, and one more element.
 use Rattle.std.proofs.Common.{◌≡◌, ◌∙◌, ℕ, zero, suc, ◌+◌, ◌-◌, ◌<◌, ◌≤◌, true, false, eqb, cond, List, [], ◌∷◌, ◌++◌}
 use Rattle.std.proofs.Common.{refl, ap, sym, arith, length, get_or, take, add-one, append-nil, eq-eqb}
-use Rattle.std.proofs.lemmas.{Grind.common_steps, Bool.ne_eqb, List.take_more}
+use Rattle.std.proofs.lemmas.Grind.{common_steps}
+use Rattle.std.proofs.lemmas.Bool.{ne_eqb}
+use Rattle.std.proofs.lemmas.List.{take_more}
 use Rattle.std.specs.List.{dedup, dedup_from}
 
 -- the last element of x and those after it

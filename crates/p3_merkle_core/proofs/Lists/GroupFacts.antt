@@ -1,8 +1,9 @@
 -- What writes of a value and others into slots leave.
-use Rattle.std.proofs.{lemmas.Grind.common_steps, Common.◌≡◌, Common.ℕ, Common.zero, Common.suc, Common.◌+◌}
+use Rattle.std.proofs.lemmas.Grind.{common_steps}
+use Rattle.std.proofs.Common.{◌≡◌, ℕ, zero, suc, ◌+◌, get_or-set_same}
 use Rattle.std.proofs.Common.{◌-◌, ◌<◌, ◌≤◌, List, [], ◌∷◌, ◌++◌, refl, sym, ◌∙◌, arith, length, get_or, take, drop}
 use Rattle.std.proofs.Common.{set, insert, replicate, cond, nat_lt, length-append, length-take, length-drop, length-set}
-use Rattle.std.proofs.{Common.get_or-set_same, lemmas.Bool.le-ltb}
+use Rattle.std.proofs.lemmas.Bool.{le-ltb}
 use Rattle.std.proofs.lemmas.List.{drop_more, set_at, length-take-le, drop-replicate, ext_get_or, length-replicate}
 use Rattle.std.proofs.lemmas.List.Edits.{get_or-insert_at, get_or-insert_below, get_or-insert_above}
 use Rattle.p3_merkle_core.specs.Nodes.{padded}

@@ -1,9 +1,11 @@
 -- Facts on lists: pieces that are joined, an element taken out and put back, how many elements pass.
-use Rattle.std.proofs.{lemmas.Grind.common_steps, Common.◌≡◌, Common.ℕ, Common.zero, Common.suc}
+use Rattle.std.proofs.lemmas.Grind.{common_steps}
+use Rattle.std.proofs.Common.{◌≡◌, ℕ, zero, suc, append-nil}
 use Rattle.std.proofs.Common.{◌+◌, ◌-◌, ◌<◌, ◌≤◌, List, [], ◌∷◌, refl, ap, arith, inl, inr, length, get_or, take, drop}
 use Rattle.std.proofs.Common.{insert, remove, length-append, length-take, length-drop, cond, Bool, map, ◌++◌}
-use Rattle.std.proofs.{Common.append-nil, lemmas.Bool.cases_eq, lemmas.Bool.cases_Bool, lemmas.List.drop_at}
-use Rattle.std.proofs.lemmas.List.{drop-append-le, take-append-le, take_all, Recursion.is_count_by}
+use Rattle.std.proofs.lemmas.Bool.{cases_eq, cases_Bool}
+use Rattle.std.proofs.lemmas.List.{drop_at, drop-append-le, take-append-le, take_all}
+use Rattle.std.proofs.lemmas.List.Recursion.{is_count_by}
 use Rattle.std.specs.List.{count_by, flat_map, range_with_len}
 
 -- values from s on

@@ -1,11 +1,17 @@
 -- Ascending lists of numbers: there is one of the numbers that pass a test, in groups, and with repeats dropped.
 use Rattle.std.proofs.Common.{◌≡◌, ℕ, zero, suc, ◌+◌, ◌*◌, ◌/◌, ◌%◌, ◌<◌, ◌≤◌, Bool, true, false, not, eqb, List, []}
 use Rattle.std.proofs.Common.{◌∷◌, ◌++◌, map, refl, ap, sym, ◌∙◌, arith, inl, inr, length, filter, get_or, eq-eqb}
-use Rattle.std.proofs.{Common.AllPairs, Common.length-append, Math.Nat.mul-le-mul_left, lemmas.Grind.common_steps}
+use Rattle.std.proofs.Common.{AllPairs, length-append}
+use Rattle.std.proofs.Math.Nat.{mul-le-mul_left}
+use Rattle.std.proofs.lemmas.Grind.{common_steps}
 use Rattle.std.proofs.lemmas.Bool.{cases_Bool, cases_eq, eqb-true, eqb-false, or_cases, or_left, or_right, true≢false}
-use Rattle.std.proofs.lemmas.{Bool.false_from_ne_true, List.Filters.length-filter_both, List.Folds.list_any-append}
-use Rattle.std.proofs.lemmas.List.{Folds.list_any_at, Kept.AllPairs-from_increasing, FromFn.length-range_with_len}
-use Rattle.std.specs.List.{list_any, range_with_len, dedup, dedup_from, flat_map, Sorted.IsStrictlyIncreasing}
+use Rattle.std.proofs.lemmas.Bool.{false_from_ne_true}
+use Rattle.std.proofs.lemmas.List.Filters.{length-filter_both}
+use Rattle.std.proofs.lemmas.List.Folds.{list_any-append, list_any_at}
+use Rattle.std.proofs.lemmas.List.Kept.{AllPairs-from_increasing}
+use Rattle.std.proofs.lemmas.List.FromFn.{length-range_with_len}
+use Rattle.std.specs.List.{list_any, range_with_len, dedup, dedup_from, flat_map}
+use Rattle.std.specs.List.Sorted.{IsStrictlyIncreasing}
 use Rattle.p3_merkle_core.specs.Inner.Agreement.{IsAscending}
 
 -- ---- ascending lists

@@ -2,9 +2,13 @@
 -- lists.
 use Rattle.std.proofs.Common.{arith, ◌≡◌, ℕ, List, [], ◌∷◌, map, refl, rules, ◌↔◌, IsTrue, Bool, ◌&&◌}
 use Rattle.std.proofs.lemmas.Grind.{common_steps}
-use Rattle.p3_support.specs.{Batches.dimensions_in, Shown.row_lists, Shown.row_sets}
-use Rattle.p3_merkle_core.specs.{Nodes.dimensions_of, Views.matrix_of, Refusals.IsEquality}
-use Rattle.std.specs.{declared.vec.Vec.Vec, Cmp.Lexicographic.pointwise, Cmp.Lexicographic.pointwise_decides}
+use Rattle.p3_support.specs.Batches.{dimensions_in}
+use Rattle.p3_support.specs.Shown.{row_lists, row_sets}
+use Rattle.p3_merkle_core.specs.Nodes.{dimensions_of}
+use Rattle.p3_merkle_core.specs.Views.{matrix_of}
+use Rattle.p3_merkle_core.specs.Refusals.{IsEquality}
+use Rattle.std.specs.declared.vec.Vec.{Vec}
+use Rattle.std.specs.Cmp.Lexicographic.{pointwise, pointwise_decides}
 
 -- they have the dimensions that their types say
 pub dimensions_are : {T M : Type 0} (height width : M → ℕ) (row : M → ℕ → List T) (ms : List M) →

@@ -1,18 +1,23 @@
 -- What is compared slot by slot is what the definition compares index by index.
 use Rattle.std.proofs.Common.{◌≡◌, ℕ, zero, suc, ◌+◌, ◌<◌, Bool, eqb, ◌&&◌, List, [], ◌∷◌, map, refl, ap, sym, ◌∙◌}
 use Rattle.std.proofs.Common.{arith, inl, inr, length, get_or, eq-eqb, All, Option}
-use Rattle.std.proofs.lemmas.{Grind.common_steps, Bool.cases_lt, Bool.eqb-true, Bool.and_parts, Bool.and_from}
-use Rattle.std.proofs.lemmas.{Bool.false_from_ne_true, List.get_or-map, List.length-map}
+use Rattle.std.proofs.lemmas.Grind.{common_steps}
+use Rattle.std.proofs.lemmas.Bool.{cases_lt, eqb-true, and_parts, and_from, false_from_ne_true}
+use Rattle.std.proofs.lemmas.List.{get_or-map, length-map}
 use Rattle.std.specs.List.{range_with_len}
 use Rattle.p3_merkle_core.specs.Geometry.{Shape, ancestor, heights, layer_exponent}
 use Rattle.p3_merkle_core.specs.Refusals.{first_of, group_refusal, lead, matrices_at, row_refusal, slots_below}
-use Rattle.p3_merkle_core.specs.{Refusals.width_refusal, Refusals.rows_of, Inner.Agreement.distinct}
+use Rattle.p3_merkle_core.specs.Refusals.{width_refusal, rows_of}
+use Rattle.p3_merkle_core.specs.Inner.Agreement.{distinct, slot_rows}
 use Rattle.p3_merkle_core.specs.Inner.Agreement.{first_query, layers_refusal, matrices_with, opened_of, rows_refusal}
-use Rattle.p3_merkle_core.specs.{Inner.Agreement.slot_rows, declared.error.MerkleTreeError.MerkleTreeError}
-use Rattle.p3_support.specs.{Lists.is_among, Batches.greatest, declared.matrix.Dimensions.Dimensions}
-use Rattle.p3_merkle_core.proofs.{Shapes.LeastFacts.least_is, Lists.RisingFacts.listed_at, Pruned.SlotFacts.at_slot}
+use Rattle.p3_merkle_core.specs.declared.error.MerkleTreeError.{MerkleTreeError}
+use Rattle.p3_support.specs.Lists.{is_among}
+use Rattle.p3_support.specs.Batches.{greatest}
+use Rattle.p3_support.specs.declared.matrix.Dimensions.{Dimensions}
+use Rattle.p3_merkle_core.proofs.Shapes.LeastFacts.{least_is}
+use Rattle.p3_merkle_core.proofs.Lists.RisingFacts.{listed_at}
+use Rattle.p3_merkle_core.proofs.Pruned.SlotFacts.{at_slot, first_place, found_at, highest, rising_order, some_place}
 use Rattle.p3_merkle_core.proofs.Pruned.SlotFacts.{distinct_below, distinct_queried, distinct_rising, first_of_index}
-use Rattle.p3_merkle_core.proofs.Pruned.SlotFacts.{first_place, found_at, highest, rising_order, some_place}
 use Rattle.p3_merkle_core.proofs.Pruned.LeadFacts.{first_before, first_there, layer_fault, first_slot_place, slot_fault}
 
 -- ---- places

@@ -1,14 +1,21 @@
 -- A pruned opening that is not refused has lawful heights, indices below M, rows of their widths, and its rows agree.
 use Rattle.std.proofs.Common.{◌≡◌, ℕ, suc, ◌<◌, ◌≤◌, Bool, true, eqb, List, [], ◌∷◌, map, refl, ap, sym, ◌∙◌, arith}
 use Rattle.std.proofs.Common.{inl, inr, length, get_or, None, filter, zip}
-use Rattle.std.proofs.lemmas.{Grind.common_steps, Bool.cases_Bool, List.length-map, List.get_or_default}
-use Rattle.std.specs.{Prelude.Ok, Prelude.Decides, Cmp.Lexicographic.pointwise, Cmp.Lexicographic.pointwise_decides}
-use Rattle.p3_merkle_core.proofs.Pruned.{SlotFacts.queried_at, NoneFacts.unless_none}
+use Rattle.std.proofs.lemmas.Grind.{common_steps}
+use Rattle.std.proofs.lemmas.Bool.{cases_Bool}
+use Rattle.std.proofs.lemmas.List.{length-map, get_or_default}
+use Rattle.std.specs.Prelude.{Ok, Decides}
+use Rattle.std.specs.Cmp.Lexicographic.{pointwise, pointwise_decides}
+use Rattle.p3_merkle_core.proofs.Pruned.SlotFacts.{queried_at}
+use Rattle.p3_merkle_core.proofs.Pruned.NoneFacts.{unless_none}
 use Rattle.p3_merkle_core.proofs.Pruned.NoneFacts.{verdict_ok, kept_none, range_none, paired_none, below_from, fit_from}
-use Rattle.p3_merkle_core.proofs.Shapes.{LeastFacts.widths_in_pairs, GateFacts.gate_lawful}
-use Rattle.p3_support.specs.{Lists.is_among, Batches.greatest}
+use Rattle.p3_merkle_core.proofs.Shapes.LeastFacts.{widths_in_pairs}
+use Rattle.p3_merkle_core.proofs.Shapes.GateFacts.{gate_lawful}
+use Rattle.p3_support.specs.Lists.{is_among}
+use Rattle.p3_support.specs.Batches.{greatest}
 use Rattle.p3_merkle_core.specs.Geometry.{Shape, exponent, layer_exponent, ancestor, heights, widths}
-use Rattle.p3_merkle_core.specs.{Gate.gate_refusal, Pruning.PrunedOpening, Pruning.boundary, Pruning.IsRestorable}
+use Rattle.p3_merkle_core.specs.Gate.{gate_refusal}
+use Rattle.p3_merkle_core.specs.Pruning.{PrunedOpening, boundary, IsRestorable}
 use Rattle.p3_merkle_core.specs.Refusals.{first_of, lead, matrices_at, slots_below, slot_of, queries_refusal}
 use Rattle.p3_merkle_core.specs.Refusals.{duplicate_refusal, width_refusal, row_refusal, group_refusal, pruned_refusal}
 use Rattle.p3_merkle_core.specs.Refusals.{pruned_answer, rows_of}

@@ -2,16 +2,20 @@
 -- single ones, and at honest ones.
 use Rattle.std.proofs.Common.{◌≡◌, ℕ, ◌<◌, ◌≤◌, eqb, List, [], ◌∷◌, map, refl, ap, sym, ◌∙◌, arith, length, get_or}
 use Rattle.std.proofs.Common.{filter, zip, ◌↔◌, Bool}
-use Rattle.std.proofs.lemmas.{Grind.common_steps, List.length-map, List.get_or-map}
+use Rattle.std.proofs.lemmas.Grind.{common_steps}
+use Rattle.std.proofs.lemmas.List.{length-map, get_or-map}
 use Rattle.p3_merkle_core.specs.Geometry.{exponent, layer_exponent, halved_index, heights, Shape, IsArity}
 use Rattle.p3_merkle_core.specs.Refusals.{answer_under, pruned_answer, pruned_answer_under, IsEquality}
-use Rattle.p3_merkle_core.specs.{Openings.honest_rows, Checks.params}
+use Rattle.p3_merkle_core.specs.Openings.{honest_rows}
+use Rattle.p3_merkle_core.specs.Checks.{params}
 use Rattle.p3_merkle_core.specs.Nodes.{Functions, Batch, Matrix, shape, node, dimensions_of, HasFullRows, layer}
 use Rattle.p3_merkle_core.specs.Pruning.{boundary, honest_query, IsHonestQuery, IsRestorable, PrunedOpening, opening_at}
 use Rattle.p3_support.specs.Batches.{greatest, heights_of}
 use Rattle.p3_merkle_core.proofs.Shapes.LadderFacts.{row_is_anc_at, row_below}
-use Rattle.p3_merkle_core.proofs.{Checks.CheckFacts.lengths_are, Pruned.Answered.restorable}
-use Rattle.p3_merkle_core.proofs.Covered.{Restoration.honest_capped, Equivalence.equivalent}
+use Rattle.p3_merkle_core.proofs.Checks.CheckFacts.{lengths_are}
+use Rattle.p3_merkle_core.proofs.Pruned.Answered.{restorable}
+use Rattle.p3_merkle_core.proofs.Covered.Restoration.{honest_capped}
+use Rattle.p3_merkle_core.proofs.Covered.Equivalence.{equivalent}
 use Rattle.p3_merkle_core.proofs.Checks.Verdicts.{accepted_from, accepted_answer, pruned_accepted}
 use Rattle.std.specs.Prelude.{Ok}
 

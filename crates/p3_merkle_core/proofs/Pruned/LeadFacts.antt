@@ -2,18 +2,27 @@
 use Rattle.std.proofs.Common.{◌++◌, All, ◌≡◌, ◌≢◌, ℕ, zero, suc, ◌+◌, ◌-◌, ◌/◌, ◌^◌, ◌<◌, ◌≤◌, Bool, true, false, eqb}
 use Rattle.std.proofs.Common.{List, [], ◌∷◌, map, refl, ap, sym, ◌∙◌, arith, inl, inr, length, filter, get_or, eq-eqb}
 use Rattle.std.proofs.Common.{Option, None, Some, Vec, drop, drop-cons, add-one}
-use Rattle.std.proofs.lemmas.{Grind.common_steps, Bool.cases_Bool, Bool.eqb-true, Bool.false_from_ne_true, Bool.ne_eqb}
-use Rattle.std.proofs.lemmas.{Bool.true≢false, Bool.cases_lt, List.Folds.list_any_at, Cmp.lists_equiv}
+use Rattle.std.proofs.lemmas.Grind.{common_steps}
+use Rattle.std.proofs.lemmas.Bool.{cases_Bool, eqb-true, false_from_ne_true, ne_eqb, true≢false, cases_lt}
+use Rattle.std.proofs.lemmas.List.Folds.{list_any_at}
+use Rattle.std.proofs.lemmas.Cmp.{lists_equiv}
 use Rattle.std.proofs.lemmas.List.{append_assoc, drop_all, get_or_default, get_or-map, length-map}
-use Rattle.std.specs.{List.list_any, List.range_with_len, Option.option_or, Cmp.IsEquivalence}
+use Rattle.std.specs.List.{list_any, range_with_len}
+use Rattle.std.specs.Option.{option_or}
+use Rattle.std.specs.Cmp.{IsEquivalence}
 use Rattle.std.specs.{List.Sorted.IsStrictlyIncreasing}
-use Rattle.p3_support.specs.{Shown.row_lists, Shown.row_sets, Lists.is_among, Batches.greatest, Batches.heights_of}
+use Rattle.p3_support.specs.Shown.{row_lists, row_sets}
+use Rattle.p3_support.specs.Lists.{is_among}
+use Rattle.p3_support.specs.Batches.{greatest, heights_of}
 use Rattle.p3_support.specs.declared.matrix.Dimensions.{Dimensions}
 use Rattle.p3_merkle_core.specs.Geometry.{Shape, ancestor, exponent, heights, layer_exponent, IsArity}
-use Rattle.p3_merkle_core.specs.{Refusals.first_of, Inner.Agreement.first_query, Inner.Agreement.matrices_with}
+use Rattle.p3_merkle_core.specs.Refusals.{first_of}
+use Rattle.p3_merkle_core.specs.Inner.Agreement.{first_query, matrices_with}
 use Rattle.p3_merkle_core.specs.Inner.Agreement.{rows_refusal, slot_rows, nodes_refusal, IsAscending}
 use Rattle.p3_merkle_core.specs.declared.error.MerkleTreeError.{MerkleTreeError}
-use Rattle.p3_merkle_core.proofs.Shapes.{LadderFacts.shifted_is_anc, LevelFacts.exponent_low, StepFacts.anc_start}
+use Rattle.p3_merkle_core.proofs.Shapes.LadderFacts.{shifted_is_anc}
+use Rattle.p3_merkle_core.proofs.Shapes.LevelFacts.{exponent_low}
+use Rattle.p3_merkle_core.proofs.Shapes.StepFacts.{anc_start}
 use Rattle.p3_merkle_core.proofs.Lists.RisingFacts.{listed_at, listed_in, none_kept, rising_from}
 use Rattle.p3_merkle_core.proofs.Pruned.SlotFacts.{first_place, rising_order, set_read}
 

@@ -1,10 +1,14 @@
 -- Refusals that do not hold, one by one.
 use Rattle.std.proofs.Common.{◌≡◌, ℕ, zero, suc, ◌+◌, ◌<◌, ◌≤◌, Bool, true, eqb, nat_lt, List, [], ◌∷◌, map, refl, ap}
 use Rattle.std.proofs.Common.{sym, ◌∙◌, arith, inl, inr, length, get_or, All, Option, Some, None, filter, zip}
-use Rattle.std.proofs.lemmas.{Grind.common_steps, Bool.cases_Bool, Bool.cases_eq, Bool.cond-true, Bool.cond-false}
-use Rattle.std.proofs.lemmas.{Bool.eqb-true, Bool.ltb-true, Bool.true≢false, List.get_or_default, List.length-map}
-use Rattle.std.specs.{Prelude.Ok, List.range_with_len, List.enumerate_from, Option.option_map, Option.option_or}
-use Rattle.p3_support.specs.{declared.matrix.Dimensions.Dimensions, Batches.greatest, Batches.widths_of}
+use Rattle.std.proofs.lemmas.Grind.{common_steps}
+use Rattle.std.proofs.lemmas.Bool.{cases_Bool, cases_eq, cond-true, cond-false, eqb-true, ltb-true, true≢false}
+use Rattle.std.proofs.lemmas.List.{get_or_default, length-map}
+use Rattle.std.specs.Prelude.{Ok}
+use Rattle.std.specs.List.{range_with_len, enumerate_from}
+use Rattle.std.specs.Option.{option_map, option_or}
+use Rattle.p3_support.specs.declared.matrix.Dimensions.{Dimensions}
+use Rattle.p3_support.specs.Batches.{greatest, widths_of}
 use Rattle.p3_merkle_core.specs.Refusals.{first_of, unless, width_refusal, row_width_refusal, queries_refusal}
 use Rattle.p3_merkle_core.specs.Refusals.{width_fault, ok_unless}
 use Rattle.p3_merkle_core.specs.declared.error.MerkleTreeError.TheVariants.{WrongWidth, IndexOutOfBounds}

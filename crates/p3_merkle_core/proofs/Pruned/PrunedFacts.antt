@@ -1,16 +1,21 @@
 -- The reasons to refuse a pruned opening, those before there are slots and those after.
 use Rattle.std.proofs.Common.{◌≡◌, ℕ, ◌<◌, Bool, List, [], ◌∷◌, ◌++◌, map, refl, ap, ◌∙◌, length, arith, get_or, All}
 use Rattle.std.proofs.Common.{Option, None, Some}
-use Rattle.std.proofs.lemmas.{Grind.common_steps, Bool.eqb-true, Bool.ltb-true, List.length-map, List.length-replicate}
-use Rattle.p3_support.specs.{declared.matrix.Dimensions.Dimensions, Batches.greatest}
-use Rattle.p3_merkle_core.specs.{Geometry.Shape, Geometry.heights, Pruning.PrunedOpening, Pruning.boundary}
+use Rattle.std.proofs.lemmas.Grind.{common_steps}
+use Rattle.std.proofs.lemmas.Bool.{eqb-true, ltb-true}
+use Rattle.std.proofs.lemmas.List.{length-map, length-replicate}
+use Rattle.p3_support.specs.declared.matrix.Dimensions.{Dimensions}
+use Rattle.p3_support.specs.Batches.{greatest}
+use Rattle.p3_merkle_core.specs.Geometry.{Shape, heights}
+use Rattle.p3_merkle_core.specs.Pruning.{PrunedOpening, boundary}
 use Rattle.p3_merkle_core.specs.Refusals.{digest_count_refusal, first_of, first_some, group_refusal, pruned_refusal}
 use Rattle.p3_merkle_core.specs.Refusals.{duplicate_refusal, slots_below, width_refusal, rows_of}
 use Rattle.p3_merkle_core.specs.Inner.Agreement.{distinct, early_refusal, first_query, late_refusal, layers_refusal}
 use Rattle.p3_merkle_core.specs.Inner.Agreement.{opened_of, opened_with, slot_rows}
 use Rattle.p3_merkle_core.specs.declared.error.MerkleTreeError.{MerkleTreeError}
 use Rattle.p3_merkle_core.proofs.Pruned.NoneFacts.{below_from, each_none, fit_from, none_of_both, none_parts}
-use Rattle.p3_merkle_core.proofs.Pruned.{NoneFacts.unless_none, AgreeFacts.groups_are, AgreeFacts.widths_are}
+use Rattle.p3_merkle_core.proofs.Pruned.NoneFacts.{unless_none}
+use Rattle.p3_merkle_core.proofs.Pruned.AgreeFacts.{groups_are, widths_are}
 
 -- where none of some reasons holds, those after them decide
 past_none : {E : Type 0} (xs ys : List (Option E)) → first_some xs ≡ None → first_some (xs ++ ys) ≡ first_some ys

@@ -4,18 +4,28 @@ use Rattle.std.proofs.Common.{ap, sym, ◌∙◌, arith, inl, inr, length, filte
 use Rattle.std.proofs.Common.{replicate, ◌≢◌, drop-cons, add-one, Option, Some, not, Vec}
 use Rattle.std.proofs.lemmas.Grind.{common_steps}
 use Rattle.std.proofs.lemmas.Bool.{cases_Bool, eqb-true, or_cases, true≢false, ne_eqb, cases_lt}
-use Rattle.std.proofs.lemmas.{Cmp.lists_equiv, List.drop_all, List.get_or-map, List.get_or_default, List.length-map}
+use Rattle.std.proofs.lemmas.Cmp.{lists_equiv}
+use Rattle.std.proofs.lemmas.List.{drop_all, get_or-map, get_or_default, length-map}
 use Rattle.std.proofs.lemmas.List.Sorted.{IsNonDecreasingBy-from_sort, IsPermutation-map, list_any-IsPermutation}
-use Rattle.std.specs.Cmp.{both_ways, IsEquivalence, Derive.Mapped.pointwise-map, Lexicographic.pointwise}
-use Rattle.std.specs.List.{dedup, range_with_len, Sorted.IsPermutation, Sorted.IsSorted}
-use Rattle.std.specs.{Option.option_or, Ordering.is_lt, Ordering.nat_cmp, Ordering.ordering_then}
-use Rattle.std.specs.declared.cmp.Ordering.{Ordering, TheVariants.Less, TheVariants.Equal, TheVariants.Greater}
-use Rattle.p3_support.specs.{Shown.row_lists, Shown.row_sets, Lists.is_among, Batches.greatest}
+use Rattle.std.specs.Cmp.{both_ways, IsEquivalence}
+use Rattle.std.specs.Cmp.Derive.Mapped.{pointwise-map}
+use Rattle.std.specs.Cmp.Lexicographic.{pointwise}
+use Rattle.std.specs.List.{dedup, range_with_len}
+use Rattle.std.specs.List.Sorted.{IsPermutation, IsSorted}
+use Rattle.std.specs.Option.{option_or}
+use Rattle.std.specs.Ordering.{is_lt, nat_cmp, ordering_then}
+use Rattle.std.specs.declared.cmp.Ordering.{Ordering}
+use Rattle.std.specs.declared.cmp.Ordering.TheVariants.{Less, Equal, Greater}
+use Rattle.p3_support.specs.Shown.{row_lists, row_sets}
+use Rattle.p3_support.specs.Lists.{is_among}
+use Rattle.p3_support.specs.Batches.{greatest}
 use Rattle.p3_merkle_core.specs.Geometry.{Shape, heights, layer_len, raw_len}
-use Rattle.p3_merkle_core.specs.{Pruning.PrunedOpening, Pruning.is_covered, Inner.Covered.covered_at}
+use Rattle.p3_merkle_core.specs.Pruning.{PrunedOpening, is_covered}
+use Rattle.p3_merkle_core.specs.Inner.Covered.{covered_at}
 use Rattle.p3_merkle_core.specs.Refusals.{slots_below, slot_of, first_of, unless, rows_of}
 use Rattle.p3_merkle_core.specs.declared.error.PrunedProofError.TheVariants.{InconsistentDuplicateOpenings}
-use Rattle.p3_merkle_core.specs.declared.error.MerkleTreeError.{MerkleTreeError, TheVariants.MalformedPrunedProof}
+use Rattle.p3_merkle_core.specs.declared.error.MerkleTreeError.{MerkleTreeError}
+use Rattle.p3_merkle_core.specs.declared.error.MerkleTreeError.TheVariants.{MalformedPrunedProof}
 use Rattle.p3_merkle_core.specs.Inner.Agreement.{distinct, first_query, opened_of, IsAscending, IsSlot}
 use Rattle.p3_merkle_core.proofs.Checks.CheckFacts.{padded_ge}
 use Rattle.p3_merkle_core.proofs.Lists.RisingFacts.{is_listed, IsRising, div_mono, filter_is, listed_dedup, listed_in}

@@ -1,11 +1,15 @@
 -- The slots of queries, by a walk over the queries in the order of their indices.
 use Rattle.std.proofs.Common.{◌≡◌, ◌∙◌, ℕ, ◌+◌, ◌-◌, ◌<◌, ◌≤◌, ◌⊎◌, ◌++◌, ◌∷◌, [], List, arith, ap, sym, eqb, get_or}
 use Rattle.std.proofs.Common.{inl, inr, length, length-append, map, refl, set, take}
-use Rattle.std.proofs.{lemmas.Grind.common_steps, Math.Seq.get_or-append_seam, lemmas.List.get_or-map}
+use Rattle.std.proofs.lemmas.Grind.{common_steps}
+use Rattle.std.proofs.Math.Seq.{get_or-append_seam}
+use Rattle.std.proofs.lemmas.List.{get_or-map, length-set}
 use Rattle.std.proofs.lemmas.List.{get_or-set_same, get_or-set_other, get_or_append_left, length-map, get_or_default}
-use Rattle.std.proofs.lemmas.List.{length-set, FromFn.get_or-map-range_with_len, FromFn.length-map-range_with_len}
-use Rattle.std.proofs.lemmas.{List.Sorted.All-permutation, List.Sorted.Contains-permutation, Bool.cases_eq}
-use Rattle.std.specs.List.{dedup, range_with_len, Sorted.IsPermutation, Sorted.IsSorted}
+use Rattle.std.proofs.lemmas.List.FromFn.{get_or-map-range_with_len, length-map-range_with_len}
+use Rattle.std.proofs.lemmas.List.Sorted.{All-permutation, Contains-permutation}
+use Rattle.std.proofs.lemmas.Bool.{cases_eq}
+use Rattle.std.specs.List.{dedup, range_with_len}
+use Rattle.std.specs.List.Sorted.{IsPermutation, IsSorted}
 use Rattle.std.specs.Ordering.{nat_cmp, ordering_then}
 use Rattle.p3_merkle_core.specs.Inner.Agreement.{distinct, AreSlots, AreSorted, IsSlot}
 use Rattle.p3_merkle_core.proofs.Lists.DedupFacts.{dropped, stays}

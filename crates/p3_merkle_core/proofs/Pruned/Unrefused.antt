@@ -1,14 +1,22 @@
 -- A restorable pruned opening is not refused.
 use Rattle.std.proofs.Common.{◌≡◌, ℕ, zero, suc, ◌+◌, ◌<◌, ◌≤◌, Bool, true, false, eqb, nat_lt, ◌&&◌, List, [], ◌∷◌}
 use Rattle.std.proofs.Common.{map, refl, ap, sym, ◌∙◌, arith, inl, inr, length, get_or, drop, All, Option, None, filter}
-use Rattle.std.proofs.{Common.zip, Common.find, Common.eq-eqb, lemmas.List.length-map, lemmas.Grind.common_steps}
+use Rattle.std.proofs.Common.{zip, find, eq-eqb}
+use Rattle.std.proofs.lemmas.List.{length-map}
+use Rattle.std.proofs.lemmas.Grind.{common_steps}
 use Rattle.std.proofs.lemmas.Bool.{cases_Bool, cond-false, eqb-true, lt-ltb, ne_eqb, and_parts, and_from, true≢false}
-use Rattle.std.specs.{Prelude.Ok, Prelude.Decides, Cmp.Lexicographic.pointwise, Cmp.Lexicographic.pointwise_decides}
-use Rattle.std.specs.{List.range_with_len, List.enumerate_from, Option.unwrap_or, Option.option_map}
-use Rattle.p3_support.specs.{declared.matrix.Dimensions.Dimensions, Lists.is_among, Batches.greatest, Batches.widths_of}
-use Rattle.p3_merkle_core.proofs.Pruned.{NoneFacts.none_of_both, NoneFacts.none_unless, SlotFacts.queried_at}
-use Rattle.p3_merkle_core.proofs.Shapes.{GateFacts.gate_lawful, LeastFacts.widths_in_pairs, LeastFacts.least_passes}
-use Rattle.p3_merkle_core.proofs.{Shapes.LeastFacts.least_bound, Lists.ListFacts.joined_more}
+use Rattle.std.specs.Prelude.{Ok, Decides}
+use Rattle.std.specs.Cmp.Lexicographic.{pointwise, pointwise_decides}
+use Rattle.std.specs.List.{range_with_len, enumerate_from}
+use Rattle.std.specs.Option.{unwrap_or, option_map}
+use Rattle.p3_support.specs.declared.matrix.Dimensions.{Dimensions}
+use Rattle.p3_support.specs.Lists.{is_among}
+use Rattle.p3_support.specs.Batches.{greatest, widths_of}
+use Rattle.p3_merkle_core.proofs.Pruned.NoneFacts.{none_of_both, none_unless}
+use Rattle.p3_merkle_core.proofs.Pruned.SlotFacts.{queried_at}
+use Rattle.p3_merkle_core.proofs.Shapes.GateFacts.{gate_lawful}
+use Rattle.p3_merkle_core.proofs.Shapes.LeastFacts.{widths_in_pairs, least_passes, least_bound}
+use Rattle.p3_merkle_core.proofs.Lists.ListFacts.{joined_more}
 use Rattle.p3_merkle_core.specs.Geometry.{Shape, exponent, layer_exponent, ancestor, least, layer_len, heights}
 use Rattle.p3_merkle_core.specs.Pruning.{PrunedOpening, is_boundary, boundary, boundary_at, IsRestorable}
 use Rattle.p3_merkle_core.specs.Refusals.{first_of, lead, matrices_at, slots_below, slot_of, size_refusal}

@@ -1,9 +1,14 @@
 -- A number that passes the test of arities is one.
 use Rattle.std.proofs.Common.{◌≡◌, ℕ, zero, suc, ◌+◌, ◌^◌, ◌<◌, ◌≤◌, true, eqb, refl, arith, inl, inr, ◌-◌, get_or, ap}
-use Rattle.std.proofs.{Common.sym, Common.◌∙◌, lemmas.List.Folds.list_any_at, Math.Pow.pow_mono, Math.Nat.two-pow-succ}
-use Rattle.std.proofs.lemmas.{Nat.pow_pos, List.FromFn.get_or-range_with_len, List.FromFn.length-range_with_len}
+use Rattle.std.proofs.Common.{sym, ◌∙◌}
+use Rattle.std.proofs.lemmas.List.Folds.{list_any_at}
+use Rattle.std.proofs.Math.Pow.{pow_mono}
+use Rattle.std.proofs.Math.Nat.{two-pow-succ}
+use Rattle.std.proofs.lemmas.Nat.{pow_pos}
+use Rattle.std.proofs.lemmas.List.FromFn.{get_or-range_with_len, length-range_with_len}
 use Rattle.std.proofs.lemmas.Bool.{cases_Bool, cases_eq, cases_lt, eq-eqb, eqb-true, false≢true}
-use Rattle.std.specs.{Prelude.IsTrue, List.list_any, List.range_with_len}
+use Rattle.std.specs.Prelude.{IsTrue}
+use Rattle.std.specs.List.{list_any, range_with_len}
 use Rattle.p3_merkle_core.specs.Geometry.{exponent, is_arity, IsArity}
 use Rattle.p3_merkle_core.proofs.Shapes.LeastFacts.{exponent_is}
 

@@ -3,19 +3,25 @@
 use Rattle.std.proofs.Common.{◌≡◌, ℕ, zero, suc, ◌+◌, ◌-◌, ◌*◌, ◌<◌, ◌≤◌, true, false, eqb, List, [], ◌∷◌, min, refl}
 use Rattle.std.proofs.Common.{ap, sym, ◌∙◌, arith, inl, inr, add-suc, length, get_or}
 use Rattle.std.proofs.lemmas.Bool.{and_right, cases_eq, cases_lt, cond-false, eq-eqb, eqb-true, le-leb, le-ltb}
-use Rattle.std.proofs.{lemmas.Bool.leb-true, lemmas.Bool.ne_eqb, Math.Nat.suc-mul, lemmas.List.Folds.Any-from_list_any}
-use Rattle.std.proofs.lemmas.{List.Folds.list_any_at, List.Folds.list_any_none, Grind.common_steps}
-use Rattle.std.specs.{Prelude.All, Prelude.IsTrue, Int.div_ceil}
-use Rattle.p3_merkle_core.specs.{Caps.cap_layer, Caps.levels_above_rows, Geometry.Shape, Geometry.IsArity}
+use Rattle.std.proofs.lemmas.Bool.{leb-true, ne_eqb}
+use Rattle.std.proofs.Math.Nat.{suc-mul}
+use Rattle.std.proofs.lemmas.List.Folds.{Any-from_list_any, list_any_at, list_any_none}
+use Rattle.std.proofs.lemmas.Grind.{common_steps}
+use Rattle.std.specs.Prelude.{All, IsTrue}
+use Rattle.std.specs.Int.{div_ceil}
+use Rattle.p3_merkle_core.specs.Caps.{cap_layer, levels_above_rows}
+use Rattle.p3_merkle_core.specs.Geometry.{Shape, IsArity, layer_of, levels}
 use Rattle.p3_merkle_core.specs.Geometry.{exponent, has_rows, heights, is_bridge, layer_below_root, layer_exponent}
-use Rattle.p3_merkle_core.specs.{Geometry.layer_of, Geometry.levels, Inner.Shapes.shortest, Checks.is_authenticated}
+use Rattle.p3_merkle_core.specs.Inner.Shapes.{shortest}
+use Rattle.p3_merkle_core.specs.Checks.{is_authenticated}
 use Rattle.p3_merkle_core.specs.declared.cap.CapRule.TheVariants.{Lowered, Fixed}
 use Rattle.p3_support.specs.Batches.{greatest}
-use Rattle.p3_merkle_core.proofs.Shapes.{QuotientFacts.ceil_below, QuotientFacts.ceil_covers, LeastFacts.exponent_le}
+use Rattle.p3_merkle_core.proofs.Shapes.QuotientFacts.{ceil_below, ceil_covers}
+use Rattle.p3_merkle_core.proofs.Shapes.LeastFacts.{exponent_le, least_passes, shortest_there}
 use Rattle.p3_merkle_core.proofs.Shapes.LeastFacts.{exponent_mono, least_bound, least_height_below, least_is, least_le}
-use Rattle.p3_merkle_core.proofs.Shapes.{LeastFacts.least_passes, LeastFacts.shortest_there, StepFacts.next_exponent}
-use Rattle.p3_merkle_core.proofs.Shapes.{StepFacts.whole_step_falls, LadderFacts.exponent_at_levels}
-use Rattle.p3_merkle_core.proofs.Shapes.{LadderFacts.layer_of_is, LadderFacts.levels_le, FallFacts.falls_above}
+use Rattle.p3_merkle_core.proofs.Shapes.StepFacts.{next_exponent, whole_step_falls}
+use Rattle.p3_merkle_core.proofs.Shapes.LadderFacts.{exponent_at_levels, layer_of_is, levels_le}
+use Rattle.p3_merkle_core.proofs.Shapes.FallFacts.{falls_above}
 
 -- ---- the steps from an exponent that no matrix is below
 

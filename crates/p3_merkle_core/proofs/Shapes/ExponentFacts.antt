@@ -3,17 +3,23 @@
 use Rattle.std.proofs.Common.{◌≡◌, ℕ, suc, ◌+◌, ◌-◌, ◌*◌, ◌<◌, ◌≤◌, ◌%◌, ◌^◌, max, nat_lt, cond, bit_or, List, length}
 use Rattle.std.proofs.Common.{ap, ◌∙◌, arith, inl, inr, drop, get_or, ◌&&◌, true, false, Bool, [], ◌∷◌, refl, sym, eqb}
 use Rattle.std.proofs.Common.{get_or-take, take, set, map, zero}
-use Rattle.std.proofs.Math.{Nat.mod-eq_of_lt, Nat.mod-lt, Nat.mul-mod_left, Nat.zero-mod, Nat.suc-mul, Pow.pow_mono}
+use Rattle.std.proofs.Math.Nat.{mod-eq_of_lt, mod-lt, mul-mod_left, zero-mod, suc-mul}
+use Rattle.std.proofs.Math.Pow.{pow_mono}
 use Rattle.std.proofs.lemmas.Bool.{cases_lt, lt-ltb, le-ltb, cases_Bool, cases_eq, eq-eqb, ne_eqb, true≢false}
-use Rattle.std.proofs.lemmas.{Grind.common_steps, Grind.pow_more, List.take_more_set, List.take_more}
+use Rattle.std.proofs.lemmas.Grind.{common_steps, pow_more}
+use Rattle.std.proofs.lemmas.List.{take_more_set, take_more}
 use Rattle.std.proofs.lemmas.List.FromFn.{map-range_with_len_more, get_or-map-range_with_len}
 use Rattle.std.proofs.lemmas.Nat.{le_or_l, le_or_r, leading_length, or_lt, or_mod, pow-add, pow_below, pow_pos}
 use Rattle.std.specs.Int.Count.{leading_of_zero, leading_unique}
-use Rattle.std.specs.{Int.Bits.or_zero_r, Prelude.◌==◌, List.list_any, List.range_with_len}
-use Rattle.p3_support.specs.{Batches.heights_of, declared.matrix.Dimensions.Dimensions}
+use Rattle.std.specs.Int.Bits.{or_zero_r}
+use Rattle.std.specs.Prelude.{◌==◌}
+use Rattle.std.specs.List.{list_any, range_with_len}
+use Rattle.p3_support.specs.Batches.{heights_of}
+use Rattle.p3_support.specs.declared.matrix.Dimensions.{Dimensions}
 use Rattle.p3_merkle_core.specs.Geometry.{exponent, Shape, heights, is_bridge, layer_exponent}
 use Rattle.p3_merkle_core.specs.Inner.Exponents.{digits, next_below}
-use Rattle.p3_merkle_core.specs.{Inner.Steps.level_step, declared.steps.LevelStep.LevelStep}
+use Rattle.p3_merkle_core.specs.Inner.Steps.{level_step}
+use Rattle.p3_merkle_core.specs.declared.steps.LevelStep.{LevelStep}
 use Rattle.p3_merkle_core.proofs.Shapes.StepFacts.{whole_step_falls, next_exponent, IsAt, at_more}
 
 -- a number that has k digits

@@ -1,10 +1,12 @@
 -- Exponents go down from layer to layer. The last layer is one node, and the last step is of the whole arity.
 use Rattle.std.proofs.Common.{◌≡◌, ℕ, zero, suc, ◌+◌, ◌-◌, ◌<◌, ◌≤◌, arith, inl, inr, add-suc, sym, ◌∙◌}
-use Rattle.std.proofs.lemmas.{Grind.common_steps, Bool.false≢true}
+use Rattle.std.proofs.lemmas.Grind.{common_steps}
+use Rattle.std.proofs.lemmas.Bool.{false≢true}
 use Rattle.p3_merkle_core.specs.Geometry.{Shape, IsArity, layer_exponent, levels, heights, exponent, step, layer_len}
 use Rattle.p3_merkle_core.proofs.Shapes.StepFacts.{next_exponent, next_falls}
 use Rattle.p3_merkle_core.proofs.Shapes.LadderFacts.{step_cases, exponent_at_levels}
-use Rattle.p3_merkle_core.proofs.Shapes.{RawFacts.positive_below, RawFacts.filled, SiblingFacts.none_between}
+use Rattle.p3_merkle_core.proofs.Shapes.RawFacts.{positive_below, filled}
+use Rattle.p3_merkle_core.proofs.Shapes.SiblingFacts.{none_between}
 use Rattle.p3_support.specs.Batches.{greatest}
 
 pub exponents_fall : (s : Shape) (l k : ℕ) → layer_exponent s (l + k) ≤ layer_exponent s l

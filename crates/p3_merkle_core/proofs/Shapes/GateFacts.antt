@@ -3,11 +3,13 @@ use Rattle.std.proofs.Common.{◌≡◌, ℕ, zero, suc, ◌<◌, ◌≤◌, Boo
 use Rattle.std.proofs.Common.{arith, inl, inr, length, get_or, Some, None, All, position, find, eq-eqb, ◌↔◌, Option}
 use Rattle.std.proofs.lemmas.Grind.{common_steps}
 use Rattle.std.proofs.lemmas.Bool.{cases_lt, cases_Bool, ltb-false, le-ltb, lt-ltb, eqb-true, not-false, not_from_true}
-use Rattle.std.proofs.lemmas.{Bool.cond-true, Bool.cond-false, Bool.ne_eqb, Bool.eqb-false, List.get_or_default}
-use Rattle.std.proofs.lemmas.List.{get_or-map, length-map, Sums.fails_before_first, Sums.position_or_len_is}
+use Rattle.std.proofs.lemmas.Bool.{cond-true, cond-false, ne_eqb, eqb-false}
+use Rattle.std.proofs.lemmas.List.{get_or_default, get_or-map, length-map}
+use Rattle.std.proofs.lemmas.List.Sums.{fails_before_first, position_or_len_is}
 use Rattle.std.specs.List.{position_or_len}
 use Rattle.p3_merkle_core.specs.Geometry.{height_limit, expected_height, IsLawful}
-use Rattle.p3_support.specs.{Batches.greatest, Batches.heights_of, declared.matrix.Dimensions.Dimensions}
+use Rattle.p3_support.specs.Batches.{greatest, heights_of}
+use Rattle.p3_support.specs.declared.matrix.Dimensions.{Dimensions}
 use Rattle.p3_merkle_core.specs.Gate.{first_too_large, first_off_ladder, gate_refusal, height_refusal_of}
 use Rattle.p3_merkle_core.proofs.Shapes.LeastFacts.{le_tallest}
 

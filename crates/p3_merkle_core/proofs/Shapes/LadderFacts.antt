@@ -2,15 +2,19 @@
 use Rattle.std.proofs.Common.{◌≡◌, ℕ, zero, suc, ◌+◌, ◌-◌, ◌*◌, ◌/◌, ◌^◌, ◌<◌, ◌≤◌, Bool, true, false, eqb, nat_lt}
 use Rattle.std.proofs.Common.{◌&&◌, ap, sym, ◌∙◌, arith, inl, inr, ◌⊎◌, length, get_or}
 use Rattle.std.proofs.Math.Nat.{mul_assoc, two-pow-succ, mul-le-mul_left, mul-div_cancel, div-eq_of_lt, sub-zero}
-use Rattle.std.proofs.{Math.Pow.pow_mono, lemmas.Bool.cond-true}
+use Rattle.std.proofs.Math.Pow.{pow_mono}
+use Rattle.std.proofs.lemmas.Bool.{cond-true, eqb-true}
 use Rattle.std.proofs.lemmas.Bool.{cond-false, cases_Bool, cases_lt, cases_eq, eq-eqb, and_from, lt-ltb, false≢true}
-use Rattle.std.proofs.lemmas.{Bool.eqb-true, Grind.common_steps, List.Folds.list_any_at, Nat.pow-add, Nat.pow_pos}
+use Rattle.std.proofs.lemmas.Grind.{common_steps}
+use Rattle.std.proofs.lemmas.List.Folds.{list_any_at}
+use Rattle.std.proofs.lemmas.Nat.{pow-add, pow_pos}
 pub use Rattle.p3_merkle_core.specs.Geometry.{IsArity, heights}
 pub use Rattle.p3_support.specs.Batches.{greatest}
 use Rattle.p3_merkle_core.specs.Geometry.{Shape, exponent, layer_exponent, is_bridge, step, levels, leaves_under}
 use Rattle.p3_merkle_core.specs.Geometry.{ancestor, halved_index, layer_of, expected_height}
 use Rattle.p3_merkle_core.proofs.Shapes.LeastFacts.{least_le, least_passes, least_bound, exponent_covers, exponent_mono}
-use Rattle.p3_merkle_core.proofs.Shapes.{LeastFacts.le_tallest, StepFacts.next_exponent, StepFacts.whole_step_falls}
+use Rattle.p3_merkle_core.proofs.Shapes.LeastFacts.{le_tallest}
+use Rattle.p3_merkle_core.proofs.Shapes.StepFacts.{next_exponent, whole_step_falls}
 
 -- what a step does: by one and two, or by the arity
 pub step_cases : (s : Shape) (l : ℕ) →

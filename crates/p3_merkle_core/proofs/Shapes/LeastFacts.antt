@@ -3,7 +3,10 @@ use Rattle.std.proofs.Common.{◌≡◌, ℕ, zero, suc, ◌+◌, ◌-◌, ◌*�
 use Rattle.std.proofs.Common.{refl, ap, sym, ◌∙◌, arith, inl, inr, ◌⊎◌, length, get_or}
 use Rattle.std.proofs.lemmas.Grind.{common_steps}
 use Rattle.std.proofs.lemmas.Bool.{cases_lt, cases_Bool, false≢true, le-leb, lt-leb, leb-true, leb-false}
-use Rattle.std.proofs.{Math.Nat.two-pow-succ, lemmas.Nat.pow_pos, Math.Pow.pow_mono, lemmas.List.length-map}
+use Rattle.std.proofs.Math.Nat.{two-pow-succ}
+use Rattle.std.proofs.lemmas.Nat.{pow_pos}
+use Rattle.std.proofs.Math.Pow.{pow_mono}
+use Rattle.std.proofs.lemmas.List.{length-map}
 use Rattle.p3_merkle_core.specs.Geometry.{least, exponent, Shape, heights, widths}
 use Rattle.p3_merkle_core.specs.Inner.Shapes.{least_height, shortest}
 use Rattle.p3_support.specs.Batches.{greatest}

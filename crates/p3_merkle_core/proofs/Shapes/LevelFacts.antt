@@ -1,13 +1,18 @@
 -- What is known of the layer above a layer.
 use Rattle.std.proofs.Common.{◌≡◌, ℕ, zero, suc, ◌/◌, ◌^◌, ◌≤◌, ◌&&◌, Bool, cond, nat_lt, ap, sym, ◌∙◌, arith, inl, inr}
-use Rattle.std.proofs.{Math.Pow.pow_mono, lemmas.Grind.common_steps}
+use Rattle.std.proofs.Math.Pow.{pow_mono}
+use Rattle.std.proofs.lemmas.Grind.{common_steps}
 use Rattle.p3_merkle_core.specs.Geometry.{Shape, heights, exponent, has_rows, layer_exponent, is_bridge, levels}
 use Rattle.p3_merkle_core.specs.Geometry.{raw_len, grouped_len_of, padded_len, height_limit, step, IsArity, IsLawful}
-use Rattle.p3_merkle_core.specs.{Geometry.height_at, Inner.Levels.IsBelowTop, Inner.Levels.IsLevel}
+use Rattle.p3_merkle_core.specs.Geometry.{height_at}
+use Rattle.p3_merkle_core.specs.Inner.Levels.{IsBelowTop, IsLevel}
 use Rattle.p3_support.specs.Batches.{greatest}
 use Rattle.p3_merkle_core.proofs.Shapes.GateFacts.{tallest_fits, none_large_from_lawful}
-use Rattle.p3_merkle_core.proofs.Shapes.{LeastFacts.exponent_le, LadderFacts.step_cases, SiblingFacts.step_is}
-use Rattle.p3_merkle_core.proofs.Shapes.{StepFacts.layer_start, RawFacts.filled, RawFacts.children_fit, RawFacts.raw_at}
+use Rattle.p3_merkle_core.proofs.Shapes.LeastFacts.{exponent_le}
+use Rattle.p3_merkle_core.proofs.Shapes.LadderFacts.{step_cases}
+use Rattle.p3_merkle_core.proofs.Shapes.SiblingFacts.{step_is}
+use Rattle.p3_merkle_core.proofs.Shapes.StepFacts.{layer_start}
+use Rattle.p3_merkle_core.proofs.Shapes.RawFacts.{filled, children_fit, raw_at}
 
 -- no lawful height is above the limit
 pub low : (s : Shape) → IsLawful (heights s) → greatest (heights s) ≤ height_limit

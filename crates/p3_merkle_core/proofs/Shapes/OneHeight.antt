@@ -2,19 +2,27 @@
 use Rattle.std.proofs.Common.{◌≡◌, ℕ, zero, suc, ◌+◌, ◌-◌, ◌*◌, ◌/◌, ◌^◌, ◌<◌, ◌≤◌, true, false, nat_le, nat_lt, List}
 use Rattle.std.proofs.Common.{[], ◌∷◌, map, length, filter, get_or, refl, sym, ap, ◌∙◌, arith, inl, inr, cond, ◌&&◌}
 use Rattle.std.proofs.Math.Nat.{mul_comm, mul-div_cancel_left, mul-le-mul_left, pow-succ', pow-zero, suc-mul}
-use Rattle.std.proofs.{Math.Pow.pow_mono, lemmas.Grind.common_steps}
+use Rattle.std.proofs.Math.Pow.{pow_mono}
+use Rattle.std.proofs.lemmas.Grind.{common_steps}
 use Rattle.std.proofs.lemmas.Bool.{cases_lt, cond-false, cond-true, eq-eqb, le-leb, le-ltb, leb-true, lt-leb, lt-ltb}
-use Rattle.std.proofs.lemmas.{List.FromFn.length-map-range_with_len, Nat.pow-add, Nat.pow_pos}
-use Rattle.std.specs.{Prelude.All, Prelude.◌==◌, Int.div_ceil, List.range_with_len}
-use Rattle.p3_support.specs.{Batches.greatest, Batches.heights_of, declared.matrix.Dimensions.Dimensions}
-use Rattle.p3_merkle_core.specs.{Caps.cap_layer, Geometry.Shape, Geometry.IsArity, Geometry.exponent, Geometry.has_rows}
+use Rattle.std.proofs.lemmas.List.FromFn.{length-map-range_with_len}
+use Rattle.std.proofs.lemmas.Nat.{pow-add, pow_pos}
+use Rattle.std.specs.Prelude.{All, ◌==◌}
+use Rattle.std.specs.Int.{div_ceil}
+use Rattle.std.specs.List.{range_with_len}
+use Rattle.p3_support.specs.Batches.{greatest, heights_of}
+use Rattle.p3_support.specs.declared.matrix.Dimensions.{Dimensions}
+use Rattle.p3_merkle_core.specs.Caps.{cap_layer}
+use Rattle.p3_merkle_core.specs.Geometry.{Shape, IsArity, exponent, has_rows}
 use Rattle.p3_merkle_core.specs.Geometry.{heights, is_bridge, layer_exponent, least, levels, padded_len, raw_len, step}
 use Rattle.p3_merkle_core.specs.Nodes.{Batch, Functions, Matrix, at_layer, compress_padded, dimensions_of, joined_rows}
 use Rattle.p3_merkle_core.specs.Nodes.{node, row_digest, shape, with_rows}
 use Rattle.p3_merkle_core.specs.OneHeight.{HasHeight, cap_layer_of_height, levels_of_height, nodes_of_height}
-use Rattle.p3_merkle_core.specs.declared.cap.CapRule.{CapRule, TheVariants.Lowered, TheVariants.Fixed}
+use Rattle.p3_merkle_core.specs.declared.cap.CapRule.{CapRule}
+use Rattle.p3_merkle_core.specs.declared.cap.CapRule.TheVariants.{Lowered, Fixed}
 use Rattle.p3_merkle_core.proofs.Shapes.CapFacts.{levels_from, no_bridge_from, no_rows_below, whole_steps}
-use Rattle.p3_merkle_core.proofs.Shapes.{FallFacts.falls_above, LeastFacts.below_exponent, LeastFacts.exponent_covers}
+use Rattle.p3_merkle_core.proofs.Shapes.FallFacts.{falls_above}
+use Rattle.p3_merkle_core.proofs.Shapes.LeastFacts.{below_exponent, exponent_covers}
 use Rattle.p3_merkle_core.proofs.Shapes.LeastFacts.{exponent_le, least_is, least_le, least_passes, n_below_pow}
 use Rattle.p3_merkle_core.proofs.Shapes.QuotientFacts.{ceil_below, ceil_ceil, ceil_covers, ceil_is, ceil_le, ceil-one}
 use Rattle.p3_merkle_core.proofs.Shapes.RawFacts.{above_1, filled, least_multiple, padded_long, padded_short}

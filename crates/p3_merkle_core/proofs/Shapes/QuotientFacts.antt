@@ -1,6 +1,7 @@
 -- Quotients that are rounded up.
 use Rattle.std.proofs.Common.{◌≡◌, ℕ, ◌*◌, ◌<◌, ◌≤◌, arith, inl, inr, sym, ap, ◌∙◌}
-use Rattle.std.proofs.lemmas.{Grind.common_steps, Bool.cases_lt}
+use Rattle.std.proofs.lemmas.Grind.{common_steps}
+use Rattle.std.proofs.lemmas.Bool.{cases_lt}
 use Rattle.std.proofs.Math.Nat.{div-one, mod-one, mul_assoc, mul_comm, mul-le-mul_left}
 use Rattle.std.specs.Int.{div_ceil}
 

@@ -3,9 +3,10 @@ use Rattle.std.proofs.Common.{◌≡◌, ℕ, zero, suc, ◌+◌, ◌-◌, ◌*�
 use Rattle.std.proofs.Common.{ap, sym, ◌∙◌, arith, inl, inr}
 use Rattle.std.proofs.Math.Nat.{mul_assoc, mul_comm, two-pow-succ, mul-le-mul_left, mul-div_cancel_left, mod-eq_of_lt}
 use Rattle.std.proofs.Math.Nat.{mod_self, sub-zero, le_of_mul-le-mul_left, lt_of_mul-lt-mul_left, div-lt_iff_lt-mul}
-use Rattle.std.proofs.{Math.Pow.pow_mono, Math.Pow.pow-lt, lemmas.Bool.cond-true}
+use Rattle.std.proofs.Math.Pow.{pow_mono, pow-lt}
+use Rattle.std.proofs.lemmas.Bool.{cond-true, and_from, and_right, and_left, eqb-false}
 use Rattle.std.proofs.lemmas.Bool.{cond-false, cases_lt, cases_eq, lt-ltb, ltb-true, le-ltb, cond_both, and_parts}
-use Rattle.std.proofs.lemmas.{Bool.and_from, Bool.and_right, Bool.and_left, Bool.eqb-false, Grind.common_steps}
+use Rattle.std.proofs.lemmas.Grind.{common_steps}
 use Rattle.std.specs.Int.{next_multiple_of}
 use Rattle.p3_merkle_core.specs.Geometry.{Shape, exponent, layer_exponent, is_bridge, step, levels, ancestor}
 use Rattle.p3_merkle_core.specs.Geometry.{padded_len, raw_len, grouped_len_of, layer_len, heights, IsArity}

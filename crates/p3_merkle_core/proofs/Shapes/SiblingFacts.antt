@@ -1,14 +1,20 @@
 -- How many siblings the levels have, and that their count fits. At arity 2 each level has one.
 use Rattle.std.proofs.Common.{◌≡◌, ℕ, ◌+◌, ◌≤◌, ◌&&◌, nat_lt, false, List, [], ◌∷◌, refl, arith, inl, inr, zero, suc}
 use Rattle.std.proofs.Common.{◌-◌, ◌*◌, ◌^◌, ◌<◌, ap, ◌∙◌}
-use Rattle.std.proofs.lemmas.{Grind.common_steps, Bool.cases_Bool, Bool.cond_both, Nat.pow_pos}
-use Rattle.std.proofs.Math.{Nat.mul-le-mul_left, Nat.suc-mul, Pow.pow_mono}
+use Rattle.std.proofs.lemmas.Grind.{common_steps}
+use Rattle.std.proofs.lemmas.Bool.{cases_Bool, cond_both}
+use Rattle.std.proofs.lemmas.Nat.{pow_pos}
+use Rattle.std.proofs.Math.Nat.{mul-le-mul_left, suc-mul}
+use Rattle.std.proofs.Math.Pow.{pow_mono}
 use Rattle.std.specs.List.{list_any}
 use Rattle.p3_merkle_core.specs.Geometry.{exponent, Shape, heights, layer_exponent, is_bridge, step, levels}
-use Rattle.p3_merkle_core.specs.{Geometry.leaves_under, Geometry.height_limit, Geometry.IsArity, Checks.siblings_below}
+use Rattle.p3_merkle_core.specs.Geometry.{leaves_under, height_limit, IsArity}
+use Rattle.p3_merkle_core.specs.Checks.{siblings_below}
 use Rattle.p3_support.specs.Batches.{greatest}
-use Rattle.p3_merkle_core.proofs.Shapes.{LeastFacts.exponent_le, StepFacts.step_above_1, StepFacts.next_exponent}
-use Rattle.p3_merkle_core.proofs.Shapes.{LadderFacts.exact, RawFacts.positive_below}
+use Rattle.p3_merkle_core.proofs.Shapes.LeastFacts.{exponent_le}
+use Rattle.p3_merkle_core.proofs.Shapes.StepFacts.{step_above_1, next_exponent}
+use Rattle.p3_merkle_core.proofs.Shapes.LadderFacts.{exact}
+use Rattle.p3_merkle_core.proofs.Shapes.RawFacts.{positive_below}
 
 -- no exponent lies strictly between two numbers with none between them
 pub none_between : (a x : ℕ) (hs : List ℕ) → x ≤ a + 1 →

@@ -1,7 +1,9 @@
 -- The walk over the steps, and ancestors level by level.
 use Rattle.std.proofs.Common.{◌≡◌, ℕ, suc, ◌+◌, ◌-◌, ◌/◌, ◌<◌, ◌≤◌, false, cond, eqb, refl, ap, sym, ◌∙◌, arith, inl}
-use Rattle.std.proofs.{Common.inr, Common.add-one, lemmas.Grind.common_steps, lemmas.Bool.cond_both, lemmas.Bool.ne_eqb}
-use Rattle.std.proofs.{lemmas.Bool.cases_eq, Math.Nat.div-div-eq-div-mul}
+use Rattle.std.proofs.Common.{inr, add-one}
+use Rattle.std.proofs.lemmas.Grind.{common_steps}
+use Rattle.std.proofs.lemmas.Bool.{cond_both, ne_eqb, cases_eq}
+use Rattle.std.proofs.Math.Nat.{div-div-eq-div-mul}
 use Rattle.p3_merkle_core.specs.Geometry.{Shape, exponent, layer_exponent, is_bridge, step, levels, leaves_under}
 use Rattle.p3_merkle_core.specs.Geometry.{ancestor, heights}
 use Rattle.p3_support.specs.Batches.{greatest}

@@ -1,12 +1,15 @@
 -- How a check finds the rows that must agree: the first query of each index, and the lowest slot under each node.
 use Rattle.std.specs.Prelude.{◌≡◌, ℕ, suc, ◌<◌, ◌≤◌, ◌==◌, Bool, if◌then◌else◌, List, [], ◌∷◌, map, filter, length}
 use Rattle.std.specs.Prelude.{replicate, slice_index, slice_index_or, nat_eq, All, Option}
-use Rattle.std.specs.{List.dedup, List.range_with_len, List.Contains, Cmp.Lexicographic.pointwise}
+use Rattle.std.specs.List.{dedup, range_with_len, Contains}
+use Rattle.std.specs.Cmp.Lexicographic.{pointwise}
 use Rattle.p3_merkle_core.specs.Geometry.{Shape, ancestor, exponent, heights, layer_exponent}
-use Rattle.p3_merkle_core.specs.{Gate.gate_refusal, Pruning.PrunedOpening, Pruning.pruned_of}
+use Rattle.p3_merkle_core.specs.Gate.{gate_refusal}
+use Rattle.p3_merkle_core.specs.Pruning.{PrunedOpening, pruned_of}
 use Rattle.p3_merkle_core.specs.Refusals.{first_of, first_some, idle_refusal, queries_refusal, size_refusal}
 use Rattle.p3_merkle_core.specs.Refusals.{slots_below, slot_of, unless, width_refusal}
-use Rattle.p3_merkle_core.specs.declared.error.MerkleTreeError.{MerkleTreeError, TheVariants.MalformedPrunedProof}
+use Rattle.p3_merkle_core.specs.declared.error.MerkleTreeError.{MerkleTreeError}
+use Rattle.p3_merkle_core.specs.declared.error.MerkleTreeError.TheVariants.{MalformedPrunedProof}
 use Rattle.p3_merkle_core.specs.declared.error.PrunedProofError.TheVariants.{InconsistentGroupOpening}
 use Rattle.p3_merkle_core.specs.declared.pruning.DistinctQueries.{DistinctQueries}
 use Rattle.p3_support.specs.Batches.{greatest}

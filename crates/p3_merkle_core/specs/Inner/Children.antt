@@ -1,7 +1,9 @@
 -- The children of covered nodes, and the values that they take.
 use Rattle.std.specs.Prelude.{◌≡◌, ℕ, ◌+◌, ◌-◌, ◌*◌, ◌/◌, ◌%◌, ◌^◌, ◌<◌, ◌≤◌, Bool, true, not, nat_lt, if◌then◌else◌}
 use Rattle.std.specs.Prelude.{List, [], All, drop, filter, flat_map, fold, length, map, remove, slice_index_or, take}
-use Rattle.std.specs.{Prelude.zip, List.enumerate_from, List.range_with_len, List.Sorted.IsStrictlyIncreasing}
+use Rattle.std.specs.Prelude.{zip}
+use Rattle.std.specs.List.{enumerate_from, range_with_len}
+use Rattle.std.specs.List.Sorted.{IsStrictlyIncreasing}
 use Rattle.p3_support.specs.Lists.{is_among}
 use Rattle.p3_merkle_core.specs.declared.pruning.CoveredLayer.{CoveredLayer}
 

@@ -1,5 +1,6 @@
 -- The covered nodes of a layer.
-use Rattle.std.specs.{Prelude.◌≡◌, Prelude.◌≤◌, Prelude.ℕ, Prelude.List, Prelude.filter, List.range_with_len}
+use Rattle.std.specs.Prelude.{◌≡◌, ◌≤◌, ℕ, List, filter}
+use Rattle.std.specs.List.{range_with_len}
 use Rattle.p3_support.specs.Batches.{greatest}
 use Rattle.p3_merkle_core.specs.Geometry.{Shape, height_limit, heights, layer_exponent, layer_len}
 use Rattle.p3_merkle_core.specs.Pruning.{CanQuery, is_covered, pruned_len}

@@ -1,7 +1,8 @@
 -- What is known of a layer before it is built.
 use Rattle.std.specs.Prelude.{◌≡◌, ℕ, suc, ◌*◌, ◌<◌, ◌≤◌}
 use Rattle.p3_merkle_core.specs.Geometry.{Shape, heights, layer_exponent, step, raw_len, layer_len, levels, IsArity}
-use Rattle.p3_merkle_core.specs.{Geometry.IsLawful, Geometry.has_rows, Geometry.height_at, declared.levels.Level.Level}
+use Rattle.p3_merkle_core.specs.Geometry.{IsLawful, has_rows, height_at}
+use Rattle.p3_merkle_core.specs.declared.levels.Level.{Level}
 use Rattle.p3_support.specs.Batches.{greatest}
 
 -- layer l is below the top, with the exponent x and r nodes

@@ -3,7 +3,8 @@ use Rattle.std.specs.Prelude.{◌≡◌, ◌≤◌, ℕ, suc, List, length, map,
 use Rattle.std.specs.List.{range_with_len}
 use Rattle.p3_support.specs.Batches.{greatest}
 use Rattle.p3_merkle_core.specs.Geometry.{Shape, has_rows, heights, is_bridge, layer_exponent, levels}
-use Rattle.p3_merkle_core.specs.{Inner.Shapes.shortest, declared.steps.LevelStep.LevelStep}
+use Rattle.p3_merkle_core.specs.Inner.Shapes.{shortest}
+use Rattle.p3_merkle_core.specs.declared.steps.LevelStep.{LevelStep}
 
 -- of level l: whether its step is a bridge step, and whether matrices belong to the layer above it
 abbrev pub level_step : Shape → ℕ → LevelStep

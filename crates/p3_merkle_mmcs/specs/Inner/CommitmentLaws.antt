@@ -2,11 +2,17 @@
 use Rattle.std.specs.Prelude.{◌≡◌, ℕ, suc, ◌<◌, List, [], ◌∷◌, length, map, slice_index, slice_index_or, All}
 use Rattle.std.specs.List.{AllZip}
 use Rattle.std.proofs.Common.{◌∙◌, ap, arith, refl, subst, sym}
-use Rattle.std.proofs.{Math.Nat.div-one, lemmas.Bool.lt-ltb, lemmas.List.get_or_default}
+use Rattle.std.proofs.Math.Nat.{div-one}
+use Rattle.std.proofs.lemmas.Bool.{lt-ltb}
+use Rattle.std.proofs.lemmas.List.{get_or_default}
 use Rattle.p3_merkle_core.specs.Geometry.{IsLawful, Shape, bits_reduced, shape_of, halved_index}
-use Rattle.p3_merkle_core.specs.{Commitments.HaveProof, Views.batch_of, Views.heights_in, Views.matrix_of}
-use Rattle.p3_merkle_core.specs.{Nodes.Functions, Openings.honest_rows, Pruning.PrunedOpening, Pruning.restored_path}
-use Rattle.p3_merkle_core.specs.{Pruning.IsPrunedAccepted, Caps.cap_layer, Checks.Params, Checks.params}
+use Rattle.p3_merkle_core.specs.Commitments.{HaveProof}
+use Rattle.p3_merkle_core.specs.Views.{batch_of, heights_in, matrix_of}
+use Rattle.p3_merkle_core.specs.Nodes.{Functions}
+use Rattle.p3_merkle_core.specs.Openings.{honest_rows}
+use Rattle.p3_merkle_core.specs.Pruning.{PrunedOpening, restored_path, IsPrunedAccepted}
+use Rattle.p3_merkle_core.specs.Caps.{cap_layer}
+use Rattle.p3_merkle_core.specs.Checks.{Params, params}
 use Rattle.p3_merkle_prover.proofs.RowFacts.{row_inside}
 use Rattle.p3_support.specs.Batches.{FitDimensions, IsEquivalence, rows_in, greatest}
 use Rattle.p3_support.specs.declared.matrix.Dimensions.{Dimensions}

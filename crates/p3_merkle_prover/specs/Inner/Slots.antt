@@ -1,5 +1,6 @@
 -- What the builders of layers compute with and write.
-use Rattle.std.specs.{Prelude.ℕ, Prelude.List, Prelude.map, Prelude.replicate, List.range_with_len}
+use Rattle.std.specs.Prelude.{ℕ, List, map, replicate}
+use Rattle.std.specs.List.{range_with_len}
 use Rattle.std.specs.declared.default.Default as default
 use Rattle.std.specs.declared.cmp.PartialEq as equality
 use Rattle.p3_support.specs.declared.compress.PseudoCompressionFunction as compressor
@@ -7,11 +8,13 @@ use Rattle.p3_support.specs.declared.hasher.CryptographicHasher as hasher
 use Rattle.p3_support.specs.declared.matrix.Matrix as matrix
 use Rattle.p3_support.specs.declared.packed.PackedValue as packed
 use Rattle.p3_support.specs.Lists.{rows_of_height}
-use Rattle.p3_merkle_core.specs.{declared.levels.Level.Level, Nodes.Batch, Nodes.Functions, Nodes.functions_of}
+use Rattle.p3_merkle_core.specs.declared.levels.Level.{Level}
+use Rattle.p3_merkle_core.specs.Nodes.{Batch, Functions, functions_of}
 use Rattle.p3_merkle_core.specs.Views.{batch_of}
 use Rattle.p3_merkle_digests.specs.Inner.Slots.{leaf_over, rows_over}
 use Rattle.p3_merkle_prover.specs.Inner.Levels.{slot_above}
-use Rattle.p3_merkle_prover.specs.declared.{layer.LayerOver.LayerOver, layers.TreeOver.TreeOver}
+use Rattle.p3_merkle_prover.specs.declared.layer.LayerOver.{LayerOver}
+use Rattle.p3_merkle_prover.specs.declared.layers.TreeOver.{TreeOver}
 
 module _ {P PW H C M G V W : Type 0} {N D : ℕ} {p : packed.Ghosts P V} {pd : default.Ghosts V}
     {pe : equality.Ghosts V} {q : packed.Ghosts PW W} {qd : default.Ghosts W} {qe : equality.Ghosts W}

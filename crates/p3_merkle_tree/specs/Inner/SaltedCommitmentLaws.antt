@@ -4,22 +4,29 @@ use Rattle.std.specs.List.{AllZip}
 use Rattle.std.proofs.{Common.◌∙◌, Common.ap, Common.arith, Common.refl, Common.subst, Common.sym}
 use Rattle.std.proofs.lemmas.List.Elements.{AllZip-get_or}
 use Rattle.p3_support.specs.Batches.{FitDimensions, IsEquivalence, heights_of, greatest}
-use Rattle.p3_support.specs.{Pairs.left_of, declared.matrix.Dimensions.Dimensions}
-use Rattle.p3_support.specs.declared.{matrix.Matrix.Ghosts, pair.HorizontalPair.HorizontalPair}
+use Rattle.p3_support.specs.Pairs.{left_of}
+use Rattle.p3_support.specs.declared.matrix.Dimensions.{Dimensions}
+use Rattle.p3_support.specs.declared.matrix.Matrix.{Ghosts}
+use Rattle.p3_support.specs.declared.pair.HorizontalPair.{HorizontalPair}
 use Rattle.p3_merkle_mmcs.specs.Schemes.{IsSameScheme}
-use Rattle.p3_merkle_core.specs.{Views.heights_in, Geometry.IsLawful, Geometry.shape_of, Nodes.Functions}
-use Rattle.p3_merkle_core.specs.{Nodes.dimensions_of, Openings.opening_of, Checks.IsAccepted, Checks.Params}
-use Rattle.p3_merkle_core.specs.{Checks.params, Pruning.restored_path}
+use Rattle.p3_merkle_core.specs.Views.{heights_in}
+use Rattle.p3_merkle_core.specs.Geometry.{IsLawful, shape_of}
+use Rattle.p3_merkle_core.specs.Nodes.{Functions, dimensions_of}
+use Rattle.p3_merkle_core.specs.Openings.{opening_of}
+use Rattle.p3_merkle_core.specs.Checks.{IsAccepted, Params, params}
+use Rattle.p3_merkle_core.specs.Pruning.{restored_path}
 use Rattle.p3_support.specs.declared.compress.PseudoCompressionFunction as compressor
 use Rattle.p3_support.specs.declared.hasher.CryptographicHasher as hasher
 use Rattle.p3_support.specs.declared.packed.PackedValue as packed
 use Rattle.std.specs.declared.default.Default as default
 use Rattle.std.specs.declared.cmp.PartialEq as equality
 use Rattle.p3_merkle_mmcs.specs.Inner.CommitmentLaws.{all_zip, greatest_is, same_is_equivalence}
-use Rattle.p3_merkle_tree.specs.{HidingSchemes.plain_of, SaltedCommitments.HaveSaltedProof}
+use Rattle.p3_merkle_tree.specs.HidingSchemes.{plain_of}
+use Rattle.p3_merkle_tree.specs.SaltedCommitments.{HaveSaltedProof}
 use Rattle.p3_merkle_tree.specs.SaltedOpenings.{HaveSalts, IsSaltedPrunedAccepted, SaltedPruned, joined_sets}
 use Rattle.p3_merkle_tree.specs.SaltedOpenings.{salted_rows, widened}
-use Rattle.p3_merkle_tree.specs.{Inner.SaltedParts.pair_matrix, declared.hiding_mmcs.HidingScheme.HidingScheme}
+use Rattle.p3_merkle_tree.specs.Inner.SaltedParts.{pair_matrix}
+use Rattle.p3_merkle_tree.specs.declared.hiding_mmcs.HidingScheme.{HidingScheme}
 
 module _ {P PW H C R X G V W : Type 0} {N D E : ℕ} {p : packed.Ghosts P V} {pd : default.Ghosts V}
     {pe : equality.Ghosts V} {q : packed.Ghosts PW W} {qd : default.Ghosts W} {qe : equality.Ghosts W}

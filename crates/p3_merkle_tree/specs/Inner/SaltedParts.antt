@@ -1,8 +1,10 @@
 -- Rows without their salts, the salts alone, and a matrix beside its salts as one matrix.
 use Rattle.std.specs.Prelude.{ℕ, ◌+◌, List, map, zip, take, drop}
-use Rattle.p3_support.specs.declared.{matrix.Matrix.Ghosts, pair.HorizontalPair.HorizontalPair}
+use Rattle.p3_support.specs.declared.matrix.Matrix.{Ghosts}
+use Rattle.p3_support.specs.declared.pair.HorizontalPair.{HorizontalPair}
 use Rattle.p3_support.specs.Pairs.{left_of, pair_row, right_of}
-use Rattle.p3_merkle_core.specs.{Views.matrix_of, Nodes.Matrix}
+use Rattle.p3_merkle_core.specs.Views.{matrix_of}
+use Rattle.p3_merkle_core.specs.Nodes.{Matrix}
 
 -- the words of rows up to the widths of their matrices without salts
 abbrev pub unsalted_parts : {T : Type 0} → List ℕ → List (List T) → List (List T)

@@ -1,19 +1,23 @@
 -- How far the checks of openings have come.
 use Rattle.std.specs.Prelude.{◌≡◌, ◌+◌, ◌-◌, ◌/◌, ◌<◌, ◌≤◌, ◌==◌, ℕ, suc, List, [], ◌∷◌, Bool, Option, None}
-use Rattle.std.specs.Prelude.{if◌then◌else◌}
-use Rattle.std.specs.Prelude.{drop, replicate, take}
+use Rattle.std.specs.Prelude.{if◌then◌else◌, drop, replicate, take}
 use Rattle.std.specs.declared.default.Default as default
 use Rattle.std.specs.declared.cmp.PartialEq as equality
 use Rattle.p3_support.specs.declared.compress.PseudoCompressionFunction as compressor
 use Rattle.p3_support.specs.declared.hasher.CryptographicHasher as hasher
 use Rattle.p3_support.specs.declared.packed.PackedValue as packed
-use Rattle.p3_merkle_core.specs.{Extraction.last_difference, Geometry.Shape, Geometry.ancestor, Geometry.layer_exponent}
-use Rattle.p3_merkle_core.specs.{Geometry.shape_of, Nodes.Functions, Openings.Opening, Openings.opening_of}
+use Rattle.p3_merkle_core.specs.Extraction.{last_difference}
+use Rattle.p3_merkle_core.specs.Geometry.{Shape, ancestor, layer_exponent, shape_of}
+use Rattle.p3_merkle_core.specs.Nodes.{Functions}
+use Rattle.p3_merkle_core.specs.Openings.{Opening, opening_of}
 use Rattle.p3_merkle_core.specs.Checks.{Input, Params, inputs_at, params, path_digest, layer_words, siblings_below}
-use Rattle.p3_merkle_core.specs.{Checks.leaf_input, declared.collision.InputPair.InputPair}
+use Rattle.p3_merkle_core.specs.Checks.{leaf_input}
+use Rattle.p3_merkle_core.specs.declared.collision.InputPair.{InputPair}
 use Rattle.p3_support.specs.Shown.{row_lists}
-use Rattle.p3_merkle_verifier.specs.declared.{openings.OpeningRef.OpeningRef, path.ComputedLevel.ComputedLevel}
-use Rattle.p3_merkle_verifier.specs.declared.{checker.Checker.Checker, path.Progress.Progress}
+use Rattle.p3_merkle_verifier.specs.declared.openings.OpeningRef.{OpeningRef}
+use Rattle.p3_merkle_verifier.specs.declared.path.ComputedLevel.{ComputedLevel}
+use Rattle.p3_merkle_verifier.specs.declared.checker.Checker.{Checker}
+use Rattle.p3_merkle_verifier.specs.declared.path.Progress.{Progress}
 use Rattle.p3_merkle_verifier.specs.Inner.Collisions.{level_inputs, Shows}
 
 module _ {P PW H C G V W : Type 0} {N D : ℕ} {p : packed.Ghosts P V} {pd : default.Ghosts V} {pe : equality.Ghosts V}

@@ -1,11 +1,14 @@
 -- The inputs of a level as an extraction compares them.
 use Rattle.std.specs.Prelude.{◌≡◌, ℕ, List, [], ◌∷◌, Bool, Option, None, Some, if◌then◌else◌, option_map, zip}
 use Rattle.p3_merkle_core.specs.Checks.{Input, digests_at, words_at, words_of_exponent}
-use Rattle.p3_merkle_core.specs.{Views.inputs_in, declared.collision.InputPair.InputPair}
+use Rattle.p3_merkle_core.specs.Views.{inputs_in}
+use Rattle.p3_merkle_core.specs.declared.collision.InputPair.{InputPair}
 use Rattle.p3_merkle_core.specs.declared.collision.Place.TheVariants.{Group, Rows, Pair}
-use Rattle.p3_support.specs.{Batches.heights_of, Shown.row_lists}
+use Rattle.p3_support.specs.Batches.{heights_of}
+use Rattle.p3_support.specs.Shown.{row_lists}
 use Rattle.p3_merkle_verifier.specs.Inner.Paths.{rows_of_exponent}
-use Rattle.p3_merkle_verifier.specs.declared.{extraction.RowPair.RowPair, path.ComputedLevel.ComputedLevel}
+use Rattle.p3_merkle_verifier.specs.declared.extraction.RowPair.{RowPair}
+use Rattle.p3_merkle_verifier.specs.declared.path.ComputedLevel.{ComputedLevel}
 
 module _ {T W : Type 0} where
   -- what is found shows these two inputs, or there are none and nothing is found

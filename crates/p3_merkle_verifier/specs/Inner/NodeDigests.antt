@@ -1,7 +1,9 @@
 -- Digests of rows, of groups of children, and of both.
 use Rattle.std.specs.Prelude.{ℕ, ◌*◌, ◌/◌, Bool, if◌then◌else◌, List, map, [], ◌∷◌, length, take, drop, zip}
-use Rattle.std.specs.{Prelude.slice_index_or, List.range_with_len}
-use Rattle.p3_merkle_core.specs.{Checks.words_of_exponent, Nodes.Functions, Nodes.padded}
+use Rattle.std.specs.Prelude.{slice_index_or}
+use Rattle.std.specs.List.{range_with_len}
+use Rattle.p3_merkle_core.specs.Checks.{words_of_exponent}
+use Rattle.p3_merkle_core.specs.Nodes.{Functions, padded}
 
 -- group k of some children, step of them in each, with default digests up to n
 abbrev pub child_group : {W : Type 0} → ℕ → List W → ℕ → List (List W) → ℕ → List (List W)

@@ -1,12 +1,18 @@
 -- Queries of two pruned openings, and the first pair of them whose checks differ.
 use Rattle.std.specs.Prelude.{◌≡◌, ◌<◌, ◌≤◌, ℕ, Bool, List, [], Option, None, length, option_map, slice_index}
-use Rattle.std.specs.{Prelude.slice_index_or, Prelude.◌⊎◌, List.range_with_len}
-use Rattle.p3_merkle_core.specs.{Views.shown_paths, Views.inputs_in, Extraction.difference_of}
-use Rattle.p3_merkle_core.specs.{Inner.Agreement.IsAscending, Openings.Opening, Openings.opening_of}
-use Rattle.p3_merkle_core.specs.{Checks.Input, Checks.Params, Pruning.PrunedOpening, Pruning.opening_at}
-use Rattle.p3_merkle_core.specs.{Refusals.first_of, declared.collision.InputPair.InputPair}
+use Rattle.std.specs.Prelude.{slice_index_or, ◌⊎◌}
+use Rattle.std.specs.List.{range_with_len}
+use Rattle.p3_merkle_core.specs.Views.{shown_paths, inputs_in}
+use Rattle.p3_merkle_core.specs.Extraction.{difference_of}
+use Rattle.p3_merkle_core.specs.Inner.Agreement.{IsAscending}
+use Rattle.p3_merkle_core.specs.Openings.{Opening, opening_of}
+use Rattle.p3_merkle_core.specs.Checks.{Input, Params}
+use Rattle.p3_merkle_core.specs.Pruning.{PrunedOpening, opening_at}
+use Rattle.p3_merkle_core.specs.Refusals.{first_of}
+use Rattle.p3_merkle_core.specs.declared.collision.InputPair.{InputPair}
 use Rattle.p3_support.specs.Shown.{row_sets}
-use Rattle.p3_merkle_verifier.specs.Inner.{Checks.AgreeBelow, Paths.CanReach}
+use Rattle.p3_merkle_verifier.specs.Inner.Checks.{AgreeBelow}
+use Rattle.p3_merkle_verifier.specs.Inner.Paths.{CanReach}
 use Rattle.p3_merkle_verifier.specs.declared.pruned_extraction.RestoredQueries.{RestoredQueries}
 
 -- query k, as an opening with its path

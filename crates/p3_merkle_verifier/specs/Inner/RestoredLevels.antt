@@ -1,11 +1,14 @@
 -- The layers of a pruned opening: their covered nodes, and what is restored of them.
 use Rattle.std.specs.Prelude.{◌≡◌, ◌*◌, ◌/◌, ◌<◌, ◌≤◌, ℕ, zero, suc, List, All, drop, ◌+◌, flat_map, length, map}
-use Rattle.std.specs.{Prelude.slice_index, Prelude.slice_index_or, List.range_with_len}
+use Rattle.std.specs.Prelude.{slice_index, slice_index_or}
+use Rattle.std.specs.List.{range_with_len}
 use Rattle.p3_merkle_core.specs.Checks.{params}
 use Rattle.p3_merkle_core.specs.Geometry.{Shape, ancestor, has_rows, shape_of, step}
-use Rattle.p3_merkle_core.specs.Inner.{Children.levels_in, Children.AreChildren, Children.AreLinked, Covered.covered_at}
-use Rattle.p3_merkle_core.specs.{Nodes.Functions, Pruning.PrunedOpening, Pruning.pruned_of, Pruning.restored_node}
-use Rattle.p3_merkle_core.specs.{Pruning.value_of, Pruning.words_under, declared.pruning.CoveredLayer.CoveredLayer}
+use Rattle.p3_merkle_core.specs.Inner.Children.{levels_in, AreChildren, AreLinked}
+use Rattle.p3_merkle_core.specs.Inner.Covered.{covered_at}
+use Rattle.p3_merkle_core.specs.Nodes.{Functions}
+use Rattle.p3_merkle_core.specs.Pruning.{PrunedOpening, pruned_of, restored_node, value_of, words_under}
+use Rattle.p3_merkle_core.specs.declared.pruning.CoveredLayer.{CoveredLayer}
 use Rattle.p3_support.specs.Shown.{row_sets}
 use Rattle.p3_merkle_verifier.specs.declared.openings.PrunedOpeningRef.{PrunedOpeningRef}
 use Rattle.p3_merkle_verifier.specs.declared.openings.RestorableOpening.{RestorableOpening}

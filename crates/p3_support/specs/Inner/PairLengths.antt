@@ -1,6 +1,7 @@
 -- The length of a row of two matrices side by side.
 use Rattle.std.specs.Prelude.{◌≡◌, ℕ, ◌+◌, List, length}
-use Rattle.std.proofs.{Common.◌∙◌, Common.ap, lemmas.List.length-append}
+use Rattle.std.proofs.Common.{◌∙◌, ap}
+use Rattle.std.proofs.lemmas.List.{length-append}
 use Rattle.p3_support.specs.Pairs.{pair_row}
 
 module _ {T A B : Type 0} (left_row : A → ℕ → List T) (right_row : B → ℕ → List T) where

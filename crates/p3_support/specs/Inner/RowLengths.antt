@@ -1,7 +1,8 @@
 -- How long a message is.
 use Rattle.std.specs.Prelude.{◌≡◌, ℕ, ◌-◌, ◌≤◌, ◌<◌, length, drop, ◌+◌, ◌*◌, List}
 use Rattle.std.proofs.Common.{◌∙◌, ap, arith, length-drop}
-use Rattle.std.proofs.{lemmas.List.length-take-le, Math.Nat.add-mul, Math.Nat.one-mul, Math.Nat.mul-le-mul_right}
+use Rattle.std.proofs.lemmas.List.{length-take-le}
+use Rattle.std.proofs.Math.Nat.{add-mul, one-mul, mul-le-mul_right}
 use Rattle.p3_support.specs.Lists.{message}
 
 -- the end of message i is w past its start

@@ -1,6 +1,7 @@
 -- Digests that lead from a node to the root, as the tree grows.
 use Rattle.std.specs.Prelude.{◌≡◌, ℕ, List, Some}
-use Rattle.tlog.specs.{Climbs.climb_end, Rfc9162.Hash}
+use Rattle.tlog.specs.Climbs.{climb_end}
+use Rattle.tlog.specs.Rfc9162.{Hash}
 
 -- where digests lead from a node to the root of `size` entries, and a way up from the last whole node of these (in
 -- layer u at `edge`) leads to this root and to that of `new` entries, the digests `out` lead from the first node to the

@@ -2,7 +2,8 @@
 use Rattle.std.specs.Prelude.{ℕ, ◌+◌, ◌-◌, ◌*◌, ◌^◌, ◌==◌, nat_lt, nat_le, Bool, true, false, ◌&&◌, List, [], length}
 use Rattle.std.specs.Prelude.{slice_index_or}
 use Rattle.tlog.specs.Rfc9162.{Hash}
-use Rattle.tlog_tree.specs.{Trees.node_at, declared.wanted.WantedNode.WantedNode}
+use Rattle.tlog_tree.specs.Trees.{node_at}
+use Rattle.tlog_tree.specs.declared.wanted.WantedNode.{WantedNode}
 
 -- with this value, if it has come
 abbrev pub with_value : Bool → List ℕ → WantedNode → WantedNode

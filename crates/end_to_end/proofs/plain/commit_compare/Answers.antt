@@ -1,11 +1,17 @@
 -- The opening is honest and accepted, and the claimed one is compared with it.
 use Rattle.std.proofs.Common.{◌∙◌, List, refl, subst}
-use Rattle.p3_support.specs.{Shown.roots_of, Shown.row_lists, declared.matrix.Dimensions.Dimensions}
-use Rattle.p3_merkle_tree.specs.{Extraction.IsExtraction, Geometry.shape_of, Nodes.shape, Openings.Opening}
-use Rattle.p3_merkle_tree.specs.{Openings.opening_of, Parts.tree_batch, Presented.presented, Presented.IsExactVerdict}
+use Rattle.p3_support.specs.Shown.{roots_of, row_lists}
+use Rattle.p3_support.specs.declared.matrix.Dimensions.{Dimensions}
+use Rattle.p3_merkle_tree.specs.Extraction.{IsExtraction}
+use Rattle.p3_merkle_tree.specs.Geometry.{shape_of}
+use Rattle.p3_merkle_tree.specs.Nodes.{shape}
+use Rattle.p3_merkle_tree.specs.Openings.{Opening, opening_of}
+use Rattle.p3_merkle_tree.specs.Parts.{tree_batch}
+use Rattle.p3_merkle_tree.specs.Presented.{presented, IsExactVerdict}
 use Rattle.p3_merkle_tree.specs.Schemes.{cap_rule_of, params_of}
 use Rattle.p3_merkle_tree.specs.Views.{found_alone, opening_borrowed, opening_made}
-use Rattle.end_to_end.proofs.{ComparisonFacts.compared, RefusalFacts.accepted_unrefused}
+use Rattle.end_to_end.proofs.ComparisonFacts.{compared}
+use Rattle.end_to_end.proofs.RefusalFacts.{accepted_unrefused}
 use Rattle.end_to_end.proofs.plain.commit_compare.Goals as goal
 
 pub returns-clause-opened : goal.returns-clause-opened

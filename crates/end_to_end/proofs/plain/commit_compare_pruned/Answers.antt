@@ -1,11 +1,18 @@
 -- The opening is honest and accepted, and the claimed one is compared with it.
 use Rattle.std.proofs.Common.{◌∙◌, List, refl, subst}
-use Rattle.p3_support.specs.{Shown.roots_of, Shown.row_sets, declared.matrix.Dimensions.Dimensions}
-use Rattle.p3_merkle_tree.specs.{Extraction.IsExtraction, Geometry.shape_of, Nodes.shape, Parts.tree_batch}
+use Rattle.p3_support.specs.Shown.{roots_of, row_sets}
+use Rattle.p3_support.specs.declared.matrix.Dimensions.{Dimensions}
+use Rattle.p3_merkle_tree.specs.Extraction.{IsExtraction}
+use Rattle.p3_merkle_tree.specs.Geometry.{shape_of}
+use Rattle.p3_merkle_tree.specs.Nodes.{shape}
+use Rattle.p3_merkle_tree.specs.Parts.{tree_batch}
 use Rattle.p3_merkle_tree.specs.Presented.{presented_pruned, IsVerdict}
-use Rattle.p3_merkle_tree.specs.{Pruning.PrunedOpening, Pruning.pruned_of, Schemes.cap_rule_of, Schemes.params_of}
+use Rattle.p3_merkle_tree.specs.Pruning.{PrunedOpening, pruned_of}
+use Rattle.p3_merkle_tree.specs.Schemes.{cap_rule_of, params_of}
 use Rattle.p3_merkle_tree.specs.Views.{found_pair, pruned_borrowed, pruned_made}
-use Rattle.end_to_end.proofs.{ComparisonFacts.compared_pruned, RefusalFacts.pruned_unrefused, SaltedFacts.memory_left}
+use Rattle.end_to_end.proofs.ComparisonFacts.{compared_pruned}
+use Rattle.end_to_end.proofs.RefusalFacts.{pruned_unrefused}
+use Rattle.end_to_end.proofs.SaltedFacts.{memory_left}
 use Rattle.end_to_end.proofs.plain.commit_compare_pruned.Goals as goal
 
 pub returns-clause-opened : goal.returns-clause-opened

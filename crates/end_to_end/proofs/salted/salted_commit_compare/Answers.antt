@@ -1,11 +1,18 @@
 -- The opening is honest and accepted, and the claimed one is compared with it.
 use Rattle.std.proofs.Common.{◌∙◌, List, refl, subst}
-use Rattle.p3_support.specs.{Shown.roots_of, Shown.row_lists, declared.matrix.Dimensions.Dimensions}
+use Rattle.p3_support.specs.Shown.{roots_of, row_lists}
+use Rattle.p3_support.specs.declared.matrix.Dimensions.{Dimensions}
 use Rattle.p3_merkle_tree.specs.HidingSchemes.{plain_of, salted_borrowed, salted_made, salted_params_of}
-use Rattle.p3_merkle_tree.specs.{Parts.matrices_of, SaltedExtraction.IsSaltedExtraction, SaltedOpenings.SaltedOpening}
-use Rattle.p3_merkle_tree.specs.{SaltedOpenings.salted_of, SaltedTrees.unsalted_dimensions, Schemes.cap_rule_of}
-use Rattle.p3_merkle_tree.specs.{Presented.IsVerdict, SaltedPresented.presented_salted}
-use Rattle.end_to_end.proofs.{ComparisonFacts.compared_salted, RefusalFacts.salted_unrefused, SaltedFacts.memory_left}
+use Rattle.p3_merkle_tree.specs.Parts.{matrices_of}
+use Rattle.p3_merkle_tree.specs.SaltedExtraction.{IsSaltedExtraction}
+use Rattle.p3_merkle_tree.specs.SaltedOpenings.{SaltedOpening, salted_of}
+use Rattle.p3_merkle_tree.specs.SaltedTrees.{unsalted_dimensions}
+use Rattle.p3_merkle_tree.specs.Schemes.{cap_rule_of}
+use Rattle.p3_merkle_tree.specs.Presented.{IsVerdict}
+use Rattle.p3_merkle_tree.specs.SaltedPresented.{presented_salted}
+use Rattle.end_to_end.proofs.ComparisonFacts.{compared_salted}
+use Rattle.end_to_end.proofs.RefusalFacts.{salted_unrefused}
+use Rattle.end_to_end.proofs.SaltedFacts.{memory_left}
 use Rattle.end_to_end.proofs.salted.salted_commit_compare.Goals as goal
 
 pub returns-clause-opened : goal.returns-clause-opened

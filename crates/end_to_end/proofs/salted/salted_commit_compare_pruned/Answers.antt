@@ -1,12 +1,17 @@
 -- The opening is honest and accepted, and the claimed one is compared with it.
 use Rattle.std.proofs.Common.{◌∙◌, List, refl, subst}
-use Rattle.p3_support.specs.{Shown.roots_of, Shown.row_sets, declared.matrix.Dimensions.Dimensions}
+use Rattle.p3_support.specs.Shown.{roots_of, row_sets}
+use Rattle.p3_support.specs.declared.matrix.Dimensions.{Dimensions}
 use Rattle.p3_merkle_tree.specs.HidingSchemes.{plain_of, salted_params_of, salted_pruned_borrowed, salted_pruned_made}
-use Rattle.p3_merkle_tree.specs.{Parts.matrices_of, SaltedExtraction.IsSaltedPrunedExtraction}
+use Rattle.p3_merkle_tree.specs.Parts.{matrices_of}
+use Rattle.p3_merkle_tree.specs.SaltedExtraction.{IsSaltedPrunedExtraction}
 use Rattle.p3_merkle_tree.specs.SaltedOpenings.{SaltedPruned, salted_pruned_of}
-use Rattle.p3_merkle_tree.specs.{SaltedTrees.unsalted_dimensions, Schemes.cap_rule_of, Presented.IsVerdict}
+use Rattle.p3_merkle_tree.specs.SaltedTrees.{unsalted_dimensions}
+use Rattle.p3_merkle_tree.specs.Schemes.{cap_rule_of}
+use Rattle.p3_merkle_tree.specs.Presented.{IsVerdict}
 use Rattle.p3_merkle_tree.specs.SaltedPresented.{presented_salted_pruned}
-use Rattle.end_to_end.proofs.{ComparisonFacts.compared_salted_pruned, RefusalFacts.salted_pruned_unrefused}
+use Rattle.end_to_end.proofs.ComparisonFacts.{compared_salted_pruned}
+use Rattle.end_to_end.proofs.RefusalFacts.{salted_pruned_unrefused}
 use Rattle.end_to_end.proofs.SaltedFacts.{memory_left}
 use Rattle.end_to_end.proofs.salted.salted_commit_compare_pruned.Goals as goal
 

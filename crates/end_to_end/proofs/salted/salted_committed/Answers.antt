@@ -1,12 +1,18 @@
 -- The indices are looked at where heights and widths are taken.
 use Rattle.std.proofs.Common.{◌<◌, ◌∙◌, ℕ, List, Option, Some, ap, inr, subst, sym}
-use Rattle.std.specs.{Prelude.All, Prelude.map, Option.option_or}
+use Rattle.std.specs.Prelude.{All, map}
+use Rattle.std.specs.Option.{option_or}
 use Rattle.std.proofs.lemmas.Result.{err_from_is_err_and}
 use Rattle.p3_support.specs.Batches.{dimensions_in, greatest, heights_of}
-use Rattle.p3_support.specs.{Pairs.left_of, declared.matrix.Dimensions.Dimensions}
-use Rattle.p3_merkle_tree.specs.{Geometry.heights, HidingSchemes.generator_of, MerkleTreeError.MerkleTreeError}
-use Rattle.p3_merkle_tree.specs.{Nodes.Batch, Nodes.shape, Parts.matrices_of, Parts.tree_batch}
-use Rattle.p3_merkle_tree.specs.{Refusals.AnswersUnlessMemory, Refusals.queries_refusal, Views.batch_of}
+use Rattle.p3_support.specs.Pairs.{left_of}
+use Rattle.p3_support.specs.declared.matrix.Dimensions.{Dimensions}
+use Rattle.p3_merkle_tree.specs.Geometry.{heights}
+use Rattle.p3_merkle_tree.specs.HidingSchemes.{generator_of}
+use Rattle.p3_merkle_tree.specs.MerkleTreeError.{MerkleTreeError}
+use Rattle.p3_merkle_tree.specs.Nodes.{Batch, shape}
+use Rattle.p3_merkle_tree.specs.Parts.{matrices_of, tree_batch}
+use Rattle.p3_merkle_tree.specs.Refusals.{AnswersUnlessMemory, queries_refusal}
+use Rattle.p3_merkle_tree.specs.Views.{batch_of}
 use Rattle.end_to_end.proofs.SaltedFacts.{first_below, heights_stay, salted_widened}
 use Rattle.end_to_end.proofs.salted.salted_committed.Goals as goal
 

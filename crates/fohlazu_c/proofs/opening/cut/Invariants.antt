@@ -1,5 +1,6 @@
 use Rattle.std.proofs.Common.{◌≡◌, ◌++◌, map, drop}
-use Rattle.p3_support.specs.{Batches.widths_of, Shown.row_lists}
+use Rattle.p3_support.specs.Batches.{widths_of}
+use Rattle.p3_support.specs.Shown.{row_lists}
 use Rattle.fohlazu_c.specs.Openings.{cut_rows, size_shown}
 use Rattle.fohlazu_c.proofs.opening.cut.Given as goal
 

@@ -1,12 +1,18 @@
 -- Entry by entry: each is the one of its number, or differs from it.
 use Rattle.std.proofs.Common.{◌-◌, ◌<◌, ◌≡◌, ◌∙◌, ◌++◌, ◌∷◌, [], Global, List, Vec, ap, arith, get_or, length, map}
 use Rattle.std.proofs.Common.{refl, subst, sym, take, ℕ, All, take_all}
-use Rattle.std.proofs.lemmas.List.{map_more, Elements.All-push}
+use Rattle.std.proofs.lemmas.List.{map_more}
+use Rattle.std.proofs.lemmas.List.Elements.{All-push}
 use Rattle.sha2.specs.Sha256.{sha256}
-use Rattle.tlog.{proofs.Entries.length-entries, proofs.TwoWalks.leaf_at, specs.Collisions.entries_of}
+use Rattle.tlog.proofs.Entries.{length-entries}
+use Rattle.tlog.proofs.TwoWalks.{leaf_at}
+use Rattle.tlog.specs.Collisions.{entries_of}
 use Rattle.tlog.specs.Rfc9162.{leaf_hash}
-use Rattle.log_text.specs.{Texts.entry_fields, declared.entries.Entry.Entry}
-use Rattle.log_commands.{proofs.CollisionFacts.mapped_at, specs.Collisions.IsEntryOf, specs.Inner.HasLeafIn}
+use Rattle.log_text.specs.Texts.{entry_fields}
+use Rattle.log_text.specs.declared.entries.Entry.{Entry}
+use Rattle.log_commands.proofs.CollisionFacts.{mapped_at}
+use Rattle.log_commands.specs.Collisions.{IsEntryOf}
+use Rattle.log_commands.specs.Inner.{HasLeafIn}
 use Rattle.log_commands.proofs.collisions.bytes_collision.Goals as goal
 
 -- the entry of a turn has a leaf hash of the file, and there is one of its number

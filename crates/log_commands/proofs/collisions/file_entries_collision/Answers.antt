@@ -1,5 +1,6 @@
 -- The verdict is on the entries of the file.
-use Rattle.std.proofs.{Common.inl, Common.inr, Common.⊎_elim, lemmas.Result.err_from_is_err_and}
+use Rattle.std.proofs.Common.{inl, inr, ⊎_elim}
+use Rattle.std.proofs.lemmas.Result.{err_from_is_err_and}
 use Rattle.tlog.specs.Collisions.{entries_of}
 use Rattle.log_text.specs.Texts.{entries_fields}
 use Rattle.log_commands.specs.declared.error.Source.TheVariants.{Checkpoint}

@@ -3,7 +3,8 @@ use Rattle.std.proofs.Common.{◌∙◌, inl, inr, subst, sym, ⊎_elim}
 use Rattle.std.proofs.lemmas.Result.{err_from_is_err_and}
 use Rattle.tlog.specs.Collisions.{entries_of}
 use Rattle.log_text.specs.Texts.{consistency_fields}
-use Rattle.log_commands.specs.{Collisions.IsCheckpointOfFile, Outcomes.verify_consistency_outcome}
+use Rattle.log_commands.specs.Collisions.{IsCheckpointOfFile}
+use Rattle.log_commands.specs.Outcomes.{verify_consistency_outcome}
 use Rattle.log_commands.specs.declared.error.Source.TheVariants.{Old, Proof}
 use Rattle.log_commands.proofs.CollisionFacts.{begins, not_of_file, same_ok}
 use Rattle.log_commands.proofs.collisions.file_prefix_collision.Goals as goal

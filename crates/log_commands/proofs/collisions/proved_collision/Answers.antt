@@ -1,8 +1,10 @@
 -- Leaf hashes are compared first, then bytes.
 use Rattle.std.proofs.Common.{◌∙◌, List, map, subst, sym, All}
 use Rattle.tlog.specs.Collisions.{entries_of}
-use Rattle.log_text.specs.{Texts.entries_fields, Texts.entry_fields, declared.entries.Entry.Entry}
-use Rattle.log_commands.{proofs.CollisionFacts.have_leaves, proofs.CollisionFacts.own_leaves, specs.Inner.HasLeafIn}
+use Rattle.log_text.specs.Texts.{entries_fields, entry_fields}
+use Rattle.log_text.specs.declared.entries.Entry.{Entry}
+use Rattle.log_commands.proofs.CollisionFacts.{have_leaves, own_leaves}
+use Rattle.log_commands.specs.Inner.{HasLeafIn}
 use Rattle.log_commands.proofs.collisions.proved_collision.Goals as goal
 
 pub returns-then-is_some-clause-none : goal.returns-then-is_some-clause-none

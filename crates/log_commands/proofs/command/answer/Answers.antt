@@ -3,7 +3,9 @@ use Rattle.std.proofs.Common.{ap, inl, inr, ⊎_elim, None, Some, refl, string_b
 use Rattle.std.proofs.lemmas.Result.{err_from_is_err_and}
 use Rattle.log_commands.specs.Outcomes.{and_then, bytes_in, Gives, join_outcome}
 use Rattle.log_commands.specs.declared.error.Source.TheVariants.{Checkpoint, New, Old, Proof}
-use Rattle.log_commands.{proofs.RunFacts.unread_gives, specs.Commands.prove_file, specs.declared.error.Error.Error}
+use Rattle.log_commands.proofs.RunFacts.{unread_gives}
+use Rattle.log_commands.specs.Commands.{prove_file}
+use Rattle.log_commands.specs.declared.error.Error.{Error}
 use Rattle.log_commands.proofs.command.answer.Goals as goal
 
 -- ---- prove

@@ -1,9 +1,12 @@
 -- Each turn reads the next part.
 use Rattle.std.proofs.Common.{◌≡◌, ◌+◌, length, ◌∙◌, [], ◌∷◌, ◌++◌, Err, None, append-nil, arith, ap, inl, inr, map}
 use Rattle.std.proofs.Common.{subst, sym, List, Option, Some, ℕ, ⊎_elim}
-use Rattle.std.proofs.lemmas.{Result.err_from_is_err_and, List.length-map, List.nil_from_length}
-use Rattle.log_commands.specs.{Commands.AreReadAs, Outcomes.bytes_in}
-use Rattle.log_commands.specs.declared.error.{Error.TheVariants.Read, Source.TheVariants.Part}
+use Rattle.std.proofs.lemmas.Result.{err_from_is_err_and}
+use Rattle.std.proofs.lemmas.List.{length-map, nil_from_length}
+use Rattle.log_commands.specs.Commands.{AreReadAs}
+use Rattle.log_commands.specs.Outcomes.{bytes_in}
+use Rattle.log_commands.specs.declared.error.Error.TheVariants.{Read}
+use Rattle.log_commands.specs.declared.error.Source.TheVariants.{Part}
 use Rattle.std.specs.Vec.Iter.{into_iter_items}
 use Rattle.log_commands.proofs.RunFacts.{all_read, read_up_to, stops_at, unread}
 use Rattle.log_commands.proofs.command.read_parts.Goals as goal

@@ -1,9 +1,12 @@
 -- A checkpoint that is read has a size that a log may have.
 use Rattle.std.proofs.Common.{◌≤◌, rules, List, ℕ, IfOk, Ok, Err, Result}
 use Rattle.tlog.specs.Verdicts.{size_limit}
-use Rattle.log_text.specs.{Reading.checkpoint_in, Texts.checkpoint_fields, declared.checkpoint.Checkpoint.Checkpoint}
+use Rattle.log_text.specs.Reading.{checkpoint_in}
+use Rattle.log_text.specs.Texts.{checkpoint_fields}
+use Rattle.log_text.specs.declared.checkpoint.Checkpoint.{Checkpoint}
 use Rattle.log_commands.specs.{Outcomes.Gives, Outcomes.said_by}
-use Rattle.log_commands.specs.declared.error.{Error.Error, Source.Source}
+use Rattle.log_commands.specs.declared.error.Error.{Error}
+use Rattle.log_commands.specs.declared.error.Source.{Source}
 use Rattle.log_commands.proofs.ProveFacts.{limit_of}
 use Rattle.log_commands.proofs.inputs.parse_checkpoint.Goals as goal
 

@@ -1,9 +1,11 @@
 -- What is read is of the bytes of the file, or they are refused.
 use Rattle.std.proofs.Common.{◌≡◌, ◌∙◌, Err, None, Some, ap, arith, inl, inr, sym, ⊎_elim}
-use Rattle.std.proofs.lemmas.{List.length-map, Result.err_from_is_err_and}
+use Rattle.std.proofs.lemmas.List.{length-map}
+use Rattle.std.proofs.lemmas.Result.{err_from_is_err_and}
 use Rattle.sha2.specs.Sha256.{sha256}
 use Rattle.tlog.specs.Rfc9162.{leaf_hash}
-use Rattle.log_files.specs.{Entries.entries_in, Entries.first_of as first_entries, Entries.read_refusal, Logs.IsLogOf}
+use Rattle.log_files.specs.Entries.{entries_in, first_of as first_entries, read_refusal}
+use Rattle.log_files.specs.Logs.{IsLogOf}
 use Rattle.log_commands.specs.Errors.{read_error}
 use Rattle.log_commands.proofs.OutcomeFacts.{file_known, read_err, read_ok}
 use Rattle.log_commands.proofs.inputs.read_file.Goals as goal

@@ -1,7 +1,9 @@
 -- What is read of the file, and then its tree.
-use Rattle.std.proofs.{Common.Err, Common.Ok, Common.Some, Common.inr, lemmas.Result.err_from_is_err_and}
+use Rattle.std.proofs.Common.{Err, Ok, Some, inr}
+use Rattle.std.proofs.lemmas.Result.{err_from_is_err_and}
 use Rattle.log_text.specs.Texts.{checkpoint_fields}
-use Rattle.log_commands.specs.{Inner.ReadsAs, Outcomes.entries_read}
+use Rattle.log_commands.specs.Inner.{ReadsAs}
+use Rattle.log_commands.specs.Outcomes.{entries_read}
 use Rattle.log_commands.proofs.OutcomeFacts.{checked, checked_is, goes, stops}
 use Rattle.log_commands.proofs.inputs.read_under.Goals as goal
 

@@ -3,7 +3,8 @@ use Rattle.std.proofs.Common.{◌≡◌, ◌∙◌, length, map, subst, sym}
 use Rattle.std.proofs.lemmas.List.{length-map}
 use Rattle.sha2.specs.Sha256.{sha256}
 use Rattle.tlog.specs.Rfc9162.{leaf_hash, root_of}
-use Rattle.tlog_tree.specs.{Frontiers.IsFrontierOf, declared.frontier.Frontier.Frontier}
+use Rattle.tlog_tree.specs.Frontiers.{IsFrontierOf}
+use Rattle.tlog_tree.specs.declared.frontier.Frontier.{Frontier}
 use Rattle.tlog_entries.proofs.Leaves.{mth_map}
 use Rattle.log_commands.proofs.inputs.size_and_root.Goals as goal
 

@@ -1,10 +1,13 @@
 -- Each turn checks one size.
 use Rattle.std.proofs.Common.{◌≡◌, ◌<◌, ◌+◌, ◌-◌, ap, arith, get_or, length, suc, sym, ℕ, Option}
-use Rattle.std.specs.{List.range_with_len, Option.option_or}
-use Rattle.p3_merkle_core.{proofs.Pruned.LeadFacts.found_or, proofs.Pruned.LeadFacts.kept_or, specs.Refusals.first_of}
-use Rattle.p3_merkle_core.specs.Refusals.{unless}
-use Rattle.log_commands.specs.{Outcomes.part_refusal, Outcomes.sizes_refusal, declared.error.Error.TheVariants.Refused}
-use Rattle.log_commands.specs.declared.error.{Source.TheVariants.Part, Refusal.TheVariants.PartSize}
+use Rattle.std.specs.List.{range_with_len}
+use Rattle.std.specs.Option.{option_or}
+use Rattle.p3_merkle_core.proofs.Pruned.LeadFacts.{found_or, kept_or}
+use Rattle.p3_merkle_core.specs.Refusals.{first_of, unless}
+use Rattle.log_commands.specs.Outcomes.{part_refusal, sizes_refusal}
+use Rattle.log_commands.specs.declared.error.Error.TheVariants.{Refused}
+use Rattle.log_commands.specs.declared.error.Source.TheVariants.{Part}
+use Rattle.log_commands.specs.declared.error.Refusal.TheVariants.{PartSize}
 use Rattle.log_commands.proofs.join.check_each.Goals as goal
 
 -- the refusal of a place among so many, else of those after it

@@ -1,4 +1,5 @@
-use Rattle.std.{proofs.Common.◌≡◌, proofs.Common.◌-◌, proofs.Common.length, specs.List.range_with_len}
+use Rattle.std.proofs.Common.{◌≡◌, ◌-◌, length}
+use Rattle.std.specs.List.{range_with_len}
 use Rattle.p3_merkle_core.specs.Refusals.{first_of}
 use Rattle.log_commands.specs.Outcomes.{part_refusal, sizes_refusal}
 use Rattle.log_commands.proofs.join.check_each.Given as goal

@@ -1,5 +1,6 @@
 use Rattle.std.proofs.Common.{◌≡◌, ◌++◌, drop, map, Err, List, Ok, Result, ℕ}
-use Rattle.log_commands.specs.{Outcomes.bytes_in, Outcomes.parts_in, declared.error.Error.Error}
+use Rattle.log_commands.specs.Outcomes.{bytes_in, parts_in}
+use Rattle.log_commands.specs.declared.error.Error.{Error}
 use Rattle.log_commands.proofs.join.read_parts.Given as goal
 
 -- the parts after some that were read

@@ -1,4 +1,5 @@
-use Rattle.std.{proofs.Common.◌≡◌, proofs.Common.◌≤◌, proofs.Common.take, specs.List.sum}
+use Rattle.std.proofs.Common.{◌≡◌, ◌≤◌, take}
+use Rattle.std.specs.List.{sum}
 use Rattle.tlog.specs.Verdicts.{size_limit}
 use Rattle.log_commands.proofs.join.total.Given as goal
 

@@ -1,7 +1,10 @@
 -- They are as many as the log has entries, or one.
 use Rattle.std.proofs.Common.{◌≡◌, ◌+◌, arith, max, subst, sym}
-use Rattle.std.proofs.lemmas.{Iterator.items_from_collect, Iterator.YieldsList-from_range, Result.IfOk-weaker}
-use Rattle.log_commands.{proofs.ProveFacts.all_are_numbers, specs.Commands.AreNumbers, specs.Outcomes.all_numbers}
+use Rattle.std.proofs.lemmas.Iterator.{items_from_collect, YieldsList-from_range}
+use Rattle.std.proofs.lemmas.Result.{IfOk-weaker}
+use Rattle.log_commands.proofs.ProveFacts.{all_are_numbers}
+use Rattle.log_commands.specs.Commands.{AreNumbers}
+use Rattle.log_commands.specs.Outcomes.{all_numbers}
 use Rattle.log_commands.proofs.prove.all_numbers.Goals as goal
 
 pub returns : goal.returns

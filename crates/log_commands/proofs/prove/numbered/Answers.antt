@@ -1,10 +1,12 @@
 -- Where either list is at its end, all entries are made.
 use Rattle.std.proofs.Common.{◌≡◌, ◌⊎◌, ◌∙◌, ◌∷◌, ◌++◌, [], List, ap, append-nil, inl, inr, map, refl, sym, zip, ⊎_elim}
 use Rattle.std.specs.Iterator.Adapters.{zip_first, zip_second}
-use Rattle.std.specs.{Slice.Iter.iter_rest, Vec.Iter.into_iter_items}
+use Rattle.std.specs.Slice.Iter.{iter_rest}
+use Rattle.std.specs.Vec.Iter.{into_iter_items}
 use Rattle.std.proofs.lemmas.List.{nil_from_length}
 use Rattle.log_text.specs.Texts.{entry_fields}
-use Rattle.log_commands.specs.{Inner.entry_of, Outcomes.bytes_in}
+use Rattle.log_commands.specs.Inner.{entry_of}
+use Rattle.log_commands.specs.Outcomes.{bytes_in}
 use Rattle.log_commands.proofs.prove.numbered.Goals as goal
 
 module _ {R V N B : Type 0} (shown : R → V) (value : N × B → V) (old : List R) (ns : List N) (bs : List B)

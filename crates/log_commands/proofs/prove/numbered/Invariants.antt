@@ -1,8 +1,10 @@
 use Rattle.std.proofs.Common.{◌≡◌, ◌++◌, map, zip}
 use Rattle.std.specs.Iterator.Adapters.{zip_first, zip_second}
-use Rattle.std.specs.{Slice.Iter.iter_rest, Vec.Iter.into_iter_items}
+use Rattle.std.specs.Slice.Iter.{iter_rest}
+use Rattle.std.specs.Vec.Iter.{into_iter_items}
 use Rattle.log_text.specs.Texts.{entry_fields}
-use Rattle.log_commands.specs.{Inner.entry_of, Outcomes.bytes_in}
+use Rattle.log_commands.specs.Inner.{entry_of}
+use Rattle.log_commands.specs.Outcomes.{bytes_in}
 use Rattle.log_commands.proofs.prove.numbered.Given as goal
 
 -- the entries so far, and those that are left

@@ -1,9 +1,11 @@
 -- The entries of the checkpoint are read, and those of the numbers are proved.
 use Rattle.std.proofs.Common.{◌≡◌, ◌<◌, ◌-◌, ◌∙◌, Err, Ok, List, ℕ, ap, length, map, rules, subst, sym}
-use Rattle.std.{proofs.lemmas.Result.err_from_is_err_and, specs.Prelude.All}
+use Rattle.std.proofs.lemmas.Result.{err_from_is_err_and}
+use Rattle.std.specs.Prelude.{All}
 use Rattle.tlog_entries.specs.Entries.{proof_nodes}
 use Rattle.log_text.specs.Texts.{checkpoint_fields, entries_text}
-use Rattle.log_commands.specs.{Inner.HasEntries, Outcomes.bytes_in, Outcomes.entries_under, Outcomes.proof_over}
+use Rattle.log_commands.specs.Inner.{HasEntries}
+use Rattle.log_commands.specs.Outcomes.{bytes_in, entries_under, proof_over}
 use Rattle.log_commands.proofs.ProveFacts.{gives_text, under_size, wanted_is, whole_goes, whole_stops, within_size}
 use Rattle.log_commands.proofs.prove.prove_under.Goals as goal
 

@@ -6,7 +6,8 @@ use Rattle.tlog.specs.Rfc9162.{leaf_hash}
 use Rattle.tlog_entries.specs.Entries.{proof_nodes}
 use Rattle.log_text.specs.Texts.{entries_text, entry_fields}
 use Rattle.log_files.specs.Entries.{entry_at, wanted_of}
-use Rattle.log_commands.specs.{Inner.entry_of, Inner.HasEntries, Outcomes.proof_over}
+use Rattle.log_commands.specs.Inner.{entry_of, HasEntries}
+use Rattle.log_commands.specs.Outcomes.{proof_over}
 use Rattle.log_commands.proofs.ProveFacts.{numbered_are, values_there}
 use Rattle.log_commands.proofs.prove.text_of.Goals as goal
 

@@ -1,5 +1,6 @@
 -- The entries of the new checkpoint are read, and their growth is proved.
-use Rattle.std.proofs.{Common.◌∙◌, Common.Err, Common.[], Common.ap, Common.map, lemmas.Result.err_from_is_err_and}
+use Rattle.std.proofs.Common.{◌∙◌, Err, [], ap, map}
+use Rattle.std.proofs.lemmas.Result.{err_from_is_err_and}
 use Rattle.sha2.specs.Sha256.{sha256}
 use Rattle.tlog.specs.Rfc9162.{leaf_hash}
 use Rattle.tlog_tree.specs.Trees.{values_at}

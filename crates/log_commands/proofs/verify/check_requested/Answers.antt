@@ -1,11 +1,14 @@
 -- A number more than there are entries decides as all of them do.
 use Rattle.std.proofs.Common.{◌≡◌, ◌==◌, ◌+◌, ◌∙◌, [], ◌∷◌, ℕ, List, Some, Result, Ok, Err, ap, arith, inr}
 use Rattle.std.proofs.Common.{if◌then◌else◌, length, map, max, min, refl, suc, sym, zero}
-use Rattle.std.{proofs.lemmas.List.length-map, specs.List.range_with_len}
+use Rattle.std.proofs.lemmas.List.{length-map}
+use Rattle.std.specs.List.{range_with_len}
 use Rattle.log_text.specs.Texts.{entry_fields, EntryFields}
-use Rattle.log_commands.specs.{Inner.Checks, Inner.ChecksUnlessMemory, Outcomes.all_numbers, Outcomes.first_other}
-use Rattle.log_commands.specs.Outcomes.{numbers_refusal}
-use Rattle.log_commands.specs.declared.error.{Error.Error, Error.TheVariants.Refused, Refusal.TheVariants.OtherNumber}
+use Rattle.log_commands.specs.Inner.{Checks, ChecksUnlessMemory}
+use Rattle.log_commands.specs.Outcomes.{all_numbers, first_other, numbers_refusal}
+use Rattle.log_commands.specs.declared.error.Error.{Error}
+use Rattle.log_commands.specs.declared.error.Error.TheVariants.{Refused}
+use Rattle.log_commands.specs.declared.error.Refusal.TheVariants.{OtherNumber}
 use Rattle.log_commands.specs.declared.error.Source.TheVariants.{Proof}
 use Rattle.log_commands.proofs.verify.check_requested.Goals as goal
 

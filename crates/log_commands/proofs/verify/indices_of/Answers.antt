@@ -1,6 +1,8 @@
 use Rattle.std.proofs.Common.{◌≡◌, ◌∙◌, ◌-◌, map, rules, sym, IfOk}
-use Rattle.std.proofs.lemmas.{Result.IfOk-weaker, Simd.map-map}
-use Rattle.log_text.specs.{Texts.entry_fields, Texts.EntryFields, declared.entries.Entry.Entry}
+use Rattle.std.proofs.lemmas.Result.{IfOk-weaker}
+use Rattle.std.proofs.lemmas.Simd.{map-map}
+use Rattle.log_text.specs.Texts.{entry_fields, EntryFields}
+use Rattle.log_text.specs.declared.entries.Entry.{Entry}
 use Rattle.log_commands.proofs.verify.indices_of.Goals as goal
 
 pub returns : goal.returns

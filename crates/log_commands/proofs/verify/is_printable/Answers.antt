@@ -1,5 +1,6 @@
 use Rattle.std.proofs.Common.{rules, ◌==◌, not, ap, ◌∙◌, sym}
-use Rattle.std.proofs.lemmas.Iterator.{YieldsList-from_slice, Search.all_from_yields_List}
+use Rattle.std.proofs.lemmas.Iterator.{YieldsList-from_slice}
+use Rattle.std.proofs.lemmas.Iterator.Search.{all_from_yields_List}
 use Rattle.log_text.specs.Texts.{entry_fields}
 use Rattle.log_commands.specs.Outcomes.{is_printable}
 use Rattle.log_commands.proofs.verify.is_printable.Goals as goal

@@ -1,9 +1,11 @@
 -- One step after another, until nothing is left or enough entries have ended.
 use Rattle.std.proofs.Common.{length-append, ◌<◌, ◌^◌, ◌≡◌, ◌+◌, ℕ, List, nat_lt, true, length, ◌∙◌, ◌++◌, ap}
 use Rattle.std.proofs.Common.{append_assoc, arith, inl, inr, leb-true, subst, sym, ltb-true}
-use Rattle.std.proofs.lemmas.{Result.err_from_is_err_and, List.length-map, List.map-append}
+use Rattle.std.proofs.lemmas.Result.{err_from_is_err_and}
+use Rattle.std.proofs.lemmas.List.{length-map, map-append}
 use Rattle.tlog_tree.specs.Builders.{IsBuilderOf}
-use Rattle.tlog.specs.{Verdicts.size_limit, Rfc9162.leaf_hash}
+use Rattle.tlog.specs.Verdicts.{size_limit}
+use Rattle.tlog.specs.Rfc9162.{leaf_hash}
 use Rattle.log_files.specs.Inner.Splitting.{AreTooMany, HasBuilt}
 use Rattle.log_files.proofs.ReaderFacts.{leaves, refused_by, size_of}
 use Rattle.log_files.proofs.{SplitterFacts.many_at, SplitterFacts.none_of}

@@ -1,16 +1,20 @@
 -- The file is read, from nothing on, and its log is finished.
 use Rattle.std.proofs.Common.{◌⊎◌, ◌≡◌, ◌∙◌, ◌+◌, ◌≤◌, ◌++◌, ℕ, List, [], Some, length, nat_lt, true, subst, sym}
-use Rattle.std.specs.{Io.KnownBytes.Consumes, List.Sorted.IsPermutation}
+use Rattle.std.specs.Io.KnownBytes.{Consumes}
+use Rattle.std.specs.List.Sorted.{IsPermutation}
 use Rattle.std.proofs.lemmas.Result.{err_from_is_err_and}
 use Rattle.tlog.specs.Verdicts.{size_limit}
 use Rattle.tlog_tree.specs.Builders.{IsBuilderOf}
-use Rattle.log_files.specs.{Entries.HoldsOfFile, Logs.IsLogOf, declared.reading.ReadLog.ReadLog}
+use Rattle.log_files.specs.Entries.{HoldsOfFile}
+use Rattle.log_files.specs.Logs.{IsLogOf}
+use Rattle.log_files.specs.declared.reading.ReadLog.{ReadLog}
 use Rattle.log_files.specs.declared.error.ReadError.TheVariants.{OutOfMemory, Read as FailedRead, TooManyEntries}
 use Rattle.log_files.specs.Inner.Splitting.{AreTooMany, HasBuilt, ReadsTooMany}
 use Rattle.log_files.specs.Inner.Wanted.{places_of, IsAscending}
 use Rattle.log_files.proofs.ReaderFacts.{leaves, log_of, many_at_end, refused_by, refused_far, refused_inside}
 use Rattle.log_files.proofs.ReaderFacts.{log_with, of_file, refused_either, refused_file}
-use Rattle.log_files.proofs.reading.read_log.{Given.Over, Goals.After-deref, Goals.In_ok-tree, Goals.In_ok-tree-2}
+use Rattle.log_files.proofs.reading.read_log.Given.{Over}
+use Rattle.log_files.proofs.reading.read_log.Goals.{After-deref, In_ok-tree, In_ok-tree-2}
 use Rattle.log_files.proofs.reading.read_log.Goals as goal
 
 pub new-requires : goal.new-requires

@@ -1,9 +1,12 @@
 -- What was read so far has been built.
 use Rattle.std.proofs.Common.{◌⊎◌, ℕ, List, ◌≡◌, ◌++◌, ◌∙◌, [], append-nil, arith, inl, inr, leb-true, refl, subst, sym}
-use Rattle.std.proofs.{Common.take, lemmas.Result.err_from_is_err_and}
+use Rattle.std.proofs.Common.{take}
+use Rattle.std.proofs.lemmas.Result.{err_from_is_err_and}
 use Rattle.std.specs.Io.KnownBytes.{Consumes, ReadConsumes}
-use Rattle.log_files.specs.{Inner.Splitting.AreTooMany, Inner.Splitting.IsReady, declared.cut.Cut.Cut}
-use Rattle.log_files.specs.declared.error.ReadError.{ReadError, TheVariants.OutOfMemory, TheVariants.TooManyEntries}
+use Rattle.log_files.specs.Inner.Splitting.{AreTooMany, IsReady}
+use Rattle.log_files.specs.declared.cut.Cut.{Cut}
+use Rattle.log_files.specs.declared.error.ReadError.{ReadError}
+use Rattle.log_files.specs.declared.error.ReadError.TheVariants.{OutOfMemory, TooManyEntries}
 use Rattle.log_files.proofs.{ReaderFacts.grown_on, ReaderFacts.whole_read, ReaderFacts.refused_reading}
 use Rattle.std.proofs.KnownBytes.{Consumes-kept, Consumes-nil, Consumes-trans}
 use Rattle.log_files.proofs.reading.read_through.Goals.{in-Ok+in_ok-tree-in-Ok, in-Err}

@@ -1,6 +1,8 @@
 use Rattle.std.proofs.Common.{◌≡◌, ℕ, List, ◌∙◌, ap, arith, length, map, refl, subst}
-use Rattle.std.specs.List.{range_with_len, Sorted.IsPermutation}
-use Rattle.log_files.{proofs.WantedFacts.one_more_place, proofs.WantedFacts.sorted_ascends, specs.Inner.Wanted.place_of}
+use Rattle.std.specs.List.{range_with_len}
+use Rattle.std.specs.List.Sorted.{IsPermutation}
+use Rattle.log_files.proofs.WantedFacts.{one_more_place, sorted_ascends}
+use Rattle.log_files.specs.Inner.Wanted.{place_of}
 use Rattle.log_files.proofs.wanted.places_in_order.Goals as goal
 
 pub loop-place-preserved : goal.loop-place-preserved

@@ -1,4 +1,5 @@
-use Rattle.std.{proofs.Common.◌≡◌, proofs.Common.map, specs.List.range_with_len}
+use Rattle.std.proofs.Common.{◌≡◌, map}
+use Rattle.std.specs.List.{range_with_len}
 use Rattle.log_files.specs.Inner.Wanted.{place_of}
 use Rattle.log_files.proofs.wanted.places_in_order.Given as goal
 

@@ -1,8 +1,11 @@
 use Rattle.std.proofs.Common.{◌≡◌, ◌==◌, true, false, length, sym, ap, ◌∙◌, arith, rules, ◌&&◌, not, nat_le}
-use Rattle.std.proofs.lemmas.Iterator.{YieldsList-from_slice, Search.all_from_yields_List}
-use Rattle.std.{proofs.lemmas.Str.chars_from_encodes, specs.Str.chars}
+use Rattle.std.proofs.lemmas.Iterator.{YieldsList-from_slice}
+use Rattle.std.proofs.lemmas.Iterator.Search.{all_from_yields_List}
+use Rattle.std.proofs.lemmas.Str.{chars_from_encodes}
+use Rattle.std.specs.Str.{chars}
 use Rattle.log_text.specs.Lines.{is_origin}
-use Rattle.log_text.proofs.{LineFacts.origin_tests, TestFacts.fails, TestFacts.le_decided}
+use Rattle.log_text.proofs.LineFacts.{origin_tests}
+use Rattle.log_text.proofs.TestFacts.{fails, le_decided}
 use Rattle.log_text.proofs.checkpoint.is_origin.Goals as goal
 
 pub returns-then-count-le100 : goal.returns-then-count-le100

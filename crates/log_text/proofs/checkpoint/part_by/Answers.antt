@@ -2,7 +2,8 @@ use Rattle.std.proofs.Common.{length, sym, ◌∙◌, arith, if◌then◌else◌
 use Rattle.std.proofs.lemmas.Bool.Decides.{Decides-ltb}
 use Rattle.log_text.specs.Reading.{after_origin, missing, part_origin_by, then_read}
 use Rattle.log_text.specs.declared.error.Expected.TheVariants.{ShortNote}
-use Rattle.log_text.proofs.{NoteLaws.part_next, TestFacts.fails}
+use Rattle.log_text.proofs.NoteLaws.{part_next}
+use Rattle.log_text.proofs.TestFacts.{fails}
 use Rattle.log_text.proofs.checkpoint.part_by.Goals as goal
 
 pub returns : goal.returns

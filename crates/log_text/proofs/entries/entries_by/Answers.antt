@@ -1,6 +1,7 @@
 use Rattle.std.proofs.Common.{◌≡◌, ℕ, List, [], ◌∷◌, Err, sym, inr, rules}
 use Rattle.std.proofs.lemmas.Result.{err_from_is_err_and}
-use Rattle.log_text.specs.{Reading.ended, Reading.entries_by, declared.error.Stop.Stop}
+use Rattle.log_text.specs.Reading.{ended, entries_by}
+use Rattle.log_text.specs.declared.error.Stop.{Stop}
 use Rattle.log_text.proofs.ReadFacts.{rest_ok}
 use Rattle.log_text.proofs.entries.entries_by.Goals as goal
 

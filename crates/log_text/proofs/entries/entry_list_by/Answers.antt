@@ -1,6 +1,8 @@
 use Rattle.std.proofs.Common.{⊎_elim, ◌+◌, ◌-◌, ◌∷◌, [], ap, inl, inr, map, refl, sym, ◌∙◌}
-use Rattle.std.proofs.lemmas.{List.map-append, Result.err_from_is_err_and}
-use Rattle.log_text.specs.{Reading.entry_by, Reading.many, Reading.never, Texts.entry_fields}
+use Rattle.std.proofs.lemmas.List.{map-append}
+use Rattle.std.proofs.lemmas.Result.{err_from_is_err_and}
+use Rattle.log_text.specs.Reading.{entry_by, many, never}
+use Rattle.log_text.specs.Texts.{entry_fields}
 use Rattle.log_text.proofs.ReadFacts.{many_ended, many_more, many_refused, onto}
 use Rattle.log_text.proofs.entries.entry_list_by.Goals as goal
 

@@ -1,5 +1,6 @@
 use Rattle.std.proofs.Common.{◌≡◌, ◌-◌, map}
-use Rattle.log_text.specs.{Reading.entry_by, Reading.many, Reading.never, Texts.entry_fields}
+use Rattle.log_text.specs.Reading.{entry_by, many, never}
+use Rattle.log_text.specs.Texts.{entry_fields}
 use Rattle.log_text.proofs.ReadFacts.{onto}
 use Rattle.log_text.proofs.entries.entry_list_by.Given as goal
 

@@ -1,6 +1,8 @@
 use Rattle.std.proofs.Common.{rules, ◌≡◌, ◌==◌, position}
-use Rattle.std.proofs.lemmas.Iterator.{YieldsList-from_slice, Search.position_from_yields_List}
-use Rattle.log_text.proofs.{TestFacts.cut_none, TestFacts.cut_some, line.cut_at.Goals.After-position}
+use Rattle.std.proofs.lemmas.Iterator.{YieldsList-from_slice}
+use Rattle.std.proofs.lemmas.Iterator.Search.{position_from_yields_List}
+use Rattle.log_text.proofs.TestFacts.{cut_none, cut_some}
+use Rattle.log_text.proofs.line.cut_at.Goals.{After-position}
 use Rattle.log_text.proofs.line.cut_at.Goals as goal
 
 place : (c : After-position) → c.position.result ≡ position (λ b. b == c.args.mark) c.args.bytes.now

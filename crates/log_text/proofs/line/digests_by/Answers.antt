@@ -1,5 +1,6 @@
 use Rattle.std.proofs.Common.{◌≡◌, ◌+◌, ◌-◌, Bool, false, List, ℕ, ap, inr, sym, ◌∙◌, ◌&&◌}
-use Rattle.std.proofs.lemmas.{Bool.and_left, Bool.and_right, Result.err_from_is_err_and}
+use Rattle.std.proofs.lemmas.Bool.{and_left, and_right}
+use Rattle.std.proofs.lemmas.Result.{err_from_is_err_and}
 use Rattle.log_text.specs.Reading.{at_blank, digest_by, digests_by, many}
 use Rattle.log_text.proofs.ReadFacts.{many_ended, many_more, many_refused, many_start, many_stopped, onto}
 use Rattle.log_text.proofs.line.digests_by.Goals.{else-blank_stops-via-else-blank_stops, Joined-else-blank_stops}

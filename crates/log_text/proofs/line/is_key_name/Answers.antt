@@ -1,8 +1,10 @@
 use Rattle.std.proofs.Common.{sym, ap, ◌∙◌, rules, ◌&&◌}
-use Rattle.std.proofs.lemmas.Iterator.{YieldsList-from_chars, Search.all_from_yields_List}
-use Rattle.std.specs.{List.list_all, Str.chars}
-use Rattle.log_text.{proofs.LineFacts.some_tested, specs.Lines.is_key_name, specs.Lines.is_name_char}
-use Rattle.log_text.specs.Lines.{is_text}
+use Rattle.std.proofs.lemmas.Iterator.{YieldsList-from_chars}
+use Rattle.std.proofs.lemmas.Iterator.Search.{all_from_yields_List}
+use Rattle.std.specs.List.{list_all}
+use Rattle.std.specs.Str.{chars}
+use Rattle.log_text.proofs.LineFacts.{some_tested}
+use Rattle.log_text.specs.Lines.{is_key_name, is_name_char, is_text}
 use Rattle.log_text.proofs.line.is_key_name.Goals as goal
 
 pub returns : goal.returns

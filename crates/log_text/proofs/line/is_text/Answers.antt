@@ -1,7 +1,9 @@
 use Rattle.std.proofs.Common.{rules, sym, ◌∙◌, ◌&&◌, nat_le}
-use Rattle.std.proofs.lemmas.Iterator.{YieldsList-from_slice, Search.all_from_yields_List}
+use Rattle.std.proofs.lemmas.Iterator.{YieldsList-from_slice}
+use Rattle.std.proofs.lemmas.Iterator.Search.{all_from_yields_List}
 use Rattle.std.specs.List.{list_all}
-use Rattle.log_text.{proofs.LineFacts.utf8_tells, specs.Lines.is_text}
+use Rattle.log_text.proofs.LineFacts.{utf8_tells}
+use Rattle.log_text.specs.Lines.{is_text}
 use Rattle.log_text.proofs.line.is_text.Goals as goal
 
 pub returns-then-is_ok : goal.returns-then-is_ok

@@ -1,9 +1,11 @@
 use Rattle.std.proofs.Common.{◌∷◌, ◌++◌, [], refl, sym, ap, ◌∙◌}
-use Rattle.std.proofs.lemmas.{Bool.or_from, Bool.or_left, Bool.or_right, Result.err_from_is_err_and}
+use Rattle.std.proofs.lemmas.Bool.{or_from, or_left, or_right}
+use Rattle.std.proofs.lemmas.Result.{err_from_is_err_and}
 use Rattle.log_text.specs.Reading.{at_blank, at_end, at_text_end, line_that}
 use Rattle.log_text.proofs.ReadFacts.{many_ended, many_more, many_refused, many_start, many_stopped, rest_err, rest_ok}
 use Rattle.log_text.proofs.line.skip_lines.Goals.{then-is_empty-via-else-is_empty+then-at_blank}
-use Rattle.log_text.{proofs.line.skip_lines.Goals.then-is_empty-via-then-is_empty, specs.Inner.Rests.rest_of}
+use Rattle.log_text.proofs.line.skip_lines.Goals.{then-is_empty-via-then-is_empty}
+use Rattle.log_text.specs.Inner.Rests.{rest_of}
 use Rattle.log_text.proofs.line.skip_lines.Goals as goal
 
 pub loop-line-init : goal.loop-line-init

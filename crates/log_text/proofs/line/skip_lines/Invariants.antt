@@ -1,5 +1,6 @@
 use Rattle.std.proofs.Common.{◌≡◌, ◌-◌, List, ℕ}
-use Rattle.log_text.{proofs.ReadFacts.onto, specs.Reading.at_text_end, specs.Reading.line_that, specs.Reading.many}
+use Rattle.log_text.proofs.ReadFacts.{onto}
+use Rattle.log_text.specs.Reading.{at_text_end, line_that, many}
 use Rattle.log_text.proofs.line.skip_lines.Given as goal
 
 abbrev pub invariant-loop-line : goal.invariant-loop-line

@@ -1,20 +1,29 @@
 -- The tree is that of the matrices that were given.
-use Rattle.std.proofs.Common.{◌≡◌, ◌∙◌, ◌++◌, List, None, map, refl, sym, ap, subst, ⊎_elim, inl, inr}
-use Rattle.std.{proofs.Common.rules, proofs.lemmas.Result.err_from_is_err_and, specs.Prelude.flat_map}
+use Rattle.std.proofs.Common.{◌≡◌, ◌∙◌, ◌++◌, List, None, map, refl, sym, ap, subst, ⊎_elim, inl, inr, rules}
+use Rattle.std.proofs.lemmas.Result.{err_from_is_err_and}
+use Rattle.std.specs.Prelude.{flat_map}
 use Rattle.std.specs.Option.{option_or}
-use Rattle.p3_support.specs.{Batches.greatest, Shown.roots_of, Shown.row_sets}
-use Rattle.p3_merkle_core.specs.{Commitments.IsCommitment, Commitments.cap_over, Geometry.heights, Geometry.shape_of}
-use Rattle.p3_merkle_core.specs.{Nodes.shape, Nodes.Batch, Openings.honest_rows, Pruning.pruned_len, Pruning.pruned_of}
-use Rattle.p3_merkle_core.specs.{Pruning.PrunedOpening, Views.pruned_borrowed, Views.pruned_made, Geometry.Shape}
+use Rattle.p3_support.specs.Batches.{greatest}
+use Rattle.p3_support.specs.Shown.{roots_of, row_sets}
+use Rattle.p3_merkle_core.specs.Commitments.{IsCommitment, cap_over}
+use Rattle.p3_merkle_core.specs.Geometry.{heights, shape_of, Shape}
+use Rattle.p3_merkle_core.specs.Nodes.{shape, Batch}
+use Rattle.p3_merkle_core.specs.Openings.{honest_rows}
+use Rattle.p3_merkle_core.specs.Pruning.{pruned_len, pruned_of, PrunedOpening}
+use Rattle.p3_merkle_core.specs.Views.{pruned_borrowed, pruned_made}
 use Rattle.p3_merkle_core.specs.Refusals.{pruned_len_refusal, queries_refusal}
 use Rattle.p3_merkle_prover.specs.Parts.{layers_of, tree_batch}
 use Rattle.p3_merkle_mmcs.specs.Schemes.{cap_layer_of, params_of}
-use Rattle.mmcs_engine.specs.Inner.{Stored.stored_batch, Alike.opened_lines, Alike.opened_text}
+use Rattle.mmcs_engine.specs.Inner.Stored.{stored_batch}
+use Rattle.mmcs_engine.specs.Inner.Alike.{opened_lines, opened_text}
 use Rattle.mmcs_engine.specs.Text.{digest_lines, hex_lines, ok_line}
 use Rattle.mmcs_engine.proofs.TreesInNumbers.{check_printed, commit_printed, open_printed, stored_shape}
-use Rattle.mmcs_engine.proofs.{TextFacts.sets_long, ReplyFacts.accepted_lent}
-use Rattle.mmcs_engine.specs.declared.command.Action.{Action, TheVariants.Commit, TheVariants.Open, TheVariants.Check}
-use Rattle.mmcs_engine.proofs.engine.act.{Given.Over, Goals.After-check_indices}
+use Rattle.mmcs_engine.proofs.TextFacts.{sets_long}
+use Rattle.mmcs_engine.proofs.ReplyFacts.{accepted_lent}
+use Rattle.mmcs_engine.specs.declared.command.Action.{Action}
+use Rattle.mmcs_engine.specs.declared.command.Action.TheVariants.{Commit, Open, Check}
+use Rattle.mmcs_engine.proofs.engine.act.Given.{Over}
+use Rattle.mmcs_engine.proofs.engine.act.Goals.{After-check_indices}
 use Rattle.mmcs_engine.proofs.engine.act.Goals as goal
 
 abbrev batch_given : (g : Over) → After-check_indices g → Batch g.row.W.Denot

@@ -1,4 +1,5 @@
-use Rattle.std.proofs.{Common.refl, lemmas.Result.err_from_is_err_and}
+use Rattle.std.proofs.Common.{refl}
+use Rattle.std.proofs.lemmas.Result.{err_from_is_err_and}
 use Rattle.mmcs_engine.proofs.ReplyFacts.{usage_told}
 use Rattle.mmcs_engine.proofs.engine.answer_to.Goals as goal
 

@@ -1,7 +1,10 @@
-use Rattle.std.proofs.{Common.string_bytes, lemmas.Result.err_from_is_err_and}
+use Rattle.std.proofs.Common.{string_bytes}
+use Rattle.std.proofs.lemmas.Result.{err_from_is_err_and}
 use Rattle.p3_merkle_core.specs.Nodes.{shape}
-use Rattle.mmcs_engine.specs.Inner.{Stored.stored_batch, Alike.batch_in_numbers}
-use Rattle.mmcs_engine.proofs.{TreesInNumbers.in_numbers, ReplyFacts.reply_fault, ReplyFacts.reply_text}
+use Rattle.mmcs_engine.specs.Inner.Stored.{stored_batch}
+use Rattle.mmcs_engine.specs.Inner.Alike.{batch_in_numbers}
+use Rattle.mmcs_engine.proofs.TreesInNumbers.{in_numbers}
+use Rattle.mmcs_engine.proofs.ReplyFacts.{reply_fault, reply_text}
 use Rattle.mmcs_engine.proofs.engine.reply_with_scheme.Goals as goal
 
 pub returns-in_err-act-clause-fault : goal.returns-in_err-act-clause-fault

@@ -1,4 +1,6 @@
-use Rattle.std.proofs.{Common.arith, Common.string_bytes, lemmas.Result.err_from_is_err_and, lemmas.Grind.common_steps}
+use Rattle.std.proofs.Common.{arith, string_bytes}
+use Rattle.std.proofs.lemmas.Result.{err_from_is_err_and}
+use Rattle.std.proofs.lemmas.Grind.{common_steps}
 use Rattle.std.specs.Io.KnownBytes.{Appends}
 use Rattle.mmcs_engine.proofs.ReplyFacts.{failed, unwritten, written}
 use Rattle.mmcs_engine.proofs.engine.run.Goals as goal

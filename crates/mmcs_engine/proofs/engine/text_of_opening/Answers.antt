@@ -1,6 +1,8 @@
 use Rattle.std.proofs.Common.{◌++◌, ◌∙◌, [], ap, sym, map, length, append_assoc, refl, arith}
-use Rattle.std.{specs.Prelude.codes, specs.Prelude.flat_map, proofs.lemmas.List.length-map, proofs.lemmas.List.take_all}
-use Rattle.mmcs_engine.specs.{Text.hex_lines, Text.labelled, Inner.Alike.opened_lines}
+use Rattle.std.specs.Prelude.{codes, flat_map}
+use Rattle.std.proofs.lemmas.List.{length-map, take_all}
+use Rattle.mmcs_engine.specs.Text.{hex_lines, labelled}
+use Rattle.mmcs_engine.specs.Inner.Alike.{opened_lines}
 use Rattle.mmcs_engine.proofs.TextFacts.{queries_more, rows_opened}
 use Rattle.mmcs_engine.proofs.engine.text_of_opening.Goals as goal
 

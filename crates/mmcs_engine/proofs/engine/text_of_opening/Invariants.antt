@@ -1,7 +1,8 @@
 use Rattle.std.proofs.Common.{◌≡◌, take, map, string_bytes}
 use Rattle.std.specs.Prelude.{flat_map}
 use Rattle.p3_support.specs.Shown.{row_sets}
-use Rattle.p3_merkle_core.specs.{Nodes.Batch, Openings.honest_rows}
+use Rattle.p3_merkle_core.specs.Nodes.{Batch}
+use Rattle.p3_merkle_core.specs.Openings.{honest_rows}
 use Rattle.mmcs_engine.specs.Inner.Alike.{opened_lines}
 use Rattle.mmcs_engine.proofs.engine.text_of_opening.Given as goal
 

@@ -1,9 +1,12 @@
 use Rattle.std.proofs.Common.{◌+◌, ◌≡◌, ◌≤◌, ◌++◌, Option, ℕ, length, map, sym, refl, ◌∙◌, subst, arith}
-use Rattle.std.{specs.Prelude.All, proofs.lemmas.List.length-map}
-use Rattle.mmcs_engine.specs.{Numbers.IsNumberBelow, Input.numbers_of, Input.numerals_of}
+use Rattle.std.specs.Prelude.{All}
+use Rattle.std.proofs.lemmas.List.{length-map}
+use Rattle.mmcs_engine.specs.Numbers.{IsNumberBelow}
+use Rattle.mmcs_engine.specs.Input.{numbers_of, numerals_of}
 use Rattle.mmcs_engine.proofs.RowFacts.{RowSoFar, none_told, row_start, row_gap, row_ended, row_more, row_refused}
 use Rattle.mmcs_engine.proofs.RowFacts.{row_counted, row_end, row_end_number, row_fits, some_told, words_push}
-use Rattle.mmcs_engine.proofs.input.append_row.{Given.Over, Goals.After-len, Goals.then-is_gap+in-Some+in_ok-push}
+use Rattle.mmcs_engine.proofs.input.append_row.Given.{Over}
+use Rattle.mmcs_engine.proofs.input.append_row.Goals.{After-len, then-is_gap+in-Some+in_ok-push}
 use Rattle.mmcs_engine.proofs.input.append_row.Goals.{then-is_gap+in_default, else-is_gap+else-is_none}
 use Rattle.mmcs_engine.proofs.input.append_row.Goals.{in-Some-number+in_ok-push-2, in_default-number}
 use Rattle.mmcs_engine.proofs.input.append_row.Goals as goal

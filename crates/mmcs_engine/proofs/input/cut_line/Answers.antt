@@ -1,5 +1,7 @@
 use Rattle.std.proofs.Common.{◌≡◌, ◌==◌, false, length, arith, subst}
-use Rattle.std.{proofs.lemmas.List.take_all, proofs.lemmas.List.Splits.slice_split_none, specs.Prelude.All}
+use Rattle.std.proofs.lemmas.List.{take_all}
+use Rattle.std.proofs.lemmas.List.Splits.{slice_split_none}
+use Rattle.std.specs.Prelude.{All}
 use Rattle.mmcs_engine.proofs.InputFacts.{cut_at, no_line_feed}
 use Rattle.mmcs_engine.proofs.input.cut_line.Goals as goal
 

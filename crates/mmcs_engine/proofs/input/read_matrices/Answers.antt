@@ -1,12 +1,16 @@
 -- Each turn is one line of the input.
 use Rattle.std.proofs.Common.{◌≡◌, ◌+◌, ◌==◌, ◌<◌, ◌≤◌, List, ℕ, length, drop, get_or, map, sym, refl, ◌∙◌, subst, inl}
-use Rattle.std.proofs.{Common.arith, Common.rules, lemmas.Result.err_from_is_err_and}
-use Rattle.std.specs.{Prelude.IfNone, Prelude.IfSome, List.slice_split}
-use Rattle.mmcs_engine.{specs.Input.pieces_of, proofs.InputFacts.LinesSoFar, proofs.InputFacts.lines_fit}
+use Rattle.std.proofs.Common.{arith, rules}
+use Rattle.std.proofs.lemmas.Result.{err_from_is_err_and}
+use Rattle.std.specs.Prelude.{IfNone, IfSome}
+use Rattle.std.specs.List.{slice_split}
+use Rattle.mmcs_engine.specs.Input.{pieces_of}
+use Rattle.mmcs_engine.proofs.InputFacts.{LinesSoFar, lines_fit}
 use Rattle.mmcs_engine.proofs.InputFacts.{lines_start, lines_blank, lines_ended, lines_row, lines_refused, lines_end}
 use Rattle.mmcs_engine.proofs.InputFacts.{lines_end_block, next_piece, pieces_all, pieces_cut, pieces_more, seen_is}
 use Rattle.mmcs_engine.proofs.MatrixFacts.{Shows, matrices_found}
-use Rattle.mmcs_engine.proofs.input.read_matrices.{Given.Over, Goals.After-cut_line}
+use Rattle.mmcs_engine.proofs.input.read_matrices.Given.{Over}
+use Rattle.mmcs_engine.proofs.input.read_matrices.Goals.{After-cut_line}
 use Rattle.mmcs_engine.proofs.input.read_matrices.Goals.{in-Some-take_matrix-2+in_ok-push-2, in_default-take_matrix-2}
 use Rattle.mmcs_engine.proofs.input.read_matrices.Goals as goal
 

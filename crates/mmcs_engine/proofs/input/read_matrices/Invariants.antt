@@ -1,6 +1,9 @@
 use Rattle.std.proofs.Common.{◌≡◌, ◌+◌, ◌-◌, ◌==◌, ◌≤◌, drop, length, map, take}
-use Rattle.std.specs.{Prelude.IfNone, Prelude.IfSome, List.slice_split}
-use Rattle.mmcs_engine.{specs.Input.pieces_of, proofs.InputFacts.LinesSoFar, proofs.MatrixFacts.Shows}
+use Rattle.std.specs.Prelude.{IfNone, IfSome}
+use Rattle.std.specs.List.{slice_split}
+use Rattle.mmcs_engine.specs.Input.{pieces_of}
+use Rattle.mmcs_engine.proofs.InputFacts.{LinesSoFar}
+use Rattle.mmcs_engine.proofs.MatrixFacts.{Shows}
 use Rattle.mmcs_engine.proofs.input.read_matrices.Given as goal
 
 abbrev pub invariant-loop-rest : goal.invariant-loop-rest

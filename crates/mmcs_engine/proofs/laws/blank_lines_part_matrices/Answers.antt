@@ -1,6 +1,7 @@
 use Rattle.std.proofs.Common.{List, ◌++◌, ℕ, sym, subst}
 use Rattle.std.specs.List.{AllZip}
-use Rattle.mmcs_engine.{specs.Input.IsMatrix, proofs.InputFacts.zip_append}
+use Rattle.mmcs_engine.specs.Input.{IsMatrix}
+use Rattle.mmcs_engine.proofs.InputFacts.{zip_append}
 use Rattle.mmcs_engine.proofs.InputLaws.{blocks_of, blank_front, blank_end, blank_between}
 use Rattle.mmcs_engine.proofs.laws.blank_lines_part_matrices.Goals as goal
 

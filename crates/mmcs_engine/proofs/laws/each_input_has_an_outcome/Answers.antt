@@ -1,12 +1,16 @@
 -- There is an outcome by definition.
 use Rattle.std.proofs.Common.{◌≡◌, ⊎_elim, ℕ, ◌+◌, List, Option, Some, None, Result, Ok, Err, refl}
-use Rattle.p3_merkle_core.specs.{declared.error.MerkleTreeError.MerkleTreeError, Nodes.shape}
-use Rattle.mmcs_engine.specs.declared.{command.Command.Command, fault.Fault.Fault}
+use Rattle.p3_merkle_core.specs.declared.error.MerkleTreeError.{MerkleTreeError}
+use Rattle.p3_merkle_core.specs.Nodes.{shape}
+use Rattle.mmcs_engine.specs.declared.command.Command.{Command}
+use Rattle.mmcs_engine.specs.declared.fault.Fault.{Fault}
 use Rattle.mmcs_engine.specs.declared.fault.Fault.TheVariants.{Usage, Read, Number, Count, Tree, Write}
 use Rattle.mmcs_engine.specs.Input.{pieces_of, IsFirstFault, StandsFor}
 use Rattle.mmcs_engine.specs.Args.{arity_number, max_word, AreArgs}
 use Rattle.mmcs_engine.specs.Program.{batch_of_command, output_of, refusal_of, IsOutcome}
-use Rattle.mmcs_engine.proofs.{LineCases.matrices_or_fault, ReplyFacts.reply_text, ArgFacts.settled_command}
+use Rattle.mmcs_engine.proofs.LineCases.{matrices_or_fault}
+use Rattle.mmcs_engine.proofs.ReplyFacts.{reply_text}
+use Rattle.mmcs_engine.proofs.ArgFacts.{settled_command}
 use Rattle.mmcs_engine.proofs.laws.each_input_has_an_outcome.Goals as goal
 
 module _ (args : List (List ℕ)) (input : List ℕ) where

@@ -1,4 +1,5 @@
-use Rattle.mmcs_engine.proofs.{ArgFacts.same_command, Outcomes.one_outcome, Outcomes.same_matrices}
+use Rattle.mmcs_engine.proofs.ArgFacts.{same_command}
+use Rattle.mmcs_engine.proofs.Outcomes.{one_outcome, same_matrices}
 use Rattle.mmcs_engine.proofs.laws.meanings_are_unique.Goals as goal
 
 pub returns-clause-command : goal.returns-clause-command

@@ -1,6 +1,8 @@
 use Rattle.std.proofs.Common.{◌≡◌, List, ℕ, None, Result, Ok, Err, rules, sym, ◌∙◌, ◌^◌}
-use Rattle.std.proofs.lemmas.{Str.IsUtf8-from_ascii, Fmt.IsAscii-from_digits}
-use Rattle.std.specs.{Result.MatchResult, Result.result_ok, Str.IsUtf8}
+use Rattle.std.proofs.lemmas.Str.{IsUtf8-from_ascii}
+use Rattle.std.proofs.lemmas.Fmt.{IsAscii-from_digits}
+use Rattle.std.specs.Result.{MatchResult, result_ok}
+use Rattle.std.specs.Str.{IsUtf8}
 use Rattle.mmcs_engine.specs.Numbers.{IsNumberBelow}
 use Rattle.mmcs_engine.proofs.number.parse_number.Goals as goal
 

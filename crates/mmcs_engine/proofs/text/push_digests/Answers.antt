@@ -1,7 +1,8 @@
 -- Each turn is one line more.
 use Rattle.std.proofs.Common.{◌++◌, ◌∙◌, ap, sym, map, append-nil, string_bytes}
 use Rattle.std.proofs.lemmas.List.{take_all}
-use Rattle.mmcs_engine.{specs.Text.hex_line, specs.Text.hex_lines, proofs.TextFacts.texts_more}
+use Rattle.mmcs_engine.specs.Text.{hex_line, hex_lines}
+use Rattle.mmcs_engine.proofs.TextFacts.{texts_more}
 use Rattle.mmcs_engine.proofs.text.push_digests.Goals as goal
 
 pub loop-digest-init : goal.loop-digest-init

@@ -1,6 +1,9 @@
 use Rattle.std.proofs.Common.{◌∙◌, ◌++◌, ◌∷◌, [], ap, append_assoc, arith, map, string_bytes}
-use Rattle.std.{proofs.lemmas.Str.encode_ascii, specs.Prelude.flat_map, proofs.lemmas.List.take_all}
-use Rattle.mmcs_engine.{specs.Text.hex_word, proofs.TextFacts.texts_more}
+use Rattle.std.proofs.lemmas.Str.{encode_ascii}
+use Rattle.std.specs.Prelude.{flat_map}
+use Rattle.std.proofs.lemmas.List.{take_all}
+use Rattle.mmcs_engine.specs.Text.{hex_word}
+use Rattle.mmcs_engine.proofs.TextFacts.{texts_more}
 use Rattle.mmcs_engine.proofs.text.push_hex_line.Goals as goal
 
 pub loop-word-preserved : goal.loop-word-preserved

@@ -1,7 +1,9 @@
 -- Each turn is one line more.
 use Rattle.std.proofs.Common.{◌++◌, ◌∙◌, ap, sym, map, append-nil, string_bytes}
-use Rattle.std.{specs.Prelude.flat_map, proofs.lemmas.List.take_all}
-use Rattle.mmcs_engine.{specs.Text.row_line, proofs.TextFacts.texts_more}
+use Rattle.std.specs.Prelude.{flat_map}
+use Rattle.std.proofs.lemmas.List.{take_all}
+use Rattle.mmcs_engine.specs.Text.{row_line}
+use Rattle.mmcs_engine.proofs.TextFacts.{texts_more}
 use Rattle.mmcs_engine.proofs.text.push_rows.Goals as goal
 
 pub loop-row-init : goal.loop-row-init

@@ -1,6 +1,7 @@
 use Rattle.std.proofs.Common.{◌≡◌, ℕ, ◌<◌, ◌*◌, List}
 use Rattle.sha2.specs.Sha256.{rounds, schedule}
-use Rattle.p3_hashes.specs.Inner.{Inputs.AreInputs, Lanes.lane}
+use Rattle.p3_hashes.specs.Inner.Inputs.{AreInputs}
+use Rattle.p3_hashes.specs.Inner.Lanes.{lane}
 use Rattle.p3_hashes.proofs.block.compress_prepared.Given as goal
 
 abbrev pub invariant-loop-turn : goal.invariant-loop-turn

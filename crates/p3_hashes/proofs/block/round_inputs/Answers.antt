@@ -2,7 +2,8 @@
 use Rattle.std.proofs.Common.{◌≢◌, ◌∙◌, [], ap, arith, get_or, refl, slice_index, sym}
 use Rattle.std.proofs.lemmas.List.{get_or-set_other}
 use Rattle.sha2.specs.Sha256.{add32, round_constants}
-use Rattle.p3_hashes.proofs.{Lanewise.lane_word, Lanewise.splatted, Written.one_written}
+use Rattle.p3_hashes.proofs.Lanewise.{lane_word, splatted}
+use Rattle.p3_hashes.proofs.Written.{one_written}
 use Rattle.p3_hashes.proofs.block.round_inputs.Goals as goal
 
 pub loop-t-preserved : goal.loop-t-preserved

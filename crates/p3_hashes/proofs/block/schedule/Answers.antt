@@ -5,7 +5,8 @@ use Rattle.std.proofs.lemmas.List.{ext_get_or, get_or_append_left, length-map}
 use Rattle.sha2.specs.Sha256.{schedule, word_at}
 use Rattle.sha2.proofs.Schedule256.{length-schedule, slice_index-schedule_first, slice_index-schedule_next}
 use Rattle.p3_hashes.specs.Inner.Lanes.{lane}
-use Rattle.p3_hashes.proofs.{Lanewise.lane_word, Written.one_written}
+use Rattle.p3_hashes.proofs.Lanewise.{lane_word}
+use Rattle.p3_hashes.proofs.Written.{one_written}
 use Rattle.p3_hashes.proofs.block.schedule.Goals as goal
 
 -- the words of a block, whatever stands after them

@@ -1,6 +1,7 @@
 use Rattle.std.proofs.Common.{◌≡◌, ℕ, ◌<◌, ◌*◌, List, [], replicate, slice_index}
 use Rattle.sha2.specs.Sha256.{schedule, word_at}
-use Rattle.p3_hashes.specs.Inner.{Lanes.lane, Written.AreWritten}
+use Rattle.p3_hashes.specs.Inner.Lanes.{lane}
+use Rattle.p3_hashes.specs.Inner.Written.{AreWritten}
 use Rattle.p3_hashes.proofs.block.schedule.Given as goal
 
 abbrev pub invariant-loop-t : goal.invariant-loop-t

@@ -1,7 +1,8 @@
 use Rattle.std.proofs.Common.{arith, ◌≡◌, ◌+◌, ◌<◌, ◌∙◌, ap, sym, [], ◌∷◌, length, map, take, slice_index_or}
 use Rattle.std.proofs.lemmas.List.{take_more}
 use Rattle.p3_hashes.specs.Fold.{fold_hash, take_in}
-use Rattle.p3_support.specs.{Lists.lane_of, Lists.message, Inner.RowLengths.length-message}
+use Rattle.p3_support.specs.Lists.{lane_of, message}
+use Rattle.p3_support.specs.Inner.RowLengths.{length-message}
 use Rattle.p3_hashes.proofs.FoldSteps.{fold_hash-append}
 use Rattle.p3_hashes.proofs.eights.absorb_columns.Goals as goal
 

@@ -1,6 +1,7 @@
 use Rattle.std.proofs.Common.{arith, ◌≡◌, ◌+◌, ◌-◌, ◌*◌, ◌++◌, ◌∙◌, ap, sym, map, take, drop, take-add, slice_range}
 use Rattle.std.specs.List.{fold}
-use Rattle.p3_hashes.specs.{Inner.Eights.lanes_of, Fold.fold_hash, Fold.take_in}
+use Rattle.p3_hashes.specs.Inner.Eights.{lanes_of}
+use Rattle.p3_hashes.specs.Fold.{fold_hash, take_in}
 use Rattle.p3_support.specs.Lists.{lane_of, message}
 use Rattle.p3_hashes.proofs.FoldSteps.{fold_hash-append}
 use Rattle.p3_hashes.proofs.eights.absorb_fours.Goals as goal

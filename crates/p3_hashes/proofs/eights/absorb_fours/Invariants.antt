@@ -1,5 +1,6 @@
 use Rattle.std.proofs.Common.{◌≡◌, ℕ, ◌+◌, ◌*◌, ◌<◌, take}
-use Rattle.p3_hashes.specs.{Inner.Eights.lanes_of, Fold.fold_hash}
+use Rattle.p3_hashes.specs.Inner.Eights.{lanes_of}
+use Rattle.p3_hashes.specs.Fold.{fold_hash}
 use Rattle.p3_support.specs.Lists.{lane_of, message}
 use Rattle.p3_hashes.proofs.eights.absorb_fours.Given as goal
 

@@ -1,5 +1,6 @@
 use Rattle.std.proofs.Common.{rules, arith, refl, ◌≡◌, ℕ, ◌+◌, ◌%◌, ◌^◌, ◌<◌, ◌∙◌, ap, length, slice_index_or, inl, inr}
-use Rattle.std.proofs.lemmas.{Bool.cases_eq, List.get_or-map}
+use Rattle.std.proofs.lemmas.Bool.{cases_eq}
+use Rattle.std.proofs.lemmas.List.{get_or-map}
 use Rattle.p3_hashes.specs.Fold.{mix_in}
 use Rattle.p3_hashes.proofs.FoldSteps.{mixed}
 use Rattle.p3_support.proofs.LaneReads.{lane_of_set, lane_of_written}

@@ -1,4 +1,5 @@
-use Rattle.std.proofs.{Common.rules, Common.◌∙◌, Common.arith, lemmas.Slice.overwrites}
+use Rattle.std.proofs.Common.{rules, ◌∙◌, arith}
+use Rattle.std.proofs.lemmas.Slice.{overwrites}
 use Rattle.sha2.specs.Sha256.{digest_bytes}
 use Rattle.sha2.proofs.Absorbing256.{digest_more}
 use Rattle.p3_hashes.proofs.messages.digest_of.Goals as goal

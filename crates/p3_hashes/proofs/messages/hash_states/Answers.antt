@@ -1,6 +1,7 @@
 use Rattle.std.proofs.Common.{◌≡◌, ℕ, List, ◌+◌, ◌*◌, ◌/◌, ◌<◌, ◌∙◌, sym, ap, length, take, drop, arith}
 use Rattle.sha2.specs.Sha256.{compress, hash_after, initial_hash_256, padded_message}
-use Rattle.p3_support.specs.{Inner.RowLengths.length-message, Lists.message}
+use Rattle.p3_support.specs.Inner.RowLengths.{length-message}
+use Rattle.p3_support.specs.Lists.{message}
 use Rattle.p3_hashes.proofs.Padding.{hash_next, length-padded_message, word_of_block}
 use Rattle.p3_hashes.proofs.messages.hash_states.Goals as goal
 

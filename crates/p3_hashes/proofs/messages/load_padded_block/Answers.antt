@@ -1,5 +1,6 @@
 use Rattle.std.proofs.Common.{◌∙◌, refl, arith}
-use Rattle.p3_hashes.proofs.{Lanewise.lane_word, Written.one_written}
+use Rattle.p3_hashes.proofs.Lanewise.{lane_word}
+use Rattle.p3_hashes.proofs.Written.{one_written}
 use Rattle.p3_hashes.proofs.messages.load_padded_block.Goals as goal
 
 pub loop-i-preserved : goal.loop-i-preserved

@@ -1,7 +1,8 @@
 -- A byte of the message, the mark after it, or a zero.
 use Rattle.std.proofs.Common.{◌<◌, ◌+◌, ◌∙◌, sym, length, arith}
 use Rattle.std.proofs.Math.Nat.{mul-le-mul_right}
-use Rattle.p3_support.specs.{Inner.RowLengths.length-message, Lists.message}
+use Rattle.p3_support.specs.Inner.RowLengths.{length-message}
+use Rattle.p3_support.specs.Lists.{message}
 use Rattle.p3_hashes.proofs.Padding.{byte_at, byte_mark, byte_of_message, byte_zero, zeros, zeros_fill}
 use Rattle.p3_hashes.proofs.messages.padded_byte.Goals as goal
 

@@ -1,5 +1,6 @@
 use Rattle.std.proofs.Common.{◌+◌, ◌*◌, ◌∙◌, sym, arith}
-use Rattle.p3_support.specs.{Inner.RowLengths.length-message, Lists.message}
+use Rattle.p3_support.specs.Inner.RowLengths.{length-message}
+use Rattle.p3_support.specs.Lists.{message}
 use Rattle.p3_hashes.proofs.Lanewise.{splatted}
 use Rattle.p3_hashes.proofs.Padding.{byte_of_message, word_among, word_same}
 use Rattle.p3_hashes.proofs.messages.padded_words.Goals as goal

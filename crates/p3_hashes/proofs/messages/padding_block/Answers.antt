@@ -1,5 +1,6 @@
 use Rattle.std.proofs.Common.{◌∙◌, refl, arith}
-use Rattle.p3_hashes.proofs.{Lanewise.lane_word, Lanewise.splatted, Written.one_written}
+use Rattle.p3_hashes.proofs.Lanewise.{lane_word, splatted}
+use Rattle.p3_hashes.proofs.Written.{one_written}
 use Rattle.p3_hashes.proofs.messages.padding_block.Goals as goal
 
 pub loop-i-preserved : goal.loop-i-preserved

@@ -1,6 +1,7 @@
 use Rattle.std.proofs.Common.{◌≡◌, ℕ, List, ◌*◌, ◌/◌, ◌<◌, ◌∙◌, ap, refl, length, arith, sym}
 use Rattle.sha2.specs.Sha256.{digest_bytes, hash_after, initial_hash_256, padded_message, sha256}
-use Rattle.p3_support.specs.{Inner.RowLengths.length-message, Lists.message}
+use Rattle.p3_support.specs.Inner.RowLengths.{length-message}
+use Rattle.p3_support.specs.Lists.{message}
 use Rattle.p3_hashes.proofs.Written.{one_written}
 use Rattle.p3_hashes.proofs.padded.hash_padded_eight.Goals as goal
 

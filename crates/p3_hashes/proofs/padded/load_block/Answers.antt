@@ -1,7 +1,9 @@
 use Rattle.std.proofs.Common.{◌≡◌, ◌+◌, ◌*◌, ◌∙◌, ap, refl, arith}
 use Rattle.sha2.specs.Sha256.{word_at}
 use Rattle.p3_support.specs.Lists.{message}
-use Rattle.p3_hashes.proofs.{Lanewise.lane_word, Padding.word_among, Written.one_written}
+use Rattle.p3_hashes.proofs.Lanewise.{lane_word}
+use Rattle.p3_hashes.proofs.Padding.{word_among}
+use Rattle.p3_hashes.proofs.Written.{one_written}
 use Rattle.p3_hashes.proofs.padded.load_block.Goals as goal
 
 pub loop-i-preserved : goal.loop-i-preserved

@@ -1,6 +1,7 @@
 -- The bytes that are put after, as the standard writes them.
 use Rattle.std.proofs.Common.{◌≡◌, ◌+◌, ◌-◌, ◌*◌, ◌%◌, ◌^◌, ◌++◌, ◌∷◌, [], List, ℕ, suc, ◌∙◌, ap, append_assoc, arith}
-use Rattle.std.proofs.{Common.length, Common.replicate, Common.take, Common.w64, lemmas.List.take-replicate}
+use Rattle.std.proofs.Common.{length, replicate, take, w64}
+use Rattle.std.proofs.lemmas.List.{take-replicate}
 use Rattle.std.specs.Int.{to_be_bytes}
 use Rattle.sha2.specs.Sha256.{padded_message, padding}
 use Rattle.p3_hashes.proofs.padded.push_padded.Goals as goal

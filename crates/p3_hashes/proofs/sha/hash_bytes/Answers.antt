@@ -2,7 +2,8 @@
 -- loop.
 use Rattle.std.proofs.Common.{arith, refl, ◌≡◌, ℕ, ◌+◌, ◌<◌, List, [], ◌∷◌, ◌++◌, ◌∙◌, sym, ap, length, take, set}
 use Rattle.std.proofs.Common.{append_assoc, append-nil}
-use Rattle.std.proofs.lemmas.{Grind.take-set_at, List.length-set, List.take_all}
+use Rattle.std.proofs.lemmas.Grind.{take-set_at}
+use Rattle.std.proofs.lemmas.List.{length-set, take_all}
 use Rattle.p3_hashes.specs.Sha.{sha256_rows}
 use Rattle.p3_support.proofs.Runs.{run_of_loop}
 use Rattle.p3_hashes.proofs.sha.hash_bytes.Goals as goal

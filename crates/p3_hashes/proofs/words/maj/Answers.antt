@@ -1,5 +1,6 @@
 use Rattle.std.proofs.Common.{bit_and, bit_xor, slice_index, ◌∙◌}
-use Rattle.p3_hashes.proofs.{Lanewise.itself, Lanewise.zipped, Majority.maj_of_differences}
+use Rattle.p3_hashes.proofs.Lanewise.{itself, zipped}
+use Rattle.p3_hashes.proofs.Majority.{maj_of_differences}
 use Rattle.p3_hashes.proofs.words.maj.Goals as goal
 
 pub returns : goal.returns

@@ -1,6 +1,8 @@
-use Rattle.p3_merkle_core.proofs.Pruned.{Answered.restorable, Unrefused.unrefused}
+use Rattle.p3_merkle_core.proofs.Pruned.Answered.{restorable}
+use Rattle.p3_merkle_core.proofs.Pruned.Unrefused.{unrefused}
 use Rattle.p3_merkle_core.proofs.Checks.Verdicts.{accepted_from, accepted_answer, pruned_accepted, pruned_capped}
-use Rattle.p3_merkle_core.proofs.{Pruned.HonestAnswered.answered_alike, Covered.Equivalence.equivalent}
+use Rattle.p3_merkle_core.proofs.Pruned.HonestAnswered.{answered_alike}
+use Rattle.p3_merkle_core.proofs.Covered.Equivalence.{equivalent}
 use Rattle.p3_merkle_core.proofs.laws.answers.Goals as goal
 
 pub returns-clause-single : goal.returns-clause-single

@@ -1,10 +1,13 @@
 -- What the definition answers to two openings, single or pruned, is an extraction.
-use Rattle.p3_merkle_core.specs.{Caps.cap_layer, Checks.shared_inputs, Checks.params}
+use Rattle.p3_merkle_core.specs.Caps.{cap_layer}
+use Rattle.p3_merkle_core.specs.Checks.{shared_inputs, params}
 use Rattle.p3_merkle_core.specs.Presented.{presented, presented_pruned}
-use Rattle.p3_merkle_core.proofs.Collisions.{Extracted.differs, Extraction.collides}
+use Rattle.p3_merkle_core.proofs.Collisions.Extracted.{differs}
+use Rattle.p3_merkle_core.proofs.Collisions.Extraction.{collides}
 use Rattle.p3_merkle_core.proofs.Collisions.ExtractionFacts.{all_authenticated, answer_is_extraction, pruned_presented}
 use Rattle.p3_merkle_core.proofs.Collisions.ExtractionFacts.{single_presented, alike_at_one_index}
-use Rattle.p3_merkle_core.proofs.Checks.{InputFacts.at_one_place, SameIndex.authenticated_bound, InputFacts.inputs_full}
+use Rattle.p3_merkle_core.proofs.Checks.InputFacts.{at_one_place, inputs_full}
+use Rattle.p3_merkle_core.proofs.Checks.SameIndex.{authenticated_bound}
 use Rattle.p3_merkle_core.proofs.Checks.{CheckFacts.last_is, CheckFacts.walk_reaches}
 use Rattle.p3_merkle_core.proofs.laws.extraction.Goals as goal
 

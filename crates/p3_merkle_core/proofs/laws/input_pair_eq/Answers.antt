@@ -1,8 +1,11 @@
 -- The derived test, case by case.
 use Rattle.std.proofs.Common.{rules, ◌≡◌, ◌↔◌, IsTrue, Bool, ◌&&◌}
 use Rattle.std.specs.Cmp.Lexicographic.{pointwise_decides}
-use Rattle.p3_merkle_core.specs.{Refusals.IsEquality, Views.IsSamePair, declared.collision.Place.Place}
-use Rattle.p3_merkle_core.specs.declared.collision.InputPair.{InputPair, TheVariants.Words, TheVariants.Digests}
+use Rattle.p3_merkle_core.specs.Refusals.{IsEquality}
+use Rattle.p3_merkle_core.specs.Views.{IsSamePair}
+use Rattle.p3_merkle_core.specs.declared.collision.Place.{Place}
+use Rattle.p3_merkle_core.specs.declared.collision.InputPair.{InputPair}
+use Rattle.p3_merkle_core.specs.declared.collision.InputPair.TheVariants.{Words, Digests}
 use Rattle.p3_merkle_core.specs.contracts.collision.InputPairPartialEq.TheImpl.{ghosts}
 use Rattle.p3_merkle_core.specs.contracts.collision.PlacePartialEq.TheImpl.{ghosts as place_ghosts}
 use Rattle.p3_merkle_core.proofs.laws.input_pair_eq.Given as given

@@ -1,5 +1,6 @@
 -- The derived test: leaves, then siblings.
-use Rattle.std.proofs.{Common.eq-eqb, lemmas.Bool.eqb-true}
+use Rattle.std.proofs.Common.{eq-eqb}
+use Rattle.std.proofs.lemmas.Bool.{eqb-true}
 use Rattle.std.specs.Cmp.Lexicographic.{pointwise_decides}
 use Rattle.p3_merkle_core.specs.Views.{shown_path}
 use Rattle.p3_merkle_core.proofs.Lists.ViewFacts.{both_parts}

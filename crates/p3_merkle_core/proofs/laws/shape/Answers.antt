@@ -1,8 +1,10 @@
 use Rattle.std.proofs.lemmas.List.FromFn.{length-map-range_with_len, take-map-range_with_len}
 use Rattle.std.proofs.Common.{get_or, sym, arith}
-use Rattle.p3_merkle_core.specs.{Caps.cap_layer, Geometry.heights, Geometry.levels, Geometry.step}
+use Rattle.p3_merkle_core.specs.Caps.{cap_layer}
+use Rattle.p3_merkle_core.specs.Geometry.{heights, levels, step}
 use Rattle.p3_merkle_core.proofs.Shapes.LadderFacts.{exponent_at_levels, levels_le, layer_of_is, row_below, row_is_anc}
-use Rattle.p3_merkle_core.proofs.Shapes.{FallFacts.root_alone, FallFacts.last_step, GateFacts.gate_lawful}
+use Rattle.p3_merkle_core.proofs.Shapes.FallFacts.{root_alone, last_step}
+use Rattle.p3_merkle_core.proofs.Shapes.GateFacts.{gate_lawful}
 use Rattle.p3_merkle_core.proofs.Shapes.ArityFacts.{arity_from, is_arity_from}
 use Rattle.p3_merkle_core.proofs.laws.shape.Goals as goal
 

@@ -1,5 +1,6 @@
 -- The highest index is refused, or no index is.
-use Rattle.std.proofs.{Common.arith, lemmas.List.drop_all, lemmas.List.get_or_default}
+use Rattle.std.proofs.Common.{arith}
+use Rattle.std.proofs.lemmas.List.{drop_all, get_or_default}
 use Rattle.p3_merkle_core.proofs.Shapes.LeastFacts.{le_tallest}
 use Rattle.p3_merkle_core.proofs.pruning.check_indices.Goals as goal
 

@@ -1,17 +1,22 @@
 -- Each call answers one part of the definition, in its order.
 use Rattle.std.proofs.Common.{◌≡◌, ◌+◌, ◌<◌, ◌∙◌, ℕ, All, ap, arith, drop, get_or, sym, inl, inr, length, refl, []}
-use Rattle.std.proofs.{Common.None, Common.Option, Common.Some, lemmas.List.length-map}
+use Rattle.std.proofs.Common.{None, Option, Some}
+use Rattle.std.proofs.lemmas.List.{length-map}
 use Rattle.std.proofs.{lemmas.Result.err_from_is_err_and}
 use Rattle.std.specs.Prelude.{slice_index_or}
-use Rattle.p3_support.specs.{Shown.row_lists, Shown.row_sets, Batches.greatest, Batches.heights_of}
-use Rattle.p3_merkle_core.specs.{Geometry.shape_of, Refusals.first_of, Refusals.width_refusal}
+use Rattle.p3_support.specs.Shown.{row_lists, row_sets}
+use Rattle.p3_support.specs.Batches.{greatest, heights_of}
+use Rattle.p3_merkle_core.specs.Geometry.{shape_of}
+use Rattle.p3_merkle_core.specs.Refusals.{first_of, width_refusal, pruned_refusal}
 use Rattle.p3_merkle_core.specs.Inner.Agreement.{distinct, first_query, late_refusal, layers_refusal, opened_with}
-use Rattle.p3_merkle_core.specs.{Refusals.pruned_refusal, declared.error.MerkleTreeError.MerkleTreeError}
-use Rattle.p3_merkle_core.proofs.{Lists.RisingFacts.increasing_from, Pruned.AgreeFacts.firsts_inside}
+use Rattle.p3_merkle_core.specs.declared.error.MerkleTreeError.{MerkleTreeError}
+use Rattle.p3_merkle_core.proofs.Lists.RisingFacts.{increasing_from}
+use Rattle.p3_merkle_core.proofs.Pruned.AgreeFacts.{firsts_inside}
 use Rattle.p3_merkle_core.proofs.Pruned.LeadFacts.{all_fit, firsts_next, found_or, kept_or}
 use Rattle.p3_merkle_core.proofs.Pruned.SlotFacts.{all_below, distinct_bounded, distinct_rising, set_read}
 use Rattle.p3_merkle_core.proofs.Pruned.PrunedFacts.{asked_from, full_from, late_from, pruned_counted, pruned_late}
-use Rattle.p3_merkle_core.proofs.pruning.check_pruned.{Given.Over, Goals.After-deref-query-items}
+use Rattle.p3_merkle_core.proofs.pruning.check_pruned.Given.{Over}
+use Rattle.p3_merkle_core.proofs.pruning.check_pruned.Goals.{After-deref-query-items}
 use Rattle.p3_merkle_core.proofs.pruning.check_pruned.Goals.{After-deref-in-loop-query, In_ok-check_digest_count}
 use Rattle.p3_merkle_core.proofs.pruning.check_pruned.Goals as goal
 

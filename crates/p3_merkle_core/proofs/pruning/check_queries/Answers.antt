@@ -1,5 +1,6 @@
 -- Lawful heights are not above the limit.
-use Rattle.std.proofs.{Common.refl, Common.◌<◌, Common.◌≤◌, Common.All, lemmas.Result.IfOk-weaker}
+use Rattle.std.proofs.Common.{refl, ◌<◌, ◌≤◌, All}
+use Rattle.std.proofs.lemmas.Result.{IfOk-weaker}
 use Rattle.p3_merkle_core.specs.Geometry.{height_limit}
 use Rattle.p3_support.specs.Batches.{heights_of, greatest}
 use Rattle.p3_merkle_core.proofs.Shapes.GateFacts.{none_large_from_lawful, tallest_fits}

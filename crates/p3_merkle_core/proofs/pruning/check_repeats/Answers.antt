@@ -1,10 +1,12 @@
 -- Each turn compares a query with the first one of its index.
 use Rattle.std.proofs.Common.{◌<◌, ◌∙◌, Some, not, false, refl, ap, sym, arith, get_or, length}
-use Rattle.p3_merkle_core.specs.{Refusals.duplicate_refusal, Inner.Agreement.IsSlot, Inner.Agreement.opened_of}
+use Rattle.p3_merkle_core.specs.Refusals.{duplicate_refusal}
+use Rattle.p3_merkle_core.specs.Inner.Agreement.{IsSlot, opened_of}
 use Rattle.p3_support.specs.Shown.{row_sets}
 use Rattle.p3_merkle_core.proofs.Pruned.SlotFacts.{first_inside, own_set, queried_at, repeat_turn, sets_compared}
 use Rattle.p3_merkle_core.proofs.Pruned.SortedFacts.{slot_read}
-use Rattle.p3_merkle_core.proofs.pruning.check_repeats.{Given.Over, Goals.else-query-first-via-then-query-first+else-ne}
+use Rattle.p3_merkle_core.proofs.pruning.check_repeats.Given.{Over}
+use Rattle.p3_merkle_core.proofs.pruning.check_repeats.Goals.{else-query-first-via-then-query-first+else-ne}
 use Rattle.p3_merkle_core.proofs.pruning.check_repeats.Goals.{else-query-first-via-else-query-first, After-index-first}
 use Rattle.p3_merkle_core.proofs.pruning.check_repeats.Goals as goal
 

@@ -1,13 +1,17 @@
 -- Each turn compares a slot with the first one under its node, if that is another.
 use Rattle.std.proofs.Common.{◌≡◌, ◌<◌, ◌-◌, ◌+◌, ◌/◌, ◌^◌, ◌∙◌, All, length, refl, subst, arith, None, Some, ap, sym}
 use Rattle.std.proofs.Common.{map}
-use Rattle.std.proofs.lemmas.{List.get_or-map, List.length-map, Nat.pow_pos, Result.err_from_is_err_and}
+use Rattle.std.proofs.lemmas.List.{get_or-map, length-map}
+use Rattle.std.proofs.lemmas.Nat.{pow_pos}
+use Rattle.std.proofs.lemmas.Result.{err_from_is_err_and}
 use Rattle.std.specs.List.{range_with_len}
 use Rattle.p3_support.specs.Shown.{row_sets}
-use Rattle.p3_merkle_core.specs.{Inner.Agreement.nodes_refusal, Refusals.first_of}
+use Rattle.p3_merkle_core.specs.Inner.Agreement.{nodes_refusal}
+use Rattle.p3_merkle_core.specs.Refusals.{first_of}
 use Rattle.p3_merkle_core.proofs.Pruned.LeadFacts.{first_slot_agrees, first_slot_kept, first_slot_new, first_start}
 use Rattle.p3_merkle_core.proofs.Pruned.LeadFacts.{found_or, full_rows, kept_or, rows_read, slot_fault, slot_read}
-use Rattle.p3_merkle_core.proofs.Pruned.{LeadFacts.slots_next, LeadFacts.slots_start, SlotFacts.divided}
+use Rattle.p3_merkle_core.proofs.Pruned.LeadFacts.{slots_next, slots_start}
+use Rattle.p3_merkle_core.proofs.Pruned.SlotFacts.{divided}
 use Rattle.p3_merkle_core.proofs.pruning.check_rows_under_nodes.Goals.{then-indices-slot+in_ok-check_same_rows}
 use Rattle.p3_merkle_core.proofs.pruning.check_rows_under_nodes.Goals.{else-indices-slot}
 use Rattle.p3_merkle_core.proofs.pruning.check_rows_under_nodes.Goals as goal

@@ -3,12 +3,17 @@ use Rattle.std.proofs.Common.{◌≡◌, ◌-◌, ◌+◌, ◌/◌, ◌^◌, ◌
 use Rattle.std.specs.List.{range_with_len}
 use Rattle.std.proofs.lemmas.Result.{err_from_is_err_and}
 use Rattle.p3_merkle_core.specs.Geometry.{ancestor, heights, layer_exponent, shape_of}
-use Rattle.p3_merkle_core.specs.{Inner.Agreement.layers_refusal, Refusals.first_of}
-use Rattle.p3_support.specs.{Batches.greatest, Shown.row_sets}
-use Rattle.p3_merkle_core.proofs.{Lists.RisingFacts.rising_from, Pruned.LeadFacts.found_or, Pruned.LeadFacts.kept_or}
+use Rattle.p3_merkle_core.specs.Inner.Agreement.{layers_refusal}
+use Rattle.p3_merkle_core.specs.Refusals.{first_of}
+use Rattle.p3_support.specs.Batches.{greatest}
+use Rattle.p3_support.specs.Shown.{row_sets}
+use Rattle.p3_merkle_core.proofs.Lists.RisingFacts.{rising_from}
+use Rattle.p3_merkle_core.proofs.Pruned.LeadFacts.{found_or, kept_or, no_matrix, nodes_by_bits}
 use Rattle.p3_merkle_core.proofs.Pruned.LeadFacts.{layer_fault, layer_read, leaves_agree, levels_next, matrices_full}
-use Rattle.p3_merkle_core.proofs.Pruned.{LeadFacts.no_matrix, LeadFacts.nodes_by_bits, SlotFacts.ascending_from}
-use Rattle.p3_merkle_core.proofs.Shapes.{LeastFacts.exponent_le, LevelFacts.exponent_low, StepFacts.layer_start}
+use Rattle.p3_merkle_core.proofs.Pruned.SlotFacts.{ascending_from}
+use Rattle.p3_merkle_core.proofs.Shapes.LeastFacts.{exponent_le}
+use Rattle.p3_merkle_core.proofs.Shapes.LevelFacts.{exponent_low}
+use Rattle.p3_merkle_core.proofs.Shapes.StepFacts.{layer_start}
 use Rattle.p3_merkle_core.proofs.pruning.check_shared_rows.Goals.{then-up+in_ok-list_matrices+in_ok-check_rows_under_nodes}
 use Rattle.p3_merkle_core.proofs.pruning.check_shared_rows.Goals.{else-up}
 use Rattle.p3_merkle_core.proofs.pruning.check_shared_rows.Goals as goal

@@ -4,7 +4,8 @@ use Rattle.std.specs.declared.vec.Vec.{Vec}
 use Rattle.p3_merkle_core.specs.Inner.Children.{children_under}
 use Rattle.p3_merkle_core.proofs.pruning.children_of.Goals.{then-known-covered+then-covered-known, else-known-covered}
 use Rattle.p3_merkle_core.proofs.pruning.children_of.Goals.{else-known-covered-via-then-known-covered+else-covered-known}
-use Rattle.p3_merkle_core.proofs.pruning.children_of.{Goals.else-known-covered-via-else-known-covered, Given.Over}
+use Rattle.p3_merkle_core.proofs.pruning.children_of.Goals.{else-known-covered-via-else-known-covered}
+use Rattle.p3_merkle_core.proofs.pruning.children_of.Given.{Over}
 use Rattle.p3_merkle_core.proofs.Covered.ChildFacts.{IsSent, walk_start, walk_end, known_more, unknown_more, is_sent}
 use Rattle.p3_merkle_core.proofs.Covered.ChildFacts.{none_next, placed_at}
 use Rattle.p3_merkle_core.proofs.pruning.children_of.Goals as goal

@@ -1,5 +1,6 @@
 -- What is left after the sort and the dropping of repeats.
-use Rattle.std.proofs.{Common.◌∙◌, lemmas.List.Filters.dedup_is}
+use Rattle.std.proofs.Common.{◌∙◌}
+use Rattle.std.proofs.lemmas.List.Filters.{dedup_is}
 use Rattle.p3_merkle_core.proofs.Pruned.SlotFacts.{sorted_leaves}
 use Rattle.p3_merkle_core.proofs.pruning.distinct_indices.Goals as goal
 

@@ -1,7 +1,8 @@
 -- The queries are sorted by their indices; then each turn writes a query to the slot of its index.
 use Rattle.std.proofs.Common.{◌≡◌, ◌-◌, ◌∙◌, ℕ, ◌++◌, ◌∷◌, [], List, ap, arith, get_or, length, map, replicate, rules}
 use Rattle.std.proofs.Common.{sym}
-use Rattle.std.proofs.lemmas.List.{map-append, take_all, take_more, FromFn.map-range_with_len_more}
+use Rattle.std.proofs.lemmas.List.{map-append, take_all, take_more}
+use Rattle.std.proofs.lemmas.List.FromFn.{map-range_with_len_more}
 use Rattle.std.specs.List.{range_with_len}
 use Rattle.p3_merkle_core.proofs.Pruned.SlotFacts.{first_from, firsts_start, firsts_turn}
 use Rattle.p3_merkle_core.proofs.Pruned.SortedFacts.{slot_read, sorted_from}

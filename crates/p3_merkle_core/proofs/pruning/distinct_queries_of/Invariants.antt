@@ -1,5 +1,6 @@
 use Rattle.std.proofs.Common.{◌≡◌, ℕ, ◌≤◌, get_or, length, map, take}
-use Rattle.std.specs.{List.range_with_len, Vec.vec_capacity, Vec.vec_len}
+use Rattle.std.specs.List.{range_with_len}
+use Rattle.std.specs.Vec.{vec_capacity, vec_len}
 use Rattle.p3_merkle_core.specs.Inner.Agreement.{distinct}
 use Rattle.p3_merkle_core.proofs.Pruned.SlotFacts.{first_from}
 use Rattle.p3_merkle_core.proofs.pruning.distinct_queries_of.Given as goal

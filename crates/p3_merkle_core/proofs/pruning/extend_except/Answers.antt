@@ -1,5 +1,6 @@
 -- Each turn adds one other digest.
-use Rattle.std.proofs.{Common.arith, lemmas.Bool.le-leb, lemmas.Bool.lt-leb}
+use Rattle.std.proofs.Common.{arith}
+use Rattle.std.proofs.lemmas.Bool.{le-leb, lt-leb}
 use Rattle.p3_merkle_core.proofs.Covered.KeptFacts.{other_more}
 use Rattle.p3_merkle_core.proofs.pruning.extend_except.Goals as goal
 

@@ -2,7 +2,8 @@
 use Rattle.std.proofs.Common.{◌-◌, ◌+◌, ◌++◌, ◌∙◌, ap, arith, eqb, filter, get_or, length, ℕ, List}
 use Rattle.std.specs.List.{range_with_len}
 use Rattle.p3_support.specs.Batches.{heights_of}
-use Rattle.p3_merkle_core.specs.{Geometry.exponent, Inner.Agreement.matrices_with}
+use Rattle.p3_merkle_core.specs.Geometry.{exponent}
+use Rattle.p3_merkle_core.specs.Inner.Agreement.{matrices_with}
 use Rattle.p3_merkle_core.proofs.Pruned.LeadFacts.{height_missed, height_read, matrix_turn}
 use Rattle.p3_merkle_core.proofs.pruning.list_matrices.Goals.{then-exponent_of-exponent+in_ok-push}
 use Rattle.p3_merkle_core.proofs.pruning.list_matrices.Goals.{else-exponent_of-exponent}

@@ -1,7 +1,8 @@
 use Rattle.std.proofs.Common.{◌≡◌, ◌-◌, ◌++◌, filter, length, get_or, eqb}
 use Rattle.std.specs.List.{range_with_len}
 use Rattle.p3_support.specs.Batches.{heights_of}
-use Rattle.p3_merkle_core.specs.{Geometry.exponent, Inner.Agreement.matrices_with}
+use Rattle.p3_merkle_core.specs.Geometry.{exponent}
+use Rattle.p3_merkle_core.specs.Inner.Agreement.{matrices_with}
 use Rattle.p3_merkle_core.proofs.pruning.list_matrices.Given as goal
 
 -- the matrices so far, and those of the rest, are all

@@ -1,6 +1,7 @@
 -- Each turn adds the siblings of one level.
 use Rattle.std.proofs.Common.{◌≡◌, ◌∙◌, ◌+◌, ◌-◌, ◌*◌, ◌/◌, ◌%◌, ℕ, ap, length, sym, arith}
-use Rattle.std.proofs.{Math.Nat.mod-eq-sub-mul-div, lemmas.List.get_or_default, lemmas.List.length-set}
+use Rattle.std.proofs.Math.Nat.{mod-eq-sub-mul-div}
+use Rattle.std.proofs.lemmas.List.{get_or_default, length-set}
 use Rattle.p3_merkle_core.proofs.Covered.KeptFacts.{group_fits, link_at, path_turn}
 use Rattle.p3_merkle_core.proofs.pruning.siblings_on_path.Goals as goal
 

@@ -1,6 +1,7 @@
 use Rattle.std.proofs.Common.{◌≡◌, ◌-◌, ◌<◌, true, get_or, length}
 use Rattle.p3_support.specs.Lists.{is_among}
-use Rattle.p3_merkle_core.specs.{Inner.Children.levels_in, declared.pruning.CoveredLayer.CoveredLayer}
+use Rattle.p3_merkle_core.specs.Inner.Children.{levels_in}
+use Rattle.p3_merkle_core.specs.declared.pruning.CoveredLayer.{CoveredLayer}
 use Rattle.p3_merkle_core.proofs.Covered.KeptFacts.{IsOnPath}
 use Rattle.p3_merkle_core.proofs.pruning.siblings_on_path.Given as goal
 

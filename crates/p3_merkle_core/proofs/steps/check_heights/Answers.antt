@@ -1,5 +1,6 @@
 -- The answer is the first refusal, and there is none exactly if the heights are lawful.
-use Rattle.std.proofs.{Common.arith, Common.refl, Common.sym, Common.◌∙◌, lemmas.List.drop_all}
+use Rattle.std.proofs.Common.{arith, refl, sym, ◌∙◌}
+use Rattle.std.proofs.lemmas.List.{drop_all}
 use Rattle.p3_support.specs.Batches.{heights_of}
 use Rattle.p3_merkle_core.proofs.Shapes.GateFacts.{expected_there, lawful_from_none, none_large_from_lawful}
 use Rattle.p3_merkle_core.proofs.Shapes.GateFacts.{tallest_fits}

@@ -1,5 +1,6 @@
 use Rattle.std.proofs.Common.{◌≡◌, drop}
-use Rattle.p3_merkle_core.specs.{Gate.first_off_ladder, Geometry.expected_height}
+use Rattle.p3_merkle_core.specs.Gate.{first_off_ladder}
+use Rattle.p3_merkle_core.specs.Geometry.{expected_height}
 use Rattle.p3_support.specs.Batches.{heights_of}
 use Rattle.p3_merkle_core.proofs.steps.check_heights.Given as goal
 

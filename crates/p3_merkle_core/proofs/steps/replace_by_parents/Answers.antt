@@ -1,8 +1,10 @@
 -- The parents ascend, and repeats are dropped.
 use Rattle.std.proofs.Common.{◌≡◌, ◌+◌, ℕ, ◌/◌, ◌++◌, ◌∷◌, ◌∙◌, ◌≤◌, [], List, ap, arith, drop, length, map, eqb, sym}
-use Rattle.std.proofs.{Common.take, lemmas.List.drop_all, lemmas.List.length-set}
-use Rattle.std.proofs.lemmas.{List.nil_from_length, List.take_more, List.with_items_is, Bool.eqb-false, Bool.eqb-true}
-use Rattle.std.specs.{List.dedup, Vec.vec_len}
+use Rattle.std.proofs.Common.{take}
+use Rattle.std.proofs.lemmas.List.{drop_all, length-set, nil_from_length, take_more, with_items_is}
+use Rattle.std.proofs.lemmas.Bool.{eqb-false, eqb-true}
+use Rattle.std.specs.List.{dedup}
+use Rattle.std.specs.Vec.{vec_len}
 use Rattle.p3_merkle_core.proofs.Pruned.SlotFacts.{parents_once}
 use Rattle.p3_merkle_core.proofs.steps.replace_by_parents.Goals as goal
 

@@ -1,7 +1,10 @@
 -- Each turn keeps one step of the walk.
 use Rattle.std.proofs.Common.{◌≡◌, ◌<◌, ◌≤◌, ◌+◌, ◌*◌, ◌%◌, ◌^◌, ap, arith, bit_or, cond, length, length-set, max}
-use Rattle.std.proofs.{Common.nat_lt, Common.refl, Common.sym, Common.◌∙◌, lemmas.Bool.le-ltb, lemmas.Nat.pow_below}
-use Rattle.std.proofs.{Math.Nat.mod-eq_of_lt, lemmas.List.get_or-replicate, lemmas.List.get_or-set_other}
+use Rattle.std.proofs.Common.{nat_lt, refl, sym, ◌∙◌}
+use Rattle.std.proofs.lemmas.Bool.{le-ltb}
+use Rattle.std.proofs.lemmas.Nat.{pow_below}
+use Rattle.std.proofs.Math.Nat.{mod-eq_of_lt}
+use Rattle.std.proofs.lemmas.List.{get_or-replicate, get_or-set_other}
 use Rattle.std.specs.Int.{div_ceil}
 use Rattle.p3_support.specs.Batches.{heights_of}
 use Rattle.p3_merkle_core.specs.Inner.Exponents.{digits, next_below}

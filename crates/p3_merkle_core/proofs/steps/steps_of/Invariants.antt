@@ -1,9 +1,11 @@
 use Rattle.std.proofs.Common.{◌≡◌, ◌%◌, ◌^◌, ◌<◌, ◌≤◌, ℕ, drop, get_or, length, map, max, take}
 use Rattle.std.specs.List.{range_with_len}
 use Rattle.p3_merkle_core.specs.Geometry.{shape_of}
-use Rattle.p3_merkle_core.specs.Inner.{Exponents.digits, Exponents.next_below, Exponents.AreExponents, Steps.level_step}
+use Rattle.p3_merkle_core.specs.Inner.Exponents.{digits, next_below, AreExponents}
+use Rattle.p3_merkle_core.specs.Inner.Steps.{level_step}
 use Rattle.p3_support.specs.Batches.{heights_of}
-use Rattle.p3_merkle_core.proofs.Shapes.{StepFacts.IsAt, ExponentFacts.none}
+use Rattle.p3_merkle_core.proofs.Shapes.StepFacts.{IsAt}
+use Rattle.p3_merkle_core.proofs.Shapes.ExponentFacts.{none}
 use Rattle.p3_merkle_core.proofs.steps.steps_of.Given as goal
 
 -- the bits so far and the rest's exponents tell all exponents

@@ -1,7 +1,9 @@
 -- Each turn compresses the groups of one call.
 use Rattle.std.proofs.Common.{arith, ◌≡◌, ℕ, ◌+◌, ◌-◌, ◌*◌, ◌≤◌, List, ◌++◌, ◌∙◌, ap, sym, refl, length, map, drop}
 use Rattle.std.proofs.Common.{length-drop, replicate, take}
-use Rattle.std.proofs.{lemmas.List.length-take-le, lemmas.Simd.map-map, Math.Nat.mul-le-mul_left}
+use Rattle.std.proofs.lemmas.List.{length-take-le}
+use Rattle.std.proofs.lemmas.Simd.{map-map}
+use Rattle.std.proofs.Math.Nat.{mul-le-mul_left}
 use Rattle.std.specs.List.{range_with_len}
 use Rattle.p3_merkle_digests.proofs.StageFacts.{fill_part, whole_groups}
 use Rattle.p3_merkle_digests.proofs.batched.compress_children.Goals as goal

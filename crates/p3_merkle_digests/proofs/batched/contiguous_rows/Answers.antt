@@ -1,10 +1,13 @@
 -- A lone matrix lends its own rows; else each turn puts that of one more matrix after the words so far.
 use Rattle.std.proofs.Common.{arith, ℕ, ◌≡◌, ◌+◌, ◌-◌, ◌*◌, ◌^◌, ◌<◌, ◌≤◌, ◌++◌, ◌∙◌, List, add-one, ap, append_assoc}
 use Rattle.std.proofs.Common.{drop, get_or, length, refl, sym, take}
-use Rattle.std.proofs.lemmas.List.{take_all, take_at, Sums.sum_by_more, Sums.sum_by_more_le}
+use Rattle.std.proofs.lemmas.List.{take_all, take_at}
+use Rattle.std.proofs.lemmas.List.Sums.{sum_by_more, sum_by_more_le}
 use Rattle.std.proofs.Math.Nat.{mul-le-mul_right}
-use Rattle.std.specs.{List.flat_map, List.range_with_len, Prelude.sum_by}
-use Rattle.p3_support.proofs.{Draws.product_made, RowReads.cut_piece, RowReads.whole_rows}
+use Rattle.std.specs.List.{flat_map, range_with_len}
+use Rattle.std.specs.Prelude.{sum_by}
+use Rattle.p3_support.proofs.Draws.{product_made}
+use Rattle.p3_support.proofs.RowReads.{cut_piece, whole_rows}
 use Rattle.p3_merkle_core.proofs.Lists.ListFacts.{joined_more}
 use Rattle.p3_merkle_digests.specs.Inner.Slots.{rows_over}
 use Rattle.p3_merkle_digests.proofs.LaneFacts.{group_end, group_next, height_at, one_element, rows_alone, rows_more}

@@ -1,6 +1,7 @@
 -- Each turn puts one more word, or those of a piece.
 use Rattle.std.proofs.Common.{arith, ◌≡◌, ℕ, ◌+◌, ◌-◌, ◌≤◌, ◌++◌, ◌∙◌, ap, drop, length, length-drop, length-set, sym}
-use Rattle.std.proofs.{Common.take, Math.Seq.take-add}
+use Rattle.std.proofs.Common.{take}
+use Rattle.std.proofs.Math.Seq.{take-add}
 use Rattle.std.proofs.lemmas.List.{length-take-le, take_all, take_more_set}
 use Rattle.p3_support.proofs.RowReads.{drop_at, piece_read}
 use Rattle.p3_merkle_digests.proofs.StageFacts.{part_put}

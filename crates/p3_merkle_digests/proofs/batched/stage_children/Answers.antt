@@ -1,8 +1,10 @@
 -- Each turn stages the children of one node.
 use Rattle.std.proofs.Common.{arith, ◌≡◌, ℕ, ◌+◌, ◌-◌, ◌*◌, ◌<◌, ◌≤◌, List, ◌∷◌, ◌++◌, ◌∙◌, [], ap, sym, length, map}
-use Rattle.std.proofs.{Common.drop, Common.replicate, Common.take, lemmas.List.FromFn.map-range_with_len_more}
+use Rattle.std.proofs.Common.{drop, replicate, take}
+use Rattle.std.proofs.lemmas.List.FromFn.{map-range_with_len_more}
 use Rattle.std.specs.List.{range_with_len}
-use Rattle.p3_merkle_digests.proofs.{LaneFacts.children_inside, LaneFacts.children_long, StageFacts.made_long}
+use Rattle.p3_merkle_digests.proofs.LaneFacts.{children_inside, children_long}
+use Rattle.p3_merkle_digests.proofs.StageFacts.{made_long}
 use Rattle.p3_merkle_digests.proofs.batched.stage_children.Goals as goal
 
 -- the children of a node end within the layer

@@ -1,6 +1,8 @@
 -- Each turn stages one group.
 use Rattle.std.proofs.Common.{arith, ◌≡◌, ℕ, ◌-◌, ◌<◌, ◌∷◌, ◌++◌, ◌∙◌, [], ap, sym, length, map, replicate}
-use Rattle.std.proofs.{Common.slice_index_or, lemmas.List.get_or_read, lemmas.List.FromFn.map-range_with_len_more}
+use Rattle.std.proofs.Common.{slice_index_or}
+use Rattle.std.proofs.lemmas.List.{get_or_read}
+use Rattle.std.proofs.lemmas.List.FromFn.{map-range_with_len_more}
 use Rattle.std.specs.List.{range_with_len}
 use Rattle.p3_merkle_digests.proofs.StageFacts.{made_long}
 use Rattle.p3_merkle_digests.proofs.batched.stage_pairs.Goals as goal

@@ -1,5 +1,6 @@
 -- The bytes of a group as they are computed are few where the group fits, and only there.
-use Rattle.std.proofs.{Common.arith, Common.ℕ, Common.◌≤◌, Common.◌<◌, Common.◌*◌, Math.Nat.mul-le-mul_right}
+use Rattle.std.proofs.Common.{arith, ℕ, ◌≤◌, ◌<◌, ◌*◌}
+use Rattle.std.proofs.Math.Nat.{mul-le-mul_right}
 use Rattle.p3_merkle_digests.proofs.LaneFacts.{array_small}
 use Rattle.p3_merkle_digests.proofs.packed.packed_block_count.Goals as goal
 

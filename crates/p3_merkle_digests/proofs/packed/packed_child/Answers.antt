@@ -1,6 +1,7 @@
 -- Each turn tells the length of one child, and each element is made of one child of each node.
 use Rattle.std.proofs.Common.{arith, rules, ◌≡◌, ℕ, ◌+◌, ◌*◌, ◌<◌, ◌∙◌, [], ap, sym, length, slice_index_or}
-use Rattle.std.proofs.lemmas.List.{get_or_read, FromFn.fill_by_all}
+use Rattle.std.proofs.lemmas.List.{get_or_read}
+use Rattle.std.proofs.lemmas.List.FromFn.{fill_by_all}
 use Rattle.p3_support.proofs.Made.{made_by, map_made}
 use borrow.Author.Count.{below_more}
 use Rattle.p3_merkle_digests.proofs.LaneFacts.{child_below}

@@ -1,7 +1,9 @@
 -- The dimensions are those of the definition.
 use Rattle.std.proofs.Common.{List, None, ap, rules, subst, sym, ◌≡◌, ◌∙◌}
-use Rattle.p3_support.specs.{Batches.dimensions_in, Batches.heights_of, declared.matrix.Dimensions.Dimensions}
-use Rattle.p3_merkle_core.specs.{Gate.gate_refusal, Refusals.AnswersUnlessMemory}
+use Rattle.p3_support.specs.Batches.{dimensions_in, heights_of}
+use Rattle.p3_support.specs.declared.matrix.Dimensions.{Dimensions}
+use Rattle.p3_merkle_core.specs.Gate.{gate_refusal}
+use Rattle.p3_merkle_core.specs.Refusals.{AnswersUnlessMemory}
 use Rattle.p3_merkle_core.proofs.Lists.ViewFacts.{dimensions_are}
 use Rattle.p3_merkle_prover.proofs.checked.checked_matrices.Goals as goal
 

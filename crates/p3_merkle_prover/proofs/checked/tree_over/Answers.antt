@@ -1,8 +1,12 @@
 -- The facts of the tree that is made.
 use Rattle.std.proofs.Common.{List, arith, replicate, ap, subst, sym, ◌∙◌}
-use Rattle.p3_support.specs.{Batches.heights_of, declared.matrix.Dimensions.Dimensions}
-use Rattle.p3_merkle_core.specs.{Geometry.shape_of, Geometry.IsLawful, Views.batch_of, Nodes.functions_of, Nodes.layers}
-use Rattle.p3_merkle_core.proofs.{Lists.ViewFacts.dimensions_are, Shapes.ArityFacts.arity_from}
+use Rattle.p3_support.specs.Batches.{heights_of}
+use Rattle.p3_support.specs.declared.matrix.Dimensions.{Dimensions}
+use Rattle.p3_merkle_core.specs.Geometry.{shape_of, IsLawful}
+use Rattle.p3_merkle_core.specs.Views.{batch_of}
+use Rattle.p3_merkle_core.specs.Nodes.{functions_of, layers}
+use Rattle.p3_merkle_core.proofs.Lists.ViewFacts.{dimensions_are}
+use Rattle.p3_merkle_core.proofs.Shapes.ArityFacts.{arity_from}
 use Rattle.p3_merkle_prover.proofs.TreeFacts.{lengths_from}
 use Rattle.p3_merkle_prover.proofs.checked.tree_over.Goals as goal
 

@@ -1,4 +1,5 @@
-use Rattle.std.proofs.{Common.arith, Common.◌+◌, Common.◌*◌, Common.◌≤◌, Math.Nat.mul-add, Math.Nat.mul-le-mul_left}
+use Rattle.std.proofs.Common.{arith, ◌+◌, ◌*◌, ◌≤◌}
+use Rattle.std.proofs.Math.Nat.{mul-add, mul-le-mul_left}
 use Rattle.p3_merkle_prover.proofs.layer.lemma_children_from.Goals as goal
 
 pub returns : goal.returns

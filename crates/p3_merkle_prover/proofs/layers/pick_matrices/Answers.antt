@@ -1,8 +1,10 @@
 -- What the filter lets through stands alone in the list.
 use Rattle.std.proofs.Common.{◌∙◌, ◌++◌, ◌==◌, ap, map, rules, tests}
-use Rattle.std.proofs.lemmas.Iterator.{Adapters.fact_from_extend, Consumers.YieldsList-at}
-use Rattle.std.proofs.lemmas.Iterator.{Consumers.YieldsList-from_filter, YieldsList-from_slice}
-use Rattle.std.specs.{Slice.Iter.iter_steps, Iterator.Adapters.filter_steps}
+use Rattle.std.proofs.lemmas.Iterator.Adapters.{fact_from_extend}
+use Rattle.std.proofs.lemmas.Iterator.Consumers.{YieldsList-at, YieldsList-from_filter}
+use Rattle.std.proofs.lemmas.Iterator.{YieldsList-from_slice}
+use Rattle.std.specs.Slice.Iter.{iter_steps}
+use Rattle.std.specs.Iterator.Adapters.{filter_steps}
 use Rattle.p3_merkle_prover.proofs.layers.pick_matrices.Goals as goal
 
 pub returns : goal.returns

@@ -1,7 +1,9 @@
 -- Each turn reads one more row.
 use Rattle.std.proofs.Common.{◌∙◌, arith, refl}
 use Rattle.std.proofs.lemmas.{List.take_all}
-use Rattle.p3_merkle_core.specs.{Openings.honest_rows, Geometry.heights, Nodes.shape}
+use Rattle.p3_merkle_core.specs.Openings.{honest_rows}
+use Rattle.p3_merkle_core.specs.Geometry.{heights}
+use Rattle.p3_merkle_core.specs.Nodes.{shape}
 use Rattle.p3_merkle_prover.specs.Parts.{tree_batch}
 use Rattle.p3_merkle_prover.proofs.RowFacts.{few_halvings, row_inside, row_next, rows_count}
 use Rattle.p3_merkle_prover.proofs.opener.rows_of_index.Goals as goal

@@ -2,10 +2,13 @@
 use Rattle.std.proofs.Common.{◌≡◌, ◌≤◌, ◌∙◌, ℕ, ap, arith, sym, subst, length, refl}
 use Rattle.p3_support.specs.Batches.{greatest}
 use Rattle.p3_merkle_core.specs.Geometry.{Shape, height_limit, heights, levels, step}
-use Rattle.p3_merkle_core.specs.{Nodes.shape, Openings.level_siblings, Openings.node_in}
-use Rattle.p3_merkle_core.proofs.{Shapes.StepFacts.anc_start, Shapes.StepFacts.step_above_1, Lists.ListFacts.joined}
+use Rattle.p3_merkle_core.specs.Nodes.{shape}
+use Rattle.p3_merkle_core.specs.Openings.{level_siblings, node_in}
+use Rattle.p3_merkle_core.proofs.Shapes.StepFacts.{anc_start, step_above_1}
+use Rattle.p3_merkle_core.proofs.Lists.ListFacts.{joined}
 use Rattle.p3_merkle_prover.specs.Parts.{layers_of, tree_batch}
-use Rattle.p3_merkle_prover.proofs.{TreeFacts.layers_count, OwnFacts.group_next, OwnFacts.group_of, OwnFacts.node_next}
+use Rattle.p3_merkle_prover.proofs.TreeFacts.{layers_count}
+use Rattle.p3_merkle_prover.proofs.OwnFacts.{group_next, group_of, node_next}
 use Rattle.p3_merkle_prover.proofs.RowFacts.{lawful_fits}
 use Rattle.p3_merkle_prover.proofs.opener.siblings_of_index.Goals as goal
 

@@ -1,5 +1,7 @@
 use Rattle.std.proofs.Common.{◌≡◌}
-use Rattle.p3_merkle_core.specs.{Geometry.ancestor, Nodes.shape, Openings.level_siblings, Openings.node_in}
+use Rattle.p3_merkle_core.specs.Geometry.{ancestor}
+use Rattle.p3_merkle_core.specs.Nodes.{shape}
+use Rattle.p3_merkle_core.specs.Openings.{level_siblings, node_in}
 use Rattle.p3_merkle_prover.specs.Parts.{layers_of, tree_batch}
 use Rattle.p3_merkle_prover.proofs.opener.siblings_of_index.Given as goal
 use Rattle.p3_merkle_core.proofs.Lists.ListFacts.{joined}

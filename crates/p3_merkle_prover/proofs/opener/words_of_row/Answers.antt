@@ -1,6 +1,7 @@
 -- Each turn copies one more word.
 use Rattle.std.proofs.Common.{arith, rules, ◌++◌, ◌∙◌, ◌∷◌, [], ap, sym, take}
-use Rattle.std.proofs.{Math.Seq.take-add, lemmas.List.take_all}
+use Rattle.std.proofs.Math.Seq.{take-add}
+use Rattle.std.proofs.lemmas.List.{take_all}
 use Rattle.p3_support.proofs.RowReads.{drop_at}
 use Rattle.p3_merkle_prover.proofs.opener.words_of_row.Goals as goal
 

@@ -2,10 +2,12 @@
 use Rattle.std.proofs.Common.{◌≡◌, ◌∙◌, ◌≤◌, arith, add-one, ap, length, subst, sym}
 use Rattle.p3_support.specs.Batches.{greatest}
 use Rattle.p3_merkle_core.specs.Geometry.{Shape, height_limit, heights, levels, step}
-use Rattle.p3_merkle_core.specs.{Nodes.shape, Pruning.CanQuery}
+use Rattle.p3_merkle_core.specs.Nodes.{shape}
+use Rattle.p3_merkle_core.specs.Pruning.{CanQuery}
 use Rattle.p3_merkle_core.proofs.Covered.ClimbFacts.{covered_here}
 use Rattle.p3_merkle_prover.specs.Parts.{tree_batch}
-use Rattle.p3_merkle_prover.proofs.{TreeFacts.layers_count, TreeFacts.layer_long, RowFacts.lawful_fits}
+use Rattle.p3_merkle_prover.proofs.TreeFacts.{layers_count, layer_long}
+use Rattle.p3_merkle_prover.proofs.RowFacts.{lawful_fits}
 use Rattle.p3_merkle_prover.proofs.BoundaryFacts.{covered_increasing, groups_fit, boundary_more}
 use Rattle.p3_merkle_prover.proofs.pruned_opener.boundary_digests.Goals as goal
 

@@ -1,5 +1,7 @@
 use Rattle.std.proofs.Common.{◌≡◌}
-use Rattle.p3_merkle_core.specs.{Nodes.shape, Pruning.boundary_by, Openings.node_in}
+use Rattle.p3_merkle_core.specs.Nodes.{shape}
+use Rattle.p3_merkle_core.specs.Pruning.{boundary_by}
+use Rattle.p3_merkle_core.specs.Openings.{node_in}
 use Rattle.p3_merkle_core.proofs.Covered.ClimbFacts.{shape_over}
 use Rattle.p3_merkle_prover.specs.Parts.{layers_of, tree_batch}
 use Rattle.p3_merkle_prover.proofs.pruned_opener.boundary_digests.Given as goal

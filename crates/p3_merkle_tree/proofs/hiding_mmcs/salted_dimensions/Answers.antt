@@ -1,9 +1,12 @@
 -- Heights are refused, else a width.
 use Rattle.std.proofs.Common.{List, ap, refl, rules, subst, sym, ℕ, ◌∙◌}
 use Rattle.std.proofs.lemmas.Result.{IfOk-weaker}
-use Rattle.p3_support.specs.{Batches.heights_of, declared.matrix.Dimensions.Dimensions}
-use Rattle.p3_merkle_core.specs.{Geometry.IsLawful, Refusals.AnswersUnlessMemory}
-use Rattle.p3_merkle_tree.specs.{Inner.SaltedCommitmentLaws.wide_heights, SaltRefusals.salted_commit_refusal}
+use Rattle.p3_support.specs.Batches.{heights_of}
+use Rattle.p3_support.specs.declared.matrix.Dimensions.{Dimensions}
+use Rattle.p3_merkle_core.specs.Geometry.{IsLawful}
+use Rattle.p3_merkle_core.specs.Refusals.{AnswersUnlessMemory}
+use Rattle.p3_merkle_tree.specs.Inner.SaltedCommitmentLaws.{wide_heights}
+use Rattle.p3_merkle_tree.specs.SaltRefusals.{salted_commit_refusal}
 use Rattle.p3_merkle_tree.proofs.hiding_mmcs.salted_dimensions.Goals as goal
 
 pub returns-in_err-check_heights-clause-answer : goal.returns-in_err-check_heights-clause-answer

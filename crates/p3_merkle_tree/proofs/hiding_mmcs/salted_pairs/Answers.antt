@@ -1,16 +1,23 @@
 -- Each turn draws the salts of one more matrix.
 use Rattle.std.proofs.Common.{◌≡◌, ◌∙◌, ◌+◌, ◌*◌, List, [], ◌∷◌, ◌++◌, ap, append-nil, arith, map, refl, subst, sym}
-use Rattle.std.proofs.lemmas.List.{Elements.All-push, map-append, nil_from_length}
+use Rattle.std.proofs.lemmas.List.Elements.{All-push}
+use Rattle.std.proofs.lemmas.List.{map-append, nil_from_length}
 use Rattle.std.specs.Vec.Iter.{into_iter_items}
-use Rattle.p3_support.specs.{declared.matrix.Dimensions.Dimensions, Lists.message, Pairs.left_of, Pairs.pair_row}
-use Rattle.p3_support.specs.{Pairs.right_of, RowMajor.row_width, RowMajor.values_of, Salts.after_words, Salts.salts}
-use Rattle.p3_merkle_core.specs.{Nodes.dimensions_of, Views.matrix_of}
+use Rattle.p3_support.specs.declared.matrix.Dimensions.{Dimensions}
+use Rattle.p3_support.specs.Lists.{message}
+use Rattle.p3_support.specs.Pairs.{left_of, pair_row, right_of}
+use Rattle.p3_support.specs.RowMajor.{row_width, values_of}
+use Rattle.p3_support.specs.Salts.{after_words, salts}
+use Rattle.p3_merkle_core.specs.Nodes.{dimensions_of}
+use Rattle.p3_merkle_core.specs.Views.{matrix_of}
 use Rattle.p3_merkle_core.proofs.Lists.ViewFacts.{dimensions_are}
 use Rattle.p3_merkle_tree.proofs.CommitFacts.{salted_widened}
 use Rattle.p3_merkle_tree.proofs.DrawFacts.{after_next, after_some, drawn_more, first_fits, others_fit, pairs_more}
 use Rattle.p3_merkle_tree.proofs.DrawFacts.{salted_row, same_more}
-use Rattle.p3_merkle_tree.specs.{Salted.after_salts, Salted.salted, Salted.salted_matrices, SaltedOpenings.widened}
-use Rattle.p3_merkle_tree.specs.{SaltedOpenings.CanWiden, SaltedTrees.HaveSaltColumns, Inner.SaltedParts.pair_matrix}
+use Rattle.p3_merkle_tree.specs.Salted.{after_salts, salted, salted_matrices}
+use Rattle.p3_merkle_tree.specs.SaltedOpenings.{widened, CanWiden}
+use Rattle.p3_merkle_tree.specs.SaltedTrees.{HaveSaltColumns}
+use Rattle.p3_merkle_tree.specs.Inner.SaltedParts.{pair_matrix}
 use Rattle.p3_merkle_tree.proofs.hiding_mmcs.salted_pairs.Goals as goal
 
 pub new-requires-clause-width_fits : goal.new-requires-clause-width_fits

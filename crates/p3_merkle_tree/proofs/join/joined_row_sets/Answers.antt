@@ -1,6 +1,8 @@
 -- Each turn joins a pair, and where either slice is at its end, all pairs are joined.
-use Rattle.std.proofs.{Common.◌≡◌, Common.ap, lemmas.Slice.Zip.Zip-more, lemmas.Slice.Zip.either_empty_from_Zip}
-use Rattle.std.specs.{Iterator.Adapters.zip_first, Iterator.Adapters.zip_second, Slice.Iter.iter_rest}
+use Rattle.std.proofs.Common.{◌≡◌, ap}
+use Rattle.std.proofs.lemmas.Slice.Zip.{Zip-more, either_empty_from_Zip}
+use Rattle.std.specs.Iterator.Adapters.{zip_first, zip_second}
+use Rattle.std.specs.Slice.Iter.{iter_rest}
 use Rattle.p3_support.specs.Shown.{row_lists, row_sets}
 use Rattle.p3_merkle_tree.specs.SaltedOpenings.{salted_rows, salted_sets}
 use Rattle.p3_merkle_tree.proofs.SaltFacts.{joined_end, joined_more, shown_end}

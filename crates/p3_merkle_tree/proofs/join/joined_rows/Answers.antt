@@ -1,6 +1,7 @@
 -- Each turn joins a pair, and where either slice is at its end, all pairs are joined.
 use Rattle.std.proofs.Common.{◌≡◌, ◌++◌, ap, rules}
-use Rattle.std.specs.{Iterator.Adapters.zip_first, Iterator.Adapters.zip_second, Slice.Iter.iter_rest}
+use Rattle.std.specs.Iterator.Adapters.{zip_first, zip_second}
+use Rattle.std.specs.Slice.Iter.{iter_rest}
 use Rattle.std.proofs.lemmas.Slice.Zip.{Zip-more, either_empty_from_Zip}
 use Rattle.p3_support.specs.Shown.{row_lists}
 use Rattle.p3_merkle_tree.specs.SaltedOpenings.{salted_rows}

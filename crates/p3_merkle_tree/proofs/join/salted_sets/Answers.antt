@@ -1,8 +1,11 @@
 -- Each turn's pair passes or is refused, and where either slice is at its end, no set is refused.
 use Rattle.std.proofs.Common.{None, Option, Some, sym, ap, ◌∙◌, ◌≡◌, inr, rules, subst}
-use Rattle.std.proofs.lemmas.{List.length-map, Result.err_from_is_err_and}
+use Rattle.std.proofs.lemmas.List.{length-map}
+use Rattle.std.proofs.lemmas.Result.{err_from_is_err_and}
 use Rattle.std.proofs.lemmas.Slice.Zip.{Zip-more, either_empty_from_Zip}
-use Rattle.std.specs.{Option.option_or, Iterator.Adapters.zip_first, Iterator.Adapters.zip_second, Slice.Iter.iter_rest}
+use Rattle.std.specs.Option.{option_or}
+use Rattle.std.specs.Iterator.Adapters.{zip_first, zip_second}
+use Rattle.std.specs.Slice.Iter.{iter_rest}
 use Rattle.p3_merkle_core.specs.Refusals.{AnswersUnlessMemory}
 use Rattle.p3_support.specs.Shown.{row_lists, row_sets}
 use Rattle.p3_merkle_tree.proofs.SaltFacts.{no_set_refused, set_passes, set_refused, sets_decide}

@@ -2,8 +2,10 @@
 use Rattle.std.proofs.Common.{◌≡◌, ◌⊎◌, ◌∙◌, ℕ, [], ap, arith, drop, inl, inr, length, map, min, sym, take}
 use Rattle.std.proofs.lemmas.{List.drop_min, List.nil_from_length, List.take_min}
 use Rattle.std.specs.Iterator.Adapters.{zip_first, zip_second}
-use Rattle.std.specs.{Slice.Iter.iter_rest, Vec.Iter.into_iter_items}
-use Rattle.p3_support.specs.{Pairs.left_of, Shown.row_lists}
+use Rattle.std.specs.Slice.Iter.{iter_rest}
+use Rattle.std.specs.Vec.Iter.{into_iter_items}
+use Rattle.p3_support.specs.Pairs.{left_of}
+use Rattle.p3_support.specs.Shown.{row_lists}
 use Rattle.p3_merkle_tree.specs.Inner.SaltedParts.{left_widths, salt_parts, unsalted_parts}
 use Rattle.p3_merkle_tree.proofs.SaltFacts.{joined_end, joined_more, second_end, shown_end}
 use Rattle.p3_merkle_tree.proofs.open.split_rows.Goals as goal

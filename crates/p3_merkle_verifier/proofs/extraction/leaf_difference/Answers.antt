@@ -1,7 +1,9 @@
 -- The words of the leaf are compared.
-use Rattle.std.proofs.{Common.ap, Common.zip, lemmas.Result.IfOk-weaker}
+use Rattle.std.proofs.Common.{ap, zip}
+use Rattle.std.proofs.lemmas.Result.{IfOk-weaker}
 use Rattle.p3_support.specs.Batches.{heights_of}
-use Rattle.p3_merkle_core.specs.{Checks.words_of_exponent, Geometry.shape_of}
+use Rattle.p3_merkle_core.specs.Checks.{words_of_exponent}
+use Rattle.p3_merkle_core.specs.Geometry.{shape_of}
 use Rattle.p3_merkle_verifier.specs.Inner.Checks.{opening_in}
 use Rattle.p3_merkle_verifier.proofs.WalkFacts.{found_leaf}
 use Rattle.p3_merkle_verifier.proofs.extraction.leaf_difference.Goals as goal

@@ -1,9 +1,13 @@
 -- Where both checks stand at one node above the level, its inputs are compared from the last on.
 use Rattle.std.proofs.Common.{◌≡◌, Bool, List, ◌∷◌, Option, None, Some, ap, refl}
-use Rattle.std.proofs.lemmas.{Bool.eq-eqb, Result.IfOk-weaker}
-use Rattle.std.specs.{Prelude.◌&&◌, Cmp.Lexicographic.pointwise}
-use Rattle.p3_merkle_core.specs.{Extraction.last_difference, Extraction.input_eq, Checks.Input, Checks.digests_at}
-use Rattle.p3_merkle_core.specs.declared.collision.{InputPair.InputPair, Place.TheVariants.Group}
+use Rattle.std.proofs.lemmas.Bool.{eq-eqb}
+use Rattle.std.proofs.lemmas.Result.{IfOk-weaker}
+use Rattle.std.specs.Prelude.{◌&&◌}
+use Rattle.std.specs.Cmp.Lexicographic.{pointwise}
+use Rattle.p3_merkle_core.specs.Extraction.{last_difference, input_eq}
+use Rattle.p3_merkle_core.specs.Checks.{Input, digests_at}
+use Rattle.p3_merkle_core.specs.declared.collision.InputPair.{InputPair}
+use Rattle.p3_merkle_core.specs.declared.collision.Place.TheVariants.{Group}
 use Rattle.p3_merkle_verifier.specs.Inner.Collisions.{first_words, inputs_above, second_words, IsDifference, Shows}
 use Rattle.p3_merkle_verifier.proofs.WalkFacts.{found_here}
 use Rattle.p3_merkle_verifier.proofs.extraction.level_difference.Goals as goal

@@ -1,11 +1,15 @@
 -- Each turn adds one row, and all rows are read.
 use Rattle.std.proofs.Common.{◌≡◌, ◌∙◌, ◌++◌, ◌∷◌, [], ap, append-nil, refl, sym, zip}
-use Rattle.std.proofs.lemmas.{Grind.flat_map-append, Iterator.Consumers.YieldsList-from_first}
-use Rattle.std.specs.{Iterator.YieldsFirstBy, List.flat_map}
-use Rattle.p3_support.specs.{Batches.heights_of, Shown.row_lists}
+use Rattle.std.proofs.lemmas.Grind.{flat_map-append}
+use Rattle.std.proofs.lemmas.Iterator.Consumers.{YieldsList-from_first}
+use Rattle.std.specs.Iterator.{YieldsFirstBy}
+use Rattle.std.specs.List.{flat_map}
+use Rattle.p3_support.specs.Batches.{heights_of}
+use Rattle.p3_support.specs.Shown.{row_lists}
 use Rattle.p3_support.proofs.Runs.{fact_of_run, run_of_loop}
 use Rattle.p3_merkle_core.specs.Checks.{words_of_exponent}
-use Rattle.p3_merkle_verifier.specs.{Inner.Paths.rows_of_exponent, declared.openings.OpenedRows.OpenedRows}
+use Rattle.p3_merkle_verifier.specs.Inner.Paths.{rows_of_exponent}
+use Rattle.p3_merkle_verifier.specs.declared.openings.OpenedRows.{OpenedRows}
 use Rattle.p3_merkle_verifier.proofs.LevelFacts.{words_read}
 use Rattle.p3_merkle_verifier.proofs.extraction.opened_words.Goals as goal
 

@@ -1,8 +1,11 @@
 -- The first check that fails refuses the form, and lawful heights are within the limit.
 use Rattle.std.proofs.Common.{◌≡◌, ℕ, List, None, length, refl, sym}
-use Rattle.std.proofs.lemmas.{Bool.eq-eqb, List.length-map, Result.err_from_is_err_and}
+use Rattle.std.proofs.lemmas.Bool.{eq-eqb}
+use Rattle.std.proofs.lemmas.List.{length-map}
+use Rattle.std.proofs.lemmas.Result.{err_from_is_err_and}
 use Rattle.std.specs.declared.vec.Vec.{Vec}
-use Rattle.p3_support.specs.{Batches.heights_of, Shown.row_lists}
+use Rattle.p3_support.specs.Batches.{heights_of}
+use Rattle.p3_support.specs.Shown.{row_lists}
 use Rattle.p3_merkle_core.proofs.Shapes.GateFacts.{none_large_from_lawful, tallest_fits}
 use Rattle.p3_merkle_core.specs.Refusals.{size_refusal}
 use Rattle.p3_merkle_verifier.proofs.path.check_form.Goals as goal

@@ -1,9 +1,11 @@
 -- The parents are covered, and what is left of the digests that were sent is enough.
 use Rattle.std.proofs.Common.{◌≡◌, ◌∙◌, ap, arith, suc}
 use Rattle.std.proofs.lemmas.List.{length-drop, take_rest}
-use Rattle.p3_merkle_core.specs.{Geometry.has_rows, Geometry.step, Pruning.boundary_at}
+use Rattle.p3_merkle_core.specs.Geometry.{has_rows, step}
+use Rattle.p3_merkle_core.specs.Pruning.{boundary_at}
 use Rattle.p3_merkle_core.proofs.Covered.ClimbFacts.{covered_here, shape_over}
-use Rattle.p3_merkle_core.proofs.{Covered.ValueFacts.family_by_counts, Lists.ListFacts.length-joined_le}
+use Rattle.p3_merkle_core.proofs.Covered.ValueFacts.{family_by_counts}
+use Rattle.p3_merkle_core.proofs.Lists.ListFacts.{length-joined_le}
 use Rattle.p3_merkle_verifier.specs.Inner.RestoredLevels.{tree_of}
 use Rattle.p3_merkle_verifier.proofs.LayerFacts.{covers}
 use Rattle.p3_merkle_verifier.proofs.pruned_check.layer_above.Goals as goal

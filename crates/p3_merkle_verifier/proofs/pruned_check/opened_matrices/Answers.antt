@@ -1,10 +1,15 @@
 -- Each turn looks at one more matrix.
 use Rattle.std.proofs.Common.{◌≡◌, ◌∙◌, ℕ, ◌<◌, [], All, ap, arith, get_or, length, refl, subst, sym, zip}
-use Rattle.std.proofs.lemmas.List.{get_or-map, length-map, take_all, Elements.All-push}
+use Rattle.std.proofs.lemmas.List.{get_or-map, length-map, take_all}
+use Rattle.std.proofs.lemmas.List.Elements.{All-push}
 use Rattle.std.proofs.lemmas.Slice.Zip.{length-zip}
-use Rattle.std.specs.{List.flat_map, declared.vec.Vec.Vec}
-use Rattle.p3_support.specs.{Batches.heights_of, Shown.row_lists, Shown.row_sets, declared.matrix.Dimensions.Dimensions}
-use Rattle.p3_merkle_core.specs.{Checks.words_of_exponent, Geometry.exponent}
+use Rattle.std.specs.List.{flat_map}
+use Rattle.std.specs.declared.vec.Vec.{Vec}
+use Rattle.p3_support.specs.Batches.{heights_of}
+use Rattle.p3_support.specs.Shown.{row_lists, row_sets}
+use Rattle.p3_support.specs.declared.matrix.Dimensions.{Dimensions}
+use Rattle.p3_merkle_core.specs.Checks.{words_of_exponent}
+use Rattle.p3_merkle_core.specs.Geometry.{exponent}
 use Rattle.p3_merkle_verifier.specs.Inner.OpenedMatrices.{row_in}
 use Rattle.p3_merkle_verifier.proofs.OpenedFacts.{have_rows, opened_more, opened_same, row_set_long}
 use Rattle.p3_merkle_verifier.proofs.pruned_check.opened_matrices.Goals as goal

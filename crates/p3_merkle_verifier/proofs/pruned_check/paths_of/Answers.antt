@@ -5,11 +5,13 @@ use Rattle.std.proofs.lemmas.Bool.{cases_lt}
 use Rattle.std.proofs.lemmas.List.{get_or-map, get_or-set_other, get_or-take, get_or_default, length-map, length-set}
 use Rattle.std.proofs.lemmas.List.{length-take-le, take_all}
 use Rattle.p3_support.specs.Lists.{is_among}
-use Rattle.p3_merkle_core.specs.Inner.{Agreement.distinct, Agreement.first_query, Agreement.IsSlot, Children.levels_in}
-use Rattle.p3_merkle_core.specs.{Inner.Children.siblings_on_path, Inner.Children.paths_out_of, Views.shown_path}
+use Rattle.p3_merkle_core.specs.Inner.Agreement.{distinct, first_query, IsSlot}
+use Rattle.p3_merkle_core.specs.Inner.Children.{levels_in, siblings_on_path, paths_out_of}
+use Rattle.p3_merkle_core.specs.Views.{shown_path}
 use Rattle.p3_merkle_core.proofs.Covered.CoveredFacts.{covered_leaf, covered_listed}
 use Rattle.p3_merkle_core.proofs.Pruned.LeadFacts.{first_before, first_there}
-use Rattle.p3_merkle_core.proofs.Pruned.{SlotFacts.distinct_queried, SlotFacts.queried_at, SortedFacts.slot_read}
+use Rattle.p3_merkle_core.proofs.Pruned.SlotFacts.{distinct_queried, queried_at}
+use Rattle.p3_merkle_core.proofs.Pruned.SortedFacts.{slot_read}
 use Rattle.p3_merkle_core.proofs.Covered.KeptFacts.{view_more, view_at, paths_restored}
 use Rattle.p3_merkle_verifier.specs.Inner.RestoredLevels.{opened_by, tree_of}
 use Rattle.p3_merkle_verifier.proofs.LayerFacts.{covers}

@@ -1,6 +1,7 @@
 use Rattle.std.proofs.Common.{◌≡◌, ◌<◌, ◌≤◌, ℕ, get_or, length, map, take}
-use Rattle.p3_merkle_core.specs.Inner.{Agreement.distinct, Children.levels_in, Children.siblings_on_path}
-use Rattle.p3_merkle_core.specs.{Inner.Children.paths_out_of, Views.shown_paths}
+use Rattle.p3_merkle_core.specs.Inner.Agreement.{distinct}
+use Rattle.p3_merkle_core.specs.Inner.Children.{levels_in, siblings_on_path, paths_out_of}
+use Rattle.p3_merkle_core.specs.Views.{shown_paths}
 use Rattle.p3_merkle_verifier.proofs.pruned_check.paths_of.Given as goal
 
 -- the paths of the leaves so far, and the capacity for all

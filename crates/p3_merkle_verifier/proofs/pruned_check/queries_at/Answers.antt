@@ -1,11 +1,14 @@
 -- Each turn is one more leaf: its first query is kept if it is the first one under its node.
 use Rattle.std.proofs.Common.{◌≡◌, ◌∙◌, ℕ, ◌+◌, ◌-◌, ◌/◌, ◌^◌, ◌<◌, ◌++◌, ◌∷◌, [], List, arith, ap, eqb, sym, get_or}
 use Rattle.std.proofs.Common.{inl, inr, length, map, refl}
-use Rattle.std.proofs.lemmas.List.{get_or_default, length-map, take_all, Elements.All-push}
-use Rattle.std.specs.{List.dedup, declared.vec.Vec.Vec}
+use Rattle.std.proofs.lemmas.List.{get_or_default, length-map, take_all}
+use Rattle.std.proofs.lemmas.List.Elements.{All-push}
+use Rattle.std.specs.List.{dedup}
+use Rattle.std.specs.declared.vec.Vec.{Vec}
 use Rattle.p3_support.specs.Batches.{greatest}
 use Rattle.p3_merkle_core.specs.Geometry.{heights}
-use Rattle.p3_merkle_core.proofs.Shapes.{LeastFacts.exponent_le, StepFacts.layer_start}
+use Rattle.p3_merkle_core.proofs.Shapes.LeastFacts.{exponent_le}
+use Rattle.p3_merkle_core.proofs.Shapes.StepFacts.{layer_start}
 use Rattle.p3_merkle_verifier.specs.Inner.RestoredLevels.{node_of_query, tree_of}
 use Rattle.p3_merkle_verifier.proofs.ChildFacts.{leaf_queries, leaves_known, queries_known}
 use Rattle.p3_merkle_verifier.proofs.ParentFacts.{queries_next}

@@ -1,7 +1,9 @@
 -- One more matrix.
 use Rattle.std.proofs.Common.{◌≡◌, refl, List, sym, ap, ◌+◌, ◌∙◌, ◌++◌, ◌∷◌, [], take}
-use Rattle.std.proofs.lemmas.{List.take_all, List.take_more, List.map-append, Result.err_from_is_err_and}
-use Rattle.p3_support.specs.{Batches.dimensions_in, declared.matrix.Dimensions.Dimensions}
+use Rattle.std.proofs.lemmas.List.{take_all, take_more, map-append}
+use Rattle.std.proofs.lemmas.Result.{err_from_is_err_and}
+use Rattle.p3_support.specs.Batches.{dimensions_in}
+use Rattle.p3_support.specs.declared.matrix.Dimensions.{Dimensions}
 use Rattle.p3_support.proofs.matrix.dimensions_of.Goals as goal
 
 pub loop-matrix-preserved : goal.loop-matrix-preserved

@@ -1,6 +1,7 @@
 -- Each lane is an element of its row.
 use Rattle.std.proofs.Common.{◌+◌, sym, slice_index_or}
-use Rattle.std.proofs.lemmas.{List.FromFn.fill_by_all, Option.get_or_from_slice_get}
+use Rattle.std.proofs.lemmas.List.FromFn.{fill_by_all}
+use Rattle.std.proofs.lemmas.Option.{get_or_from_slice_get}
 use Rattle.p3_support.proofs.matrix.packed_column.Goals as goal
 
 pub returns : goal.returns

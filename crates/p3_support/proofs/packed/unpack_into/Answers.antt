@@ -1,6 +1,7 @@
 -- Each row has its lane of the packed values.
 use Rattle.std.proofs.Common.{rules, arith, ℕ, ◌≡◌, ◌<◌, ◌∙◌, ap, sym, length, slice_index_or, []}
-use Rattle.std.proofs.lemmas.List.{length-map, length-set, ext_get_or, get_or-map, FromFn.fill_by_all}
+use Rattle.std.proofs.lemmas.List.{length-map, length-set, ext_get_or, get_or-map}
+use Rattle.std.proofs.lemmas.List.FromFn.{fill_by_all}
 use Rattle.p3_support.specs.Lists.{lane_of}
 use Rattle.p3_support.proofs.Fills.{filled_more}
 use Rattle.p3_support.proofs.packed.unpack_into.Goals as goal

@@ -1,5 +1,6 @@
 use Rattle.std.proofs.Common.{◌≡◌, ◌≢◌, length}
-use Rattle.tlog.specs.{Collisions.entries_of, Rfc9162.root_of}
+use Rattle.tlog.specs.Collisions.{entries_of}
+use Rattle.tlog.specs.Rfc9162.{root_of}
 use Rattle.tlog.proofs.collision.root_collision.Given as goal
 
 -- two different lists with one root

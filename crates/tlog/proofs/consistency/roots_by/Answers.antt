@@ -2,7 +2,8 @@ use Rattle.std.proofs.{Common.◌≡◌, Common.length, Common.refl, Common.rule
 use Rattle.std.proofs.lemmas.Bool.Decides.{nat_tests}
 use Rattle.std.specs.Prelude.{◌==◌}
 use Rattle.tlog.specs.Verdicts.{consistency_end_refusal}
-use Rattle.tlog.proofs.{Accepted.grown_end, Accepted.nothing_grows, Accepted.nothing_stays, Consistencies.begun}
+use Rattle.tlog.proofs.Accepted.{grown_end, nothing_grows, nothing_stays}
+use Rattle.tlog.proofs.Consistencies.{begun}
 use Rattle.tlog.proofs.consistency.roots_by.Goals as goal
 
 pub returns-in_default-clause-refused : goal.returns-in_default-clause-refused

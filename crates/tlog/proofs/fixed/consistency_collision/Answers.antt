@@ -1,5 +1,6 @@
 use Rattle.std.proofs.Common.{refl, arith, inl}
-use Rattle.tlog.proofs.{Consistencies.fixed_from, Consistencies.no_digests, TwoWalks.accepted_by, TwoWalks.same_none}
+use Rattle.tlog.proofs.Consistencies.{fixed_from, no_digests}
+use Rattle.tlog.proofs.TwoWalks.{accepted_by, same_none}
 use Rattle.tlog.proofs.fixed.consistency_collision.Goals as goal
 
 pub returns-then-old_size-eq0-clause-none : goal.returns-then-old_size-eq0-clause-none

@@ -1,7 +1,9 @@
 use Rattle.std.proofs.Common.{refl, sym, ap, ◌∙◌, arith}
 use Rattle.std.specs.Cmp.Lexicographic.{bytes_decides}
-use Rattle.tlog.specs.{Collisions.entries_of, Rfc9162.leaf_hash}
-use Rattle.tlog.proofs.{Accepted.different, Entries.length-entries}
+use Rattle.tlog.specs.Collisions.{entries_of}
+use Rattle.tlog.specs.Rfc9162.{leaf_hash}
+use Rattle.tlog.proofs.Accepted.{different}
+use Rattle.tlog.proofs.Entries.{length-entries}
 use Rattle.tlog.proofs.TwoWalks.{accepted_by, entry_fixed, leaf_at, same_none, unequal}
 use Rattle.tlog.proofs.fixed.entry_collision.Goals as goal
 

@@ -1,6 +1,7 @@
 use Rattle.std.proofs.Common.{sym, ◌∙◌, arith}
 use Rattle.std.specs.Cmp.Lexicographic.{bytes_decides}
-use Rattle.tlog.proofs.{Consistencies.differ, Consistencies.same_root, TwoWalks.same_none}
+use Rattle.tlog.proofs.Consistencies.{differ, same_root}
+use Rattle.tlog.proofs.TwoWalks.{same_none}
 use Rattle.tlog.proofs.fixed.prefix_collision.Goals as goal
 
 pub returns-then-eq-clause-none : goal.returns-then-eq-clause-none

@@ -1,4 +1,5 @@
-use Rattle.std.proofs.{Common.rules, Common.arith, lemmas.Result.IfOk-weaker}
+use Rattle.std.proofs.Common.{rules, arith}
+use Rattle.std.proofs.lemmas.Result.{IfOk-weaker}
 use Rattle.tlog.proofs.Lifts.{across, lift_beside_left, lift_growth_refused, lift_left}
 use Rattle.tlog.proofs.Lifts.{lift_no_digests, lift_no_growth, lift_right, lift_same}
 use Rattle.tlog.proofs.growth.+lift.Goals as goal

@@ -1,7 +1,7 @@
 use Rattle.std.proofs.Common.{◌<◌, ◌∙◌, refl, sym, arith}
 use Rattle.std.specs.Cmp.Lexicographic.{bytes_decides}
-use Rattle.tlog.proofs.{Composed.lifted_included, Composed.not_kept, Composed.same_included, Consistencies.begins_layer}
-use Rattle.tlog.proofs.Consistencies.{begins_whole, begun_end}
+use Rattle.tlog.proofs.Composed.{lifted_included, not_kept, same_included}
+use Rattle.tlog.proofs.Consistencies.{begins_layer, begins_whole, begun_end}
 use Rattle.tlog.proofs.TwoWalks.{accepted_by, refused_by, same_none, unequal}
 use Rattle.tlog.proofs.growth.growth_collision.Goals as goal
 

@@ -1,8 +1,9 @@
 use Rattle.std.proofs.Common.{◌≡◌, ℕ, ◌≤◌, ◌<◌, List, drop, length, Some, None, Ok, Err, sym, ◌∙◌, arith, true, false}
 use Rattle.std.specs.Prelude.{◌==◌, Option}
 use Rattle.std.proofs.lemmas.Bool.Decides.{nat_tests}
-use Rattle.tlog.specs.{Rfc9162.Hash, Rfc9162.inclusion_end, Rfc9162.inclusion_walk, Verdicts.inclusion_end_refusal}
-use Rattle.tlog.specs.{Verdicts.inclusion_refusal, Verdicts.size_limit, declared.error.ProofError.ProofError}
+use Rattle.tlog.specs.Rfc9162.{Hash, inclusion_end, inclusion_walk}
+use Rattle.tlog.specs.Verdicts.{inclusion_end_refusal, inclusion_refusal, size_limit}
+use Rattle.tlog.specs.declared.error.ProofError.{ProofError}
 use Rattle.tlog.specs.declared.error.ProofError.TheVariants.{TooManyDigests, TooFewDigests, RootMismatch}
 use Rattle.tlog.proofs.Accepted.{different, equal, inclusion_accepted, inclusion_refused}
 use Rattle.tlog.proofs.Walks.{inclusion_ends, inclusion_left, inclusion_right, inclusion_stops}

@@ -1,4 +1,5 @@
-use Rattle.std.proofs.{Common.◌≡◌, Common.suc, Common.◌*◌, Common.◌^◌, Common.refl, Common.arith, Math.Nat.pow-succ'}
+use Rattle.std.proofs.Common.{◌≡◌, suc, ◌*◌, ◌^◌, refl, arith}
+use Rattle.std.proofs.Math.Nat.{pow-succ'}
 use Rattle.std.specs.Prelude.{true, false}
 use Rattle.tlog.specs.Rfc9162.{leaf_hash, mth_within, path_within, split}
 use Rattle.tlog.proofs.Splits.{split_is}

@@ -1,12 +1,19 @@
 -- Leaf by leaf, by the restored paths.
 use Rattle.std.proofs.Common.{◌<◌, ◌∙◌, ap, get_or, length, List, [], ℕ, Vec, Global, sym, refl}
-use Rattle.std.proofs.lemmas.{List.length-map, Result.IfOk-weaker}
+use Rattle.std.proofs.lemmas.List.{length-map}
+use Rattle.std.proofs.lemmas.Result.{IfOk-weaker}
 use Rattle.std.specs.Prelude.{IsNone, Option, ◌↔◌}
-use Rattle.p3_support.specs.{Shown.row_sets, declared.matrix.Dimensions.Dimensions}
-use Rattle.p3_merkle_core.specs.{Geometry.shape_of, Pruning.pruned_of, Pruning.restored_path, Pruning.restored_paths}
+use Rattle.p3_support.specs.Shown.{row_sets}
+use Rattle.p3_support.specs.declared.matrix.Dimensions.{Dimensions}
+use Rattle.p3_merkle_core.specs.Geometry.{shape_of}
+use Rattle.p3_merkle_core.specs.Pruning.{pruned_of, restored_path, restored_paths}
 use Rattle.p3_merkle_mmcs.specs.Schemes.{params_of}
-use Rattle.tlog.specs.{Collisions.entries_of, declared.collision.Collision.Collision, Fixed.RootFixesLeaf}
-use Rattle.tlog_entries.specs.{Entries.entries_opening, Fixed.RootFixesLeaves, Inner.Paths.siblings_of}
+use Rattle.tlog.specs.Collisions.{entries_of}
+use Rattle.tlog.specs.declared.collision.Collision.{Collision}
+use Rattle.tlog.specs.Fixed.{RootFixesLeaf}
+use Rattle.tlog_entries.specs.Entries.{entries_opening}
+use Rattle.tlog_entries.specs.Fixed.{RootFixesLeaves}
+use Rattle.tlog_entries.specs.Inner.Paths.{siblings_of}
 use Rattle.tlog_entries.specs.Instance.{log_params, present}
 use Rattle.tlog_entries.proofs.PathFacts.{fixed_by_paths, siblings_are}
 use Rattle.tlog_entries.proofs.collision.entries_collision.Goals as goal

@@ -1,6 +1,8 @@
 use Rattle.std.proofs.Common.{◌<◌, ℕ, [], get_or}
-use Rattle.tlog.specs.{Collisions.entries_of, Fixed.RootFixesLeaf}
-use Rattle.tlog_entries.specs.{Inner.Paths.siblings_of, Instance.present}
+use Rattle.tlog.specs.Collisions.{entries_of}
+use Rattle.tlog.specs.Fixed.{RootFixesLeaf}
+use Rattle.tlog_entries.specs.Inner.Paths.{siblings_of}
+use Rattle.tlog_entries.specs.Instance.{present}
 use Rattle.tlog_entries.proofs.collision.path_collision.Given as goal
 
 -- no collision is in the leaf hashes so far

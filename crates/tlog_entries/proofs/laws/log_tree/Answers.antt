@@ -1,14 +1,19 @@
 use Rattle.std.proofs.Common.{◌*◌, ◌^◌, ◌<◌, length, [], ◌∷◌, map, take, drop, sym, ap, subst, ◌∙◌, arith, get_or}
 use Rattle.std.proofs.lemmas.List.{drop-map, length-map, take-map}
-use Rattle.p3_merkle_core.specs.{Geometry.levels, Openings.honest, Commitments.cap_over}
+use Rattle.p3_merkle_core.specs.Geometry.{levels}
+use Rattle.p3_merkle_core.specs.Openings.{honest}
+use Rattle.p3_merkle_core.specs.Commitments.{cap_over}
 use Rattle.p3_merkle_core.specs.Pruning.{boundary, honest_query, restored_path}
 use Rattle.tlog.specs.Rfc9162.{leaf_hash, mth}
 use Rattle.tlog.proofs.Layers.{itself}
 use Rattle.tlog_entries.specs.Instance.{AreFilled, log_functions, log_params, log_shape, present, root_cap}
-use Rattle.tlog_entries.specs.{Laws.entries_batch, declared.tree.Node.TheVariants.Hash}
+use Rattle.tlog_entries.specs.Laws.{entries_batch}
+use Rattle.tlog_entries.specs.declared.tree.Node.TheVariants.{Hash}
 use Rattle.tlog_entries.proofs.Honest.{honest_filled, honest_is_path, restored_is_path}
-use Rattle.tlog_entries.proofs.{Included.accepted_if_included, Leaves.mth_map, Leaves.path_map, Nodes.cap_is_root}
-use Rattle.tlog_entries.proofs.{Nodes.node_is_mth, Nodes.padding_is_absent, Restored.query_accepted}
+use Rattle.tlog_entries.proofs.Included.{accepted_if_included}
+use Rattle.tlog_entries.proofs.Leaves.{mth_map, path_map}
+use Rattle.tlog_entries.proofs.Nodes.{cap_is_root, node_is_mth, padding_is_absent}
+use Rattle.tlog_entries.proofs.Restored.{query_accepted}
 use Rattle.tlog_entries.proofs.laws.log_tree.Goals as goal
 
 pub returns-clause-nodes : goal.returns-clause-nodes

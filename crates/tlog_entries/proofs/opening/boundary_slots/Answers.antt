@@ -1,6 +1,7 @@
 -- Each turn is one layer.
 use Rattle.std.proofs.Common.{◌≡◌, ◌<◌, ◌∙◌, add-one, ap, arith, refl}
-use Rattle.p3_merkle_core.specs.{Geometry.levels, Pruning.boundary}
+use Rattle.p3_merkle_core.specs.Geometry.{levels}
+use Rattle.p3_merkle_core.specs.Pruning.{boundary}
 use Rattle.p3_merkle_core.proofs.Covered.ClimbFacts.{covered_here}
 use Rattle.tlog_entries.specs.Instance.{log_shape}
 use Rattle.tlog_entries.proofs.ShapeFacts.{boundary_more, covered_ascend, layers_small, log_query, nodes_fit}

@@ -1,9 +1,11 @@
 use Rattle.std.proofs.Common.{◌≡◌, ◌<◌, ◌≤◌, ◌∙◌, All, ap, filter, length, map, get_or, sym, subst, []}
 use Rattle.std.proofs.lemmas.List.{take_all}
-use Rattle.p3_merkle_core.specs.{Geometry.levels, Pruning.boundary}
+use Rattle.p3_merkle_core.specs.Geometry.{levels}
+use Rattle.p3_merkle_core.specs.Pruning.{boundary}
 use Rattle.tlog.specs.Verdicts.{size_limit}
 use Rattle.tlog_tree.specs.Trees.{leaves_root, values_at as tree_values}
-use Rattle.tlog_entries.specs.{Entries.AreIncluded, Entries.is_node, Entries.proof_nodes, Instance.log_shape}
+use Rattle.tlog_entries.specs.Entries.{AreIncluded, is_node, proof_nodes}
+use Rattle.tlog_entries.specs.Instance.{log_shape}
 use Rattle.tlog_entries.proofs.HonestEntries.{honest_included, values_at, values_there}
 use Rattle.tlog_entries.proofs.opening.entry_places.Goals as goal
 

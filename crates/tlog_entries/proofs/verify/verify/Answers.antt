@@ -2,12 +2,15 @@
 use Rattle.std.proofs.Common.{rules, ◌≡◌, ◌∙◌, ap, length, List}
 use Rattle.std.specs.Bool.{Decides}
 use Rattle.std.proofs.lemmas.Result.{err_from_is_err_and}
-use Rattle.p3_support.specs.{Shown.row_sets, declared.matrix.Dimensions.Dimensions}
-use Rattle.p3_merkle_core.specs.{Geometry.shape_of, Pruning.pruned_of}
+use Rattle.p3_support.specs.Shown.{row_sets}
+use Rattle.p3_support.specs.declared.matrix.Dimensions.{Dimensions}
+use Rattle.p3_merkle_core.specs.Geometry.{shape_of}
+use Rattle.p3_merkle_core.specs.Pruning.{pruned_of}
 use Rattle.p3_merkle_core.proofs.Pruned.NoneFacts.{none_parts}
 use Rattle.p3_merkle_mmcs.specs.Schemes.{params_of}
 use Rattle.tlog_entries.specs.Entries.{digests_refusal, indices_refusal, proof_nodes}
-use Rattle.tlog_entries.specs.{contracts.tree.NodePartialEq.TheImpl.ghosts as node, declared.tree.Node.Node}
+use Rattle.tlog_entries.specs.contracts.tree.NodePartialEq.TheImpl.{ghosts as node}
+use Rattle.tlog_entries.specs.declared.tree.Node.{Node}
 use Rattle.tlog_entries.proofs.EntriesFacts.{form_from, form_kept}
 use Rattle.tlog_entries.proofs.VerdictFacts.{meaning_kept, verdict_is}
 use Rattle.tlog_entries.proofs.verify.verify.Goals as goal

@@ -1,8 +1,11 @@
 use Rattle.std.proofs.Common.{arith, length, sym, ap, ◌∙◌, List, ℕ, [], ◌++◌, ◌≡◌, ◌≤◌, ◌<◌, ◌+◌, ◌*◌, ◌/◌, ◌%◌}
 use Rattle.std.proofs.Common.{length-append, drop, vec_len}
-use Rattle.std.proofs.lemmas.{List.append-nil, List.nil_from_length, Bool.Decides.nat_tests, Result.IfOk-weaker}
+use Rattle.std.proofs.lemmas.List.{append-nil, nil_from_length}
+use Rattle.std.proofs.lemmas.Bool.Decides.{nat_tests}
+use Rattle.std.proofs.lemmas.Result.{IfOk-weaker}
 use Rattle.sha2.specs.Sha256.{sha256}
-use Rattle.tlog_tree.specs.{Inner.Layers.parents_of, Trees.whole_nodes}
+use Rattle.tlog_tree.specs.Inner.Layers.{parents_of}
+use Rattle.tlog_tree.specs.Trees.{whole_nodes}
 use Rattle.tlog_tree.proofs.Kept.{wanted_none, wanted_step}
 use Rattle.tlog_tree.proofs.Whole.{cut_whole, length-parents, parents-append, single, single_is, whole_grows}
 use Rattle.tlog_tree.proofs.frontier.+grown.Goals as goal

@@ -1,4 +1,5 @@
-use Rattle.std.proofs.{Common.sym, Common.ap, Common.◌∙◌, Common.arith, lemmas.List.nil_from_length}
+use Rattle.std.proofs.Common.{sym, ap, ◌∙◌, arith}
+use Rattle.std.proofs.lemmas.List.{nil_from_length}
 use Rattle.sha2.specs.Sha256.{sha256}
 use Rattle.tlog.proofs.Accepted.{nothing}
 use Rattle.tlog_tree.specs.Inner.Layers.{joined}

@@ -1,5 +1,6 @@
 use Rattle.std.proofs.Common.{ℕ, List, Bor, arith, get_or, map}
-use Rattle.std.proofs.lemmas.List.{length-map, Elements.All-take}
+use Rattle.std.proofs.lemmas.List.{length-map}
+use Rattle.std.proofs.lemmas.List.Elements.{All-take}
 use Rattle.tlog_tree.specs.Inner.Leaves.{IsPlaceOf}
 use Rattle.tlog_tree.proofs.Leaves.{alike_places}
 use Rattle.tlog_tree.proofs.leaf.hash_first.Goals as goal

@@ -2,7 +2,8 @@ use Rattle.std.proofs.Common.{◌≡◌, ◌++◌, [], ℕ, ◌∙◌, All, List
 use Rattle.std.proofs.Common.{length, map, refl, subst, sym, take}
 use Rattle.std.proofs.lemmas.List.{get_or-map, length-map, nil_from_length, take-append-drop, take_at, take_rest}
 use Rattle.std.proofs.lemmas.List.Elements.{All-append, All-drop, All-nil}
-use Rattle.std.proofs.lemmas.{Bool.Decides.nat_tests, Simd.map-map}
+use Rattle.std.proofs.lemmas.Bool.Decides.{nat_tests}
+use Rattle.std.proofs.lemmas.Simd.{map-map}
 use Rattle.sha2.specs.Sha256.{sha256}
 use Rattle.tlog.specs.Rfc9162.{leaf_hash}
 use Rattle.tlog_tree.specs.Inner.Leaves.{IsHashed, IsPlaceOf}

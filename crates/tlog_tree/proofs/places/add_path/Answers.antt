@@ -1,8 +1,10 @@
 use Rattle.std.proofs.Common.{arith, sym, ap, ◌∙◌, ◌++◌, List, ℕ}
 use Rattle.std.proofs.lemmas.List.{append-nil}
-use Rattle.tlog_tree.specs.{Inner.Layers.layer_of, Trees.all_there, Trees.values_at}
+use Rattle.tlog_tree.specs.Inner.Layers.{layer_of}
+use Rattle.tlog_tree.specs.Trees.{all_there, values_at}
 use Rattle.tlog_tree.proofs.Paths.{IsSibling, even_sibling, length-layer, odd_sibling, path_of_one, path_passed}
-use Rattle.tlog_tree.proofs.{Paths.path_taken, places.add_path.Goals.then-node-eq0}
+use Rattle.tlog_tree.proofs.Paths.{path_taken}
+use Rattle.tlog_tree.proofs.places.add_path.Goals.{then-node-eq0}
 use Rattle.tlog_tree.proofs.places.add_path.Goals.{else-node-eq0, then-sibling-last+in_ok-push, else-sibling-last}
 use Rattle.tlog_tree.proofs.places.add_path.Goals as goal
 

@@ -1,6 +1,7 @@
 use Rattle.std.proofs.Common.{◌≡◌, ℕ, ◌+◌, ◌^◌, ◌≤◌, ◌<◌, ◌++◌, List, length}
 use Rattle.tlog.specs.Rfc9162.{Hash, path}
-use Rattle.tlog_tree.specs.{Inner.Layers.layer_of, Trees.all_there, Trees.values_at}
+use Rattle.tlog_tree.specs.Inner.Layers.{layer_of}
+use Rattle.tlog_tree.specs.Trees.{all_there, values_at}
 use Rattle.tlog_tree.proofs.places.add_path.Given as goal
 
 abbrev pub invariant-loop-last : goal.invariant-loop-last

@@ -1,6 +1,7 @@
 use Rattle.std.proofs.Common.{arith, length, ap, ◌∙◌, ◌≡◌, ◌+◌, ◌-◌, ◌++◌, List, ℕ}
 use Rattle.tlog.specs.Rfc9162.{path}
-use Rattle.tlog_tree.specs.{Trees.all_there, Trees.values_at, Inner.Layers.layer_of}
+use Rattle.tlog_tree.specs.Trees.{all_there, values_at}
+use Rattle.tlog_tree.specs.Inner.Layers.{layer_of}
 use Rattle.tlog_tree.proofs.Paths.{layer_none}
 use Rattle.tlog_tree.proofs.places.inclusion_places.Goals as goal
 

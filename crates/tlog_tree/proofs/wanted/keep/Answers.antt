@@ -1,6 +1,8 @@
 use Rattle.std.proofs.Common.{arith, ap, ◌∙◌, slice_set}
-use Rattle.std.proofs.lemmas.List.{get_or_default, Edits.map_over_more}
-use Rattle.tlog_tree.specs.{Inner.Wanted.kept_in, declared.wanted.WantedNode.WantedNode}
+use Rattle.std.proofs.lemmas.List.{get_or_default}
+use Rattle.std.proofs.lemmas.List.Edits.{map_over_more}
+use Rattle.tlog_tree.specs.Inner.Wanted.{kept_in}
+use Rattle.tlog_tree.specs.declared.wanted.WantedNode.{WantedNode}
 use Rattle.tlog_tree.proofs.wanted.keep.Goals as goal
 
 pub loop-node-preserved : goal.loop-node-preserved

@@ -2,7 +2,9 @@
 use Rattle.std.proofs.Common.{rules, ◌≡◌, List, [], ◌∷◌, ◌∙◌, ap, refl, sym}
 use Rattle.std.specs.List.{flat_map, fold}
 use Rattle.std.proofs.lemmas.List.Sums.{fold-append}
-use Rattle.callers.specs.{Coins.sum, declared.coins.Coin.Coin, declared.coins.Coin.TheVariants.Heads}
+use Rattle.callers.specs.Coins.{sum}
+use Rattle.callers.specs.declared.coins.Coin.{Coin}
+use Rattle.callers.specs.declared.coins.Coin.TheVariants.{Heads}
 use Rattle.callers.proofs.coins.ParityCryptographicHasherCoinCoin1.hash_iter_slices.Goals as goal
 
 -- slice by slice is coin by coin

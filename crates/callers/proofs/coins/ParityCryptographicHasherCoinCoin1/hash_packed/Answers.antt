@@ -1,7 +1,8 @@
 -- A coin is alone in its lane.
 use Rattle.std.proofs.Common.{◌∙◌, ap, sym}
 use Rattle.p3_support.proofs.LaneReads.{only_lane}
-use Rattle.callers.specs.{Coins.parity, declared.coins.Coin.TheVariants.Heads}
+use Rattle.callers.specs.Coins.{parity}
+use Rattle.callers.specs.declared.coins.Coin.TheVariants.{Heads}
 use Rattle.callers.proofs.coins.ParityCryptographicHasherCoinCoin1.hash_packed.Goals as goal
 
 pub returns : goal.returns

@@ -1,6 +1,7 @@
 -- The open entry is the last, or is left out, or the file is refused.
 use Rattle.std.proofs.Common.{◌≡◌, ◌⊎◌, ◌≤◌, ◌∙◌, [], ℕ, List, arith, false, inl, inr, leb-false, leb-true, nat_le}
-use Rattle.std.proofs.{Common.refl, Common.sym, lemmas.List.nil_from_length}
+use Rattle.std.proofs.Common.{refl, sym}
+use Rattle.std.proofs.lemmas.List.{nil_from_length}
 use Rattle.log_files.proofs.SplitterFacts.{all_when_closed, all_when_full, all_when_included, all_when_left_out}
 use Rattle.log_files.proofs.SplitterFacts.{refused_when_open}
 use Rattle.log_files.proofs.splitter.Splitter.end_file.Goals.{then-is_full-via-then-is_full}

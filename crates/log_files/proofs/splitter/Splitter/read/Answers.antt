@@ -1,10 +1,14 @@
 -- Whole entries are read, where none is open and there are any, else bytes of the open one.
 use Rattle.std.proofs.Common.{◌≡◌, ◌+◌, ◌-◌, ◌∙◌, ◌++◌, [], List, ℕ, Bor, ap, arith, drop, length, length-append, map}
 use Rattle.std.proofs.Common.{refl, subst, sym, take}
-use Rattle.std.proofs.lemmas.{Bool.eqb-false, Simd.map-map, List.length-map, List.nil_from_length}
+use Rattle.std.proofs.lemmas.Bool.{eqb-false}
+use Rattle.std.proofs.lemmas.Simd.{map-map}
+use Rattle.std.proofs.lemmas.List.{length-map, nil_from_length}
 use Rattle.sha2.specs.Sha256.{sha256}
 use Rattle.tlog.specs.Rfc9162.{leaf_hash}
-use Rattle.log_files.specs.{Inner.Splitting.HoldsOpen, Inner.Wanted.HoldsWanted, declared.splitter.Splitter.Splitter}
+use Rattle.log_files.specs.Inner.Splitting.{HoldsOpen}
+use Rattle.log_files.specs.Inner.Wanted.{HoldsWanted}
+use Rattle.log_files.specs.declared.splitter.Splitter.{Splitter}
 use Rattle.log_files.proofs.{CutFacts.bytes_of, CutFacts.fewer_left}
 use Rattle.log_files.proofs.SplitterFacts.{fewer_after_whole, open_ended, open_grown, ready_after, whole_read}
 use Rattle.log_files.proofs.splitter.Splitter.read.Goals as goal

@@ -4,7 +4,8 @@ use Rattle.std.proofs.Common.{length-drop, set, subst, sym, take, take_all}
 use Rattle.std.proofs.lemmas.List.{get_or-append_right, get_or-map, length-map, length-set, map-set}
 use Rattle.std.proofs.lemmas.List.Elements.{All-drop, All-weaker}
 use Rattle.log_files.specs.Inner.Wanted.{IsAscending, IsKept}
-use Rattle.log_files.proofs.{CutFacts.bytes_of, WantedFacts.ascends_lower, WantedFacts.kept_copy, WantedFacts.next_left}
+use Rattle.log_files.proofs.CutFacts.{bytes_of}
+use Rattle.log_files.proofs.WantedFacts.{ascends_lower, kept_copy, next_left}
 use Rattle.log_files.proofs.wanted.WantedEntries.copy.Goals as goal
 
 pub wanted-preserved : goal.wanted-preserved

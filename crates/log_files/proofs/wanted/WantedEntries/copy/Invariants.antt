@@ -1,5 +1,6 @@
 use Rattle.std.proofs.Common.{◌≡◌, ℕ, List, ◌++◌, [], length, map}
-use Rattle.log_files.{proofs.WantedFacts.HoldsSome, specs.Inner.Wanted.HasPlaces, specs.Inner.Wanted.HoldsWanted}
+use Rattle.log_files.proofs.WantedFacts.{HoldsSome}
+use Rattle.log_files.specs.Inner.Wanted.{HasPlaces, HoldsWanted}
 use Rattle.log_files.proofs.wanted.WantedEntries.copy.Given as goal
 
 abbrev pub invariant-wanted : goal.invariant-wanted

@@ -1,6 +1,7 @@
 -- The open entry is copied where it is wanted.
 use Rattle.std.proofs.Common.{◌∙◌, ◌∷◌, ◌++◌, [], length, ap, if◌then◌else◌, subst, sym}
-use Rattle.log_files.{proofs.WantedFacts.none_begun, specs.Inner.Wanted.is_next, specs.Inner.Wanted.HoldsWanted}
+use Rattle.log_files.proofs.WantedFacts.{none_begun}
+use Rattle.log_files.specs.Inner.Wanted.{is_next, HoldsWanted}
 use Rattle.log_files.proofs.wanted.WantedEntries.end.Goals as goal
 
 pub returns-in_ok-copy-clause-holds : goal.returns-in_ok-copy-clause-holds

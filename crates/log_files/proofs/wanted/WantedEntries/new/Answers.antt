@@ -1,5 +1,6 @@
 use Rattle.std.proofs.Common.{ℕ, ◌<◌, ◌∙◌, length, arith, sym}
-use Rattle.std.proofs.lemmas.List.{length-map, Elements.All-weaker}
+use Rattle.std.proofs.lemmas.List.{length-map}
+use Rattle.std.proofs.lemmas.List.Elements.{All-weaker}
 use Rattle.log_files.specs.Inner.Wanted.{is_next, IsOwn}
 use Rattle.log_files.proofs.WantedFacts.{kept_at_start, none_begun}
 use Rattle.log_files.proofs.wanted.WantedEntries.new.Goals as goal

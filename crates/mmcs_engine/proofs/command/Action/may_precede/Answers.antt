@@ -1,9 +1,12 @@
 use Rattle.std.proofs.Common.{◌<◌, Bool, true, false, MatchBool, Decides, ℕ, List, [], ◌∷◌, length, String, refl}
 use Rattle.std.proofs.Common.{string_bytes, ⊎_elim, arith, rules, tests}
-use Rattle.std.proofs.lemmas.{Bool.false≢true, Iterator.cases_from_all, Iterator.YieldsList-from_slice}
+use Rattle.std.proofs.lemmas.Bool.{false≢true}
+use Rattle.std.proofs.lemmas.Iterator.{cases_from_all, YieldsList-from_slice}
 use Rattle.std.proofs.lemmas.List.Elements.{All-map, All-from_all_within, All-get_or}
-use Rattle.std.specs.{Prelude.All, List.AllWithin, List.HoldsAt}
-use Rattle.mmcs_engine.{specs.Args.texts_of, specs.Args.IsNumberArg, proofs.BlockFacts.all_from_map}
+use Rattle.std.specs.Prelude.{All}
+use Rattle.std.specs.List.{AllWithin, HoldsAt}
+use Rattle.mmcs_engine.specs.Args.{texts_of, IsNumberArg}
+use Rattle.mmcs_engine.proofs.BlockFacts.{all_from_map}
 use Rattle.mmcs_engine.proofs.command.Action.may_precede.Goals as goal
 
 -- whether each argument is a number

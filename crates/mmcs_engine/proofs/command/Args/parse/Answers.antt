@@ -1,7 +1,11 @@
 use Rattle.std.proofs.Common.{◌++◌, ◌∷◌, ◌∙◌, [], List, ℕ, string_bytes, map, refl, sym, ap, subst, inr}
-use Rattle.std.proofs.lemmas.{List.map_more, List.take_all, List.Elements.All-get_or, Result.err_from_is_err_and}
-use Rattle.std.{proofs.lemmas.Simd.map-map, specs.Str.Parse.digits_value}
-use Rattle.mmcs_engine.{specs.Args.AreArgs, specs.Args.IsNumberArg, proofs.BlockFacts.all_from_map}
+use Rattle.std.proofs.lemmas.List.{map_more, take_all}
+use Rattle.std.proofs.lemmas.List.Elements.{All-get_or}
+use Rattle.std.proofs.lemmas.Result.{err_from_is_err_and}
+use Rattle.std.proofs.lemmas.Simd.{map-map}
+use Rattle.std.specs.Str.Parse.{digits_value}
+use Rattle.mmcs_engine.specs.Args.{AreArgs, IsNumberArg}
+use Rattle.mmcs_engine.proofs.BlockFacts.{all_from_map}
 use Rattle.mmcs_engine.proofs.command.Args.parse.Goals.{in-Some+in_ok-push, in_default}
 use Rattle.mmcs_engine.proofs.command.Args.parse.Goals as goal
 

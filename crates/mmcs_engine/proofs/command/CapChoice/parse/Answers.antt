@@ -1,4 +1,5 @@
-use Rattle.std.proofs.{Common.◌∷◌, Common.[], Common.Some, lemmas.Bool.Decides.Decides-eqb}
+use Rattle.std.proofs.Common.{◌∷◌, [], Some}
+use Rattle.std.proofs.lemmas.Bool.Decides.{Decides-eqb}
 use Rattle.std.proofs.lemmas.Slice.Eq.{strip_suffix_is}
 use Rattle.p3_merkle_core.specs.declared.cap.CapRule.TheVariants.{Fixed}
 use Rattle.mmcs_engine.proofs.ArgFacts.{only_cap}

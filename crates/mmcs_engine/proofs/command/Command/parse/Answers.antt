@@ -1,6 +1,9 @@
 use Rattle.std.proofs.Common.{◌≡◌, ◌≤◌, ◌-◌, List, [], ◌∷◌, ℕ, length, get_or, take, drop, map, string_bytes, refl, sym}
-use Rattle.std.proofs.{Common.ap, Common.◌∙◌, Common.subst, Common.arith, lemmas.Bool.false≢true, lemmas.List.take_all}
-use Rattle.mmcs_engine.specs.{declared.command.Action.Action, Args.texts_of, Args.IsCapArg, Args.MayFollow}
+use Rattle.std.proofs.Common.{ap, ◌∙◌, subst, arith}
+use Rattle.std.proofs.lemmas.Bool.{false≢true}
+use Rattle.std.proofs.lemmas.List.{take_all}
+use Rattle.mmcs_engine.specs.declared.command.Action.{Action}
+use Rattle.mmcs_engine.specs.Args.{texts_of, IsCapArg, MayFollow}
 use Rattle.mmcs_engine.proofs.ArgFacts.{action_of, same_action}
 use Rattle.mmcs_engine.proofs.command.Command.parse.Goals as goal
 

@@ -1,6 +1,7 @@
 use Rattle.std.proofs.Common.{◌≡◌, [], length, sym, refl, ⊎_elim, inl, inr, arith}
 use Rattle.std.proofs.lemmas.List.Elements.{All-get_or}
-use Rattle.mmcs_engine.{specs.Input.numbers_of, proofs.BlockFacts.block_more}
+use Rattle.mmcs_engine.specs.Input.{numbers_of}
+use Rattle.mmcs_engine.proofs.BlockFacts.{block_more}
 use Rattle.mmcs_engine.proofs.input.Block.push_row.Goals as goal
 
 -- the rows above have the width of the first

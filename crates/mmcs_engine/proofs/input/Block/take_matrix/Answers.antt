@@ -1,7 +1,8 @@
 use Rattle.std.proofs.Common.{◌*◌, length, sym, ap, ◌∙◌, arith}
 use Rattle.std.proofs.lemmas.List.{length-map}
 use Rattle.p3_support.specs.RowMajor.{row_count}
-use Rattle.mmcs_engine.{specs.Input.numbers_of, proofs.MatrixFacts.block_shown, proofs.MatrixFacts.length_of_rows}
+use Rattle.mmcs_engine.specs.Input.{numbers_of}
+use Rattle.mmcs_engine.proofs.MatrixFacts.{block_shown, length_of_rows}
 use Rattle.mmcs_engine.proofs.input.Block.take_matrix.Goals as goal
 
 pub new-requires-else-width-eq0 : goal.new-requires-else-width-eq0

@@ -2,7 +2,8 @@ use Rattle.std.proofs.Common.{◌≡◌, ◌∙◌, ap, [], map, append-nil}
 use Rattle.std.specs.List.{fold, flat_map}
 use Rattle.std.proofs.lemmas.Grind.{flat_map-append}
 use Rattle.p3_hashes.specs.Fold.{fold_hash, take_in}
-use Rattle.p3_support.proofs.{LaneReads.alone, Runs.run_of_loop}
+use Rattle.p3_support.proofs.LaneReads.{alone}
+use Rattle.p3_support.proofs.Runs.{run_of_loop}
 use Rattle.p3_hashes.proofs.FoldSteps.{fold_hash-append}
 use Rattle.p3_hashes.proofs.fold.FoldHashCryptographicHasher.hash_iter_slices.Goals as goal
 

@@ -1,5 +1,6 @@
 use Rattle.std.proofs.Common.{arith, ℕ, ◌*◌, ◌<◌, ◌∙◌, sym, ap, List, length, map, slice_index_or, []}
-use Rattle.std.proofs.lemmas.List.{get_or-map, length-map, FromFn.fill_by_all}
+use Rattle.std.proofs.lemmas.List.{get_or-map, length-map}
+use Rattle.std.proofs.lemmas.List.FromFn.{fill_by_all}
 use Rattle.std.specs.List.{concat, flat_map}
 use Rattle.sha2.specs.Sha256.{sha256}
 use Rattle.p3_support.specs.Lists.{message}

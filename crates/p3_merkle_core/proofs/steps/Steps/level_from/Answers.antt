@@ -1,8 +1,10 @@
 use Rattle.std.proofs.Common.{◌/◌, ◌<◌, ◌∙◌, arith, ap, false, refl, sym}
-use Rattle.std.proofs.lemmas.{Bool.le-ltb, Bool.lt-ltb, Nat.one_shl}
+use Rattle.std.proofs.lemmas.Bool.{le-ltb, lt-ltb}
+use Rattle.std.proofs.lemmas.Nat.{one_shl}
 use Rattle.p3_merkle_core.specs.Geometry.{shape_of, height_at}
 use Rattle.p3_merkle_core.proofs.Shapes.LevelFacts.{small_at, level_is, low, next_small, grouped_is}
-use Rattle.p3_merkle_core.proofs.{Covered.CoveredFacts.padded_le, Shapes.ExponentFacts.bridge_at}
+use Rattle.p3_merkle_core.proofs.Covered.CoveredFacts.{padded_le}
+use Rattle.p3_merkle_core.proofs.Shapes.ExponentFacts.{bridge_at}
 use Rattle.p3_merkle_core.proofs.steps.Steps.level_from.Goals.{then-self-below+then-len-arity, else-self-below}
 use Rattle.p3_merkle_core.proofs.steps.Steps.level_from.Goals.{else-self-below-via-then-self-below+else-len-arity}
 use Rattle.p3_merkle_core.proofs.steps.Steps.level_from.Goals.{else-self-below-via-else-self-below}

@@ -1,5 +1,6 @@
 -- Each turn is one level.
-use Rattle.std.proofs.{Common.add-one, Common.arith, Common.sym, lemmas.List.FromFn.map-range_with_len_more}
+use Rattle.std.proofs.Common.{add-one, arith, sym}
+use Rattle.std.proofs.lemmas.List.FromFn.{map-range_with_len_more}
 use Rattle.p3_merkle_core.specs.Geometry.{shape_of, position_in_group}
 use Rattle.p3_merkle_core.proofs.Shapes.StepFacts.{anc_next, anc_start}
 use Rattle.p3_merkle_core.proofs.steps.Steps.positions_below.Goals as goal

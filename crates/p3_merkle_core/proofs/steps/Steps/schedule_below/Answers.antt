@@ -1,5 +1,6 @@
 -- Each turn is one level.
-use Rattle.std.proofs.{Common.arith, Common.sym, lemmas.List.FromFn.map-range_with_len_more}
+use Rattle.std.proofs.Common.{arith, sym}
+use Rattle.std.proofs.lemmas.List.FromFn.{map-range_with_len_more}
 use Rattle.p3_merkle_core.specs.Geometry.{shape_of, step}
 use Rattle.p3_merkle_core.proofs.steps.Steps.schedule_below.Goals as goal
 

@@ -1,5 +1,6 @@
 use Rattle.std.proofs.Common.{◌≡◌}
-use Rattle.p3_merkle_core.specs.{Geometry.shape_of, Checks.siblings_below}
+use Rattle.p3_merkle_core.specs.Geometry.{shape_of}
+use Rattle.p3_merkle_core.specs.Checks.{siblings_below}
 use Rattle.p3_merkle_core.proofs.steps.Steps.siblings_below.Given as goal
 
 abbrev pub invariant-loop-level : goal.invariant-loop-level

@@ -1,7 +1,9 @@
 -- The step that is kept.
 use Rattle.std.proofs.Common.{◌≡◌, ◌∙◌, ap, cond, false, sym}
-use Rattle.p3_merkle_core.specs.{Geometry.step, Geometry.shape_of, declared.steps.LevelStep.LevelStep}
-use Rattle.p3_merkle_core.proofs.Shapes.{ExponentFacts.kept_at, SiblingFacts.above_step}
+use Rattle.p3_merkle_core.specs.Geometry.{step, shape_of}
+use Rattle.p3_merkle_core.specs.declared.steps.LevelStep.{LevelStep}
+use Rattle.p3_merkle_core.proofs.Shapes.ExponentFacts.{kept_at}
+use Rattle.p3_merkle_core.proofs.Shapes.SiblingFacts.{above_step}
 use Rattle.p3_merkle_core.proofs.steps.Steps.step_up.Goals.{then-kept, else-kept}
 use Rattle.p3_merkle_core.proofs.steps.Steps.step_up.Goals as goal
 

@@ -1,7 +1,9 @@
 -- Two pieces of a row of the one matrix are the row.
 use Rattle.std.proofs.Common.{arith, rules, ◌≡◌, ℕ, ◌+◌, ◌-◌, ◌++◌, ◌∙◌, ap, drop, length, sym, take}
-use Rattle.std.proofs.{Math.Seq.take-add, lemmas.List.take_all}
-use Rattle.std.specs.{List.flat_map, Prelude.sum_by}
+use Rattle.std.proofs.Math.Seq.{take-add}
+use Rattle.std.proofs.lemmas.List.{take_all}
+use Rattle.std.specs.List.{flat_map}
+use Rattle.std.specs.Prelude.{sum_by}
 use Rattle.p3_support.proofs.RowReads.{piece_read}
 use Rattle.p3_merkle_digests.specs.Inner.Slots.{rows_over}
 use Rattle.p3_merkle_digests.proofs.LaneFacts.{height_at, one_element, rows_alone}

@@ -2,7 +2,8 @@
 use Rattle.std.proofs.Common.{arith, ℕ, ◌≡◌, ◌+◌, ◌<◌, ◌≤◌, ◌∙◌, List, All, ap, sym}
 use Rattle.std.proofs.lemmas.Iterator.Consumers.{YieldsList-from_first}
 use Rattle.p3_support.specs.Lists.{columns, columns_over, lane_of}
-use Rattle.p3_support.proofs.{RowReads.lane_of_columns, RowReads.lane_of_rows, Runs.fact_of_run}
+use Rattle.p3_support.proofs.RowReads.{lane_of_columns, lane_of_rows}
+use Rattle.p3_support.proofs.Runs.{fact_of_run}
 use Rattle.p3_merkle_digests.specs.Inner.Slots.{rows_over}
 use Rattle.p3_merkle_digests.proofs.LaneFacts.{height_at, rows_alone}
 use Rattle.p3_merkle_digests.proofs.packed.LayerRows+P+PW+H+M+array+D+PW+Value.packed_digest.Goals as goal

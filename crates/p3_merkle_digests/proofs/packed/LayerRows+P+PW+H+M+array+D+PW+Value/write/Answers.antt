@@ -1,7 +1,9 @@
 -- The slots up to the height are written, and the others stay.
 use Rattle.std.proofs.Common.{rules, arith, ℕ, ◌≡◌, ◌+◌, ◌-◌, ◌<◌, ◌≤◌, ◌∙◌, ap, drop, length, length-drop, refl}
 use Rattle.std.proofs.Common.{replicate, take}
-use Rattle.std.proofs.lemmas.{Bool.le-ltb, Bool.lt-ltb, Result.IfOk-weaker, List.length-take-le}
+use Rattle.std.proofs.lemmas.Bool.{le-ltb, lt-ltb}
+use Rattle.std.proofs.lemmas.Result.{IfOk-weaker}
+use Rattle.std.proofs.lemmas.List.{length-take-le}
 use Rattle.p3_merkle_digests.specs.Inner.Slots.{leaf_over, rows_over}
 use Rattle.p3_merkle_digests.proofs.StageFacts.{all_written, none_written, some_written, IsWritten}
 use Rattle.p3_merkle_digests.proofs.packed.LayerRows+P+PW+H+M+array+D+PW+Value.write.Goals as goal

@@ -1,9 +1,12 @@
 -- What the answer means of the openings.
 use Rattle.std.proofs.Common.{subst}
-use Rattle.std.specs.{Prelude.IfOk, Option.option_or}
+use Rattle.std.specs.Prelude.{IfOk}
+use Rattle.std.specs.Option.{option_or}
 use Rattle.p3_support.specs.Shown.{roots_of}
-use Rattle.p3_merkle_core.specs.{Extraction.difference_of, Geometry.shape_of, Refusals.AnswersUnlessMemory}
-use Rattle.p3_merkle_core.specs.{Refusals.refusal_under, Views.opening_borrowed}
+use Rattle.p3_merkle_core.specs.Extraction.{difference_of}
+use Rattle.p3_merkle_core.specs.Geometry.{shape_of}
+use Rattle.p3_merkle_core.specs.Refusals.{AnswersUnlessMemory, refusal_under}
+use Rattle.p3_merkle_core.specs.Views.{opening_borrowed}
 use Rattle.p3_merkle_core.proofs.Collisions.ExtractionFacts.{all_authenticated, extracted_alone}
 use Rattle.p3_merkle_verifier.specs.Inner.Collisions.{Shows}
 use Rattle.p3_merkle_mmcs.specs.Schemes.{params_of}

@@ -1,9 +1,13 @@
 -- What the answer means of the queries of both openings.
 use Rattle.std.proofs.Common.{length, subst}
-use Rattle.std.specs.{Prelude.IfOk, Option.option_or}
+use Rattle.std.specs.Prelude.{IfOk}
+use Rattle.std.specs.Option.{option_or}
 use Rattle.p3_support.specs.Shown.{roots_of}
-use Rattle.p3_merkle_core.specs.{Extraction.difference_of, Extraction.first_pair, Geometry.shape_of, Pruning.opening_at}
-use Rattle.p3_merkle_core.specs.{Refusals.AnswersUnlessMemory, Refusals.pruned_refusal_under, Views.pruned_borrowed}
+use Rattle.p3_merkle_core.specs.Extraction.{difference_of, first_pair}
+use Rattle.p3_merkle_core.specs.Geometry.{shape_of}
+use Rattle.p3_merkle_core.specs.Pruning.{opening_at}
+use Rattle.p3_merkle_core.specs.Refusals.{AnswersUnlessMemory, pruned_refusal_under}
+use Rattle.p3_merkle_core.specs.Views.{pruned_borrowed}
 use Rattle.p3_merkle_core.proofs.Collisions.ExtractionFacts.{all_authenticated, extracted_pair}
 use Rattle.p3_merkle_verifier.specs.Inner.QueryPairs.{ShowsPair}
 use Rattle.p3_merkle_mmcs.specs.Schemes.{params_of}

@@ -1,6 +1,7 @@
 -- What is opened is read out of the tree's layers.
 use Rattle.std.proofs.Common.{◌∙◌, [], ℕ, ap, arith}
-use Rattle.p3_merkle_core.specs.{Nodes.shape, Openings.node_in, Openings.opening_of, Openings.siblings_by}
+use Rattle.p3_merkle_core.specs.Nodes.{shape}
+use Rattle.p3_merkle_core.specs.Openings.{node_in, opening_of, siblings_by}
 use Rattle.p3_merkle_prover.specs.Parts.{layers_of, tree_batch}
 use Rattle.p3_merkle_mmcs.specs.Schemes.{cap_layer_of, functions_of}
 use Rattle.p3_merkle_mmcs.proofs.OpenedFacts.{is_opened}

@@ -1,7 +1,9 @@
 -- The answer is that of the checker's walk.
 use Rattle.std.proofs.Common.{◌∙◌}
 use Rattle.p3_support.specs.Shown.{roots_of}
-use Rattle.p3_merkle_core.specs.{Geometry.shape_of, Refusals.answer_under, Views.opening_borrowed}
+use Rattle.p3_merkle_core.specs.Geometry.{shape_of}
+use Rattle.p3_merkle_core.specs.Refusals.{answer_under}
+use Rattle.p3_merkle_core.specs.Views.{opening_borrowed}
 use Rattle.p3_merkle_mmcs.specs.Schemes.{params_of}
 use Rattle.p3_merkle_mmcs.proofs.VerdictFacts.{exact_verdict}
 use Rattle.p3_merkle_mmcs.proofs.mmcs.MerkleTreeMmcs+P+PW+H+C+N+D.verify_batch.Goals as goal

@@ -2,7 +2,8 @@
 use Rattle.std.proofs.Common.{◌∙◌, arith, inl, refl}
 use Rattle.std.proofs.lemmas.Result.{IfOk-from_err, err_from_is_err_and}
 use Rattle.p3_support.specs.Batches.{heights_of}
-use Rattle.p3_merkle_core.specs.{Geometry.shape_of, Geometry.IsArity, Pruning.pruned_len}
+use Rattle.p3_merkle_core.specs.Geometry.{shape_of, IsArity}
+use Rattle.p3_merkle_core.specs.Pruning.{pruned_len}
 use Rattle.p3_merkle_core.proofs.Covered.Sufficient.{count_least}
 use Rattle.p3_merkle_core.proofs.Shapes.GateFacts.{none_large_from_lawful, tallest_fits}
 use Rattle.p3_merkle_mmcs.specs.Schemes.{cap_layer_of}

@@ -1,5 +1,6 @@
 -- The path goes by the steps of the dimensions, to the scheme's own cap layer; lawful heights are within the limit.
-use Rattle.std.proofs.{Common.◌∙◌, Common.refl, lemmas.Result.IfOk-from_err}
+use Rattle.std.proofs.Common.{◌∙◌, refl}
+use Rattle.std.proofs.lemmas.Result.{IfOk-from_err}
 use Rattle.p3_support.specs.Batches.{heights_of}
 use Rattle.p3_merkle_core.specs.Geometry.{positions_below, schedule_below}
 use Rattle.p3_merkle_core.proofs.Shapes.GateFacts.{tallest_fits, none_large_from_lawful}

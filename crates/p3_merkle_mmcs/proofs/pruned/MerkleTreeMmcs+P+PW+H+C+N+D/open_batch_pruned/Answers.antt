@@ -1,6 +1,9 @@
 -- What is opened is read out of the tree's layers.
-use Rattle.std.proofs.{Common.◌∙◌, Common.[], Common.ℕ, Common.ap, Common.arith, lemmas.Result.IfOk-from_err}
-use Rattle.p3_merkle_core.specs.{Nodes.shape, Openings.node_in, Pruning.boundary_by, Pruning.pruned_of}
+use Rattle.std.proofs.Common.{◌∙◌, [], ℕ, ap, arith}
+use Rattle.std.proofs.lemmas.Result.{IfOk-from_err}
+use Rattle.p3_merkle_core.specs.Nodes.{shape}
+use Rattle.p3_merkle_core.specs.Openings.{node_in}
+use Rattle.p3_merkle_core.specs.Pruning.{boundary_by, pruned_of}
 use Rattle.p3_merkle_prover.specs.Parts.{layers_of, tree_batch}
 use Rattle.p3_merkle_mmcs.specs.Schemes.{cap_layer_of, functions_of}
 use Rattle.p3_merkle_mmcs.proofs.OpenedFacts.{is_pruned_opened}

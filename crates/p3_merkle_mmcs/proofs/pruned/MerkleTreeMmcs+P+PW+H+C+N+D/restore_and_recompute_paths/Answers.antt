@@ -1,8 +1,10 @@
 -- The paths are those of the checker's walk.
 use Rattle.std.proofs.Common.{subst}
 use Rattle.std.specs.Prelude.{◌≡◌, IfOk}
-use Rattle.p3_merkle_core.specs.{Geometry.shape_of, Pruning.restored_paths, Refusals.AnswersUnlessMemory}
-use Rattle.p3_merkle_core.specs.{Refusals.pruned_refusal, Views.pruned_borrowed, Views.shown_paths}
+use Rattle.p3_merkle_core.specs.Geometry.{shape_of}
+use Rattle.p3_merkle_core.specs.Pruning.{restored_paths}
+use Rattle.p3_merkle_core.specs.Refusals.{AnswersUnlessMemory, pruned_refusal}
+use Rattle.p3_merkle_core.specs.Views.{pruned_borrowed, shown_paths}
 use Rattle.p3_merkle_mmcs.specs.Schemes.{cap_layer_of}
 use Rattle.p3_merkle_mmcs.proofs.VerdictFacts.{restoring_verdict}
 use Rattle.p3_merkle_mmcs.proofs.pruned.MerkleTreeMmcs+P+PW+H+C+N+D.restore_and_recompute_paths.Goals as goal

@@ -1,7 +1,8 @@
 -- The answer is that of the checker's walk.
 use Rattle.std.proofs.Common.{subst}
 use Rattle.p3_support.specs.Shown.{roots_of}
-use Rattle.p3_merkle_core.specs.{Geometry.shape_of, Refusals.AnswersUnlessMemory, Refusals.pruned_refusal_under}
+use Rattle.p3_merkle_core.specs.Geometry.{shape_of}
+use Rattle.p3_merkle_core.specs.Refusals.{AnswersUnlessMemory, pruned_refusal_under}
 use Rattle.p3_merkle_core.specs.Views.{pruned_borrowed}
 use Rattle.p3_merkle_mmcs.specs.Schemes.{params_of}
 use Rattle.p3_merkle_mmcs.proofs.VerdictFacts.{pruned_verdict}

@@ -1,10 +1,14 @@
 -- What is opened is what the other call opens, in the words of the trait.
-use Rattle.std.proofs.{Common.◌∙◌, Common.List, Common.ap, Common.subst, lemmas.Result.IfOk-weaker}
+use Rattle.std.proofs.Common.{◌∙◌, List, ap, subst}
+use Rattle.std.proofs.lemmas.Result.{IfOk-weaker}
 use Rattle.p3_support.specs.declared.matrix.Dimensions.{Dimensions}
-use Rattle.p3_merkle_core.specs.{Checks.IsAccepted, Geometry.shape_of, Views.opening_made}
+use Rattle.p3_merkle_core.specs.Checks.{IsAccepted}
+use Rattle.p3_merkle_core.specs.Geometry.{shape_of}
+use Rattle.p3_merkle_core.specs.Views.{opening_made}
 use Rattle.p3_merkle_core.proofs.Lists.ViewFacts.{dimensions_are}
 use Rattle.p3_merkle_prover.specs.Parts.{matrices_of}
-use Rattle.p3_merkle_mmcs.specs.{Inner.CommitmentLaws.rows_are, Schemes.params_of}
+use Rattle.p3_merkle_mmcs.specs.Inner.CommitmentLaws.{rows_are}
+use Rattle.p3_merkle_mmcs.specs.Schemes.{params_of}
 use Rattle.p3_merkle_mmcs.proofs.scheme_trait.MerkleTreeMmcsMmcsValue.open_batch.Goals as goal
 
 pub returns-clause-rows : goal.returns-clause-rows

@@ -1,10 +1,14 @@
 -- What is opened is what the other call opens, in the words of the trait.
-use Rattle.std.proofs.{Common.◌∙◌, Common.List, Common.ap, Common.subst, lemmas.Result.IfOk-weaker}
+use Rattle.std.proofs.Common.{◌∙◌, List, ap, subst}
+use Rattle.std.proofs.lemmas.Result.{IfOk-weaker}
 use Rattle.p3_support.specs.declared.matrix.Dimensions.{Dimensions}
-use Rattle.p3_merkle_core.specs.{Geometry.shape_of, Pruning.IsPrunedAccepted, Views.multi_made}
+use Rattle.p3_merkle_core.specs.Geometry.{shape_of}
+use Rattle.p3_merkle_core.specs.Pruning.{IsPrunedAccepted}
+use Rattle.p3_merkle_core.specs.Views.{multi_made}
 use Rattle.p3_merkle_core.proofs.Lists.ViewFacts.{dimensions_are}
 use Rattle.p3_merkle_prover.specs.Parts.{matrices_of}
-use Rattle.p3_merkle_mmcs.specs.{Inner.CommitmentLaws.sets_are, Schemes.params_of}
+use Rattle.p3_merkle_mmcs.specs.Inner.CommitmentLaws.{sets_are}
+use Rattle.p3_merkle_mmcs.specs.Schemes.{params_of}
 use Rattle.p3_merkle_mmcs.proofs.scheme_trait.MerkleTreeMmcsMmcsValue.open_multi_batch.Goals as goal
 
 pub returns-clause-rows : goal.returns-clause-rows

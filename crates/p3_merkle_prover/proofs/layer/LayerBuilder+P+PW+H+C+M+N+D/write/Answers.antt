@@ -1,6 +1,8 @@
 -- The nodes are written, and the padding slots stay.
 use Rattle.std.proofs.Common.{arith, ◌+◌, ◌-◌, ◌≤◌, length, refl, replicate}
-use Rattle.std.proofs.lemmas.{Bool.le-ltb, List.length-take-le, Result.IfOk-weaker}
+use Rattle.std.proofs.lemmas.Bool.{le-ltb}
+use Rattle.std.proofs.lemmas.List.{length-take-le}
+use Rattle.std.proofs.lemmas.Result.{IfOk-weaker}
 use Rattle.p3_merkle_digests.proofs.StageFacts.{all_written, none_written, some_written, IsWritten}
 use Rattle.p3_merkle_prover.specs.Inner.Slots.{slot_of}
 use Rattle.p3_merkle_prover.proofs.layer.LayerBuilder+P+PW+H+C+M+N+D.write.Goals as goal

@@ -1,7 +1,8 @@
 -- Each slot is a node.
 use Rattle.std.proofs.Common.{rules, arith, ℕ, ◌≡◌, ◌+◌, ◌∙◌, [], ap, drop, length, map, All, replicate, slice_index_or}
-use Rattle.std.proofs.lemmas.List.{take_at, FromFn.fill_by_all, FromFn.get_or-map-range_with_len}
-use Rattle.std.proofs.lemmas.{List.FromFn.length-map-range_with_len, Result.IfOk-weaker}
+use Rattle.std.proofs.lemmas.List.{take_at}
+use Rattle.std.proofs.lemmas.List.FromFn.{fill_by_all, get_or-map-range_with_len, length-map-range_with_len}
+use Rattle.std.proofs.lemmas.Result.{IfOk-weaker}
 use Rattle.std.specs.List.{range_with_len}
 use Rattle.p3_merkle_prover.specs.Inner.Slots.{functions_in, leaf_in, slot_of}
 use Rattle.p3_merkle_prover.proofs.NodeFacts.{children_from, node_alone, node_with}

@@ -1,8 +1,10 @@
-use Rattle.std.proofs.{Common.◌≡◌, Common.◌∙◌, Common.arith, lemmas.List.map-append}
+use Rattle.std.proofs.Common.{◌≡◌, ◌∙◌, arith}
+use Rattle.std.proofs.lemmas.List.{map-append}
 use Rattle.p3_merkle_core.specs.Geometry.{levels, shape_of}
 use Rattle.p3_merkle_prover.specs.Inner.Slots.{batch_for, functions_for}
 use Rattle.p3_merkle_prover.proofs.BuildFacts.{below_top, built_all, built_first, built_more, can_raise, layers_long}
-use Rattle.p3_merkle_prover.proofs.{BuildFacts.slots_are, BuildFacts.CanRaise, LayerFacts.layer_next}
+use Rattle.p3_merkle_prover.proofs.BuildFacts.{slots_are, CanRaise}
+use Rattle.p3_merkle_prover.proofs.LayerFacts.{layer_next}
 use Rattle.p3_merkle_prover.proofs.layers.TreeBuilder+P+PW+H+C+M+N+D.layers.Goals as goal
 
 pub loop-below-init : goal.loop-below-init

@@ -1,6 +1,7 @@
 -- The leaves are over the tallest matrices alone.
 use Rattle.std.proofs.Common.{◌≡◌, ◌∙◌, ◌+◌, ℕ, ap, arith, drop, length, map, refl}
-use Rattle.std.proofs.lemmas.List.{take_at, FromFn.length-map-range_with_len}
+use Rattle.std.proofs.lemmas.List.{take_at}
+use Rattle.std.proofs.lemmas.List.FromFn.{length-map-range_with_len}
 use Rattle.std.specs.List.{range_with_len}
 use Rattle.p3_support.specs.Lists.{rows_of_height}
 use Rattle.p3_merkle_core.specs.Geometry.{padded_len}

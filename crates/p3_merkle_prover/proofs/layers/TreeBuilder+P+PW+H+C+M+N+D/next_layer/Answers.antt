@@ -1,10 +1,12 @@
 -- The nodes are over the matrices of the height alone.
 use Rattle.std.proofs.Common.{◌≡◌, ◌∙◌, ℕ, ap, arith, drop, length, map, refl}
-use Rattle.std.proofs.lemmas.List.{take_at, FromFn.length-map-range_with_len}
+use Rattle.std.proofs.lemmas.List.{take_at}
+use Rattle.std.proofs.lemmas.List.FromFn.{length-map-range_with_len}
 use Rattle.std.specs.List.{range_with_len}
 use Rattle.p3_support.specs.Lists.{rows_of_height}
 use Rattle.p3_merkle_digests.specs.Inner.Slots.{leaf_over, rows_over}
-use Rattle.p3_merkle_prover.specs.Inner.{Levels.slot_above, Slots.functions_for}
+use Rattle.p3_merkle_prover.specs.Inner.Levels.{slot_above}
+use Rattle.p3_merkle_prover.specs.Inner.Slots.{functions_for}
 use Rattle.p3_merkle_prover.proofs.LayerFacts.{picked_high, rows_picked, same_made}
 use Rattle.p3_merkle_prover.proofs.layers.TreeBuilder+P+PW+H+C+M+N+D.next_layer.Goals as goal
 

@@ -1,6 +1,8 @@
 -- The copy has the facts of the tree.
 use Rattle.std.proofs.Common.{ap, subst, sym, ◌∙◌, map}
-use Rattle.p3_merkle_core.specs.{Geometry.heights, Geometry.IsLawful, Views.batch_of, Nodes.Batch, Nodes.shape}
+use Rattle.p3_merkle_core.specs.Geometry.{heights, IsLawful}
+use Rattle.p3_merkle_core.specs.Views.{batch_of}
+use Rattle.p3_merkle_core.specs.Nodes.{Batch, shape}
 use Rattle.p3_merkle_prover.specs.Parts.{tree_batch}
 use Rattle.p3_merkle_prover.proofs.TreeFacts.{same_batch, same_lengths}
 use Rattle.p3_merkle_prover.proofs.tree.MerkleTree+F+W+M+N+D.clone.Goals as goal

@@ -1,7 +1,8 @@
 -- The last layer has one node.
 use Rattle.std.proofs.Common.{arith, ◌≡◌, ◌-◌, ◌∙◌, ap, length, sym, ◌∷◌, []}
 use Rattle.std.specs.Prelude.{Some}
-use Rattle.p3_merkle_core.specs.{Geometry.levels, Nodes.shape}
+use Rattle.p3_merkle_core.specs.Geometry.{levels}
+use Rattle.p3_merkle_core.specs.Nodes.{shape}
 use Rattle.p3_merkle_prover.specs.Parts.{tree_batch}
 use Rattle.p3_merkle_prover.proofs.TreeFacts.{layers_count, layer_long, layer_read, top_len}
 use Rattle.p3_merkle_digests.proofs.LaneFacts.{one_element}

@@ -1,10 +1,14 @@
 -- The plain commitment to the pairs is that to the salted matrices.
 use Rattle.std.proofs.Common.{◌≡◌, ◌∙◌, List, None, ap, map, refl, rules, subst, sym}
 use Rattle.std.proofs.lemmas.Result.{IfOk-from_err, IfOk-weaker}
-use Rattle.p3_support.specs.{Pairs.left_of, Batches.dimensions_in, declared.matrix.Dimensions.Dimensions}
-use Rattle.p3_merkle_core.specs.{Views.matrix_of, Refusals.AnswersUnlessMemory}
+use Rattle.p3_support.specs.Pairs.{left_of}
+use Rattle.p3_support.specs.Batches.{dimensions_in}
+use Rattle.p3_support.specs.declared.matrix.Dimensions.{Dimensions}
+use Rattle.p3_merkle_core.specs.Views.{matrix_of}
+use Rattle.p3_merkle_core.specs.Refusals.{AnswersUnlessMemory}
 use Rattle.p3_merkle_core.specs.Nodes.{Batch, Matrix}
-use Rattle.p3_merkle_tree.specs.{SaltRefusals.salted_commit_refusal, SaltedTrees.HaveSaltColumns}
+use Rattle.p3_merkle_tree.specs.SaltRefusals.{salted_commit_refusal}
+use Rattle.p3_merkle_tree.specs.SaltedTrees.{HaveSaltColumns}
 use Rattle.p3_merkle_tree.specs.Inner.SaltedParts.{pair_matrix}
 use Rattle.p3_merkle_core.proofs.Lists.ViewFacts.{dimensions_are}
 use Rattle.p3_merkle_mmcs.proofs.CommitmentFacts.{memory_alone}

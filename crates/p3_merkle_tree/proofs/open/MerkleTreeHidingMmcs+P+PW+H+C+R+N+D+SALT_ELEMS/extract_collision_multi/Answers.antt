@@ -1,12 +1,16 @@
 -- Each refusal in its order; else the plain extraction from rows followed by their salts.
 use Rattle.std.proofs.Common.{◌≡◌, ◌∙◌, ◌⊎◌, ℕ, List, Option, ap, rules, subst, sym, Some}
-use Rattle.std.specs.{Prelude.Err, Option.unwrap_or}
+use Rattle.std.specs.Prelude.{Err}
+use Rattle.std.specs.Option.{unwrap_or}
 use Rattle.p3_support.specs.Shown.{roots_of, row_sets}
-use Rattle.p3_merkle_core.specs.{Pruning.pruned_of, Refusals.AnswersUnlessMemory, Views.inputs_in}
-use Rattle.p3_merkle_core.specs.Views.{found_pair, pruned_borrowed}
+use Rattle.p3_merkle_core.specs.Pruning.{pruned_of}
+use Rattle.p3_merkle_core.specs.Refusals.{AnswersUnlessMemory}
+use Rattle.p3_merkle_core.specs.Views.{inputs_in, found_pair, pruned_borrowed}
 use Rattle.p3_merkle_core.specs.declared.collision.InputPair.{InputPair}
-use Rattle.p3_merkle_core.specs.declared.error.MerkleTreeError.{MerkleTreeError, TheVariants.OutOfMemory}
-use Rattle.p3_merkle_tree.specs.{HidingSchemes.salted_pruned_borrowed, SaltRefusals.salted_sets_refusal}
+use Rattle.p3_merkle_core.specs.declared.error.MerkleTreeError.{MerkleTreeError}
+use Rattle.p3_merkle_core.specs.declared.error.MerkleTreeError.TheVariants.{OutOfMemory}
+use Rattle.p3_merkle_tree.specs.HidingSchemes.{salted_pruned_borrowed}
+use Rattle.p3_merkle_tree.specs.SaltRefusals.{salted_sets_refusal}
 use Rattle.p3_merkle_tree.specs.SaltedOpenings.{salted_sets}
 use Rattle.p3_merkle_tree.proofs.ExtractedFacts.{both_joined, first_refused, second_refused, several}
 use Rattle.p3_merkle_tree.proofs.SaltedExtractionFacts.{salted_pruned_told}

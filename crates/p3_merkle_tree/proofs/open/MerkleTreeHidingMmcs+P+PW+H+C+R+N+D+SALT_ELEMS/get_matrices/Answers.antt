@@ -1,5 +1,6 @@
 -- Each turn adds one more left matrix; the pairs are the matrices of the tree.
-use Rattle.std.proofs.{Common.◌∙◌, Common.ap, Common.map, Common.sym, lemmas.Simd.map-map}
+use Rattle.std.proofs.Common.{◌∙◌, ap, map, sym}
+use Rattle.std.proofs.lemmas.Simd.{map-map}
 use Rattle.p3_support.specs.Pairs.{left_of}
 use Rattle.p3_merkle_tree.proofs.LoopFacts.{made_all, shown_more}
 use Rattle.p3_merkle_tree.proofs.open.MerkleTreeHidingMmcs+P+PW+H+C+R+N+D+SALT_ELEMS.get_matrices.Goals as goal

@@ -1,10 +1,13 @@
 -- Each row is taken apart where its left matrix ends; what is accepted with its salts joined is accepted.
 use Rattle.std.proofs.Common.{◌∙◌, List, ap, map, subst, sym}
-use Rattle.p3_merkle_core.specs.{Checks.IsAccepted, Geometry.shape_of, Nodes.shape}
+use Rattle.p3_merkle_core.specs.Checks.{IsAccepted}
+use Rattle.p3_merkle_core.specs.Geometry.{shape_of}
+use Rattle.p3_merkle_core.specs.Nodes.{shape}
 use Rattle.p3_merkle_core.specs.Openings.{Opening, opening_of}
 use Rattle.p3_merkle_prover.specs.Parts.{matrices_of, tree_batch}
 use Rattle.p3_merkle_mmcs.specs.Schemes.{params_of}
-use Rattle.p3_support.specs.{Shown.row_lists, declared.matrix.Dimensions.Dimensions}
+use Rattle.p3_support.specs.Shown.{row_lists}
+use Rattle.p3_support.specs.declared.matrix.Dimensions.{Dimensions}
 use Rattle.p3_merkle_tree.proofs.SplitFacts.{left_is, right_is, salted_from}
 use Rattle.p3_merkle_tree.specs.HidingSchemes.{plain_of, salted_made}
 use Rattle.p3_merkle_tree.specs.Inner.SaltedParts.{left_widths, salt_parts, unsalted_parts}

@@ -1,6 +1,7 @@
 -- Each row is taken apart where its left matrix ends; what is accepted with its salts joined is accepted.
 use Rattle.std.proofs.Common.{◌∙◌, List, ap, map, subst}
-use Rattle.p3_merkle_core.specs.{Geometry.shape_of, Nodes.shape}
+use Rattle.p3_merkle_core.specs.Geometry.{shape_of}
+use Rattle.p3_merkle_core.specs.Nodes.{shape}
 use Rattle.p3_merkle_core.specs.Pruning.{IsPrunedAccepted, PrunedOpening, pruned_of}
 use Rattle.p3_merkle_prover.specs.Parts.{matrices_of, tree_batch}
 use Rattle.p3_merkle_mmcs.specs.Schemes.{params_of}

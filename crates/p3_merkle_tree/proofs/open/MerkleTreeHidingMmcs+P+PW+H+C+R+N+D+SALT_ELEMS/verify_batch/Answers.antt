@@ -1,9 +1,12 @@
 -- Rows followed by their salts are answered by the plain check; the answer says what is accepted.
 use Rattle.std.proofs.Common.{◌∙◌, ap, rules, subst, sym}
 use Rattle.p3_support.specs.Shown.{roots_of, row_lists}
-use Rattle.p3_merkle_core.specs.{Openings.opening_of, Refusals.AnswersUnlessMemory, Views.opening_borrowed}
+use Rattle.p3_merkle_core.specs.Openings.{opening_of}
+use Rattle.p3_merkle_core.specs.Refusals.{AnswersUnlessMemory}
+use Rattle.p3_merkle_core.specs.Views.{opening_borrowed}
 use Rattle.p3_merkle_mmcs.proofs.CommitmentFacts.{answers_by_definition}
-use Rattle.p3_merkle_tree.specs.{HidingSchemes.salted_borrowed, SaltRefusals.salted_rows_refusal}
+use Rattle.p3_merkle_tree.specs.HidingSchemes.{salted_borrowed}
+use Rattle.p3_merkle_tree.specs.SaltRefusals.{salted_rows_refusal}
 use Rattle.p3_merkle_tree.specs.SaltedOpenings.{salted_rows}
 use Rattle.p3_merkle_tree.proofs.ExtractedFacts.{one_index, verdict_joined, verdict_refused}
 use Rattle.p3_merkle_tree.proofs.open.MerkleTreeHidingMmcs+P+PW+H+C+R+N+D+SALT_ELEMS.verify_batch.Goals as goal

@@ -1,8 +1,11 @@
 -- Rows followed by their salts are answered by the plain check; the answer says what is accepted.
 use Rattle.std.proofs.Common.{◌∙◌, ap, rules, subst, sym}
 use Rattle.p3_support.specs.Shown.{roots_of, row_sets}
-use Rattle.p3_merkle_core.specs.{Pruning.pruned_of, Refusals.AnswersUnlessMemory, Views.pruned_borrowed}
-use Rattle.p3_merkle_tree.specs.{HidingSchemes.salted_pruned_borrowed, SaltRefusals.salted_sets_refusal}
+use Rattle.p3_merkle_core.specs.Pruning.{pruned_of}
+use Rattle.p3_merkle_core.specs.Refusals.{AnswersUnlessMemory}
+use Rattle.p3_merkle_core.specs.Views.{pruned_borrowed}
+use Rattle.p3_merkle_tree.specs.HidingSchemes.{salted_pruned_borrowed}
+use Rattle.p3_merkle_tree.specs.SaltRefusals.{salted_sets_refusal}
 use Rattle.p3_merkle_tree.specs.SaltedOpenings.{salted_sets}
 use Rattle.p3_merkle_tree.proofs.ExtractedFacts.{several, verdict_joined, verdict_refused}
 use Rattle.p3_merkle_tree.proofs.open.MerkleTreeHidingMmcs+P+PW+H+C+R+N+D+SALT_ELEMS.verify_multi_batch.Goals as goal

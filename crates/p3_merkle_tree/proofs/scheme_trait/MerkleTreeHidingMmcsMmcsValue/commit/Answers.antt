@@ -2,7 +2,8 @@
 use Rattle.std.proofs.Common.{◌≡◌, List, subst}
 use Rattle.p3_support.specs.declared.matrix.Dimensions.{Dimensions}
 use Rattle.p3_merkle_core.proofs.Lists.ViewFacts.{dimensions_are}
-use Rattle.p3_merkle_core.specs.{Refusals.AnswersUnlessMemory, declared.error.MerkleTreeError.TheVariants.OutOfMemory}
+use Rattle.p3_merkle_core.specs.Refusals.{AnswersUnlessMemory}
+use Rattle.p3_merkle_core.specs.declared.error.MerkleTreeError.TheVariants.{OutOfMemory}
 use Rattle.p3_merkle_tree.specs.SaltRefusals.{salted_commit_refusal}
 use Rattle.p3_merkle_tree.proofs.SaltedCommitmentFacts.{can_when_ok, memory_when_can}
 use Rattle.p3_merkle_tree.proofs.SchemeFacts.{untouched_scheme}

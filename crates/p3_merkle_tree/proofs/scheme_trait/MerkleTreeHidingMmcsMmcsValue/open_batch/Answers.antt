@@ -1,12 +1,15 @@
 -- What is opened is what the other call opens, in the words of the trait.
-use Rattle.std.proofs.{Common.◌∙◌, Common.List, Common.map, Common.subst, lemmas.Result.IfOk-weaker}
+use Rattle.std.proofs.Common.{◌∙◌, List, map, subst}
+use Rattle.std.proofs.lemmas.Result.{IfOk-weaker}
 use Rattle.std.specs.Prelude.{◌<◌, ℕ}
-use Rattle.p3_support.specs.{Pairs.left_of, declared.matrix.Dimensions.Dimensions}
+use Rattle.p3_support.specs.Pairs.{left_of}
+use Rattle.p3_support.specs.declared.matrix.Dimensions.{Dimensions}
 use Rattle.p3_merkle_prover.specs.Parts.{matrices_of}
 use Rattle.p3_merkle_mmcs.specs.Inner.CommitmentLaws.{greatest_is, rows_are}
 use Rattle.p3_merkle_core.proofs.Lists.ViewFacts.{dimensions_are}
 use Rattle.p3_merkle_tree.specs.HidingSchemes.{salted_made, salted_params_of}
-use Rattle.p3_merkle_tree.specs.{Inner.SaltedCommitmentLaws.left_lawful, SaltedOpenings.IsSaltedAccepted}
+use Rattle.p3_merkle_tree.specs.Inner.SaltedCommitmentLaws.{left_lawful}
+use Rattle.p3_merkle_tree.specs.SaltedOpenings.{IsSaltedAccepted}
 use Rattle.p3_merkle_tree.proofs.scheme_trait.MerkleTreeHidingMmcsMmcsValue.open_batch.Goals as goal
 
 pub returns-clause-rows : goal.returns-clause-rows

@@ -1,5 +1,6 @@
 -- The first opening's refusal, else the second's, else the last difference.
-use Rattle.std.proofs.{Common.inr, lemmas.Result.err_from_is_err_and}
+use Rattle.std.proofs.Common.{inr}
+use Rattle.std.proofs.lemmas.Result.{err_from_is_err_and}
 use Rattle.p3_merkle_verifier.specs.Inner.Checks.{opening_in, params_in}
 use Rattle.p3_merkle_verifier.proofs.ExtractFacts.{both_taken, first_refused, second_refused}
 use Rattle.p3_merkle_verifier.proofs.extraction.Checker+P+PW+H+C+array+N+array+D+PW+Value+N+D.extraction.Goals as goal

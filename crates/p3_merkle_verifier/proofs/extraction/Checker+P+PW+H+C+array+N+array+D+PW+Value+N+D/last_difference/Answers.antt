@@ -1,9 +1,11 @@
 -- Each turn is one level of both checks.
 use Rattle.std.proofs.Common.{◌≡◌, add-one, ap, arith, zip}
 use Rattle.p3_support.specs.Batches.{heights_of}
-use Rattle.p3_merkle_core.specs.{Checks.words_of_exponent, Extraction.input_eq}
+use Rattle.p3_merkle_core.specs.Checks.{words_of_exponent}
+use Rattle.p3_merkle_core.specs.Extraction.{input_eq}
 use Rattle.p3_merkle_verifier.specs.Inner.Checks.{functions_of, opening_in, shape_in}
-use Rattle.p3_merkle_verifier.proofs.{SharedFacts.difference_shared, WalkFacts.found_next}
+use Rattle.p3_merkle_verifier.proofs.SharedFacts.{difference_shared}
+use Rattle.p3_merkle_verifier.proofs.WalkFacts.{found_next}
 use Rattle.p3_merkle_verifier.proofs.extraction.Checker+P+PW+H+C+array+N+array+D+PW+Value+N+D.last_difference.Goals as goal
 
 pub loop-level-preserved : goal.loop-level-preserved

@@ -1,9 +1,12 @@
 -- The rows of both openings are read side by side.
-use Rattle.std.proofs.{Common.◌≡◌, Common.ap, Common.refl, Common.zip, lemmas.Iterator.Consumers.YieldsList-from_first}
+use Rattle.std.proofs.Common.{◌≡◌, ap, refl, zip}
+use Rattle.std.proofs.lemmas.Iterator.Consumers.{YieldsList-from_first}
 use Rattle.std.specs.Cmp.Lexicographic.{pointwise}
-use Rattle.p3_support.specs.{Batches.heights_of, Shown.row_lists}
+use Rattle.p3_support.specs.Batches.{heights_of}
+use Rattle.p3_support.specs.Shown.{row_lists}
 use Rattle.p3_merkle_verifier.specs.Inner.Collisions.{first_rows, second_rows}
-use Rattle.p3_merkle_verifier.specs.{Inner.Paths.rows_of_exponent, declared.openings.OpenedRows.OpenedRows}
+use Rattle.p3_merkle_verifier.specs.Inner.Paths.{rows_of_exponent}
+use Rattle.p3_merkle_verifier.specs.declared.openings.OpenedRows.{OpenedRows}
 use Rattle.p3_merkle_verifier.proofs.EqualRuns.{eq_from_yields_List}
 use Rattle.p3_merkle_verifier.proofs.extraction.RowPair.agree.Goals as goal
 

@@ -1,7 +1,9 @@
 -- A row has its matrix's width.
-use Rattle.std.proofs.{Common.◌∙◌, Common.ap, Common.get_or, Common.sym, lemmas.Option.slice_get_read}
+use Rattle.std.proofs.Common.{◌∙◌, ap, get_or, sym}
+use Rattle.std.proofs.lemmas.Option.{slice_get_read}
 use Rattle.p3_support.specs.Shown.{row_sets}
-use Rattle.p3_merkle_verifier.specs.Inner.{OpenedMatrices.row_in, OpenedRows.length-opened_row}
+use Rattle.p3_merkle_verifier.specs.Inner.OpenedMatrices.{row_in}
+use Rattle.p3_merkle_verifier.specs.Inner.OpenedRows.{length-opened_row}
 use Rattle.p3_merkle_verifier.proofs.openings.OpenedMatrixMatrix.get.Goals as goal
 
 pub returns : goal.returns

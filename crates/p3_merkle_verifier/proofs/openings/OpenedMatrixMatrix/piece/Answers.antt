@@ -3,7 +3,8 @@ use Rattle.std.proofs.Common.{arith, ◌-◌, drop, length, length-drop, refl, t
 use Rattle.std.proofs.lemmas.List.{length-take-le}
 use Rattle.p3_support.proofs.RowReads.{piece_made}
 use Rattle.p3_support.specs.Shown.{row_sets}
-use Rattle.p3_merkle_verifier.specs.Inner.{OpenedMatrices.row_in, OpenedRows.length-opened_row}
+use Rattle.p3_merkle_verifier.specs.Inner.OpenedMatrices.{row_in}
+use Rattle.p3_merkle_verifier.specs.Inner.OpenedRows.{length-opened_row}
 use Rattle.p3_merkle_verifier.proofs.openings.OpenedMatrixMatrix.piece.Goals as goal
 
 pub returns : goal.returns

@@ -1,7 +1,9 @@
 -- The leaf's rows are hashed.
 use Rattle.std.proofs.Common.{◌∙◌, ap, sym, zip}
-use Rattle.p3_merkle_core.specs.{Checks.words_of_exponent, Geometry.heights}
-use Rattle.p3_merkle_core.proofs.{Checks.Completeness.reached_leaf, Shapes.SiblingFacts.siblings_start}
+use Rattle.p3_merkle_core.specs.Checks.{words_of_exponent}
+use Rattle.p3_merkle_core.specs.Geometry.{heights}
+use Rattle.p3_merkle_core.proofs.Checks.Completeness.{reached_leaf}
+use Rattle.p3_merkle_core.proofs.Shapes.SiblingFacts.{siblings_start}
 use Rattle.p3_merkle_core.proofs.Shapes.StepFacts.{anc_start}
 use Rattle.p3_merkle_verifier.specs.Inner.Checks.{functions_of, opening_in, shape_in}
 use Rattle.p3_merkle_verifier.proofs.path.Checker+P+PW+H+C+array+N+array+D+PW+Value+N+D.start.Goals as goal

@@ -2,8 +2,11 @@
 use Rattle.std.proofs.Common.{◌∙◌, [], ap, length, replicate, sym}
 use Rattle.std.proofs.lemmas.List.{length-map, length-replicate}
 use Rattle.p3_support.specs.Shown.{row_lists, row_sets}
-use Rattle.p3_merkle_core.specs.{Geometry.heights, Inner.Agreement.opened_with, Refusals.ok_unless}
-use Rattle.p3_merkle_core.proofs.Pruned.{Answered.restorable, PrunedFacts.asked_of}
+use Rattle.p3_merkle_core.specs.Geometry.{heights}
+use Rattle.p3_merkle_core.specs.Inner.Agreement.{opened_with}
+use Rattle.p3_merkle_core.specs.Refusals.{ok_unless}
+use Rattle.p3_merkle_core.proofs.Pruned.Answered.{restorable}
+use Rattle.p3_merkle_core.proofs.Pruned.PrunedFacts.{asked_of}
 use Rattle.p3_merkle_core.proofs.Shapes.GateFacts.{none_large_from_lawful, tallest_fits}
 use Rattle.p3_merkle_verifier.specs.Inner.Checks.{shape_in}
 use Rattle.p3_merkle_verifier.proofs.LayerFacts.{agreed_with}

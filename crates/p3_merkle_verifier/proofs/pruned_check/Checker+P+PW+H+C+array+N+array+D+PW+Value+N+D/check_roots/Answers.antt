@@ -1,7 +1,9 @@
 -- The digests of the cap's layer are compared with the roots.
 use Rattle.std.proofs.Common.{inr}
-use Rattle.p3_merkle_verifier.specs.Inner.{Checks.functions_of, RestoredLevels.opened_by}
-use Rattle.p3_merkle_verifier.proofs.{LayerFacts.covers, RootFacts.cap_settled}
+use Rattle.p3_merkle_verifier.specs.Inner.Checks.{functions_of}
+use Rattle.p3_merkle_verifier.specs.Inner.RestoredLevels.{opened_by}
+use Rattle.p3_merkle_verifier.proofs.LayerFacts.{covers}
+use Rattle.p3_merkle_verifier.proofs.RootFacts.{cap_settled}
 use Rattle.p3_merkle_verifier.proofs.pruned_check.Checker+P+PW+H+C+array+N+array+D+PW+Value+N+D.check_roots.Goals as goal
 
 pub returns-then-not-are_entries : goal.returns-then-not-are_entries

@@ -1,7 +1,8 @@
 -- The groups that are compressed are the children with default digests.
 use Rattle.std.proofs.Common.{rules, ◌≡◌, ◌∙◌, ◌*◌, ◌/◌, ◌≤◌, ap, arith, drop, length, replicate}
 use Rattle.std.proofs.Math.Nat.{div-mul-le_self, mul_comm}
-use Rattle.std.proofs.lemmas.List.{take_at, FromFn.length-map-range_with_len}
+use Rattle.std.proofs.lemmas.List.{take_at}
+use Rattle.std.proofs.lemmas.List.FromFn.{length-map-range_with_len}
 use Rattle.p3_merkle_verifier.specs.Inner.NodeDigests.{group_digest}
 use Rattle.p3_merkle_verifier.proofs.GroupFacts.{groups_compressed}
 use Rattle.p3_merkle_verifier.proofs.pruned_check.Checker+P+PW+H+C+array+N+array+D+PW+Value+N+D.group_digests.Goals as goal

@@ -1,8 +1,12 @@
 -- The leaves have the digests of their rows, and other nodes those of their groups, with their rows.
 use Rattle.std.proofs.Common.{◌≡◌, ◌∙◌, ◌<◌, [], ap, arith, drop, length, map, sym, take, zip, ◌++◌}
-use Rattle.std.proofs.lemmas.{Bool.true≢false, List.length-map, List.take_at, Result.IfOk-weaker}
-use Rattle.p3_merkle_core.specs.{Inner.Covered.covered_at, Pruning.words_under}
-use Rattle.p3_merkle_verifier.specs.Inner.{Checks.functions_of, NodeDigests.pair_digest}
+use Rattle.std.proofs.lemmas.Bool.{true≢false}
+use Rattle.std.proofs.lemmas.List.{length-map, take_at}
+use Rattle.std.proofs.lemmas.Result.{IfOk-weaker}
+use Rattle.p3_merkle_core.specs.Inner.Covered.{covered_at}
+use Rattle.p3_merkle_core.specs.Pruning.{words_under}
+use Rattle.p3_merkle_verifier.specs.Inner.Checks.{functions_of}
+use Rattle.p3_merkle_verifier.specs.Inner.NodeDigests.{pair_digest}
 use Rattle.p3_merkle_verifier.specs.Inner.RestoredLevels.{opened_by, tree_of}
 use Rattle.p3_merkle_verifier.proofs.GroupFacts.{pairs_injected}
 use Rattle.p3_merkle_verifier.proofs.LayerFacts.{covers, digests_long, leaves_restored, restored_at}

@@ -1,7 +1,8 @@
 -- Each turn is one layer more.
 use Rattle.std.proofs.Common.{◌∙◌, ◌++◌, ◌∷◌, [], List, ap}
 use Rattle.p3_merkle_core.specs.declared.pruning.CoveredLayer.{CoveredLayer}
-use Rattle.p3_merkle_verifier.proofs.{LayerFacts.layer_rises, PathFacts.layers_more, PathFacts.layers_start}
+use Rattle.p3_merkle_verifier.proofs.LayerFacts.{layer_rises}
+use Rattle.p3_merkle_verifier.proofs.PathFacts.{layers_more, layers_start}
 use Rattle.p3_merkle_verifier.proofs.pruned_check.Checker+P+PW+H+C+array+N+array+D+PW+Value+N+D.restored_layers.Goals as goal
 
 pub loop-level-init : goal.loop-level-init

@@ -1,13 +1,18 @@
 -- The rows that are hashed are those of the queries.
 use Rattle.std.proofs.Common.{◌≡◌, ◌∙◌, ℕ, ◌+◌, ◌<◌, [], ap, arith, drop, get_or, length, map}
-use Rattle.std.proofs.lemmas.List.{take_at, FromFn.length-map-range_with_len}
+use Rattle.std.proofs.lemmas.List.{take_at}
+use Rattle.std.proofs.lemmas.List.FromFn.{length-map-range_with_len}
 use Rattle.std.specs.List.{range_with_len}
-use Rattle.p3_support.specs.{Batches.heights_of, Shown.row_sets}
+use Rattle.p3_support.specs.Batches.{heights_of}
+use Rattle.p3_support.specs.Shown.{row_sets}
 use Rattle.p3_merkle_core.specs.Geometry.{heights}
 use Rattle.p3_merkle_digests.specs.Inner.Slots.{rows_over}
-use Rattle.p3_merkle_verifier.specs.Inner.{Checks.functions_of, NodeDigests.query_digest, OpenedMatrices.row_in}
+use Rattle.p3_merkle_verifier.specs.Inner.Checks.{functions_of}
+use Rattle.p3_merkle_verifier.specs.Inner.NodeDigests.{query_digest}
+use Rattle.p3_merkle_verifier.specs.Inner.OpenedMatrices.{row_in}
 use Rattle.p3_merkle_verifier.specs.Inner.RestoredLevels.{opened_by, tree_of}
-use Rattle.p3_merkle_verifier.proofs.{LayerFacts.agreed_with, LayerFacts.rows_of_queries, OpenedFacts.by_places}
+use Rattle.p3_merkle_verifier.proofs.LayerFacts.{agreed_with, rows_of_queries}
+use Rattle.p3_merkle_verifier.proofs.OpenedFacts.{by_places}
 use Rattle.p3_merkle_verifier.proofs.pruned_check.Checker+P+PW+H+C+array+N+array+D+PW+Value+N+D.row_digests.Goals as goal
 
 pub returns : goal.returns

@@ -1,12 +1,15 @@
 -- The refusal is that of the form, else of the cap; what is restored of an opening that is accepted can be compared.
 use Rattle.std.proofs.Common.{◌∙◌, Err, Ok, refl, subst}
-use Rattle.p3_merkle_core.specs.{Checks.params, Geometry.shape_of, Inner.Agreement.AreDistinctOf}
-use Rattle.p3_merkle_core.specs.{Pruning.restored_paths, declared.steps.Steps.Steps}
+use Rattle.p3_merkle_core.specs.Checks.{params}
+use Rattle.p3_merkle_core.specs.Geometry.{shape_of}
+use Rattle.p3_merkle_core.specs.Inner.Agreement.{AreDistinctOf}
+use Rattle.p3_merkle_core.specs.Pruning.{restored_paths}
+use Rattle.p3_merkle_core.specs.declared.steps.Steps.{Steps}
 use Rattle.p3_merkle_verifier.specs.Inner.{Checks.functions_of, Checks.params_in, Checks.shape_in}
 use Rattle.p3_merkle_verifier.specs.Inner.RestoredLevels.{pruned_in}
 use Rattle.p3_merkle_verifier.specs.declared.openings.PrunedOpeningRef.{PrunedOpeningRef}
-use Rattle.p3_merkle_verifier.proofs.{QueryFacts.restored, QueryFacts.searchable, RefusalFacts.cap_decides}
-use Rattle.p3_merkle_verifier.proofs.RefusalFacts.{handed_on}
+use Rattle.p3_merkle_verifier.proofs.QueryFacts.{restored, searchable}
+use Rattle.p3_merkle_verifier.proofs.RefusalFacts.{cap_decides, handed_on}
 use Rattle.p3_merkle_verifier.proofs.pruned_extraction.Checker+P+PW+H+C+array+N+array+D+PW+Value+N+D.checked_queries.Goals as goal
 
 pub returns-in_err-check_roots-clause-answer : goal.returns-in_err-check_roots-clause-answer

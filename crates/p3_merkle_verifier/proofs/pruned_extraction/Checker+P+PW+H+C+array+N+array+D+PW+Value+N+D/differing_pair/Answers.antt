@@ -2,8 +2,8 @@
 use borrow.Author.Count.{below_more}
 use Rattle.std.proofs.Common.{◌≡◌, None, ap, arith, length, subst, sym}
 use Rattle.p3_merkle_core.specs.Openings.{Opening}
-use Rattle.p3_merkle_verifier.specs.Inner.{Checks.params_in, QueryPairs.first_place, QueryPairs.query_difference}
-use Rattle.p3_merkle_verifier.specs.Inner.QueryPairs.{query_in, ShowsAt}
+use Rattle.p3_merkle_verifier.specs.Inner.Checks.{params_in}
+use Rattle.p3_merkle_verifier.specs.Inner.QueryPairs.{first_place, query_difference, query_in, ShowsAt}
 use Rattle.p3_merkle_verifier.proofs.PlaceFacts.{no_pair, pair_found}
 use Rattle.p3_merkle_verifier.proofs.pruned_extraction.Checker+P+PW+H+C+array+N+array+D+PW+Value+N+D.differing_pair.Goals as goal
 

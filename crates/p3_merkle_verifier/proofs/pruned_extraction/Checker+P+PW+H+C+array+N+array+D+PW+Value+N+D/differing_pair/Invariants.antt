@@ -1,6 +1,6 @@
 use Rattle.std.proofs.Common.{◌≡◌, ◌<◌, ℕ, None, length}
-use Rattle.p3_merkle_verifier.specs.Inner.{Checks.params_in, QueryPairs.first_place, QueryPairs.query_difference}
-use Rattle.p3_merkle_verifier.specs.Inner.QueryPairs.{query_in}
+use Rattle.p3_merkle_verifier.specs.Inner.Checks.{params_in}
+use Rattle.p3_merkle_verifier.specs.Inner.QueryPairs.{first_place, query_difference, query_in}
 use Rattle.p3_merkle_verifier.proofs.pruned_extraction.Checker+P+PW+H+C+array+N+array+D+PW+Value+N+D.differing_pair.Given as goal
 
 -- no query so far differs from one of the second list

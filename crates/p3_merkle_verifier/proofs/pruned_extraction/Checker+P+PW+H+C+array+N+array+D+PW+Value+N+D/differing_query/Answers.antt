@@ -1,9 +1,10 @@
 -- Each turn checks one more query.
 use borrow.Author.Count.{below_more}
 use Rattle.std.proofs.Common.{◌≡◌, None, arith, length, sym}
-use Rattle.p3_merkle_verifier.specs.Inner.{Checks.opening_in, Checks.params_in, QueryPairs.query_difference}
-use Rattle.p3_merkle_verifier.specs.Inner.QueryPairs.{query_in}
-use Rattle.p3_merkle_verifier.proofs.{PlaceFacts.no_place, PlaceFacts.place_found, QueryFacts.shows_query}
+use Rattle.p3_merkle_verifier.specs.Inner.Checks.{opening_in, params_in}
+use Rattle.p3_merkle_verifier.specs.Inner.QueryPairs.{query_difference, query_in}
+use Rattle.p3_merkle_verifier.proofs.PlaceFacts.{no_place, place_found}
+use Rattle.p3_merkle_verifier.proofs.QueryFacts.{shows_query}
 use Rattle.p3_merkle_verifier.proofs.pruned_extraction.Checker+P+PW+H+C+array+N+array+D+PW+Value+N+D.differing_query.Goals as goal
 
 pub loop-place-preserved : goal.loop-place-preserved

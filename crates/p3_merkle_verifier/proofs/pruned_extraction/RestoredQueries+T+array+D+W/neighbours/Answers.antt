@@ -1,6 +1,7 @@
 -- What the search among the leaves says of the queries.
 use Rattle.std.proofs.Common.{◌≡◌, ◌-◌, List, ℕ, Err, arith, length, min, subst}
-use Rattle.std.specs.{List.Sorted.IsBinarySearchResult, Ordering.nat_cmp}
+use Rattle.std.specs.List.Sorted.{IsBinarySearchResult}
+use Rattle.std.specs.Ordering.{nat_cmp}
 use Rattle.p3_merkle_verifier.proofs.NeighbourFacts.{high_there, low_there, missed_between, read_inside}
 use Rattle.p3_merkle_verifier.proofs.pruned_extraction.RestoredQueries+T+array+D+W.neighbours.Goals as goal
 

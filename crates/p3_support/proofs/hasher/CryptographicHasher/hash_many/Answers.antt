@@ -1,6 +1,8 @@
 -- Each place has the digest of its message.
 use Rattle.std.proofs.Common.{rules, arith, ◌≡◌, ◌<◌, ◌/◌, ◌∙◌, sym, ap, length, []}
-use Rattle.std.proofs.{Math.Nat.mul-div_cancel, lemmas.List.FromFn.fill_by_all, lemmas.Simd.map-map}
+use Rattle.std.proofs.Math.Nat.{mul-div_cancel}
+use Rattle.std.proofs.lemmas.List.FromFn.{fill_by_all}
+use Rattle.std.proofs.lemmas.Simd.{map-map}
 use Rattle.std.specs.List.{range_with_len}
 use Rattle.p3_support.specs.Lists.{message}
 use Rattle.p3_support.proofs.hasher.CryptographicHasher.hash_many.Goals as goal

@@ -1,6 +1,7 @@
 -- Each turn appends one more element, or those of a piece.
 use Rattle.std.proofs.Common.{arith, ◌≡◌, ℕ, List, ◌+◌, ◌++◌, ◌∙◌, append-nil, append_assoc, ap, drop, sym, take}
-use Rattle.std.proofs.{Math.Seq.take-add, lemmas.List.take_all}
+use Rattle.std.proofs.Math.Seq.{take-add}
+use Rattle.std.proofs.lemmas.List.{take_all}
 use Rattle.p3_support.proofs.RowReads.{drop_at, piece_read}
 use Rattle.p3_support.proofs.matrix.Matrix.append_row.Goals as goal
 

@@ -1,6 +1,7 @@
 -- A width divides a number of values exactly if dividing leaves nothing over.
 use Rattle.std.proofs.Common.{rules, arith, ◌≡◌, ◌≢◌, ◌∙◌, ◌/◌, ◌%◌, ap, length}
-use Rattle.std.proofs.{lemmas.Nat.div-add-mod', Math.Nat.mul-mod_left}
+use Rattle.std.proofs.lemmas.Nat.{div-add-mod'}
+use Rattle.std.proofs.Math.Nat.{mul-mod_left}
 use Rattle.p3_support.proofs.matrix.RowMajorMatrix.try_new.Goals as goal
 
 pub returns-then-not-is_multiple_of-clause-divides : goal.returns-then-not-is_multiple_of-clause-divides

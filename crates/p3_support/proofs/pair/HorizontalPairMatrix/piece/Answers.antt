@@ -1,7 +1,8 @@
 -- A piece of a side, up to the end of the side's row, is one of the pair.
 use Rattle.std.proofs.Common.{arith, ◌+◌, ◌-◌, ◌<◌, ◌≤◌, ◌∙◌, ap, length, subst, sym, take}
 use Rattle.std.proofs.lemmas.List.{length-take-le}
-use Rattle.p3_support.specs.{Pairs.pair_row, Inner.PairLengths.length-pair_row}
+use Rattle.p3_support.specs.Pairs.{pair_row}
+use Rattle.p3_support.specs.Inner.PairLengths.{length-pair_row}
 use Rattle.p3_support.proofs.RowReads.{joined_back, joined_front, piece_made, piece_read}
 use Rattle.p3_support.proofs.pair.HorizontalPairMatrix.piece.Goals as goal
 

@@ -1,6 +1,7 @@
 use Rattle.std.proofs.Common.{◌≡◌, ◌+◌, ◌≤◌, All, length}
 use Rattle.std.specs.Prelude.{IfSome}
-use Rattle.p3_support.specs.{Inner.Stored.BeginsWith, Lists.columns_left}
+use Rattle.p3_support.specs.Inner.Stored.{BeginsWith}
+use Rattle.p3_support.specs.Lists.{columns_left}
 use Rattle.p3_support.proofs.rows.PackedRowsIterator.next.Given as goal
 
 abbrev pub invariant-loop-first : goal.invariant-loop-first

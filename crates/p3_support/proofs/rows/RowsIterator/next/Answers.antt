@@ -1,5 +1,6 @@
 -- The next element of the rows, and the matrices that are left out.
-use Rattle.std.proofs.{Common.arith, Common.◌<◌, Common.◌≤◌, Common.◌∙◌, Common.sym, Common.length, lemmas.Bool.eq-eqb}
+use Rattle.std.proofs.Common.{arith, ◌<◌, ◌≤◌, ◌∙◌, sym, length}
+use Rattle.std.proofs.lemmas.Bool.{eq-eqb}
 use Rattle.p3_support.proofs.RowReads.{rows_more, rows_none, rows_skip}
 use Rattle.p3_support.proofs.rows.RowsIterator.next.Goals as goal
 use Rattle.p3_support.proofs.rows.RowsIterator.next.Goals.{else-height-self-via-then-height-self+else-self-width}

@@ -1,4 +1,5 @@
-use Rattle.std.proofs.{Common.◌≡◌, Common.sym, Common.◌∙◌, Common.arith, Common.false, lemmas.Bool.Decides.nat_tests}
+use Rattle.std.proofs.Common.{◌≡◌, sym, ◌∙◌, arith, false}
+use Rattle.std.proofs.lemmas.Bool.Decides.{nat_tests}
 use Rattle.std.specs.Prelude.{◌==◌}
 use Rattle.tlog.specs.Verdicts.{consistency_end_refusal}
 use Rattle.tlog.proofs.Walks.{consistency_ends, consistency_left, consistency_right, consistency_stops}

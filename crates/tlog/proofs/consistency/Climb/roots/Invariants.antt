@@ -1,5 +1,6 @@
 use Rattle.std.proofs.Common.{◌≡◌, drop}
-use Rattle.tlog.specs.{Climbs.climb_end, Rfc9162.consistency_walk}
+use Rattle.tlog.specs.Climbs.{climb_end}
+use Rattle.tlog.specs.Rfc9162.{consistency_walk}
 use Rattle.tlog.proofs.consistency.Climb.roots.Given as goal
 
 -- the digests that are left lead from here to the end

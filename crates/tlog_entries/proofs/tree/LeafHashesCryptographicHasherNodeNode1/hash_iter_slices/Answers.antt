@@ -2,7 +2,8 @@
 use Rattle.std.proofs.Common.{rules, ◌≡◌, List, [], ◌∷◌, ◌∙◌, ap, refl, sym}
 use Rattle.std.specs.List.{flat_map, fold}
 use Rattle.std.proofs.lemmas.List.Sums.{fold-append}
-use Rattle.tlog_entries.specs.declared.tree.Node.{Node, TheVariants.Absent}
+use Rattle.tlog_entries.specs.declared.tree.Node.{Node}
+use Rattle.tlog_entries.specs.declared.tree.Node.TheVariants.{Absent}
 use Rattle.tlog_entries.proofs.tree.LeafHashesCryptographicHasherNodeNode1.hash_iter_slices.Goals as goal
 
 -- the later of two words

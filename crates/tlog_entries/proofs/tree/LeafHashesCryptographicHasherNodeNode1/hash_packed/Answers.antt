@@ -1,7 +1,8 @@
 -- A node is alone in its lane.
 use Rattle.std.proofs.Common.{◌∙◌, ap, sym}
 use Rattle.p3_support.proofs.LaneReads.{only_lane}
-use Rattle.tlog_entries.specs.{Nodes.last_word, declared.tree.Node.TheVariants.Absent}
+use Rattle.tlog_entries.specs.Nodes.{last_word}
+use Rattle.tlog_entries.specs.declared.tree.Node.TheVariants.{Absent}
 use Rattle.tlog_entries.proofs.tree.LeafHashesCryptographicHasherNodeNode1.hash_packed.Goals as goal
 
 pub returns : goal.returns

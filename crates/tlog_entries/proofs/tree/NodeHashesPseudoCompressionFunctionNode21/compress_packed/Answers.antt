@@ -1,7 +1,8 @@
 -- A node is alone in its lane.
 use Rattle.std.proofs.Common.{◌∙◌, ap, sym}
 use Rattle.p3_support.proofs.LaneReads.{only_lane, only_lanes}
-use Rattle.tlog_entries.specs.{Nodes.parent_digest, declared.tree.Node.TheVariants.Absent}
+use Rattle.tlog_entries.specs.Nodes.{parent_digest}
+use Rattle.tlog_entries.specs.declared.tree.Node.TheVariants.{Absent}
 use Rattle.tlog_entries.proofs.tree.NodeHashesPseudoCompressionFunctionNode21.compress_packed.Goals as goal
 
 pub returns : goal.returns

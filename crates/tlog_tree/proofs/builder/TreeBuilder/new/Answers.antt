@@ -1,9 +1,12 @@
 use Rattle.std.proofs.Common.{arith, sym, ap, ◌∙◌, ◌++◌, ◌∷◌, [], ◌≡◌, List, ℕ, length, map, get_or, rules, subst}
-use Rattle.std.proofs.lemmas.List.{map_push, FromFn.map-range_with_len_more}
+use Rattle.std.proofs.lemmas.List.{map_push}
+use Rattle.std.proofs.lemmas.List.FromFn.{map-range_with_len_more}
 use Rattle.std.proofs.lemmas.List.Sorted.{IsNonDecreasingBy-from_sort_by_key, IsPermutation-map}
-use Rattle.std.specs.List.{range_with_len, Sorted.IsPermutation}
+use Rattle.std.specs.List.{range_with_len}
+use Rattle.std.specs.List.Sorted.{IsPermutation}
 use Rattle.sha2.specs.Sha256.{sha256}
-use Rattle.tlog_tree.specs.{Builders.indexed_of, Wanted.end_of}
+use Rattle.tlog_tree.specs.Builders.{indexed_of}
+use Rattle.tlog_tree.specs.Wanted.{end_of}
 use Rattle.tlog_tree.proofs.Kept.{none_has_value}
 use Rattle.tlog_tree.proofs.builder.TreeBuilder.new.Goals as goal
 

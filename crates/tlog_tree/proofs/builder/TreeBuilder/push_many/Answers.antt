@@ -1,9 +1,14 @@
 use Rattle.std.proofs.Common.{arith, length, map, ap, sym, subst, ◌∙◌, ◌++◌, ◌≡◌}
-use Rattle.std.proofs.lemmas.List.{with_items_is, Elements.All-same}
-use Rattle.std.specs.{List.Sorted.IsNonDecreasingBy, List.Sorted.IsPermutation, Vec.with_items}
+use Rattle.std.proofs.lemmas.List.{with_items_is}
+use Rattle.std.proofs.lemmas.List.Elements.{All-same}
+use Rattle.std.specs.List.Sorted.{IsNonDecreasingBy, IsPermutation}
+use Rattle.std.specs.Vec.{with_items}
 use Rattle.sha2.specs.Sha256.{sha256}
-use Rattle.tlog_tree.specs.{Builders.indexed, Builders.indexed_of, Wanted.HasValue, Wanted.end_of, Inner.Wanted.updated}
-use Rattle.tlog_tree.proofs.{Kept.places_stay, Kept.values_grow, Ordered.end_stays, Ordered.order_stays}
+use Rattle.tlog_tree.specs.Builders.{indexed, indexed_of}
+use Rattle.tlog_tree.specs.Wanted.{HasValue, end_of}
+use Rattle.tlog_tree.specs.Inner.Wanted.{updated}
+use Rattle.tlog_tree.proofs.Kept.{places_stay, values_grow}
+use Rattle.tlog_tree.proofs.Ordered.{end_stays, order_stays}
 use Rattle.tlog_tree.proofs.builder.TreeBuilder.push_many.Goals as goal
 
 pub returns-clause-built : goal.returns-clause-built

@@ -1,6 +1,7 @@
 use Rattle.std.proofs.Common.{arith, length, ap, ◌∙◌, List, ℕ, ◌≡◌, ◌/◌, ◌^◌}
 use Rattle.sha2.specs.Sha256.{sha256}
-use Rattle.tlog_tree.specs.{Frontiers.IsFrontierOf, declared.frontier.Frontier.Frontier}
+use Rattle.tlog_tree.specs.Frontiers.{IsFrontierOf}
+use Rattle.tlog_tree.specs.declared.frontier.Frontier.{Frontier}
 use Rattle.tlog_tree.proofs.Kept.{value_of_none, value_of_rest, value_of_whole}
 use Rattle.tlog_tree.proofs.builder.TreeBuilder.value.Goals as goal
 

@@ -1,6 +1,7 @@
 use Rattle.std.proofs.Common.{◌≡◌, ◌<◌, List, ℕ, get_or, length}
 use Rattle.sha2.specs.Sha256.{sha256}
-use Rattle.tlog_tree.specs.{Builders.IsBuilderOf, declared.wanted.WantedNode.WantedNode}
+use Rattle.tlog_tree.specs.Builders.{IsBuilderOf}
+use Rattle.tlog_tree.specs.declared.wanted.WantedNode.{WantedNode}
 use Rattle.tlog_tree.proofs.Ordered.{IsAnswered}
 use Rattle.tlog_tree.proofs.builder.TreeBuilder.values.Given as goal
 

@@ -3,9 +3,11 @@ use Rattle.std.proofs.Common.{leb, length-append, rules, ◌+◌}
 use Rattle.std.proofs.lemmas.List.{append-nil, length-take-le}
 use Rattle.std.proofs.lemmas.List.Sorted.{IsNonDecreasingBy-take, IsPartitionPoint-from_clause, IsPartitionedBy-leb}
 use Rattle.sha2.specs.Sha256.{sha256}
-use Rattle.tlog_tree.specs.{Wanted.end_of, Trees.whole_nodes}
+use Rattle.tlog_tree.specs.Wanted.{end_of}
+use Rattle.tlog_tree.specs.Trees.{whole_nodes}
 use Rattle.tlog_tree.proofs.Kept.{wanted_more, wanted_none}
-use Rattle.tlog_tree.proofs.{Ordered.due_alone, Ordered.end_stays, Ordered.order_stays, Whole.next_piece}
+use Rattle.tlog_tree.proofs.Ordered.{due_alone, end_stays, order_stays}
+use Rattle.tlog_tree.proofs.Whole.{next_piece}
 use Rattle.tlog_tree.proofs.frontier.Frontier.push_kept.Goals as goal
 
 pub loop-rest-init : goal.loop-rest-init

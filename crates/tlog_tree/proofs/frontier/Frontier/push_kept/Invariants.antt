@@ -1,7 +1,10 @@
 use Rattle.std.proofs.Common.{◌≡◌, ◌≤◌, ◌+◌, ◌-◌, ◌++◌, ℕ, List, length, take, drop, map}
 use Rattle.std.specs.List.Sorted.{IsNonDecreasingBy}
 use Rattle.sha2.specs.Sha256.{sha256}
-use Rattle.tlog_tree.specs.{Wanted.end_of, Inner.Wanted.updated, Trees.whole_nodes, Frontiers.IsFrontierOf}
+use Rattle.tlog_tree.specs.Wanted.{end_of}
+use Rattle.tlog_tree.specs.Inner.Wanted.{updated}
+use Rattle.tlog_tree.specs.Trees.{whole_nodes}
+use Rattle.tlog_tree.specs.Frontiers.{IsFrontierOf}
 use Rattle.tlog_tree.proofs.frontier.Frontier.push_kept.Given as goal
 
 abbrev pub invariant-loop-rest : goal.invariant-loop-rest

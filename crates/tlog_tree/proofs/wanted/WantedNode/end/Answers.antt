@@ -1,6 +1,7 @@
 use Rattle.std.proofs.Common.{arith, inl, inr, ◌∙◌, ◌≡◌, ◌+◌, ◌*◌, ◌^◌, ◌<◌, ◌≤◌, ℕ, min}
 use Rattle.std.proofs.Math.Nat.{div-lt_iff_lt-mul, le-div_iff_mul-le, mod-eq_of_lt, mul-le-mul_right, pow-le-pow_right}
-use Rattle.std.proofs.lemmas.{Bool.Decides.leb_tells, Nat.pow_pos}
+use Rattle.std.proofs.lemmas.Bool.Decides.{leb_tells}
+use Rattle.std.proofs.lemmas.Nat.{pow_pos}
 use Rattle.tlog.specs.Verdicts.{size_limit}
 use Rattle.tlog_tree.proofs.wanted.WantedNode.end.Goals as goal
 
