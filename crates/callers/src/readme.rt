@@ -1,4 +1,5 @@
-//! The lines of Rust in README.md: commits to four rows, opens one of them, and verifies it.
+//! The lines of Rust in README.md: commits to four rows, opens one of them, and verifies it; then verifies another row in
+//! its place.
 
 use anyhow::Result;
 use p3_hashes::fold::{FoldCompress, FoldHash};
@@ -14,7 +15,7 @@ const DIMENSIONS: [Dimensions; 1] = [Dimensions {
     height: 4,
 }];
 
-/// Prints the root, the row of index 2 and its siblings.
+/// Prints the root, the row of index 2 and its siblings, and the verdict on the row 4 in its place.
 pub fn run(rt: &HostRuntime) -> Result<()> {
     let alloc = rt.alloc();
     let scheme = Fold::new(FoldHash::<4>, FoldCompress::<2, 4>, 0);
@@ -27,5 +28,10 @@ pub fn run(rt: &HostRuntime) -> Result<()> {
 
     let (root, row, siblings) = (cap.roots(), &opening.opened_values, &opening.opening_proof);
     println!(rt; "root {root:?}, row {row:?}, siblings {siblings:?}")?;
+
+    let tampered = vec![in alloc; vec![in alloc; 4u32]?]?;
+    let claimed = BatchOpeningRef::new(&tampered, &opening.opening_proof);
+    let verdict = scheme.verify_batch(&cap, &DIMENSIONS, 2, claimed);
+    println!(rt; "row {tampered:?} in its place: {verdict:?}")?;
     Ok(())
 }
