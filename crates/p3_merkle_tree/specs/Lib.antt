@@ -1,13 +1,28 @@
 -- What the contracts of the library's public calls cite, each file and each type by its own name, so that a crate above
 -- names no crate below this one.
-pub use Rattle.p3_merkle_core.specs.{Geometry, Caps, Gate, Nodes, Openings, Checks, Pruning, Refusals, Presented, Views}
-pub use Rattle.p3_merkle_core.specs.{Extraction, Commitments, Opened, Laws}
+pub use Rattle.p3_merkle_core.specs.Geometry
+pub use Rattle.p3_merkle_core.specs.Caps
+pub use Rattle.p3_merkle_core.specs.Gate
+pub use Rattle.p3_merkle_core.specs.Nodes
+pub use Rattle.p3_merkle_core.specs.Openings
+pub use Rattle.p3_merkle_core.specs.Checks
+pub use Rattle.p3_merkle_core.specs.Pruning
+pub use Rattle.p3_merkle_core.specs.Refusals
+pub use Rattle.p3_merkle_core.specs.Presented
+pub use Rattle.p3_merkle_core.specs.Extraction
+pub use Rattle.p3_merkle_core.specs.Views
+pub use Rattle.p3_merkle_core.specs.Commitments
+pub use Rattle.p3_merkle_core.specs.Opened
+pub use Rattle.p3_merkle_core.specs.Laws
 pub use Rattle.p3_merkle_core.specs.declared.cap.CapRule
-pub use Rattle.p3_merkle_core.specs.declared.collision.{InputPair, Place}
-pub use Rattle.p3_merkle_core.specs.declared.error.{MerkleTreeError, PrunedProofError}
+pub use Rattle.p3_merkle_core.specs.declared.collision.InputPair
+pub use Rattle.p3_merkle_core.specs.declared.collision.Place
+pub use Rattle.p3_merkle_core.specs.declared.error.MerkleTreeError
+pub use Rattle.p3_merkle_core.specs.declared.error.PrunedProofError
 pub use Rattle.p3_merkle_prover.specs.Parts
 pub use Rattle.p3_merkle_prover.specs.declared.tree.Tree
-pub use Rattle.p3_merkle_mmcs.specs.{Schemes, Committed}
+pub use Rattle.p3_merkle_mmcs.specs.Schemes
+pub use Rattle.p3_merkle_mmcs.specs.Committed
 pub use Rattle.p3_merkle_mmcs.specs.declared.mmcs.Scheme
 pub mod Salted
 pub mod SaltedOpenings
