@@ -72,7 +72,7 @@ def named_in(part, calls):
     """What a part of a section names: errors, or a call that stands ahead of any. A part that begins with want of memory
     says what it may stand in place of."""
     errors = []
-    if re.match("`OutOfMemory`", part):
+    if re.match(r"\[?`(\w+::)*OutOfMemory`", part):
         return errors
     for found in NAME.finditer(part):
         name, rest = found[1], part[found.end() :]
