@@ -20,19 +20,19 @@ def source(path):
 
 @cache
 def texts():
-    """The patterns of the texts of errors, by name: a value that a text prints may be anything."""
+    """The patterns of the texts of errors, by name: a value that a text prints may be anything. An error that only
+    prints another one has none."""
     found = defaultdict(list)
     for path in sorted(TOP.glob("crates/*/src/*.rt")):
         for text, name in TEXT.findall(source(path.relative_to(TOP))):
-            pieces = [re.escape(piece) for piece in re.split(r"\{\w+\}", text)]
-            found[name].append(re.compile("(malformed pruned proof: )?" + ".+".join(pieces) + r"( \(status \d\)| / .*)?"))
+            pieces = ".+".join(re.escape(piece) for piece in re.split(r"\{\w+\}", text))
+            found[name] += [re.compile(rf"(malformed pruned proof: )?{pieces}( \(status \d\)| / .*)?")] * (text != "{0}")
     return found
 
 
 def is_text_of(answer, names):
-    """Whether an answer is the text of one of these errors. An error that only prints another has no text."""
-    patterns = [pattern for name in names for pattern in texts()[name]]
-    return any(pattern.fullmatch(answer) for pattern in patterns if re.search("[a-z]{3}.*[a-z]{3}", pattern.pattern))
+    """Whether an answer is the text of one of these errors."""
+    return any(pattern.fullmatch(answer) for name in names for pattern in texts()[name])
 
 
 class Function(NamedTuple):
@@ -69,8 +69,8 @@ class Call(NamedTuple):
 
 
 def named_in(part, calls):
-    """What a part of a section names: errors, or a call that stands ahead of any. A part that begins with want of memory
-    says what it may stand in place of."""
+    """What a part of a section names: errors, or a call that stands ahead of any. A part that begins with want of
+    memory says what it may stand in place of."""
     errors = []
     if re.match(r"\[?`(\w+::)*OutOfMemory`", part):
         return errors
