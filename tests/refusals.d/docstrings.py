@@ -25,8 +25,9 @@ def texts():
     found = defaultdict(list)
     for path in sorted(TOP.glob("crates/*/src/*.rt")):
         for text, name in TEXT.findall(source(path.relative_to(TOP))):
-            pieces = ".+".join(re.escape(piece) for piece in re.split(r"\{\w+\}", text))
-            found[name] += [re.compile(rf"(malformed pruned proof: )?{pieces}( \(status \d\)| / .*)?")] * (text != "{0}")
+            pieces, patterns = ".+".join(map(re.escape, re.split(r"\{\w+\}", text))), found[name]
+            if text != "{0}":
+                patterns.append(re.compile(rf"(malformed pruned proof: )?{pieces}( \(status \d\)| / .*)?"))
     return found
 
 
