@@ -1,4 +1,4 @@
-# Completion of the words of mmcs for bash.
+# Completion of the arguments of mmcs for bash.
 _mmcs() {
   local known=''
   case "$COMP_CWORD" in
