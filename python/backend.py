@@ -23,7 +23,19 @@ Requires-Python: >=3.9
 
 
 def build_wheel(wheel_directory: str, config_settings: Any = None, metadata_directory: Any = None) -> str:
-    """Writes the wheel, and returns its name. The same sources give the same bytes."""
+    """Builds the wheel. Tools that install packages, such as pip, call it.
+
+    Args:
+        wheel_directory: the folder that the wheel is written to.
+        config_settings: settings of the build. There are none, so they are ignored.
+        metadata_directory: a folder of metadata that was prepared. This backend prepares none, so it is ignored.
+
+    Returns:
+        The name of the wheel's file. The same sources give the same bytes.
+
+    Raises:
+        OSError: the wheel can't be written.
+    """
     files = {
         "fohlazu.py": MODULE,
         f"{NAME}.dist-info/METADATA": METADATA,
