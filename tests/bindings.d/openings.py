@@ -56,7 +56,7 @@ class Question:
         def spliced(items, new):
             """Items with one dropped, put in or replaced."""
             place = source.randrange(len(items) + 1)
-            return items[:place] + new + items[place + source.randrange(2) :]
+            return items[:place] + new + items[place + source.randrange(2):]
 
         part = source.choice(["siblings", "roots", "rows", "index", "sizes", "arity"])
         if part in ("siblings", "roots"):
