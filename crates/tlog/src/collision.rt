@@ -40,15 +40,18 @@ pub fn root<H: LogHash<D>, const D: usize>(entries: &[Vec<u8>]) -> [u8; D]
     }
 }
 
-/// Whether two lists of entries are equal.
+/// Whether two lists of entries are equal, entry by entry.
 fn are_equal(d: &[Vec<u8>], e: &[Vec<u8>]) -> bool
     ensures { IsTrue result ↔ (entries_of d.now ≡ entries_of e.now) }
 {
     d == e
 }
 
-/// The byte string whose hash is the leaf hash of an entry: a byte 0 and the entry (RFC 9162, 2.1.1). `AllocError` if
-/// memory runs out.
+/// The byte string whose hash is the leaf hash of an entry: a byte 0 and the entry (RFC 9162, 2.1.1).
+///
+/// # Errors
+///
+/// `AllocError` if memory runs out.
 pub fn leaf_input(alloc: Global, entry: &[u8]) -> Result<Vec<u8>, AllocError>
     ensures { IfOk result (λ input. input.items ≡ 0 ∷ entry.now) }
 {
@@ -58,7 +61,11 @@ pub fn leaf_input(alloc: Global, entry: &[u8]) -> Result<Vec<u8>, AllocError>
 }
 
 /// The byte string whose hash is that of a node: a byte 1 and the hashes of its children (RFC 9162, 2.1.1). `D` must be
-/// at most 64. `AllocError` if memory runs out.
+/// at most 64.
+///
+/// # Errors
+///
+/// `AllocError` if memory runs out.
 pub fn node_input<const D: usize>(
     alloc: Global,
     left: &[u8; D],
@@ -73,7 +80,7 @@ pub fn node_input<const D: usize>(
     Ok(input)
 }
 
-/// The byte string whose hash is the root of entries.
+/// The byte string whose hash is the root of entries: nothing, the input of a leaf, or that of a node.
 fn root_input<H: LogHash<D>, const D: usize>(
     alloc: Global,
     entries: &[Vec<u8>],
@@ -91,6 +98,9 @@ fn root_input<H: LogHash<D>, const D: usize>(
 }
 
 /// A collision, if two different lists of entries, of any lengths, have one root; else `None`.
+///
+/// # Errors
+///
 /// `AllocError` if memory runs out.
 pub fn root_collision<H: LogHash<D>, const D: usize>(
     alloc: Global,
@@ -124,7 +134,11 @@ pub fn root_collision<H: LogHash<D>, const D: usize>(
 }
 
 /// The proof of inclusion of entry `index`, counted from 0, under the root of the entries (RFC 9162, 2.1.3.1). The
-/// index must be below their number. `AllocError` if memory runs out.
+/// index must be below their number.
+///
+/// # Errors
+///
+/// `AllocError` if memory runs out.
 pub fn inclusion_proof<H: LogHash<D>, const D: usize>(
     alloc: Global,
     entries: &[Vec<u8>],
@@ -150,7 +164,11 @@ pub fn inclusion_proof<H: LogHash<D>, const D: usize>(
 }
 
 /// The proof of consistency from the first `old_size` entries to all (RFC 9162, 2.1.4.1). `old_size` must be from 1 to
-/// their number, where the proof has no digests. `AllocError` if memory runs out.
+/// their number, where the proof has no digests.
+///
+/// # Errors
+///
+/// `AllocError` if memory runs out.
 pub fn consistency_proof<H: LogHash<D>, const D: usize>(
     alloc: Global,
     entries: &[Vec<u8>],
@@ -163,7 +181,8 @@ pub fn consistency_proof<H: LogHash<D>, const D: usize>(
     subproof::<H, D>(alloc, entries, old_size, true)
 }
 
-/// SUBPROOF, where the verifier may know the root of the entries.
+/// SUBPROOF (RFC 9162, 2.1.4.1). `is_known` says whether the verifier may know the root of the entries, which is its
+/// flag `b`.
 fn subproof<H: LogHash<D>, const D: usize>(
     alloc: Global,
     entries: &[Vec<u8>],

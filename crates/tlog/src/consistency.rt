@@ -39,8 +39,11 @@ pub fn verify_consistency(
     verify::<Sha256, 32>(old_size, new_size, proof, old_root, new_root)
 }
 
-/// [`verify_consistency`] under any hash function, with hashes of `D` bytes: the same errors in the same order. The
-/// root of size 0 is `H::empty_root()`.
+/// [`verify_consistency`] under any hash function, with hashes of `D` bytes. The root of size 0 is `H::empty_root()`.
+///
+/// # Errors
+///
+/// Those of [`verify_consistency`], in the same order.
 #[tactic(auto, unfolding(crate::specs::Verdicts::consistency_refusal))]
 pub fn verify<H: LogHash<D>, const D: usize>(
     old_size: usize,

@@ -37,6 +37,9 @@ pub(crate) fn node_collision<H: LogHash<D>, const D: usize>(
 
 /// A collision, if two proofs of inclusion of one index, size and root are accepted, and their leaf hashes or their
 /// digests differ; else `None`.
+///
+/// # Errors
+///
 /// `AllocError` if memory runs out.
 pub fn proof_collision<H: LogHash<D>, const D: usize>(
     alloc: Global,
@@ -91,6 +94,9 @@ pub fn proof_collision<H: LogHash<D>, const D: usize>(
 
 /// A collision, if two proofs of consistency between the same sizes are accepted to one new root, and their old roots
 /// or their digests differ; else `None`.
+///
+/// # Errors
+///
 /// `AllocError` if memory runs out.
 pub fn consistency_collision<H: LogHash<D>, const D: usize>(
     alloc: Global,
@@ -135,7 +141,11 @@ pub fn consistency_collision<H: LogHash<D>, const D: usize>(
 }
 
 /// A collision, if a proof of inclusion of `leaf` at `index`, counted from 0, is accepted under the root of the
-/// entries, and the entry there has another leaf hash; else `None`. `AllocError` if memory runs out.
+/// entries, and the entry there has another leaf hash; else `None`.
+///
+/// # Errors
+///
+/// `AllocError` if memory runs out.
 pub fn leaf_collision<H: LogHash<D>, const D: usize>(
     alloc: Global,
     entries: &[Vec<u8>],
@@ -169,7 +179,11 @@ pub fn leaf_collision<H: LogHash<D>, const D: usize>(
 }
 
 /// A collision, if a proof of inclusion of `entry` at `index`, counted from 0, is accepted under the root of the
-/// entries, and these have another entry there; else `None`. `AllocError` if memory runs out.
+/// entries, and these have another entry there; else `None`.
+///
+/// # Errors
+///
+/// `AllocError` if memory runs out.
 pub fn entry_collision<H: LogHash<D>, const D: usize>(
     alloc: Global,
     entries: &[Vec<u8>],
@@ -199,6 +213,9 @@ pub fn entry_collision<H: LogHash<D>, const D: usize>(
 
 /// A collision, if a proof of consistency is accepted between the roots of two lists of entries, and the new list does
 /// not begin with the old one; else `None`.
+///
+/// # Errors
+///
 /// `AllocError` if memory runs out.
 pub fn prefix_collision<H: LogHash<D>, const D: usize>(
     alloc: Global,

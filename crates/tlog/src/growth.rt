@@ -17,8 +17,11 @@ use crate::hash::LogHash;
 use crate::inclusion::verify;
 use std::alloc::{AllocError, Global};
 
-/// The digests from a node in the left half to the new root, where those of `climb` lead to the left half's root.
-/// Two proofs give the left root (`last` by the second) and the old right one (`beside`, `old`); `new` is the new one.
+/// The digests that lead from a node in the left half on to the new root, where those of `climb` lead to the root of
+/// this half. The second proof gives that root as `last`. The root of the old right half is `beside` by the first proof
+/// and `old` by the second, and `new` is the root of the new right half.
+///
+/// `Collision` if the halves of the two proofs differ although they have one parent.
 fn lift_beside<H: LogHash<D>, const D: usize>(
     alloc: Global,
     middle: usize,
@@ -74,8 +77,9 @@ fn check_right<H: LogHash<D>, const D: usize>(
     }
 }
 
-/// The digests from a node to the root of `new_size` entries, where those of `climb` lead to the root of the first
-/// `size`, and `growth` from the last whole node of these to both roots. Others give any digests.
+/// The digests that lead from a node on to the root of `new_size` entries, where those of `climb` lead to the root of
+/// the first `size`, and those of `growth` from the last whole node of these to both roots. Where `climb` or `growth`
+/// does not lead there, any digests may be returned.
 fn lift<H: LogHash<D>, const D: usize>(
     alloc: Global,
     size: usize,
@@ -144,7 +148,8 @@ fn lift<H: LogHash<D>, const D: usize>(
 ///
 /// The first of these that applies:
 ///
-/// - `First`, `Second` if that proof is not accepted, with the reason;
+/// - `First` if the first proof is not accepted, with the reason;
+/// - `Second` if the second proof is not accepted, with the reason;
 /// - `Collision` if both proofs compute the middle root, and differ below it;
 /// - `OutOfMemory` if memory runs out, also in place of `Collision`.
 pub fn compose<H: LogHash<D>, const D: usize>(
@@ -205,6 +210,9 @@ pub fn compose<H: LogHash<D>, const D: usize>(
 
 /// A collision, if proofs of inclusion of one index are accepted under an old and a new root, and a proof of
 /// consistency from the one to the other, and the leaf hashes differ; else `None`. It needs no entries.
+///
+/// # Errors
+///
 /// `AllocError` if memory runs out.
 pub fn growth_collision<H: LogHash<D>, const D: usize>(
     alloc: Global,

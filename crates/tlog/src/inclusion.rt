@@ -9,7 +9,7 @@ use crate::error::ProofError;
 use crate::hash::LogHash;
 use sha2::Sha256;
 
-/// The greatest size of a log.
+/// The greatest size of a log: the verifiers take no greater one.
 pub const SIZE_LIMIT: usize = 1 << 62;
 
 /// Whether a proof of inclusion shows that the log of `size` entries under `root` has `leaf` as the leaf hash of its
@@ -37,7 +37,11 @@ pub fn verify_inclusion(
     verify::<Sha256, 32>(index, size, leaf, proof, root)
 }
 
-/// [`verify_inclusion`] under any hash function, with hashes of `D` bytes: the same errors in the same order.
+/// [`verify_inclusion`] under any hash function, with hashes of `D` bytes.
+///
+/// # Errors
+///
+/// Those of [`verify_inclusion`], in the same order.
 #[tactic(auto, unfolding(crate::specs::Verdicts::inclusion_refusal))]
 pub fn verify<H: LogHash<D>, const D: usize>(
     index: usize,
