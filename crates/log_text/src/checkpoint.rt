@@ -29,6 +29,7 @@ pub struct Checkpoint<'a> {
     pub origin: &'a str,
     /// How many entries there are: up to 2^62.
     pub size: usize,
+    /// The root of their tree (RFC 9162, 2.1.1); of a part, that of its own entries.
     pub root: [u8; 32],
 }
 
@@ -57,8 +58,12 @@ impl<'a> Checkpoint<'a> {
         part_by(text).map_err(|stop| error_of(text, stop))
     }
 
-    /// Prints the origin, the size and the root; `AllocError` if memory runs out. It is read again if [`is_origin`]
-    /// takes the origin, and the size is at most 2^62: by `parse_part` if the origin is `PART_ORIGIN`, else by `parse`.
+    /// Prints the origin, the size and the root; It is read again if [`is_origin`] takes the origin, and the size is at
+    /// most 2^62: by `parse_part` if the origin is `PART_ORIGIN`, else by `parse`.
+    ///
+    /// # Errors
+    ///
+    /// `AllocError` if memory runs out.
     pub fn to_text(&self, alloc: Global) -> Result<Vec<u8>, AllocError>
         ensures { IfOk result (λ text. text.items ≡ checkpoint_text (checkpoint_fields self.now)) }
     {
@@ -109,7 +114,7 @@ fn skip_signatures(left: &[u8]) -> Result<&[u8], Stop>
     skip_lines(left, Expected::Signature, 99)
 }
 
-/// Reads what stands after an origin.
+/// Reads what stands after an origin: the size, the root, and what may follow them.
 #[tactic(auto, unfolding(crate::specs::Reading::after_origin, crate::specs::Reading::extensions_by))]
 fn after_origin<'a>(origin: &'a str, left: &[u8]) -> Result<Checkpoint<'a>, Stop>
     ensures { result_map_both checkpoint_fields (λ stop. stop) result ≡ after_origin origin.entry.now left.now }

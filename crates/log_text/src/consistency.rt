@@ -28,7 +28,8 @@ impl<'a> ConsistencyProof<'a> {
     ///
     /// # Errors
     ///
-    /// `Line` for the first wrong line; `OutOfMemory` if memory runs out.
+    /// - `Line` for the first wrong line;
+    /// - `OutOfMemory` if memory runs out.
     pub fn parse(alloc: Global, text: &'a [u8]) -> Result<ConsistencyProof<'a>, TextError>
         ensures read { IfOk result (λ proof. consistency_in text.now ≡ Ok (consistency_fields proof)) }
         ensures error { IfErr result (λ error. (error ≡ OutOfMemory) ⊎ (consistency_in text.now ≡ Err error)) }
@@ -36,8 +37,11 @@ impl<'a> ConsistencyProof<'a> {
         consistency_by(alloc, text).map_err(|stop| error_of(text, stop))
     }
 
-    /// Prints the proof; `AllocError` if memory runs out. It is read again if the old size is at most 2^62, and there
-    /// are at most 63 digests.
+    /// Prints the proof; It is read again if the old size is at most 2^62, and there are at most 63 digests.
+    ///
+    /// # Errors
+    ///
+    /// `AllocError` if memory runs out.
     pub fn to_text(&self, alloc: Global) -> Result<Vec<u8>, AllocError>
         ensures { IfOk result (λ text. text.items ≡ consistency_text (consistency_fields self.now)) }
     {

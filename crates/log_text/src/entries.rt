@@ -22,6 +22,7 @@ pub(crate) const PROOF_VERSION: &str = "fohlazu proof 1";
 pub struct EntriesProof {
     /// The entries, in the order of the query.
     pub entries: Vec<Entry>,
+    /// The digests that prove them, in the order of `tlog_entries`.
     pub digests: Vec<[u8; 32]>,
 }
 
@@ -39,7 +40,8 @@ impl EntriesProof {
     ///
     /// # Errors
     ///
-    /// `Line` for the first wrong line; `OutOfMemory` if memory runs out.
+    /// - `Line` for the first wrong line;
+    /// - `OutOfMemory` if memory runs out.
     pub fn parse(alloc: Global, text: &[u8]) -> Result<EntriesProof, TextError>
         ensures read { IfOk result (λ proof. entries_in text.now ≡ Ok (entries_fields proof)) }
         ensures error { IfErr result (λ error. (error ≡ OutOfMemory) ⊎ (entries_in text.now ≡ Err error)) }
@@ -47,8 +49,11 @@ impl EntriesProof {
         entries_by(alloc, text).map_err(|stop| error_of(text, stop))
     }
 
-    /// Prints the proof; `AllocError` if memory runs out. It is read again if its numbers, lengths and counts are at
-    /// most 2^62, and no number is 0.
+    /// Prints the proof; It is read again if its numbers, lengths and counts are at most 2^62, and no number is 0.
+    ///
+    /// # Errors
+    ///
+    /// `AllocError` if memory runs out.
     pub fn to_text(&self, alloc: Global) -> Result<Vec<u8>, AllocError>
         ensures { IfOk result (λ text. text.items ≡ entries_text (entries_fields self.now)) }
     {
@@ -108,7 +113,7 @@ fn entry_by(alloc: Global, left: &[u8]) -> Result<(Entry, &[u8]), Stop>
     Ok((Entry { number, bytes }, &left[len + 1..]))
 }
 
-/// Reads so many entries.
+/// Reads `count` entries.
 fn entry_list_by(alloc: Global, left: &[u8], count: usize) -> Result<(Vec<Entry>, &[u8]), Stop>
     ensures read { IfOk result
         (λ (entries, rest). many never entry_by count left.now ≡ Ok (map entry_fields entries.items, rest.now)) }

@@ -24,7 +24,9 @@ pub enum TextError {
 pub struct WrongLine {
     /// Its number, counted from 1: one more than there are line feeds ahead of it.
     pub line: usize,
+    /// What is expected there.
     pub expected: Expected,
+    /// What stands there instead.
     pub found: Found,
 }
 

@@ -9,7 +9,8 @@ pub fn notes_are_spelled()
     ensures { NotesAreSpelled }
 {}
 
-/// And so it is with parts.
+/// The same of parts: a text is read as a part exactly if it is the text of that part, whose origin is `PART_ORIGIN`,
+/// with extension lines and up to 100 signatures, and has at most 10^6 bytes.
 pub fn parts_are_spelled()
     ensures { PartsAreSpelled }
 {}
@@ -37,7 +38,7 @@ pub fn entries_proofs_are_spelled()
     ensures { EntriesProofsAreSpelled }
 {}
 
-/// And so it is with consistency proofs.
+/// A text is read as a consistency proof exactly if it is the text of that proof.
 pub fn consistency_proofs_are_spelled()
     ensures { ConsistencyProofsAreSpelled }
 {}

@@ -133,7 +133,7 @@ fn is_signature(line: &[u8]) -> bool
     str::from_utf8(name).is_ok_and(is_key_name) && base64_len(signature).is_some_and(|len| len >= 5)
 }
 
-/// Whether a line is what is expected, of the kinds that say nothing else.
+/// Whether a line is what is expected: it is compared, or tested, and nothing is read from it.
 #[tactic(auto, unfolding(crate::specs::Lines::is_line))]
 fn is_line(expected: Expected, line: &[u8]) -> bool
     ensures { result ≡ is_line expected line.now }
@@ -148,7 +148,7 @@ fn is_line(expected: Expected, line: &[u8]) -> bool
     }
 }
 
-/// Reads past a line that is what is expected.
+/// Reads past a line that is what is expected. Where no such line stands, the error says that `expected` is missing.
 pub fn skip_line(left: &[u8], expected: Expected) -> Result<&[u8], Stop>
     ensures { result_map_both (λ rest. rest.now) (λ stop. stop) result ≡ rest_of (line_that expected left.now) }
 {
@@ -157,7 +157,8 @@ pub fn skip_line(left: &[u8], expected: Expected) -> Result<&[u8], Stop>
     is_line(expected, line).then_some(rest).ok_or(stop)
 }
 
-/// Reads past lines that are what is expected, at most `limit`, up to a blank line or the end.
+/// Reads past lines that are what is expected, at most `limit`, up to a blank line or the end. The first other line is
+/// an error.
 pub fn skip_lines(left: &[u8], expected: Expected, limit: usize) -> Result<&[u8], Stop>
     ensures { result_map_both (λ rest. rest.now) (λ stop. stop) result
         ≡ rest_of (many at_text_end (line_that expected) limit left.now) }
@@ -172,8 +173,8 @@ pub fn skip_lines(left: &[u8], expected: Expected, limit: usize) -> Result<&[u8]
     Ok(rest)
 }
 
-/// Reads a line of a word and a number up to 2^62, without leading zeros. Returns the number and what follows the line;
-/// where no such line stands, that `expected` is missing.
+/// Reads a line of a word and a number up to 2^62, without leading zeros. Returns the number and what follows the line.
+/// Where no such line stands, the error says that `expected` is missing.
 pub fn number_by<'a>(
     left: &'a [u8],
     word: &[u8],
@@ -189,7 +190,8 @@ pub fn number_by<'a>(
     Ok((number, rest))
 }
 
-/// Reads a digest. With `blank_stops` the error says that a blank line may stand instead.
+/// Reads a line that is the base64 of 32 bytes. Returns these and what follows the line. With `blank_stops` the error
+/// says that a blank line may stand instead.
 #[tactic(auto, unfolding(crate::specs::Reading::digest_by))]
 pub fn digest_by(left: &[u8], blank_stops: bool) -> Result<([u8; 32], &[u8]), Stop>
     ensures { result_map_both (λ (digest, rest). (digest, rest.now)) (λ stop. stop) result
@@ -211,7 +213,8 @@ fn at_blank(left: &[u8]) -> bool
     left.first() == Some(&b'\n')
 }
 
-/// Reads so many digests; at most so many, where a blank line stops them.
+/// Reads `count` digests, or with `blank_stops` at most `count`, up to a blank line. Returns them and what follows the
+/// last one's line.
 pub fn digests_by(
     alloc: Global,
     left: &[u8],
@@ -246,7 +249,7 @@ pub fn ended(left: &[u8]) -> Result<(), Stop>
     }
 }
 
-/// Appends bytes and a line feed.
+/// Appends bytes and a line feed. `AllocError` if memory runs out.
 pub fn push_line(text: &mut Vec<u8>, bytes: &[u8]) -> Result<(), AllocError>
     ensures { OnOk result (text.new.items ≡ text.old.items ++ line bytes.now) }
 {
@@ -254,7 +257,7 @@ pub fn push_line(text: &mut Vec<u8>, bytes: &[u8]) -> Result<(), AllocError>
     Ok(text.push(b'\n')?)
 }
 
-/// Appends a line of a word and a number.
+/// Appends a line of a word and a number in decimal digits. `AllocError` if memory runs out.
 pub fn push_number(
     alloc: Global,
     text: &mut Vec<u8>,
@@ -267,7 +270,7 @@ pub fn push_number(
     push_line(text, line.as_bytes())
 }
 
-/// Appends a digest in base64, and a line feed.
+/// Appends a digest in base64, and a line feed. `AllocError` if memory runs out.
 #[tactic(auto, unfolding(crate::specs::Lines::base64))]
 pub fn push_digest(alloc: Global, text: &mut Vec<u8>, digest: &[u8; 32]) -> Result<(), AllocError>
     ensures { OnOk result (text.new.items ≡ text.old.items ++ digest_line digest.now) }
@@ -276,7 +279,7 @@ pub fn push_digest(alloc: Global, text: &mut Vec<u8>, digest: &[u8; 32]) -> Resu
     push_line(text, line.as_bytes())
 }
 
-/// Appends a line for each digest.
+/// Appends a line of base64 for each digest. `AllocError` if memory runs out.
 pub fn push_digests(alloc: Global, to: &mut Vec<u8>, digests: &[[u8; 32]]) -> Result<(), AllocError>
     ensures { OnOk result (to.new.items ≡ to.old.items ++ flat_map digest_line digests.now) }
 {
