@@ -12,8 +12,8 @@ use crate::wanted::{WantedNode, whole_count};
 use std::alloc::{AllocError, Global};
 
 /// The tree of a log that is read once, from its first entry on, with the values of the nodes that were wanted when it
-/// began, and nothing else: what proofs of inclusion and of consistency are made of. A node has a layer, 0 for the leaf
-/// hashes, and a slot in the layer, counted from 0: below it are the 2^layer leaves from slot * 2^layer on.
+/// began, and nothing else: what proofs of inclusion and of consistency are computed from. A node has a layer, 0 for
+/// the leaf hashes, and a slot in the layer, counted from 0: below it are the 2^layer leaves from slot * 2^layer on.
 #[derive(Debug, Drop)]
 pub struct TreeBuilder {
     frontier: Frontier,
@@ -27,6 +27,9 @@ impl TreeBuilder {
     ghost use Rattle.tlog_tree.specs.Wanted.{HasValue};
 
     /// The tree of no entries, where the nodes of these layers and slots are wanted.
+    ///
+    /// # Errors
+    ///
     /// `AllocError` if memory runs out.
     pub fn new(alloc: Global, places: &[(usize, usize)]) -> Result<TreeBuilder, AllocError>
         ensures { IfOk result (IsBuilderOf [] places.now) }
@@ -52,7 +55,8 @@ impl TreeBuilder {
     ///
     /// # Errors
     ///
-    /// `SizeTooLarge` if there would be more than 2^62, `OutOfMemory` if memory runs out.
+    /// - `SizeTooLarge` if there would be more than 2^62;
+    /// - `OutOfMemory` if memory runs out.
     pub fn push_many(mut self, alloc: Global, hashes: &[[u8; 32]]) -> Result<TreeBuilder, TreeError>
         ensures built { IfOk result (λ builder. (leaves : List (List ℕ)) (places : List (ℕ × ℕ)) →
             IsBuilderOf leaves places self → IsBuilderOf (leaves ++ hashes.now) places builder) }
@@ -73,6 +77,9 @@ impl TreeBuilder {
     /// The values of the wanted nodes in the tree so far, in the order in which they were wanted: `None` if a node has
     /// no leaves. A node that the end of the log cuts off has the value that is passed on, the root of the leaves that
     /// it has.
+    ///
+    /// # Errors
+    ///
     /// `AllocError` if memory runs out.
     pub fn values(&self, alloc: Global) -> Result<Vec<Option<[u8; 32]>>, AllocError>
         ensures { IfOk result (λ values. (leaves : List (List ℕ)) (places : List (ℕ × ℕ)) →

@@ -48,8 +48,11 @@ impl Frontier {
     ///
     /// # Errors
     ///
-    /// `SizeTooLarge` if the size is above 2^62, else `NodeCountMismatch` if there are not as many nodes as ones in the
-    /// size's binary digits; `OutOfMemory` if memory runs out.
+    /// The first of these that applies:
+    ///
+    /// - `SizeTooLarge` if the size is above 2^62;
+    /// - `NodeCountMismatch` if there are not as many nodes as ones in the size's binary digits;
+    /// - `OutOfMemory` if memory runs out.
     pub fn from_nodes(alloc: Global, size: usize, nodes: &[[u8; 32]]) -> Result<Frontier, TreeError>
         ensures begun { IfOk result (λ frontier. (leaves : List (List ℕ)) → length leaves ≡ size →
             nodes.now ≡ whole_nodes sha256 leaves → IsFrontierOf leaves frontier) }
@@ -90,7 +93,8 @@ impl Frontier {
     ///
     /// # Errors
     ///
-    /// `SizeTooLarge` if there would be more than 2^62, `OutOfMemory` if memory runs out.
+    /// - `SizeTooLarge` if there would be more than 2^62;
+    /// - `OutOfMemory` if memory runs out.
     pub fn push_many(&mut self, alloc: Global, hashes: &[[u8; 32]]) -> Result<(), TreeError>
         ensures grown { OnOk result ((leaves : List (List ℕ)) → IsFrontierOf leaves self.old →
             IsFrontierOf (leaves ++ hashes.now) self.new) }
@@ -102,8 +106,8 @@ impl Frontier {
         self.push_kept(alloc, hashes, &mut [])
     }
 
-    /// The same, and wanted nodes get their values, if they are in the order of their ends. After an error nothing is
-    /// said of these.
+    /// Appends leaf hashes as [`push_many`](Self::push_many) does, with the same errors. Wanted nodes get their values,
+    /// if they stand in the order of their ends; after an error nothing is said of them.
     pub(crate) fn push_kept(
         &mut self,
         alloc: Global,
@@ -163,8 +167,8 @@ impl Frontier {
     }
 }
 
-/// The whole nodes of a layer, which were `nodes` of `size` nodes, once more nodes are put after these. Wanted nodes
-/// of this layer and of those above get their values.
+/// The whole nodes of a layer and of those above, in a log where they were `nodes` and the layer had `size` nodes, once
+/// the nodes `more` follow these. Wanted nodes of this layer and of those above get their values.
 fn grown(
     alloc: Global,
     layer_number: usize,
@@ -216,7 +220,7 @@ fn node_input(left: &[u8; 32], right: &[u8; 32]) -> [u8; 65]
     input
 }
 
-/// The parents of the nodes of a layer, but for a last one without a sibling.
+/// The parents of the nodes of a layer. A last node without a sibling has none.
 fn parents(alloc: Global, layer: &[[u8; 32]]) -> Result<Vec<[u8; 32]>, AllocError>
     ensures { IfOk result (λ parents. parents.items ≡ parents_of sha256 layer.now) }
 {

@@ -14,7 +14,11 @@ use std::alloc::{AllocError, Global};
 const BATCH_BYTES: usize = 1 << 16;
 
 /// The leaf hashes of entries, in their order (RFC 9162, 2.1.1). Entries that fill one number of blocks of SHA-256 are
-/// hashed eight at a time, wherever they stand. `AllocError` if memory runs out.
+/// hashed eight at a time, wherever they stand.
+///
+/// # Errors
+///
+/// `AllocError` if memory runs out.
 pub fn leaf_hashes(alloc: Global, entries: &[&[u8]]) -> Result<Vec<[u8; 32]>, AllocError>
     ensures { IfOk result (λ hashes. hashes.items ≡ map (λ entry. leaf_hash sha256 entry.now) entries.now) }
 {

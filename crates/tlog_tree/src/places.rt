@@ -9,7 +9,11 @@ use std::alloc::{AllocError, Global};
 
 /// The nodes whose values are the proof of inclusion of entry `index`, counted from 0, in a log of `size` entries, in
 /// the order of the proof (RFC 9162, 2.1.3.1): their layers and slots, as a [`TreeBuilder`](crate::TreeBuilder) takes
-/// them. The index must be below the size. `AllocError` if memory runs out.
+/// them. The index must be below the size.
+///
+/// # Errors
+///
+/// `AllocError` if memory runs out.
 pub fn inclusion_places(
     alloc: Global,
     index: usize,
@@ -26,7 +30,11 @@ pub fn inclusion_places(
 
 /// The nodes whose values are the proof of consistency from `old_size` to `new_size` entries, in the order of the proof
 /// (RFC 9162, 2.1.4.1): their layers and slots in the new tree, as a [`TreeBuilder`](crate::TreeBuilder) takes them.
-/// The old size must be above 0, and below the new one. `AllocError` if memory runs out.
+/// The old size must be above 0, and below the new one.
+///
+/// # Errors
+///
+/// `AllocError` if memory runs out.
 pub fn consistency_places(
     alloc: Global,
     old_size: usize,
