@@ -17,7 +17,11 @@ use tlog::{LogHash, leaf_collision};
 
 /// A collision, if one proof of several leaf hashes is accepted under the root of the entries, and one of them is not
 /// that of the entry at its index, counted from 0; else `None`. The hash function may be any whose values have 32
-/// bytes. `AllocError` if memory runs out.
+/// bytes.
+///
+/// # Errors
+///
+/// `AllocError` if memory runs out.
 pub fn entries_collision<H: LogHash<32>>(
     alloc: Global,
     entries: &[Vec<u8>],

@@ -30,7 +30,11 @@ use p3_merkle_core::steps::{Covered, steps_of};
 use std::alloc::{AllocError, Global};
 
 /// The nodes whose values are the proof of the entries at these indices, counted from 0, in a log of `size` entries, in
-/// the order of the proof: their layers and slots, as a `TreeBuilder` takes them.
+/// the order of the proof: their layers and slots, as a `TreeBuilder` takes them. The size must be from 1 to 2^62, and
+/// each index below it.
+///
+/// # Errors
+///
 /// `AllocError` if memory runs out.
 pub fn entry_places(
     alloc: Global,
@@ -67,7 +71,8 @@ fn is_node(size: usize, slot: (usize, usize)) -> bool
     slot.1 <= (size - 1) >> slot.0
 }
 
-/// The slots whose digests a proof of some entries has, layer by layer from the leaves, ascending, padding included.
+/// The slots whose digests a proof of some entries has, each by its layer and its place there: layer by layer from the
+/// leaves, ascending, padding included.
 fn boundary_slots(
     alloc: Global,
     size: usize,

@@ -59,7 +59,7 @@ pub fn verify_entries(
     verify::<Sha256>(alloc, size, indices, leaves, proof, root)
 }
 
-/// The same under any hash function.
+/// [`verify_entries`] under any hash function whose values have 32 bytes, with the same errors in the same order.
 pub(crate) fn verify<H: LogHash<32>>(
     alloc: Global,
     size: usize,
