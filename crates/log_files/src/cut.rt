@@ -21,6 +21,7 @@ pub enum Cut {
 /// What becomes of a partial line: of the bytes after a file's last line feed, if there are any.
 #[derive(Clone, Copy, Debug, PartialEq, Eq)]
 pub enum PartialLine {
+    /// The file is refused.
     Refuse,
     /// The bytes are no entry.
     LeaveOut,

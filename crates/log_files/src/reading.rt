@@ -37,9 +37,11 @@ pub struct ReadLog {
 ///
 /// # Errors
 ///
-/// `EndsInsideLine` if the file ends inside a line, ahead of the limit, and a partial line is refused. `TooManyEntries`
-/// if more than 2^62 entries are read. `Read` if a read fails; an interrupted read is retried. `OutOfMemory` if memory
-/// runs out.
+/// The first of these that applies, where `OutOfMemory` may come at any time:
+///
+/// - `Read` if a read fails; an interrupted read is retried;
+/// - `TooManyEntries` if more than 2^62 entries are read;
+/// - `EndsInsideLine` if the file ends inside a line, ahead of the limit, and a partial line is refused.
 pub fn read_log<R: Read>(
     alloc: Global,
     cut: Cut,

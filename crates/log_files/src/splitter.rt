@@ -55,6 +55,7 @@ pub struct Splitter<'a> {
     count: usize,
     /// The one that has not ended.
     open_entry: OpenEntry,
+    /// The entries that are wanted, as far as they have come.
     pub wanted: WantedEntries<'a>,
 }
 

@@ -60,7 +60,7 @@ impl<'a> WantedEntries<'a> {
         self.left.first().is_some_and(|next| next.0 == index)
     }
 
-    /// Copies those of the next entries that are wanted. The first of them has index `first`.
+    /// Copies those of the next entries, each a whole one, that are wanted. The first of them has index `first`.
     pub fn copy(&mut self, alloc: Global, first: usize, entries: &[&[u8]]) -> Result<(), AllocError>
         requires { HasPlaces self.old }
         ensures places { OnOk result (HasPlaces self.new) }
