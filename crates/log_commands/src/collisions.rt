@@ -29,8 +29,10 @@ use tlog_entries::entries_collision;
 ///
 /// # Errors
 ///
-/// Those of `verify` as it prints raw bytes of the entries that the proof has; then `EndsInsideLine`, `TooFewEntries`
-/// or `OtherEntries` if the checkpoint is not of the file.
+/// The first of these that applies, where `OutOfMemory` may come at any time:
+///
+/// - those of `verify` as it prints raw bytes of the entries that the proof has;
+/// - `EndsInsideLine`, `TooFewEntries` or `OtherEntries` if the checkpoint is not of the file.
 pub fn file_entries_collision(
     alloc: Global,
     cut: Cut,
@@ -57,8 +59,11 @@ pub fn file_entries_collision(
 ///
 /// # Errors
 ///
-/// Those of `verify_consistency`; then `EndsInsideLine`, `TooFewEntries` or `OtherEntries` if the old checkpoint is not
-/// of the old file, or the new one not of the new file.
+/// The first of these that applies, where `OutOfMemory` may come at any time:
+///
+/// - those of `verify_consistency`;
+/// - `EndsInsideLine`, `TooFewEntries` or `OtherEntries` if the old checkpoint is not of the old file;
+/// - the same if the new checkpoint is not of the new file.
 pub fn file_prefix_collision(
     alloc: Global,
     cut: Cut,

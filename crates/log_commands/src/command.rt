@@ -122,9 +122,13 @@ fn is_print(print: Print, requested: &Requested) -> bool
 ///
 /// # Errors
 ///
-/// Those of the command's own call; `TooManyNumbers` for all entries of a checkpoint with more than `MOST_NUMBERS`;
-/// `Read` where an input cannot be read; `Write` if the output cannot be written. No other error leaves anything
-/// written.
+/// The first of these that applies, where `OutOfMemory` may come at any time:
+///
+/// - `Read` for the first checkpoint, proof or part that cannot be read;
+/// - where all entries of a checkpoint are proved, `Line` for its first wrong line, or `TooManyNumbers` if it has more
+///   than `MOST_NUMBERS` entries;
+/// - those of the command's own call, as [`prove`] for `Command::Prove`;
+/// - `Write` if the output cannot be written. After any other error nothing is written.
 pub fn run<R: Read + Drop, W: Write>(
     alloc: Global,
     command: Command<R>,
@@ -203,7 +207,7 @@ fn read_parts<R: Read + Drop>(alloc: Global, parts: Vec<R>) -> Result<Vec<Vec<u8
     Ok(texts)
 }
 
-/// Writes a text, and flushes.
+/// Writes a text, and flushes. `Write` if a write or the flush fails; an interrupted write is tried again.
 fn write_text<W: Write>(output: &mut W, text: &[u8]) -> Result<(), Error>
     ensures ends { EndsIn (W.contents output.old) (W.contents output.new) (Ok text.now) result }
     ensures failed { IfErr result (λ error. error ≡ FailedWrite) }

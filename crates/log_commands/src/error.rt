@@ -14,12 +14,16 @@ use tlog_entries::EntriesError;
 /// Why a command stops. It prints as one line, without the name of an input.
 #[derive(Clone, Copy, Debug, Error)]
 pub enum Error {
+    /// An input is refused.
     #[error("{1}")]
     Refused(Source, Refusal),
+    /// An input cannot be read.
     #[error("cannot be read")]
     Read(Source),
+    /// The output cannot be written.
     #[error("the output cannot be written")]
     Write,
+    /// Memory ran out.
     #[error("out of memory")]
     OutOfMemory,
 }
@@ -39,51 +43,84 @@ pub enum Source {
 /// Why an input is refused.
 #[derive(Clone, Copy, Debug, Error)]
 pub enum Refusal {
+    /// The first wrong line of a text.
     #[error("{0}")]
     Line(WrongLine),
     /// A wrong line of the checkpoint that a consistency proof contains.
     #[error("line {} of its checkpoint: expected {}{}", .0.line, .0.expected, .0.found)]
     CheckpointLine(WrongLine),
+    /// A requested entry that the checkpoint does not have.
     #[error("it has {size} entries, and no entry {number}")]
-    NumberPastEnd { number: usize, size: usize },
+    NumberPastEnd {
+        number: usize,
+        size: usize,
+    },
     /// A checkpoint with more entries than are proved at once, where all are requested.
     #[error("more than 100000000 entries at once")]
     TooManyNumbers,
+    /// A file that ends inside a line, where a partial line is refused.
     #[error("ends inside a line: `--whole-lines` leaves it out, `--partial` takes it as an entry")]
     EndsInsideLine,
+    /// A file, or all parts together, with more than 2^62 entries.
     #[error("more than 2^62 entries")]
     TooManyEntries,
+    /// A file with fewer entries than its checkpoint.
     #[error("it has {got} entries, and the checkpoint {expected}: some are missing, or give `--blocks` as for `seal`")]
-    TooFewEntries { got: usize, expected: usize },
+    TooFewEntries {
+        got: usize,
+        expected: usize,
+    },
+    /// A file whose entries have another root than the checkpoint.
     #[error("its entries are not those of the checkpoint: some changed, or give `--blocks` as for `seal`")]
     OtherEntries,
+    /// A file that begins with other entries than those of the old checkpoint.
     #[error("its first entries are not those of the old checkpoint")]
     OtherOldEntries,
+    /// A proof with another entry, the first number, where the second is requested.
     #[error("it has entry {0} where {1} is requested: give the numbers that it has, in its order, or none")]
     OtherNumber(usize, usize),
+    /// A proof that ends where an entry of this number is requested.
     #[error("it ends where entry {0} is requested: give the numbers that it has, in its order, or none")]
     MissingEntry(usize),
+    /// A proof with an entry after all that are requested.
     #[error("it has entry {0} after all that are requested: give the numbers that it has, in its order, or none")]
     UnrequestedEntry(usize),
+    /// A proof with an entry that a file of lines, or of such blocks, does not have.
     #[error("entry {0} is no line, or no block of this size: give `--blocks` as for `seal`, or \
              `--raw` to print one entry")]
     NoSuchEntry(usize),
     /// A proof of entries that the verifier refuses.
     #[error("{}", entries_words(.0))]
     Entries(EntriesError),
+    /// A new checkpoint of another log than the old one.
     #[error("its origin is not that of the old checkpoint")]
     OtherOrigin,
+    /// A new checkpoint with fewer entries than the old one.
     #[error("it has {new} entries, fewer than the {old} of the old checkpoint: are both exchanged?")]
-    SmallerSize { old: usize, new: usize },
+    SmallerSize {
+        old: usize,
+        new: usize,
+    },
+    /// Two checkpoints of one log and one size with different roots.
     #[error("two histories of one log, with one size and different roots: keep both checkpoints as evidence")]
     TwoHistories,
+    /// A consistency proof that begins with another size than the old checkpoint has.
     #[error("it is a proof from {got} entries, and the old checkpoint has {expected}")]
-    OtherOldSize { got: usize, expected: usize },
+    OtherOldSize {
+        /// The size that the proof begins with.
+        got: usize,
+        /// The size of the old checkpoint.
+        expected: usize,
+    },
     /// A consistency proof that the verifier refuses.
     #[error("{}", consistency_words(.0))]
     Consistency(ProofError),
+    /// A part whose size does not fit the first one's.
     #[error("{size} entries: all parts have one size, a power of two ({first} in the first), the last may have fewer")]
-    PartSize { size: usize, first: usize },
+    PartSize {
+        size: usize,
+        first: usize,
+    },
 }
 
 /// What the verifier's reason says of a proof of entries.
@@ -119,8 +156,8 @@ impl Error {
         }
     }
 
-    /// The exit status of a program that stops so: 2 for a wrong line of an input that is a checkpoint or part, 1 for
-    /// any other refusal, 2 where an input can't be read, the output can't be written, or memory is out.
+    /// The exit status of a program that stops so: 1 if an input is refused, but 2 for a wrong line of an input that is
+    /// a checkpoint or a part; 2 if an input cannot be read, the output cannot be written, or memory ran out.
     pub fn status(&self) -> u8
         ensures { result ≡ status_of self.now }
     {

@@ -24,7 +24,8 @@ use std::alloc::{AllocError, Global};
 use std::io::{ErrorKind, Read};
 use tlog_tree::TreeBuilder;
 
-/// Reads the first entries of a file, up to a limit, or all.
+/// Reads the first entries of a file, up to a limit, or all, with the values of these nodes and the bytes of the wanted
+/// entries. The errors are those of [`read_log`], with the file as their source.
 pub fn read_file<R: Read>(
     alloc: Global,
     cut: Cut,
@@ -40,7 +41,8 @@ pub fn read_file<R: Read>(
     Ok(read_log(alloc, cut, limit, nodes, wanted, file)?)
 }
 
-/// Reads the entries of a checkpoint from its file.
+/// Reads the entries of a checkpoint from its file, as [`read_file`] does, up to as many as the checkpoint has.
+/// `TooFewEntries` if the file has fewer, else `OtherEntries` if they have another root.
 pub fn read_under<R: Read>(
     alloc: Global,
     cut: Cut,
@@ -82,7 +84,7 @@ fn check_tree(checkpoint: &Checkpoint, size: usize, root: &[u8; 32]) -> Result<(
     Ok(())
 }
 
-/// The values of the wanted nodes of a tree that are there.
+/// The values of the wanted nodes of a tree that are there, in order. `AllocError` if memory runs out.
 pub fn digests_of(alloc: Global, tree: TreeBuilder) -> Result<Vec<[u8; 32]>, AllocError>
     ensures { IfOk result (λ digests. (leaves : List (List ℕ)) (nodes : List (ℕ × ℕ)) (all : List (List ℕ)) →
         IsBuilderOf leaves nodes tree → values_at sha256 leaves nodes ≡ all_there all → digests.items ≡ all) }
@@ -98,7 +100,7 @@ pub fn digests_of(alloc: Global, tree: TreeBuilder) -> Result<Vec<[u8; 32]>, All
     Ok(digests)
 }
 
-/// All bytes of an input, from where it stands. `Read` of `source` if a read fails.
+/// All bytes of an input, from where it stands. `Read` of `source` if a read fails, `OutOfMemory` if memory runs out.
 pub fn read_text<R: Read>(alloc: Global, source: Source, input: &mut R) -> Result<Vec<u8>, Error>
     ensures bytes { IfOk result (λ bytes. IsReadAs (R.remaining input.old) (Some bytes.items)) }
     ensures failed { IfErr result (λ error. (error ≡ OutOfMemory) ⊎ (error ≡ FailedRead source)) }
@@ -111,7 +113,7 @@ pub fn read_text<R: Read>(alloc: Global, source: Source, input: &mut R) -> Resul
     }
 }
 
-/// Parses a checkpoint.
+/// Parses a checkpoint. `Line` of `source` for its first wrong line.
 pub fn parse_checkpoint(source: Source, text: &[u8]) -> Result<Checkpoint<'_>, Error>
     ensures said { Gives checkpoint_fields result (said_by source (checkpoint_in text.now)) }
     ensures limit { IfOk result (λ checkpoint. checkpoint.size ≤ size_limit) }
@@ -119,21 +121,22 @@ pub fn parse_checkpoint(source: Source, text: &[u8]) -> Result<Checkpoint<'_>, E
     Checkpoint::parse(text).map_err(|error| text_error(source, error))
 }
 
-/// Parses a proof of entries.
+/// Parses a proof of entries. `Line` for its first wrong line, `OutOfMemory` if memory runs out.
 pub fn parse_entries_proof(alloc: Global, text: &[u8]) -> Result<EntriesProof, Error>
     ensures { Gives entries_fields result (said_by Proof (entries_in text.now)) }
 {
     EntriesProof::parse(alloc, text).map_err(|error| text_error(Source::Proof, error))
 }
 
-/// Parses a consistency proof.
+/// Parses a consistency proof. `Line` for its first wrong line, `OutOfMemory` if memory runs out.
 pub fn parse_consistency_proof(alloc: Global, text: &[u8]) -> Result<ConsistencyProof<'_>, Error>
     ensures { Gives consistency_fields result (said_by Proof (consistency_in text.now)) }
 {
     ConsistencyProof::parse(alloc, text).map_err(|error| text_error(Source::Proof, error))
 }
 
-/// Checks that a new checkpoint may follow an old one.
+/// Checks that a new checkpoint, which `source` has, may follow an old one: `OtherOrigin` if it is of another log, else
+/// `SmallerSize` if it has fewer entries, else `TwoHistories` if it has as many and another root.
 pub fn check_growth(source: Source, old: &Checkpoint, new: &Checkpoint) -> Result<(), Error>
     ensures { Checks result (growth_refusal source (checkpoint_fields old.now) (checkpoint_fields new.now)) }
 {

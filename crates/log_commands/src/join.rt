@@ -17,15 +17,17 @@ use tlog::SIZE_LIMIT;
 use tlog_tree::Frontier;
 
 /// The text of the checkpoint, under this origin, of the file whose parts these texts are, in their order. Each part is
-/// a checkpoint of the origin `PART_ORIGIN`; all but the last have one size, a power of two, and the last has 1 entry
-/// to as many. The root is that of the whole file; of no parts, that of no entries. It is read again if
-/// [`is_origin`](log_text::is_origin) takes the origin.
+/// a checkpoint of the origin `PART_ORIGIN`; all but the last have one size, a power of two, and the last has from 1
+/// entry to as many as the first. The root is that of the whole file; of no parts, that of no entries. It is read again
+/// if [`is_origin`](log_text::is_origin) takes the origin.
 ///
 /// # Errors
 ///
-/// In this order, each within `Refused`: `Line` for the first wrong line of the first part that has one; `PartSize` for
-/// the first part whose size does not fit; `TooManyEntries`, of part 0, if all parts together have more than 2^62
-/// entries. `OutOfMemory` may come at any time.
+/// The first of these that applies, each within `Refused`, where `OutOfMemory` may come at any time:
+///
+/// - `Line` for the first wrong line of the first part that has one;
+/// - `PartSize` for the first part whose size does not fit;
+/// - `TooManyEntries`, of part 0, if all parts together have more than 2^62 entries.
 pub fn join(alloc: Global, origin: &str, texts: &[Vec<u8>]) -> Result<Vec<u8>, Error>
     ensures { Gives bytes_in result (join_outcome origin.now (map bytes_in texts.now)) }
 {

@@ -29,9 +29,16 @@ pub const MOST_NUMBERS: usize = 100_000_000;
 ///
 /// # Errors
 ///
-/// In this order: the first wrong line of the checkpoint; `NumberPastEnd` for the first number that it does not have,
-/// where the file is not read; `Read` if the file cannot be read; `EndsInsideLine`; `TooFewEntries`; `OtherEntries`.
-/// `OutOfMemory` may come at any time.
+/// The first of these that applies, where `OutOfMemory` may come at any time. All but `Read` come within `Refused`,
+/// with the input that is refused.
+///
+/// - `Line` for the first wrong line of the checkpoint;
+/// - `NumberPastEnd` for the first number that the checkpoint does not have. The file is then not read.
+/// - `Read` if the file cannot be read;
+/// - `EndsInsideLine` if the file ends inside a line, ahead of the last entry of the checkpoint, and `cut` refuses
+///   that;
+/// - `TooFewEntries` if the file has fewer entries than the checkpoint;
+/// - `OtherEntries` if its first entries, as many as the checkpoint has, have another root.
 pub fn prove<R: Read>(
     alloc: Global,
     cut: Cut,
@@ -50,7 +57,12 @@ pub fn prove<R: Read>(
     prove_under(alloc, cut, &checkpoint, numbers, file)
 }
 
-/// The given numbers, or those of all entries of a checkpoint, if it has at most `MOST_NUMBERS`.
+/// The given numbers, or those of all entries of a checkpoint.
+///
+/// # Errors
+///
+/// Where no numbers are given: `Line` for the first wrong line of the checkpoint, else `TooManyNumbers` if it has more
+/// than `MOST_NUMBERS` entries. `OutOfMemory` may come at any time.
 pub(crate) fn numbers_of(
     alloc: Global,
     numbers: Option<Vec<usize>>,
@@ -71,7 +83,7 @@ pub(crate) fn numbers_of(
     Ok(all_numbers(alloc, checkpoint.size)?)
 }
 
-/// The numbers of all entries of a log of so many; number 1, which it refuses, of a log of none.
+/// The numbers of all entries of a log of so many, from 1 on. A log of none gives number 1, which is then refused.
 pub(crate) fn all_numbers(alloc: Global, size: usize) -> Result<Vec<usize>, AllocError>
     requires { size ≤ size_limit }
     ensures { IfOk result (λ numbers. (numbers.items ≡ all_numbers size) × AreNumbers numbers.items) }

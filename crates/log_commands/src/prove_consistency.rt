@@ -28,10 +28,18 @@ use tlog_tree::consistency_places;
 ///
 /// # Errors
 ///
-/// In this order: the first wrong line of the old checkpoint, then of the new one; `OtherOrigin`, `SmallerSize` or
-/// `TwoHistories` if the new one does not follow the old one, where the file is not read; `Read` if the file cannot be
-/// read; `EndsInsideLine`; `TooFewEntries`; `OtherEntries`; `OtherOldEntries` if the file does not begin with the
-/// entries of the old checkpoint. `OutOfMemory` may come at any time.
+/// The first of these that applies, where `OutOfMemory` may come at any time. All but `Read` come within `Refused`,
+/// with the input that is refused.
+///
+/// - `Line` for the first wrong line of the old checkpoint, then of the new one;
+/// - `OtherOrigin`, `SmallerSize` or `TwoHistories` if the new checkpoint does not follow the old one. The file is then
+///   not read.
+/// - `Read` if the file cannot be read;
+/// - `EndsInsideLine` if the file ends inside a line, ahead of the last entry of the new checkpoint, and `cut` refuses
+///   that;
+/// - `TooFewEntries` if the file has fewer entries than the new checkpoint;
+/// - `OtherEntries` if its first entries, as many as the new checkpoint has, have another root;
+/// - `OtherOldEntries` if the file does not begin with the entries of the old checkpoint.
 pub fn prove_consistency<R: Read>(
     alloc: Global,
     cut: Cut,

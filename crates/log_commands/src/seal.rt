@@ -17,7 +17,12 @@ use std::io::Read;
 ///
 /// # Errors
 ///
-/// `Read` if the file cannot be read; `TooManyEntries`, else `EndsInsideLine`; `OutOfMemory` at any time.
+/// The first of these that applies, where `OutOfMemory` may come at any time. All but `Read` come within `Refused`,
+/// with the input that is refused.
+///
+/// - `Read` if the file cannot be read;
+/// - `TooManyEntries` if it has more than 2^62 entries;
+/// - `EndsInsideLine` if it ends inside a line, and `cut` refuses that.
 pub fn seal<R: Read>(alloc: Global, origin: &str, cut: Cut, file: &mut R) -> Result<Vec<u8>, Error>
     requires { IsCut cut }
     ensures { HoldsOfInput (R.remaining file.old)

@@ -45,10 +45,13 @@ pub enum Requested {
 ///
 /// # Errors
 ///
-/// In this order: the first wrong line of the checkpoint, then of the proof; `OtherNumber`, `UnrequestedEntry` or
-/// `MissingEntry` where its entries first differ from the requested ones; `NoSuchEntry` for the first that cannot be
-/// printed, a line with a line feed inside or a block of another length; `Entries` with the verifier's reason.
-/// `OutOfMemory` may come at any time.
+/// The first of these that applies, each within `Refused`, where `OutOfMemory` may come at any time:
+///
+/// - `Line` for the first wrong line of the checkpoint, then of the proof;
+/// - `OtherNumber`, `UnrequestedEntry` or `MissingEntry` where its entries first differ from the requested ones;
+/// - `NoSuchEntry` for the first entry that cannot be printed: a line with a line feed inside, or a block of another
+///   length;
+/// - `Entries` with the verifier's reason.
 pub fn verify(
     alloc: Global,
     print: Print,

@@ -17,10 +17,13 @@ use tlog::verify_consistency as verify;
 ///
 /// # Errors
 ///
-/// In this order: the first wrong line of the old checkpoint, then of the proof; `OtherOldSize` if the proof is from
-/// another size than the old one; `CheckpointLine` for the first wrong line of the new checkpoint; `OtherOrigin`,
-/// `SmallerSize` or `TwoHistories` if it does not follow the old one; `Consistency` with the verifier's reason.
-/// `OutOfMemory` may come at any time.
+/// The first of these that applies, each within `Refused`, where `OutOfMemory` may come at any time:
+///
+/// - `Line` for the first wrong line of the old checkpoint, then of the proof;
+/// - `OtherOldSize` if the proof is from another size than that of the old checkpoint;
+/// - `CheckpointLine` for the first wrong line of the new checkpoint;
+/// - `OtherOrigin`, `SmallerSize` or `TwoHistories` if the new checkpoint does not follow the old one;
+/// - `Consistency` with the verifier's reason.
 pub fn verify_consistency(alloc: Global, old: &[u8], proof: &[u8]) -> Result<Vec<u8>, Error>
     ensures { Gives bytes_in result (verify_consistency_outcome old.now proof.now) }
 {
