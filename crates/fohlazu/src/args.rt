@@ -88,6 +88,7 @@ impl Display for Escaped<'_> {
     }
 }
 
+/// The arguments of a command, as far as they are not in it: what its inputs are called, and where its output goes.
 #[derive(Drop)]
 pub struct Args<'a> {
     pub rt: &'a HostRuntime,
@@ -96,6 +97,17 @@ pub struct Args<'a> {
 }
 
 /// Reads the arguments: the command, and what its inputs are called. The notes take what happens while they are read.
+///
+/// # Errors
+///
+/// The first of these that applies, where `OutOfMemory` may come at any time:
+///
+/// - `Word` for the first argument that begins with `-` and is no option of the command;
+/// - `Clap` if the arguments are not as the help says, or ask for it;
+/// - `Refused` if no command is given, or `-` is more than one input;
+/// - `Word` for the first input that is the output too;
+/// - `Word` for the first number or range that is none, or that makes the numbers more than `MOST_NUMBERS`;
+/// - `Refused` if the command cannot be run: see [`Command::is_lawful`].
 pub fn parse_args<'a>(
     rt: &'a HostRuntime,
     notes: &'a Notes,
@@ -129,7 +141,8 @@ pub fn parse_args<'a>(
 fn check_options(words: &[String]) -> Result<(), ArgsError<'_>> {
     let command = words.get(1).map_or("", |word| word.as_str());
     let row = COMMANDS.into_iter().find(|row| row.0 == command);
-    let ids = row.map_or("version", |row| row.3); // one option is left where there is no such command
+    // Where there is no such command, `--version` is an option.
+    let ids = row.map_or("version", |row| row.3);
     let words = words.iter().skip(1).map(|word| word.as_str());
     for word in words.take_while(|word| *word != "--") {
         if word.len() > 1 && word.starts_with('-') && !is_option(word, ids) {
@@ -154,6 +167,7 @@ fn is_option(word: &str, ids: &str) -> bool {
 }
 
 impl<'a> Args<'a> {
+    /// The name that the user gave to an input.
     pub fn name_of(&self, source: Source) -> &'a str {
         let (id, k) = match source {
             Source::Checkpoint => ("CHECKPOINT", 0),
@@ -167,6 +181,7 @@ impl<'a> Args<'a> {
         names.and_then(|names| names.get(k).copied()).unwrap_or("")
     }
 
+    /// The command of this name, by the arguments that were found. It may be one that cannot be run.
     fn command(&self, alloc: Global, name: &str) -> Result<Command<Input<'a>>, ArgsError<'a>> {
         Ok(match name {
             "seal" => Command::Seal {
@@ -227,12 +242,14 @@ impl<'a> Args<'a> {
         Ok(())
     }
 
+    /// The input of an argument. That of `FILE` shows its progress, unless `--quiet` is given.
     fn input(&self, id: &str) -> Input<'a> {
         let shows_progress = id == "FILE" && !self.found.get_flag("quiet");
         let name = self.found.get_str(id).unwrap_or("");
         Input::new(self.rt, name, shows_progress, self.notes)
     }
 
+    /// The inputs of `join`.
     fn parts(&self, alloc: Global) -> Result<Vec<Input<'a>>, AllocError> {
         let names = self.found.get_strs("PART").unwrap_or(&[]).iter();
         names
@@ -288,6 +305,7 @@ impl<'a> Args<'a> {
         }
     }
 
+    /// How the entries of a proof are printed.
     fn print(&self) -> Print {
         match self.found.get_one("blocks") {
             Some(bytes) => Print::Blocks(bytes),
@@ -322,6 +340,7 @@ fn range_of(range: &str) -> Result<(usize, usize), &'static str>
     Ok((first, last))
 }
 
+/// The number of an entry, from 1 to 2^62, or why a word is none.
 fn number_of(word: &str) -> Result<usize, &'static str> {
     if word.is_empty() || !word.bytes().all(|byte| byte.is_ascii_digit()) {
         return Err("no number of an entry, as 3, 3-7, 3,7 or all");
@@ -333,6 +352,7 @@ fn number_of(word: &str) -> Result<usize, &'static str> {
     }
 }
 
+/// The syntax of the arguments, by the table of commands.
 fn program<'a>(alloc: Global) -> Result<Syntax<'a>, AllocError> {
     let mut program = Syntax::new(alloc, "fohlazu")
         .bin_name("fohlazu")?
@@ -372,6 +392,7 @@ fn argument<'a>(alloc: Global, id: &str) -> Result<Arg<'a>, AllocError> {
     })
 }
 
+/// The operand of this name.
 fn operand<'a>(alloc: Global, id: &str) -> Result<Arg<'a>, AllocError> {
     Ok(match id {
         "CHECKPOINT" => arg!(in alloc; <CHECKPOINT> "The checkpoint"),

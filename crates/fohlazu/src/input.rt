@@ -42,18 +42,24 @@ pub struct Input<'a> {
 }
 
 impl<'a> Input<'a> {
-    /// The input of this name, not opened yet. If `shown`, a terminal on standard error shows how far it is read.
-    /// `notes` takes why a read fails.
-    pub fn new(rt: &'a HostRuntime, name: &'a str, shown: bool, notes: &'a Notes) -> Input<'a> {
+    /// The input of this name, not opened yet. If `shows_progress`, a terminal on standard error shows how far it is
+    /// read. `notes` takes why a read fails.
+    pub fn new(
+        rt: &'a HostRuntime,
+        name: &'a str,
+        shows_progress: bool,
+        notes: &'a Notes,
+    ) -> Input<'a> {
         Input {
             rt,
             name,
             file: None,
-            progress: Progress::start(rt, shown),
+            progress: Progress::start(rt, shows_progress),
             notes,
         }
     }
 
+    /// Reads the next bytes. The first call opens the file.
     fn read_next(&mut self, buf: &mut [u8]) -> io::Result<usize>
         ensures { IfOk result (λ count. IsPrefixLen count buf.new) }
     {

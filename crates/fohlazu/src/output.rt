@@ -22,7 +22,12 @@ pub struct Replacement<'a> {
 }
 
 impl<'a> Replacement<'a> {
-    /// A file of this name, which replaces a regular one if there is one.
+    /// A file of this name, which replaces a regular one if there is one. Nothing is written yet.
+    ///
+    /// # Errors
+    ///
+    /// The error of the system call that failed; `InvalidInput` if the name is that of a file which is not a regular
+    /// one.
     pub fn new(rt: &'a HostRuntime, name: &str) -> io::Result<Replacement<'a>> {
         let place = match fs::canonicalize(rt, name) {
             Err(error) if error.kind() == ErrorKind::NotFound => {
@@ -48,6 +53,11 @@ impl<'a> Replacement<'a> {
     }
 
     /// Puts the file in its place, with the mode of what it replaces, and makes sure that the disk has it.
+    ///
+    /// # Errors
+    ///
+    /// The error of the system call that failed. What was written is then removed, and the place stays as it was. If
+    /// only the last call fails, by which the disk gets the new name, the file stands in its place.
     pub fn finish(mut self) -> io::Result<()> {
         self.file()?;
         let done = self.put();
@@ -57,7 +67,11 @@ impl<'a> Replacement<'a> {
         done
     }
 
-    /// Removes what is written, so that the place stays as it was. Returns the error of the last write, if that failed.
+    /// Removes what is written, so that the place stays as it was.
+    ///
+    /// # Errors
+    ///
+    /// The error of the last write, if that failed.
     pub fn give_up(self) -> io::Result<()> {
         self.remove();
         self.failure.map_or(Ok(()), Err)
@@ -78,12 +92,14 @@ impl<'a> Replacement<'a> {
         folder.sync_all()
     }
 
+    /// Removes what is written. An error of that is passed over, since another one is reported.
     fn remove(&self) {
         if let Some((name, _)) = &self.written {
             let _ = fs::remove_file(self.rt, name.as_path());
         }
     }
 
+    /// The file that is written, which the first call creates.
     fn file(&mut self) -> io::Result<&mut File> {
         let (rt, place, mode) = (self.rt, self.place.as_path(), self.mode.unwrap_or(0o666));
         let (_, file) = self
@@ -138,6 +154,7 @@ impl Write for StandardOutput<'_> {
     }
 }
 
+/// The folder that a file stands in.
 fn folder_of(path: Path<'_>) -> Path<'_> {
     match path.parent() {
         Some(folder) if !folder.as_str().is_empty() => folder,
