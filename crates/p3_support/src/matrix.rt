@@ -242,7 +242,8 @@ impl<'a, T, P: PackedValue<Value = T>, M: Matrix<T>> Iterator for PackedRow<'a, 
     }
 }
 
-/// Packs one column of `P::WIDTH` rows from `row` on: lane `k` is the element of row `row + k`.
+/// Packs one column of `P::WIDTH` rows from `row` on: lane `k` is the element of row `row + k`. `row + P::WIDTH` must
+/// be at most the height, and the column below the width.
 pub(crate) fn packed_column<P: PackedValue, M: Matrix<P::Value>>(
     matrix: &M,
     row: usize,
@@ -305,7 +306,8 @@ impl<T> RowMajorMatrix<T> {
         }
     }
 
-    /// As [`new`](Self::new), for values from outside, whose number is not known to fit.
+    /// The matrix of these values, with `width` of them in a row, as [`new`](Self::new) returns it: for values from
+    /// outside, whose number is not known to fit.
     ///
     /// # Errors
     ///

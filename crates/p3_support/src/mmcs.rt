@@ -11,12 +11,15 @@ use crate::opening::{BatchOpening, BatchOpeningRef};
 use std::alloc::Global;
 
 /// A scheme that commits to several matrices `M` of words `T` at once, opens the rows that belong to an index, and
-/// verifies an opening against the commitment (`Mmcs` in the Rust crate). An index counts the rows of the tallest
-/// matrix, from 0. The verifier has the commitment and the dimensions of the matrices, and no matrix.
+/// verifies an opening against the commitment (`Mmcs` in the Rust crate).
+///
+/// An index counts the rows of the tallest matrix, from 0. The verifier has the commitment and the dimensions of the
+/// matrices, and no matrix.
 ///
 /// An accepted opening fits the dimensions: its index is below the tallest height, and it has one row of the right
 /// width for each matrix. The trait does not promise that a commitment fixes the rows: two different openings of one
-/// index may both be accepted. Each scheme says what follows from that, by a call such as `extract_collision`.
+/// index may both be accepted. Each scheme says what follows from two such openings, by a call of its own such as
+/// `extract_collision`.
 pub trait Mmcs<T, M: Matrix<T>> {
     /// What the prover stores, to open rows from.
     type ProverData: Drop;
@@ -94,7 +97,7 @@ pub trait Mmcs<T, M: Matrix<T>> {
     ///
     /// # Errors
     ///
-    /// Only if memory runs out.
+    /// The scheme's error that memory ran out (`is_out_of_memory`), and no other.
     fn open_batch(
         &self,
         alloc: Global,
@@ -114,7 +117,7 @@ pub trait Mmcs<T, M: Matrix<T>> {
     ///
     /// # Errors
     ///
-    /// Only if memory runs out.
+    /// The scheme's error that memory ran out (`is_out_of_memory`), and no other.
     fn get_matrices<'a>(
         &self,
         alloc: Global,
@@ -157,7 +160,7 @@ pub trait Mmcs<T, M: Matrix<T>> {
     ///
     /// # Errors
     ///
-    /// Only if memory runs out.
+    /// The scheme's error that memory ran out (`is_out_of_memory`), and no other.
     fn open_multi_batch(
         &self,
         alloc: Global,
