@@ -14,10 +14,11 @@ use crate::lanes::{U32x8, transpose};
 use p3_support::packed::{lemma_rows, pack_columns_fn, unpack_at};
 use std::simd::prelude::*;
 
-/// The longest digest, in words, hashed in eights. A longer one leaves no registers for the transposed words.
+/// The longest digest, in words, for which eight messages are hashed together. A longer one leaves no registers for the
+/// transposed words.
 const MOST_HASHED: usize = 4;
 
-/// The longest digest, in words, compressed in eights. A longer one fills vectors by itself.
+/// The longest digest, in words, for which eight groups are compressed together. A longer one fills vectors by itself.
 const MOST_COMPRESSED: usize = 1;
 
 /// Packs word `column` of `P::WIDTH` messages: lane `k` is from message `first + k`.
@@ -38,7 +39,8 @@ fn column_of<P: FoldLane>(messages: &[u32], width: usize, first: usize, column: 
     )
 }
 
-/// Absorbs the columns from `from` on of `P::WIDTH` messages, one a lane, from message `first` on.
+/// Absorbs the columns from `from` on of `P::WIDTH` messages, one a lane, from message `first` on. The state has
+/// absorbed the columns ahead of them.
 fn absorb_columns<P: FoldLane, const D: usize>(
     state: &mut [P; D],
     messages: &[u32],
@@ -71,7 +73,7 @@ fn absorb_words<P: FoldLane, const D: usize>(state: &mut [P; D], words: &[P])
     }
 }
 
-/// Words `column` to `column + 3` of message `message`.
+/// Words `column` to `column + 3` of message `message`, which must have them.
 fn words_at(messages: &[u32], width: usize, message: usize, column: usize) -> &[u32]
     requires full { (n : ℕ) × (message < n) × (length messages.now ≡ n * width) }
     requires inside { column + 4 ≤ width }
@@ -82,7 +84,8 @@ fn words_at(messages: &[u32], width: usize, message: usize, column: usize) -> &[
     &words[column..column + 4]
 }
 
-/// Four columns of four messages: vector `i` is column `column + i`, and its lane `k` is from message `first + k`.
+/// The columns `column` to `column + 3` of the messages `first` to `first + 3`: vector `i` is column `column + i`, and
+/// its lane `k` is from message `first + k`.
 fn columns_of_four(messages: &[u32], width: usize, first: usize, column: usize) -> [u32x4; 4]
     requires full { (n : ℕ) × (first + 4 ≤ n) × (length messages.now ≡ n * width) }
     requires fits { first + 4 < 2 ^ 64 }
@@ -101,7 +104,8 @@ fn columns_of_four(messages: &[u32], width: usize, first: usize, column: usize) 
     )
 }
 
-/// Four columns of eight messages: vector `i` is column `column + i`, and its lane `k` is from message `first + k`.
+/// The columns `column` to `column + 3` of the messages `first` to `first + 7`: vector `i` is column `column + i`, and
+/// its lane `k` is from message `first + k`.
 fn columns_of_eight(messages: &[u32], width: usize, first: usize, column: usize) -> [U32x8; 4]
     requires full { (n : ℕ) × (first + 8 ≤ n) × (length messages.now ≡ n * width) }
     requires fits { first + 8 < 2 ^ 64 }
@@ -119,7 +123,8 @@ fn columns_of_eight(messages: &[u32], width: usize, first: usize, column: usize)
     ]
 }
 
-/// Absorbs eight messages from message `first` on, one a lane, up to the last whole four columns.
+/// Absorbs eight messages into the state, one a lane, from message `first` on, four columns at a time. The columns
+/// after the last whole four are left out.
 fn absorb_fours<const D: usize>(
     state: &mut [U32x8; D],
     messages: &[u32],

@@ -143,7 +143,8 @@ impl<P: FoldLane, const L: usize, const D: usize> CryptographicHasher<P, P, D> f
     }
 }
 
-/// Mixes a child into the digest: each element becomes `31 * element + child[e] + place`, modulo 2^32.
+/// Mixes the child at `place` into the digest, lane by lane: each element becomes `31 * element + child[e] + place`,
+/// modulo 2^32.
 fn mix<P: FoldLane, const D: usize>(digest: &mut [P; D], child: &[P; D], place: usize)
     ensures long { length digest.new ≡ length digest.old }
     ensures each { (k e : ℕ) → k < P.WIDTH → e < D →

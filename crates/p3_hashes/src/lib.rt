@@ -1,6 +1,6 @@
 //! Hashers and compressions that a Merkle tree can be built with: the fold functions, whose digests can be worked out
-//! by hand; SHA-256 (FIPS 180-4), one message at a time and eight; values in two and in eight lanes; and a wrapper with
-//! `LANES` 3.
+//! by hand; SHA-256 (FIPS 180-4), one message at a time and eight; values in two and in eight lanes; and a wrapper that
+//! sets `LANES` to 3.
 //!
 //! Eight messages of one length are hashed together, one in each lane of the processor's vectors; those after the last
 //! whole eight are hashed one by one. The digests are those of the crate `sha2`.

@@ -42,7 +42,7 @@ pub(crate) fn words(messages: &[u8], width: usize, at: usize) -> u32x8
     ])
 }
 
-/// Byte `at` of padded message `j` of eight; `at` is not among the last eight bytes.
+/// Byte `at` of padded message `j` of eight. It must not be one of the last eight, which have the length.
 #[inline(always)]
 fn padded_byte(messages: &[u8], width: usize, j: usize, at: usize) -> u8
     requires full { length messages.now ≡ 8 * width }
@@ -59,7 +59,9 @@ fn padded_byte(messages: &[u8], width: usize, j: usize, at: usize) -> u8
     }
 }
 
-/// The word at byte `at` of padded message `j` of eight, which ends ahead of the last eight bytes.
+/// The word at byte `at` of padded message `j` of eight, which may have bytes of the message and of its padding. `at`
+/// is at most `width`, and the word must end ahead of the last eight bytes of the padded message, which have its
+/// length.
 #[inline(always)]
 fn mixed_word(messages: &[u8], width: usize, j: usize, at: usize) -> u32
     requires full { length messages.now ≡ 8 * width }
@@ -181,7 +183,8 @@ fn filled_count(width: usize) -> usize
     width.div_ceil(64)
 }
 
-/// The inputs of the rounds over the last block, if that is padding alone. Otherwise zeros, which nothing reads.
+/// The inputs of the rounds over the last block of messages of `width` bytes, if that block is padding alone. It is the
+/// same for all of them, so its schedule is computed once. Otherwise the result is zeros, which nothing reads.
 fn padding_inputs(width: usize) -> [u32x8; 64]
     requires { width + 72 < 2 ^ 64 }
     ensures { IsPadding width result }
@@ -240,7 +243,8 @@ pub(crate) fn lane_words(state: &[u32x8; 8], j: usize) -> [u32; 8]
     ]
 }
 
-/// Writes the digest of message `i` into `out[i]`, for eight messages from message `first` on.
+/// Writes the digest of message `i` into `out[i]`, for eight messages of `width` bytes each, from message `first` on.
+/// `padding` is from [`padding_inputs`].
 fn hash_eight<const D: usize>(
     messages: &[u8],
     width: usize,

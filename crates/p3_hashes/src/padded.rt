@@ -11,7 +11,8 @@ use crate::messages::{digest_of, lane_words, words};
 use std::alloc::AllocError;
 use std::simd::prelude::*;
 
-/// Loads block `t` of each of eight messages of `width` bytes into `block`, one message a lane.
+/// Loads block `t` of each of eight messages of `width` bytes into `block`, one message a lane. The messages must have
+/// the whole block.
 fn load_block(block: &mut [u32x8; 16], messages: &[u8], width: usize, t: usize)
     requires full { length messages.now ≡ 8 * width }
     requires inside { 64 * t + 64 ≤ width }
@@ -38,8 +39,8 @@ fn whole_states(messages: &[u8], count: usize) -> [u32x8; 8]
     state
 }
 
-/// The digests of eight messages that fill `count` blocks of 64 bytes each with their padding. `blocks` has the padded
-/// messages one after another, `8 * 64 * count` bytes.
+/// The digests of eight messages of any lengths that fill `count` blocks of 64 bytes each with their padding. `blocks`
+/// has the padded messages one after another, `8 * 64 * count` bytes, as [`push_padded`] appends them.
 pub fn hash_padded_eight(blocks: &[u8], count: usize) -> [[u8; 32]; 8]
     requires { length blocks.now ≡ 8 * (64 * count) }
     ensures { (j : ℕ) (m : List ℕ) → j < 8 → message (64 * count) blocks.now j ≡ padded_message m →

@@ -1,4 +1,5 @@
-//! SHA-256 as in `sha`, eight messages at a time: a tree built with these is the tree built with those.
+//! SHA-256 (FIPS 180-4) of rows of bytes, and of digests one after another, by calls that take eight messages at a
+//! time. The functions are those of `sha`, so that a tree built with these is the tree built with those.
 ghost use Rattle.std.specs.Prelude.{◌≡◌, ℕ, ◌<◌, ◌∷◌, [], length, map, slice_index_or};
 ghost use Rattle.p3_support.specs.Lists.{lane_of};
 ghost use Rattle.p3_hashes.specs.Sha.{sha256_rows, sha256_nodes};
@@ -60,8 +61,9 @@ fn lemma_digests<const N: usize, const D: usize>(groups: &[[[u8; D]; N]])
     }
 }
 
-/// SHA-256 of `N` digests of 32 bytes, with the digests of [`Sha256Nodes`]. `compress_many` hashes eight groups at a
-/// time, each in a lane of vectors of the processor, and the groups after the last whole eight one by one.
+/// SHA-256 of `N` digests of 32 bytes, one after another, with the digests of [`Sha256Nodes`]. `compress_many` hashes
+/// eight groups at a time, each in a lane of vectors of the processor, and the groups after the last whole eight one by
+/// one.
 #[derive(Clone, Copy, Debug)]
 pub struct Sha256NodesInEights<const N: usize>;
 

@@ -14,7 +14,8 @@ pub(crate) fn add(x: u32x8, y: u32x8) -> u32x8
     x + y
 }
 
-/// ROTR of the standard: the word in each lane rotated to the right by `k` bits, where `0 < k < 32`.
+/// ROTR of the standard: the word in each lane rotated to the right by `k` bits, where `0 < k < 32`. Vectors have no
+/// such operation, so it takes two shifts.
 #[inline(always)]
 fn rotate_right(x: u32x8, k: u32) -> u32x8
     requires low { 0 < k }
