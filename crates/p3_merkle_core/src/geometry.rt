@@ -1,4 +1,7 @@
 //! Heights, widths and lengths of layers, computed from the dimensions of matrices. Nothing here allocates.
+//!
+//! Heights are lawful if each is the tallest one halved, and each time rounded up, some number of times. The slots of a
+//! layer are its nodes, then default digests as padding.
 
 ghost use Rattle.std.specs.Prelude.{◌≡◌, ◌/◌, ◌%◌, ◌^◌, ◌<◌, ◌≤◌, Some, None, MatchResult, map};
 ghost use Rattle.p3_support.specs.Batches.{heights_of, greatest};
@@ -66,12 +69,12 @@ pub fn height_of_exponent(max_height: usize, exponent: usize) -> usize
     (max_height.saturating_sub(1) >> exponent_of(max_height).saturating_sub(exponent)) + 1
 }
 
-/// The position of the first matrix whose height is above [`MAX_HEIGHT`]. `max_height` must be the tallest height.
+/// The position of the first matrix whose height is above [`MAX_HEIGHT`], if there is one. `max_height` must be the
+/// tallest height: where it is within the limit, no other height is read.
 pub(crate) fn first_too_large_of(dimensions: &[Dimensions], max_height: usize) -> Option<usize>
     requires { max_height ≡ greatest (heights_of dimensions.now) }
     ensures { result ≡ first_too_large (heights_of dimensions.now) }
 {
-    // Where the tallest height is within the limit, no other is read.
     if max_height <= MAX_HEIGHT {
         return None;
     }
@@ -85,8 +88,10 @@ pub(crate) fn first_too_large_of(dimensions: &[Dimensions], max_height: usize) -
 ///
 /// # Errors
 ///
-/// `WrongBatchSize` if the number of rows is not that of the matrices; else `WrongWidth` for the first row whose length
-/// is not its matrix's width.
+/// The first of these that applies:
+///
+/// - `WrongBatchSize` if the number of rows is not that of the matrices;
+/// - `WrongWidth` for the first row whose length is not the width of its matrix.
 pub fn check_widths<T>(dimensions: &[Dimensions], rows: &[Vec<T>]) -> Result<(), MerkleTreeError>
     ensures { MatchResult result (λ ok. width_refusal dimensions.now (map (λ r. r.items) rows.now) ≡ None)
         (λ e. width_refusal dimensions.now (map (λ r. r.items) rows.now) ≡ Some e) }

@@ -94,7 +94,8 @@ pub fn place_eq(a: &Place, b: &Place) -> bool
     *a == *b
 }
 
-/// `==` of input pairs is equality of variant, place and inputs if `==` on `T` and on `X` is equality of values.
+/// If `==` on `T` and on `X` is equality of values, `==` holds of input pairs exactly if both are of one variant, with
+/// the same place and the same inputs.
 fn input_pair_eq<T: Eq, X: Eq>(a: &InputPair<T, X>, b: &InputPair<T, X>) -> bool
     ensures { IsEquality T.eq → IsEquality X.eq → IsTrue result ↔ IsSamePair a.now b.now }
 {

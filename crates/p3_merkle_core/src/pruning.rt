@@ -1,7 +1,11 @@
 //! Pruned openings: their form, whether their rows agree, the nodes that they cover, and the paths that are read from
 //! their layers. Nothing here needs a cap or a hash.
-//! The row set of a query has one row of each matrix. The slot of an index is its position among the distinct indices,
-//! ascending. Rows agree if queries of one index have one row set, and those under a node one row of each matrix there.
+//!
+//! - A query is the index of a leaf. Its row set has one row of each matrix. The slot of an index is its position among
+//!   the distinct indices, ascending.
+//! - A node is covered if it is a queried leaf or above one. The boundary is the children of covered nodes that are not
+//!   covered themselves: a proof has their digests.
+//! - Rows agree if queries of one index have one row set, and queries under a node one row of each matrix of its layer.
 
 ghost use Rattle.std.specs.Prelude.{◌≡◌, ℕ, ◌+◌, ◌-◌, ◌*◌, ◌/◌, ◌%◌, ◌^◌, ◌<◌, ◌≤◌, ◌⊎◌, ◌++◌, Some, None, List, []};
 ghost use Rattle.std.specs.Prelude.{All, IfOk, MatchResult, length, map, remove, slice_index, slice_index_or, true};
@@ -110,7 +114,8 @@ pub fn check_indices(max_height: usize, indices: &[usize]) -> Result<(), MerkleT
     }
 }
 
-/// The distinct `indices`, ascending, and the slot of each query. `sorted` has each index with its query, ascending.
+/// The distinct indices, ascending, and the slot of each query, in query order. `indices` has the index of each query,
+/// and `sorted` has each query as its index and its position, ascending.
 fn distinct_slots(
     alloc: Global,
     sorted: &[(usize, usize)],
@@ -156,7 +161,8 @@ fn distinct_queries_of(alloc: Global, queries: &[usize]) -> Result<DistinctQueri
     })
 }
 
-/// Checks that each query has the row set of the first query of its index.
+/// Checks that each query has the row set of the first query of its index, else `InconsistentDuplicateOpenings`. `rows`
+/// has the row set of each of `indices`, and `queried` their slots.
 fn check_repeats<T: Eq>(
     indices: &[usize],
     rows: &[Vec<Vec<T>>],
@@ -178,7 +184,9 @@ fn check_repeats<T: Eq>(
     Ok(())
 }
 
-/// Checks that `slot` and the first slot under the same node have the same row of each of `matrices`.
+/// Checks that `rows` and `first_rows` have the same row of each of `matrices`, which are positions in both: else
+/// `InconsistentGroupOpening` for the first that differs. `rows` is the row set of `slot`, and `first_rows` that of the
+/// first slot under the same node. `slot` is only reported.
 fn check_same_rows<T: Eq>(
     matrices: &[usize],
     slot: usize,
@@ -204,7 +212,10 @@ fn check_same_rows<T: Eq>(
     Ok(())
 }
 
-/// Checks that slots under one node, whose indices differ in the lowest `bits` bits alone, have the same rows.
+/// Checks that slots under one node of a layer have the same rows of `matrices`, the positions of the layer's matrices,
+/// else `InconsistentGroupOpening`. Each slot is compared with the first one under its node. `indices` are distinct and
+/// ascending; `first_queries` has the first query of each, whose row set in `rows` is compared. A node's number is an
+/// index without its lowest `bits` bits.
 fn check_rows_under_nodes<T: Eq>(
     matrices: &[usize],
     indices: &[usize],
@@ -252,7 +263,8 @@ fn list_matrices(
     Ok(())
 }
 
-/// Checks that slots under one node have the same rows of the matrices of its layer, up to layer `cap_layer`.
+/// Checks that slots under one node have the same rows of the matrices of its layer, layer by layer up to layer
+/// `cap_layer`, else `InconsistentGroupOpening`. `rows` has the row set of each query, with a row for each matrix.
 fn check_shared_rows<T: Eq>(
     alloc: Global,
     steps: &Steps<'_>,
@@ -344,7 +356,8 @@ pub fn check_pruned<T: Eq>(
     Ok(queried)
 }
 
-/// Checks the heights, the number of row sets, that no digest comes without an index, and the indices.
+/// Checks, in this order: the heights; that there is a row set for each index; that there is no digest where there is
+/// no index; and that each index is below the tallest height. It does not allocate.
 fn check_queries(
     steps: &Steps<'_>,
     indices: &[usize],
@@ -429,7 +442,8 @@ pub fn children_of<X: Copy>(
     Ok(children)
 }
 
-/// The place of `node` among ascending nodes. The search begins at the place `start`, or at 0 if the node is before it.
+/// The place of `node` among ascending nodes, of which it must be one. The search begins at the place `start`, or at 0
+/// if the node is ahead of it, and takes a step for each node that it passes.
 fn place_of(nodes: &[usize], start: usize, node: usize) -> usize
     requires ascending { IsStrictlyIncreasing nodes.now }
     requires among { is_among nodes.now node ≡ true }

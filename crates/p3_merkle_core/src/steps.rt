@@ -1,6 +1,10 @@
 //! The steps of a tree, from the leaves to the root, and the covered nodes of its layers. The steps are computed once
 //! and stored; all other code reads them. Only the two `clone`s and the two calls that return a list allocate.
-//! The exponent of layer 0 is the tallest height's, and each step takes its own log2 from it, down to the root's 0.
+//!
+//! - Layer 0 is the leaves; level `l` leads from layer `l` to layer `l + 1`. The step of a level is how many children
+//!   each node above it has: the arity, or 2 if a step of the arity would pass over a matrix's layer (a bridge step).
+//! - The exponent of a height is its log2, rounded up. That of layer 0 is the tallest height's, and each step takes its
+//!   own log2 from it, down to the root's 0. A matrix belongs to the layer of its exponent.
 
 ghost use Rattle.std.specs.Prelude.{◌≡◌, suc, ◌-◌, ◌/◌, ◌<◌, ◌≤◌, ◌==◌, ◌↔◌, if◌then◌else◌, length, map, All, take};
 ghost use Rattle.std.specs.Prelude.{IfOk, IsOk, MatchResult, None, Some};
@@ -51,7 +55,8 @@ struct MatrixExponents<'a> {
 }
 
 impl<'a> MatrixExponents<'a> {
-    /// The exponents on which the steps above a layer of the exponent `layer` depend.
+    /// The exponents on which the steps above a layer depend: the layer's own, `layer`, which must be at most 64, and
+    /// the end of the matrices' lower ones.
     fn exponents_at(&self, layer: usize) -> Exponents
         requires { layer ≤ 64 }
         ensures layer { result.layer ≡ layer }
@@ -78,7 +83,8 @@ struct LevelStep {
     pub has_rows: bool,
 }
 
-/// The step above a layer with these `exponents`, and the exponents above it. The layer is below the root.
+/// The step above a layer, with whether matrices belong to the layer that it leads to, and the exponents there. The
+/// layer is below the root, and has these `exponents`, of at most 64. The arity must be at least 2.
 fn next_step(
     matrices: &MatrixExponents<'_>,
     arity: usize,
@@ -196,8 +202,11 @@ pub fn steps_of(dimensions: &[Dimensions], arity: usize) -> Steps<'_>
 ///
 /// # Errors
 ///
-/// `EmptyBatch` where no matrix has a row; else `TooLarge` for the first height above [`MAX_HEIGHT`]; else
-/// `IncompatibleHeights` for the first height that is not the tallest one halved and rounded up some number of times.
+/// The first of these that applies:
+///
+/// - `EmptyBatch` if no matrix has a row;
+/// - `TooLarge` for the first height above [`MAX_HEIGHT`];
+/// - `IncompatibleHeights` for the first height that is not the tallest one halved and rounded up some number of times.
 pub fn check_heights(dimensions: &[Dimensions]) -> Result<(), MerkleTreeError>
     ensures answer { MatchResult result (λ ok. gate_refusal (heights_of dimensions.now) ≡ None)
         (λ e. gate_refusal (heights_of dimensions.now) ≡ Some e) }
