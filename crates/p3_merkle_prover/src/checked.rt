@@ -34,8 +34,11 @@ pub struct CheckedMatrices<T, M: Matrix<T>> {
     ghost lawful: { IsLawful (heights_of dimensions.items) },
 }
 
-/// Checks that heights of matrices are lawful, and returns the matrices with their dimensions. The errors are those of
-/// [`check_heights`], and `OutOfMemory` at any time.
+/// Checks that heights of matrices are lawful, and returns the matrices with their dimensions.
+///
+/// # Errors
+///
+/// Those of [`check_heights`]. `OutOfMemory` may come at any time.
 pub fn checked_matrices<T, M: Matrix<T> + Drop>(
     alloc: Global,
     matrices: Vec<M>,
@@ -55,7 +58,11 @@ pub fn checked_matrices<T, M: Matrix<T> + Drop>(
 
 /// Builds the tree over matrices whose heights are checked, `leaves`: computes how many children the nodes of each
 /// layer have, then the layers. `N` must be a power of two from 2 to 2^62, and both packings must have equally many
-/// lanes, at least one. The error comes if memory runs out.
+/// lanes, at least one.
+///
+/// # Errors
+///
+/// `AllocError` if memory runs out.
 pub fn tree_over<
     P: PackedValue,
     PW: PackedValue,

@@ -21,7 +21,7 @@ use p3_support::matrix::Matrix;
 use p3_support::opening::MerkleCap;
 use std::alloc::{AllocError, Global};
 
-/// The steps from the leaves to the root, which the tree stores.
+/// The steps of a tree, from the leaves to the root, which it stores.
 pub fn tree_steps<F, X, G, M: Matrix<F>, const N: usize>(tree: &Tree<F, X, G, M, N>) -> Steps<'_>
     ensures { shape_of result.arity result.dimensions.now ≡ shape (tree_batch tree.now) }
 {
@@ -35,8 +35,11 @@ pub fn max_height<F, X, G, M: Matrix<F>, const N: usize>(tree: &Tree<F, X, G, M,
     tree.steps.max_height
 }
 
-/// The cap that is layer `layer` of a tree, padding included. `layer` must be at most the number of levels. The error
-/// comes if memory runs out.
+/// The cap that is layer `layer` of a tree, padding included. `layer` must be at most the number of levels.
+///
+/// # Errors
+///
+/// `AllocError` if memory runs out.
 pub fn cap_at<F, W: Copy, M: Matrix<F>, const N: usize, const D: usize>(
     alloc: Global,
     tree: &MerkleTree<F, W, M, N, D>,
@@ -49,8 +52,11 @@ pub fn cap_at<F, W: Copy, M: Matrix<F>, const N: usize, const D: usize>(
 }
 
 /// The row of each matrix that belongs to leaf `index`, in input order: row `index >> k` of a matrix whose height is
-/// the tallest one halved and rounded up `k` times. The index must be below [`max_height`]. The only error is
-/// `OutOfMemory`.
+/// the tallest one halved and rounded up `k` times. The index must be below [`max_height`].
+///
+/// # Errors
+///
+/// Only `OutOfMemory`.
 pub fn rows_of_index<F: Copy, X, G, M: Matrix<F>, const N: usize>(
     alloc: Global,
     tree: &Tree<F, X, G, M, N>,
@@ -70,7 +76,11 @@ pub fn rows_of_index<F: Copy, X, G, M: Matrix<F>, const N: usize>(
     Ok(rows)
 }
 
-/// The matrices of a tree, in input order. The only error is `OutOfMemory`.
+/// The matrices of a tree, in input order.
+///
+/// # Errors
+///
+/// Only `OutOfMemory`.
 pub fn matrix_refs<'a, F, X, G, M: Matrix<F>, const N: usize>(
     alloc: Global,
     tree: &'a Tree<F, X, G, M, N>,
@@ -87,7 +97,11 @@ pub fn matrix_refs<'a, F, X, G, M: Matrix<F>, const N: usize>(
 
 /// The siblings on the path of leaf `index` up to layer `layer`, level by level from the leaves up: the other children
 /// of the parent of the path's node, ascending. `steps` must be those of the tree, the index below [`max_height`], and
-/// the layer at most the number of levels. The only error is `OutOfMemory`.
+/// the layer at most the number of levels.
+///
+/// # Errors
+///
+/// Only `OutOfMemory`.
 pub fn siblings_of_index<F, X: Copy, G, M: Matrix<F>, const N: usize>(
     alloc: Global,
     tree: &Tree<F, X, G, M, N>,

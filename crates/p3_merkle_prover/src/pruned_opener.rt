@@ -1,6 +1,6 @@
-//! What is read from a tree for several leaves at once: their rows, and the digests of the boundary. A node is covered
-//! if it is one of these leaves or above one. The boundary is the children of covered nodes that are not covered
-//! themselves.
+//! What is read from a tree for several leaves at once: their rows, and the digests that a verifier cannot compute from
+//! these rows, those of the boundary. A node is covered if it is one of these leaves or above one. The boundary is the
+//! children of covered nodes that are not covered themselves.
 
 ghost use Rattle.std.specs.Prelude.{◌≡◌, ◌+◌, ◌-◌, ◌%◌, ◌^◌, ◌<◌, ◌≤◌, ◌++◌, length, map, All, IfOk, None};
 ghost use Rattle.std.specs.List.Sorted.{IsStrictlyIncreasing};
@@ -25,7 +25,11 @@ use p3_support::matrix::Matrix;
 use std::alloc::Global;
 
 /// The rows of each of some leaves, in the order of the indices. Each index must be below
-/// [`max_height`](crate::opener::max_height). The only error is `OutOfMemory`.
+/// [`max_height`](crate::opener::max_height).
+///
+/// # Errors
+///
+/// Only `OutOfMemory`.
 pub fn rows_of_indices<F: Copy, X, G, M: Matrix<F>, const N: usize>(
     alloc: Global,
     tree: &Tree<F, X, G, M, N>,
@@ -45,8 +49,11 @@ pub fn rows_of_indices<F: Copy, X, G, M: Matrix<F>, const N: usize>(
 
 /// The digests of a pruned proof of some leaves: those of the boundary below layer `cap_layer`, level by level from the
 /// leaves up, ascending. Each index must be below [`max_height`](crate::opener::max_height), and `cap_layer` at most
-/// the number of levels. It sorts a copy of the indices, and allocates the digests once, at their number. The only
-/// error is `OutOfMemory`.
+/// the number of levels. It sorts a copy of the indices, and allocates the digests once, at their number.
+///
+/// # Errors
+///
+/// Only `OutOfMemory`.
 pub fn boundary_digests<F, X: Copy, G, M: Matrix<F>, const N: usize>(
     alloc: Global,
     tree: &Tree<F, X, G, M, N>,

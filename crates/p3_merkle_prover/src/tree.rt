@@ -73,9 +73,12 @@ impl<F: Copy, W: Copy, M: Matrix<F> + Drop, const N: usize, const D: usize> Merk
     ///
     /// # Errors
     ///
-    /// `EmptyBatch` if no matrix has a row; else `TooLarge` for the first height above 2^62; else `IncompatibleHeights`
-    /// for the first height that is not the tallest one halved and rounded up some number of times. `OutOfMemory` may
-    /// come at any time.
+    /// The first of these that applies, where `OutOfMemory` may come at any time:
+    ///
+    /// - `EmptyBatch` if no matrix has a row;
+    /// - `TooLarge` for the first height above 2^62;
+    /// - `IncompatibleHeights` for the first height that is not the tallest one halved and rounded up some number of
+    ///   times.
     pub fn new<
         P: PackedValue<Value = F>,
         PW: PackedValue<Value = W>,

@@ -152,7 +152,10 @@ fn leaf_difference<T: Copy + Eq + Drop, W: Copy + Eq, const D: usize>(
     differing_words(alloc, Place::Leaf, &rows)
 }
 
-/// The inputs of two checks at the last place of a level above its group where these differ: the pair, else the rows.
+/// The inputs of two checks at the last place of a level above its group where these differ: the pair, which is
+/// compressed last, else the words of the rows. `None` if both are the same, or if no matrix belongs to the layer above
+/// the level. `first` and `second` are that level of each check, and must reach one node; `rows` are the rows of both
+/// openings at the layer above.
 fn difference_above_group<T: Copy + Eq + Drop, W: Copy + Eq, const N: usize, const D: usize>(
     alloc: Global,
     rows: &RowPair<'_, T>,
@@ -172,7 +175,9 @@ fn difference_above_group<T: Copy + Eq + Drop, W: Copy + Eq, const N: usize, con
     }
 }
 
-/// The inputs of two checks at the last place of a level where these differ, if they share the node above it.
+/// The inputs of two checks at the last place of a level where these differ: the pair, else the words of the rows, else
+/// the group. `None` if the inputs of the level are the same, or if the checks do not share the node above it. `first`
+/// and `second` are that level of each check; `rows` are the rows of both openings at the layer above it.
 fn level_difference<T: Copy + Eq + Drop, W: Copy + Eq, const N: usize, const D: usize>(
     alloc: Global,
     rows: &RowPair<'_, T>,
@@ -197,7 +202,9 @@ fn level_difference<T: Copy + Eq + Drop, W: Copy + Eq, const N: usize, const D: 
     }
 }
 
-/// Whether two checks have the same inputs on a level, or do not share the node above it.
+/// Whether two checks have the same inputs on a level, or do not share the node above it. `first` and `second` are that
+/// level of each check, and `rows` the rows of both openings of the matrices of the layer above. Both pairs are
+/// computed from the groups and these rows, so they are not compared.
 fn levels_agree<T: Eq, W: Copy + Eq, const N: usize, const D: usize>(
     rows: &RowPair<'_, T>,
     first: &ComputedLevel<[W; D], [[W; D]; N]>,
@@ -221,8 +228,8 @@ impl<
     const N: usize,
     const D: usize,
 > Checker<'a, P, PW, H, C, [[PW::Value; D]; N], N, D> {
-    /// True only if the checks of two openings have the same inputs at every place that both share. Nothing is
-    /// allocated.
+    /// True only if the checks of two openings have the same inputs at every place that both share. Both openings must
+    /// have their siblings up to the cap. Nothing is allocated.
     pub(crate) fn agree(
         &self,
         first: OpeningRef<'_, P::Value, [PW::Value; D]>,
@@ -263,7 +270,9 @@ impl<
     }
 
     /// The inputs at the last place that the checks of two openings share and at which they differ.
-    // It allocates at shared places alone: the rows there, and the inputs that differ.
+    /// The last place that the checks of two openings share and at which they differ, with both inputs. `None` if they
+    /// agree. Both openings must have their siblings up to the cap. It allocates at shared places alone: the rows
+    /// there, and the inputs that differ.
     pub(crate) fn last_difference(
         &self,
         alloc: Global,
@@ -301,8 +310,10 @@ impl<
     ///
     /// # Errors
     ///
-    /// The error of [`check_opening`](Self::check_opening) for the first opening, else that for the second;
-    /// `OutOfMemory` may come at any time.
+    /// The first of these that applies, where `OutOfMemory` may come at any time:
+    ///
+    /// - the error of [`check_opening`](Self::check_opening) for the first opening;
+    /// - that for the second opening.
     pub fn extraction(
         &self,
         alloc: Global,

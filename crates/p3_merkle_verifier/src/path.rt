@@ -40,7 +40,8 @@ pub struct Progress<X> {
 }
 
 impl<W: Copy, const D: usize> Progress<[W; D]> {
-    /// The node's siblings with its own digest at its position, then default digests. Its parent has `step` children.
+    /// The group that is compressed to this node's parent: the node's siblings with its own digest at its position,
+    /// then default digests. `step` is how many children the parent has, and `siblings` are those of the whole path.
     fn group<const N: usize>(
         &self,
         default_digest: [W; D],
@@ -71,7 +72,8 @@ pub struct ComputedLevel<X, G> {
     pub above: Progress<X>,
 }
 
-/// States that `siblings`, those of an opening up to layer `cap_layer`, have those of level `level` after `used` ones.
+/// States that `siblings`, those of an opening up to layer `cap_layer`, have the `step - 1` ones of level `level` after
+/// the `used` ones of the levels below it.
 fn lemma_step<X>(
     steps: &Steps<'_>,
     cap_layer: usize,
@@ -87,7 +89,11 @@ fn lemma_step<X>(
     ensures { CanStep steps.now.arity step used (length siblings.now) }
 {}
 
-/// Checks the form of an opening of the leaf `index`, before anything is hashed.
+/// Checks the form of an opening of the leaf `index`, before anything is hashed: one row for each matrix, of its width;
+/// heights that a tree can have; as many siblings as the levels below the cap need; and an index below the tallest
+/// height. The errors are those of [`check_opening`](Checker::check_opening) without `CapMismatch`.
+///
+/// The arity must be a power of two from 2 to 2^62, and `cap_layer` at most the number of levels.
 fn check_form<T>(
     steps: &Steps<'_>,
     cap_layer: usize,
@@ -135,7 +141,7 @@ impl<
     const N: usize,
     const D: usize,
 > Checker<'a, P, PW, H, C, [[PW::Value; D]; N], N, D> {
-    /// The digest of the rows of the matrices of one exponent, as one message.
+    /// The digest of the rows of the matrices of one exponent, as one message. `rows` has a row of each matrix.
     fn row_digest(&self, rows: &[Vec<P::Value>], exponent: usize) -> [PW::Value; D]
         ensures { let rows = zip (heights_of self.now.steps.dimensions.now) (row_lists rows.now) in
             result ≡ H.hash self.now.hash.now (words_of_exponent exponent rows) }

@@ -59,7 +59,8 @@ impl<'a, T, W: Copy, const D: usize> PrunedOpeningRef<'a, T, [W; D]> {
     }
 }
 
-/// The layer above `below`, which is layer `level` and has `digests`; its other children are the proof's next digests.
+/// The layer above `below`, which must be layer `level` and below the cap's layer. `digests` has the digest of each
+/// covered node of `below`; the other children of the layer above have the next digests of the proof.
 fn layer_above<'a, T, X: Copy>(
     alloc: Global,
     restorable: &RestorableOpening<'_, T, X>,
@@ -92,7 +93,8 @@ fn layer_above<'a, T, X: Copy>(
     })
 }
 
-/// For each covered node of the layer of this exponent, ascending, the first query of the lowest leaf under it.
+/// For each covered node of the layer of this exponent, ascending, the position of a query under it: the first one of
+/// its lowest leaf.
 fn queries_at<T, X>(
     alloc: Global,
     restorable: &RestorableOpening<'_, T, X>,
@@ -146,7 +148,8 @@ fn opened_matrices<'a, T, X>(
     Ok(matrices)
 }
 
-/// The path of each query of an opening, in query order, out of its layers from the leaves to the cap's.
+/// The path of each query of an opening, in query order, out of `layers`, its layers from the leaves to the cap's: the
+/// other children of the parent of each node on the path, ascending.
 pub(crate) fn paths_of<T, W: Copy, const D: usize>(
     alloc: Global,
     restorable: &RestorableOpening<'_, T, [W; D]>,
@@ -206,7 +209,9 @@ impl<
     const N: usize,
     const D: usize,
 > Checker<'a, P, PW, H, C, [[PW::Value; D]; N], N, D> {
-    /// The form of a pruned opening, checked by [`check_pruned`], with its errors; and the layer of its covered leaves.
+    /// Checks by [`check_pruned`], with its errors, the form of a pruned opening, and that its rows agree wherever
+    /// queries share a node. Returns the opening with its steps, the cap's layer and its distinct indices, from which
+    /// each path can be restored; and the layer of its covered leaves, from which the layers above are computed.
     pub(crate) fn check_restorable<'b>(
         &'b self,
         alloc: Global,
@@ -244,7 +249,8 @@ impl<
         Ok((restorable, leaf_layer))
     }
 
-    /// The digest of the opened rows under each covered node of the layer with this exponent, ascending.
+    /// For each covered node of the layer with this exponent, ascending, the digest of the rows that the queries under
+    /// it opened of the layer's matrices.
     fn row_digests(
         &self,
         alloc: Global,
@@ -290,7 +296,9 @@ impl<
         Ok(digests)
     }
 
-    /// The digests of the covered nodes of layer `layer`, which is `here`, ascending, from their children and rows.
+    /// The digests of the covered nodes of layer `layer`, which is `here`, ascending. A leaf's is that of the rows of
+    /// its first query. Any other node's is the compression of its children; where matrices belong to the layer, it is
+    /// compressed once more with the digest of their rows, which the queries under the node share.
     pub(crate) fn node_digests(
         &self,
         alloc: Global,
@@ -365,7 +373,8 @@ impl<
         Ok(layer)
     }
 
-    /// All layers of a pruned opening, from its covered leaves up to the cap's layer, each with its nodes' children.
+    /// All layers of a pruned opening, from its covered leaves up to the cap's layer, with the digests of the covered
+    /// nodes' children: each is computed from the layer below, or is a digest of the proof.
     pub(crate) fn restored_layers<'b>(
         &self,
         alloc: Global,
@@ -395,7 +404,10 @@ impl<
     ///
     /// # Errors
     ///
-    /// The error of [`check_pruned`], else `CapMismatch` if a root is wrong or missing; `OutOfMemory` at any time.
+    /// The first of these that applies, where `OutOfMemory` may come at any time:
+    ///
+    /// - the error of [`check_pruned`];
+    /// - `CapMismatch`: there is no root at a covered node of the cap's layer, or another digest than the one computed.
     pub fn check_pruned_opening(
         &self,
         alloc: Global,

@@ -50,8 +50,9 @@ impl<'a, T, W, const D: usize> RestoredQueries<'a, T, [W; D]> {
         }
     }
 
-    /// The positions of the two queries with the nearest indices below and above `index`, so that one of them stands
-    /// between it and any query; one query twice if it has `index`, or if there is none on one side.
+    /// The positions of the queries with the nearest indices below and above `index`, so that one of them stands
+    /// between it and any query. They are one query if `index` is queried itself, or if all queries are on one side of
+    /// it. There must be a query.
     fn neighbours(&self, index: usize) -> (usize, usize)
         requires leaves { HasLeaves self.now }
         requires some { 0 < length self.now.paths.items }
@@ -81,7 +82,8 @@ impl<
     const N: usize,
     const D: usize,
 > Checker<'a, P, PW, H, C, [[PW::Value; D]; N], N, D> {
-    /// The queries of a pruned opening, with the errors of [`check_pruned_opening`](Self::check_pruned_opening).
+    /// Checks a pruned opening against the roots of a cap, with the errors of
+    /// [`check_pruned_opening`](Self::check_pruned_opening), and returns its queries, each with its restored path.
     fn checked_queries<'b>(
         &self,
         alloc: Global,
@@ -106,7 +108,10 @@ impl<
 
     /// True only if the check of the opening `first` agrees with that of each query, wherever both share a place. Where
     /// it is false, each query has to be compared.
-    // The path shares with a neighbour each node that it shares with any query, and the queries agree among themselves.
+    /// True only if the check of the opening `first` agrees with that of each query, wherever both share a place. Where
+    /// it is false, each query has to be compared. Only the queries of the nearest indices below and above are looked
+    /// at: the opening's path shares with one of them each node that it shares with any query, and the checks of the
+    /// queries agree among themselves.
     fn agrees_with_all(
         &self,
         first: OpeningRef<'_, P::Value, [PW::Value; D]>,
@@ -127,8 +132,8 @@ impl<
         above == below || self.agree(first, queries.opening(above))
     }
 
-    /// The position of the first query whose check differs from that of the opening `first`, with both inputs at the
-    /// last place where it does.
+    /// The first query whose check differs from that of the opening `first`: its position among the queries, and both
+    /// inputs at the last place that both checks share and at which they differ. `None` if there is no such query.
     fn differing_query(
         &self,
         alloc: Global,
@@ -154,7 +159,9 @@ impl<
         Ok(None)
     }
 
-    /// The positions of the first two queries whose checks differ, with the inputs where they do so last.
+    /// The first pair of queries whose checks differ, in the order of `first`, then of `second`: the position of each
+    /// query in its list, and both inputs at the last place that both checks share and at which they differ. `None` if
+    /// there is no such pair.
     fn differing_pair(
         &self,
         alloc: Global,
@@ -186,8 +193,10 @@ impl<
     ///
     /// # Errors
     ///
-    /// The error of [`check_pruned_opening`](Self::check_pruned_opening) for the first opening, else that for the
-    /// second; `OutOfMemory` may come at any time.
+    /// The first of these that applies, where `OutOfMemory` may come at any time:
+    ///
+    /// - the error of [`check_pruned_opening`](Self::check_pruned_opening) for the first opening;
+    /// - that for the second opening.
     pub fn pruned_extraction(
         &self,
         alloc: Global,
