@@ -214,9 +214,12 @@ impl<
     ///
     /// # Errors
     ///
-    /// `EmptyBatch` if no matrix has a row; else `TooLarge` for the first height above 2^62; else `IncompatibleHeights`
-    /// for the first height that is not the tallest one halved and rounded up some number of times. `OutOfMemory` may
-    /// come at any time.
+    /// The first of these that applies, where `OutOfMemory` may come at any time:
+    ///
+    /// - `EmptyBatch` if no matrix has a row;
+    /// - `TooLarge` for the first height above 2^62;
+    /// - `IncompatibleHeights` for the first height that is not the tallest one halved and rounded up some number of
+    ///   times.
     pub fn commit<M: Matrix<P::Value> + Drop>(
         &self,
         alloc: Global,

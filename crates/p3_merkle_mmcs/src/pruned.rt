@@ -163,7 +163,7 @@ impl<
     ///
     /// # Errors
     ///
-    /// Those of `verify_batch_pruned`, in the same order, but for `CapMismatch`.
+    /// Those of `verify_batch_pruned`, in the same order, without `CapMismatch`.
     pub fn restore_and_recompute_paths(
         &self,
         alloc: Global,

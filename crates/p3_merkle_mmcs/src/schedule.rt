@@ -44,7 +44,7 @@ impl<
     ///
     /// # Errors
     ///
-    /// `EmptyBatch`, `TooLarge` or `IncompatibleHeights` if [`commit`](Self::commit) refuses such heights;
+    /// `EmptyBatch`, `TooLarge` or `IncompatibleHeights` if [`commit`](Self::commit) refuses such heights.
     /// `OutOfMemory` may come at any time.
     pub fn proof_arity_schedule(
         &self,
@@ -70,9 +70,11 @@ impl<
     ///
     /// # Errors
     ///
-    /// The first of these that applies: `EmptyBatch`, `TooLarge` or `IncompatibleHeights` if [`commit`](Self::commit)
-    /// refuses such heights; `IndexOutOfBounds` if the index is not below the tallest height; `WrongHeight` if
-    /// `num_siblings` is not what the levels below the cap need. `OutOfMemory` may come at any time.
+    /// The first of these that applies, where `OutOfMemory` may come at any time:
+    ///
+    /// - `EmptyBatch`, `TooLarge` or `IncompatibleHeights`: [`commit`](Self::commit) refuses such heights;
+    /// - `IndexOutOfBounds`: the index is not below the tallest height;
+    /// - `WrongHeight`: `num_siblings` is not what the levels below the cap need.
     pub fn replay_arity_and_positions(
         &self,
         alloc: Global,
@@ -108,17 +110,18 @@ impl<
     }
 
     /// The number of digests in a pruned proof of these indices, over matrices of these dimensions. On each level below
-    /// the cap these are the children of covered nodes that are not covered themselves, padding too. A node is covered
-    /// if it is a queried leaf or above one. If padding counts as unknown, no smaller set of digests of uncovered nodes
-    /// is enough to compute the covered nodes of the cap's layer.
+    /// the cap these are the digests of the children of covered nodes that are not covered themselves, padding too. A
+    /// node is covered if it is a queried leaf or above one. If padding counts as unknown, no smaller set of digests of
+    /// uncovered nodes is enough to compute the covered nodes of the cap's layer.
     ///
     /// The indices may be in any order, with repeats.
     ///
     /// # Errors
     ///
-    /// `EmptyBatch`, `TooLarge` or `IncompatibleHeights` if [`commit`](Self::commit) refuses such heights; else
-    /// `IndexOutOfBounds` for the highest index, if it is not below the tallest height. `OutOfMemory` may come at any
-    /// time.
+    /// The first of these that applies, where `OutOfMemory` may come at any time:
+    ///
+    /// - `EmptyBatch`, `TooLarge` or `IncompatibleHeights`: [`commit`](Self::commit) refuses such heights;
+    /// - `IndexOutOfBounds`, for the highest index: it is not below the tallest height.
     pub fn pruned_len(
         &self,
         alloc: Global,

@@ -1,6 +1,6 @@
-//! What is read from a tree for several leaves at once: their rows, and the digests that a verifier cannot compute from
-//! these rows, those of the boundary. A node is covered if it is one of these leaves or above one. The boundary is the
-//! children of covered nodes that are not covered themselves.
+//! What is read from a tree for several leaves at once: their rows, and the digests of the boundary. A node is covered
+//! if it is one of these leaves or above one. The boundary is the children of covered nodes that are not covered
+//! themselves.
 
 ghost use Rattle.std.specs.Prelude.{◌≡◌, ◌+◌, ◌-◌, ◌%◌, ◌^◌, ◌<◌, ◌≤◌, ◌++◌, length, map, All, IfOk, None};
 ghost use Rattle.std.specs.List.Sorted.{IsStrictlyIncreasing};

@@ -221,11 +221,16 @@ impl<
     ///
     /// # Errors
     ///
-    /// `EmptyBatch` if no matrix has a row; else `TooLarge` for the first height above 2^62; else `IncompatibleHeights`
-    /// for the first height that is not the tallest one halved and rounded up some number of times; else `TooLarge` for
-    /// the first matrix whose width with its salts does not fit `usize`, with its width as the size. These draw nothing
-    /// from the generator. `OutOfMemory` may come at any time; then the generator has drawn the salts of the first few
-    /// matrices, perhaps of none or of all.
+    /// The first of these that applies, where `OutOfMemory` may come at any time:
+    ///
+    /// - `EmptyBatch` if no matrix has a row;
+    /// - `TooLarge` for the first height above 2^62;
+    /// - `IncompatibleHeights` for the first height that is not the tallest one halved and rounded up some number of
+    ///   times;
+    /// - `TooLarge` for the first matrix whose width with its salts does not fit `usize`, with its width as the size.
+    ///
+    /// These four draw nothing from the generator. With `OutOfMemory` the generator has drawn the salts of the first
+    /// few matrices, perhaps of none or of all.
     pub fn commit<M: Matrix<P::Value> + Drop>(
         &mut self,
         alloc: Global,
@@ -258,7 +263,8 @@ impl<
 }
 
 /// Checks that a tree can be built over matrices of these heights, and that each width fits `usize` with `salt_elems`
-/// more columns. Returns the dimensions of the matrices with these columns.
+/// more columns. Returns the dimensions of the matrices with these columns. The errors are those of [`check_heights`],
+/// then those of [`widened_dimensions`].
 fn salted_dimensions<T, M: Matrix<T>>(
     alloc: Global,
     matrices: &[M],

@@ -22,11 +22,18 @@ pub struct Salted<Rows> {
     pub rows: Rows,
 }
 
-/// Checks a row set and its salt set, and joins each row with its salts. `dimensions` are those of the matrices without
-/// salts; in the result each has `salt_elems` more columns. Refused, in this order: what [`check_widths`] refuses; by
-/// `WrongBatchSize` another number of lists of salts than of rows; by `TooLarge` the first width that with its salts
-/// does not fit `usize`. `OutOfMemory` may come at any time.
-// How many salts a row has is not checked: another number gives the joined row another width than its matrix.
+/// Checks the rows and the salts of one index, and joins each row with its salts. `rows` is the row set, `salts` the
+/// salt set. `dimensions` are those of the matrices without salts; in the result each has `salt_elems` more columns.
+/// How many salts a row has is not checked: where it is not `salt_elems`, the joined row has another width than its
+/// matrix.
+///
+/// # Errors
+///
+/// The first of these that applies, where `OutOfMemory` may come at any time:
+///
+/// - the error of [`check_widths`] for the rows;
+/// - `WrongBatchSize` if there are not as many lists of salts as rows;
+/// - `TooLarge` for the first matrix whose width with its salts does not fit `usize`.
 pub fn salted_rows<T: Copy>(
     alloc: Global,
     dimensions: &[Dimensions],
@@ -47,9 +54,18 @@ pub fn salted_rows<T: Copy>(
     })
 }
 
-/// Checks row sets and their salt sets, and joins each row with its salts. All sets are of the same matrices, whose
-/// dimensions the result has once. Refused, in this order: by `WrongBatchSize` another number of salt sets than of row
-/// sets; then what [`salted_rows`] refuses, widths last. `OutOfMemory` may come at any time.
+/// Checks the rows and the salts of several indices, and joins each row with its salts. `sets` has a row set for each
+/// index, and `salts` a salt set. `dimensions` are those of the matrices without salts; in the result each has
+/// `salt_elems` more columns. How many salts a row has is not checked, as in [`salted_rows`].
+///
+/// # Errors
+///
+/// The first of these that applies, where `OutOfMemory` may come at any time:
+///
+/// - `WrongBatchSize` if the number of salt sets is not that of the row sets;
+/// - for each row set in turn, the error of [`check_widths`], else `WrongBatchSize` if the number of lists of salts is
+///   not that of the rows;
+/// - `TooLarge` for the first matrix whose width with its salts does not fit `usize`.
 pub fn salted_sets<T: Copy>(
     alloc: Global,
     dimensions: &[Dimensions],
@@ -115,8 +131,12 @@ fn check_widening(dimensions: &[Dimensions], salt_elems: usize) -> Result<(), Me
     Ok(())
 }
 
-/// The dimensions, each with `salt_elems` more columns; `TooLarge` for the first width that then does not fit `usize`,
-/// or `OutOfMemory`.
+/// The dimensions, each with `salt_elems` more columns.
+///
+/// # Errors
+///
+/// `TooLarge` for the first matrix whose new width does not fit `usize`, with its width as the size. `OutOfMemory` may
+/// come at any time.
 pub fn widened_dimensions(
     alloc: Global,
     dimensions: &[Dimensions],
@@ -155,7 +175,8 @@ fn joined_rows<T: Copy>(
     Ok(joined)
 }
 
-/// Each row set joined with its salt set by [`joined_rows`], in order, up to the end of the shorter list.
+/// The row sets of several queries, each joined with its salt set by [`joined_rows`]. `sets` has the row sets and
+/// `salts` the salt sets; they are paired in order, up to the end of the shorter list.
 fn joined_row_sets<T: Copy>(
     alloc: Global,
     sets: &[Vec<Vec<T>>],

@@ -270,7 +270,10 @@ impl<
     ///
     /// # Errors
     ///
-    /// The error of `verify_batch` for the first opening, else that for the second; `OutOfMemory` may come at any time.
+    /// The first of these that applies, where `OutOfMemory` may come at any time:
+    ///
+    /// - the error of `verify_batch` for the first opening;
+    /// - the error of `verify_batch` for the second opening.
     pub fn extract_collision(
         &self,
         alloc: Global,
@@ -325,7 +328,10 @@ impl<
     ///
     /// # Errors
     ///
-    /// The error of `verify_multi_batch` for the first opening, else for the second. `OutOfMemory` may come any time.
+    /// The first of these that applies, where `OutOfMemory` may come at any time:
+    ///
+    /// - the error of `verify_multi_batch` for the first opening;
+    /// - the error of `verify_multi_batch` for the second opening.
     pub fn extract_collision_multi(
         &self,
         alloc: Global,
