@@ -77,12 +77,15 @@ pub enum Action {
 }
 
 impl Args {
-    /// Parses the arguments after the program's name: a hash, an arity, a cap, an action, and the indices. The
-    /// action `commit` takes no index. A cap height or an index is one or more ASCII digits, and fits `usize`.
+    /// Parses the arguments after the program's name: a hash, an arity, a cap, an action, and the indices. The action
+    /// `commit` takes no index. A cap height or an index is one or more ASCII digits, and fits `usize`.
     ///
     /// # Errors
     ///
-    /// `Usage` where the arguments are no command; else `Tree(OutOfMemory)` if memory runs out.
+    /// The first of these that applies:
+    ///
+    /// - `Usage` where the arguments are no command;
+    /// - `Tree(OutOfMemory)` if memory runs out.
     pub fn parse(alloc: Global, args: &[String]) -> Result<Args, Fault>
         ensures parsed { IfOk result (λ parsed. AreArgs (texts_of args.now) parsed.command parsed.indices.items) }
         ensures fault { IfErr result (λ fault. ((fault ≡ Usage) × AreNoCommand (texts_of args.now)) ⊎

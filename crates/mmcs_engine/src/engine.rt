@@ -47,7 +47,7 @@ use std::io::{ErrorKind, Read, Write};
 ///
 /// # Errors
 ///
-/// The first of these that applies. `Tree(OutOfMemory)` may come at any time.
+/// The first of these that applies, where `Tree(OutOfMemory)` may come at any time:
 ///
 /// - `Usage`: the arguments are no command. Nothing was read.
 /// - `Read`: a read failed.
@@ -90,7 +90,7 @@ fn answer_to<Src: Read>(alloc: Global, args: &[String], input: &mut Src) -> Resu
     }
 }
 
-/// All bytes of an input.
+/// All bytes of an input. `Tree(OutOfMemory)` if memory runs out, `Read` if a read fails for another reason.
 fn read_all<Src: Read>(alloc: Global, input: &mut Src) -> Result<Vec<u8>, Fault>
     ensures bytes { IfOk result (λ bytes. IfSome (Src.remaining input.old) (λ all. bytes.items ≡ all)) }
     ensures fault { IfErr result (λ fault. (fault ≡ Fault.Read) ⊎ (fault ≡ Fault.Tree OutOfMemory)) }
@@ -137,7 +137,8 @@ fn reply<const N: usize>(alloc: Global, args: &Args, input: Vec<u8>) -> Result<S
     }
 }
 
-/// The same, under the scheme of the command.
+/// The text that a command prints for an input, under the scheme of the command. The input is dropped once its matrices
+/// are read.
 fn reply_with_scheme<
     W: Word + PackedValue<Value = W>,
     H: CryptographicHasher<W, W, D>,

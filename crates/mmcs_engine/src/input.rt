@@ -125,7 +125,8 @@ impl<W: Word> Block<W> {
         }
     }
 
-    /// Appends line number `line`, which is not blank, as a row of numbers, each at most `W::MAX`.
+    /// Appends line number `line`, which is not blank, as a row of numbers, each at most `W::MAX`. `Number` if a part
+    /// of the line is no such number, else `Count` if there are not as many as in the first row.
     fn push_row(&mut self, text: &[u8], line: usize) -> Result<(), Fault>
         requires full { is_blank text.now ≡ false }
         ensures row { (lines : List (List ℕ)) →
@@ -175,14 +176,17 @@ impl<W: Word> Block<W> {
 
 /// The matrices that the lines of an input stand for, in order.
 ///
-/// Lines end in LF or CRLF, and the last line feed may be missing. A line of spaces and tabs alone, or empty, is
-/// blank: one or more of these end a matrix, and are ignored before the first matrix and after the last. Any other line
-/// is a row of numbers from 0 to `W::MAX` in decimal, with spaces or tabs between them; the rows of a matrix have
-/// equally many.
+/// Lines end in LF or CRLF, and the last line feed may be missing. A line of spaces and tabs alone, or empty, is blank:
+/// one or more of these end a matrix, and are ignored before the first matrix and after the last. Any other line is a
+/// row of numbers from 0 to `W::MAX` in decimal, with spaces or tabs between them; the rows of a matrix have equally
+/// many.
 ///
 /// # Errors
 ///
-/// `Number` or `Count` for the first line that is no row of its matrix; `Tree(OutOfMemory)` if memory runs out.
+/// The first of these that applies, where `Tree(OutOfMemory)` may come at any time:
+///
+/// - `Number` for the first line that is no row of its matrix, if a part of it is no number from 0 to `W::MAX`;
+/// - `Count` for that line, if it has another count of numbers than the first row of its matrix.
 pub fn read_matrices<W: Word>(alloc: Global, input: &[u8]) -> Result<Vec<RowMajorMatrix<W>>, Fault>
     ensures matrices { IfOk result (λ found.
         (matrices : List (List (List ℕ))) × StandsFor (W.MAX + 1) input.now matrices ×

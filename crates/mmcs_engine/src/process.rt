@@ -17,7 +17,8 @@ use std::process::ExitCode;
 ///
 /// # Errors
 ///
-/// `Tree(OutOfMemory)` if memory runs out; `Usage` if an argument is not UTF-8: no command has such an argument.
+/// - `Tree(OutOfMemory)` if memory runs out;
+/// - `Usage` if an argument is not UTF-8: no command has such an argument.
 pub fn read_args<R: Env + Alloc<A = Global>>(rt: &R) -> Result<Vec<String>, Fault>
     ensures { IfErr result (λ fault. (fault ≡ Usage) ⊎ (fault ≡ Tree OutOfMemory)) }
 {

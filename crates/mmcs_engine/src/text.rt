@@ -7,6 +7,10 @@ use crate::word::Word;
 use std::alloc::AllocError;
 
 /// Appends a line for each digest: its words in lower case hexadecimal, one after another.
+///
+/// # Errors
+///
+/// `AllocError` if memory runs out.
 pub fn push_digests<W: Word, const D: usize>(
     text: &mut String,
     digests: &[[W; D]],
@@ -20,7 +24,7 @@ pub fn push_digests<W: Word, const D: usize>(
     Ok(())
 }
 
-/// Appends a line of words in hexadecimal.
+/// Appends a line of words in lower case hexadecimal, `W::HEX_DIGITS` digits each, one after another.
 fn push_hex_line<W: Word>(text: &mut String, words: &[W]) -> Result<(), AllocError>
     ensures { OnOk result (string_bytes text.new
         ≡ string_bytes text.old ++ hex_line W.HEX_DIGITS (map W.value words.now)) }
@@ -44,6 +48,10 @@ fn push_hex(text: &mut String, digits: usize, number: u32) -> Result<(), AllocEr
 }
 
 /// Appends a line for each row: its numbers in decimal, with one space between.
+///
+/// # Errors
+///
+/// `AllocError` if memory runs out.
 pub fn push_rows<W: Word>(text: &mut String, rows: &[Vec<W>]) -> Result<(), AllocError>
     ensures { OnOk result (string_bytes text.new
         ≡ string_bytes text.old ++ flat_map row_line (map (λ row. map W.value row.items) rows.now)) }
@@ -54,7 +62,7 @@ pub fn push_rows<W: Word>(text: &mut String, rows: &[Vec<W>]) -> Result<(), Allo
     Ok(())
 }
 
-/// Appends a line for a row.
+/// Appends a line for a row: its numbers in decimal, with one space between.
 fn push_row<W: Word>(text: &mut String, row: &[W]) -> Result<(), AllocError>
     ensures { OnOk result (string_bytes text.new ≡ string_bytes text.old ++ row_line (map W.value row.now)) }
 {
