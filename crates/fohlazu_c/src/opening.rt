@@ -81,7 +81,7 @@ struct Claim<'a> {
     siblings: &'a [[u8; 32]],
 }
 
-/// The verdict on a claim under an arity.
+/// The verdict on a claim under an arity: that of `verify_batch`, or `OutOfMemory`, which may come at any time.
 fn verdict<const N: usize>(
     alloc: Global,
     cap_height: usize,
@@ -114,7 +114,8 @@ fn dimensions(alloc: Global, sizes: &[MatrixSize]) -> Result<Vec<Dimensions>, Al
     sizes.iter().map(shown).collect(alloc)
 }
 
-/// Rows one after another, cut by their widths: short where the bytes end, and one too many where some are left.
+/// Rows that lie one after another, cut by their widths: a row is short where the bytes end, and bytes that are left
+/// are a row too many.
 fn cut(alloc: Global, sizes: &[MatrixSize], rows: &[u8]) -> Result<Vec<Vec<u8>>, AllocError>
     ensures { IfOk result (λ cut. row_lists cut.items ≡ cut_rows (widths_of (map size_shown sizes.now)) rows.now) }
 {
