@@ -73,8 +73,10 @@ fn committed<
 ///
 /// # Errors
 ///
-/// `EmptyBatch`, `TooLarge` or `IncompatibleHeights` if the matrices have such heights; else `IndexOutOfBounds` if the
-/// index is not below the tallest height. `OutOfMemory` may come at any time, also as what is found.
+/// The first of these that applies, where `OutOfMemory` may come at any time, also as what is found:
+///
+/// - `EmptyBatch`, `TooLarge` or `IncompatibleHeights` if the matrices have such heights;
+/// - `IndexOutOfBounds` if the index is not below the tallest height.
 pub fn commit_compare<
     P: PackedValue,
     PW: PackedValue,
@@ -123,8 +125,9 @@ pub fn commit_compare<
     })
 }
 
-/// Does for several indices, in any order, with repeats, and one proof what [`commit_compare`] does for one index. The
-/// claimed opening is a row set for each index, and a pruned proof.
+/// Commits to matrices, opens the rows that belong to several indices by one proof, verifies the opening under the cap,
+/// and compares an opening that anybody claims for these indices with it: a row set for each index, and a pruned proof.
+/// The indices may come in any order, with repeats.
 ///
 /// What is found is the place of a claimed query in the list of indices, the place of an honest one, and the collision
 /// of both; or `None`, if the claimed opening is accepted and each of its queries agrees with each honest one wherever
@@ -132,9 +135,10 @@ pub fn commit_compare<
 ///
 /// # Errors
 ///
-/// `EmptyBatch`, `TooLarge` or `IncompatibleHeights` if the matrices have such heights; else `IndexOutOfBounds` for the
-/// highest index, if it is not below the tallest height. `OutOfMemory` may come at any time, also as the verdict or as
-/// what is found.
+/// The first of these that applies, where `OutOfMemory` may come at any time, also as the verdict or as what is found:
+///
+/// - `EmptyBatch`, `TooLarge` or `IncompatibleHeights` if the matrices have such heights;
+/// - `IndexOutOfBounds` for the highest index, if it is not below the tallest height.
 pub fn commit_compare_pruned<
     P: PackedValue,
     PW: PackedValue,

@@ -100,10 +100,11 @@ where
 ///
 /// # Errors
 ///
-/// `EmptyBatch`, `TooLarge` or `IncompatibleHeights` if the matrices have such heights; else `TooLarge` for the first
-/// matrix whose width with its salts does not fit `usize`; else `IndexOutOfBounds` if the index is not below the
-/// tallest height, which is found after the salts are drawn. `OutOfMemory` may come at any time, also as the verdict or
-/// as what is found.
+/// The first of these that applies, where `OutOfMemory` may come at any time, also as the verdict or as what is found:
+///
+/// - `EmptyBatch`, `TooLarge` or `IncompatibleHeights` if the matrices have such heights;
+/// - `TooLarge` for the first matrix whose width with its salts does not fit `usize`;
+/// - `IndexOutOfBounds` if the index is not below the tallest height. This is found after the salts are drawn.
 pub fn salted_commit_compare<
     P: PackedValue,
     PW: PackedValue,
@@ -166,8 +167,10 @@ where
     })
 }
 
-/// Does for several indices, in any order, with repeats, and one proof what [`salted_commit_compare`] does for one
-/// index. The claimed opening is a row set and a salt set for each index, and a pruned proof.
+/// Commits to matrices with `SALT_ELEMS` salts for each row, opens the rows that belong to several indices by one
+/// proof, with their salts, verifies the opening under the cap, and compares an opening that anybody claims for these
+/// indices with it: a row set and a salt set for each index, and a pruned proof. The indices may come in any order,
+/// with repeats.
 ///
 /// What is found is the place of a claimed query in the list of indices, the place of an honest one, and the collision
 /// of both; or `None`, if the claimed opening is accepted and each of its queries agrees with each honest one wherever
@@ -175,10 +178,12 @@ where
 ///
 /// # Errors
 ///
-/// `EmptyBatch`, `TooLarge` or `IncompatibleHeights` if the matrices have such heights; else `TooLarge` for the first
-/// matrix whose width with its salts does not fit `usize`; else `IndexOutOfBounds` for the highest index, if it is not
-/// below the tallest height, which is found after the salts are drawn. `OutOfMemory` may come at any time, also as the
-/// verdict or as what is found.
+/// The first of these that applies, where `OutOfMemory` may come at any time, also as the verdict or as what is found:
+///
+/// - `EmptyBatch`, `TooLarge` or `IncompatibleHeights` if the matrices have such heights;
+/// - `TooLarge` for the first matrix whose width with its salts does not fit `usize`;
+/// - `IndexOutOfBounds` for the highest index, if it is not below the tallest height. This is found after the salts are
+///   drawn.
 pub fn salted_commit_compare_pruned<
     P: PackedValue,
     PW: PackedValue,
