@@ -20,7 +20,7 @@ use base64::engine::general_purpose::STANDARD;
 use std::alloc::{AllocError, Global};
 
 /// The bytes ahead of the first `mark`, and those after it.
-pub fn cut_at(mark: u8, bytes: &[u8]) -> Option<(&[u8], &[u8])>
+pub(crate) fn cut_at(mark: u8, bytes: &[u8]) -> Option<(&[u8], &[u8])>
     ensures { option_map (λ (front, back). (front.now, back.now)) result ≡ cut_at mark bytes.now }
 {
     let at = bytes.iter().position(|byte| *byte == mark)?;
@@ -40,7 +40,7 @@ fn parse_number(digits: &[u8]) -> Option<usize>
 }
 
 /// The number up to 2^62 whose decimal digits these are.
-pub fn number_of(digits: &[u8]) -> Option<usize>
+pub(crate) fn number_of(digits: &[u8]) -> Option<usize>
     ensures { result ≡ number_of digits.now }
 {
     if digits.len() > 1 && digits[0] == b'0' {
@@ -149,17 +149,21 @@ fn is_line(expected: Expected, line: &[u8]) -> bool
 }
 
 /// Reads past a line that is what is expected. Where no such line stands, the error says that `expected` is missing.
-pub fn skip_line(left: &[u8], expected: Expected) -> Result<&[u8], Stop>
+pub(crate) fn skip_line(left: &[u8], expected: Expected) -> Result<&[u8], Stop>
     ensures { result_map_both (λ rest. rest.now) (λ stop. stop) result ≡ rest_of (line_that expected left.now) }
 {
     let stop = missing(left, expected);
     let (line, rest) = cut_at(b'\n', left).ok_or(stop)?;
-    is_line(expected, line).then_some(rest).ok_or(stop)
+    if is_line(expected, line) {
+        Ok(rest)
+    } else {
+        Err(stop)
+    }
 }
 
 /// Reads past lines that are what is expected, at most `limit`, up to a blank line or the end. The first other line is
 /// an error.
-pub fn skip_lines(left: &[u8], expected: Expected, limit: usize) -> Result<&[u8], Stop>
+pub(crate) fn skip_lines(left: &[u8], expected: Expected, limit: usize) -> Result<&[u8], Stop>
     ensures { result_map_both (λ rest. rest.now) (λ stop. stop) result
         ≡ rest_of (many at_text_end (line_that expected) limit left.now) }
 {
@@ -175,7 +179,7 @@ pub fn skip_lines(left: &[u8], expected: Expected, limit: usize) -> Result<&[u8]
 
 /// Reads a line of a word and a number up to 2^62, without leading zeros. Returns the number and what follows the line.
 /// Where no such line stands, the error says that `expected` is missing.
-pub fn number_by<'a>(
+pub(crate) fn number_by<'a>(
     left: &'a [u8],
     word: &[u8],
     expected: Expected,
@@ -193,7 +197,7 @@ pub fn number_by<'a>(
 /// Reads a line that is the base64 of 32 bytes. Returns these and what follows the line. With `blank_stops` the error
 /// says that a blank line may stand instead.
 #[tactic(auto, unfolding(crate::specs::Reading::digest_by))]
-pub fn digest_by(left: &[u8], blank_stops: bool) -> Result<([u8; 32], &[u8]), Stop>
+pub(crate) fn digest_by(left: &[u8], blank_stops: bool) -> Result<([u8; 32], &[u8]), Stop>
     ensures { result_map_both (λ (digest, rest). (digest, rest.now)) (λ stop. stop) result
         ≡ digest_by blank_stops left.now }
 {
@@ -215,7 +219,7 @@ fn at_blank(left: &[u8]) -> bool
 
 /// Reads `count` digests, or with `blank_stops` at most `count`, up to a blank line. Returns them and what follows the
 /// last one's line.
-pub fn digests_by(
+pub(crate) fn digests_by(
     alloc: Global,
     left: &[u8],
     blank_stops: bool,
@@ -239,7 +243,7 @@ pub fn digests_by(
 }
 
 /// Checks that nothing is left.
-pub fn ended(left: &[u8]) -> Result<(), Stop>
+pub(crate) fn ended(left: &[u8]) -> Result<(), Stop>
     ensures { result ≡ ended tt left.now }
 {
     if left.is_empty() {
@@ -250,15 +254,16 @@ pub fn ended(left: &[u8]) -> Result<(), Stop>
 }
 
 /// Appends bytes and a line feed. `AllocError` if memory runs out.
-pub fn push_line(text: &mut Vec<u8>, bytes: &[u8]) -> Result<(), AllocError>
+pub(crate) fn push_line(text: &mut Vec<u8>, bytes: &[u8]) -> Result<(), AllocError>
     ensures { OnOk result (text.new.items ≡ text.old.items ++ line bytes.now) }
 {
     text.extend_from_slice(bytes)?;
-    Ok(text.push(b'\n')?)
+    text.push(b'\n')?;
+    Ok(())
 }
 
 /// Appends a line of a word and a number in decimal digits. `AllocError` if memory runs out.
-pub fn push_number(
+pub(crate) fn push_number(
     alloc: Global,
     text: &mut Vec<u8>,
     word: &str,
@@ -272,7 +277,11 @@ pub fn push_number(
 
 /// Appends a digest in base64, and a line feed. `AllocError` if memory runs out.
 #[tactic(auto, unfolding(crate::specs::Lines::base64))]
-pub fn push_digest(alloc: Global, text: &mut Vec<u8>, digest: &[u8; 32]) -> Result<(), AllocError>
+pub(crate) fn push_digest(
+    alloc: Global,
+    text: &mut Vec<u8>,
+    digest: &[u8; 32],
+) -> Result<(), AllocError>
     ensures { OnOk result (text.new.items ≡ text.old.items ++ digest_line digest.now) }
 {
     let line = STANDARD.encode(alloc, digest)?;
@@ -280,11 +289,15 @@ pub fn push_digest(alloc: Global, text: &mut Vec<u8>, digest: &[u8; 32]) -> Resu
 }
 
 /// Appends a line of base64 for each digest. `AllocError` if memory runs out.
-pub fn push_digests(alloc: Global, to: &mut Vec<u8>, digests: &[[u8; 32]]) -> Result<(), AllocError>
-    ensures { OnOk result (to.new.items ≡ to.old.items ++ flat_map digest_line digests.now) }
+pub(crate) fn push_digests(
+    alloc: Global,
+    text: &mut Vec<u8>,
+    digests: &[[u8; 32]],
+) -> Result<(), AllocError>
+    ensures { OnOk result (text.new.items ≡ text.old.items ++ flat_map digest_line digests.now) }
 {
     for digest in digests {
-        push_digest(alloc, to, digest)?;
+        push_digest(alloc, text, digest)?;
     }
     Ok(())
 }
