@@ -14,6 +14,7 @@ pub enum TextError {
     /// The first wrong line. The bytes of an entry are wrong at their first line, and a note is too long at its first.
     #[error("{0}")]
     Line(WrongLine),
+    /// Memory ran out.
     #[error("out of memory")]
     OutOfMemory,
 }
@@ -33,14 +34,19 @@ pub struct WrongLine {
 /// What stands where something else is expected, if an editor or a transfer often does that to a text.
 #[derive(Clone, Copy, Debug, Error)]
 pub enum Found {
+    /// A byte order mark, at the front of the text.
     #[error(", but the text begins with a byte order mark")]
     ByteOrderMark,
+    /// The end of the text.
     #[error(", but the text ends")]
     TextEnd,
+    /// A last line without a line feed.
     #[error(", but the last line has no line feed")]
     NoLineFeed,
+    /// A line that ends in a carriage return and a line feed.
     #[error(", but the line ends in a carriage return and a line feed")]
     CarriageReturn,
+    /// Anything else, which the error does not name.
     #[error("")]
     Other,
 }
@@ -48,40 +54,55 @@ pub enum Found {
 /// What is expected of a line.
 #[derive(Clone, Copy, Debug, Error)]
 pub enum Expected {
+    /// A text of at most 1000000 bytes.
     #[error("a text of at most 1000000 bytes")]
     ShortNote,
+    /// The origin of a log, as `is_origin` takes it.
     #[error("the origin: 1 to 100 characters, no control character, and no space first or last")]
     Origin,
     /// The origin of a log, where that of a part is.
     #[error("the origin of a log, not that of a part, which only `join` takes")]
     NotPart,
+    /// The origin `PART_ORIGIN`.
     #[error("a part, which begins with `fohlazu part 1`")]
     PartOrigin,
+    /// The number of entries of a checkpoint.
     #[error("a checkpoint's number of entries, up to 2^62")]
     Size,
+    /// A digest.
     #[error("the base64 of 32 bytes")]
     Digest,
     /// An extension line, or what may follow instead.
     #[error("the end, a blank line, or plain text that is no digest: are there two checkpoints?")]
     Extension,
+    /// A signature of a signed note (C2SP signed-note).
     #[error("a signature, `— NAME BASE64`, after the blank line")]
     Signature,
+    /// The first line of a proof of entries.
     #[error("a proof of entries, which begins with `fohlazu proof 1`")]
     ProofVersion,
+    /// The number of entries of a proof.
     #[error("`entries COUNT`")]
     EntryCount,
+    /// The number and the length of an entry.
     #[error("`entry NUMBER LENGTH`")]
     EntryHead,
+    /// The bytes of an entry, of this length.
     #[error("{0} bytes and a line feed")]
     EntryBytes(usize),
+    /// The number of digests of a proof.
     #[error("`digests COUNT`")]
     DigestCount,
+    /// The old size, with which a consistency proof begins.
     #[error("a consistency proof, which begins with `old SIZE`")]
     OldSize,
+    /// A digest, or the blank line after the last one.
     #[error("the base64 of 32 bytes, or a blank line")]
     DigestOrBlank,
+    /// A blank line.
     #[error("a blank line")]
     Blank,
+    /// The end of the text.
     #[error("the end")]
     End,
 }
