@@ -47,7 +47,7 @@ impl OpenEntry {
 
 /// The entries of a file, as far as its bytes have come.
 #[derive(Drop)]
-pub struct Splitter<'a> {
+pub(crate) struct Splitter<'a> {
     cut: Cut,
     /// How many entries are read at most. What follows them is left out.
     limit: usize,
@@ -56,12 +56,12 @@ pub struct Splitter<'a> {
     /// The one that has not ended.
     open_entry: OpenEntry,
     /// The entries that are wanted, as far as they have come.
-    pub wanted: WantedEntries<'a>,
+    pub(crate) wanted: WantedEntries<'a>,
 }
 
 impl<'a> Splitter<'a> {
     /// Nothing of the file has come. At most `limit` entries of it are read. A block has from 1 to 2^30 bytes.
-    pub fn new(cut: Cut, limit: usize, wanted: WantedEntries<'a>) -> Splitter<'a>
+    pub(crate) fn new(cut: Cut, limit: usize, wanted: WantedEntries<'a>) -> Splitter<'a>
         requires { IsCut cut }
         ensures same { (result.cut ≡ cut) × (result.limit ≡ limit) }
         ensures ready { (indices : List ℕ) → HasPlaces wanted.entry → HoldsWanted wanted.entry indices [] [] →
@@ -78,7 +78,7 @@ impl<'a> Splitter<'a> {
     }
 
     /// Whether `limit` entries have ended, so that no more are read.
-    pub fn is_full(&self) -> bool
+    pub(crate) fn is_full(&self) -> bool
         ensures { result ≡ nat_le self.now.limit self.now.count }
     {
         self.count >= self.limit
@@ -87,7 +87,7 @@ impl<'a> Splitter<'a> {
     /// Reads whole entries from the head of the next bytes of the file, or bytes of one entry: at least one byte.
     /// Returns the leaf hashes of the entries that end there, and the bytes that are left. `bytes` must not be empty,
     /// and the splitter not full. After an error, which means that memory ran out, it must not be used.
-    pub fn read<'b>(
+    pub(crate) fn read<'b>(
         &mut self,
         alloc: Global,
         bytes: &'b [u8],
@@ -143,7 +143,7 @@ impl<'a> Splitter<'a> {
 
     /// Ends the file, or what is read of it. Returns the leaf hash of a last entry that ends with the file, if there is
     /// one. `EndsInsideLine` if an entry has begun and a partial line is refused; `OutOfMemory` if memory runs out.
-    pub fn end_file(&mut self, alloc: Global) -> Result<Vec<[u8; 32]>, ReadError>
+    pub(crate) fn end_file(&mut self, alloc: Global) -> Result<Vec<[u8; 32]>, ReadError>
         requires { HasPlaces self.old.wanted }
         ensures all { (wanted front rest : List ℕ) (ended : List (List ℕ)) → IsAt wanted self.old front ended →
             (rest ≡ []) ⊎ (self.old.limit ≤ self.old.count) →

@@ -9,7 +9,10 @@ use std::alloc::{AllocError, Global};
 use std::mem;
 
 /// The index of each wanted entry with its place among the wanted ones, in the order of the file.
-pub fn places_in_order(alloc: Global, wanted: &[usize]) -> Result<Vec<(usize, usize)>, AllocError>
+pub(crate) fn places_in_order(
+    alloc: Global,
+    wanted: &[usize],
+) -> Result<Vec<(usize, usize)>, AllocError>
     ensures { IfOk result (λ places. IsPermutation (places_of wanted.now) places.items
         × IsAscending 0 places.items) }
 {
@@ -23,7 +26,7 @@ pub fn places_in_order(alloc: Global, wanted: &[usize]) -> Result<Vec<(usize, us
 
 /// The wanted entries, as far as they have come.
 #[derive(Drop)]
-pub struct WantedEntries<'a> {
+pub(crate) struct WantedEntries<'a> {
     /// The index and the place of those that have not ended, in the order of the file.
     left: &'a [(usize, usize)],
     /// The bytes of those that have ended, each at its place.
@@ -35,7 +38,10 @@ pub struct WantedEntries<'a> {
 impl<'a> WantedEntries<'a> {
     /// None of the wanted entries have come, which have these indices and places. The indices must ascend, perhaps with
     /// repeats, as [`places_in_order`] has them.
-    pub fn new(alloc: Global, places: &'a [(usize, usize)]) -> Result<WantedEntries<'a>, AllocError>
+    pub(crate) fn new(
+        alloc: Global,
+        places: &'a [(usize, usize)],
+    ) -> Result<WantedEntries<'a>, AllocError>
         requires { IsAscending 0 places.now }
         ensures holds { IfOk result (λ entries. (wanted : List ℕ) → IsPermutation (places_of wanted) places.now →
             HoldsWanted entries wanted [] []) }
@@ -61,7 +67,12 @@ impl<'a> WantedEntries<'a> {
     }
 
     /// Copies those of the next entries, each a whole one, that are wanted. The first of them has index `first`.
-    pub fn copy(&mut self, alloc: Global, first: usize, entries: &[&[u8]]) -> Result<(), AllocError>
+    pub(crate) fn copy(
+        &mut self,
+        alloc: Global,
+        first: usize,
+        entries: &[&[u8]],
+    ) -> Result<(), AllocError>
         requires { HasPlaces self.old }
         ensures places { OnOk result (HasPlaces self.new) }
         ensures holds { (wanted : List ℕ) (ended : List (List ℕ)) → first ≡ length ended →
@@ -80,7 +91,7 @@ impl<'a> WantedEntries<'a> {
     }
 
     /// Adds the next bytes of the open entry, which has this index.
-    pub fn push(&mut self, index: usize, more: &[u8]) -> Result<(), AllocError>
+    pub(crate) fn push(&mut self, index: usize, more: &[u8]) -> Result<(), AllocError>
         requires { HasPlaces self.old }
         ensures places { OnOk result (HasPlaces self.new) }
         ensures holds { (wanted : List ℕ) (ended : List (List ℕ)) (bytes : List ℕ) → index ≡ length ended →
@@ -94,7 +105,7 @@ impl<'a> WantedEntries<'a> {
     }
 
     /// Ends the open entry, which has this index.
-    pub fn end(&mut self, alloc: Global, index: usize) -> Result<(), AllocError>
+    pub(crate) fn end(&mut self, alloc: Global, index: usize) -> Result<(), AllocError>
         requires { HasPlaces self.old }
         ensures places { OnOk result (HasPlaces self.new) }
         ensures holds { (wanted : List ℕ) (ended : List (List ℕ)) (bytes : List ℕ) → index ≡ length ended →
@@ -109,7 +120,7 @@ impl<'a> WantedEntries<'a> {
     }
 
     /// The wanted entries, each at its place among the wanted ones, if all of them have ended, else an empty list.
-    pub fn into_entries(self, alloc: Global) -> Vec<Vec<u8>>
+    pub(crate) fn into_entries(self, alloc: Global) -> Vec<Vec<u8>>
         ensures { (wanted : List ℕ) (ended : List (List ℕ)) (bytes : List ℕ) →
             HoldsWanted self.entry wanted ended bytes →
             map (λ entry. entry.items) result.items ≡ wanted_of ended wanted }
