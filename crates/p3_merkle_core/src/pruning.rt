@@ -286,17 +286,17 @@ fn check_shared_rows<T: Eq>(
         (row_sets rows.now) in
         AnswersUnlessMemory result refusal }
 {
-    let mut listed = Vec::new(alloc);
+    let mut matrices = Vec::new(alloc);
     let mut exponent = steps.exponent;
     // No two slots are under one leaf, so the first layer to look at is the one above the leaves.
     for level in 0..cap_layer {
         let up = steps.step_up(steps.arity, level, exponent);
         exponent = up.exponent;
         if up.has_rows {
-            list_matrices(&mut listed, steps.dimensions, exponent)?;
+            list_matrices(&mut matrices, steps.dimensions, exponent)?;
             let bits = steps.exponent - exponent;
             check_rows_under_nodes(
-                &listed,
+                &matrices,
                 &queried.indices,
                 bits,
                 &queried.first_queries,

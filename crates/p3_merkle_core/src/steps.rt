@@ -313,11 +313,12 @@ impl<'a> Steps<'a> {
         ensures { result ≡ cap_layer (shape_of self.now.arity self.now.dimensions.now) rule cap_height }
     {
         // No step above the layer of the shortest matrix is a bridge step.
-        let max_cap = match rule {
+        let max_cap_height = match rule {
             CapRule::Lowered => exponent_of(self.min_height).div_ceil(exponent_of(self.arity)),
             CapRule::Fixed => self.num_levels,
         };
-        self.num_levels.saturating_sub(cap_height.min(max_cap))
+        self.num_levels
+            .saturating_sub(cap_height.min(max_cap_height))
     }
 
     /// The step of a level, in children per node. The level must be below the root.

@@ -14,12 +14,12 @@ returns c =
       | in-Lowered w ↦
           rw (
             w.in-Lowered.is,
-            w.max_cap-is,
-            w.div_ceil-max_cap.ensures,
+            w.max_cap_height-is,
+            w.div_ceil-max_cap_height.ensures,
             w.exponent_of.ensures,
             w.exponent_of-in-Lowered.ensures,
           )
           (lowered_by_numbers s c.requires c.args.cap_height steps.num_levels steps.min_height steps.walked.whole
           steps.walked.shortest)
-      | in-Fixed w ↦ rw (w.in-Fixed.is, w.max_cap-is, steps.walked.whole) refl
+      | in-Fixed w ↦ rw (w.in-Fixed.is, w.max_cap_height-is, steps.walked.whole) refl
     ]
