@@ -5,6 +5,7 @@
 //!   the distinct indices, ascending.
 //! - A node is covered if it is a queried leaf or above one. The boundary is the children of covered nodes that are not
 //!   covered themselves: a proof has their digests.
+//! - The exponent of a height is its log2, rounded up. A matrix belongs to the layer of its exponent.
 //! - Rows agree if queries of one index have one row set, and queries under a node one row of each matrix of its layer.
 
 ghost use Rattle.std.specs.Prelude.{◌≡◌, ℕ, ◌+◌, ◌-◌, ◌*◌, ◌/◌, ◌%◌, ◌^◌, ◌<◌, ◌≤◌, ◌⊎◌, ◌++◌, Some, None, List, []};

@@ -5,6 +5,7 @@
 //!   each node above it has: the arity, or 2 if a step of the arity would pass over a matrix's layer (a bridge step).
 //! - The exponent of a height is its log2, rounded up. That of layer 0 is the tallest height's, and each step takes its
 //!   own log2 from it, down to the root's 0. A matrix belongs to the layer of its exponent.
+//! - Heights are lawful if each is the tallest one halved, and each time rounded up, some number of times.
 
 ghost use Rattle.std.specs.Prelude.{◌≡◌, suc, ◌-◌, ◌/◌, ◌<◌, ◌≤◌, ◌==◌, ◌↔◌, if◌then◌else◌, length, map, All, take};
 ghost use Rattle.std.specs.Prelude.{IfOk, IsOk, MatchResult, None, Some};

@@ -1,4 +1,5 @@
-//! The salted scheme: its type, its constructors, its commitments, and forks with a generator of their own.
+//! The salted scheme: its type, its constructors, its commitments, and forks with a generator of their own. For a
+//! commitment heights and widths are checked, salts are drawn, and the plain scheme commits.
 
 ghost use Rattle.std.specs.Prelude.{◌≡◌, ◌≤◌, ◌⊎◌, IfErr, IfOk, IsOk, IsTrue, OnOk, map};
 ghost use Rattle.p3_support.specs.Batches.{dimensions_in, heights_of};
