@@ -230,9 +230,11 @@ impl<
         ensures opening { IfOk result (λ made. made.0.opening ≡ opening.entry) }
         ensures leaves { IfOk result (λ made. AreLeaves (tree_of made.0) made.0.opening.indices.now made.1) }
     {
-        let (steps, cap_layer, indices) = (&self.steps, self.cap_layer, opening.indices);
-        let num_sent = opening.sent.len();
-        let leaves = check_pruned(alloc, steps, cap_layer, indices, opening.sets, num_sent)?;
+        let steps = &self.steps;
+        let cap_layer = self.cap_layer;
+        let indices = opening.indices;
+        let num_digests = opening.sent.len();
+        let leaves = check_pruned(alloc, steps, cap_layer, indices, opening.sets, num_digests)?;
         let nodes = Vec::from_slice(alloc, &leaves.indices)?;
         let restorable = RestorableOpening {
             steps,
