@@ -22,8 +22,10 @@ use sha2::Sha256;
 ///
 /// - `SizeTooLarge` if the new size is above 2^62;
 /// - `SmallerNewSize` if it is below the old size;
-/// - `TooManyDigests`, `TooFewDigests` if the proof has more digests than one between these sizes, or fewer;
-/// - `OldRootMismatch`, `RootMismatch` if the proof leads to another old root, or another new one.
+/// - `TooManyDigests` if the proof has more digests than one between these sizes;
+/// - `TooFewDigests` if it has fewer;
+/// - `OldRootMismatch` if the proof leads to another old root;
+/// - `RootMismatch` if it leads to another new root.
 pub fn verify_consistency(
     old_size: usize,
     new_size: usize,
@@ -154,7 +156,8 @@ impl<'a, const D: usize> Climb<'a, D> {
     ///
     /// # Errors
     ///
-    /// `TooManyDigests`, `TooFewDigests` if there are more digests than a path from this node has, or fewer.
+    /// - `TooManyDigests` if there are more digests than a path from this node has;
+    /// - `TooFewDigests` if there are fewer.
     pub fn roots<H: LogHash<D>>(&self, size: usize) -> Result<([u8; D], [u8; D]), ProofError>
         requires some { 0 < size }
         requires layer { self.now.layer < 64 }

@@ -21,7 +21,8 @@ pub const SIZE_LIMIT: usize = 1 << 62;
 ///
 /// - `SizeTooLarge` if the size is above 2^62;
 /// - `IndexPastEnd` if the index is not below the size;
-/// - `TooManyDigests`, `TooFewDigests` if the proof has more digests than a path from this index, or fewer;
+/// - `TooManyDigests` if the proof has more digests than a path from this index;
+/// - `TooFewDigests` if it has fewer;
 /// - `RootMismatch` if the proof leads to another root.
 pub fn verify_inclusion(
     index: usize,
