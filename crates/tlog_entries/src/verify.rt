@@ -36,7 +36,8 @@ use tlog::LogHash;
 /// - `NoIndices` if there are no indices;
 /// - `LeafCountMismatch` if the number of leaf hashes is not that of the indices;
 /// - `IndexPastEnd` if an index is not below the size;
-/// - `TooFewDigests`, `TooManyDigests` if the proof has fewer digests than a proof of these indices, or more;
+/// - `TooFewDigests` if the proof has fewer digests than a proof of these indices;
+/// - `TooManyDigests` if it has more;
 /// - `TwoLeafHashes` if an index is there twice with different leaf hashes;
 /// - `RootMismatch` if the proof leads to another root.
 pub fn verify_entries(
