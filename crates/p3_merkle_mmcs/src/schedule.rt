@@ -44,8 +44,12 @@ impl<
     ///
     /// # Errors
     ///
-    /// `EmptyBatch`, `TooLarge` or `IncompatibleHeights` if [`commit`](Self::commit) refuses such heights.
-    /// `OutOfMemory` may come at any time.
+    /// The first of these that applies, where `OutOfMemory` may come at any time:
+    ///
+    /// - `EmptyBatch` if no matrix has a row;
+    /// - `TooLarge` for the first height above 2^62;
+    /// - `IncompatibleHeights` for the first height that is not the tallest one halved and rounded up some number of
+    ///   times.
     pub fn proof_arity_schedule(
         &self,
         alloc: Global,
@@ -148,7 +152,12 @@ impl<
     ///
     /// # Errors
     ///
-    /// `EmptyBatch`, `TooLarge` or `IncompatibleHeights` if [`commit`](Self::commit) refuses such heights.
+    /// The first of these that applies:
+    ///
+    /// - `EmptyBatch` if no matrix has a row;
+    /// - `TooLarge` for the first height above 2^62;
+    /// - `IncompatibleHeights` for the first height that is not the tallest one halved and rounded up some number of
+    ///   times.
     pub fn is_authenticated(
         &self,
         dimensions: &[Dimensions],

@@ -135,8 +135,8 @@ fn check_widening(dimensions: &[Dimensions], salt_elems: usize) -> Result<(), Me
 ///
 /// # Errors
 ///
-/// `TooLarge` for the first matrix whose new width does not fit `usize`, with its width as the size. `OutOfMemory` may
-/// come at any time.
+/// - `TooLarge` for the first matrix whose new width does not fit `usize`, with its width as the size;
+/// - `OutOfMemory` if memory runs out, which may come at any time.
 pub fn widened_dimensions(
     alloc: Global,
     dimensions: &[Dimensions],
