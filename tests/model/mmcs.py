@@ -75,22 +75,21 @@ def printed(scheme, action, indices, matrices):
     return lines + [digest.hex() if isinstance(digest, bytes) else f"{digest:08x}" for digest in digests]
 
 
-def answered(words, data, is_unread=False, calls=None):
-    """What is printed before a fault, if any, and the fault. An unread input fails at its end. An output that takes so
-    many calls has a byte at each, and fails after them: a flush is the last."""
+def answered(words, data, is_unread=False):
+    """What is printed, or nothing and the fault. An unread input fails, wherever it does."""
     try:
         scheme, greatest, action, indices = command_of(words)
         if is_unread:
             raise Fault("read failed")
-        text = "".join(line + "\n" for line in printed(scheme, action, indices, matrices_of(data, greatest)))
+        lines = printed(scheme, action, indices, matrices_of(data, greatest))
+        return "".join(line + "\n" for line in lines), None
     except Fault as fault:
         return "", fault
-    return (text, None) if calls is None or calls > len(text) else (text[:calls], Fault("write failed"))
 
 
-def output(words, data, **settings):
+def output(words, data, is_unread=False):
     """The same as one text."""
-    text, fault = answered(words, data, **settings)
+    text, fault = answered(words, data, is_unread)
     return f"{text}{fault} (status {fault.status})" if fault else text
 
 
@@ -116,20 +115,20 @@ def escaped(data):
     return text.replace("\\x0a", "\\n")
 
 
-def line_of(words, data):
+# The kinds of cases: that of an input that fails is answered otherwise.
+WHOLE, UNREAD, UNWRITTEN = "mmcs", "mmcs_unread", "mmcs_unwritten"
+
+
+def line_of(words, data, kind=WHOLE):
     """The case of a command and an input, and how its answer is written."""
-    answer = escaped(output(words, data).encode()).replace("\\x7c", "|")
-    return f'mmcs | {" ".join(word or QUOTED for word in words)} | "{escaped(data)}"', answer
+    answer = escaped(output(words, data, kind == UNREAD).encode()).replace("\\x7c", "|")
+    return f'{kind} | {" ".join(word or QUOTED for word in words)} | "{escaped(data)}"', answer
 
 
 def case_of(line):
     """What its line says of the answer to a case, and what the model says."""
     kind, rest = line.split(" | ", 1)
-    settings = {"is_unread": True} if kind == "mmcs_unread" else {}
-    if kind == "mmcs_unwritten":
-        calls, rest = rest.split(" | ", 1)
-        settings["calls"] = int(calls)
     written, rest = rest.split('| "', 1)
     data, expected = map(bytes_of, rest.split('" | ', 1))
     words = ["" if word == QUOTED else word for word in written.split()]
-    return expected.decode(), output(words, data, **settings)
+    return expected.decode(), output(words, data, kind == UNREAD)
