@@ -2,6 +2,7 @@
 
 A kind is a function, with a reader for each of its arguments, which reads a field or more of them."""
 
+import hashlib
 from itertools import chain, product
 
 import geometry
@@ -10,8 +11,8 @@ from claims import Claim, checks_of, count_errors, extract, height_errors, index
 from claims import row_errors, width_errors
 from geometry import FIXED, LOWERED, Shape
 from nodes import Fold, Scheme, Sha256
-from notation import dimensions, matrices, numbers, print_numbers, print_row_sets, rows
-from salts import Generator
+from notation import dimensions, matrices, nodes, numbers, print_numbers, print_row_sets, rows
+from salts import Counting, Generator
 
 # There is no memory for a tree of so many rows.
 MOST_ROWS = 1 << 40
@@ -45,7 +46,9 @@ class Fields:
         return Scheme(arity, int(cap), rule, salts, Sha256 if self.is_sha256 else Fold)
 
     def generator(self):
-        return Generator(bytes([self.read(int)] * 32)) if self.is_salted else None
+        """The generator of a seed of one byte, or one that counts from a first number by a step."""
+        found = self.read(numbers) if self.is_salted else []
+        return Counting(*found) if len(found) == 2 else Generator(bytes(found * 32)) if found else None
 
     def queries(self):
         return self.read(numbers) if self.is_pruned else self.read(int)
@@ -132,6 +135,23 @@ def shape(scheme, heights):
     return f"{print_numbers(own.proof_steps)} | {lengths}"
 
 
+@case("layers", Fields, int, Batch)
+def layers(fields, arity, batch):
+    """How many layers there are, and the digest of all: a line for each, the root first."""
+    tree = batch.tree(Scheme(arity, 0, LOWERED, 0, Sha256 if fields.is_sha256 else Fold))
+    text = "".join(print_numbers(layer) + "\n" for layer in reversed(tree.layers))
+    return f"{len(tree.layers)} | {hashlib.sha256(text.encode()).hexdigest()}"
+
+
+@case("known", Scheme, numbers, numbers, nodes)
+def known(scheme, heights, queries, given):
+    """Whether given nodes are the boundary; whether they suffice, without each in turn and then all."""
+    own = lawful(scheme, heights, queries)
+    lists = [given[:place] + given[place + 1 :] for place in range(len(given))] + [given]
+    sent = "sent" if given == own.boundary(queries) else "not sent"
+    return f"{sent} | " + " ".join("yes" if own.suffices(queries, one) else "no" for one in lists)
+
+
 @case("schedule", Scheme, numbers)
 def schedule(scheme, heights):
     return print_numbers(lawful(scheme, heights).proof_steps)
@@ -170,12 +190,12 @@ def cap_over(scheme, generator, text):
 
 @case("salted_commits", Scheme, Generator, str)
 def salted_commits(scheme, generator, text):
-    """A batch after `fork` is committed to with the salts of a fork."""
-    found = []
-    for batch in map(str.strip, text.split("/")):
-        source = generator.fork() if batch.startswith("fork ") else generator
-        found.append(answered(cap_over, scheme, source, batch.removeprefix("fork ")))
-    return " / ".join(found)
+    return " / ".join(answered(cap_over, scheme, generator, batch.strip()) for batch in text.split("/"))
+
+
+@case("salted_fork", Scheme, Generator, str)
+def salted_fork(scheme, generator, batch):
+    return " / ".join(answered(cap_over, scheme, source, batch) for source in (generator.fork(), generator))
 
 
 @case("verify verify_pruned salted_verify salted_verify_pruned", Scheme, numbers, dimensions, Fields)

@@ -26,6 +26,11 @@ def dimensions(text):
     return [] if text == "none" else [value for word in text.split() for value in repeated(word, size)]
 
 
+def nodes(text):
+    """Nodes, each its layer and its number there."""
+    return [] if text == "-" else [tuple(map(int, word.split(":"))) for word in text.split()]
+
+
 def counted(text, mark, read):
     """What a part of a text stands for; with a mark and a count after it, so often."""
     part, _, count = text.partition(mark)
@@ -59,6 +64,10 @@ def print_row_sets(values):
 
 def print_dimensions(values):
     return " ".join(f"{width}x{height}" for width, height in values) or "none"
+
+
+def print_nodes(values):
+    return " ".join(f"{layer}:{number}" for layer, number in values) or "-"
 
 
 def print_matrices(values):

@@ -6,7 +6,7 @@ from claims import Claim, refusal
 from damage import damaged
 from geometry import FIXED, LOWERED, MAX_NUMBER, expected_height, exponent
 from nodes import Fold, Scheme
-from notation import print_dimensions, print_numbers
+from notation import print_dimensions, print_nodes, print_numbers
 from salts import Generator
 
 
@@ -111,15 +111,18 @@ def add_shape(trial):
 
 def add_tree(trial):
     """The calls that build a tree, and what is opened out of it."""
-    queries = print_numbers(trial.queries)
+    queries, matrices = print_numbers(trial.queries), trial.batch.split(" | ")[-1]
     if trial.scheme.salts:
         trial.add_honest(f"salted_open | {trial.batch} | {trial.index}")
         trial.add_honest(f"salted_pruned | {trial.batch} | {queries}")
-        matrices = trial.batch.split(" | ")[-1]
-        trial.add_honest(f"salted_commits | {trial.batch} / fork {matrices} / {matrices}")
+        trial.add_honest(f"salted_commits | {trial.batch} / {matrices}")
+        trial.add_honest(f"salted_fork | {trial.batch}")
         return
     trial.add_honest(f"commit | {trial.batch}", print_numbers(trial.tree.cap()))
+    trial.add_honest(f"layers | {trial.scheme.arity} | {matrices}")
     trial.add_honest(f"shape | {trial.head} | {trial.heights}")
+    nodes = print_nodes(trial.tree.shape.boundary(trial.queries))
+    trial.add_honest(f"known | {trial.head} | {trial.heights} | {queries} | {nodes}")
     trial.add_honest(f"open | {trial.batch} | {trial.index}")
     trial.add_honest(f"pruned | {trial.batch} | {queries}")
 

@@ -21,14 +21,14 @@ pub struct List {
 }
 
 /// Numbers.
-const NUMBERS: List = List {
+pub const NUMBERS: List = List {
     between: " ",
     times: "*",
     none: "-",
 };
 
 /// Lists of numbers.
-const ROWS: List = List {
+pub const ROWS: List = List {
     between: "; ",
     times: " times ",
     none: "none",

@@ -3,6 +3,7 @@
 ghost use Rattle.std.specs.Prelude.{◌%◌, ◌^◌, ◌≤◌, replicate};
 ghost use Rattle.std.proofs.lemmas.List.{length-replicate};
 
+use crate::builders::layers_of;
 use crate::case::{Case, Fault};
 use crate::matrices::matrices_by;
 use crate::scheme::{Cap, FoldScheme, fold_scheme};
@@ -84,6 +85,17 @@ pub fn geometry<const N: usize, const D: usize>(
     }
 }
 
+/// How many slots of a layer are nodes: all up to the last that does not have the default digest.
+pub fn node_count(layer: &MerkleCap<u32, [u32; 1]>) -> usize {
+    let mut nodes = 0_usize;
+    for (slot, digest) in layer.roots().iter().enumerate() {
+        if *digest != [0] {
+            nodes = slot.saturating_add(1);
+        }
+    }
+    nodes
+}
+
 /// `shape | ARITY | CAP | HEIGHTS | STEPS | LENGTHS`: the steps from the leaves up to the cap, then the nodes and the
 /// slots of each layer, leaves first. The last node of a layer must not have the default digest.
 pub fn shape<const N: usize>(case: &mut Case<'_>, scheme: &FoldScheme<N, 1>) -> Result<(), Fault> {
@@ -92,14 +104,8 @@ pub fn shape<const N: usize>(case: &mut Case<'_>, scheme: &FoldScheme<N, 1>) -> 
     case.write(&scheme.proof_arity_schedule(alloc, &columns)?)?;
     let (_, tree) = scheme.commit(alloc, matrices_by(alloc, &columns)?)?;
     case.answer.push_str(" |")?;
-    for below in (0..tree.num_layers()).rev() {
-        let layer = tree.cap(alloc, below)?;
-        let (mut nodes, slots) = (0_usize, layer.num_roots());
-        for (slot, digest) in layer.roots().iter().enumerate() {
-            if *digest != [0] {
-                nodes = slot.saturating_add(1);
-            }
-        }
+    for layer in &layers_of(alloc, &tree)? {
+        let (nodes, slots) = (node_count(layer), layer.num_roots());
         write!(case.answer, " {nodes}/{slots}")?;
     }
     Ok(())

@@ -10,11 +10,14 @@
 ghost use Rattle.std.specs.Prelude.{◌≤◌, IsTrue};
 ghost use Rattle.p3_merkle_core.specs.Geometry.{is_arity};
 
+mod builders;
 mod case;
 mod checked;
+mod counting;
 mod engine;
 mod field;
 mod geometry;
+mod known;
 mod matrices;
 mod opened;
 mod queries;
@@ -105,6 +108,7 @@ fn answer_at<const N: usize>(case: &mut Case<'_>, keyword: &str, cap: Cap) -> Re
             geometry::geometry::<N, 1>(case, keyword, &scheme)
         }
         "shape" => geometry::shape::<N>(case, &scheme),
+        "known" => known::known::<N>(case, &mut scheme),
         "commit" => commit_alike::<N>(case, cap),
         kind => answered::<u32, [u32; 1], _, N>(case, kind, cap, &mut scheme),
     }
@@ -134,6 +138,28 @@ fn answer_of_tree(case: &mut Case<'_>, keyword: &str) -> Result<(), Fault> {
     }
 }
 
+/// Answers a case of all layers of a tree, by fold functions or by SHA-256.
+fn answer_of_layers<const N: usize>(case: &mut Case<'_>, keyword: &str) -> Result<(), Fault>
+    requires arity { IsTrue (is_arity N) }
+    requires few { N ≤ 16 }
+{
+    if keyword == "layers" {
+        builders::layers::<N>(case)
+    } else {
+        builders::sha256_layers::<N>(case)
+    }
+}
+
+/// Answers a case of all layers of a tree, whose first field is an arity.
+fn answer_of_layers_at(case: &mut Case<'_>, keyword: &str) -> Result<(), Fault> {
+    match case.take() {
+        "2" => answer_of_layers::<2>(case, keyword),
+        "4" => answer_of_layers::<4>(case, keyword),
+        "8" => answer_of_layers::<8>(case, keyword),
+        _ => Err(Fault::Unreadable("the arity is not 2, 4 or 8")),
+    }
+}
+
 /// Answers a case.
 fn answer(case: &mut Case<'_>) -> Result<(), Fault> {
     match case.take() {
@@ -142,6 +168,7 @@ fn answer(case: &mut Case<'_>) -> Result<(), Fault> {
         "mmcs" => engine::engine(case, "mmcs"),
         "mmcs_unread" => engine::engine(case, "unread"),
         "mmcs_unwritten" => engine::engine(case, "unwritten"),
+        keyword @ ("layers" | "sha256_layers") => answer_of_layers_at(case, keyword),
         keyword => answer_of_tree(case, keyword),
     }
 }

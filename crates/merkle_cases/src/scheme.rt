@@ -95,9 +95,6 @@ pub trait Tried<T: Word, X: Item>: Mmcs<
     Proof: Field,
     MultiProof: Field,
 > {
-    /// Whether rows are salted, so that the cap is part of an opening's answer.
-    const IS_SALTED: bool;
-
     /// The siblings of a leaf.
     fn siblings(proof: &Self::Proof) -> &[X];
 
@@ -154,8 +151,6 @@ impl<
 where
     [T; D]: Item,
 {
-    const IS_SALTED: bool = false;
-
     fn siblings(proof: &Vec<[T; D]>) -> &[[T; D]] {
         proof
     }
