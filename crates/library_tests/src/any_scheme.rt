@@ -10,7 +10,6 @@ ghost use Rattle.p3_support.specs.Batches.{dimensions_in, greatest, heights_of};
 ghost use Rattle.p3_support.specs.RowMajor.{row_count, row_width};
 ghost use Rattle.p3_support.specs.Shown.{row_lists, row_sets};
 
-use crate::matrices::two_rows;
 use crate::reasons::Rejection;
 use p3_hashes::fold::{FoldCompress, FoldHash};
 use p3_merkle_tree::{MerkleTreeError, MerkleTreeHidingMmcs, MerkleTreeMmcs};
@@ -22,6 +21,7 @@ use rand_core::SeedableRng;
 use std::alloc::{AllocError, Global};
 use std::process::Abort;
 use std::test::Fail;
+use support_tests::matrices::two_rows;
 
 /// The word at a place in the rows of an index, once these are verified. No length is looked at.
 fn verified_word<T: Copy, M: Matrix<T>, S: Mmcs<T, M>>(

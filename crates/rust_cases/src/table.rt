@@ -1,6 +1,6 @@
 //! The matrices of cases. Unlike a `RowMajorMatrix` they can have rows of no words.
 
-ghost use Rattle.library_tests.specs.Tables.{height_in, row_in, width_in, length-row_in};
+ghost use Rattle.rust_cases.specs.Tables.{height_in, row_in, width_in, length-row_in};
 
 use crate::numbers::{Fault, Numbers, Part};
 use p3_support::matrix::{Dimensions, Matrix, RowMajorMatrix};

@@ -1,8 +1,6 @@
 //! What both schemes commit to, open and accept from commit to verdict, at worked values; and claimed openings of other
 //! rows, some with the digests of the honest ones.
 
-use crate::counting::Counting;
-use crate::matrices::{numbered, two_rows};
 use end_to_end::plain::{commit_compare, commit_compare_pruned};
 use end_to_end::salted::{salted_commit_compare, salted_commit_compare_pruned};
 use p3_hashes::fold::{FoldCompress, FoldHash};
@@ -11,6 +9,8 @@ use std::alloc::{AllocError, Global};
 use std::fmt::Debug;
 use std::process::Abort;
 use std::test::Fail;
+use support_tests::counting::Counting;
+use support_tests::matrices::{numbered, two_rows};
 
 /// The plain scheme of two children over the fold functions, whose cap is the root.
 fn plain() -> MerkleTreeMmcs<u32, u32, FoldHash<1>, FoldCompress<2, 1>, 2, 1> {

@@ -4,7 +4,6 @@ ghost use Rattle.std.specs.Prelude.{◌≤◌, IsTrue};
 ghost use Rattle.p3_merkle_tree.specs.Geometry.{is_arity};
 
 use crate::case::{Case, Salts};
-use crate::counting::Counting;
 use crate::numbers::Fault;
 use crate::scheme::{Answer, answer_to_plain, answer_to_shared};
 use p3_hashes::batched::Batched3;
@@ -13,6 +12,7 @@ use p3_hashes::lanes::{Lanes, U32x8};
 use p3_hashes::sha::{Sha256Nodes, Sha256Rows};
 use p3_hashes::sha_eights::{Sha256NodesInEights, Sha256RowsInEights};
 use p3_merkle_tree::{MerkleTreeHidingMmcs, MerkleTreeMmcs};
+use support_tests::counting::Counting;
 
 /// The answer of the scheme of a hash and a compression, plain or of as many salts a row as the case has.
 macro_rules! answer_by {

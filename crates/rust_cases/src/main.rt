@@ -1,4 +1,4 @@
-//! Answers of the Rust crate, and tests that no line of a file of cases can say.
+//! Answers of the Rust crate, replayed by every builder.
 //!
 //! The program answers cases, one a line of the files that are its arguments, or of standard input if there are none.
 //! The head of data/cases.txt says what a case is.
@@ -8,23 +8,11 @@
 //! with its answer, and the status is then 1. After the last line of a file that has such lines comes their number.
 #![tactic(auto)]
 
-#[cfg(test)]
-mod accepted;
-#[cfg(test)]
-mod any_scheme;
 mod builders;
 mod case;
-mod counting;
 mod large;
-#[cfg(test)]
-mod matrices;
-#[cfg(test)]
-mod noting;
 mod numbers;
-mod reasons;
 mod scheme;
-#[cfg(test)]
-mod support;
 mod table;
 mod text;
 

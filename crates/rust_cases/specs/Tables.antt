@@ -3,8 +3,8 @@ use Rattle.std.specs.Prelude.{◌≡◌, ℕ, ◌<◌, List, [], length, refl}
 use Rattle.p3_support.specs.Inner.RowLengths.{length-message}
 use Rattle.p3_support.specs.Lists.{message}
 use Rattle.p3_support.specs.RowMajor.{row_count, row_width, values_of}
-use Rattle.library_tests.specs.declared.table.Table.{Table}
-use Rattle.library_tests.specs.declared.table.Table.TheVariants.{Blank, Rows}
+use Rattle.rust_cases.specs.declared.table.Table.{Table}
+use Rattle.rust_cases.specs.declared.table.Table.TheVariants.{Blank, Rows}
 
 -- the number of rows
 abbrev pub height_in : {A : Type 0} → Table A → ℕ

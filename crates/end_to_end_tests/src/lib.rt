@@ -1,0 +1,5 @@
+//! Tests of the functions from commit to verdict, of both schemes.
+#![tactic(auto)]
+
+#[cfg(test)]
+mod accepted;

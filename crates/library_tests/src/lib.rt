@@ -1,0 +1,8 @@
+//! Tests of trees and schemes that no line of a file of cases can say.
+#![tactic(auto)]
+
+#[cfg(test)]
+mod any_scheme;
+#[cfg(test)]
+mod noting;
+pub mod reasons;

@@ -1,0 +1,48 @@
+//! Whether clones and copies are what they were made from, and whether `==` tells values apart.
+
+use std::alloc::{AllocError, Global};
+use std::fmt::Debug;
+
+/// Whether two values are printed alike.
+fn are_printed_alike<T: Debug>(alloc: Global, first: &T, second: &T) -> Result<bool, AllocError> {
+    let first = format!(in alloc; "{first:?}")?;
+    let second = format!(in alloc; "{second:?}")?;
+    Ok(first.as_str() == second.as_str())
+}
+
+/// Whether a clone of a value is printed as the value.
+pub fn is_printed_as_its_clone<T: Clone + Debug + Drop>(
+    alloc: Global,
+    value: &T,
+) -> Result<bool, AllocError> {
+    are_printed_alike(alloc, value, &value.clone()?)
+}
+
+/// Whether a clone of a value and a copy of it are printed as the value.
+pub fn is_printed_as_its_copies<T: Copy + Debug>(
+    alloc: Global,
+    value: T,
+) -> Result<bool, AllocError> {
+    let copy = value;
+    Ok(
+        are_printed_alike(alloc, &value, &copy)?
+            && are_printed_alike(alloc, &value, &value.clone()?)?,
+    )
+}
+
+/// Whether a clone of a value equals it.
+pub fn equals_its_clone<T: Clone + PartialEq + Drop>(value: &T) -> Result<bool, AllocError> {
+    Ok(*value == value.clone()?)
+}
+
+/// Whether `==` holds of the values at equal positions of both slices, and of no others.
+pub fn are_told_apart<T: PartialEq>(first: &[T], second: &[T]) -> bool {
+    for (i, left) in first.iter().enumerate() {
+        for (j, right) in second.iter().enumerate() {
+            if (*left == *right) != (i == j) {
+                return false;
+            }
+        }
+    }
+    first.len() == second.len()
+}
