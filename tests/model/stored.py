@@ -43,13 +43,13 @@ def of_logs(line):
 
 
 # What answers the cases of each crate.
-ANSWERS = {"merkle_cases": of_library, "library_tests": of_rust, "log_cases": of_logs}
+ANSWERS = {"merkle_cases": of_library, "rust_cases": of_rust, "log_cases": of_logs}
 
 
 def lines_of(crate):
     """The stored lines of a crate."""
     folder = CRATES / crate
-    if crate == "library_tests":
+    if crate == "rust_cases":
         return [line for path in sorted((folder / "data").iterdir()) for line in path.read_text().split("\n")]
     return (folder / "stdin").read_text().split("\n")
 
