@@ -4,5 +4,13 @@
 #[cfg(test)]
 mod any_scheme;
 #[cfg(test)]
+mod calls;
+#[cfg(test)]
+mod clones;
+#[cfg(test)]
+mod exclusive_or;
+#[cfg(test)]
 mod noting;
 pub mod reasons;
+#[cfg(test)]
+mod roots;

@@ -3,7 +3,6 @@
 ghost use Rattle.std.specs.Prelude.{◌≡◌, ℕ, ◌<◌, ◌≤◌, map};
 ghost use Rattle.p3_support.specs.Lists.{lane_of};
 
-use crate::matrices::{Numbers, numbered};
 use p3_hashes::fold::{FoldCompress, FoldHash, FoldLane};
 use p3_hashes::lanes::U32x8;
 use p3_merkle_tree::{MerkleTree, MerkleTreeError};
@@ -16,6 +15,7 @@ use std::convert::AsSlice;
 use std::fmt::Write;
 use std::process::Abort;
 use std::test::Fail;
+use support_tests::matrices::{Numbers, numbered};
 
 /// The calls so far, each with the number of its digests.
 #[derive(Drop)]
@@ -178,6 +178,10 @@ fn nodes_are_taken_together_and_rows_unless_the_hasher_takes_one(
 #[test]
 fn rows_are_laid_side_by_side_in_whole_groups_of_lanes(rt: HostRuntime) -> Result<(), Fail> {
     let alloc = rt.alloc();
+    // 16384 bytes hold 256 rows of 64 bytes.
+    let calls =
+        "rows 256, rows 44, groups 150, groups 75, groups 38, groups 19, groups 10, groups 5, groups 3, groups 2, groups 1";
+    assert_calls::<u32, 8, 1>(&rt, alloc, &[(16, 300)], calls)?;
     // 16384 bytes hold 64 rows of 256 bytes.
     let calls =
         "rows 64, rows 6, groups 35, groups 18, groups 9, groups 5, groups 3, groups 2, groups 1";
@@ -185,5 +189,7 @@ fn rows_are_laid_side_by_side_in_whole_groups_of_lanes(rt: HostRuntime) -> Resul
     // Rows of 16400 bytes go in the smallest group, of eight.
     let calls = "rows 8, rows 2, groups 5, groups 3, groups 2, groups 1";
     assert_calls::<u32, 8, 1>(&rt, alloc, &[(4100, 10)], calls)?;
+    // Rows of no words count as one byte each.
+    assert_calls::<u32, 8, 1>(&rt, alloc, &[(0, 3)], "rows 3, groups 2, groups 1")?;
     Ok(())
 }
