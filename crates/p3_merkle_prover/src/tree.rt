@@ -53,7 +53,6 @@ impl<F: Copy, W: Copy, M: Matrix<F> + Drop, const N: usize, const D: usize> Merk
     N,
     D,
 > {
-    ghost use Rattle.p3_support.specs.Shown.{digest_of_ref, roots_of};
     ghost use Rattle.p3_merkle_prover.specs.Parts.{layers_of, matrices_of, tree_batch};
 
     /// Builds the tree over matrices, which it owns from then on, in input order. Leaf `i` is the digest of the rows
@@ -99,6 +98,11 @@ impl<F: Copy, W: Copy, M: Matrix<F> + Drop, const N: usize, const D: usize> Merk
         let tree = tree_over::<P, PW, H, C, M, N, D>(alloc, hash, compress, leaves)?;
         Ok(tree)
     }
+}
+
+impl<F: Copy, W: Copy, M: Matrix<F>, const N: usize, const D: usize> MerkleTree<F, W, M, N, D> {
+    ghost use Rattle.p3_support.specs.Shown.{digest_of_ref, roots_of};
+    ghost use Rattle.p3_merkle_prover.specs.Parts.{layers_of, matrices_of, tree_batch};
 
     /// The root: the one node of the last layer.
     pub fn root(&self) -> Hash<'_, F, W, D>
@@ -145,7 +149,7 @@ impl<F: Copy, W: Copy, M: Matrix<F> + Drop, const N: usize, const D: usize> Merk
     /// `AllocError` if memory runs out.
     pub fn clone(&self) -> Result<Self, AllocError>
     where
-        M: Clone,
+        M: Clone + Drop,
         requires { All (ClonesShowTheSame M.height_of M.width_of M.row_of M.is_clone) (matrices_of self.now) }
         ensures matrices { IfOk result (λ tree. AllZip M.is_clone (matrices_of self.now) (matrices_of tree)) }
         ensures batch { IfOk result (λ tree. tree_batch tree ≡ tree_batch self.now) }
