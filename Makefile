@@ -106,7 +106,6 @@ check-quick: toolchain documents quick
 	@$(ALONE) python3 tests/check-quick
 
 check: toolchain documents
-	@python3 tests/size
 	@$(ALONE) rt ci
 
 install: $(PROGRAMS:%=$(FROM)/%) $(LIBRARY)
