@@ -7,9 +7,9 @@ MAKEFLAGS += --no-builtin-rules --no-print-directory
 # What a target calls takes all processors itself.
 .NOTPARALLEL:
 
-# The toolchain that everything here was proved with. Another kit of the same logic is as good.
-KIT := rattle-kit-13f
+# The logic of the toolchain that everything here was proved with. Any kit of this logic serves: 13b and 13f were tried.
 LOGIC := dac8208d650f15bf
+NEEDED := a Rattle toolchain of the logic $(LOGIC) is needed, such as kit 13b or 13f
 KIT_CHECK := yes
 
 VERSION := $(shell sed -n 's/^const VERSION.*"\(.*\)";/\1/p' crates/fohlazu/src/args.rt)
@@ -48,9 +48,9 @@ ALL := -regex 'crates/[^/]*/\(src\|specs\|proofs\).*'
 # Says in one line what is wrong with the toolchain.
 define kit
 @if ! kit="$$(rt version 2> /dev/null)"; then \
-  echo 'the Rattle toolchain is needed, $(KIT): its command rt is not on the PATH' >&2; exit 3; \
+  echo '$(NEEDED): its command rt is not on the PATH' >&2; exit 3; \
 elif [ '$(KIT_CHECK)' != no ] && [ "$${kit##*logic }" != $(LOGIC) ]; then \
-  echo "the logic of $(KIT) is needed, $(LOGIC), and this is $$kit: KIT_CHECK=no builds all the same" >&2; exit 3; \
+  echo "$(NEEDED), and this is $$kit: KIT_CHECK=no builds all the same" >&2; exit 3; \
 fi
 endef
 
@@ -105,8 +105,10 @@ documents:
 check-quick: toolchain documents quick
 	@$(ALONE) python3 tests/check-quick
 
+# `rt ci` leaves the programs that it proved in crates/*/out.
 check: toolchain documents
 	@$(ALONE) rt ci
+	@$(ALONE) python3 tests/programs
 
 install: $(PROGRAMS:%=$(FROM)/%) $(LIBRARY)
 	@for name in $(PROGRAMS); do \
@@ -152,7 +154,8 @@ help:
 #:                   `make build/libfohlazu.a` proves the library for C alone, in half an hour
 #: make quick        the programs with no proof, in build/quick/: two minutes
 #: make check-quick  what can be tried with no proof: documents, tests, stored runs, random cases; 20 minutes
-#: make check        the gate: documents, then every proof, test and refused edit; 80 to 170 processor minutes
+#: make check        the gate: documents, then every proof, test and refused edit, then commands of the proved programs;
+#:                   80 to 170 processor minutes
 #: make libraries    the proved libraries, with rattle-with: a crate over them is checked in a minute
 #: make dist         archives of the programs and of the libraries, with their checksums, in build/dist/
 #: make documents    compares docs/ with the sources: seconds. `tests/audit write` and `tests/strength` write what of it
