@@ -20,8 +20,9 @@ LIBRARY_FOR_C := libfohlazu.a libfohlazu.so
 FILES := $(PROGRAMS) $(LIBRARY_FOR_C)
 CPUS := x86-64-v2 x86-64-v3
 QUICK := $(PROGRAMS:%=build/quick/%)
-# What answers the cases of tests/fuzz and tests/rust/compare, and the questions of tests/memory and tests/peers.
-CASES := merkle_cases log_cases rust_cases
+# What answers the cases of tests/fuzz and tests/rust/compare, and the questions of tests/memory and tests/peers; and the
+# callers of README.md.
+CASES := merkle_cases log_cases rust_cases memory_cases callers
 LIBRARIES := build/libraries.tar.zst
 
 # This processor: x86-64-v3 where each has what that adds to x86-64-v2. Linux calls lzcnt by the name abm.
@@ -109,6 +110,7 @@ check-quick: toolchain documents quick
 check: toolchain documents
 	@$(ALONE) rt ci
 	@$(ALONE) python3 tests/programs
+	@$(ALONE) python3 tests/memory gate
 
 install: $(PROGRAMS:%=$(FROM)/%) $(LIBRARY)
 	@for name in $(PROGRAMS); do \
@@ -133,7 +135,7 @@ bench: toolchain
 	@python3 bench/run $(PARTS)
 
 clean:
-	@rm -rf build bench/out tests/memory.d/out
+	@rm -rf build bench/out
 
 # How a program of cases is built is in its out/make.log.
 .SECONDEXPANSION:
@@ -154,8 +156,8 @@ help:
 #:                   `make build/libfohlazu.a` proves the library for C alone, in half an hour
 #: make quick        the programs with no proof, in build/quick/: two minutes
 #: make check-quick  what can be tried with no proof: documents, tests, stored runs, random cases; 20 minutes
-#: make check        the gate: documents, then every proof, test and refused edit, then commands of the proved programs;
-#:                   80 to 170 processor minutes
+#: make check        the gate: documents, then every proof, test and refused edit, then the proved programs' commands,
+#:                   and their answers with each request for memory refused; up to 200 processor minutes
 #: make libraries    the proved libraries, with rattle-with: a crate over them is checked in a minute
 #: make dist         archives of the programs and of the libraries, with their checksums, in build/dist/
 #: make documents    compares docs/ with the sources: seconds. `tests/audit write` and `tests/strength` write what of it

@@ -6,6 +6,8 @@ from collections import defaultdict
 from dataclasses import dataclass
 from pathlib import Path
 
+import calls as made
+
 # Three matrices, of four, two and one rows.
 ROWS = b"1 2\n3 4\n5 6\n7 8\n\n9\n10\n\n11 12 13\n"
 # Five lines, one of them empty and one of two blocks of SHA-256: all, with the last partial, other ones, and in parts;
@@ -20,10 +22,16 @@ FILES = {
 # The kinds of cases that build nothing: they check openings, heights and indices, and extract collisions.
 CHECKS = re.compile(r"(salted_)?(verify|extract)(_pruned)?|restore|pruned_len|replay|schedule|authenticated")
 
+# Matrices of cases that the gate takes, or the roots and dimensions of these.
+NAMED = re.compile(r"\| 2 \| 0 \| (1, 2; 5|31843 \| 1x2 1x1|1 31, 3 4|32772 \| 2x2) \|"
+                   r"|\| 2 \| 0 \| (1, 2, 3, 4, 5, 6, 7, 8|1056801 \| 1x8) \||\| 4 \| 0 \| (1, 2|986051 \| 1x2) \|"
+                   r"|\| [24] \| 0 \| 2x17 2x9 2x5 2x3 \|")
+
 
 @dataclass(frozen=True)
 class Trial:
-    """A run of a program: its arguments, its input, its status, and the file that keeps what it prints, if any."""
+    """A run of a program: its arguments, its input, its status, and the file that keeps what it prints, if any. For a
+    call also its answers: that with ample memory, then those that it may give after it ran out of memory."""
 
     program: str
     kind: str
@@ -31,6 +39,7 @@ class Trial:
     data: bytes = b""
     status: int = 0
     kept: str = ""
+    answers: tuple[str, ...] = ()
 
 
 def commands() -> list[Trial]:
@@ -46,11 +55,27 @@ def commands() -> list[Trial]:
     return trials
 
 
+def calls(crate: Path, program: str) -> list[Trial]:
+    """The lines of a crate's stored run, whose answers stand after them in its output, and more by each builder."""
+    lines, printed = ((crate / name).read_text().splitlines() for name in ("stdin", "stdout"))
+    if printed[::2] != lines:
+        raise ValueError(f"{crate.name}/stdout does not have each line of stdin and its answer")
+    answers = dict(zip(lines, printed[1::2]))
+    return [Trial(program, made.kind(line), (), line.encode() + b"\n",
+                  answers=(answers.get(line) or made.answer(line), *made.answers_again(line)))
+            for line in [*lines, *made.of_builders()]]
+
+
 def stored(cases: Path, program: str) -> list[Trial]:
     """The stored cases, but for those of heights and of mmcs, which may be answered by `out of memory`."""
     lines = [line for line in cases.read_text().splitlines() if line and not line.startswith("#")]
     trials = [Trial(program, line.split(" ")[0], (), line.encode() + b"\n") for line in lines]
     return [trial for trial in trials if not trial.kind.startswith(("heights", "mmcs"))]
+
+
+def named(trials: list[Trial]) -> list[Trial]:
+    """The cases over the matrices whose worked answers memory_cases has, and over its four heights."""
+    return [trial for trial in trials if NAMED.search(trial.data.decode())]
 
 
 def shape(trial: Trial) -> tuple[str, ...]:

@@ -1,9 +1,10 @@
 /* Refuses and counts requests for memory. It is loaded before a program by LD_PRELOAD, and needs the GNU C library.
  *
- * Where the environment has REFUSE_ONCE=n, the nth request from the program's start on is refused, and where it has
- * REFUSE_FROM=n, so are all after it. Where it has REFUSE_REPORT=fd, a line is written to that file descriptor at the
- * end: how many requests there were, how many were refused, and how many bytes were asked for at a time, with those
- * that were held. */
+ * Where the environment has REFUSE_ONCE=n, the nth request is refused, and where it has REFUSE_FROM=n, so are all after
+ * it. Requests count from the program's start on, or where the environment has REFUSE_AFTER_OUTPUT, from the first byte
+ * on that the program writes to standard output. Where it has REFUSE_REPORT=fd, a line is written to that file
+ * descriptor at the end: how many requests counted, how many were refused, and how many bytes were asked for at a time,
+ * with those that were held. */
 
 #include <errno.h>
 #include <stdint.h>
@@ -16,17 +17,19 @@ extern void *__libc_malloc(size_t);
 extern void *__libc_realloc(void *, size_t);
 extern void *__libc_memalign(size_t, size_t);
 extern void __libc_free(void *);
+extern ssize_t __write(int, const void *, size_t);
 
 static uint64_t first, last; /* the requests that are refused, by their numbers from 1 */
 static uint64_t requests, refusals;
+static int waits; /* whether no request counts yet */
 static size_t held, most;
 
 /* Whether a request is granted, for a block in the place of one of `before` bytes. */
 static int grants(size_t size, size_t before) {
   size_t bytes = size < PTRDIFF_MAX ? size : PTRDIFF_MAX;
   if (held - before + bytes > most) most = held - before + bytes;
-  requests++;
-  if (first <= requests && requests <= last) {
+  if (!waits) requests++;
+  if (!waits && first <= requests && requests <= last) {
     refusals++;
   } else if (size <= PTRDIFF_MAX / 2) {
     return 1;
@@ -100,7 +103,13 @@ int posix_memalign(void **block, size_t alignment, size_t size) {
   return *block == NULL ? ENOMEM : 0;
 }
 
+ssize_t write(int descriptor, const void *bytes, size_t size) {
+  if (descriptor == STDOUT_FILENO) waits = 0;
+  return __write(descriptor, bytes, size);
+}
+
 __attribute__((constructor)) static void begin(void) {
+  waits = getenv("REFUSE_AFTER_OUTPUT") != NULL;
   const char *once = getenv("REFUSE_ONCE"), *from = getenv("REFUSE_FROM");
   if (once != NULL) {
     first = last = strtoull(once, NULL, 10);

@@ -1,0 +1,117 @@
+//! Makes calls of the library, one for each line of standard input, and shows what their caller has where a request for
+//! memory is refused: `tests/memory` runs it with each request refused in turn. A line is one of these:
+//!
+//! - `BUILDER ARITY | MATRICES | QUERIES | CALL`: a call on what a scheme committed to and opened. `salted` stands ahead
+//!   of the builder of a scheme with two salts for each row, which are 100, 101 and so on.
+//! - `verify ARITY CAP | ROOTS | DIMENSIONS | INDEX | ROWS | SIBLINGS`: the plain `verify_batch`, which takes no memory.
+//!
+//! CALL is the name of a call of the library, or one of these: `clone_matrices`, `clone_cap`, `clone_opening` and
+//! `clone_multi` say whether a clone is like its original, `tree` builds a tree, takes its leaves and clones it, and
+//! `free` says whether calls that take no memory agree.
+//!
+//! Once the inputs of the call stand, the line is printed, and then the answer. Where memory runs out, `out of memory`
+//! is printed first, and the same call is made again on the same values. So what a call requests comes after its line.
+#![tactic(auto)]
+
+ghost use Rattle.std.specs.Prelude.{◌≤◌, IsTrue};
+ghost use Rattle.p3_merkle_tree.specs.Geometry.{is_arity};
+
+mod calls;
+mod case;
+mod counting;
+mod free;
+mod held;
+mod plain;
+mod salted;
+mod values;
+mod verify;
+
+use crate::calls::{Tried, make_call};
+use crate::case::Case;
+use crate::held::hold;
+use crate::salted::salted_scheme;
+use crate::verify::verify;
+use anyhow::{Result, bail};
+use p3_hashes::batched::Batched3;
+use p3_hashes::fold::{FoldCompress, FoldHash};
+use p3_hashes::lanes::U32x8;
+use p3_merkle_tree::MerkleTreeMmcs;
+use p3_support::compress::PseudoCompressionFunction;
+use p3_support::hasher::CryptographicHasher;
+use p3_support::packed::PackedValue;
+
+/// Makes a call of a scheme, and makes it again where memory ran out. What it is made on comes from `holder`, which is
+/// the same scheme: no salt has been drawn from the other.
+fn answer<S: Tried>(
+    rt: &HostRuntime,
+    case: &Case<'_>,
+    holder: &mut S,
+    scheme: &mut S,
+) -> Result<()> {
+    let mut held = hold(rt.alloc(), case, holder)?;
+    println!(rt; "{}", case.line)?;
+    if make_call(rt, case, &mut held, scheme)? {
+        return Ok(());
+    }
+    println!(rt; "out of memory")?;
+    if !make_call(rt, case, &mut held, scheme)? {
+        bail!("out of memory again");
+    }
+    Ok(())
+}
+
+/// Makes a call of the scheme of a hash and a compression, plain or salted.
+fn answer_by<
+    P: PackedValue<Value = u32>,
+    H: CryptographicHasher<P, P, 1> + Copy,
+    C: PseudoCompressionFunction<P, N, 1> + Copy,
+    const N: usize,
+>(rt: &HostRuntime, case: &Case<'_>, hash: H, compress: C) -> Result<()>
+    requires arity { IsTrue (is_arity N) }
+    requires some_lane { 1 ≤ P.WIDTH }
+{
+    if case.is_salted {
+        let mut holder = salted_scheme::<P, H, C, N>(hash, compress);
+        let mut scheme = salted_scheme::<P, H, C, N>(hash, compress);
+        answer(rt, case, &mut holder, &mut scheme)
+    } else {
+        let mut holder = MerkleTreeMmcs::<P, P, H, C, N, 1>::new(hash, compress, 0);
+        let mut scheme = MerkleTreeMmcs::<P, P, H, C, N, 1>::new(hash, compress, 0);
+        answer(rt, case, &mut holder, &mut scheme)
+    }
+}
+
+/// Makes a call of a scheme of this arity, by its builder.
+fn answer_at<const N: usize>(rt: &HostRuntime, case: &Case<'_>) -> Result<()>
+    requires arity { IsTrue (is_arity N) }
+    requires few { N ≤ 4 }
+{
+    let (hash, compress) = (FoldHash::<1>, FoldCompress::<N, 1>);
+    match case.builder {
+        "scalar" => answer_by::<u32, _, _, N>(rt, case, hash, compress),
+        "packed" => answer_by::<U32x8, _, _, N>(rt, case, hash, compress),
+        "batched" => answer_by::<u32, _, _, N>(rt, case, FoldHash::<8>, FoldCompress::<N, 8>),
+        "batched3" => answer_by::<u32, _, _, N>(rt, case, Batched3(hash), Batched3(compress)),
+        _ => bail!("no such builder"),
+    }
+}
+
+/// Makes the call of a line.
+fn answer_line(rt: &HostRuntime, line: &str) -> Result<()> {
+    if line.starts_with("verify ") {
+        return verify(rt, line);
+    }
+    let case = Case::read(rt.alloc(), line)?;
+    match case.arity {
+        2 => answer_at::<2>(rt, &case),
+        4 => answer_at::<4>(rt, &case),
+        _ => bail!("the arity is not 2 or 4"),
+    }
+}
+
+fn main(rt: HostRuntime) -> Result<()> {
+    for line in rt.lines(rt.alloc()) {
+        answer_line(&rt, line?.as_str())?;
+    }
+    Ok(())
+}

@@ -1,0 +1,99 @@
+//! The calls that the plain scheme alone has.
+
+use crate::calls::{Tried, shown};
+use crate::case::{Case, Rows};
+use crate::free::{hashes_agree, reads_agree};
+use crate::held::Held;
+use anyhow::{Result, bail};
+use p3_merkle_tree::{
+    BatchOpeningRef, CapRule, MerkleTree, MerkleTreeMmcs, PrunedMerklePaths, check_indices,
+};
+use p3_support::compress::PseudoCompressionFunction;
+use p3_support::hasher::CryptographicHasher;
+use p3_support::packed::PackedValue;
+
+/// What a plain scheme committed to and opened.
+pub type HeldPlain<const N: usize> = Held<
+    MerkleTree<u32, u32, Rows, N, 1>,
+    Vec<[u32; 1]>,
+    PrunedMerklePaths<u32, 1>,
+>;
+
+/// Whether calls that take no memory answer what they should: of hashers, a matrix, the cap, the tree and the scheme.
+fn is_free_right<
+    P: PackedValue<Value = u32>,
+    H: CryptographicHasher<P, P, 1>,
+    C: PseudoCompressionFunction<P, N, 1>,
+    const N: usize,
+>(scheme: &MerkleTreeMmcs<P, P, H, C, N, 1>, held: &HeldPlain<N>) -> bool {
+    let (opening, tree) = (BatchOpeningRef::from(&held.opening), &held.tree);
+    hashes_agree()
+        && held.matrices.first().is_some_and(reads_agree)
+        && held.cap.roots().first() == Some(tree.root().value())
+        && held.cap.num_roots() == 1
+        && tree.num_layers() > 0
+        && scheme.get_max_height(tree) == held.dimensions.first().map_or(0, |size| size.height)
+        && opening.unpack().0.len() == held.matrices.len()
+        && scheme.cap_height() == 0
+        && scheme.cap_rule() == CapRule::Lowered
+}
+
+impl<
+    P: PackedValue<Value = u32>,
+    H: CryptographicHasher<P, P, 1>,
+    C: PseudoCompressionFunction<P, N, 1>,
+    const N: usize,
+> Tried for MerkleTreeMmcs<P, P, H, C, N, 1> {
+    fn call_own(&mut self, rt: &HostRuntime, case: &Case<'_>, held: &HeldPlain<N>) -> Result<bool> {
+        let alloc = rt.alloc();
+        let (cap, dimensions) = (&held.cap, &held.dimensions);
+        let (queries, (rows, proof), twins) = (&case.queries, &held.multi, &held.twins);
+        match case.call {
+            "free" => shown(rt, Ok(is_free_right(self, held))),
+            "open_batch_pruned" => {
+                check_indices(self.get_max_height(&held.tree), queries)?;
+                shown(rt, self.open_batch_pruned(alloc, queries, &held.tree))
+            }
+            "verify_batch_pruned" => {
+                shown(
+                    rt,
+                    self.verify_batch_pruned(alloc, cap, dimensions, queries, rows, proof),
+                )
+            }
+            "restore_and_recompute_paths" => {
+                shown(
+                    rt,
+                    self.restore_and_recompute_paths(alloc, dimensions, queries, rows, proof),
+                )
+            }
+            "pruned_len" => shown(rt, self.pruned_len(alloc, dimensions, queries)),
+            "proof_arity_schedule" => shown(rt, self.proof_arity_schedule(alloc, dimensions)),
+            "replay_arity_and_positions" => {
+                let siblings = held.opening.opening_proof.len();
+                shown(
+                    rt,
+                    self.replay_arity_and_positions(alloc, dimensions, case.index, siblings),
+                )
+            }
+            "extract_collision" => {
+                let first = BatchOpeningRef::from(&held.opening);
+                let second = BatchOpeningRef::new(&held.twin, &held.opening.opening_proof);
+                shown(
+                    rt,
+                    self.extract_collision(
+                        alloc, cap, dimensions, case.index, first, case.index, second,
+                    ),
+                )
+            }
+            "extract_collision_multi" => {
+                shown(
+                    rt,
+                    self.extract_collision_multi(
+                        alloc, cap, dimensions, queries, rows, proof, queries, twins, proof,
+                    ),
+                )
+            }
+            _ => bail!("no such call of a plain scheme"),
+        }
+    }
+}
