@@ -102,6 +102,9 @@ documents:
 	@python3 tests/audit
 	@python3 tests/strength --check
 	@python3 tests/documents
+	@python3 tests/refusals
+	@python3 tests/rows
+	@python3 tests/scripts
 
 check-quick: toolchain documents quick
 	@$(ALONE) python3 tests/check-quick
