@@ -178,10 +178,6 @@ fn nodes_are_taken_together_and_rows_unless_the_hasher_takes_one(
 #[test]
 fn rows_are_laid_side_by_side_in_whole_groups_of_lanes(rt: HostRuntime) -> Result<(), Fail> {
     let alloc = rt.alloc();
-    // 16384 bytes hold 256 rows of 64 bytes.
-    let calls =
-        "rows 256, rows 44, groups 150, groups 75, groups 38, groups 19, groups 10, groups 5, groups 3, groups 2, groups 1";
-    assert_calls::<u32, 8, 1>(&rt, alloc, &[(16, 300)], calls)?;
     // 16384 bytes hold 64 rows of 256 bytes.
     let calls =
         "rows 64, rows 6, groups 35, groups 18, groups 9, groups 5, groups 3, groups 2, groups 1";

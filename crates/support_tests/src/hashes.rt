@@ -1,6 +1,6 @@
 //! Hashes by each of their calls, on values that were worked out by hand.
 
-ghost use Rattle.std.specs.Prelude.{◌≡◌, ◌*◌, ◌<◌, ◌≤◌, ◌^◌, ℕ, length};
+ghost use Rattle.std.specs.Prelude.{◌≡◌, ◌*◌, ◌<◌, ◌≤◌, length};
 
 use p3_hashes::batched::Batched3;
 use p3_hashes::fold::{FoldCompress, FoldHash, FoldLane};

@@ -1,7 +1,7 @@
 //! What matrices, packed values, caps and openings hand out, and what their clones hold, on values that were worked out
 //! by hand.
 
-ghost use Rattle.std.specs.Prelude.{◌≡◌, ◌+◌, ◌<◌, ◌≤◌, length};
+ghost use Rattle.std.specs.Prelude.{◌≡◌, ◌<◌, ◌≤◌, length};
 
 use crate::compared::{
     are_told_apart, equals_its_clone, is_printed_as_its_clone, is_printed_as_its_copies,
@@ -9,7 +9,7 @@ use crate::compared::{
 use crate::counting::Counting;
 use crate::matrices::{Numbers, two_rows};
 use p3_hashes::batched::Batched3;
-use p3_hashes::fold::{FoldCompress, FoldHash};
+use p3_hashes::fold::{FoldCompress, FoldHash, FoldLane};
 use p3_hashes::lanes::{Lanes, U32x8};
 use p3_hashes::sha::{Sha256Nodes, Sha256Rows};
 use p3_hashes::sha_eights::{Sha256NodesInEights, Sha256RowsInEights};
@@ -17,6 +17,7 @@ use p3_support::matrix::{Dimensions, Matrix, RowMajorMatrix, ShapeError, dimensi
 use p3_support::opening::{BatchOpening, BatchOpeningRef, Hash, MerkleCap};
 use p3_support::packed::{PackedValue, pack_columns_fn, unpack_at, unpack_into};
 use p3_support::pair::HorizontalPair;
+use p3_support::rows::{packed_rows_of, rows_of};
 use p3_support::salts::SaltWord;
 use rand_core::Rng;
 use std::alloc::{AllocError, Global};
@@ -68,32 +69,39 @@ fn random_words_are_drawn_row_after_row(rt: HostRuntime) -> Result<(), Fail> {
     Ok(())
 }
 
-/// The words of a row by each call that hands them out: one by one, by an iterator, and appended to a list.
-fn row_words<M: Matrix<u32>>(
+/// Whether each call that hands out a row gives these words: one by one, by an iterator, and appended to a list.
+fn has_row<M: Matrix<u32>>(
     alloc: Global,
     matrix: &M,
     row: usize,
-) -> Result<[Vec<u32>; 3], AllocError>
+    expected: &[u32],
+) -> Result<bool, AllocError>
     requires { row < M.height_of matrix.now }
 {
-    let mut each = Vec::new(alloc);
-    for column in 0..matrix.width() {
-        each.push(matrix.get(row, column))?;
-    }
     let mut appended = Vec::new(alloc);
     matrix.append_row(row, &mut appended)?;
-    Ok([each, matrix.row(row).collect(alloc)?, appended])
+    let mut is_same = appended.as_slice() == expected;
+    let mut words = matrix.row(row);
+    for column in 0..matrix.width() {
+        let word = Some(matrix.get(row, column));
+        is_same = is_same && words.next() == word && expected.get(column).copied() == word;
+    }
+    Ok(is_same && words.next().is_none())
 }
 
-/// The columns of the first two rows, packed.
-fn packed_columns<M: Matrix<u32>>(alloc: Global, matrix: &M) -> Result<Vec<[u32; 2]>, AllocError>
+/// Whether the columns of the first two rows are packed to these.
+fn has_columns<M: Matrix<u32>>(matrix: &M, expected: &[[u32; 2]]) -> bool
     requires { 2 ≤ M.height_of matrix.now }
 {
-    let mut columns = Vec::new(alloc);
-    for column in matrix.vertically_packed_row::<Lanes<u32>>(0) {
-        columns.push([column.lane(0), column.lane(1)])?;
+    let mut columns = matrix.vertically_packed_row::<Lanes<u32>>(0);
+    for [first, second] in expected {
+        let is_same = columns.next().is_some_and(|column| column.first == *first
+            && column.second == *second);
+        if !is_same {
+            return false;
+        }
     }
-    Ok(columns)
+    columns.next().is_none()
 }
 
 /// Asserts what a matrix of two rows hands out.
@@ -106,16 +114,13 @@ fn assert_two_rows<M: Matrix<u32>>(
 ) -> Result<(), AllocError>
     requires { M.height_of matrix.now ≡ 2 }
 {
-    for row in 0..2 {
-        for words in &row_words(alloc, matrix, row)? {
-            assert_eq!(rt; words.as_slice(), rows[row]);
-        }
-    }
-    assert_eq!(rt; packed_columns(alloc, matrix)?.as_slice(), columns);
+    assert!(rt; has_row(alloc, matrix, 0, rows[0])? && has_row(alloc, matrix, 1, rows[1])?);
+    assert!(rt; has_columns(matrix, columns));
     let (width, height) = (columns.len(), 2);
     assert_eq!(rt; matrix.dimensions(), Dimensions { width, height });
+    let dimensions = dimensions_of(alloc, &[matrix])?;
     assert_eq!(rt;
-        dimensions_of(alloc, &[matrix])?.as_slice(),
+        dimensions.as_slice(),
         [Dimensions { width, height }].as_slice()
     );
     Ok(())
@@ -144,27 +149,52 @@ fn matrices_hand_out_their_rows(rt: HostRuntime) -> Result<(), Fail> {
     Ok(())
 }
 
-/// The lanes of a packed value.
-fn lanes_of<P: PackedValue>(alloc: Global, packed: P) -> Result<Vec<P::Value>, AllocError> {
-    let mut lanes = Vec::new(alloc);
-    for k in 0..P::WIDTH {
-        lanes.push(packed.lane(k))?;
+#[test]
+fn rows_of_several_matrices_come_one_after_another(rt: HostRuntime) -> Result<(), Fail> {
+    let alloc = rt.alloc();
+    let matrices = [
+        two_rows(alloc, &[1, 2, 3, 4])?,
+        two_rows(alloc, &[5, 6, 7, 8])?,
+    ];
+    let words: Vec<u32> = rows_of(&matrices, 2, 1).collect(alloc)?;
+    assert_eq!(rt; words.as_slice(), [3, 4, 7, 8].as_slice());
+    // Matrices of another height are left out.
+    let words: Vec<u32> = rows_of(&matrices, 3, 1).collect(alloc)?;
+    assert!(rt; words.is_empty());
+    let mut columns = packed_rows_of::<u32, Lanes<u32>, _>(&matrices, 0);
+    for expected in [[1, 3], [2, 4], [5, 7], [6, 8]] {
+        assert_eq!(rt;
+            columns.next().map(|column| [column.first, column.second]),
+            Some(expected)
+        );
     }
-    Ok(lanes)
+    assert!(rt; columns.next().is_none());
+    Ok(())
+}
+
+/// The lanes of a packed value.
+fn lanes_of<P: PackedValue, const W: usize>(packed: P) -> [P::Value; W]
+    requires { P.WIDTH ≡ W }
+{
+    let mut lanes = [P::Value::default(); W];
+    for k in 0..W {
+        lanes[k] = packed.lane(k);
+    }
+    lanes
 }
 
 #[test]
-fn lanes_are_set_one_by_one(rt: HostRuntime) -> Result<(), Fail> {
-    let alloc = rt.alloc();
-    let byte = lanes_of(alloc, u8::broadcast(7))?;
-    assert_eq!(rt; byte.as_slice(), [7].as_slice());
-    let word = lanes_of(alloc, u32::broadcast(7).with_lane(0, 9))?;
-    assert_eq!(rt; word.as_slice(), [9].as_slice());
-    let two = lanes_of(alloc, Lanes::<u8>::broadcast(7).with_lane(1, 9))?;
-    assert_eq!(rt; two.as_slice(), [7, 9].as_slice());
-    let eight = lanes_of(alloc, U32x8::broadcast(7).with_lane(3, 9))?;
-    assert_eq!(rt; eight.as_slice(), [7, 7, 7, 9, 7, 7, 7, 7].as_slice());
-    Ok(())
+fn lanes_are_set_one_by_one(rt: HostRuntime) {
+    assert_eq!(rt; lanes_of(u8::broadcast(7)), [7]);
+    assert_eq!(rt; lanes_of(u32::broadcast(7).with_lane(0, 9)), [9]);
+    assert_eq!(rt; lanes_of(Lanes::<u8>::broadcast(7).with_lane(1, 9)), [7, 9]);
+    let eight = U32x8::broadcast(7).with_lane(3, 9);
+    assert_eq!(rt; lanes_of(eight), [7, 7, 7, 9, 7, 7, 7, 7]);
+    let fives = U32x8::broadcast(5);
+    assert_eq!(rt;
+        lanes_of(fives.mul_31_add(U32x8::broadcast(3)).add_to_each(2)),
+        [160; 8]
+    );
 }
 
 #[test]
@@ -225,14 +255,14 @@ fn cap_of(alloc: Global, roots: &[[u32; 1]]) -> Result<MerkleCap<u32, [u32; 1]>,
 fn clones_hold_what_was_cloned(rt: HostRuntime) -> Result<(), Fail> {
     let alloc = rt.alloc();
     let matrix = two_rows(alloc, &[1, 2, 3, 4])?;
-    assert!(rt; is_printed_as_its_clone(alloc, &matrix)?);
-    assert!(rt; equals_its_clone(&cap_of(alloc, &[[1026], [1090]])?)?);
+    assert!(rt; is_printed_as_its_clone(alloc, &matrix));
+    assert!(rt; equals_its_clone(&cap_of(alloc, &[[1026], [1090]])?));
     let opening = opening_of(alloc, 3, 35)?;
-    assert!(rt; equals_its_clone(&opening)?);
-    assert!(rt; is_printed_as_its_copies(alloc, BatchOpeningRef::from(&opening))?);
-    assert!(rt; is_printed_as_its_copies(alloc, Hash::<'_, u32, u32, 1>::from(&[32897]))?);
-    assert!(rt; is_printed_as_its_copies(alloc, matrix.dimensions())?);
-    assert!(rt; is_printed_as_its_copies(alloc, ShapeError { len: 7, width: 3 })?);
+    assert!(rt; equals_its_clone(&opening));
+    assert!(rt; is_printed_as_its_copies(alloc, BatchOpeningRef::from(&opening)));
+    assert!(rt; is_printed_as_its_copies(alloc, Hash::<'_, u32, u32, 1>::from(&[32897])));
+    assert!(rt; is_printed_as_its_copies(alloc, matrix.dimensions()));
+    assert!(rt; is_printed_as_its_copies(alloc, ShapeError { len: 7, width: 3 }));
     assert!(rt;
         is_printed_as_its_copies(
             alloc,
@@ -240,22 +270,22 @@ fn clones_hold_what_was_cloned(rt: HostRuntime) -> Result<(), Fail> {
                 first: 1u8,
                 second: 2
             }
-        )?
+        )
     );
-    assert!(rt; is_printed_as_its_copies(alloc, U32x8::broadcast(7).with_lane(3, 9))?);
+    assert!(rt; is_printed_as_its_copies(alloc, U32x8::broadcast(7).with_lane(3, 9)));
     Ok(())
 }
 
 #[test]
 fn functions_can_be_copied(rt: HostRuntime) -> Result<(), Fail> {
     let alloc = rt.alloc();
-    assert!(rt; is_printed_as_its_copies(alloc, FoldHash::<1>)?);
-    assert!(rt; is_printed_as_its_copies(alloc, FoldCompress::<2, 1>)?);
-    assert!(rt; is_printed_as_its_copies(alloc, Sha256Rows)?);
-    assert!(rt; is_printed_as_its_copies(alloc, Sha256Nodes::<2>)?);
-    assert!(rt; is_printed_as_its_copies(alloc, Sha256RowsInEights)?);
-    assert!(rt; is_printed_as_its_copies(alloc, Sha256NodesInEights::<2>)?);
-    assert!(rt; is_printed_as_its_copies(alloc, Batched3(FoldHash::<1>))?);
+    assert!(rt; is_printed_as_its_copies(alloc, FoldHash::<1>));
+    assert!(rt; is_printed_as_its_copies(alloc, FoldCompress::<2, 1>));
+    assert!(rt; is_printed_as_its_copies(alloc, Sha256Rows));
+    assert!(rt; is_printed_as_its_copies(alloc, Sha256Nodes::<2>));
+    assert!(rt; is_printed_as_its_copies(alloc, Sha256RowsInEights));
+    assert!(rt; is_printed_as_its_copies(alloc, Sha256NodesInEights::<2>));
+    assert!(rt; is_printed_as_its_copies(alloc, Batched3(FoldHash::<1>)));
     Ok(())
 }
 
