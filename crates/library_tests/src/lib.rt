@@ -14,3 +14,5 @@ mod noting;
 pub mod reasons;
 #[cfg(test)]
 mod roots;
+#[cfg(test)]
+mod staging;

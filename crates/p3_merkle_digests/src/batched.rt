@@ -20,7 +20,7 @@ const FEW_WORDS: usize = 4;
 
 /// How many messages of `bytes` bytes one call takes: the greatest multiple of `lanes` with at most 16384 bytes in all,
 /// but at least `lanes`. Where `bytes` or `lanes` is 0, it counts as 1.
-fn messages_per_call(bytes: usize, lanes: usize) -> usize
+pub fn messages_per_call(bytes: usize, lanes: usize) -> usize
     ensures whole { result % max lanes 1 ≡ 0 }
     ensures some { max lanes 1 ≤ result }
     ensures fits { result * max bytes 1 ≤ max 16384 (max lanes 1 * max bytes 1) }
