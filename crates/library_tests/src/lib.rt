@@ -8,6 +8,8 @@ mod calls;
 #[cfg(test)]
 mod clones;
 #[cfg(test)]
+mod errors;
+#[cfg(test)]
 mod exclusive_or;
 #[cfg(test)]
 mod noting;

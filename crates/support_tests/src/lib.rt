@@ -3,6 +3,8 @@
 #![tactic(auto)]
 
 pub mod compared;
+#[cfg(test)]
+mod constants;
 pub mod counting;
 #[cfg(test)]
 mod hashes;
