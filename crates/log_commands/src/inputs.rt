@@ -26,7 +26,7 @@ use tlog_tree::TreeBuilder;
 
 /// Reads the first entries of a file, up to a limit, or all, with the values of these nodes and the bytes of the wanted
 /// entries. The errors are those of [`read_log`], with the file as their source.
-pub fn read_file<R: Read>(
+pub(crate) fn read_file<R: Read>(
     alloc: Global,
     cut: Cut,
     limit: Option<usize>,
@@ -43,7 +43,7 @@ pub fn read_file<R: Read>(
 
 /// Reads the entries of a checkpoint from its file, as [`read_file`] does, up to as many as the checkpoint has.
 /// `TooFewEntries` if the file has fewer, else `OtherEntries` if they have another root.
-pub fn read_under<R: Read>(
+pub(crate) fn read_under<R: Read>(
     alloc: Global,
     cut: Cut,
     checkpoint: &Checkpoint,
@@ -62,7 +62,7 @@ pub fn read_under<R: Read>(
 }
 
 /// How many entries were read, and their root.
-pub fn size_and_root(log: &ReadLog) -> (usize, [u8; 32])
+pub(crate) fn size_and_root(log: &ReadLog) -> (usize, [u8; 32])
     ensures { (nodes : List (ℕ × ℕ)) (wanted : List ℕ) (entries : List (List ℕ)) →
         HasEntries nodes wanted entries log.now → result ≡ (length entries, root_of sha256 entries) }
 {
@@ -85,7 +85,7 @@ fn check_tree(checkpoint: &Checkpoint, size: usize, root: &[u8; 32]) -> Result<(
 }
 
 /// The values of the wanted nodes of a tree that are there, in order. `AllocError` if memory runs out.
-pub fn digests_of(alloc: Global, tree: TreeBuilder) -> Result<Vec<[u8; 32]>, AllocError>
+pub(crate) fn digests_of(alloc: Global, tree: TreeBuilder) -> Result<Vec<[u8; 32]>, AllocError>
     ensures { IfOk result (λ digests. (leaves : List (List ℕ)) (nodes : List (ℕ × ℕ)) (all : List (List ℕ)) →
         IsBuilderOf leaves nodes tree → values_at sha256 leaves nodes ≡ all_there all → digests.items ≡ all) }
 {
@@ -101,7 +101,11 @@ pub fn digests_of(alloc: Global, tree: TreeBuilder) -> Result<Vec<[u8; 32]>, All
 }
 
 /// All bytes of an input, from where it stands. `Read` of `source` if a read fails, `OutOfMemory` if memory runs out.
-pub fn read_text<R: Read>(alloc: Global, source: Source, input: &mut R) -> Result<Vec<u8>, Error>
+pub(crate) fn read_text<R: Read>(
+    alloc: Global,
+    source: Source,
+    input: &mut R,
+) -> Result<Vec<u8>, Error>
     ensures bytes { IfOk result (λ bytes. IsReadAs (R.remaining input.old) (Some bytes.items)) }
     ensures failed { IfErr result (λ error. (error ≡ OutOfMemory) ⊎ (error ≡ FailedRead source)) }
 {
@@ -114,7 +118,7 @@ pub fn read_text<R: Read>(alloc: Global, source: Source, input: &mut R) -> Resul
 }
 
 /// Parses a checkpoint. `Line` of `source` for its first wrong line.
-pub fn parse_checkpoint(source: Source, text: &[u8]) -> Result<Checkpoint<'_>, Error>
+pub(crate) fn parse_checkpoint(source: Source, text: &[u8]) -> Result<Checkpoint<'_>, Error>
     ensures said { Gives checkpoint_fields result (said_by source (checkpoint_in text.now)) }
     ensures limit { IfOk result (λ checkpoint. checkpoint.size ≤ size_limit) }
 {
@@ -122,14 +126,17 @@ pub fn parse_checkpoint(source: Source, text: &[u8]) -> Result<Checkpoint<'_>, E
 }
 
 /// Parses a proof of entries. `Line` for its first wrong line, `OutOfMemory` if memory runs out.
-pub fn parse_entries_proof(alloc: Global, text: &[u8]) -> Result<EntriesProof, Error>
+pub(crate) fn parse_entries_proof(alloc: Global, text: &[u8]) -> Result<EntriesProof, Error>
     ensures { Gives entries_fields result (said_by Proof (entries_in text.now)) }
 {
     EntriesProof::parse(alloc, text).map_err(|error| text_error(Source::Proof, error))
 }
 
 /// Parses a consistency proof. `Line` for its first wrong line, `OutOfMemory` if memory runs out.
-pub fn parse_consistency_proof(alloc: Global, text: &[u8]) -> Result<ConsistencyProof<'_>, Error>
+pub(crate) fn parse_consistency_proof(
+    alloc: Global,
+    text: &[u8],
+) -> Result<ConsistencyProof<'_>, Error>
     ensures { Gives consistency_fields result (said_by Proof (consistency_in text.now)) }
 {
     ConsistencyProof::parse(alloc, text).map_err(|error| text_error(Source::Proof, error))
@@ -137,7 +144,7 @@ pub fn parse_consistency_proof(alloc: Global, text: &[u8]) -> Result<Consistency
 
 /// Checks that a new checkpoint, which `source` has, may follow an old one: `OtherOrigin` if it is of another log, else
 /// `SmallerSize` if it has fewer entries, else `TwoHistories` if it has as many and another root.
-pub fn check_growth(source: Source, old: &Checkpoint, new: &Checkpoint) -> Result<(), Error>
+pub(crate) fn check_growth(source: Source, old: &Checkpoint, new: &Checkpoint) -> Result<(), Error>
     ensures { Checks result (growth_refusal source (checkpoint_fields old.now) (checkpoint_fields new.now)) }
 {
     if old.origin != new.origin {
