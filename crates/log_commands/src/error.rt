@@ -31,12 +31,17 @@ pub enum Error {
 /// An input of a command.
 #[derive(Clone, Copy, Debug)]
 pub enum Source {
+    /// The checkpoint of a file.
     Checkpoint,
+    /// The old checkpoint of a log.
     Old,
+    /// The new checkpoint of a log.
     New,
     /// A part of a file, by its place among the parts, counted from 0.
     Part(usize),
+    /// The file whose entries are read.
     File,
+    /// A proof of entries, or a consistency proof.
     Proof,
 }
 
