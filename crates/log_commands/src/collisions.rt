@@ -168,15 +168,19 @@ fn bytes_collision(
 }
 
 /// A collision, if two entries of one leaf hash are different; else `None`.
-fn entry_collision(alloc: Global, one: &[u8], other: &[u8]) -> Result<Option<Collision>, AllocError>
-    requires { leaf_hash sha256 one.now ≡ leaf_hash sha256 other.now }
-    ensures none { IfOk result (λ found. IsNone found ↔ (one.now ≡ other.now)) }
+fn entry_collision(
+    alloc: Global,
+    entry: &[u8],
+    other: &[u8],
+) -> Result<Option<Collision>, AllocError>
+    requires { leaf_hash sha256 entry.now ≡ leaf_hash sha256 other.now }
+    ensures none { IfOk result (λ found. IsNone found ↔ (entry.now ≡ other.now)) }
     ensures collision { IfOk result (λ found. IfSome found (IsCollision sha256)) }
 {
-    if one == other {
+    if entry == other {
         return Ok(None);
     }
-    let first = leaf_input(alloc, one)?;
+    let first = leaf_input(alloc, entry)?;
     let second = leaf_input(alloc, other)?;
     Ok(Some(Collision { first, second }))
 }

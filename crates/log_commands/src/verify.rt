@@ -177,18 +177,23 @@ fn check_proof(alloc: Global, checkpoint: &Checkpoint, proof: &EntriesProof) -> 
     Ok(verify_entries(alloc, size, &indices, &leaves, &proof.digests, root)?)
 }
 
-/// What is printed of entries, lines without their numbers if bare.
-fn text_of(alloc: Global, print: Print, bare: bool, shown: &[Entry]) -> Result<Vec<u8>, AllocError>
-    ensures { IfOk result (λ text. text.items ≡ flat_map (printed print bare) (map entry_fields shown.now)) }
+/// What is printed of entries. Where `bare`, lines are printed without their numbers.
+fn text_of(
+    alloc: Global,
+    print: Print,
+    bare: bool,
+    entries: &[Entry],
+) -> Result<Vec<u8>, AllocError>
+    ensures { IfOk result (λ text. text.items ≡ flat_map (printed print bare) (map entry_fields entries.now)) }
 {
     let mut text = Vec::new(alloc);
-    for entry in shown {
+    for entry in entries {
         push_entry(alloc, &mut text, print, bare, entry)?;
     }
     Ok(text)
 }
 
-/// Appends what is printed of an entry, a line without its number if bare.
+/// Appends what is printed of an entry. Where `bare`, a line is printed without its number.
 fn push_entry(
     alloc: Global,
     text: &mut Vec<u8>,

@@ -5,4 +5,4 @@ use Rattle.log_commands.proofs.verify.text_of.Given as goal
 
 abbrev pub invariant-loop-entry : goal.invariant-loop-entry
 invariant-loop-entry l =
-    l.text.items ≡ flat_map (printed l.print l.bare) (map entry_fields (take l.entry-index l.shown))
+    l.text.items ≡ flat_map (printed l.print l.bare) (map entry_fields (take l.entry-index l.entries))
