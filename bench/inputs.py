@@ -63,7 +63,9 @@ def lines_of(least, most):
     """Makes lines of printable bytes: each length with the end, from the least to the most, as often as any other."""
 
     def piece_of(source):
-        digits, lines, start = source.randbytes(PIECE // 2).hex().encode(), [], 0
+        digits = source.randbytes(PIECE // 2).hex().encode()
+        lines = []
+        start = 0
         while start + most < len(digits):
             end = start + source.randint(least, most) - 1
             lines.append(digits[start:end])

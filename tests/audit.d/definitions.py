@@ -35,7 +35,9 @@ class Module:
         self.variants = {}  # a constructor -> the name of its word
         self.proofs = []  # the words that are no definitions
         word = comment = head = None
-        is_head, is_data, base = False, False, 0
+        is_head = False
+        is_data = False
+        base = 0
         for number, line in enumerate(self.lines, 1):
             code = line.strip()
             depth = len(line) - len(line.lstrip())

@@ -78,14 +78,20 @@ class Source:
         self.uses = {}
         for target, many, alias in (found.groups() for found in USE.finditer(text)):
             self.uses.update(names_of_use(target, many, alias))
-        self.contracts, self.laws, self.traits, self.names = [], set(), set(), set(self.aliases)
+        self.contracts = []
+        self.laws = set()
+        self.traits = set()
+        self.names = set(self.aliases)
         self.given = []  # what impls give for the ghost members of a trait: (trait, name, contract)
         file = block = Block(None, None, None, True)
         for at, line in enumerate(self.lines):
             block = file if line == "}" else block
             found = ITEM.match(line, 0 if block is file else 4)
             if found and found[2] == "fn":
-                name, owner, first, head = found[3], block.owner or found[3], at + 1, None
+                name = found[3]
+                owner = block.owner or found[3]
+                first = at + 1
+                head = None
                 is_public = bool(found[1]) or (block.kind == "trait" and block.is_open)
                 self.names |= {owner} if is_public else set()
             elif found and found[2] == "ghost":
@@ -106,7 +112,9 @@ class Source:
 
     def _opened(self, at, name, is_public, kind):
         """The block of a trait, an impl, a struct or an enum at a line, if it opens one."""
-        end, title, owner = at, name, name
+        end = at
+        title = name
+        owner = name
         while not self.lines[end].endswith((";", "{", "}")):
             end += 1
         if kind == "impl":

@@ -18,7 +18,9 @@ def await_lock(folder) -> None:
 
 def refuse(play, why: str, status: int, said: bytes) -> None:
     """A run that says so, and stores and signs nothing."""
-    before, signed, ran = play.stored(), play.signed.read_bytes(), play.run()
+    before = play.stored()
+    signed = play.signed.read_bytes()
+    ran = play.run()
     check((ran.returncode, ran.stdout) == (status, b"") and said in ran.stderr, why, ran)
     check(ran.stderr.count(b"\n") == 1 and b".work" not in ran.stderr, why, ran)
     check((play.stored(), play.signed.read_bytes()) == (before, signed), why, "is stored or signed")
@@ -39,8 +41,12 @@ def plant(play) -> None:
     known, last = len(play.lines), play.last()
     stored = sorted(play.dir.glob("*-*.checkpoint"), key=lambda path: path.stem[-12:])
     play.grow()
-    size, text, lines = len(play.lines), play.expected, play.lines
-    rewritten, key, link = [b"rewritten", *lines[1:]], play.folder / "another key", play.dir / "checkpoint"
+    size = len(play.lines)
+    text = play.expected
+    lines = play.lines
+    rewritten = [b"rewritten", *lines[1:]]
+    key = play.folder / "another key"
+    link = play.dir / "checkpoint"
     subprocess.run(["openssl", "genpkey", "-algorithm", "ed25519", "-out", key], check=True)
 
     def begun(count):
@@ -116,7 +122,9 @@ def lock(play) -> None:
 
 def forge(play) -> None:
     """A note with another text is never opened, whichever command fails."""
-    forged, at, commands = play.expected(1) + b"\n" + play.last().partition(b"\n\n")[2], 0, 0
+    forged = play.expected(1) + b"\n" + play.last().partition(b"\n\n")[2]
+    at = 0
+    commands = 0
     while at <= commands:
         ran = play.script("fohlazu-open", play.vkey, data=forged, at=at, how="fail")
         check(ran.returncode in (1, 2) and not ran.stdout, ran)

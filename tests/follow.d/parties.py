@@ -10,11 +10,16 @@ import logs
 from keys import Key
 from script import TOP, check
 
-SHARE, ORIGIN, SECONDS, BLOCK = TOP / "share", "ledger.example", 120, 4096
+SHARE = TOP / "share"
+ORIGIN = "ledger.example"
+SECONDS = 120
+BLOCK = 4096
 SHELL = os.environ.get("SHELL_OF_TESTS") or shutil.which("dash") or "sh"
 PAGE = b"<html>\n\n<h1>404</h1>\n\n\xe2\x80\x94 not found\n"
 # What fohlazu-follow says of forgeries.
-REFUSED, NOT_WHOLE, BEGINS = b" is refused: ", b" is no growth proof, or not whole: fetch it again (", b" begins at "
+REFUSED = b" is refused: "
+NOT_WHOLE = b" is no growth proof, or not whole: fetch it again ("
+BEGINS = b" begins at "
 USAGE = b"fohlazu-follow DIR VKEY PROOF "
 
 
@@ -47,7 +52,10 @@ class Operator:
     """A log in a folder, and its key."""
 
     def __init__(self, folder, source):
-        self.folder, self.source, self.lines, self.log = folder, source, [], logs.Log([])
+        self.folder = folder
+        self.source = source
+        self.lines = []
+        self.log = logs.Log([])
         self.key, self.other = (Key(folder / name, ORIGIN, source.randbytes(32)) for name in ("log's key", "other key"))
         self.vkey = self.key.vkey
 
@@ -78,7 +86,9 @@ class Operator:
 
     def forged(self, old):
         """What is refused after a checkpoint of so many entries: why, what a witness answers, what is said, a proof."""
-        size, text, source = len(self.lines), log_texts.consistency_text, self.source
+        size = len(self.lines)
+        text = log_texts.consistency_text
+        source = self.source
         root, other = self.log.root(0, size), source.randbytes(32)
         rewritten = logs.Log([*self.lines[: old - 1], b"other", *self.lines[old:]])
         digests, new = self.log.consistency(old, size), self.signed(size, root)
@@ -119,7 +129,10 @@ class Customer:
     """Whoever follows a log in a folder."""
 
     def __init__(self, folder, vkey):
-        self.folder, self.vkey, self.path, self.counts = folder, vkey, folder / "checkpoint", Counter()
+        self.folder = folder
+        self.vkey = vkey
+        self.path = folder / "checkpoint"
+        self.counts = Counter()
         folder.mkdir()
 
     def last(self):

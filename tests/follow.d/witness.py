@@ -14,7 +14,10 @@ class Witness:
     """Its key, the verifier keys of the logs that it knows by their origins, and the last size and root of each."""
 
     def __init__(self, folder, name, seed, known):
-        self.folder, self.known, self.last, self.time = folder, known, {}, 1_700_000_000
+        self.folder = folder
+        self.known = known
+        self.last = {}
+        self.time = 1_700_000_000
         self.key = Key(folder / "key", name, seed, COSIGNED)
 
     def is_signed(self, text, signatures, vkey):

@@ -44,7 +44,10 @@ class Notes:
     """Random keys and notes. A key's file is in a folder."""
 
     def __init__(self, rng, go, folder):
-        self.rng, self.go, self._folder, self._numbers = rng, go, folder, count()
+        self.rng = rng
+        self.go = go
+        self._folder = folder
+        self._numbers = count()
 
     def letters(self, among=NAME):
         return "".join(self.rng.choices(among, k=self.rng.randint(1, 40)))
