@@ -130,71 +130,68 @@ fn ascending<P: FoldLane>(first: u32, step: u32) -> P
     )
 }
 
-/// The digests of one word a lane, by `D` words each.
-fn lane_digests<P: FoldLane, H: CryptographicHasher<P, P, D>, const D: usize, const W: usize>(
-    hasher: &H,
-    word: P,
-) -> [[u32; D]; W]
-    requires { P.WIDTH ≡ W }
-{
-    let mut digests = [[0; D]; W];
-    unpack_into(&hasher.hash_packed(iter::once(word)), &mut digests);
-    digests
+/// Asserts which digests the lanes of a packed value have: of one word each, by one word and by two, and of two digests.
+// It is a macro, since calls on packed values require that these fit into memory, which is known of each type alone.
+macro_rules! assert_lanes {
+    ($rt:ident, $P:ty, $lanes:tt, $hasher:ident, $compress:ident) => {{
+        let first = iter::once(ascending::<$P>(1, 1));
+        let packed: [$P; 1] = $hasher.hash_packed(first);
+        let mut words = [[0; 1]; $lanes];
+        unpack_into(&packed, &mut words);
+        let expected = [[32], [33], [34], [35], [36], [37], [38], [39]];
+        assert_eq!($rt; words.as_slice(), &expected[..$lanes]);
+
+        let five = iter::once(<$P as PackedValue>::broadcast(5));
+        let packed: [$P; 2] = $hasher.hash_packed(five);
+        let mut fives = [[0; 2]; $lanes];
+        unpack_into(&packed, &mut fives);
+        assert_eq!($rt; fives, [[36, 67]; $lanes]);
+
+        // 31 * (32 + 2 * k) + 33 + 2 * k + 1 = 1026 + 64 * k
+        let pair = [[ascending::<$P>(32, 2)], [ascending::<$P>(33, 2)]];
+        let packed: [$P; 1] = $compress.compress_packed(pair);
+        let mut pairs = [[0; 1]; $lanes];
+        unpack_into(&packed, &mut pairs);
+        let expected = [[1026], [1090], [1154], [1218], [1282], [1346], [1410], [1474]];
+        assert_eq!($rt; pairs.as_slice(), &expected[..$lanes]);
+    }};
 }
 
-/// The digests of one pair a lane.
-fn lane_pairs<P: FoldLane, C: PseudoCompressionFunction<P, 2, 1>, const W: usize>(
-    compress: &C,
-    left: P,
-    right: P,
-) -> [[u32; 1]; W]
-    requires { P.WIDTH ≡ W }
-{
-    let mut digests = [[0; 1]; W];
-    unpack_into(&compress.compress_packed([[left], [right]]), &mut digests);
-    digests
+/// Asserts the digests of the one lane of a word.
+fn assert_one_lane<
+    H: CryptographicHasher<u32, u32, 1> + CryptographicHasher<u32, u32, 2>,
+    C: PseudoCompressionFunction<u32, 2, 1>,
+>(rt: &impl Abort, hasher: &H, compress: &C) {
+    assert_lanes!(rt, u32, 1, hasher, compress);
 }
 
-/// Asserts what lanes have the digests of one word, and of two digests.
-fn assert_lanes<
-    P: FoldLane,
-    H: CryptographicHasher<P, P, 1> + CryptographicHasher<P, P, 2>,
-    C: PseudoCompressionFunction<P, 2, 1>,
-    const W: usize,
->(rt: &impl Abort, hasher: &H, compress: &C)
-    requires lanes { P.WIDTH ≡ W }
-    requires few { W ≤ 8 }
-{
-    let words = lane_digests::<P, H, 1, W>(hasher, ascending(1, 1));
-    let expected = [[32], [33], [34], [35], [36], [37], [38], [39]];
-    assert_eq!(rt; words.as_slice(), &expected[..W]);
-    let fives = lane_digests::<P, H, 2, W>(hasher, P::broadcast(5));
-    assert_eq!(rt; fives, [[36, 67]; W]);
-    // 31 * (32 + 2 * k) + 33 + 2 * k + 1 = 1026 + 64 * k
-    let pairs = lane_pairs::<P, C, W>(compress, ascending(32, 2), ascending(33, 2));
-    let expected = [
-        [1026],
-        [1090],
-        [1154],
-        [1218],
-        [1282],
-        [1346],
-        [1410],
-        [1474],
-    ];
-    assert_eq!(rt; pairs.as_slice(), &expected[..W]);
+/// Asserts the digests of two lanes.
+fn assert_two_lanes<
+    H: CryptographicHasher<Lanes<u32>, Lanes<u32>, 1>
+        + CryptographicHasher<Lanes<u32>, Lanes<u32>, 2>,
+    C: PseudoCompressionFunction<Lanes<u32>, 2, 1>,
+>(rt: &impl Abort, hasher: &H, compress: &C) {
+    assert_lanes!(rt, Lanes<u32>, 2, hasher, compress);
+}
+
+/// Asserts the digests of eight lanes.
+fn assert_eight_lanes<
+    H: CryptographicHasher<U32x8, U32x8, 1> + CryptographicHasher<U32x8, U32x8, 2>,
+    C: PseudoCompressionFunction<U32x8, 2, 1>,
+>(rt: &impl Abort, hasher: &H, compress: &C) {
+    assert_lanes!(rt, U32x8, 8, hasher, compress);
 }
 
 #[test]
 fn each_lane_has_the_digest_of_its_message(rt: HostRuntime) {
     let (hasher, compress) = (FoldHash::<8>, FoldCompress::<2, 8>);
-    assert_lanes::<u32, _, _, 1>(&rt, &hasher, &compress);
-    assert_lanes::<Lanes<u32>, _, _, 2>(&rt, &hasher, &compress);
-    assert_lanes::<U32x8, _, _, 8>(&rt, &hasher, &compress);
+    assert_one_lane(&rt, &hasher, &compress);
+    assert_two_lanes(&rt, &hasher, &compress);
+    assert_eight_lanes(&rt, &hasher, &compress);
     let (hasher, compress) = (Batched3(hasher), Batched3(compress));
-    assert_lanes::<u32, _, _, 1>(&rt, &hasher, &compress);
-    assert_lanes::<Lanes<u32>, _, _, 2>(&rt, &hasher, &compress);
-    assert_lanes::<U32x8, _, _, 8>(&rt, &hasher, &compress);
+    assert_one_lane(&rt, &hasher, &compress);
+    assert_two_lanes(&rt, &hasher, &compress);
+    assert_eight_lanes(&rt, &hasher, &compress);
 }
 
 /// How many rows and how many pairs functions say they take at a time.
