@@ -59,7 +59,7 @@ const COMMANDS: [(&str, &str, &str, &str); 6] = [
 
 /// Why no command is run.
 #[derive(Debug, Drop, Error)]
-pub enum ArgsError<'a> {
+pub(crate) enum ArgsError<'a> {
     /// The arguments are not as the help says, or they ask for it.
     #[error("{0}")]
     Clap(#[from] clap::Error),
@@ -73,7 +73,7 @@ pub enum ArgsError<'a> {
 
 /// An argument that prints with its control characters escaped.
 #[derive(Clone, Copy, Debug)]
-pub struct Escaped<'a>(pub &'a str);
+pub(crate) struct Escaped<'a>(pub(crate) &'a str);
 
 impl Display for Escaped<'_> {
     fn fmt<W: Write>(&self, f: &mut Formatter<W>) -> fmt::Result {
@@ -90,10 +90,10 @@ impl Display for Escaped<'_> {
 
 /// The arguments of a command, as far as they are not in it: what its inputs are called, and where its output goes.
 #[derive(Drop)]
-pub struct Args<'a> {
-    pub rt: &'a HostRuntime,
+pub(crate) struct Args<'a> {
+    pub(crate) rt: &'a HostRuntime,
     found: ArgMatches<'a>,
-    pub notes: &'a Notes,
+    pub(crate) notes: &'a Notes,
 }
 
 /// Reads the arguments: the command, and what its inputs are called. The notes take what happens while they are read.
@@ -108,7 +108,7 @@ pub struct Args<'a> {
 /// - `Word` for the first input that is the output too;
 /// - `Word` for the first number or range that is none, or that makes the numbers more than `MOST_NUMBERS`;
 /// - `Refused` if the command cannot be run: see [`Command::is_lawful`].
-pub fn parse_args<'a>(
+pub(crate) fn parse_args<'a>(
     rt: &'a HostRuntime,
     notes: &'a Notes,
     words: &'a [String],
@@ -168,7 +168,7 @@ fn is_option(word: &str, ids: &str) -> bool {
 
 impl<'a> Args<'a> {
     /// The name that the user gave to an input.
-    pub fn name_of(&self, source: Source) -> &'a str {
+    pub(crate) fn name_of(&self, source: Source) -> &'a str {
         let (id, k) = match source {
             Source::Checkpoint => ("CHECKPOINT", 0),
             Source::Old => ("OLD", 0),
@@ -219,7 +219,7 @@ impl<'a> Args<'a> {
     }
 
     /// The file that is written, if it is not standard output.
-    pub fn output(&self) -> Option<&'a str> {
+    pub(crate) fn output(&self) -> Option<&'a str> {
         self.found.get_str("output").filter(|name| *name != "-")
     }
 

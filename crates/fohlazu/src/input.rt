@@ -11,18 +11,18 @@ use std::io::{Error, ErrorKind, Read};
 
 /// What is noted while arguments and inputs are read.
 #[derive(Default, Drop)]
-pub struct Notes {
+pub(crate) struct Notes {
     /// Why a read, or a write to standard output, last failed.
-    pub failure: Cell<Option<Error>>,
+    pub(crate) failure: Cell<Option<Error>>,
     /// Whether a line of progress stands on standard error.
-    pub is_shown: Cell<bool>,
+    pub(crate) is_shown: Cell<bool>,
     /// Whether a proof is verified without numbers to compare its own with.
-    pub lacks_numbers: Cell<bool>,
+    pub(crate) lacks_numbers: Cell<bool>,
 }
 
 impl Notes {
     /// Takes the line of progress away.
-    pub fn clear_progress(&self, rt: &HostRuntime) {
+    pub(crate) fn clear_progress(&self, rt: &HostRuntime) {
         if self.is_shown.replace(false) {
             let _ = eprint!(rt; "\r\u{1b}[K");
         }
@@ -31,7 +31,7 @@ impl Notes {
 
 /// An input that is opened when it is first read: a file, or standard input by the name `-`.
 #[derive(Drop)]
-pub struct Input<'a> {
+pub(crate) struct Input<'a> {
     rt: &'a HostRuntime,
     name: &'a str,
     /// The file that is open, and how many of the bytes have not been read that it had when it was opened, if it is a
@@ -44,7 +44,7 @@ pub struct Input<'a> {
 impl<'a> Input<'a> {
     /// The input of this name, not opened yet. If `shows_progress`, a terminal on standard error shows how far it is
     /// read. `notes` takes why a read fails.
-    pub fn new(
+    pub(crate) fn new(
         rt: &'a HostRuntime,
         name: &'a str,
         shows_progress: bool,

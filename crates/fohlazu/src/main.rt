@@ -28,16 +28,17 @@ fn main(rt: HostRuntime) -> ExitCode {
     match parse_args(&rt, &notes, &words) {
         Ok((command, args)) => match args.output() {
             Some(name) => run_to_file(&args, command, name),
-            None => finish(
-                &args,
-                run(rt.alloc(), command, &mut StandardOutput(&rt, &notes)),
-            ),
+            None => {
+                let mut output = StandardOutput(&rt, &notes);
+                finish(&args, run(rt.alloc(), command, &mut output))
+            }
         },
         Err(ArgsError::Clap(error)) => print_help(&rt, &error),
         Err(error) => refuse(&rt, error),
     }
 }
 
+/// The arguments of the program, its name first.
 fn read_words(rt: &HostRuntime) -> io::Result<Vec<String>> {
     let mut words = Vec::new(rt.alloc());
     // The words of `args` have spare room, and their copies have none.
@@ -73,7 +74,8 @@ fn run_to_file(args: &Args<'_>, command: Command<Input<'_>>, name: &str) -> Exit
 
 /// Ends a run: prints why it failed and what the input is called, or that the caller has to compare numbers.
 fn finish(args: &Args<'_>, done: Result<(), Error>) -> ExitCode {
-    let (rt, notes) = (args.rt, args.notes);
+    let rt = args.rt;
+    let notes = args.notes;
     notes.clear_progress(rt);
     let Err(error) = done else {
         if notes.lacks_numbers.get() {

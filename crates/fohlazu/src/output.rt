@@ -9,7 +9,7 @@ use std::{fs, io};
 
 /// A file that is written beside its place, and put there once it is whole.
 #[derive(Drop)]
-pub struct Replacement<'a> {
+pub(crate) struct Replacement<'a> {
     rt: &'a HostRuntime,
     /// Where it goes. Symbolic links are followed.
     place: PathBuf,
@@ -28,7 +28,7 @@ impl<'a> Replacement<'a> {
     ///
     /// The error of the system call that failed; `InvalidInput` if the name is that of a file which is not a regular
     /// one.
-    pub fn new(rt: &'a HostRuntime, name: &str) -> io::Result<Replacement<'a>> {
+    pub(crate) fn new(rt: &'a HostRuntime, name: &str) -> io::Result<Replacement<'a>> {
         let place = match fs::canonicalize(rt, name) {
             Err(error) if error.kind() == ErrorKind::NotFound => {
                 Path::new(name).to_path_buf(rt.alloc())?
@@ -58,7 +58,7 @@ impl<'a> Replacement<'a> {
     ///
     /// The error of the system call that failed. What was written is then removed, and the place stays as it was. If
     /// only the last call fails, by which the disk gets the new name, the file stands in its place.
-    pub fn finish(mut self) -> io::Result<()> {
+    pub(crate) fn finish(mut self) -> io::Result<()> {
         self.file()?;
         let done = self.put();
         if done.is_err() {
@@ -72,7 +72,7 @@ impl<'a> Replacement<'a> {
     /// # Errors
     ///
     /// The error of the last write, if that failed.
-    pub fn give_up(self) -> io::Result<()> {
+    pub(crate) fn give_up(self) -> io::Result<()> {
         self.remove();
         self.failure.map_or(Ok(()), Err)
     }
@@ -101,7 +101,9 @@ impl<'a> Replacement<'a> {
 
     /// The file that is written, which the first call creates.
     fn file(&mut self) -> io::Result<&mut File> {
-        let (rt, place, mode) = (self.rt, self.place.as_path(), self.mode.unwrap_or(0o666));
+        let rt = self.rt;
+        let place = self.place.as_path();
+        let mode = self.mode.unwrap_or(0o666);
         let (_, file) = self
             .written
             .get_or_try_insert_with(|| create_beside(rt, place, mode))?;
@@ -125,7 +127,7 @@ impl Write for Replacement<'_> {
 }
 
 /// Whether an output is the regular file that an input is. The input `-` is standard input.
-pub fn is_same_file(rt: &HostRuntime, output: &str, input: &str) -> bool {
+pub(crate) fn is_same_file(rt: &HostRuntime, output: &str, input: &str) -> bool {
     let input = if input == "-" { "/dev/stdin" } else { input };
     match (fs::metadata(rt, output), fs::metadata(rt, input)) {
         (Ok(one), Ok(other)) => one.is_file()
@@ -137,7 +139,7 @@ pub fn is_same_file(rt: &HostRuntime, output: &str, input: &str) -> bool {
 
 /// Standard output. It takes the line of progress away first, which may stand on the same terminal.
 #[derive(Drop)]
-pub struct StandardOutput<'a>(pub &'a HostRuntime, pub &'a Notes);
+pub(crate) struct StandardOutput<'a>(pub(crate) &'a HostRuntime, pub(crate) &'a Notes);
 
 impl Write for StandardOutput<'_> {
     fn write(&mut self, buf: &[u8]) -> io::Result<usize> {

@@ -5,7 +5,7 @@ use std::time::{Duration, Instant};
 
 /// A line on standard error that says how far a file is read, after a second and then each quarter of one.
 #[derive(Drop)]
-pub struct Progress<'a> {
+pub(crate) struct Progress<'a> {
     rt: &'a HostRuntime,
     start: Instant,
     /// The time of the next line, from the start.
@@ -18,7 +18,7 @@ pub struct Progress<'a> {
 impl<'a> Progress<'a> {
     /// The progress of an input that is read from now on. `None` if it is not to be shown, standard error is no
     /// terminal, or the clock can't be read.
-    pub fn start(rt: &'a HostRuntime, is_wanted: bool) -> Option<Progress<'a>> {
+    pub(crate) fn start(rt: &'a HostRuntime, is_wanted: bool) -> Option<Progress<'a>> {
         if !is_wanted || !rt.stderr().is_terminal() {
             return None;
         }
@@ -33,7 +33,7 @@ impl<'a> Progress<'a> {
     }
 
     /// Counts bytes that were read, where at least `left` follow. Returns whether it printed a line.
-    pub fn add(&mut self, count: usize, left: u64) -> bool {
+    pub(crate) fn add(&mut self, count: usize, left: u64) -> bool {
         self.read = self.read.saturating_add(count as u64);
         self.has_size = self.has_size || left > 0;
         let Ok(elapsed) = self.start.elapsed(self.rt) else {
