@@ -2,10 +2,11 @@
 
 use p3_hashes::fold::{FoldCompress, FoldHash};
 use p3_merkle_tree::{
-    CapRule, MerkleTreeError, MerkleTreeHidingMmcs, MerkleTreeMmcs, check_indices, laws,
+    CapRule, MerkleTree, MerkleTreeError, MerkleTreeHidingMmcs, MerkleTreeMmcs, check_indices, laws,
 };
-use p3_support::matrix::{Dimensions, RowMajorMatrix};
+use p3_support::matrix::{Dimensions, Matrix, RowMajorMatrix};
 use std::alloc::{AllocError, Global};
+use std::process::Abort;
 use std::test::Fail;
 use support_tests::counting::Counting;
 
@@ -47,6 +48,21 @@ fn column(alloc: Global, words: &[u32]) -> Result<Vec<RowMajorMatrix<u32>>, Allo
     Ok(vec![in alloc; rows]?)
 }
 
+/// Asserts the root of a tree, and how many layers it has.
+fn assert_layers<M: Matrix<u32> + Drop>(
+    rt: &impl Abort,
+    tree: &MerkleTree<u32, u32, M, 2, 1>,
+    root: u32,
+    layers: usize,
+) {
+    assert_eq!(rt; (*tree.root().value(), tree.num_layers()), ([root], layers));
+}
+
+/// Asserts that there is one matrix, of these words.
+fn assert_words(rt: &impl Abort, matrices: &[&RowMajorMatrix<u32>], words: &[u32]) {
+    assert!(rt; matrices.len() == 1 && matrices.iter().all(|matrix| matrix.values() == words));
+}
+
 // The rows 1 to 4 have the digests 32 to 35, the nodes above are 1026 and 1090, and the root is 32897.
 
 #[test]
@@ -54,11 +70,9 @@ fn a_plain_tree_shows_its_layers_and_matrices(rt: HostRuntime) -> Result<(), Fai
     let (alloc, plain) = (rt.alloc(), Plain::new(FoldHash, FoldCompress, 1));
     let (cap, tree) = plain.commit(alloc, column(alloc, &[1, 2, 3, 4])?)?;
     assert_eq!(rt; cap.roots(), [[1026], [1090]].as_slice());
-    assert_eq!(rt; (*tree.root().value(), tree.num_layers()), ([32897], 3));
+    assert_layers(&rt, &tree, 32897, 3);
     assert_eq!(rt; plain.get_max_height(&tree), 4);
-    for matrix in &plain.get_matrices(alloc, &tree)? {
-        assert_eq!(rt; matrix.values(), [1, 2, 3, 4].as_slice());
-    }
+    assert_words(&rt, &plain.get_matrices(alloc, &tree)?, &[1, 2, 3, 4]);
     Ok(())
 }
 
@@ -70,11 +84,9 @@ fn a_salted_tree_shows_its_matrices_without_salts(rt: HostRuntime) -> Result<(),
     let mut salted = Salted::new(FoldHash, FoldCompress, 0, from_100());
     let (cap, tree) = salted.commit(alloc, column(alloc, &[9])?)?;
     assert_eq!(rt; cap.roots(), [[41641]].as_slice());
-    assert_eq!(rt; (*tree.root().value(), tree.num_layers()), ([41641], 1));
+    assert_layers(&rt, &tree, 41641, 1);
     assert_eq!(rt; salted.get_max_height(&tree), 1);
-    for matrix in &salted.get_matrices(alloc, &tree)? {
-        assert_eq!(rt; matrix.values(), [9].as_slice());
-    }
+    assert_words(&rt, &salted.get_matrices(alloc, &tree)?, &[9]);
     Ok(())
 }
 

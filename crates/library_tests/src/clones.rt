@@ -10,7 +10,8 @@ use p3_support::matrix::{Matrix, RowMajorMatrix};
 use std::alloc::{AllocError, Global};
 use std::test::Fail;
 use support_tests::compared::{
-    are_told_apart, equals_its_clone, is_printed_as_its_clone, is_printed_as_its_copies,
+    are_printed_alike, are_told_apart, equals_its_clone, is_printed_as_its_clone,
+    is_printed_as_its_copies,
 };
 use support_tests::matrices::{numbered, two_rows};
 
@@ -35,16 +36,13 @@ fn a_clone_of_a_tree_has_its_matrices_and_layers(rt: HostRuntime) -> Result<(), 
     let alloc = rt.alloc();
     let rows = vec![in alloc; two_rows(alloc, &[1, 31, 3, 4])?]?;
     let tree = tree_over(alloc, rows)?;
-    let text = format!(in alloc; "{tree:?}")?;
-    let copy = clone_of(&tree)?;
-    let copied = format!(in alloc; "{copy:?}")?;
-    assert_eq!(rt; copied.as_str(), text.as_str());
+    let clone = clone_of(&tree)?;
+    assert!(rt; are_printed_alike(alloc, &tree, &clone));
     // The leaves are 1023 and 1058.
-    assert_eq!(rt; *copy.root().value(), [32772]);
+    assert_eq!(rt; *clone.root().value(), [32772]);
     let tree = tree_over(alloc, numbered(alloc, &[(2, 5), (1, 3)])?)?;
-    let text = format!(in alloc; "{tree:?}")?;
-    let copied = format!(in alloc; "{:?}", tree.clone()?)?;
-    assert_eq!(rt; copied.as_str(), text.as_str());
+    let clone = tree.clone()?;
+    assert!(rt; are_printed_alike(alloc, &tree, &clone));
     Ok(())
 }
 

@@ -5,7 +5,7 @@ use std::alloc::{AllocError, Global};
 use std::fmt::Debug;
 
 /// Whether two values are printed alike.
-fn are_printed_alike<T: Debug>(alloc: Global, first: &T, second: &T) -> bool {
+pub fn are_printed_alike<T: Debug>(alloc: Global, first: &T, second: &T) -> bool {
     match (
         format!(in alloc; "{first:?}"),
         format!(in alloc; "{second:?}"),
