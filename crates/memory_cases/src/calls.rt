@@ -46,7 +46,16 @@ pub fn shown<A: Debug + Drop>(
 }
 
 /// Commits to the matrices, and opens index 0: with salts its row shows where the generator stood.
-pub fn commit<S: Tried>(rt: &HostRuntime, case: &Case<'_>, scheme: &mut S) -> Result<bool> {
+// A call of `Tried` makes this one, so it takes less than that trait.
+pub fn commit<
+    S: Mmcs<
+        u32,
+        Rows,
+        Commitment = MerkleCap<u32, [u32; 1]>,
+        Error = MerkleTreeError,
+        Proof: Debug,
+    >,
+>(rt: &HostRuntime, case: &Case<'_>, scheme: &mut S) -> Result<bool> {
     let Ok(matrices) = case.matrices.clone() else {
         return Ok(false);
     };

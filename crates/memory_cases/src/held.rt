@@ -31,12 +31,19 @@ pub struct Held<D, P, Q> {
     pub generator: Counting,
 }
 
-/// Rows with the twin of the first: another row with the same digest, where it has two words or more.
+/// Changes a row into another with the same digest, where it has two words or more.
+fn change_row(row: &mut [u32]) {
+    if row.len() >= 2 {
+        row[0] = row[0].wrapping_add(1);
+        row[1] = row[1].wrapping_sub(31);
+    }
+}
+
+/// Rows with the twin of the first one.
 fn twin_of(alloc: Global, rows: &[Vec<u32>]) -> Result<Vec<Vec<u32>>, AllocError> {
     let mut twin = rows.to_vec(alloc)?;
-    if let Some([first, second, ..]) = twin.first_mut().map(|row| row.as_mut_slice()) {
-        *first = first.wrapping_add(1);
-        *second = second.wrapping_sub(31);
+    if let Some(row) = twin.first_mut() {
+        change_row(row);
     }
     Ok(twin)
 }
