@@ -110,8 +110,8 @@ fn verdict<const N: usize>(
 fn dimensions(alloc: Global, sizes: &[MatrixSize]) -> Result<Vec<Dimensions>, AllocError>
     ensures { IfOk result (λ dimensions. dimensions.items ≡ map size_shown sizes.now) }
 {
-    let shown = |&MatrixSize { height, width }: &MatrixSize| Dimensions { height, width };
-    sizes.iter().map(shown).collect(alloc)
+    let to_dimensions = |&MatrixSize { height, width }: &MatrixSize| Dimensions { height, width };
+    sizes.iter().map(to_dimensions).collect(alloc)
 }
 
 /// Rows that lie one after another, cut by their widths: a row is short where the bytes end, and bytes that are left
