@@ -20,9 +20,8 @@ LIBRARY_FOR_C := libfohlazu.a libfohlazu.so
 FILES := $(PROGRAMS) $(LIBRARY_FOR_C)
 CPUS := x86-64-v2 x86-64-v3
 QUICK := $(PROGRAMS:%=build/quick/%)
-# What answers the cases of tests/fuzz and tests/rust/compare, and the questions of tests/memory and tests/peers; and the
-# callers of README.md.
-CASES := merkle_cases log_cases rust_cases memory_cases callers
+# What answers the cases of tests/fuzz and tests/rust/compare, and the questions of tests/memory and tests/peers.
+CASES := merkle_cases log_cases rust_cases memory_cases
 LIBRARIES := build/libraries.tar.zst
 
 # This processor: x86-64-v3 where each has what that adds to x86-64-v2. Linux calls lzcnt by the name abm.
