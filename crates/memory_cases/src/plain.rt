@@ -2,7 +2,7 @@
 
 use crate::calls::{Tried, shown};
 use crate::case::{Case, Rows};
-use crate::free::{hashes_agree, reads_agree};
+use crate::free::reads_agree;
 use crate::held::Held;
 use anyhow::{Result, bail};
 use p3_merkle_tree::{
@@ -19,7 +19,7 @@ pub type HeldPlain<const N: usize> = Held<
     PrunedMerklePaths<u32, 1>,
 >;
 
-/// Whether calls that take no memory answer what they should: of hashers, a matrix, the cap, the tree and the scheme.
+/// Whether calls that take no memory answer what they should: of a matrix, the cap, the tree and the scheme.
 fn is_free_right<
     P: PackedValue<Value = u32>,
     H: CryptographicHasher<P, P, 1>,
@@ -27,8 +27,7 @@ fn is_free_right<
     const N: usize,
 >(scheme: &MerkleTreeMmcs<P, P, H, C, N, 1>, held: &HeldPlain<N>) -> bool {
     let (opening, tree) = (BatchOpeningRef::from(&held.opening), &held.tree);
-    hashes_agree()
-        && held.matrices.first().is_some_and(reads_agree)
+    held.matrices.first().is_some_and(reads_agree)
         && held.cap.roots().first() == Some(tree.root().value())
         && held.cap.num_roots() == 1
         && tree.num_layers() > 0
