@@ -20,7 +20,7 @@ LIBRARY_FOR_C := libfohlazu.a libfohlazu.so
 FILES := $(PROGRAMS) $(LIBRARY_FOR_C)
 CPUS := x86-64-v2 x86-64-v3
 QUICK := $(PROGRAMS:%=build/quick/%)
-# What answers the cases of tests/fuzz and tests/rust/compare, and the questions of tests/memory and tests/peers.
+# What answers the cases of tests/fuzz and tests/rust/compare, and what tests/memory and tests/peers ask.
 CASES := merkle_cases log_cases rust_cases memory_cases
 LIBRARIES := build/libraries.tar.zst
 
@@ -155,13 +155,14 @@ help:
 #:                   processor time the first time. CPU=x86-64-v2 or CPU=x86-64-v3 names another processor.
 #:                   `make build/libfohlazu.a` proves the library for C alone, in half an hour
 #: make quick        the programs with no proof, in build/quick/: two minutes
-#: make check-quick  what can be tried with no proof: documents, tests, stored runs, random cases; 20 minutes
-#: make check        the gate: documents, then every proof, test and refused edit, then the proved programs' commands,
-#:                   and their answers with each request for memory refused; up to 200 processor minutes
+#: make check-quick  what can be tried with no proof: documents, tests, stored runs, random cases, commands; 20 minutes
+#: make check        the gate: documents, then proofs, tests, stored runs and the edits that must be refused, then
+#:                   commands of the proved programs, and their answers with each request for memory refused. It takes
+#:                   up to 200 processor minutes, and needs a C compiler
 #: make libraries    the proved libraries, with rattle-with: a crate over them is checked in a minute
 #: make dist         archives of the programs and of the libraries, with their checksums, in build/dist/
-#: make documents    compares docs/ with the sources: seconds. `tests/audit write` and `tests/strength` write what of it
-#:                   is generated
+#: make documents    compares docs/ with the sources, and checks the form of shell scripts, by shellcheck if it is
+#:                   installed: seconds. `tests/audit write` and `tests/strength` write what of docs/ is generated
 #: make install      the programs, scripts, manual pages, completions and the libraries for C, below $DESTDIR$PREFIX;
 #:                   PREFIX is /usr/local if it is not given. FROM=build/quick installs what has no proof
 #: make uninstall    removes what was installed there
