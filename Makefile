@@ -108,7 +108,6 @@ documents:
 check-quick: toolchain documents quick
 	@$(ALONE) python3 tests/check-quick
 
-# `rt ci` leaves the programs that it proved in crates/*/out.
 check: toolchain documents
 	@$(ALONE) bash tests/gate
 
