@@ -20,7 +20,7 @@ LIBRARY_FOR_C := libfohlazu.a libfohlazu.so
 FILES := $(PROGRAMS) $(LIBRARY_FOR_C)
 CPUS := x86-64-v2 x86-64-v3
 QUICK := $(PROGRAMS:%=build/quick/%)
-# What answers the cases of tests/fuzz and tests/rust/compare, and what tests/memory and tests/peers ask.
+# What answers the cases of tests/fuzz, tests/memory, tests/peers and tests/rust/compare.
 CASES := merkle_cases log_cases rust_cases memory_cases
 LIBRARIES := build/libraries.tar.zst
 
