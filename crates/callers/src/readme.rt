@@ -1,5 +1,5 @@
-//! The lines of Rust in README.md: commits to four rows, opens one of them, and verifies it; then verifies another row in
-//! its place.
+//! The lines of Rust in README.md: commits to four rows, opens one of them, and verifies it; then verifies another row
+//! in its place.
 
 use anyhow::Result;
 use p3_hashes::fold::{FoldCompress, FoldHash};

@@ -255,8 +255,8 @@ fn commits<R: CryptoRng, const N: usize, const SALTS: usize>(
     Ok(())
 }
 
-/// `salted_fork | ARITY | CAP | SALTS A ROW | SEED | BATCH | CAPS`: what a fork of a scheme answers to a batch, and what
-/// the scheme answers to it then.
+/// `salted_fork | ARITY | CAP | SALTS A ROW | SEED | BATCH | CAPS`: what a fork of a scheme answers to a batch, and
+/// what the scheme answers to it then.
 fn fork<const N: usize, const SALTS: usize>(
     case: &mut Case<'_>,
     scheme: &mut Salted<ChaCha20Rng, N, SALTS>,

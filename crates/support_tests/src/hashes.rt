@@ -130,7 +130,8 @@ fn ascending<P: FoldLane>(first: u32, step: u32) -> P
     )
 }
 
-/// Asserts which digests the lanes of a packed value have: of one word each, by one word and by two, and of two digests.
+/// Asserts which digests the lanes of a packed value have: of one word each, by digests of one word and of two, and of
+/// two digests.
 // It is a macro, since calls on packed values require that these fit into memory, which is known of each type alone.
 macro_rules! assert_lanes {
     ($rt:ident, $P:ty, $lanes:tt, $hasher:ident, $compress:ident) => {{
