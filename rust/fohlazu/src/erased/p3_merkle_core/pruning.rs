@@ -1,0 +1,406 @@
+// Made from crates/p3_merkle_core/src/pruning.rt by tools/erase.
+
+//! Pruned openings: their form, whether their rows agree, the nodes that they cover, and the paths that are read from
+//! their layers. Nothing here needs a cap or a hash.
+//!
+//! - A query is the index of a leaf. Its row set has one row of each matrix. The slot of an index is its position among
+//!   the distinct indices, ascending.
+//! - A node is covered if it is a queried leaf or above one. The boundary is the children of covered nodes that are not
+//!   covered themselves: a proof has their digests.
+//! - The exponent of a height is its log2, rounded up. A matrix belongs to the layer of its exponent.
+//! - Rows agree if queries of one index have one row set, and queries under a node one row of each matrix of its layer.
+
+use crate::erased::p3_merkle_core::error::{MerkleTreeError, PrunedProofError};
+use crate::erased::p3_merkle_core::geometry::{check_widths, exponent_of, parent_of, position_of};
+use crate::erased::p3_merkle_core::steps::{Covered, Steps, check_heights};
+use crate::erased::p3_support::matrix::Dimensions;
+use crate::fallible::{AllocError, TryClone, VecExt, try_vec};
+use alloc::vec::Vec;
+
+/// The digests of a pruned proof, which opens several leaves at once. [`PrunedMerklePaths`] has digests of words.
+#[derive(Debug, Clone, PartialEq, Eq)]
+pub struct PrunedProof<X> {
+    /// The digests of the boundary in wire order: level by level from the leaves up, ascending on each level.
+    pub sibling_hashes: Vec<X>,
+}
+
+impl<X: TryClone> TryClone for PrunedProof<X> {
+    fn try_clone(&self) -> Result<Self, AllocError> {
+        Ok(Self { sibling_hashes: self.sibling_hashes.try_clone()? })
+    }
+}
+
+/// The digests of a pruned proof, of `D` words each (`PrunedMerklePaths` in the Rust crate).
+pub type PrunedMerklePaths<W, const D: usize> = PrunedProof<[W; D]>;
+
+/// The rows of several leaves, and one proof for all of them. [`PrunedBatchOpening`] has digests of words.
+#[derive(Debug, Clone, PartialEq, Eq)]
+pub struct PrunedRows<T, X> {
+    /// For each query, in query order, one row of each matrix, in input order.
+    pub opened_values: Vec<Vec<Vec<T>>>,
+    /// What proves that they were committed to.
+    pub pruned_proof: PrunedProof<X>,
+}
+
+impl<T: TryClone, X: TryClone> TryClone for PrunedRows<T, X> {
+    fn try_clone(&self) -> Result<Self, AllocError> {
+        Ok(Self { opened_values: self.opened_values.try_clone()?, pruned_proof: self.pruned_proof.try_clone()? })
+    }
+}
+
+/// The rows of several leaves, and one proof for all of them, with digests of `D` words (`PrunedBatchOpening` in the
+/// Rust crate).
+pub type PrunedBatchOpening<T, W, const D: usize> = PrunedRows<T, [W; D]>;
+
+/// A leaf and the siblings on its path, as a pruned proof restores them. [`MerkleAuthPath`] has digests of words.
+#[derive(Debug, Clone, PartialEq, Eq)]
+pub struct AuthPath<X> {
+    /// The index of the leaf, from 0.
+    pub leaf_index: usize,
+    /// The siblings on the leaf's path, level by level from the leaves up, ascending on each level.
+    pub siblings: Vec<X>,
+}
+
+impl<X: TryClone> TryClone for AuthPath<X> {
+    fn try_clone(&self) -> Result<Self, AllocError> {
+        Ok(Self { leaf_index: self.leaf_index.try_clone()?, siblings: self.siblings.try_clone()? })
+    }
+}
+
+/// A leaf and the siblings on its path, of `D` words each (`MerkleAuthPath` in the Rust crate).
+pub type MerkleAuthPath<W, const D: usize> = AuthPath<[W; D]>;
+
+/// A layer on the way up a pruned opening: its covered nodes, and the digests of their children.
+pub(crate) struct CoveredLayer<'a, X> {
+    /// The covered nodes.
+    pub covered: Covered<'a>,
+    /// How many children a node has: 0 at the leaves.
+    pub step: usize,
+    /// Whether matrices belong to the layer.
+    pub has_rows: bool,
+    /// The digests of the children, parent by parent: none at the leaves.
+    pub children: Vec<X>,
+}
+
+/// The distinct indices of some queries, ascending. The slot of an index is its position among them.
+#[derive(Debug)]
+pub(crate) struct DistinctQueries {
+    /// The distinct indices, ascending.
+    pub indices: Vec<usize>,
+    /// For each of them, the position of its first query among the queries.
+    pub first_queries: Vec<usize>,
+    /// For each query, the slot of its index.
+    pub slots: Vec<usize>,
+}
+
+/// Checks that each index is below `max_height`, the tallest height of some matrices.
+///
+/// # Errors
+///
+/// `IndexOutOfBounds` with the highest index if that is not below `max_height`, or with 0 if `max_height` is 0 and
+/// there is no index.
+pub fn check_indices(max_height: usize, indices: &[usize]) -> Result<(), MerkleTreeError> {
+    let mut highest = 0;
+    for index in indices {
+        highest = highest.max(*index);
+    }
+    if highest < max_height { Ok(()) } else { Err(MerkleTreeError::IndexOutOfBounds { max_height, index: highest }) }
+}
+
+/// The distinct indices, ascending, and the slot of each query, in query order. `indices` has the index of each query,
+/// and `sorted` has each query as its index and its position, ascending.
+fn distinct_slots(sorted: &[(usize, usize)], indices: &[usize]) -> Result<(Vec<usize>, Vec<usize>), AllocError> {
+    let mut distinct = Vec::with_room(sorted.len())?;
+    let mut slots = try_vec(0, indices.len())?;
+    let mut previous = 0;
+    for position in 0..sorted.len() {
+        let (index, query) = sorted[position];
+        if position == 0 || previous != index {
+            distinct.push_reserved(index);
+        }
+        previous = index;
+        slots[query] = distinct.len() - 1;
+    }
+    Ok((distinct, slots))
+}
+
+/// The distinct indices of some queries, with the first query of each, and the slot of each query.
+fn distinct_queries_of(queries: &[usize]) -> Result<DistinctQueries, AllocError> {
+    let mut sorted = Vec::with_room(queries.len())?;
+    for query in 0..queries.len() {
+        sorted.push_reserved((queries[query], query));
+    }
+    sorted.sort_unstable();
+    let (indices, slots) = distinct_slots(&sorted, queries)?;
+    let mut first_queries = try_vec(queries.len(), indices.len())?;
+    // From the last query on, so that the first one of an index is written last.
+    for first in (0..queries.len()).rev() {
+        first_queries[slots[first]] = first;
+    }
+    Ok(DistinctQueries { indices, first_queries, slots })
+}
+
+/// Checks that each query has the row set of the first query of its index, else `InconsistentDuplicateOpenings`. `rows`
+/// has the row set of each of `indices`, and `queried` their slots.
+fn check_repeats<T: Eq>(
+    indices: &[usize],
+    rows: &[Vec<Vec<T>>],
+    queried: &DistinctQueries,
+) -> Result<(), MerkleTreeError> {
+    for query in 0..indices.len() {
+        let slot = queried.slots[query];
+        let first = queried.first_queries[slot];
+        // Nothing is compared where both are the same query.
+        if query != first && rows[query] != rows[first] {
+            return Err(PrunedProofError::InconsistentDuplicateOpenings { slot }.into());
+        }
+    }
+    Ok(())
+}
+
+/// Checks that `rows` and `first_rows` have the same row of each of `matrices`, which are positions in both: else
+/// `InconsistentGroupOpening` for the first that differs. `rows` is the row set of `slot`, and `first_rows` that of the
+/// first slot under the same node. `slot` is only reported.
+fn check_same_rows<T: Eq>(
+    matrices: &[usize],
+    slot: usize,
+    rows: &[Vec<T>],
+    first_rows: &[Vec<T>],
+) -> Result<(), MerkleTreeError> {
+    for matrix in matrices {
+        let matrix = *matrix;
+        // Rows of one word are compared in place: a call takes longer.
+        let differ = match (rows[matrix].as_slice(), first_rows[matrix].as_slice()) {
+            ([word], [first]) => *word != *first,
+            (words, first) => words != first,
+        };
+        if differ {
+            return Err(PrunedProofError::InconsistentGroupOpening { slot, matrix }.into());
+        }
+    }
+    Ok(())
+}
+
+/// Checks that slots under one node of a layer have the same rows of `matrices`, the positions of the layer's matrices,
+/// else `InconsistentGroupOpening`. Each slot is compared with the first one under its node. `indices` are distinct and
+/// ascending; `first_queries` has the first query of each, whose row set in `rows` is compared. A node's number is an
+/// index without its lowest `bits` bits.
+fn check_rows_under_nodes<T: Eq>(
+    matrices: &[usize],
+    indices: &[usize],
+    bits: usize,
+    first_queries: &[usize],
+    rows: &[Vec<Vec<T>>],
+) -> Result<(), MerkleTreeError> {
+    let mut first_slot = 0;
+    for slot in 1..indices.len() {
+        if indices[slot] >> bits == indices[first_slot] >> bits {
+            let own_rows = &rows[first_queries[slot]];
+            let first_rows = &rows[first_queries[first_slot]];
+            check_same_rows(matrices, slot, own_rows, first_rows)?;
+        } else {
+            first_slot = slot;
+        }
+    }
+    Ok(())
+}
+
+/// Replaces the contents of `matrices` by the positions, in input order, of the matrices of this exponent.
+fn list_matrices(matrices: &mut Vec<usize>, dimensions: &[Dimensions], exponent: usize) -> Result<(), AllocError> {
+    matrices.clear();
+    for matrix in 0..dimensions.len() {
+        if exponent_of(dimensions[matrix].height) == exponent {
+            matrices.try_push(matrix)?;
+        }
+    }
+    Ok(())
+}
+
+/// Checks that slots under one node have the same rows of the matrices of its layer, layer by layer up to layer
+/// `cap_layer`, else `InconsistentGroupOpening`. `rows` has the row set of each query, with a row for each matrix.
+fn check_shared_rows<T: Eq>(
+    steps: &Steps<'_>,
+    cap_layer: usize,
+    queried: &DistinctQueries,
+    rows: &[Vec<Vec<T>>],
+) -> Result<(), MerkleTreeError> {
+    let mut matrices = Vec::new();
+    let mut exponent = steps.exponent;
+    // No two slots are under one leaf, so the first layer to look at is the one above the leaves.
+    for level in 0..cap_layer {
+        let up = steps.step_up(steps.arity, level, exponent);
+        exponent = up.exponent;
+        if up.has_rows {
+            list_matrices(&mut matrices, steps.dimensions, exponent)?;
+            let bits = steps.exponent - exponent;
+            check_rows_under_nodes(&matrices, &queried.indices, bits, &queried.first_queries, rows)?;
+        }
+    }
+    Ok(())
+}
+
+/// Checks everything about a pruned opening that does not depend on the cap's digests: whether the siblings of its
+/// queries can be computed up to layer `cap_layer`. Returns its distinct indices, with their queries. `rows` has the
+/// row set of each index, and the proof has `num_digests` digests. `cap_layer` must be at most the number of levels,
+/// and the arity a power of two from 2 to 2^62.
+///
+/// It sorts the indices once, and allocates at most five numbers for each index at a time, and a list of the matrices
+/// of one layer above the leaves.
+///
+/// # Errors
+///
+/// The first of these that applies, where `OutOfMemory` may come once the indices are known to be in range:
+///
+/// - the error of [`check_heights`];
+/// - `WrongBatchSize`: the number of row sets is not that of the indices;
+/// - `SiblingCountMismatch`: there is a digest, and no index;
+/// - `IndexOutOfBounds`: the highest index is not below the tallest height;
+/// - `InconsistentDuplicateOpenings`: the row set of a query is not that of the first query of its index;
+/// - `SiblingCountMismatch`: the number of digests is not that of the boundary nodes;
+/// - `WrongBatchSize`, `WrongWidth`: by ascending indices, the error of [`check_widths`] for the first query of each;
+/// - `InconsistentGroupOpening`: layer by layer up to `cap_layer`, by ascending indices and in input order of the
+///   layer's matrices, a row is not that of the lowest index under the same node.
+pub(crate) fn check_pruned<T: Eq>(
+    steps: &Steps<'_>,
+    cap_layer: usize,
+    indices: &[usize],
+    rows: &[Vec<Vec<T>>],
+    num_digests: usize,
+) -> Result<DistinctQueries, MerkleTreeError> {
+    check_queries(steps, indices, rows.len(), num_digests)?;
+    let queried = distinct_queries_of(indices)?;
+    check_repeats(indices, rows, &queried)?;
+    let leaves = Vec::try_from_slice(&queried.indices)?;
+    let covered = Covered::new(steps, indices, leaves);
+    check_digest_count(covered.boundary_len(cap_layer), num_digests)?;
+    for query in &queried.first_queries {
+        check_widths(steps.dimensions, &rows[*query])?;
+    }
+    check_shared_rows(steps, cap_layer, &queried, rows)?;
+    Ok(queried)
+}
+
+/// Checks, in this order: the heights; that there is a row set for each index; that there is no digest where there is
+/// no index; and that each index is below the tallest height. It does not allocate.
+fn check_queries(
+    steps: &Steps<'_>,
+    indices: &[usize],
+    num_row_sets: usize,
+    num_digests: usize,
+) -> Result<(), MerkleTreeError> {
+    check_heights(steps.dimensions)?;
+    let (expected, got) = (indices.len(), num_row_sets);
+    if got != expected {
+        return Err(MerkleTreeError::WrongBatchSize { expected, got });
+    }
+    if indices.is_empty() {
+        check_digest_count(0, num_digests)?;
+    }
+    check_indices(steps.max_height, indices)
+}
+
+/// Checks that a proof has `expected` digests, where it has `got`, else `SiblingCountMismatch`.
+fn check_digest_count(expected: usize, got: usize) -> Result<(), MerkleTreeError> {
+    if expected == got { Ok(()) } else { Err(PrunedProofError::SiblingCountMismatch { expected, got }.into()) }
+}
+
+/// The distinct indices, ascending: the covered leaves. It sorts a copy of the list.
+///
+/// # Errors
+///
+/// `AllocError` if memory runs out.
+pub(crate) fn distinct_indices(indices: &[usize]) -> Result<Vec<usize>, AllocError> {
+    let mut leaves = Vec::try_from_slice(indices)?;
+    leaves.sort_unstable();
+    leaves.dedup();
+    Ok(leaves)
+}
+
+/// The digests of all children of some parents, `step` of each, parent by parent. A covered child has its digest from
+/// `digests`, any other child the next of `proof_digests`. `covered` has the covered children in that order; `digests`
+/// one digest for each of them; `proof_digests` enough for the others. The number of children, and
+/// `step * parent + step` for each parent, must fit `usize`. It allocates the list of children.
+///
+/// # Errors
+///
+/// `AllocError` if memory runs out.
+pub(crate) fn children_of<X: Copy>(
+    covered: &[usize],
+    digests: &[X],
+    parents: &[usize],
+    step: usize,
+    proof_digests: &[X],
+) -> Result<Vec<X>, AllocError> {
+    let mut children = Vec::with_room(step * parents.len())?;
+    let mut known = 0;
+    for parent in parents {
+        let first = step * *parent;
+        for child in first..first + step {
+            if known < covered.len() && covered[known] == child {
+                children.push_reserved(digests[known]);
+                known += 1;
+            } else {
+                children.push_reserved(proof_digests[children.len() - known]);
+            }
+        }
+    }
+    Ok(children)
+}
+
+/// The place of `node` among ascending nodes, of which it must be one. The search begins at the place `start`, or at 0
+/// if the node is ahead of it, and takes a step for each node that it passes.
+fn place_of(nodes: &[usize], start: usize, node: usize) -> usize {
+    let mut place = 0;
+    if start < nodes.len() && nodes[start] <= node {
+        place = start;
+    }
+    while nodes[place] != node {
+        place += 1;
+    }
+    place
+}
+
+/// The siblings on the path of the covered leaf `index`, from the leaves up: on each layer above them the digests of
+/// the children of the path's node, without the path's own, ascending. `layers` are those of a pruned opening, the
+/// leaves first, and `capacity` is the expected number of siblings.
+///
+/// `places` has a number for each layer: the search for the path's node begins at that place among the covered nodes,
+/// and leaves the node's own there. So the searches of ascending leaves pass each node once. The path does not depend
+/// on these numbers.
+///
+/// # Errors
+///
+/// `AllocError` if memory runs out.
+pub(crate) fn siblings_on_path<X: Copy>(
+    layers: &[CoveredLayer<'_, X>],
+    places: &mut [usize],
+    index: usize,
+    capacity: usize,
+) -> Result<Vec<X>, AllocError> {
+    let mut path = Vec::with_room(capacity)?;
+    let mut node = index;
+    for level in 1..layers.len() {
+        let above = &layers[level];
+        let parent = parent_of(node, above.step);
+        let place = place_of(&above.covered.nodes, places[level], parent);
+        places[level] = place;
+        let first = above.step * place;
+        let own = node - above.step * parent;
+        extend_except(&mut path, &above.children[first..first + above.step], own)?;
+        node = parent;
+    }
+    Ok(path)
+}
+
+/// Appends the digests of a group, or of a part of one, without the one at `position`, which it must have.
+///
+/// # Errors
+///
+/// `AllocError` if memory runs out.
+pub(crate) fn extend_except<X: Copy>(digests: &mut Vec<X>, group: &[X], position: usize) -> Result<(), AllocError> {
+    // Each read computes its index without a branch: the position is as good as random.
+    for place in 1..group.len() {
+        digests.try_push(group[place - usize::from(place <= position)])?;
+    }
+    Ok(())
+}

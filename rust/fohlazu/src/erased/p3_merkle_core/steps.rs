@@ -1,0 +1,412 @@
+// Made from crates/p3_merkle_core/src/steps.rt by tools/erase.
+
+//! The steps of a tree, from the leaves to the root, and the covered nodes of its layers. The steps are computed once
+//! and stored; all other code reads them. Only the two `clone`s and the two calls that return a list allocate.
+//!
+//! - Layer 0 is the leaves; level `l` leads from layer `l` to layer `l + 1`. The step of a level is how many children
+//!   each node above it has: the arity, or 2 if a step of the arity would pass over a matrix's layer (a bridge step).
+//! - The exponent of a height is its log2, rounded up. That of layer 0 is the tallest height's, and each step takes its
+//!   own log2 from it, down to the root's 0. A matrix belongs to the layer of its exponent.
+//! - Heights are lawful if each is the tallest one halved, and each time rounded up, some number of times.
+
+use crate::erased::p3_merkle_core::cap::CapRule;
+use crate::erased::p3_merkle_core::error::MerkleTreeError;
+use crate::erased::p3_merkle_core::geometry::{
+    MAX_HEIGHT, exponent_of, extremes_of, first_too_large_of, height_of_exponent, padded_len, parent_of,
+};
+use crate::erased::p3_merkle_core::levels::Level;
+use crate::erased::p3_support::matrix::Dimensions;
+use crate::fallible::{AllocError, TryClone, VecExt};
+use alloc::vec::Vec;
+
+/// How many levels a tree has at most: each halves the heights, which are below 2^64, at least.
+const MAX_LEVELS: usize = 64;
+
+/// What the steps above a layer depend on: its exponent, and the end of the matrices' exponents that are lower.
+#[derive(Clone, Copy)]
+struct Exponents {
+    /// The exponent of the layer.
+    pub layer: usize,
+    /// The end of the lower exponents that matrices have: one more than the greatest of them, or 0 if there is none.
+    pub lower_end: usize,
+}
+
+/// Which exponents the matrices have, as a bit mask, so that the matrices are read once for all layers.
+#[derive(Clone, Copy)]
+struct MatrixExponents<'a> {
+    pub dimensions: &'a [Dimensions],
+    /// Bit `e` is set where a matrix has the exponent `e`. The exponent 64 has no bit: it is below no layer's.
+    pub bits: usize,
+}
+
+impl<'a> MatrixExponents<'a> {
+    /// The exponents on which the steps above a layer depend: the layer's own, `layer`, which must be at most 64, and
+    /// the end of the matrices' lower ones.
+    fn exponents_at(&self, layer: usize) -> Exponents {
+        let below = if layer < usize::BITS as usize { self.bits % (1 << layer) } else { self.bits };
+        Exponents { layer, lower_end: (usize::BITS - below.leading_zeros()) as usize }
+    }
+}
+
+/// The step of a level, and whether matrices belong to the layer above it.
+#[derive(Debug, Clone, Copy)]
+struct LevelStep {
+    /// Whether it is a bridge step of 2, and none of the whole arity.
+    pub is_bridge: bool,
+    /// Whether matrices belong to the layer above the level.
+    pub has_rows: bool,
+}
+
+/// The step above a layer, with whether matrices belong to the layer that it leads to, and the exponents there. The
+/// layer is below the root, and has these `exponents`, of at most 64. The arity must be at least 2.
+fn next_step(matrices: &MatrixExponents<'_>, arity: usize, exponents: Exponents) -> (LevelStep, Exponents) {
+    let target = exponents.layer.saturating_sub(exponent_of(arity));
+    // A matrix's exponent lies strictly between the layer's and what a step of the whole arity leaves of it.
+    let is_bridge = exponents.lower_end.saturating_sub(target) > 1;
+    let layer = if is_bridge { exponents.layer - 1 } else { target };
+    // No matrix's exponent lies between those of the two layers, so all lower ones are at most the upper layer's.
+    let has_rows = exponents.lower_end > layer;
+    let above = if has_rows { matrices.exponents_at(layer) } else { Exponents { layer, ..exponents } };
+    let level = LevelStep { is_bridge, has_rows };
+    (level, above)
+}
+
+/// A step from one layer to the next.
+#[derive(Clone, Copy)]
+pub(crate) struct StepUp {
+    /// How many children a node of the next layer has.
+    pub step: usize,
+    /// Whether matrices belong to the next layer.
+    pub has_rows: bool,
+    /// The exponent of the next layer.
+    pub exponent: usize,
+}
+
+/// The steps of the tree over matrices of some dimensions, from the leaves to the root.
+#[derive(Clone, Copy)]
+pub(crate) struct Steps<'a> {
+    /// The dimensions of all matrices.
+    pub dimensions: &'a [Dimensions],
+    /// How many children a node has at most.
+    pub arity: usize,
+    /// The tallest height, in rows, or 0 if there are no matrices.
+    pub max_height: usize,
+    /// The least height, in rows, or 0 if there are no matrices.
+    pub min_height: usize,
+    /// The exponent of the leaves.
+    pub exponent: usize,
+    /// How many steps lead from the leaves to the root.
+    pub num_levels: usize,
+    of_level: [LevelStep; MAX_LEVELS],
+}
+
+/// The steps of the tree over matrices of these dimensions, where a node has at most `arity` children. The heights need
+/// not be lawful. The arity must be at least 2. It reads each matrix twice: for its height, and for its exponent.
+pub(crate) fn steps_of(dimensions: &[Dimensions], arity: usize) -> Steps<'_> {
+    let (max_height, min_height) = extremes_of(dimensions);
+    let exponent = exponent_of(max_height);
+    let mut bits = 0;
+    for matrix in dimensions {
+        let bit = exponent_of(matrix.height);
+        if bit < usize::BITS as usize {
+            bits |= 1 << bit;
+        }
+    }
+    let matrices = MatrixExponents { dimensions, bits };
+    let mut exponents = matrices.exponents_at(exponent);
+    let none = LevelStep { is_bridge: false, has_rows: false };
+    let mut of_level = [none; MAX_LEVELS];
+    let mut num_levels = 0;
+    while exponents.lower_end > 0 {
+        let (step, above) = next_step(&matrices, arity, exponents);
+        of_level[num_levels] = step;
+        num_levels += 1;
+        exponents = above;
+    }
+    // No matrix belongs to a layer above: whole steps without rows lead to the root, and all of them are `none`.
+    num_levels += exponents.layer.div_ceil(exponent_of(arity));
+    Steps { dimensions, arity, max_height, min_height, exponent, num_levels, of_level }
+}
+
+/// Checks that a tree can be built over matrices of these heights (`validate_commit_reachable_heights` in the Rust
+/// crate).
+///
+/// # Errors
+///
+/// The first of these that applies:
+///
+/// - `EmptyBatch` if no matrix has a row;
+/// - `TooLarge` for the first height above [`MAX_HEIGHT`];
+/// - `IncompatibleHeights` for the first height that is not the tallest one halved and rounded up some number of times.
+pub(crate) fn check_heights(dimensions: &[Dimensions]) -> Result<(), MerkleTreeError> {
+    let (max_height, _) = extremes_of(dimensions);
+    if max_height == 0 {
+        return Err(MerkleTreeError::EmptyBatch);
+    }
+    if let Some(matrix) = first_too_large_of(dimensions, max_height) {
+        let size = dimensions[matrix].height;
+        return Err(MerkleTreeError::TooLarge { matrix, size });
+    }
+    // A height that equals the last lawful one is not checked again: short matrices often have one height.
+    let mut lawful_height = max_height;
+    for matrix in dimensions {
+        let height = matrix.height;
+        if height != lawful_height {
+            let exponent = exponent_of(height);
+            let expected_height = height_of_exponent(max_height, exponent);
+            if height != expected_height {
+                return Err(MerkleTreeError::IncompatibleHeights {
+                    height,
+                    max_height,
+                    expected_height,
+                    bits_reduced: exponent_of(max_height).saturating_sub(exponent),
+                });
+            }
+            lawful_height = height;
+        }
+    }
+    Ok(())
+}
+
+/// The steps of a tree, with its own copy of the dimensions. A tree stores them for its openings.
+#[derive(Debug)]
+pub(crate) struct OwnedSteps {
+    /// The dimensions of all matrices.
+    pub dimensions: Vec<Dimensions>,
+    /// How many children a node has at most.
+    pub arity: usize,
+    /// The tallest height, in rows, or 0 if there are no matrices.
+    pub max_height: usize,
+    min_height: usize,
+    exponent: usize,
+    num_levels: usize,
+    of_level: [LevelStep; MAX_LEVELS],
+}
+
+impl OwnedSteps {
+    /// Computes the steps of the tree over matrices of these dimensions by [`steps_of`]. The arity must be at least 2.
+    pub(crate) fn new(dimensions: Vec<Dimensions>, arity: usize) -> OwnedSteps {
+        let steps = steps_of(&dimensions, arity);
+        OwnedSteps {
+            arity,
+            max_height: steps.max_height,
+            min_height: steps.min_height,
+            exponent: steps.exponent,
+            num_levels: steps.num_levels,
+            of_level: steps.of_level,
+            dimensions,
+        }
+    }
+
+    /// The steps, with the dimensions borrowed.
+    pub(crate) fn steps(&self) -> Steps<'_> {
+        Steps {
+            dimensions: &self.dimensions,
+            arity: self.arity,
+            max_height: self.max_height,
+            min_height: self.min_height,
+            exponent: self.exponent,
+            num_levels: self.num_levels,
+            of_level: self.of_level,
+        }
+    }
+
+    /// The same steps, with a copy of the dimensions.
+    ///
+    /// # Errors
+    ///
+    /// `AllocError` if memory runs out.
+    pub(crate) fn try_clone(&self) -> Result<OwnedSteps, AllocError> {
+        Ok(OwnedSteps::new(self.dimensions.try_clone()?, self.arity))
+    }
+}
+
+impl<'a> Steps<'a> {
+    /// The layer, counted from the leaves, that is the cap of this height by this rule (see [`CapRule`]). `cap_height`
+    /// counts levels below the root. The arity must be a power of two from 2 to 2^62. It does not allocate.
+    pub(crate) fn cap_layer(&self, rule: CapRule, cap_height: usize) -> usize {
+        // No step above the layer of the shortest matrix is a bridge step.
+        let max_cap_height = match rule {
+            CapRule::Lowered => exponent_of(self.min_height).div_ceil(exponent_of(self.arity)),
+            CapRule::Fixed => self.num_levels,
+        };
+        self.num_levels.saturating_sub(cap_height.min(max_cap_height))
+    }
+
+    /// The step of a level, in children per node. The level must be below the root.
+    pub(crate) fn step(&self, level: usize) -> usize {
+        if self.of_level[level].is_bridge { 2 } else { self.arity }
+    }
+
+    /// The step of a level, the exponent of the layer above it, and whether matrices belong to that layer. The level
+    /// must be below the root. `exponent` must be that of the layer below: a caller that goes up level by level has it.
+    /// `arity` must be that of the steps: a caller that has it as a constant divides by a constant.
+    pub(crate) fn step_up(&self, arity: usize, level: usize, exponent: usize) -> StepUp {
+        let kept = self.of_level[level];
+        let step = if kept.is_bridge { 2 } else { arity };
+        StepUp { step, has_rows: kept.has_rows, exponent: exponent.saturating_sub(exponent_of(step)) }
+    }
+
+    /// The shape of the layer above the layer `below`, which must be below the root, and have `len` nodes and this
+    /// exponent. The arity must be a power of two from 2 to 2^62, and [`check_heights`] must accept the heights.
+    pub(crate) fn level_from(&self, below: usize, exponent: usize, len: usize) -> Level {
+        let arity = self.arity;
+        let up = self.step_up(arity, below, exponent);
+        // Where a bridge step halves a layer that is shorter than the arity, the 2^exponent slots that its nodes can
+        // fill are grouped, and the slots after them are padding.
+        let grouped_len =
+            if self.of_level[below].is_bridge && len < arity { 1 << exponent } else { padded_len(len, arity) };
+        let raw_len = grouped_len / up.step;
+        Level {
+            below,
+            step: up.step,
+            exponent: up.exponent,
+            raw_len,
+            layer_len: padded_len(raw_len, arity),
+            height: height_of_exponent(self.max_height, up.exponent),
+            has_rows: up.has_rows,
+        }
+    }
+
+    /// The exponent of a layer, counted from the leaves. The layer must be at most the number of levels.
+    pub(crate) fn layer_exponent(&self, layer: usize) -> usize {
+        let mut exponent = self.exponent;
+        for level in 0..layer {
+            exponent = self.step_up(self.arity, level, exponent).exponent;
+        }
+        exponent
+    }
+
+    /// How many siblings the levels below a layer have, in digests: one less than the step of each
+    /// (`total_siblings_for_levels` in the Rust crate). The layer must be at most the number of levels, the arity a
+    /// power of two from 2 to 2^62, and no height above [`MAX_HEIGHT`].
+    pub(crate) fn siblings_below(&self, layer: usize) -> usize {
+        // At arity 2 each level has one sibling.
+        if self.arity == 2 {
+            return layer;
+        }
+        let mut count = 0;
+        for level in 0..layer {
+            count += self.step(level) - 1;
+        }
+        count
+    }
+
+    /// The steps of the levels below a layer, from the leaves up, in children per node. The layer must be at most the
+    /// number of levels. It allocates a list of one number for each level.
+    ///
+    /// # Errors
+    ///
+    /// `AllocError` if memory runs out.
+    pub(crate) fn schedule_below(&self, layer: usize) -> Result<Vec<usize>, AllocError> {
+        let mut schedule = Vec::with_room(layer)?;
+        for level in 0..layer {
+            schedule.push_reserved(self.step(level));
+        }
+        Ok(schedule)
+    }
+
+    /// For each level below a layer, from the leaves up, the position of the index's ancestor there among its parent's
+    /// children, from 0. The layer must be at most the number of levels. It allocates a list of one number for each
+    /// level.
+    ///
+    /// # Errors
+    ///
+    /// `AllocError` if memory runs out.
+    pub(crate) fn positions_below(&self, layer: usize, index: usize) -> Result<Vec<usize>, AllocError> {
+        let mut positions = Vec::with_room(layer)?;
+        let mut ancestor = index;
+        for level in 0..layer {
+            let step = self.step(level);
+            positions.push_reserved(ancestor % step);
+            ancestor /= step;
+        }
+        Ok(positions)
+    }
+}
+
+/// The covered nodes of one layer of a tree: the queried leaves, or the nodes above them. The boundary is the children
+/// of covered nodes that are not covered themselves.
+pub(crate) struct Covered<'a> {
+    /// The steps of the tree.
+    pub steps: &'a Steps<'a>,
+    /// The queried indices.
+    pub indices: &'a [usize],
+    /// The layer, counted from the leaves.
+    pub layer: usize,
+    /// The layer's exponent.
+    pub exponent: usize,
+    /// The covered nodes, ascending.
+    pub nodes: Vec<usize>,
+    /// How many digests of a pruned proof belong to the levels below the layer: one for each node of the boundary
+    /// there.
+    pub boundary_below: usize,
+}
+
+impl<'a> Covered<'a> {
+    /// The covered leaves: `nodes` must be the distinct `indices`, ascending. The indices must be below the tallest
+    /// height, the arity a power of two from 2 to 2^62, and no height above [`MAX_HEIGHT`].
+    pub(crate) fn new(steps: &'a Steps<'a>, indices: &'a [usize], nodes: Vec<usize>) -> Covered<'a> {
+        Covered { steps, indices, layer: 0, exponent: steps.exponent, nodes, boundary_below: 0 }
+    }
+
+    /// The same nodes, in a list of their own.
+    ///
+    /// # Errors
+    ///
+    /// `AllocError` if memory runs out.
+    pub(crate) fn try_clone(&self) -> Result<Covered<'a>, AllocError> {
+        Ok(Covered {
+            steps: self.steps,
+            indices: self.indices,
+            layer: self.layer,
+            exponent: self.exponent,
+            nodes: Vec::try_from_slice(&self.nodes)?,
+            boundary_below: self.boundary_below,
+        })
+    }
+
+    /// Climbs to the layer above, in place: replaces the covered nodes by their parents, and returns the step that led
+    /// to them. This layer must be below the root.
+    // Inlined: the count of a proof's digests is a loop of this alone.
+    #[inline(always)]
+    pub(crate) fn climb(&mut self) -> StepUp {
+        let steps = self.steps;
+        let up = steps.step_up(steps.arity, self.layer, self.exponent);
+        let below = self.nodes.len();
+        replace_by_parents(&mut self.nodes, up.step);
+        self.layer += 1;
+        self.exponent = up.exponent;
+        self.boundary_below += up.step * self.nodes.len() - below;
+        up
+    }
+
+    /// How many digests a pruned proof of the indices has, where the cap is layer `layer`: on each level below it, one
+    /// for each child of a covered node that is not covered itself. `layer` must be at most the number of levels, and
+    /// not below the layer of these nodes. It does not allocate, and takes one step for each node and level.
+    pub(crate) fn boundary_len(mut self, layer: usize) -> usize {
+        for _ in self.layer..layer {
+            self.climb();
+        }
+        self.boundary_below
+    }
+}
+
+/// Replaces ascending nodes of a layer by their parents, each once, ascending. A parent has `step` children.
+fn replace_by_parents(covered: &mut Vec<usize>, step: usize) {
+    if covered.is_empty() {
+        return;
+    }
+    let nodes = covered.as_mut_slice();
+    let mut last = parent_of(nodes[0], step);
+    nodes[0] = last;
+    let mut kept = 0;
+    for place in 1..nodes.len() {
+        let node = parent_of(nodes[place], step);
+        // Added without a branch: where a new parent begins can't be predicted.
+        kept += usize::from(node != last);
+        nodes[kept] = node;
+        last = node;
+    }
+    covered.truncate(kept + 1);
+}

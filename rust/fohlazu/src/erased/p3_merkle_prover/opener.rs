@@ -1,0 +1,118 @@
+// Made from crates/p3_merkle_prover/src/opener.rt by tools/erase.
+
+//! What is read from a tree: its cap, and for one leaf a row of each matrix and the siblings on the leaf's path. Layer
+//! 0 is the leaves. Level `l` leads to layer `l + 1`; its step is how many children a node of that layer has.
+
+use crate::erased::p3_merkle_core::error::MerkleTreeError;
+use crate::erased::p3_merkle_core::geometry::{bits_reduced_of, parent_of, position_of};
+use crate::erased::p3_merkle_core::pruning::extend_except;
+use crate::erased::p3_merkle_core::steps::Steps;
+use crate::erased::p3_merkle_prover::tree::{MerkleTree, Tree};
+use crate::erased::p3_support::matrix::Matrix;
+use crate::erased::p3_support::opening::MerkleCap;
+use crate::fallible::{AllocError, VecExt};
+use alloc::vec::Vec;
+
+/// The steps of a tree, from the leaves to the root, which it stores.
+pub(crate) fn tree_steps<F, X, G, M: Matrix<F>, const N: usize>(tree: &Tree<F, X, G, M, N>) -> Steps<'_> {
+    tree.steps.steps()
+}
+
+/// The height of the tallest matrix of a tree, in rows. It is the number of leaves, without padding.
+pub(crate) fn max_height<F, X, G, M: Matrix<F>, const N: usize>(tree: &Tree<F, X, G, M, N>) -> usize {
+    tree.steps.max_height
+}
+
+/// The cap that is layer `layer` of a tree, padding included. `layer` must be at most the number of levels.
+///
+/// # Errors
+///
+/// `AllocError` if memory runs out.
+pub(crate) fn cap_at<F, W: Copy, M: Matrix<F>, const N: usize, const D: usize>(
+    tree: &MerkleTree<F, W, M, N, D>,
+    layer: usize,
+) -> Result<MerkleCap<F, [W; D]>, AllocError> {
+    Ok(MerkleCap::new(Vec::try_from_slice(&tree.layers[layer])?))
+}
+
+/// The row of each matrix that belongs to leaf `index`, in input order: row `index >> k` of a matrix whose height is
+/// the tallest one halved and rounded up `k` times. The index must be below [`max_height`].
+///
+/// # Errors
+///
+/// Only `OutOfMemory`.
+pub(crate) fn rows_of_index<F: Copy, X, G, M: Matrix<F>, const N: usize>(
+    tree: &Tree<F, X, G, M, N>,
+    index: usize,
+) -> Result<Vec<Vec<F>>, MerkleTreeError> {
+    let max_height = max_height(tree);
+    let mut rows = Vec::with_room(tree.matrices.len())?;
+    for matrix in &tree.matrices {
+        let row = index >> bits_reduced_of(max_height, matrix.height());
+        rows.push_reserved(words_of_row(matrix, row)?);
+    }
+    Ok(rows)
+}
+
+/// The matrices of a tree, in input order.
+///
+/// # Errors
+///
+/// Only `OutOfMemory`.
+pub(crate) fn matrix_refs<'a, F, X, G, M: Matrix<F>, const N: usize>(
+    tree: &'a Tree<F, X, G, M, N>,
+) -> Result<Vec<&'a M>, MerkleTreeError> {
+    let mut matrices = Vec::with_room(tree.matrices.len())?;
+    for matrix in &tree.matrices {
+        matrices.try_push(matrix)?;
+    }
+    Ok(matrices)
+}
+
+/// The siblings on the path of leaf `index` up to layer `layer`, level by level from the leaves up: the other children
+/// of the parent of the path's node, ascending. `steps` must be those of the tree, the index below [`max_height`], and
+/// the layer at most the number of levels.
+///
+/// # Errors
+///
+/// Only `OutOfMemory`.
+pub(crate) fn siblings_of_index<F, X: Copy, G, M: Matrix<F>, const N: usize>(
+    tree: &Tree<F, X, G, M, N>,
+    steps: &Steps<'_>,
+    index: usize,
+    layer: usize,
+) -> Result<Vec<X>, MerkleTreeError> {
+    let mut siblings = Vec::with_room(steps.siblings_below(layer))?;
+    let mut node = index;
+    for level in 0..layer {
+        let step = steps.step(level);
+        let position = position_of(node, step);
+        let first = node - position;
+        let group = &tree.layers[level][first..first + step];
+        extend_except(&mut siblings, group, position)?;
+        node = parent_of(node, step);
+    }
+    Ok(siblings)
+}
+
+/// The words of row `row` of a matrix. The row must be below the height.
+// Inlined: for a row of few words the call takes as long as the copy.
+#[inline(always)]
+fn words_of_row<F: Copy, M: Matrix<F>>(matrix: &M, row: usize) -> Result<Vec<F>, AllocError> {
+    let width = matrix.width();
+    let piece = matrix.piece(row, 0);
+    if piece.len() < width {
+        let mut words = Vec::with_room(width)?;
+        matrix.append_row(row, &mut words)?;
+        return Ok(words);
+    }
+    // For so few words a loop takes less time than a call that copies a slice.
+    if width > 4 {
+        return Vec::try_from_slice(&piece[..width]);
+    }
+    let mut words = Vec::with_room(width)?;
+    for column in 0..width {
+        words.push_reserved(matrix.get(row, column));
+    }
+    Ok(words)
+}

@@ -1,0 +1,92 @@
+// Made from crates/p3_merkle_tree/src/scheme_trait.rt by tools/erase.
+
+//! The trait `Mmcs` for the salted scheme, so that callers can be generic in the scheme.
+
+use crate::erased::p3_merkle_core::error::MerkleTreeError;
+use crate::erased::p3_merkle_tree::hiding_mmcs::{MerkleTreeHidingMmcs, SaltedMultiProof, SaltedProof, SaltedTree};
+use crate::erased::p3_support::compress::PseudoCompressionFunction;
+use crate::erased::p3_support::hasher::CryptographicHasher;
+use crate::erased::p3_support::matrix::{Dimensions, Matrix};
+use crate::erased::p3_support::mmcs::Mmcs;
+use crate::erased::p3_support::opening::{BatchOpening, BatchOpeningRef, MerkleCap};
+use crate::erased::p3_support::packed::PackedValue;
+use crate::erased::p3_support::salts::SaltWord;
+use alloc::vec::Vec;
+use rand_core::CryptoRng;
+
+/// The salted scheme as an `Mmcs`. The commitment is the cap of a tree over matrices beside their salts. A commitment
+/// changes the scheme in its generator alone. Each call is the scheme's own call of its name, with the same errors:
+/// `self.open_batch` means the method of the type, which comes before the trait's.
+impl<
+    P: PackedValue,
+    PW: PackedValue,
+    H: CryptographicHasher<P, PW, D>,
+    C: PseudoCompressionFunction<PW, N, D>,
+    R: CryptoRng,
+    M: Matrix<P::Value>,
+    const N: usize,
+    const D: usize,
+    const SALT_ELEMS: usize,
+> Mmcs<P::Value, M> for MerkleTreeHidingMmcs<P, PW, H, C, R, N, D, SALT_ELEMS>
+where
+    P::Value: SaltWord,
+{
+    type ProverData = SaltedTree<P::Value, PW::Value, M, N, D>;
+
+    type Commitment = MerkleCap<P::Value, [PW::Value; D]>;
+
+    type Proof = SaltedProof<P::Value, PW::Value, D>;
+
+    type MultiProof = SaltedMultiProof<P::Value, PW::Value, D>;
+
+    type Error = MerkleTreeError;
+
+    fn commit(&mut self, matrices: Vec<M>) -> Result<(Self::Commitment, Self::ProverData), Self::Error> {
+        Self::commit(self, matrices)
+    }
+
+    fn open_batch(
+        &self,
+        index: usize,
+        prover_data: &Self::ProverData,
+    ) -> Result<BatchOpening<P::Value, Self::Proof>, Self::Error> {
+        self.open_batch(index, prover_data)
+    }
+
+    fn get_matrices<'a>(&self, prover_data: &'a Self::ProverData) -> Result<Vec<&'a M>, Self::Error> {
+        self.get_matrices(prover_data)
+    }
+
+    fn get_max_height(&self, prover_data: &Self::ProverData) -> usize {
+        self.get_max_height(prover_data)
+    }
+
+    fn verify_batch(
+        &self,
+        commitment: &Self::Commitment,
+        dimensions: &[Dimensions],
+        index: usize,
+        opening: BatchOpeningRef<'_, P::Value, Self::Proof>,
+    ) -> Result<(), Self::Error> {
+        self.verify_batch(commitment, dimensions, index, opening)
+    }
+
+    fn open_multi_batch(
+        &self,
+        indices: &[usize],
+        prover_data: &Self::ProverData,
+    ) -> Result<(Vec<Vec<Vec<P::Value>>>, Self::MultiProof), Self::Error> {
+        self.open_multi_batch(indices, prover_data)
+    }
+
+    fn verify_multi_batch(
+        &self,
+        commit: &Self::Commitment,
+        dimensions: &[Dimensions],
+        indices: &[usize],
+        rows: &[Vec<Vec<P::Value>>],
+        proof: &Self::MultiProof,
+    ) -> Result<(), Self::Error> {
+        self.verify_multi_batch(commit, dimensions, indices, rows, proof)
+    }
+}

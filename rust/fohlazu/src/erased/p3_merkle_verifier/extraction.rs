@@ -1,0 +1,235 @@
+// Made from crates/p3_merkle_verifier/src/extraction.rt by tools/erase.
+
+//! Two openings of one cap: whether their checks agree, and extraction of a collision. Both checks are walked side by
+//! side, to the last place that they share and at which their inputs differ.
+//!
+//! A check has an input of the hash at the leaf, the words of its rows. On each level it has the digests of a group, a
+//! node and its siblings; and where matrices belong to the layer above, the words of their rows, and a pair of both
+//! digests. Two checks share the leaf or a level if they reach one node there.
+
+use crate::erased::p3_merkle_core::collision::{Collision, InputPair, Place};
+use crate::erased::p3_merkle_core::error::MerkleTreeError;
+use crate::erased::p3_merkle_core::steps::Steps;
+use crate::erased::p3_merkle_verifier::checker::Checker;
+use crate::erased::p3_merkle_verifier::openings::{OpenedRows, OpeningRef};
+use crate::erased::p3_merkle_verifier::path::ComputedLevel;
+use crate::erased::p3_support::compress::PseudoCompressionFunction;
+use crate::erased::p3_support::hasher::CryptographicHasher;
+use crate::erased::p3_support::matrix::Dimensions;
+use crate::erased::p3_support::packed::PackedValue;
+use crate::fallible::{AllocError, VecExt};
+use alloc::vec::Vec;
+
+/// The rows of two openings, to be compared at the matrices of one exponent.
+struct RowPair<'a, T> {
+    /// The dimensions of all matrices.
+    pub dimensions: &'a [Dimensions],
+    /// The exponent of those whose rows are compared.
+    pub exponent: usize,
+    /// The rows of all matrices in the first opening.
+    pub first: &'a [Vec<T>],
+    /// The rows of all matrices in the second opening.
+    pub second: &'a [Vec<T>],
+}
+
+impl<'a, T: Eq> RowPair<'a, T> {
+    /// Whether both openings have the same rows of the matrices of the exponent. Nothing is copied.
+    fn agree(&self) -> bool {
+        let first = OpenedRows { dimensions: self.dimensions, rows: self.first, exponent: self.exponent };
+        first.eq(OpenedRows { dimensions: self.dimensions, rows: self.second, exponent: self.exponent })
+    }
+}
+
+/// The digests `first` and `second` that two checks compress at `place`, if they differ.
+fn differing_digests<T, W: Copy + Eq, const D: usize>(
+    place: Place,
+    first: &[[W; D]],
+    second: &[[W; D]],
+) -> Result<Option<InputPair<T, [W; D]>>, AllocError> {
+    if first == second {
+        return Ok(None);
+    }
+    Ok(Some(InputPair::Digests { place, first: Vec::try_from_slice(first)?, second: Vec::try_from_slice(second)? }))
+}
+
+/// The words of the rows of the matrices of one exponent, one after another. `rows` has a row for each of `dimensions`.
+fn opened_words<T: Copy>(dimensions: &[Dimensions], rows: &[Vec<T>], exponent: usize) -> Result<Vec<T>, AllocError> {
+    let opened = OpenedRows { dimensions, rows, exponent };
+    let mut words = Vec::new();
+    for row in opened {
+        words.try_extend_from_slice(row)?;
+    }
+    Ok(words)
+}
+
+/// The words of rows that two checks hash at `place`, if they differ.
+fn differing_words<T: Copy + Eq, W, const D: usize>(
+    place: Place,
+    rows: &RowPair<'_, T>,
+) -> Result<Option<InputPair<T, [W; D]>>, AllocError> {
+    let first = opened_words(rows.dimensions, rows.first, rows.exponent)?;
+    let second = opened_words(rows.dimensions, rows.second, rows.exponent)?;
+    if first == second {
+        return Ok(None);
+    }
+    Ok(Some(InputPair::Words { place, first, second }))
+}
+
+/// The words that two checks hash at the leaf, if both openings are of one leaf and the words differ.
+fn leaf_difference<T: Copy + Eq, W: Copy + Eq, const D: usize>(
+    steps: &Steps<'_>,
+    first: OpeningRef<'_, T, [W; D]>,
+    second: OpeningRef<'_, T, [W; D]>,
+) -> Result<Option<InputPair<T, [W; D]>>, AllocError> {
+    if first.index != second.index {
+        return Ok(None);
+    }
+    let rows =
+        RowPair { dimensions: steps.dimensions, exponent: steps.exponent, first: first.rows, second: second.rows };
+    differing_words(Place::Leaf, &rows)
+}
+
+/// The inputs of two checks at the last place of a level above its group where these differ: the pair, which is
+/// compressed last, else the words of the rows. `None` if both are the same, or if no matrix belongs to the layer above
+/// the level. `first` and `second` are that level of each check, and must reach one node; `rows` are the rows of both
+/// openings at the layer above.
+fn difference_above_group<T: Copy + Eq, W: Copy + Eq, const N: usize, const D: usize>(
+    rows: &RowPair<'_, T>,
+    first: &ComputedLevel<[W; D], [[W; D]; N]>,
+    second: &ComputedLevel<[W; D], [[W; D]; N]>,
+) -> Result<Option<InputPair<T, [W; D]>>, AllocError> {
+    let (Some(first_pair), Some(second_pair)) = (&first.pair, &second.pair) else {
+        return Ok(None);
+    };
+    match differing_digests(Place::Pair(first.level), first_pair, second_pair)? {
+        Some(pair) => Ok(Some(pair)),
+        None => differing_words(Place::Rows(first.level), rows),
+    }
+}
+
+/// The inputs of two checks at the last place of a level where these differ: the pair, else the words of the rows, else
+/// the group. `None` if the inputs of the level are the same, or if the checks do not share the node above it. `first`
+/// and `second` are that level of each check; `rows` are the rows of both openings at the layer above it.
+fn level_difference<T: Copy + Eq, W: Copy + Eq, const N: usize, const D: usize>(
+    rows: &RowPair<'_, T>,
+    first: &ComputedLevel<[W; D], [[W; D]; N]>,
+    second: &ComputedLevel<[W; D], [[W; D]; N]>,
+) -> Result<Option<InputPair<T, [W; D]>>, AllocError> {
+    if first.above.node != second.above.node {
+        return Ok(None);
+    }
+    match difference_above_group(rows, first, second)? {
+        Some(above) => Ok(Some(above)),
+        None => differing_digests(Place::Group(first.level), &first.group, &second.group),
+    }
+}
+
+/// Whether two checks have the same inputs on a level, or do not share the node above it. `first` and `second` are that
+/// level of each check, and `rows` the rows of both openings of the matrices of the layer above. Both pairs are
+/// computed from the groups and these rows, so they are not compared.
+fn levels_agree<T: Eq, W: Copy + Eq, const N: usize, const D: usize>(
+    rows: &RowPair<'_, T>,
+    first: &ComputedLevel<[W; D], [[W; D]; N]>,
+    second: &ComputedLevel<[W; D], [[W; D]; N]>,
+) -> bool {
+    if first.above.node != second.above.node {
+        return true;
+    }
+    first.group == second.group && (first.pair.is_none() || rows.agree())
+}
+
+impl<
+    'a,
+    P: PackedValue,
+    PW: PackedValue,
+    H: CryptographicHasher<P, PW, D>,
+    C: PseudoCompressionFunction<PW, N, D>,
+    const N: usize,
+    const D: usize,
+> Checker<'a, P, PW, H, C, [[PW::Value; D]; N], N, D>
+{
+    /// True only if the checks of two openings have the same inputs at every place that both share. Both openings must
+    /// have their siblings up to the cap. Nothing is allocated.
+    pub(crate) fn agree(
+        &self,
+        first: OpeningRef<'_, P::Value, [PW::Value; D]>,
+        second: OpeningRef<'_, P::Value, [PW::Value; D]>,
+    ) -> bool {
+        let leaves = RowPair {
+            dimensions: self.steps.dimensions,
+            exponent: self.steps.exponent,
+            first: first.rows,
+            second: second.rows,
+        };
+        if first.index == second.index && !leaves.agree() {
+            return false;
+        }
+        let mut first_progress = self.start(first);
+        let mut second_progress = self.start(second);
+        for level in 0..self.cap_layer {
+            let mine = self.compute_level(level, first, &first_progress);
+            let theirs = self.compute_level(level, second, &second_progress);
+            let rows = RowPair {
+                dimensions: self.steps.dimensions,
+                exponent: mine.above.exponent,
+                first: first.rows,
+                second: second.rows,
+            };
+            if !levels_agree(&rows, &mine, &theirs) {
+                return false;
+            }
+            first_progress = mine.above;
+            second_progress = theirs.above;
+        }
+        true
+    }
+
+    /// The inputs at the last place that the checks of two openings share and at which they differ.
+    /// The last place that the checks of two openings share and at which they differ, with both inputs. `None` if they
+    /// agree. Both openings must have their siblings up to the cap. It allocates at shared places alone: the rows
+    /// there, and the inputs that differ.
+    pub(crate) fn last_difference(
+        &self,
+        first: OpeningRef<'_, P::Value, [PW::Value; D]>,
+        second: OpeningRef<'_, P::Value, [PW::Value; D]>,
+    ) -> Result<Option<Collision<P::Value, PW::Value, D>>, AllocError> {
+        let mut first_progress = self.start(first);
+        let mut second_progress = self.start(second);
+        let mut last = leaf_difference(&self.steps, first, second)?;
+        for level in 0..self.cap_layer {
+            let mine = self.compute_level(level, first, &first_progress);
+            let theirs = self.compute_level(level, second, &second_progress);
+            let rows = RowPair {
+                dimensions: self.steps.dimensions,
+                exponent: mine.above.exponent,
+                first: first.rows,
+                second: second.rows,
+            };
+            let found = level_difference(&rows, &mine, &theirs)?;
+            last = found.or(last);
+            first_progress = mine.above;
+            second_progress = theirs.above;
+        }
+        Ok(last)
+    }
+
+    /// Extracts a collision from two openings under the roots of a cap: the inputs at the last place that both checks
+    /// share and at which they differ, or `None` if the checks agree.
+    ///
+    /// # Errors
+    ///
+    /// The first of these that applies, where `OutOfMemory` may come at any time:
+    ///
+    /// - the error of [`check_opening`](Self::check_opening) for the first opening;
+    /// - that for the second opening.
+    pub(crate) fn extraction(
+        &self,
+        roots: &[[PW::Value; D]],
+        first: OpeningRef<'_, P::Value, [PW::Value; D]>,
+        second: OpeningRef<'_, P::Value, [PW::Value; D]>,
+    ) -> Result<Option<Collision<P::Value, PW::Value, D>>, MerkleTreeError> {
+        self.check_opening(roots, first)?;
+        self.check_opening(roots, second)?;
+        Ok(self.last_difference(first, second)?)
+    }
+}

@@ -1,0 +1,163 @@
+// Made from crates/p3_merkle_verifier/src/path.rt by tools/erase.
+
+//! The check of one opening: its form, then the digests on its path, then the cap's entry. It does not allocate.
+//!
+//! Layer 0 is the leaves; level `l` leads from layer `l` to layer `l + 1`, and its step is how many children a node
+//! above it has. A matrix belongs to the layer whose exponent is log2 of its height, rounded up.
+
+use crate::erased::p3_merkle_core::error::MerkleTreeError;
+use crate::erased::p3_merkle_core::geometry::{check_widths, parent_of, position_of};
+use crate::erased::p3_merkle_core::group::{group_with, pair_group};
+use crate::erased::p3_merkle_core::steps::{StepUp, Steps, check_heights};
+use crate::erased::p3_merkle_verifier::checker::Checker;
+use crate::erased::p3_merkle_verifier::openings::{OpenedRows, OpeningRef};
+use crate::erased::p3_support::compress::PseudoCompressionFunction;
+use crate::erased::p3_support::hasher::CryptographicHasher;
+use crate::erased::p3_support::packed::PackedValue;
+use alloc::vec::Vec;
+
+/// The node that the check of an opening has reached on the path from the leaf, with its digest.
+pub(crate) struct Progress<X> {
+    /// The exponent of the node's layer.
+    pub exponent: usize,
+    /// The node.
+    pub node: usize,
+    /// The number of siblings that are used so far.
+    pub used: usize,
+    /// The digest that the check computed for the node.
+    pub digest: X,
+}
+
+impl<W: Copy, const D: usize> Progress<[W; D]> {
+    /// The group that is compressed to this node's parent: the node's siblings with its own digest at its position,
+    /// then default digests. `step` is how many children the parent has, and `siblings` are those of the whole path.
+    fn group<const N: usize>(&self, default_digest: [W; D], step: usize, siblings: &[[W; D]]) -> [[W; D]; N] {
+        let end = self.used + (step - 1);
+        let others = &siblings[self.used..end];
+        let position = position_of(self.node, step);
+        group_with::<W, N, D>(default_digest, self.digest, position, others)
+    }
+}
+
+/// One level of the check of an opening: what it compresses, and the node that it reaches.
+pub(crate) struct ComputedLevel<X, G> {
+    /// The level, counted from the leaves.
+    pub level: usize,
+    /// The siblings with the node's digest at its position, then default digests.
+    pub group: G,
+    /// The digests of the group and of the rows, if matrices belong to the layer above.
+    pub pair: Option<G>,
+    /// The node above the level.
+    pub above: Progress<X>,
+}
+
+/// Checks the form of an opening of the leaf `index`, before anything is hashed: one row for each matrix, of its width;
+/// heights that a tree can have; as many siblings as the levels below the cap need; and an index below the tallest
+/// height. The errors are those of [`check_opening`](Checker::check_opening) without `CapMismatch`.
+///
+/// The arity must be a power of two from 2 to 2^62, and `cap_layer` at most the number of levels.
+fn check_form<T>(
+    steps: &Steps<'_>,
+    cap_layer: usize,
+    index: usize,
+    rows: &[Vec<T>],
+    num_siblings: usize,
+) -> Result<(), MerkleTreeError> {
+    let dimensions = steps.dimensions;
+    // The number of rows is checked ahead of the heights, and their widths after the siblings.
+    if rows.len() != dimensions.len() {
+        return Err(MerkleTreeError::WrongBatchSize { expected: dimensions.len(), got: rows.len() });
+    }
+    check_heights(steps.dimensions)?;
+    let expected_proof_len = steps.siblings_below(cap_layer);
+    if num_siblings != expected_proof_len {
+        return Err(MerkleTreeError::WrongHeight { expected_proof_len, num_siblings });
+    }
+    check_widths(dimensions, rows)?;
+    let max_height = steps.max_height;
+    if index >= max_height {
+        return Err(MerkleTreeError::IndexOutOfBounds { max_height, index });
+    }
+    Ok(())
+}
+
+impl<
+    'a,
+    P: PackedValue,
+    PW: PackedValue,
+    H: CryptographicHasher<P, PW, D>,
+    C: PseudoCompressionFunction<PW, N, D>,
+    const N: usize,
+    const D: usize,
+> Checker<'a, P, PW, H, C, [[PW::Value; D]; N], N, D>
+{
+    /// The digest of the rows of the matrices of one exponent, as one message. `rows` has a row of each matrix.
+    fn row_digest(&self, rows: &[Vec<P::Value>], exponent: usize) -> [PW::Value; D] {
+        self.hash.hash_iter_slices(OpenedRows { dimensions: self.steps.dimensions, rows, exponent })
+    }
+
+    /// The start of the check of an opening: the leaf, with the digest of its rows.
+    pub(crate) fn start(&self, opening: OpeningRef<'_, P::Value, [PW::Value; D]>) -> Progress<[PW::Value; D]> {
+        let exponent = self.steps.exponent;
+        Progress { exponent, node: opening.index, used: 0, digest: self.row_digest(opening.rows, exponent) }
+    }
+
+    /// Computes level `level` of the check of an opening, from the node that it has reached to its parent.
+    // A call that is not inlined writes the whole level to memory, and a verification needs only `above`.
+    #[inline(always)]
+    pub(crate) fn compute_level(
+        &self,
+        level: usize,
+        opening: OpeningRef<'_, P::Value, [PW::Value; D]>,
+        progress: &Progress<[PW::Value; D]>,
+    ) -> ComputedLevel<[PW::Value; D], [[PW::Value; D]; N]> {
+        let StepUp { step, has_rows, exponent } = self.steps.step_up(N, level, progress.exponent);
+        let siblings = opening.siblings;
+        let default_digest = [PW::Value::default(); D];
+        let group = progress.group::<N>(default_digest, step, siblings);
+        let mut above = Progress {
+            exponent,
+            node: parent_of(progress.node, step),
+            used: progress.used + (step - 1),
+            digest: self.compress.compress(group),
+        };
+        if !has_rows {
+            return ComputedLevel { level, group, pair: None, above };
+        }
+        let rows = self.row_digest(opening.rows, exponent);
+        let pair = pair_group::<PW::Value, N, D>(default_digest, above.digest, rows);
+        above.digest = self.compress.compress(pair);
+        ComputedLevel { level, group, pair: Some(pair), above }
+    }
+
+    /// Checks an opening against the roots of a cap: its form, and that its path leads to the root above the leaf.
+    ///
+    /// # Errors
+    ///
+    /// The first of these that applies:
+    ///
+    /// - `WrongBatchSize`: the number of rows is not that of the dimensions;
+    /// - `EmptyBatch`, `TooLarge` or `IncompatibleHeights`: no tree can be built over such heights;
+    /// - `WrongHeight`: the number of siblings is not what the levels below the cap need;
+    /// - `WrongWidth`, for the first row whose length is not the width of its matrix;
+    /// - `IndexOutOfBounds`: the index is not below the tallest height;
+    /// - `CapMismatch`: there is no root above the leaf, or the path leads to another digest.
+    pub(crate) fn check_opening(
+        &self,
+        roots: &[[PW::Value; D]],
+        opening: OpeningRef<'_, P::Value, [PW::Value; D]>,
+    ) -> Result<(), MerkleTreeError> {
+        let (index, num_siblings) = (opening.index, opening.siblings.len());
+        check_form(&self.steps, self.cap_layer, index, opening.rows, num_siblings)?;
+        let mut progress = self.start(opening);
+        for level in 0..self.cap_layer {
+            progress = self.compute_level(level, opening, &progress).above;
+        }
+        if is_entry(roots, progress.node, &progress.digest) { Ok(()) } else { Err(MerkleTreeError::CapMismatch) }
+    }
+}
+
+/// Whether the roots of a cap have `digest` at the position `node`.
+pub(crate) fn is_entry<X: PartialEq>(roots: &[X], node: usize, digest: &X) -> bool {
+    roots.get(node).is_some_and(|root| *root == *digest)
+}

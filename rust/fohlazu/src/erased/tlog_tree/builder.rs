@@ -1,0 +1,82 @@
+// Made from crates/tlog_tree/src/builder.rt by tools/erase.
+
+//! The tree of a log that is read once, with the values of wanted nodes.
+
+use crate::erased::tlog_tree::error::TreeError;
+use crate::erased::tlog_tree::frontier::{Frontier, root_of_nodes};
+use crate::erased::tlog_tree::wanted::{WantedNode, whole_count};
+use crate::fallible::{AllocError, VecExt, try_vec};
+use alloc::vec::Vec;
+
+/// The tree of a log that is read once, from its first entry on, with the values of the nodes that were wanted when it
+/// began, and nothing else: what proofs of inclusion and of consistency are computed from. A node has a layer, 0 for
+/// the leaf hashes, and a slot in the layer, counted from 0: below it are the 2^layer leaves from slot * 2^layer on.
+#[derive(Debug)]
+pub struct TreeBuilder {
+    frontier: Frontier,
+    /// In the order of their ends, so that a push looks at those alone that end in it.
+    wanted: Vec<WantedNode>,
+}
+
+impl TreeBuilder {
+    /// The tree of no entries, where the nodes of these layers and slots are wanted.
+    ///
+    /// # Errors
+    ///
+    /// `AllocError` if memory runs out.
+    pub fn new(places: &[(usize, usize)]) -> Result<TreeBuilder, AllocError> {
+        let mut wanted = Vec::with_room(places.len())?;
+        for index in 0..places.len() {
+            let (layer, slot) = places[index];
+            wanted.try_push(WantedNode { layer, slot, index, value: [0; 32] })?;
+        }
+        wanted.sort_unstable_by_key(|node| node.end());
+        Ok(TreeBuilder { frontier: Frontier::new(), wanted })
+    }
+
+    /// Appends leaf hashes to those of the log. After an error the builder is gone.
+    ///
+    /// # Errors
+    ///
+    /// - `SizeTooLarge` if there would be more than 2^62;
+    /// - `OutOfMemory` if memory runs out.
+    pub fn push_many(mut self, hashes: &[[u8; 32]]) -> Result<TreeBuilder, TreeError> {
+        self.frontier.push_kept(hashes, &mut self.wanted)?;
+        Ok(self)
+    }
+
+    /// The tree of the log so far.
+    pub fn frontier(&self) -> &Frontier {
+        &self.frontier
+    }
+
+    /// The values of the wanted nodes in the tree so far, in the order in which they were wanted: `None` if a node has
+    /// no leaves. A node that the end of the log cuts off has the value that is passed on, the root of the leaves that
+    /// it has.
+    ///
+    /// # Errors
+    ///
+    /// `AllocError` if memory runs out.
+    pub fn values(&self) -> Result<Vec<Option<[u8; 32]>>, AllocError> {
+        let mut values = try_vec(None, self.wanted.len())?;
+        for node in &self.wanted {
+            // Each index is below the count, which only contracts say.
+            if node.index < values.len() {
+                values[node.index] = self.value(node);
+            }
+        }
+        Ok(values)
+    }
+
+    /// The value of a wanted node.
+    fn value(&self, node: &WantedNode) -> Option<[u8; 32]> {
+        let whole = whole_count(self.frontier.size(), node.layer);
+        if node.slot < whole {
+            return Some(node.value);
+        }
+        if node.slot == whole {
+            return self.frontier.root_behind(whole);
+        }
+        None
+    }
+}

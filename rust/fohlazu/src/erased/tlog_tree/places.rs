@@ -1,0 +1,65 @@
+// Made from crates/tlog_tree/src/places.rt by tools/erase.
+
+//! Which nodes the digests of honest proofs are.
+
+use crate::fallible::{AllocError, VecExt};
+use alloc::vec::Vec;
+
+/// The nodes whose values are the proof of inclusion of entry `index`, counted from 0, in a log of `size` entries, in
+/// the order of the proof (RFC 9162, 2.1.3.1): their layers and slots, as a [`TreeBuilder`](crate::erased::tlog_tree::TreeBuilder) takes
+/// them. The index must be below the size.
+///
+/// # Errors
+///
+/// `AllocError` if memory runs out.
+pub fn inclusion_places(index: usize, size: usize) -> Result<Vec<(usize, usize)>, AllocError> {
+    assert!(index < size, "index_in");
+    let mut places = Vec::new();
+    add_path(&mut places, 0, index, size - 1)?;
+    Ok(places)
+}
+
+/// The nodes whose values are the proof of consistency from `old_size` to `new_size` entries, in the order of the proof
+/// (RFC 9162, 2.1.4.1): their layers and slots in the new tree, as a [`TreeBuilder`](crate::erased::tlog_tree::TreeBuilder) takes them.
+/// The old size must be above 0, and below the new one.
+///
+/// # Errors
+///
+/// `AllocError` if memory runs out.
+pub fn consistency_places(old_size: usize, new_size: usize) -> Result<Vec<(usize, usize)>, AllocError> {
+    assert!(0 < old_size, "some");
+    assert!(old_size < new_size, "grown");
+    let mut layer = 0;
+    let mut old = old_size;
+    let mut last = new_size - 1;
+    // The last old node is whole up to this layer.
+    while old % 2 == 0 {
+        old /= 2;
+        last /= 2;
+        layer += 1;
+    }
+    let mut places = Vec::new();
+    // If the old size is a power of two, the verifier has the node's value: it is the old root.
+    if old > 1 {
+        places.try_push((layer, old - 1))?;
+    }
+    add_path(&mut places, layer, old - 1, last)?;
+    Ok(places)
+}
+
+/// Adds the siblings on the way up from a node of a layer, whose last node is `last`.
+fn add_path(places: &mut Vec<(usize, usize)>, layer: usize, node: usize, last: usize) -> Result<(), AllocError> {
+    let mut layer = layer;
+    let mut node = node;
+    let mut last = last;
+    while last > 0 {
+        let sibling = if node % 2 == 0 { node + 1 } else { node - 1 };
+        if sibling <= last {
+            places.try_push((layer, sibling))?;
+        }
+        node /= 2;
+        last /= 2;
+        layer += 1;
+    }
+    Ok(())
+}
