@@ -6,6 +6,10 @@
 
 extern crate alloc;
 
+// The proof is of code whose `usize` has 64 bits.
+#[cfg(not(target_pointer_width = "64"))]
+compile_error!("fohlazu needs a target whose usize has 64 bits");
+
 mod fallible;
 #[cfg(feature = "sha2")]
 mod sha256;
