@@ -46,7 +46,8 @@ class Function(NamedTuple):
 @cache
 def function(path, name):
     lines = source(path).split("\n")
-    starts = [number for number, line in enumerate(lines) if re.match(rf'\s*(pub )?(extern "C" )?fn {name}\b', line)]
+    start = re.compile(rf'\s*(pub )?(final )?(extern "C" )?fn {name}\b')
+    starts = [number for number, line in enumerate(lines) if start.match(line)]
     if not starts:
         fail(f"{path} has no function {name}")
     above, docstring = starts[0] - 1, []
@@ -54,7 +55,9 @@ def function(path, name):
         docstring.insert(0, lines[above].strip())
         above -= 1
     said = "\n".join(line[4:] for line in docstring if line.startswith("///"))
-    return Function(said, "\n".join(lines[starts[0] :]).partition("\n{")[0].partition("    {\n")[0])
+    # A head ends ahead of its body, or at a semicolon in a trait.
+    head = re.split(r"\n\{|    \{\n|;\n", "\n".join(lines[starts[0] :]), maxsplit=1)[0]
+    return Function(said, head)
 
 
 def has_condition(path, name):
