@@ -43,19 +43,20 @@ use std::io::{ErrorKind, Read, Write};
 /// `commit` writes the cap of the matrices' tree, a line for each digest in hexadecimal. `open` writes for each index a
 /// line `index I` and the rows that belong to it, a line for each matrix, and then `digests K` and the `K` digests of
 /// one pruned proof for all of them. `check` opens the same, verifies it, and writes `ok K` for the `K` digests of the
-/// proof. The streams are borrowed, so that the contract can say what is left of the input and what the output holds.
+/// proof. After `Ok` the output has what it had, followed by exactly this text. The streams are borrowed, so that the
+/// contract can say what is left of the input and what the output holds.
 ///
 /// # Errors
 ///
-/// The first of these that applies, where `Tree(OutOfMemory)` may come at any time:
+/// The first of these that applies. `Tree(OutOfMemory)` may come in place of any result but `Usage`:
 ///
-/// - `Usage`: the arguments are no command. Nothing was read.
+/// - `Usage`: the arguments are no command. It comes exactly then, and nothing was read.
 /// - `Read`: a read failed.
 /// - `Number` or `Count`, for the first faulty line: a part of it is no number that the hash takes, or else it has
 ///   another count of numbers than the first row of its matrix.
 /// - `Tree`: why the tree refuses the heights; else `IndexOutOfBounds` for the highest index, where it is not below the
 ///   tallest height.
-/// - `Write`: a write failed. No other error leaves anything written.
+/// - `Write`: a write failed, where all else has succeeded. No other error leaves anything written.
 pub fn run<Src: Read, Dst: Write>(
     alloc: Global,
     args: &[String],
@@ -72,7 +73,8 @@ pub fn run<Src: Read, Dst: Write>(
     Ok(())
 }
 
-/// The text that `run` writes.
+/// The text that `run` writes, or the error that it returns, which is not `Write`. It is `Usage` exactly if the arguments
+/// are no command, and then nothing is read.
 fn answer_to<Src: Read>(alloc: Global, args: &[String], input: &mut Src) -> Result<String, Fault>
     ensures usage { (result ≡ Err Fault.Usage) ↔ AreNoCommand (texts_of args.now) }
     ensures unread { result ≡ Err Fault.Usage → input.new ≡ input.old }
