@@ -72,7 +72,7 @@ class Batch:
         return self.given or [numbered_rows(width, height) for width, height in self.sizes]
 
     def tree(self, scheme, generator=None, queries=()):
-        """The tree over them, out of which these leaves are to be opened."""
+        """The tree over them, which is to open these leaves."""
         refuse(height_errors(self.heights), width_errors(self.sizes, scheme.salts), index_errors(self.heights, queries))
         return scheme.tree(self.matrices(), generator)
 
@@ -91,7 +91,7 @@ def refuse(*errors):
 
 
 def lawful(scheme, heights, queries=()):
-    """The shape of a tree of these heights, of which these leaves are asked for."""
+    """The shape of a tree of these heights that is asked for these leaves."""
     refuse(height_errors(heights), index_errors(heights, queries))
     return scheme.shape(heights)
 

@@ -47,7 +47,7 @@ def claims(program):
 
 
 def known_trees(program):
-    """Checkpoints of up to 2^62 entries of which some are proved."""
+    """Checkpoints of up to 2^62 entries, some of which are proved."""
     source = random.Random(1)
     for _ in range(40):
         checkpoint, proof, numbers = random_files.known(source)

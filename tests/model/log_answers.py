@@ -155,7 +155,7 @@ def file(cut, limit, nodes, wanted, reads, data):
 
 
 def text(said):
-    """What a text is answered, of which `said` says what it has and how it is printed."""
+    """What a text is answered. `said` gives what the text has, and how that is printed."""
 
     def answer(text):
         try:

@@ -23,7 +23,7 @@ COMMANDS = {words.split()[0]: words.split() for words in (
 # Arguments that are no command, or leave open what is wanted; the model refuses them as well.
 WRONG = (Path(__file__).parent / "no-commands.txt").read_text().splitlines()
 UNWRITTEN = "standard output: "
-# Bytes of a file that changes while it is read, and of one of which no more than its beginning is to be read.
+# Bytes of a file that changes while it is read, and of a file whose beginning alone is to be read.
 CHANGING, LONG = 300_000, 100_000_000
 
 

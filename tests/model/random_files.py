@@ -13,7 +13,7 @@ CUTS = [[], [], [], ["--partial"], ["--whole-lines"]]
 LENGTHS = [0, 0, 1, 2, 5, 54, 55, 56, 63, 64, 118, 119, 120, 300]
 ORIGINS = ["journal.example", "a", "localhost/log of today", "caf\u00e9", "x" * 100]
 SIGNATURES = ["\u2014 journal.example bm90IGNoZWNrZWQ=\n".encode(), "\u2014 w\u00e9 MTIzNDU2Nzg5\n".encode()]
-# Bytes of a text of which not each is damaged, and how many are then.
+# How long a text is so that only some of its bytes are damaged, and how many these are.
 LONG, SAMPLE = 700, 40
 # Words for numbers, most of which are refused: ranges that go down, begin with 0, have no end, pass the last entry, the
 # greatest number or the most that are taken; and what is no number.
@@ -169,7 +169,7 @@ def proves(source, limit, few):
 
 
 def known(source):
-    """A checkpoint of up to 2^62 entries of which some are known, and a proof of these."""
+    """A checkpoint of up to 2^62 entries, some of which are known, and a proof of these."""
     size = source.choice([source.randint(1, 40), source.randint(1, logs.MOST), logs.MOST, logs.MOST - 1])
     found = {name: source.choice([b"", b"a", b"entry %d" % name, b"a\nb"]) for name in numbers_of(source, size)}
     numbers = [source.choice([*found]) for _ in range(source.randint(0, 2))] + [*found]

@@ -54,7 +54,7 @@ module _ {T W : Type 0} (row_eq : T → T → Bool) (digest_eq : W → W → Boo
   collision_alone None is = tt
   collision_alone (Some pair) is = is.collision.collision
 
-  -- the same of several queries, of which it is the first
+  -- the same of several queries: it is the first collision among them
   pub collision_pair : (found : Option (ℕ × ℕ × InputPair T (List W))) →
       IsExtraction row_eq digest_eq rule c first second (found_pair (Ok found)) →
       IfSome found (λ (i, j, pair). IsFirstCollision c first second (i, j, inputs_in pair))

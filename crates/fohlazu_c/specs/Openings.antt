@@ -1,4 +1,4 @@
--- What the call about openings is told, and what it returns.
+-- What the call about openings takes, and what it returns.
 use Rattle.std.specs.Prelude.{ℕ, ℤ, pos, ◌==◌, ◌||◌, Bool, if◌then◌else◌, List, [], ◌∷◌, take, drop, replicate, nat_lt}
 use Rattle.std.specs.Prelude.{nat_eq, Option, None, Some}
 use Rattle.std.specs.Option.{option_map}

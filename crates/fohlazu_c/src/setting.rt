@@ -1,4 +1,4 @@
-//! What a caller tells of a tree and its matrices.
+//! What a caller says of a tree and its matrices.
 
 ghost use Rattle.std.specs.Prelude.{◌≡◌};
 ghost use Rattle.fohlazu_c.specs.Openings.{rule_shown};

@@ -1,4 +1,4 @@
-//! What clones and copies of trees, schemes and openings hold, and which values `==` tells apart.
+//! What clones and copies of trees, schemes and openings hold, and of which values `==` holds.
 
 use p3_hashes::fold::{FoldCompress, FoldHash};
 use p3_merkle_tree::{

@@ -1,5 +1,5 @@
-//! Trees over exclusive or, whose nodes are told at sight: rows of one byte, which stands in each place of the row's
-//! digest, and nodes that are the exclusive or of their two children.
+//! Trees over exclusive or, whose nodes can be computed in one's head. A row has one byte, which stands in each place
+//! of the row's digest, and a node is the exclusive or of its two children.
 
 ghost use Rattle.std.specs.Prelude.{◌≡◌, ℕ, ◌<◌, ◌∷◌, [], bit_xor, map, replicate, slice_index_or};
 ghost use Rattle.std.specs.Iterator.{IsFinite};

@@ -1,4 +1,4 @@
--- A hash function of eight bits, of which collisions are found.
+-- A hash function of eight bits, whose collisions are easy to find.
 use Rattle.std.specs.Prelude.{◌≡◌, ℕ, ◌+◌, ◌≤◌, List, ◌++◌, length, replicate, take}
 use Rattle.std.proofs.Common.{◌∙◌, ap, length-append, lit≤, subst, sym}
 use Rattle.std.proofs.lemmas.List.{length-take-le}

@@ -1,4 +1,4 @@
-//! A hash function of eight bits, of which collisions are found.
+//! A hash function of eight bits, whose collisions are easy to find.
 ghost use Rattle.std.specs.Prelude.{◌≡◌, ◌≤◌, length, List, ℕ};
 ghost use Rattle.std.proofs.Common.{lit≤};
 ghost use Rattle.log_cases.specs.Weak.{length-weak, weak_hash, weakened as weakened_of};

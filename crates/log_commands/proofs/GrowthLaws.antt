@@ -76,7 +76,7 @@ other_source a b old new none =
     let root_is = unless_none (not (old.size == new.size) || is_same old.root new.root) _ root.0 in
     rw (origin_is, size_is, root_is) refl
 
--- two checkpoints that texts say, the new one of which may follow the old one
+-- two texts say checkpoints, and the new checkpoint may follow the old one
 are_compared : (old new : List ℕ) (o n : CheckpointFields) → compared old new ≡ Ok (o, n) →
     (checkpoint_in old ≡ Ok o) × (checkpoint_in new ≡ Ok n) × (growth_refusal New o n ≡ None)
 are_compared old new o n is =

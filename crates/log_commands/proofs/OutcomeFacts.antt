@@ -46,7 +46,7 @@ use Rattle.log_commands.specs.declared.error.Source.TheVariants.{File}
 use Rattle.log_commands.specs.declared.verify.Print.{Print}
 use Rattle.log_commands.specs.declared.verify.Print.TheVariants.{Blocks, Lines, Raw}
 
--- the bytes of which something holds
+-- what holds of a file holds of bytes that the file is read as
 pub file_known : (known : Option (List ℕ)) (P : List ℕ → Type 0) → HoldsOfFile known P →
     (bytes : List ℕ) × IsReadAs known (Some bytes) × P bytes
 file_known None P holds = (holds.0, tt, holds.1)

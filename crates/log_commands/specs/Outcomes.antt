@@ -66,7 +66,7 @@ said_inside (Err error) = Err (checkpoint_error error)
 
 -- ---- entries of a file
 
--- why a file is refused of which so many entries are read, or all: it has too many, or it ends inside a line
+-- why a file is refused when so many of its entries are read, or all: it has too many, or it ends inside a line
 abbrev pub cut_refusal : Cut → Option ℕ → List ℕ → Option Error
 cut_refusal cut limit bytes =
     first_some (

@@ -175,7 +175,7 @@ len_found : (text : List ℕ) →
     IsFound (len_of text) (λ n. (bytes : List ℕ) × (IsBytes bytes × (text ≡ base64 bytes)) × (length bytes ≡ n))
 len_found text = mapped length (base64_bytes text) (base64_found text)
 
--- a text that begins with four symbols is of more than three bytes, of which they are the first
+-- a text of more than four symbols has three bytes by the first four symbols, then those by the rest
 pub len_of_group : (group rest : List ℕ) → length group ≡ 4 → 0 < length rest →
     len_of (group ++ rest) ≡ with_group (len_of group) (len_of rest)
 len_of_group group rest four more =

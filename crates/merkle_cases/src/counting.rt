@@ -1,4 +1,4 @@
-//! A generator whose words are told at sight.
+//! A generator that counts, so that a test can state its words.
 ghost use Rattle.std.specs.Prelude.{◌≡◌, ℕ, ◌+◌, ◌%◌, ◌^◌};
 ghost use Rattle.rand_core.specs.Steps.{stream_of, steps_u64_low};
 

@@ -101,7 +101,7 @@ module _ {S D V : Type 0} (remaining : S → Option (List ℕ)) (contents : D �
     no_usage : (result : Result (Unit {0}) Fault) → (result ≡ Err Usage → ⊥) → (result ≡ Err Usage) ↔ AreNoCommand args
     no_usage result never = (λ is. absurd (never is), λ none. absurd (let same = sym answer_is ∙ usage.1 none in cc))
 
-    -- what is printed, of which another fact holds
+    -- what is printed has each property that follows from being this text
     printed : (known : Option (List ℕ)) (H : List ℕ → Type 0) → (((t : List ℕ) → text ≡ t → H t)) →
         Prints args known (λ t. text ≡ t) → Prints args known H
     printed None H holds there = tt

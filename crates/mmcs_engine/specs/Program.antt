@@ -110,7 +110,7 @@ IsReported args known Write = Unit {0}
 IsReported args known (Tree e) = (e ≡ OutOfMemory) ⊎ IfSome known (λ input. IsOutcome args input (Err (Tree e)))
 IsReported args known fault = IfSome known (λ input. IsOutcome args input (Err fault))
 
--- the outcome is a text of which a fact holds, where the bytes of the input are known
+-- the outcome is a text, and Holds holds of it, where the bytes of the input are known
 abbrev pub Prints : List (List ℕ) → Option (List ℕ) → (List ℕ → Type 0) → Type 0
 Prints args known Holds = IfSome known (λ input. (text : List ℕ) × IsOutcome args input (Ok text) × Holds text)
 

@@ -8,7 +8,7 @@ use Rattle.std.specs.Prelude.{replicate}
 use Rattle.std.specs.Simd.Lanes.{zip2}
 use Rattle.p3_hashes.specs.Inner.Lanes.{lane}
 
--- a vector of eight lanes, of which lane j holds f j
+-- a vector of eight lanes, where lane j holds f j
 pub record Eight (xs : List ℕ) (f : ℕ → ℕ) : Type 0 where
   pub long : length xs ≡ 8
   pub each : (j : ℕ) → j < 8 → slice_index xs j ≡ f j

@@ -57,7 +57,7 @@ pub trait PackedValue: Copy {
     // There are WIDTH lanes.
     ghost length_lanes: { (p : Self) → length (lanes p) ≡ WIDTH };
 
-    // `==` tells values apart.
+    // `==` is equality of values.
     ghost eq_is_equality: { (a b : Self.Value) → Decides (Self.Value.eq a b) (a ≡ b) };
 
     // Each default is the one value.

@@ -1,5 +1,5 @@
-//! Whether clones and copies are what they were made from, and whether `==` tells values apart. Each answer is false if
-//! memory runs out.
+//! Whether clones and copies are what they were made from, and whether `==` holds of equal values alone. Each answer is
+//! false if memory runs out.
 
 use std::alloc::{AllocError, Global};
 use std::fmt::Debug;

@@ -427,7 +427,7 @@ climb (suc depth) hash leaf m n L d is within enough small = rw is (elim (leb_te
       ]
 ])
 
--- the walk from the last of m entries, of which the old tree is
+-- the walk from the last entry of an old tree of m entries
 from_last : {X : Type 0} (hash : Hash) (leaf : X → List ℕ) (m : ℕ) (L : List X) (d : X) → m < length L →
     length L ≤ 2 ^ 62 →
     consistency_walk hash (path hash leaf m L) m (length L - 1) (leaf (get_or L m d)) (leaf (get_or L m d))

@@ -23,7 +23,7 @@ root_is P hash leaf (x ∷ (y ∷ rest)) hashes leaves =
     subst P (sym (root_more hash leaf L (omega arith)))
     (hashes (1 ∷ (mth hash leaf (take k L) ++ mth hash leaf (drop k L))))
 
--- at most so many digests, of each of which something holds
+-- at most so many digests, and P holds of each
 pub record AreFew (P : List ℕ → Type 0) (most : ℕ) (digests : List (List ℕ)) : Type 0 where
   pub few : length digests ≤ most
   pub each : All P digests

@@ -56,7 +56,7 @@ padded_next size (s ∷ slots) slot proof =
       | inr n ↦ rw n (ap (λ ys. (Absent ∷ []) ∷ ys) (padded_next size slots slot proof))
     ]
 
--- the digests of the first slots, of which so many are the proof's
+-- the digests of the first slots; `used` of them are the proof's
 pub record IsPadded (size : ℕ) (slots : List (ℕ × ℕ)) (proof : List (List ℕ)) (i used : ℕ)
     (digests : List (List Node)) : Type 0 where
   pub counted : used ≡ length (filter (is_node size) (take i slots))

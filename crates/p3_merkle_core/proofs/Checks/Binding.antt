@@ -54,7 +54,7 @@ take_more_of (suc m) n [] = let z : suc m + n ≡ suc (m + n) = omega arith in r
     none (suc n) = refl
 take_more_of (suc m) n (x ∷ xs) = let z : suc m + n ≡ suc (m + n) = omega arith in rw (z, take_more_of m n xs) refl
 
--- rows of the same lengths are told apart by their concatenation
+-- rows of the same lengths are equal if their concatenations are
 rows_told : {T : Type 0} (x : ℕ) (hs : List ℕ) (us vs : List (List T)) → map length us ≡ map length vs →
     flat_map (λ (h, row). row) (filter (λ (h, row). eqb (exponent h) x) (zip hs us))
     ≡ flat_map (λ (h, row). row) (filter (λ (h, row). eqb (exponent h) x) (zip hs vs)) →

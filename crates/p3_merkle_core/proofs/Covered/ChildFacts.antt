@@ -80,7 +80,7 @@ filter_at p (x ∷ xs) (suc i) h t = grind (arith, common_steps, filter_at p xs 
 
 -- ---- the walk
 
--- the values of the first children, of which so many are covered
+-- the values of the first children; `known` of these children are covered
 pub record IsWalked {X : Type 0} (covered js : List ℕ) (digests sent : List X) (place known : ℕ) (values : List X) :
     Type 0 where
   pub count : known ≡ length (filter (is_among covered) (take place js))

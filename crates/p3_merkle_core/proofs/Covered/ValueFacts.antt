@@ -124,7 +124,7 @@ beside_map view p [] xs = refl
 beside_map view p (j ∷ js) [] = refl
 beside_map view p (j ∷ js) (x ∷ xs) = grind (arith, common_steps, beside_map view p js xs)
 
--- values of which those that pass are v's, and the others w's
+-- values that are v's where their places pass, and w's elsewhere
 mixed_is : {Y : Type 0} (p : ℕ → Bool) (v w : ℕ → Y) (js : List ℕ) (ys : List Y) → length ys ≡ length js →
     beside p js ys ≡ map v (filter p js) → beside (λ j. not (p j)) js ys ≡ map w (filter (λ j. not (p j)) js) →
     ys ≡ map (λ j. cond (p j) (v j) (w j)) js

@@ -32,7 +32,7 @@ at_some (Some x ∷ xs) ys e is = is
 
 -- ---- what is known where nothing is refused early
 
--- as many row sets as indices, all of which are below the tallest height
+-- as many row sets as indices, and all indices below the tallest height
 pub record Asked (hs indices : List ℕ) (sets : ℕ) : Type 0 where
   pub pairs : length indices ≡ sets
   pub highest : greatest indices < greatest hs

@@ -72,7 +72,7 @@ pub record HaveChildren {T W : Type 0} (f : Functions T W) (s : Shape) (cap_laye
   pub full : length above.children.items ≡ above.step * length above.covered.nodes.items
   pub values_are : above.children.items ≡ child_values f s cap_layer p l
 
--- the children of the covered nodes of layer l, of which leaves have none
+-- the children of the covered nodes of layer l; leaves have none
 abbrev pub IsFamilyAt : {T W : Type 0} → Functions T W → Shape → ℕ → PrunedOpening T W → ℕ → CoveredLayer (List W) →
     Type 0
 IsFamilyAt f s cap_layer p zero covered = Unit {0}

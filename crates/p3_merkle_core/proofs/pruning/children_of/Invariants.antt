@@ -3,7 +3,7 @@ use Rattle.p3_merkle_core.specs.Inner.Children.{children_under}
 use Rattle.p3_merkle_core.proofs.Covered.ChildFacts.{IsWalked}
 use Rattle.p3_merkle_core.proofs.pruning.children_of.Given as goal
 
--- the values of the children of the parents so far, of which `known` are covered, and the capacity for all
+-- the values of the children of the parents so far, where `known` children are covered, and the capacity for all
 abbrev pub invariant-loop-parent : goal.invariant-loop-parent
 invariant-loop-parent g l = record {
   walked : IsWalked l.covered (children_under l.step l.parents) l.digests l.proof_digests (l.step * l.parent-index)
