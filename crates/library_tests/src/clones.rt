@@ -3,16 +3,17 @@
 use p3_hashes::fold::{FoldCompress, FoldHash};
 use p3_merkle_tree::{
     ArityAndPositions, BatchOpening, CapRule, Collision, InputPair, MerkleAuthPath, MerkleTree,
-    MerkleTreeError, MerkleTreeMmcs, Place, PrunedBatchOpening, PrunedMerklePaths,
-    PrunedProofError, laws,
+    MerkleTreeError, MerkleTreeHidingMmcs, MerkleTreeMmcs, Place, PrunedBatchOpening,
+    PrunedMerklePaths, PrunedProofError, laws,
 };
 use p3_support::matrix::{Matrix, RowMajorMatrix};
 use std::alloc::{AllocError, Global};
 use std::test::Fail;
 use support_tests::compared::{
-    are_printed_alike, are_told_apart, equals_its_clone, is_printed_as_its_clone,
+    are_printed_alike, are_told_apart, equals_its_clone, is_printed, is_printed_as_its_clone,
     is_printed_as_its_copies,
 };
+use support_tests::counting::Counting;
 use support_tests::matrices::{numbered, two_rows};
 
 /// A tree of two children over the fold functions.
@@ -93,6 +94,25 @@ fn clones_and_copies_hold_what_they_were_made_of(rt: HostRuntime) -> Result<(), 
     let scheme: MerkleTreeMmcs<u32, u32, FoldHash<1>, FoldCompress<2, 1>, 2, 1> =
         MerkleTreeMmcs::new_with_rule(FoldHash, FoldCompress, 3, CapRule::Fixed);
     assert!(rt; is_printed_as_its_copies(alloc, scheme));
+    Ok(())
+}
+
+/// The salted scheme of two children over the fold functions, with one salt for each row.
+type Salted = MerkleTreeHidingMmcs<u32, u32, FoldHash<1>, FoldCompress<2, 1>, Counting, 2, 1, 1>;
+
+// The text is what Rust's derive writes for structs of these fields, save for the type of PhantomData. Rattle writes
+// `_` for that type.
+#[test]
+fn a_salted_scheme_is_printed_with_its_generator(rt: HostRuntime) -> Result<(), Fail> {
+    let alloc = rt.alloc();
+    let rng = Counting { step: 1, last: 0 };
+    let scheme = Salted::new_with_rule(FoldHash, FoldCompress, 3, rng, CapRule::Fixed);
+    let fields =
+        "hash: FoldHash, compress: FoldCompress, cap_height: 3, cap_rule: Fixed, item: PhantomData<_>";
+    let expected = format!(in alloc;
+        "HidingScheme {{ plain: Scheme {{ {fields} }}, generator: Counting {{ step: 1, last: 0 }} }}"
+    )?;
+    assert!(rt; is_printed(alloc, &scheme, expected.as_str()));
     Ok(())
 }
 

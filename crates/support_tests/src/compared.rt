@@ -1,5 +1,5 @@
-//! Whether clones and copies are what they were made from, and whether `==` holds of equal values alone. Each answer is
-//! false if memory runs out.
+//! Whether clones and copies are what they were made from, how values are printed, and whether `==` holds of equal
+//! values alone. Each answer is false if memory runs out.
 
 use std::alloc::{AllocError, Global};
 use std::fmt::Debug;
@@ -12,6 +12,14 @@ pub fn are_printed_alike<T: Debug>(alloc: Global, first: &T, second: &T) -> bool
     ) {
         (Ok(first), Ok(second)) => first.as_str() == second.as_str(),
         _ => false,
+    }
+}
+
+/// Whether a value is printed as this text.
+pub fn is_printed<T: Debug>(alloc: Global, value: &T, expected: &str) -> bool {
+    match format!(in alloc; "{value:?}") {
+        Ok(text) => text.as_str() == expected,
+        Err(_) => false,
     }
 }
 

@@ -7,7 +7,7 @@ use rand_core::{CryptoRng, Rng, utils};
 use std::marker::Model;
 
 /// A generator whose words go up by `step`. The first one is `last + step`.
-#[derive(Drop)]
+#[derive(Debug, Drop)]
 pub struct Counting {
     /// By how much each word is above the one before.
     pub step: u64,

@@ -4,7 +4,7 @@
 ghost use Rattle.std.specs.Prelude.{◌≡◌, ◌<◌, ◌≤◌, length};
 
 use crate::compared::{
-    are_told_apart, equals_its_clone, is_printed_as_its_clone, is_printed_as_its_copies,
+    are_told_apart, equals_its_clone, is_printed, is_printed_as_its_clone, is_printed_as_its_copies,
 };
 use crate::counting::Counting;
 use crate::matrices::{Numbers, two_rows};
@@ -273,6 +273,24 @@ fn clones_hold_what_was_cloned(rt: HostRuntime) -> Result<(), Fail> {
         )
     );
     assert!(rt; is_printed_as_its_copies(alloc, U32x8::broadcast(7).with_lane(3, 9)));
+    Ok(())
+}
+
+// The text is what Rust's derive writes for a struct of these fields, save for the type of PhantomData. Rattle writes
+// `_` for that type.
+#[test]
+fn a_pair_is_printed_with_both_matrices(rt: HostRuntime) -> Result<(), Fail> {
+    let alloc = rt.alloc();
+    let pair = HorizontalPair::new(
+        two_rows(alloc, &[1, 2, 3, 4])?,
+        two_rows(alloc, &[5, 6, 7, 8])?,
+    );
+    let left = "RowMajorMatrix { values: [1, 2, 3, 4], width: 2, height: 2 }";
+    let right = "RowMajorMatrix { values: [5, 6, 7, 8], width: 2, height: 2 }";
+    let expected = format!(in alloc;
+        "HorizontalPair {{ left: {left}, right: {right}, element: PhantomData<_> }}"
+    )?;
+    assert!(rt; is_printed(alloc, &pair, expected.as_str()));
     Ok(())
 }
 
