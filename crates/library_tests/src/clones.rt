@@ -269,33 +269,73 @@ fn opening_of(
     Ok(BatchOpening::new(rows, vec![in alloc; [sibling]]?))
 }
 
+/// Whether the laws of errors hold of an equal pair, and not of a different one.
+fn laws_tell_errors_apart() -> bool {
+    let (error, other) = (MerkleTreeError::EmptyBatch, MerkleTreeError::CapMismatch);
+    let slots = [1, 2].map(|slot| PrunedProofError::InconsistentDuplicateOpenings { slot });
+    laws::error_eq(&error, &error)
+        && !laws::error_eq(&error, &other)
+        && laws::pruned_proof_error_eq(&slots[0], &slots[0])
+        && !laws::pruned_proof_error_eq(&slots[0], &slots[1])
+}
+
+/// The same of the law of openings.
+fn law_tells_openings_apart(alloc: Global) -> Result<bool, AllocError> {
+    let (opening, other) = (opening_of(alloc, 3, 35)?, opening_of(alloc, 3, 36)?);
+    Ok(
+        laws::batch_opening_eq::<u32, u32, 1>(&opening, &opening)
+            && !laws::batch_opening_eq::<u32, u32, 1>(&opening, &other),
+    )
+}
+
+/// The same of the law of pruned proofs.
+fn law_tells_proofs_apart(alloc: Global) -> Result<bool, AllocError> {
+    let (proof, other) = (proof_of(alloc, &[[35]])?, proof_of(alloc, &[])?);
+    Ok(
+        laws::pruned_merkle_paths_eq::<u32, 1>(&proof, &proof)
+            && !laws::pruned_merkle_paths_eq::<u32, 1>(&proof, &other),
+    )
+}
+
+/// The same of the law of pruned openings.
+fn law_tells_pruned_openings_apart(alloc: Global) -> Result<bool, AllocError> {
+    let (opening, other) = (pruned_of(alloc, 3, 35)?, pruned_of(alloc, 4, 35)?);
+    Ok(
+        laws::pruned_batch_opening_eq::<u32, u32, 1>(&opening, &opening)
+            && !laws::pruned_batch_opening_eq::<u32, u32, 1>(&opening, &other),
+    )
+}
+
+/// The same of the law of paths.
+fn law_tells_paths_apart(alloc: Global) -> Result<bool, AllocError> {
+    let (path, other) = (path_of(alloc, 2, 35)?, path_of(alloc, 3, 35)?);
+    Ok(
+        laws::merkle_auth_path_eq::<u32, 1>(&path, &path)
+            && !laws::merkle_auth_path_eq::<u32, 1>(&path, &other),
+    )
+}
+
+/// The same of the law of collisions.
+fn law_tells_collisions_apart(alloc: Global) -> Result<bool, AllocError> {
+    let words = words_at(alloc, Place::Leaf, 1, 2)?;
+    let digests = digests_at(alloc, Place::Leaf, 1, 2)?;
+    Ok(
+        laws::collision_eq::<u32, u32, 1>(&words, &words)
+            && !laws::collision_eq::<u32, u32, 1>(&words, &digests),
+    )
+}
+
+// Each type has a function of its own, so that none holds the values of all types.
 #[test]
 fn laws_of_equality_tell_values_apart(rt: HostRuntime) -> Result<(), Fail> {
     let alloc = rt.alloc();
-    let (error, other) = (MerkleTreeError::EmptyBatch, MerkleTreeError::CapMismatch);
-    assert!(rt; laws::error_eq(&error, &error) && !laws::error_eq(&error, &other));
-    let slots = [1, 2].map(|slot| PrunedProofError::InconsistentDuplicateOpenings { slot });
-    assert!(rt; laws::pruned_proof_error_eq(&slots[0], &slots[0]));
-    assert!(rt; !laws::pruned_proof_error_eq(&slots[0], &slots[1]));
-    let (opening, other) = (opening_of(alloc, 3, 35)?, opening_of(alloc, 3, 36)?);
-    assert!(rt; laws::batch_opening_eq::<u32, u32, 1>(&opening, &opening));
-    assert!(rt; !laws::batch_opening_eq::<u32, u32, 1>(&opening, &other));
-    let (proof, other) = (proof_of(alloc, &[[35]])?, proof_of(alloc, &[])?);
-    assert!(rt; laws::pruned_merkle_paths_eq::<u32, 1>(&proof, &proof));
-    assert!(rt; !laws::pruned_merkle_paths_eq::<u32, 1>(&proof, &other));
-    let (opening, other) = (pruned_of(alloc, 3, 35)?, pruned_of(alloc, 4, 35)?);
-    assert!(rt; laws::pruned_batch_opening_eq::<u32, u32, 1>(&opening, &opening));
-    assert!(rt; !laws::pruned_batch_opening_eq::<u32, u32, 1>(&opening, &other));
-    let (path, other) = (path_of(alloc, 2, 35)?, path_of(alloc, 3, 35)?);
-    assert!(rt; laws::merkle_auth_path_eq::<u32, 1>(&path, &path));
-    assert!(rt; !laws::merkle_auth_path_eq::<u32, 1>(&path, &other));
+    assert!(rt; laws_tell_errors_apart());
+    assert!(rt; law_tells_openings_apart(alloc)?);
+    assert!(rt; law_tells_proofs_apart(alloc)?);
+    assert!(rt; law_tells_pruned_openings_apart(alloc)?);
+    assert!(rt; law_tells_paths_apart(alloc)?);
     assert!(rt; laws::place_eq(&Place::Rows(1), &Place::Rows(1)));
     assert!(rt; !laws::place_eq(&Place::Rows(1), &Place::Pair(1)));
-    let (words, digests) = (
-        words_at(alloc, Place::Leaf, 1, 2)?,
-        digests_at(alloc, Place::Leaf, 1, 2)?,
-    );
-    assert!(rt; laws::collision_eq::<u32, u32, 1>(&words, &words));
-    assert!(rt; !laws::collision_eq::<u32, u32, 1>(&words, &digests));
+    assert!(rt; law_tells_collisions_apart(alloc)?);
     Ok(())
 }
