@@ -347,7 +347,7 @@ pub(crate) fn children_of<X: Copy>(
     Ok(children)
 }
 
-/// The place of `node` among ascending nodes, of which it must be one. The search begins at the place `start`, or at 0
+/// The place of `node` among ascending nodes. It must be one of them. The search begins at the place `start`, or at 0
 /// if the node is ahead of it, and takes a step for each node that it passes.
 fn place_of(nodes: &[usize], start: usize, node: usize) -> usize {
     let mut place = 0;
