@@ -101,6 +101,7 @@ documents:
 	@python3 tests/audit
 	@python3 tests/strength --check
 	@python3 tests/documents
+	@python3 tests/package
 	@python3 tests/refusals
 	@python3 tests/rows
 	@python3 tests/scripts
