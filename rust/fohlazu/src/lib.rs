@@ -143,9 +143,9 @@ pub mod hashes {
     pub use crate::sha256::Sha256;
 }
 
-/// Logs by RFC 9162: leaf hashes, the verifiers of inclusion and of consistency, trees that grow, and proofs of several
-/// entries.
+/// Logs by RFC 9162.
 ///
+/// These are leaf hashes, the verifiers of inclusion and of consistency, trees that grow, and proofs of several entries.
 /// Indices count from 0, sizes go up to 2^62. What a verifier accepts holds of a log only if the root is of one: take it
 /// from whoever you trust to say which log it is.
 ///
