@@ -143,6 +143,9 @@ pub mod hashes {
     pub use crate::sha256::Sha256;
 }
 
+#[cfg(feature = "parallel")]
+pub mod parallel;
+
 /// Logs by RFC 9162.
 ///
 /// These are leaf hashes, the verifiers of inclusion and of consistency, trees that grow, and proofs of several entries.
