@@ -177,19 +177,23 @@ class Eraser:
                 raise self.code.fail(at, f"the macro `{text}!`")
             if text == "use" and not self.use_around(at):
                 raise self.code.fail(at, "`use` inside a function")
-            if text == "Global" and before != ":" and not self.use_around(at):
+            if text == "Global" and not self.use_around(at) and not self.is_of_alloc(at):
                 raise self.code.fail(at, "`Global` that is not the type of `alloc`")
+
+    def is_of_alloc(self, at: int) -> bool:
+        """Whether `alloc:` stands before the type at `at`."""
+        colon = self.code.previous(at)
+        return self.code.text(colon) == ":" and self.around(colon)[0] == "alloc"
 
     def check_calls(self) -> None:
         """Refuses methods and functions of the library that may do something else in Rust, or end the program."""
         for _, item, _ in self.walked:
             if item.kind == "fn" and item.name in names.FALLIBLE:
                 raise self.code.fail(item.head, f"a function of its own with the name `{item.name}`")
-        same = names.SAME_METHODS | set(names.FALLIBLE_METHODS) | self.package.functions
+        known = names.SAME_METHODS | set(names.FALLIBLE_METHODS) | {"allocator", "clone"} | self.package.functions
         for at in self.places("word"):
             text, (before, behind) = self.code.text(at), self.around(at)
-            if before == "." and behind in ("(", "::") and text not in same | {"allocator"}:
-                # A field that is a function is called in parentheses.
+            if before == "." and behind in ("(", "::") and text not in known:
                 raise self.code.fail(at, f"the method `{text}`")
             if before == "::" and not self.use_around(at):
                 self.check_path(at, text)
@@ -469,7 +473,7 @@ class Eraser:
         """A crate is a module of the package."""
         for at in self.places("word"):
             text, (before, behind) = self.code.text(at), self.around(at)
-            if behind != "::" or before == "::":
+            if behind != "::" or before in ("::", "."):
                 continue
             if text == "crate":
                 self.sheet.put(self.code.next(at), f"::erased::{self.crate}", "path")
