@@ -30,6 +30,11 @@ KNOWN = [
         "fn f(x: u8) -> u8 { x }",
     ),
     Form(
+        "a comment of a clause",
+        "fn f() -> u8\n    // Goes.\n    ensures { result ≡ 1 }\n{\n    // Stays.\n    1\n}",
+        "fn f() -> u8 {\n    // Stays.\n    1\n}",
+    ),
+    Form(
         "clauses of a closure",
         "fn f() { g(|k| -> [u8; 4] requires { k < 4 } ensures { result ≡ k } { h(k) }) }",
         "fn f() { g(|k| -> [u8; 4] { h(k) }) }",

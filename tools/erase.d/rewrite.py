@@ -105,10 +105,13 @@ class Eraser:
         return self.code.text(behind) == "{" and self.code.text(before) == "|"
 
     def cut_ghost(self) -> None:
-        """Cuts clauses, and ghost items with `pub` and the plain comments ahead of them."""
+        """Cuts clauses and ghost items, with the plain comments ahead of them and with the `pub` of an item."""
         for at, token in enumerate(self.code.tokens):
             if token.kind == "clause":
-                self.sheet.cut(at, at, "clause")
+                start = at
+                while self.code.kind(start - 1) in ("space", "comment"):
+                    start -= 1
+                self.sheet.cut(start, at, "clause")
             elif token.kind == "ghost":
                 self.sheet.cut(self.ghost_start(at), at, "ghost item")
 
