@@ -105,6 +105,8 @@ documents:
 	@python3 tests/refusals
 	@python3 tests/rows
 	@python3 tests/scripts
+	@python3 tools/erase --check
+	@python3 tests/erase
 
 check-quick: toolchain documents quick
 	@$(ALONE) python3 tests/check-quick
