@@ -101,9 +101,12 @@ documents:
 	@python3 tests/audit
 	@python3 tests/strength --check
 	@python3 tests/documents
+	@python3 tests/package
 	@python3 tests/refusals
 	@python3 tests/rows
 	@python3 tests/scripts
+	@python3 tools/erase --check
+	@python3 tests/erase
 
 check-quick: toolchain documents quick
 	@$(ALONE) python3 tests/check-quick
@@ -159,7 +162,8 @@ help:
 #:                   commands of the proved programs, and their answers with each request for memory refused. It takes
 #:                   up to 200 processor minutes, and needs a C compiler
 #: make libraries    the proved libraries, with rattle-with: a crate over them is checked in a minute
-#: make dist         archives of the programs and of the libraries, with their checksums, in build/dist/
+#: make dist         archives of the programs and of the libraries, if cargo is installed also the package for Cargo,
+#:                   with their checksums, in build/dist/
 #: make documents    compares docs/ with the sources, and checks the form of shell scripts, by shellcheck if it is
 #:                   installed: seconds. `tests/audit write` and `tests/strength` write what of docs/ is generated
 #: make install      the programs, scripts, manual pages, completions and the libraries for C, below $DESTDIR$PREFIX;

@@ -13,20 +13,26 @@ from pathlib import Path
 TOKEN = re.compile(
     r"""
     (?P<doc>//[/!][^\n]*)
-  | (?P<comment>//[^\n]*|/\*.*?\*/)
+  | (?P<comment>//[^\n]*)
   | (?P<space>\s+)
   | (?P<string>b?"(?:\\.|[^"\\])*"|b?'(?:\\.[^']*|[^'\\])')
   | (?P<lifetime>'[A-Za-z_]\w*)
   | (?P<word>[A-Za-z_]\w*)
-  | (?P<number>\d[\w.]*\d|\d\w*)
+  | (?P<number>\d\w*(?:\.\d\w*)?)
   | (?P<sign>::|->|=>|\.\.=|\.\.|&&|\|\||[-+*/%&|^!<>=.,;:?#$@(){}\[\]])
     """,
     re.X | re.S,
 )
-CLAUSE_HEAD = re.compile(r"\s*\*?\s*([\w-]*)\s*(?=\{)")
+CLAUSE_HEAD = re.compile(r"\s*([\w-]*)\s*(?=\{)")
+GHOST_USE = re.compile(r"ghost\s+use\s+[^{};]+(?:\{[^{};]*\})?\s*;")
+GHOST_HEAD = re.compile(r"ghost\s+\w+\s*[:=]\s*(?=\{)")
+GHOST_TAIL = re.compile(r"\s*[;,]")
+# Words that begin another kind of string or name where a quote or `#` follows them at once.
+RAW_WORDS = {"r", "br", "c", "cr", "b"}
 OPEN = {"(": ")", "[": "]", "{": "}"}
 CLOSE = set(OPEN.values())
 TRIVIA = {"space", "comment", "doc"}
+RUST_KINDS = {"string", "lifetime", "word", "number", "sign"}
 ITEM_WORDS = {"use", "mod", "const", "static", "type", "struct", "enum", "trait", "impl", "fn"}
 
 
@@ -64,11 +70,13 @@ class Item:
 
 
 def brace_end(text: str, at: int) -> int:
-    """The place after the braces of the prover's language that open at `at`."""
+    """The place after the braces of the prover's language that open at `at`. It has comments behind `--`."""
     depth = 0
     while at < len(text):
         if text.startswith("--", at):
-            at = text.index("\n", at)
+            line_end = text.find("\n", at)
+            at = len(text) if line_end < 0 else line_end
+            continue
         depth += {"{": 1, "}": -1}.get(text[at], 0)
         at += 1
         if depth == 0:
@@ -77,10 +85,41 @@ def brace_end(text: str, at: int) -> int:
 
 
 def ghost_end(text: str, at: int) -> int:
-    """The place after the ghost item that begins at `at`: behind its `;` or `,` outside braces."""
-    while text[at] not in ";,":
-        at = brace_end(text, at) if text[at] == "{" else at + 1
-    return at + 1
+    """The place after the ghost item that begins at `at`: `ghost use ..;`, or a name with one pair of braces and then
+    `;` or `,`."""
+    if match := GHOST_USE.match(text, at):
+        return match.end()
+    head = GHOST_HEAD.match(text, at)
+    tail = GHOST_TAIL.match(text, brace_end(text, head.end())) if head else None
+    if tail is None:
+        raise Unknown(f"a ghost item of another form: {first_line(text, at)}")
+    return tail.end()
+
+
+def clause_token(text: str, at: int, keyword: str) -> Token:
+    """The clause that begins at `at`."""
+    head = CLAUSE_HEAD.match(text, at + len(keyword))
+    if head is None:
+        raise Unknown(f"a clause without braces: {first_line(text, at)}")
+    end = brace_end(text, head.end())
+    body = " ".join(text[head.end() + 1 : end - 1].split())
+    return Token("clause", text[at:end], keyword, head.group(1), body)
+
+
+def first_line(text: str, at: int) -> str:
+    """What stands from `at` to the end of its line, for a message."""
+    return f"`{text[at:].splitlines()[0].strip()}`"
+
+
+def rust_token(text: str, at: int) -> Token:
+    """The token of Rust that begins at `at`."""
+    match = TOKEN.match(text, at)
+    if match is None or text.startswith("/*", at):
+        raise Unknown(f"no token of Rust that is known: {first_line(text, at)}")
+    word, end = match.group(), match.end()
+    if word in RAW_WORDS and text[end : end + 1] in ('"', "#", "'"):
+        raise Unknown(f"a raw string or a raw name: {first_line(text, at)}")
+    return Token(match.lastgroup or "", word)
 
 
 def tokens_of(text: str) -> list[Token]:
@@ -88,24 +127,16 @@ def tokens_of(text: str) -> list[Token]:
     tokens: list[Token] = []
     at = 0
     while at < len(text):
-        match = TOKEN.match(text, at)
-        if match is None:
-            raise Unknown(f"no token of Rust: {text[at:at + 40]!r}")
-        word = match.group()
-        if match.lastgroup == "word" and word == "ghost":
-            end = ghost_end(text, at)
-            tokens.append(Token("ghost", text[at:end]))
-        elif match.lastgroup == "word" and word in ("requires", "ensures"):
-            head = CLAUSE_HEAD.match(text, match.end())
-            if head is None:
-                raise Unknown(f"a clause without braces: {text[at:at + 60]!r}")
-            end = brace_end(text, head.end())
-            body = text[head.end() + 1 : end - 1]
-            tokens.append(Token("clause", text[at:end], word, head.group(1), " ".join(body.split())))
-        else:
-            end = match.end()
-            tokens.append(Token(match.lastgroup, word))
-        at = end
+        token = rust_token(text, at)
+        try:
+            if token.kind == "word" and token.text == "ghost":
+                token = Token("ghost", text[at : ghost_end(text, at)])
+            elif token.kind == "word" and token.text in ("requires", "ensures"):
+                token = clause_token(text, at, token.text)
+        except Unknown as error:
+            raise Unknown(f"line {text.count(chr(10), 0, at) + 1}: {error}") from None
+        tokens.append(token)
+        at += len(token.text)
     return tokens
 
 
@@ -114,7 +145,10 @@ class Source:
 
     def __init__(self, module: str, text: str) -> None:
         self.module = module
-        self.tokens = tokens_of(text)
+        try:
+            self.tokens = tokens_of(text)
+        except Unknown as error:
+            raise Unknown(f"{module}, {error}") from None
 
     def text(self, at: int) -> str:
         """The token at a place, or "" outside the source."""
@@ -147,19 +181,24 @@ class Source:
                 depth += (token.text in OPEN) - (token.text in CLOSE)
                 if depth == 0:
                     return place
-        raise Unknown(f"{self.module}: a bracket that does not close")
+        raise self.fail(at, "a bracket that does not close")
 
     def angle(self, at: int) -> int:
         """The place of the `>` that closes the `<` at `at`."""
-        depth = 0
-        while True:
-            text = self.text(at)
-            if text in OPEN:
-                at = self.match(at)
+        depth, place = 0, at
+        while self.text(place) not in ("{", "}", ";", ""):
+            text = self.text(place)
             depth += {"<": 1, ">": -1}.get(text, 0)
             if depth == 0:
-                return at
-            at += 1
+                return place
+            place = 1 + (self.match(place) if text in OPEN else place)
+        raise self.fail(at, "a `<` that does not close")
+
+    def closing(self, at: int) -> int:
+        """The end of the brackets that open at `at`, or `at`."""
+        if self.text(at) == "<":
+            return self.angle(at)
+        return self.match(at) if self.text(at) in OPEN else at
 
     def texts(self, start: int, end: int) -> str:
         """The tokens of Rust from `start` to `end`, as text."""
@@ -168,6 +207,10 @@ class Source:
             for token in self.tokens[start : end + 1]
             if token.kind not in ("comment", "doc", "clause", "ghost")
         ).strip()
+
+    def words(self, start: int, end: int) -> list[str]:
+        """The tokens of Rust from `start` to `end`, without spaces and comments."""
+        return [token.text for token in self.tokens[start : end + 1] if token.kind in RUST_KINDS]
 
     def fail(self, at: int, what: str) -> Unknown:
         """The refusal of a form at a place."""
@@ -214,7 +257,9 @@ class Source:
             item.of_trait, item.name = self.impl_names(at, body[0])
         else:
             item.name = self.text(self.next(at))
-        if kind in ("trait", "impl") or kind == "mod" and body:
+        if kind == "mod" and body:
+            raise self.fail(at, "a module that stands in its parent's file")
+        if kind in ("trait", "impl"):
             item.items = self.items(body[0] + 1, body[1])
         return item
 
@@ -274,7 +319,4 @@ class Source:
 
 def read(module: str, path: Path) -> Source:
     """The source of a module."""
-    try:
-        return Source(module, path.read_text(encoding="utf-8"))
-    except Unknown as error:
-        raise Unknown(f"{path}: {error}") from None
+    return Source(module, path.read_text(encoding="utf-8"))

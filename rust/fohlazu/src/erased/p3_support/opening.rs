@@ -111,6 +111,7 @@ impl<F, X> Index<usize> for MerkleCap<F, X> {
     type Output = X;
 
     fn index(&self, i: usize) -> &X {
+        assert!(i < self.roots.len(), "can_index");
         &self.roots[i]
     }
 }

@@ -19,9 +19,7 @@ use alloc::vec::Vec;
 /// # Errors
 ///
 /// `AllocError` if memory runs out.
-pub fn entry_places(indices: &[usize], size: usize) -> Result<Vec<(usize, usize)>, AllocError>
-// The values of these nodes in any log of the size are there, and prove its entries.
-{
+pub fn entry_places(indices: &[usize], size: usize) -> Result<Vec<(usize, usize)>, AllocError> {
     assert!(0 < size, "some");
     assert!(size <= crate::tlog::SIZE_LIMIT, "limit");
     assert!(indices.iter().all(|&index| index < size), "within");

@@ -1,7 +1,9 @@
-//! Logs whose entries are the decimal numbers 1, 2, 3 and so on. The digests are those of Python's hashlib.
+//! Verdicts about logs whose entries are the decimal numbers 1, 2, 3 and so on. The digests are those of Python's
+//! hashlib.
+#![cfg(feature = "sha2")]
 
-use fohlazu::ProofError::*;
-use fohlazu::{Digest, leaf_hash, verify_consistency, verify_inclusion};
+use fohlazu::tlog::ProofError::*;
+use fohlazu::tlog::{EMPTY_ROOT, leaf_hash, verify_consistency, verify_inclusion};
 
 const ROOT_3: &str = "fe6e9d4604f578602851a2c15ef3894ca07b9517f7d5f7dedc28179ca888580d";
 const ROOT_5: &str = "e106de6d331e826225bf269c4d7086760bcfbdf83ed58457457632d7071ea963";
@@ -11,9 +13,9 @@ const LEAF_4: &str = "11e1f558223f4c71b6be1cecfd1f0de87146d2594877c27b29ec519f90
 const LEAF_5: &str = "53304f5e3fd4bcd20b39abdef2fe118031cc5ae8217bcea008dea7e27869348a";
 const NODE_1_TO_2: &str = "e8bcd97e349693dcfec054fe219ab357b75d3c1cd9f8be1767f6090f9c86f9fd";
 const NODE_5_TO_7: &str = "4293f3913b8d24b12a11f3aa7018bb30640997ebf36bed4a23cbb60078e959ee";
-const EMPTY_ROOT: &str = "e3b0c44298fc1c149afbf4c8996fb92427ae41e4649b934ca495991b7852b855";
+const HASH_OF_NOTHING: &str = "e3b0c44298fc1c149afbf4c8996fb92427ae41e4649b934ca495991b7852b855";
 
-fn digest(hex: &str) -> Digest {
+fn digest(hex: &str) -> [u8; 32] {
     std::array::from_fn(|k| u8::from_str_radix(&hex[2 * k..2 * k + 2], 16).unwrap())
 }
 
@@ -27,7 +29,7 @@ fn inclusion() {
     assert_eq!(verify_inclusion(2, 7, &leaf_hash(b""), proof, &root), Err(RootMismatch));
     for (index, size, proof, reason) in [
         (2, (1 << 62) + 1, proof, SizeTooLarge),
-        (2, u64::MAX, proof, SizeTooLarge),
+        (2, usize::MAX, proof, SizeTooLarge),
         (7, 7, proof, IndexPastEnd),
         (0, 0, &[], IndexPastEnd),
         (2, 7, &proof[..2], TooFewDigests),
@@ -41,8 +43,9 @@ fn inclusion() {
 
 #[test]
 fn consistency() {
-    let [old, new, empty] = &[ROOT_3, ROOT_5, EMPTY_ROOT].map(digest);
+    let [old, new, empty] = &[ROOT_3, ROOT_5, HASH_OF_NOTHING].map(digest);
     let proof = &[LEAF_3, LEAF_4, NODE_1_TO_2, LEAF_5].map(digest)[..];
+    assert_eq!(*empty, EMPTY_ROOT);
     for (old_size, new_size, proof, old_root, new_root, verdict) in [
         (3, 5, proof, old, new, Ok(())),
         (5, 5, &[], new, new, Ok(())),
