@@ -4,6 +4,9 @@
 // An alias with a bound names a type of its parameter, as `PW::Value`.
 #![allow(type_alias_bounds)]
 
+#[cfg(not(target_pointer_width = "64"))]
+compile_error!("fohlazu was proved for a usize of 64 bits");
+
 extern crate alloc;
 
 mod fallible;
