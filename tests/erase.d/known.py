@@ -253,6 +253,8 @@ KNOWN = [
         "fn f(alloc: Global) { vec![in alloc; [0; 4]; n]?; vec![in alloc; [0; 4], 2]?; }",
         "use crate::fallible::{try_list, try_vec}; fn f() { try_vec([0; 4], n)?; try_list([[0; 4], 2])?; }",
     ),
+    Form("a sign before brackets", "fn f(x: bool) { if !(x) { return !(x); } }",
+         "fn f(x: bool) { if !(x) { return !(x); } }"),
     Form("final", "trait T { final fn f() {} }", "trait T { fn f() {} }"),
     Form(
         "labels",

@@ -49,6 +49,7 @@ def package_of(crates: Path) -> Package:
         internal=set(settings["internal"]),
         conditions=settings["conditions"],
         laws=settings["laws"],
+        other_laws=settings["other_laws"],
     )
 
 

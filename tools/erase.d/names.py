@@ -16,6 +16,14 @@ FALLIBLE_METHODS = {
 FALLIBLE_MAKERS = {"with_capacity": "with_room", "from_slice": "try_from_slice"}
 FALLIBLE = FALLIBLE_METHODS | FALLIBLE_MAKERS
 
+# Methods of Rust's library that end the program where memory runs out. A method of the sources may not be called by
+# such a name either, since the call could not be told from one of these.
+ALLOCATING = {
+    "append", "clone_from", "cloned", "collect", "concat", "extend_from_within", "insert", "into_boxed_slice", "join",
+    "push_str", "repeat", "reserve_exact", "resize_with", "shrink_to", "shrink_to_fit", "to_owned", "to_string",
+    "to_vec",
+}
+
 # Methods that do in Rust what they do in the toolchain's library. Those of hashers, of generators and of vectors of
 # words are of crate::sha256, of rand_core and of crate::simd.
 SAME_METHODS = {
@@ -35,11 +43,19 @@ SAME_FUNCTIONS = {
     "Vec": {"new", "with_capacity", "from_slice"},
     "array": {"from_fn"},
     "mem": {"replace", "size_of_val"},
-    "u8": set(),
     "u32": {"BITS", "MAX", "from_be_bytes"},
     "u64": {"MAX"},
     "usize": {"BITS", "MAX", "from"},
 }
+# Types and traits of the library none of whose functions is called by a path.
+OTHER_OWNERS = {
+    "Default", "Eq", "Fn", "FnMut", "FnOnce", "From", "Into", "Iterator", "Option", "Ord", "PartialEq", "PartialOrd",
+    "Result", "bool", "char", "f32", "f64", "i128", "i16", "i32", "i64", "i8", "isize", "slice", "str", "u128", "u16",
+    "u8",
+}
+# Traits of the library whose methods are the same in Rust, and those that rewrite.py treats.
+SAME_TRAITS = {"Copy", "Default", "Eq", "From", "Index", "Iterator", "PartialEq"}
+TREATED_TRAITS = {"Clone", "Model"}
 # Names of the library that may stand behind `std::` outside `use`.
 SAME_PATHS = {"std::array::from_fn", "std::mem::size_of_val"}
 

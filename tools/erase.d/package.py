@@ -25,6 +25,8 @@ class Package:
     conditions: dict[str, dict[str, str]]
     # By `crate.module.Trait`, the laws that an `impl` of a public trait must keep, and what comes of one that does not.
     laws: dict[str, dict[str, list[str]]]
+    # The same of types and traits of Rust's library.
+    other_laws: dict[str, list[str]]
 
     # What a first look at all sources finds: the names of functions and of traits, and by `Trait.method` what the list
     # asserts of it.

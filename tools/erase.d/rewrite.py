@@ -160,7 +160,10 @@ class Eraser:
 
     def cut_impls(self) -> None:
         """Cuts `impl Model`, which says what contracts see, and `impl From<AllocFailed<..>>`, which no call returns."""
+        known = {"", *names.SAME_TRAITS, *names.TREATED_TRAITS, *self.package.traits}
         for item in self.items:
+            if item.kind == "impl" and item.of_trait not in known:
+                raise self.code.fail(item.head, f"an `impl` of `{item.of_trait}`")
             if item.kind != "impl" or item.of_trait not in ("Model", "From"):
                 continue
             if item.of_trait == "Model" and any(inner.kind != "type" for inner in item.items):
@@ -173,10 +176,10 @@ class Eraser:
     def check_words(self) -> None:
         """Refuses words that were never looked at, macros, and `use` inside a function."""
         for at in self.places("word"):
-            text, (before, behind) = self.code.text(at), self.around(at)
+            text = self.code.text(at)
             if text in names.REFUSED_WORDS:
                 raise self.code.fail(at, f"`{text}`")
-            if behind == "!" and self.around(self.code.next(at))[1] in OPEN and text != "vec":
+            if self.code.text(at + 1) == "!" and self.around(at + 1)[1] in OPEN and text != "vec":
                 raise self.code.fail(at, f"the macro `{text}!`")
             if text == "use" and not self.use_around(at):
                 raise self.code.fail(at, "`use` inside a function")
@@ -193,7 +196,8 @@ class Eraser:
         for _, item, _ in self.walked:
             if item.kind == "fn" and item.name in names.FALLIBLE:
                 raise self.code.fail(item.head, f"a function of its own with the name `{item.name}`")
-        known = names.SAME_METHODS | set(names.FALLIBLE_METHODS) | {"allocator", "clone"} | self.package.functions
+        own = self.package.functions - names.ALLOCATING
+        known = names.SAME_METHODS | set(names.FALLIBLE_METHODS) | {"allocator", "clone"} | own
         for at in self.places("word"):
             text, (before, behind) = self.code.text(at), self.around(at)
             if before == "." and behind in ("(", "::") and text not in known:
@@ -205,7 +209,7 @@ class Eraser:
         """Refuses `TYPE::name` of the library that is in no table, and `Clone::clone`, which would not be renamed."""
         owner_at = self.code.previous(self.code.previous(at))
         owner = self.code.text(owner_at)
-        if owner in names.SAME_FUNCTIONS and name not in names.SAME_FUNCTIONS[owner]:
+        if owner in names.OTHER_OWNERS or name not in names.SAME_FUNCTIONS.get(owner, {name}):
             raise self.code.fail(at, f"`{owner}::{name}`")
         if name == "clone" or owner == "Clone":
             raise self.code.fail(at, f"`{owner}::{name}`: a clone that is no method call")
@@ -526,6 +530,18 @@ class Eraser:
             start, end = item.visibility
             if not is_exported and start == end:
                 self.sheet.put(end + 1, "(crate)", "visibility")
+            elif is_exported and item.kind == "struct" and item.body:
+                self.check_fields(item)
+
+    def check_fields(self, item: Item) -> None:
+        """Refuses an exported struct with a fact of its fields, or with a model's, whose fields users could change."""
+        code = self.code.tokens[item.body[0] : item.body[1]]
+        models = [other for other in self.items if other.of_trait == "Model" and other.name == item.name]
+        if not models and all(token.kind != "ghost" for token in code):
+            return
+        for at in self.places("word", *item.body):
+            if self.code.text(at) == "pub" and self.around(at)[1] != "(":
+                raise self.code.fail(at, "a public field of a struct with facts")
 
     def write_conditions(self) -> None:
         """Asserts the conditions of public functions, and looks for the laws of public traits."""

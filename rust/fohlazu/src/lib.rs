@@ -6,11 +6,10 @@
 // An alias with a bound names a type of its parameter, as `PW::Value`.
 #![allow(type_alias_bounds)]
 
-extern crate alloc;
-
-// The proof is of code whose `usize` has 64 bits.
 #[cfg(not(target_pointer_width = "64"))]
-compile_error!("fohlazu needs a target whose usize has 64 bits");
+compile_error!("fohlazu was proved for a usize of 64 bits");
+
+extern crate alloc;
 
 mod fallible;
 #[cfg(feature = "sha2")]
