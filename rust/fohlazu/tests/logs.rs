@@ -368,15 +368,20 @@ fn composed(words: &mut Words<'_>) -> String {
     composed.map_or_else(|error| error.to_string(), |_| "composed".to_string())
 }
 
-/// Checks the answers to the cases of these kinds, and that there are so many.
-fn check(kinds: &[&str], count: usize) {
+/// Whether a case takes long where tests are not optimized: the root of a log of thousands of entries.
+fn is_long(question: &str) -> bool {
+    question.strip_prefix("root ").is_some_and(|size| size.len() > 3)
+}
+
+/// Checks the answers to the cases of these kinds that take long, or to all others, and that there are so many.
+fn check_some(kinds: &[&str], are_long: bool, count: usize) {
     let text = common::stored("crates/log_cases/stdin");
     let mut cases = 0;
     for (number, line) in common::cases(&text) {
         let (question, expected) = line.split_once(" |").expect("a case has an answer");
         let mut words = Words(question.split(' '));
         let kind = words.word();
-        if !kinds.contains(&kind) {
+        if !kinds.contains(&kind) || is_long(question) != are_long {
             continue;
         }
         cases += 1;
@@ -399,9 +404,14 @@ fn check(kinds: &[&str], count: usize) {
     assert_eq!(cases, count, "cases of {}", kinds.join(", "));
 }
 
+/// The same of cases that do not take long.
+fn check(kinds: &[&str], count: usize) {
+    check_some(kinds, false, count);
+}
+
 #[test]
 fn roots() {
-    check(&["root"], 21);
+    check(&["root"], 19);
 }
 
 #[test]
@@ -469,4 +479,12 @@ fn the_log_of_certificate_transparency() {
     ];
     assert_eq!(hexes(&growth), expected.join(" "));
     assert_eq!(verify_consistency(6, 8, &growth, &root_of(&entries[..6]), &root), Ok(()));
+}
+
+/// What `tests/cargo quick` leaves out.
+mod long {
+    #[test]
+    fn roots() {
+        super::check_some(&["root"], true, 2);
+    }
 }
