@@ -10,10 +10,10 @@ mod common;
 
 use fohlazu::hashes::Sha256;
 use fohlazu::tlog::{
-    Collision, EMPTY_ROOT, Frontier, LogHash, TreeBuilder, TreeError, compose, consistency_collision, consistency_places,
-    consistency_proof, entries_collision, entry_collision, entry_places, growth_collision, inclusion_places,
-    inclusion_proof, leaf_collision, leaf_hash, leaf_hashes, node_hash, prefix_collision, proof_collision, root,
-    root_collision, verify_consistency, verify_entries, verify_inclusion,
+    Collision, EMPTY_ROOT, Frontier, LogHash, TreeBuilder, TreeError, compose, consistency_collision,
+    consistency_places, consistency_proof, entries_collision, entry_collision, entry_places, growth_collision,
+    inclusion_places, inclusion_proof, leaf_collision, leaf_hash, leaf_hashes, node_hash, prefix_collision,
+    proof_collision, root, root_collision, verify_consistency, verify_entries, verify_inclusion,
 };
 use std::fmt::Display;
 
@@ -302,9 +302,7 @@ fn collision(kind: &str, words: &mut Words<'_>) -> String {
         // ENTRIES OTHER-ENTRIES
         "root_collision" => root_collision::<Weak, 32>(&words.entries(), &words.entries()),
         // ENTRIES INDEX LEAF PROOF
-        "leaf_collision" => {
-            leaf_collision::<Weak, 32>(&words.entries(), words.number(), &words.weak(), &words.weaks())
-        }
+        "leaf_collision" => leaf_collision::<Weak, 32>(&words.entries(), words.number(), &words.weak(), &words.weaks()),
         // ENTRIES INDEX ENTRY PROOF
         "entry_collision" => {
             entry_collision::<Weak, 32>(&words.entries(), words.number(), words.word().as_bytes(), &words.weaks())
@@ -412,6 +410,19 @@ fn check(kinds: &[&str], count: usize) {
 #[test]
 fn roots() {
     check(&["root"], 19);
+}
+
+#[test]
+fn every_kind_is_tried() {
+    let tried = "root inclusion consistency places digests frontier included consistent verify root_collision \
+                 leaf_collision entry_collision entries_collision prefix_collision proof_collision \
+                 consistency_collision growth_collision compose";
+    let left_out = "file file_entries file_prefix checkpoint part entries_proof consistency_proof";
+    let known: Vec<_> = tried.split_whitespace().chain(left_out.split_whitespace()).collect();
+    for (number, line) in common::cases(&common::stored("crates/log_cases/stdin")) {
+        let kind = line.split(' ').next().unwrap_or_default();
+        assert!(known.contains(&kind), "line {number} is of no kind that is known here: {kind}");
+    }
 }
 
 #[test]

@@ -3,6 +3,7 @@
 //! A line there is a keyword, fields and the expected answer, with `|` between them; docs/ROWS.md says which lines a
 //! worked row is. The answers were worked out by hand or by `tests/model`, never by the library. Lines of the program
 //! `mmcs` are left out, which is no part of the package.
+#![cfg(feature = "sha2")]
 
 #[path = "../common/mod.rs"]
 mod common;
@@ -199,6 +200,20 @@ fn salts() {
 fn salted_verdicts_and_collisions() {
     let keywords = ["salted_verify", "salted_verify_pruned", "salted_extract", "salted_extract_pruned"];
     check(&keywords, false, 202 + 230 + 14 + 10);
+}
+
+#[test]
+fn every_kind_is_tried() {
+    let tried = "commit open pruned restore heights schedule replay pruned_len authenticated shape verify verify_pruned \
+                 extract extract_pruned known sweep salted_sweep sha256_sweep sha256 sha256_commit sha256_open \
+                 sha256_pruned salted_open salted_pruned salted_commits salted_fork salted_verify salted_verify_pruned \
+                 salted_extract salted_extract_pruned layers sha256_layers";
+    let left_out = "mmcs mmcs_unread mmcs_unwritten";
+    let known: Vec<_> = tried.split_whitespace().chain(left_out.split_whitespace()).collect();
+    for (number, line) in common::cases(&common::stored("crates/merkle_cases/stdin")) {
+        let keyword = line.split(" |").next().unwrap_or_default();
+        assert!(known.contains(&keyword), "line {number} is of no kind that is known here: {keyword}");
+    }
 }
 
 /// What `tests/cargo quick` leaves out.
