@@ -157,8 +157,9 @@ help:
 #:                   processor time the first time. CPU=x86-64-v2 or CPU=x86-64-v3 names another processor.
 #:                   `make build/libfohlazu.a` proves the library for C alone, in half an hour
 #: make quick        the programs with no proof, in build/quick/: two minutes
-#: make check-quick  what can be tried with no proof: documents, tests, stored runs, random cases, commands; 20 minutes
-#: make check        the gate: documents, then proofs, tests, stored runs and the edits that must be refused, then
+#: make check-quick  what can be tried with no proof: documents, tests, stored runs, random cases, commands, the Cargo
+#:                   package; 20 minutes
+#: make check        the gate: documents, the Cargo package, then proofs, tests, stored runs and the edits that must be refused, then
 #:                   commands of the proved programs, and their answers with each request for memory refused. It takes
 #:                   up to 200 processor minutes, and needs a C compiler
 #: make libraries    the proved libraries, with rattle-with: a crate over them is checked in a minute

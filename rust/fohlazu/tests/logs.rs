@@ -10,10 +10,10 @@ mod common;
 
 use fohlazu::hashes::Sha256;
 use fohlazu::tlog::{
-    Collision, EMPTY_ROOT, Frontier, LogHash, TreeBuilder, TreeError, compose, consistency_collision, consistency_places,
-    consistency_proof, entries_collision, entry_collision, entry_places, growth_collision, inclusion_places,
-    inclusion_proof, leaf_collision, leaf_hash, leaf_hashes, node_hash, prefix_collision, proof_collision, root,
-    root_collision, verify_consistency, verify_entries, verify_inclusion,
+    Collision, EMPTY_ROOT, Frontier, LogHash, TreeBuilder, TreeError, compose, consistency_collision,
+    consistency_places, consistency_proof, entries_collision, entry_collision, entry_places, growth_collision,
+    inclusion_places, inclusion_proof, leaf_collision, leaf_hash, leaf_hashes, node_hash, prefix_collision,
+    proof_collision, root, root_collision, verify_consistency, verify_entries, verify_inclusion,
 };
 use std::fmt::Display;
 
@@ -302,9 +302,7 @@ fn collision(kind: &str, words: &mut Words<'_>) -> String {
         // ENTRIES OTHER-ENTRIES
         "root_collision" => root_collision::<Weak, 32>(&words.entries(), &words.entries()),
         // ENTRIES INDEX LEAF PROOF
-        "leaf_collision" => {
-            leaf_collision::<Weak, 32>(&words.entries(), words.number(), &words.weak(), &words.weaks())
-        }
+        "leaf_collision" => leaf_collision::<Weak, 32>(&words.entries(), words.number(), &words.weak(), &words.weaks()),
         // ENTRIES INDEX ENTRY PROOF
         "entry_collision" => {
             entry_collision::<Weak, 32>(&words.entries(), words.number(), words.word().as_bytes(), &words.weaks())
@@ -368,15 +366,20 @@ fn composed(words: &mut Words<'_>) -> String {
     composed.map_or_else(|error| error.to_string(), |_| "composed".to_string())
 }
 
-/// Checks the answers to the cases of these kinds, and that there are so many.
-fn check(kinds: &[&str], count: usize) {
+/// Whether a case takes long where tests are not optimized: the root of a log of thousands of entries.
+fn is_long(question: &str) -> bool {
+    question.strip_prefix("root ").is_some_and(|size| size.len() > 3)
+}
+
+/// Checks the answers to the cases of these kinds that take long, or to all others, and that there are so many.
+fn check_some(kinds: &[&str], are_long: bool, count: usize) {
     let text = common::stored("crates/log_cases/stdin");
     let mut cases = 0;
     for (number, line) in common::cases(&text) {
         let (question, expected) = line.split_once(" |").expect("a case has an answer");
         let mut words = Words(question.split(' '));
         let kind = words.word();
-        if !kinds.contains(&kind) {
+        if !kinds.contains(&kind) || is_long(question) != are_long {
             continue;
         }
         cases += 1;
@@ -399,9 +402,27 @@ fn check(kinds: &[&str], count: usize) {
     assert_eq!(cases, count, "cases of {}", kinds.join(", "));
 }
 
+/// The same of cases that do not take long.
+fn check(kinds: &[&str], count: usize) {
+    check_some(kinds, false, count);
+}
+
 #[test]
 fn roots() {
-    check(&["root"], 21);
+    check(&["root"], 19);
+}
+
+#[test]
+fn every_kind_is_tried() {
+    let tried = "root inclusion consistency places digests frontier included consistent verify root_collision \
+                 leaf_collision entry_collision entries_collision prefix_collision proof_collision \
+                 consistency_collision growth_collision compose";
+    let left_out = "file file_entries file_prefix checkpoint part entries_proof consistency_proof";
+    let known: Vec<_> = tried.split_whitespace().chain(left_out.split_whitespace()).collect();
+    for (number, line) in common::cases(&common::stored("crates/log_cases/stdin")) {
+        let kind = line.split(' ').next().unwrap_or_default();
+        assert!(known.contains(&kind), "line {number} is of no kind that is known here: {kind}");
+    }
 }
 
 #[test]
@@ -469,4 +490,12 @@ fn the_log_of_certificate_transparency() {
     ];
     assert_eq!(hexes(&growth), expected.join(" "));
     assert_eq!(verify_consistency(6, 8, &growth, &root_of(&entries[..6]), &root), Ok(()));
+}
+
+/// What `tests/cargo quick` leaves out.
+mod long {
+    #[test]
+    fn roots() {
+        super::check_some(&["root"], true, 2);
+    }
 }

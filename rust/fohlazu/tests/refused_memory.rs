@@ -13,8 +13,7 @@ use fohlazu::hashes::{
     Sha256RowsInEights, U32x8, group_message,
 };
 use fohlazu::merkle_tree::{
-    BatchOpening, BatchOpeningRef, CapRule, MerkleTree, MerkleTreeHidingMmcs, MerkleTreeMmcs,
-    check_indices,
+    BatchOpening, BatchOpeningRef, CapRule, MerkleTree, MerkleTreeHidingMmcs, MerkleTreeMmcs, check_indices,
 };
 use fohlazu::support::{
     CryptographicHasher, Matrix, PackedValue, PseudoCompressionFunction, RowMajorMatrix, SaltWord, TryClone,
@@ -131,13 +130,11 @@ fn batch<T: Copy + From<u8>>() -> Vec<RowMajorMatrix<T>> {
 /// The queries of pruned openings.
 const QUERIES: [usize; 4] = [5, 1, 16, 5];
 
-/// The rows of an opening, where the first one has another digest only by chance: under the fold functions it has the
-/// same.
-fn twin<T: Copy + From<u8> + Into<u64> + TryFrom<u64, Error: Debug>>(rows: &[Vec<T>]) -> Vec<Vec<T>> {
+/// The rows of an opening with another first row, which has the same digest under the fold functions.
+fn twin(rows: &[Vec<u32>]) -> Vec<Vec<u32>> {
     let mut rows = rows.to_vec();
-    let [first, second] = rows[0][..] else { panic!("rows have two words") };
-    let wrapped = |number: u64| T::try_from(number & 0xffff_ffff).expect("a word has 32 bits");
-    rows[0] = vec![wrapped(first.into() + 1), wrapped(second.into().wrapping_sub(31))];
+    rows[0][0] = rows[0][0].wrapping_add(1);
+    rows[0][1] = rows[0][1].wrapping_sub(31);
     rows
 }
 
@@ -204,9 +201,8 @@ fn plain_collisions<P: FoldLane, const L: usize>(name: &str) {
     let (rows, proof) = scheme.open_multi_batch(&QUERIES, &tree).unwrap();
     let mut twins = rows.clone();
     twins[1] = twin(&rows[1]);
-    let extract = || {
-        scheme.extract_collision_multi(&cap, &dimensions, &QUERIES, &rows, &proof, &QUERIES, &twins, &proof)
-    };
+    let extract =
+        || scheme.extract_collision_multi(&cap, &dimensions, &QUERIES, &rows, &proof, &QUERIES, &twins, &proof);
     let (query1, query2, _) = each("extract_collision_multi", extract).expect("there is a collision");
     assert_eq!((query1, query2), (1, 1));
 }
@@ -227,7 +223,8 @@ where
     };
     let dimensions = dimensions_of(&batch::<T>()).unwrap();
     // Each time by a new scheme: one whose commit is refused may have drawn salts.
-    let commit = |(mut scheme, matrices): (MerkleTreeHidingMmcs<P, P, H, C, Counting, N, D, 2>, _)| scheme.commit(matrices);
+    let commit =
+        |(mut scheme, matrices): (MerkleTreeHidingMmcs<P, P, H, C, Counting, N, D, 2>, _)| scheme.commit(matrices);
     let cap = each_refused("commit", || (scheme(), batch::<T>()), commit, |(cap, _)| cap);
     let mut scheme = scheme();
     let (_, tree) = scheme.commit(batch::<T>()).unwrap();
@@ -353,9 +350,7 @@ fn proofs_of_logs() {
 
     let (old, middle) = (&entries[..3], &entries[..7]);
     let (first, second) = (consistency_proof::<Sha256, 32>(middle, 3).unwrap(), growth);
-    each("compose", || {
-        compose::<Sha256, 32>(3, 7, 11, &root_of(old), &root_of(middle), &root, &first, &second)
-    });
+    each("compose", || compose::<Sha256, 32>(3, 7, 11, &root_of(old), &root_of(middle), &root, &first, &second));
     each("leaf_input", || leaf_input(b"entry"));
     each("node_input", || node_input(&[1; 32], &[2; 32]));
 }

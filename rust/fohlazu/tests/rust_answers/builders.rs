@@ -19,7 +19,8 @@ where
 {
     match case.salts {
         None => {
-            let mut scheme = MerkleTreeMmcs::<P, P, H, C, N, D>::new_with_rule(hash, compress, case.cap_height, case.rule);
+            let mut scheme =
+                MerkleTreeMmcs::<P, P, H, C, N, D>::new_with_rule(hash, compress, case.cap_height, case.rule);
             if matches!(case.call, "layers" | "schedule" | "replay" | "restore") {
                 return answer_to_plain(&scheme, case.call, case.arguments);
             }

@@ -99,7 +99,8 @@ fn text_of(answer: &Answer) -> String {
             let error = format!("{error:?}");
             let error = error.strip_prefix("MalformedPrunedProof(").unwrap_or(&error);
             // Names of fields begin with a small letter.
-            let is_shown = |word: &&str| word.starts_with(|first: char| first.is_ascii_uppercase() || first.is_ascii_digit());
+            let is_shown =
+                |word: &&str| word.starts_with(|first: char| first.is_ascii_uppercase() || first.is_ascii_digit());
             for word in error.split_whitespace().filter(is_shown) {
                 text.push_str(&format!(" {}", word.trim_end_matches(',')));
             }

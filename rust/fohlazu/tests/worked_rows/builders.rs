@@ -4,8 +4,7 @@ use crate::case::{Answer, Case, fields};
 use crate::field::{Item, show_list};
 use crate::matrices::{Word, matrices_in};
 use fohlazu::hashes::{
-    Batched3, FoldCompress, FoldHash, Lanes, Sha256Nodes, Sha256NodesInEights, Sha256Rows, Sha256RowsInEights,
-    U32x8,
+    Batched3, FoldCompress, FoldHash, Lanes, Sha256Nodes, Sha256NodesInEights, Sha256Rows, Sha256RowsInEights, U32x8,
 };
 use fohlazu::merkle_tree::{MerkleCap, MerkleTree, MerkleTreeError};
 use fohlazu::support::{CryptographicHasher, Matrix, PackedValue, PseudoCompressionFunction, RowMajorMatrix};

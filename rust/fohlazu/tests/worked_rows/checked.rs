@@ -139,6 +139,7 @@ pub fn restore<T: Word, X: Item, S: Tried<T, X>>(case: &mut Case<'_>, scheme: &S
     if paths.is_empty() {
         return Ok("-".to_string());
     }
-    let paths: Vec<_> = paths.iter().map(|path| format!("{}: {}", path.leaf_index, show_list(&path.siblings))).collect();
+    let paths: Vec<_> =
+        paths.iter().map(|path| format!("{}: {}", path.leaf_index, show_list(&path.siblings))).collect();
     Ok(paths.join("; "))
 }

@@ -3,6 +3,7 @@
 //! A line there is a keyword, fields and the expected answer, with `|` between them; docs/ROWS.md says which lines a
 //! worked row is. The answers were worked out by hand or by `tests/model`, never by the library. Lines of the program
 //! `mmcs` are left out, which is no part of the package.
+#![cfg(feature = "sha2")]
 
 #[path = "../common/mod.rs"]
 mod common;
@@ -137,12 +138,20 @@ fn check_by(number: usize, line: &str, rule: CapRule) -> bool {
     case.is_for_any_rule
 }
 
-/// Checks the cases of these keywords, and that there are so many.
-fn check(keywords: &[&str], count: usize) {
+/// Whether a case takes long where tests are not optimized: one of many lists of queries, or of long lists.
+fn is_long(line: &str) -> bool {
+    ["lawful 9", "100000", "999999"].iter().any(|text| line.contains(text))
+}
+
+/// Checks the cases of these keywords that take long, or all others, and that there are so many.
+fn check(keywords: &[&str], are_long: bool, count: usize) {
     let text = common::stored("crates/merkle_cases/stdin");
     let keyword_of = |line: &str| line.split_once(" |").expect("a case has fields").0.to_string();
     let mut cases = 0;
-    for (number, line) in common::cases(&text).filter(|(_, line)| keywords.contains(&keyword_of(line).as_str())) {
+    for (number, line) in common::cases(&text) {
+        if !keywords.contains(&keyword_of(line).as_str()) || is_long(line) != are_long {
+            continue;
+        }
         cases += 1;
         if check_by(number, line, CapRule::Lowered) {
             check_by(number, line, CapRule::Fixed);
@@ -153,56 +162,91 @@ fn check(keywords: &[&str], count: usize) {
 
 #[test]
 fn commits_and_openings() {
-    check(&["commit", "open", "pruned", "restore"], 207 + 18 + 11 + 26);
-}
-
-#[test]
-fn layers() {
-    check(&["layers", "sha256_layers"], 31 + 30);
+    check(&["commit", "open", "pruned", "restore"], false, 207 + 18 + 11 + 26);
 }
 
 #[test]
 fn geometry() {
-    check(&["heights", "schedule", "replay", "pruned_len", "authenticated", "shape"], 13 + 81 + 72 + 80 + 19 + 517);
+    let keywords = ["heights", "schedule", "replay", "pruned_len", "authenticated", "shape"];
+    check(&keywords, false, 13 + 79 + 72 + 77 + 19 + 517);
 }
 
 #[test]
 fn verdicts_and_collisions() {
-    check(&["verify", "verify_pruned", "extract", "extract_pruned"], 225 + 350 + 15 + 23);
+    check(&["verify", "verify_pruned", "extract", "extract_pruned"], false, 218 + 341 + 15 + 23);
 }
 
 #[test]
 fn known_nodes() {
-    check(&["known"], 25);
+    check(&["known"], false, 25);
 }
 
 #[test]
 fn sweeps() {
-    check(&["sweep"], 180);
+    check(&["sweep", "salted_sweep", "sha256_sweep"], false, 154 + 3 + 1);
 }
 
 #[test]
 fn sha_256() {
-    check(&["sha256", "sha256_commit", "sha256_open", "sha256_pruned"], 4 + 128 + 15 + 19);
-}
-
-#[test]
-fn sweeps_by_sha_256() {
-    check(&["sha256_sweep"], 4);
+    check(&["sha256", "sha256_commit", "sha256_open", "sha256_pruned"], false, 4 + 128 + 15 + 19);
 }
 
 #[test]
 fn salts() {
-    check(&["salted_open", "salted_pruned", "salted_commits", "salted_fork"], 22 + 14 + 30 + 4);
+    check(&["salted_open", "salted_pruned", "salted_commits", "salted_fork"], false, 22 + 14 + 30 + 4);
 }
 
 #[test]
 fn salted_verdicts_and_collisions() {
     let keywords = ["salted_verify", "salted_verify_pruned", "salted_extract", "salted_extract_pruned"];
-    check(&keywords, 205 + 233 + 14 + 10);
+    check(&keywords, false, 202 + 230 + 14 + 10);
 }
 
 #[test]
-fn salted_sweeps() {
-    check(&["salted_sweep"], 29);
+fn every_kind_is_tried() {
+    let tried = "commit open pruned restore heights schedule replay pruned_len authenticated shape verify verify_pruned \
+                 extract extract_pruned known sweep salted_sweep sha256_sweep sha256 sha256_commit sha256_open \
+                 sha256_pruned salted_open salted_pruned salted_commits salted_fork salted_verify salted_verify_pruned \
+                 salted_extract salted_extract_pruned layers sha256_layers";
+    let left_out = "mmcs mmcs_unread mmcs_unwritten";
+    let known: Vec<_> = tried.split_whitespace().chain(left_out.split_whitespace()).collect();
+    for (number, line) in common::cases(&common::stored("crates/merkle_cases/stdin")) {
+        let keyword = line.split(" |").next().unwrap_or_default();
+        assert!(known.contains(&keyword), "line {number} is of no kind that is known here: {keyword}");
+    }
+}
+
+/// What `tests/cargo quick` leaves out.
+mod long {
+    use super::check;
+
+    #[test]
+    fn layers() {
+        check(&["layers", "sha256_layers"], false, 31 + 30);
+    }
+
+    #[test]
+    fn geometry() {
+        check(&["schedule", "pruned_len"], true, 2 + 3);
+    }
+
+    #[test]
+    fn verdicts() {
+        check(&["verify", "verify_pruned", "salted_verify", "salted_verify_pruned"], true, 7 + 9 + 3 + 3);
+    }
+
+    #[test]
+    fn sweeps() {
+        check(&["sweep"], true, 26);
+    }
+
+    #[test]
+    fn sweeps_by_sha_256() {
+        check(&["sha256_sweep"], true, 3);
+    }
+
+    #[test]
+    fn salted_sweeps() {
+        check(&["salted_sweep"], true, 26);
+    }
 }

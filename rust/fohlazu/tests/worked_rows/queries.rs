@@ -11,7 +11,8 @@ fn lawful_batches(tallest: usize, width: usize) -> Vec<Vec<Dimensions>> {
     let mut batches = Vec::new();
     for height in 0..=tallest {
         batches.push(vec![Dimensions { width, height }]);
-        batches.extend((1..=tallest).map(|second| [height, second].map(|height| Dimensions { width, height }).to_vec()));
+        batches
+            .extend((1..=tallest).map(|second| [height, second].map(|height| Dimensions { width, height }).to_vec()));
     }
     batches.retain(|batch| fold_scheme::<2>(ROOT).proof_arity_schedule(batch).is_ok());
     batches

@@ -7,9 +7,7 @@ use fohlazu::hashes::{FoldCompress, FoldHash};
 use fohlazu::merkle_tree::{
     AuthPath, BatchOpeningRef, CapRule, InputPair, MerkleCap, MerkleTreeError, MerkleTreeMmcs, PrunedProof,
 };
-use fohlazu::support::{
-    CryptographicHasher, Dimensions, Mmcs, PackedValue, PseudoCompressionFunction, RowMajorMatrix,
-};
+use fohlazu::support::{CryptographicHasher, Dimensions, Mmcs, PackedValue, PseudoCompressionFunction, RowMajorMatrix};
 
 /// How far below the root a cap is asked for, in levels, and by which rule.
 #[derive(Clone, Copy)]
