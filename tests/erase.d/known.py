@@ -365,4 +365,18 @@ KNOWN = [
         pub trait SeenTrait { fn lane(&self, k: usize); fn next_lane() {} }
         impl Index<usize> for Seen { fn index(&self, i: usize) -> &u8 { assert!(i < 1, "can_index"); g() } }""",
     ),
+    Form(
+        "small functions",
+        """/// The first.
+        pub fn first() {}
+
+        impl One for Two { #[inline(always)] fn next(self) {} fn last(self) requires { self } {} }
+
+        trait One { fn next(self); }""",
+        """/// The first.
+        #[inline] pub(crate) fn first() {}
+        impl One for Two { #[inline(always)] fn next(self) {} #[inline] fn last(self) {} }
+        trait One { fn next(self); }""",
+        "small",
+    ),
 ]

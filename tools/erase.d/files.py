@@ -45,6 +45,7 @@ def package_of(crates: Path) -> Package:
         crates=settings["crates"],
         left_out=set(settings["left_out"]),
         features={module: name for name, modules in settings["features"].items() for module in modules},
+        inline=set(settings["inline"]),
         exported=exported(FACADE, crates, settings["crates"]),
         internal=set(settings["internal"]),
         conditions=settings["conditions"],
@@ -88,6 +89,6 @@ def check_lists(package: Package) -> None:
     if package.missing:
         lines = "\n".join(f"  {line}" for line in package.missing)
         raise Unknown(f"package.toml does not list what is public:\n{lines}")
-    unknown = (set(package.conditions) | set(package.laws) | package.internal) - package.used
+    unknown = (set(package.conditions) | set(package.laws) | package.internal | package.inline) - package.used
     if unknown:
         raise Unknown(f"package.toml names what is not there: {', '.join(sorted(unknown))}")

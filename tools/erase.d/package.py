@@ -17,6 +17,8 @@ class Package:
     left_out: set[str]
     # Modules that need a feature: `crate.module`.
     features: dict[str, str]
+    # Modules whose functions are inlined: `crate.module`.
+    inline: set[str]
     # Names that the package exports: `crate.module.name`.
     exported: set[str]
     # Public methods of exported types that stay inside: `crate.module.Type.method`.

@@ -65,6 +65,7 @@ class Eraser:
         self.rewrite_links()
         self.lower_visibility()
         self.write_conditions()
+        self.write_inline()
         self.cut_empty_where()
         self.add_imports()
         return self.sheet.text()
@@ -549,6 +550,17 @@ class Eraser:
             if item.kind == "fn" and self.sheet.live(item.head):
                 self.conditions.write(path, item, outer)
             self.conditions.check_laws(path, item)
+
+    def write_inline(self) -> None:
+        """Marks the functions of a module of small ones for inlining, where the source does not say how they are."""
+        if self.path not in self.package.inline:
+            return
+        self.package.used.add(self.path)
+        for _, item, _ in self.walked:
+            if item.kind == "fn" and item.body and self.sheet.live(item.head):
+                names_of = [self.code.text(self.code.next(self.code.next(start))) for start, _ in item.attributes]
+                if "inline" not in names_of:
+                    self.sheet.put(item.visibility[0] if item.visibility else item.head, "#[inline]\n", "inline")
 
     def add_imports(self) -> None:
         """Adds what the source has without an import, or from elsewhere."""

@@ -16,12 +16,14 @@ const MOST_HASHED: usize = 4;
 const MOST_COMPRESSED: usize = 1;
 
 /// Packs word `column` of `P::WIDTH` messages: lane `k` is from message `first + k`.
+#[inline]
 fn column_of<P: FoldLane>(messages: &[u32], width: usize, first: usize, column: usize) -> P {
     P::from_fn(|k| -> u32 { messages[(first + k) * width + column] })
 }
 
 /// Absorbs the columns from `from` on of `P::WIDTH` messages, one a lane, from message `first` on. The state has
 /// absorbed the columns ahead of them.
+#[inline]
 fn absorb_columns<P: FoldLane, const D: usize>(
     state: &mut [P; D],
     messages: &[u32],
@@ -35,6 +37,7 @@ fn absorb_columns<P: FoldLane, const D: usize>(
 }
 
 /// Absorbs packed words into the state, one after another.
+#[inline]
 fn absorb_words<P: FoldLane, const D: usize>(state: &mut [P; D], words: &[P]) {
     for word in words {
         absorb(state, *word);
@@ -42,6 +45,7 @@ fn absorb_words<P: FoldLane, const D: usize>(state: &mut [P; D], words: &[P]) {
 }
 
 /// Words `column` to `column + 3` of message `message`, which must have them.
+#[inline]
 fn words_at(messages: &[u32], width: usize, message: usize, column: usize) -> &[u32] {
     let words = &messages[message * width..(message + 1) * width];
     &words[column..column + 4]
@@ -49,6 +53,7 @@ fn words_at(messages: &[u32], width: usize, message: usize, column: usize) -> &[
 
 /// The columns `column` to `column + 3` of the messages `first` to `first + 3`: vector `i` is column `column + i`, and
 /// its lane `k` is from message `first + k`.
+#[inline]
 fn columns_of_four(messages: &[u32], width: usize, first: usize, column: usize) -> [u32x4; 4] {
     transpose(
         words_at(messages, width, first, column),
@@ -60,6 +65,7 @@ fn columns_of_four(messages: &[u32], width: usize, first: usize, column: usize) 
 
 /// The columns `column` to `column + 3` of the messages `first` to `first + 7`: vector `i` is column `column + i`, and
 /// its lane `k` is from message `first + k`.
+#[inline]
 fn columns_of_eight(messages: &[u32], width: usize, first: usize, column: usize) -> [U32x8; 4] {
     let front = columns_of_four(messages, width, first, column);
     let back = columns_of_four(messages, width, first + 4, column);
@@ -73,6 +79,7 @@ fn columns_of_eight(messages: &[u32], width: usize, first: usize, column: usize)
 
 /// Absorbs eight messages into the state, one a lane, from message `first` on, four columns at a time. The columns
 /// after the last whole four are left out.
+#[inline]
 fn absorb_fours<const D: usize>(state: &mut [U32x8; D], messages: &[u32], width: usize, first: usize) {
     for block in 0..width / 4 {
         absorb_words(state, &columns_of_eight(messages, width, first, 4 * block));
@@ -80,6 +87,7 @@ fn absorb_fours<const D: usize>(state: &mut [U32x8; D], messages: &[u32], width:
 }
 
 /// The digests of eight messages of `width` words each: lane `k` is that of message `first + k`.
+#[inline]
 fn hash_eight<const D: usize>(messages: &[u32], width: usize, first: usize) -> [U32x8; D] {
     let mut state = initial_state();
     absorb_fours(&mut state, messages, width, first);
@@ -88,6 +96,7 @@ fn hash_eight<const D: usize>(messages: &[u32], width: usize, first: usize) -> [
 }
 
 /// Writes the digest of message `i` into `out[i]`, eight at a time, up to the last whole eight.
+#[inline]
 fn hash_eights<const D: usize>(messages: &[u32], width: usize, out: &mut [[u32; D]]) {
     for group in 0..out.len() / 8 {
         let digests: [U32x8; D] = hash_eight(messages, width, 8 * group);
@@ -96,6 +105,7 @@ fn hash_eights<const D: usize>(messages: &[u32], width: usize, out: &mut [[u32; 
 }
 
 /// Writes the digest of message `i` into `out[i]`, one by one, from message `from` on.
+#[inline]
 fn hash_rest<const D: usize>(messages: &[u32], width: usize, from: usize, out: &mut [[u32; D]]) {
     for i in from..out.len() {
         out[i] = hash_words(&messages[i * width..(i + 1) * width]);
@@ -103,6 +113,7 @@ fn hash_rest<const D: usize>(messages: &[u32], width: usize, from: usize, out: &
 }
 
 /// Writes the digest of message `i` into `out[i]`, for as many messages as `out` has places.
+#[inline]
 pub(crate) fn hash_all<const D: usize>(messages: &[u32], width: usize, out: &mut [[u32; D]]) {
     if D > MOST_HASHED {
         hash_rest(messages, width, 0, out);
@@ -113,6 +124,7 @@ pub(crate) fn hash_all<const D: usize>(messages: &[u32], width: usize, out: &mut
 }
 
 /// Packs child `place` of `P::WIDTH` groups: lane `k` is from group `first + k`.
+#[inline]
 fn pack_child<P: FoldLane, const N: usize, const D: usize>(
     groups: &[[[u32; D]; N]],
     first: usize,
@@ -122,11 +134,13 @@ fn pack_child<P: FoldLane, const N: usize, const D: usize>(
 }
 
 /// Packs `P::WIDTH` groups: lane `k` is group `first + k`.
+#[inline]
 fn pack_groups<P: FoldLane, const N: usize, const D: usize>(groups: &[[[u32; D]; N]], first: usize) -> [[P; D]; N] {
     core::array::from_fn(|place| -> [P; D] { pack_child(groups, first, place) })
 }
 
 /// Writes the digest of group `i` into `out[i]`, eight at a time, up to the last whole eight.
+#[inline]
 fn compress_eights<const N: usize, const D: usize>(groups: &[[[u32; D]; N]], out: &mut [[u32; D]]) {
     for eight in 0..out.len() / 8 {
         let children: [[U32x8; D]; N] = pack_groups(groups, 8 * eight);
@@ -135,6 +149,7 @@ fn compress_eights<const N: usize, const D: usize>(groups: &[[[u32; D]; N]], out
 }
 
 /// Writes the digest of group `i` into `out[i]`, one by one, from group `from` on.
+#[inline]
 fn compress_rest<const N: usize, const D: usize>(groups: &[[[u32; D]; N]], from: usize, out: &mut [[u32; D]]) {
     for i in from..out.len() {
         out[i] = compress_group(&groups[i]);
@@ -142,6 +157,7 @@ fn compress_rest<const N: usize, const D: usize>(groups: &[[[u32; D]; N]], from:
 }
 
 /// Writes the digest of group `i` into `out[i]`, for as many groups as `out` has places.
+#[inline]
 pub(crate) fn compress_all<const N: usize, const D: usize>(groups: &[[[u32; D]; N]], out: &mut [[u32; D]]) {
     if D > MOST_COMPRESSED {
         compress_rest(groups, 0, out);

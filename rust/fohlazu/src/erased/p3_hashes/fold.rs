@@ -18,26 +18,31 @@ pub trait FoldLane: PackedValue<Value = u32> {
 }
 
 impl FoldLane for u32 {
+    #[inline]
     fn mul_31_add(self, word: u32) -> u32 {
         self.wrapping_mul(31).wrapping_add(word)
     }
 
+    #[inline]
     fn add_to_each(self, number: u32) -> u32 {
         self.wrapping_add(number)
     }
 }
 
 /// The lowest 32 bits of an index.
+#[inline]
 fn low_bits(index: usize) -> u32 {
     (index % 4_294_967_296) as u32
 }
 
 /// The state before the first word, in each lane: element `e` is `1 + e`, modulo 2^32.
+#[inline]
 pub(crate) fn initial_state<P: FoldLane, const D: usize>() -> [P; D] {
     core::array::from_fn(|e| -> P { P::broadcast(low_bits(e).wrapping_add(1)) })
 }
 
 /// Absorbs a word into the state, lane by lane: each element becomes `31 * element + word`, modulo 2^32.
+#[inline]
 pub(crate) fn absorb<P: FoldLane, const D: usize>(state: &mut [P; D], word: P) {
     for element in state.iter_mut() {
         *element = element.mul_31_add(word);
@@ -45,6 +50,7 @@ pub(crate) fn absorb<P: FoldLane, const D: usize>(state: &mut [P; D], word: P) {
 }
 
 /// Absorbs the words of a slice into the state, one after another.
+#[inline]
 fn absorb_slice<const D: usize>(state: &mut [u32; D], words: &[u32]) {
     for word in words {
         absorb(state, *word);
@@ -52,6 +58,7 @@ fn absorb_slice<const D: usize>(state: &mut [u32; D], words: &[u32]) {
 }
 
 /// The digests of `P::WIDTH` messages: lane `k` of the items is message `k`, and lane `k` of the result its digest.
+#[inline]
 fn hash_lanes<P: FoldLane, I: Iterator<Item = P>, const D: usize>(input: I) -> [P; D] {
     let mut state = initial_state();
     for word in input {
@@ -61,6 +68,7 @@ fn hash_lanes<P: FoldLane, I: Iterator<Item = P>, const D: usize>(input: I) -> [
 }
 
 /// The digest of the words of a slice.
+#[inline]
 pub(crate) fn hash_words<const D: usize>(words: &[u32]) -> [u32; D] {
     let mut state = initial_state();
     absorb_slice(&mut state, words);
@@ -83,14 +91,17 @@ impl<P: FoldLane, const L: usize, const D: usize> CryptographicHasher<P, P, D> f
 
     const PREFER_CONTIGUOUS_INPUT: bool = false;
 
+    #[inline]
     fn hash_iter<I: Iterator<Item = u32>>(&self, input: I) -> [u32; D] {
         hash_lanes(input)
     }
 
+    #[inline]
     fn hash_slice(&self, input: &[u32]) -> [u32; D] {
         hash_words(input)
     }
 
+    #[inline]
     fn hash_iter_slices<S: AsRef<[u32]>, I: Iterator<Item = S>>(&self, input: I) -> [u32; D] {
         let mut state = initial_state();
         for words in input {
@@ -99,6 +110,7 @@ impl<P: FoldLane, const L: usize, const D: usize> CryptographicHasher<P, P, D> f
         state
     }
 
+    #[inline]
     fn hash_many(&self, messages: &[u32], out: &mut [[u32; D]]) {
         assert!(messages.len().is_multiple_of(out.len()), "one_length");
         if out.is_empty() {
@@ -108,6 +120,7 @@ impl<P: FoldLane, const L: usize, const D: usize> CryptographicHasher<P, P, D> f
         hash_all(messages, width, out);
     }
 
+    #[inline]
     fn hash_packed<I: Iterator<Item = P>>(&self, input: I) -> [P; D] {
         hash_lanes(input)
     }
@@ -115,6 +128,7 @@ impl<P: FoldLane, const L: usize, const D: usize> CryptographicHasher<P, P, D> f
 
 /// Mixes the child at `place` into the digest, lane by lane: each element becomes `31 * element + child[e] + place`,
 /// modulo 2^32.
+#[inline]
 fn mix<P: FoldLane, const D: usize>(digest: &mut [P; D], child: &[P; D], place: usize) {
     let number = low_bits(place);
     for (e, element) in digest.iter_mut().enumerate() {
@@ -123,6 +137,7 @@ fn mix<P: FoldLane, const D: usize>(digest: &mut [P; D], child: &[P; D], place: 
 }
 
 /// The digests of `P::WIDTH` groups: lane `k` of `children` is group `k`, and lane `k` of the result its digest.
+#[inline]
 pub(crate) fn compress_lanes<P: FoldLane, const N: usize, const D: usize>(children: &[[P; D]; N]) -> [P; D] {
     let mut digest = [P::broadcast(0); D];
     for (i, child) in children.iter().enumerate() {
@@ -132,6 +147,7 @@ pub(crate) fn compress_lanes<P: FoldLane, const N: usize, const D: usize>(childr
 }
 
 /// The digest of a group of `N` digests.
+#[inline]
 pub(crate) fn compress_group<const N: usize, const D: usize>(children: &[[u32; D]; N]) -> [u32; D] {
     compress_lanes(children)
 }
@@ -152,15 +168,18 @@ impl<P: FoldLane, const N: usize, const L: usize, const D: usize> PseudoCompress
 {
     const LANES: usize = L;
 
+    #[inline]
     fn compress(&self, input: [[u32; D]; N]) -> [u32; D] {
         compress_group(&input)
     }
 
+    #[inline]
     fn compress_many(&self, groups: &[[[u32; D]; N]], out: &mut [[u32; D]]) {
         assert!(groups.len() == out.len(), "equal_lengths");
         compress_all(groups, out);
     }
 
+    #[inline]
     fn compress_packed(&self, input: [[P; D]; N]) -> [P; D] {
         compress_lanes(&input)
     }

@@ -27,15 +27,18 @@ impl<T: PackedValue<Value = T> + Default + Eq> PackedValue for Lanes<T> {
 
     const WIDTH: usize = 2;
 
+    #[inline]
     fn broadcast(value: T) -> Lanes<T> {
         Lanes { first: value, second: value }
     }
 
+    #[inline]
     fn lane(&self, k: usize) -> T {
         assert!(k < Self::WIDTH, "lane_in");
         if k == 0 { self.first } else { self.second }
     }
 
+    #[inline]
     fn with_lane(mut self, k: usize, value: T) -> Lanes<T> {
         assert!(k < Self::WIDTH, "lane_in");
         if k == 0 {
@@ -48,6 +51,7 @@ impl<T: PackedValue<Value = T> + Default + Eq> PackedValue for Lanes<T> {
 }
 
 impl FoldLane for Lanes<u32> {
+    #[inline]
     fn mul_31_add(self, word: Lanes<u32>) -> Lanes<u32> {
         Lanes {
             first: self.first.wrapping_mul(31).wrapping_add(word.first),
@@ -55,6 +59,7 @@ impl FoldLane for Lanes<u32> {
         }
     }
 
+    #[inline]
     fn add_to_each(self, number: u32) -> Lanes<u32> {
         Lanes { first: self.first.wrapping_add(number), second: self.second.wrapping_add(number) }
     }
@@ -74,6 +79,7 @@ impl TryClone for U32x8 {
 
 impl U32x8 {
     /// Eight lanes from their halves: those of `front`, then those of `back`.
+    #[inline]
     pub(crate) fn join(front: u32x4, back: u32x4) -> U32x8 {
         let front = front.to_array();
         let back = back.to_array();
@@ -86,16 +92,19 @@ impl PackedValue for U32x8 {
 
     const WIDTH: usize = 8;
 
+    #[inline]
     fn broadcast(value: u32) -> U32x8 {
         U32x8 { lanes: u32x8::splat(value) }
     }
 
+    #[inline]
     fn lane(&self, k: usize) -> u32 {
         assert!(k < Self::WIDTH, "lane_in");
         let lanes = self.lanes.to_array();
         lanes[k]
     }
 
+    #[inline]
     fn with_lane(self, k: usize, value: u32) -> U32x8 {
         assert!(k < Self::WIDTH, "lane_in");
         let mut lanes = self.lanes.to_array();
@@ -105,16 +114,19 @@ impl PackedValue for U32x8 {
 }
 
 impl FoldLane for U32x8 {
+    #[inline]
     fn mul_31_add(self, word: U32x8) -> U32x8 {
         U32x8 { lanes: self.lanes * u32x8::splat(31) + word.lanes }
     }
 
+    #[inline]
     fn add_to_each(self, number: u32) -> U32x8 {
         U32x8 { lanes: self.lanes + u32x8::splat(number) }
     }
 }
 
 /// Transposes four rows of four words: vector `i` of the result has word `i` of each row.
+#[inline]
 pub(crate) fn transpose(first: &[u32], second: &[u32], third: &[u32], fourth: &[u32]) -> [u32x4; 4] {
     let (front_odd, back_odd) = u32x4::from_slice(first).interleave(u32x4::from_slice(third));
     let (front_even, back_even) = u32x4::from_slice(second).interleave(u32x4::from_slice(fourth));

@@ -20,6 +20,7 @@ pub trait PackedValue: Copy {
     fn with_lane(self, k: usize, value: Self::Value) -> Self;
 
     /// The packed value whose lane `k` is `f(k)`, for each `k` below `WIDTH`. `f` must accept each of these `k`.
+    #[inline]
     fn from_fn<F: Fn(usize) -> Self::Value>(f: F) -> Self
     where
         Self: Sized,
@@ -38,15 +39,18 @@ impl PackedValue for u32 {
 
     const WIDTH: usize = 1;
 
+    #[inline]
     fn broadcast(value: u32) -> u32 {
         value
     }
 
+    #[inline]
     fn lane(&self, k: usize) -> u32 {
         assert!(k < Self::WIDTH, "lane_in");
         *self
     }
 
+    #[inline]
     fn with_lane(self, k: usize, value: u32) -> u32 {
         assert!(k < Self::WIDTH, "lane_in");
         value
@@ -59,15 +63,18 @@ impl PackedValue for u8 {
 
     const WIDTH: usize = 1;
 
+    #[inline]
     fn broadcast(value: u8) -> u8 {
         value
     }
 
+    #[inline]
     fn lane(&self, k: usize) -> u8 {
         assert!(k < Self::WIDTH, "lane_in");
         *self
     }
 
+    #[inline]
     fn with_lane(self, k: usize, value: u8) -> u8 {
         assert!(k < Self::WIDTH, "lane_in");
         value
@@ -75,6 +82,7 @@ impl PackedValue for u8 {
 }
 
 /// Unpacks one packed value: lane `k` becomes element `e` of row `k`, where `e < D`. There are `PW::WIDTH` rows.
+#[inline]
 fn unpack_value<PW: PackedValue, const D: usize>(value: PW, e: usize, rows: &mut [[PW::Value; D]]) {
     for k in 0..PW::WIDTH {
         rows[k][e] = value.lane(k);
@@ -82,6 +90,7 @@ fn unpack_value<PW: PackedValue, const D: usize>(value: PW, e: usize, rows: &mut
 }
 
 /// Unpacks an array of packed values: `rows[k][e]` becomes lane `k` of `packed[e]`. `rows` must have `PW::WIDTH` rows.
+#[inline]
 pub fn unpack_into<PW: PackedValue, const D: usize>(packed: &[PW; D], rows: &mut [[PW::Value; D]]) {
     assert!(rows.len() == PW::WIDTH, "a_row_for_each_lane");
     // The inner loop goes over the lanes: their number is a constant, so no lane is read at a computed position.
@@ -92,12 +101,14 @@ pub fn unpack_into<PW: PackedValue, const D: usize>(packed: &[PW; D], rows: &mut
 
 /// Unpacks an array of packed values into the rows from `first` on, a row for each lane: `rows[first + k][e]` becomes
 /// lane `k` of `packed[e]`. `first + PW::WIDTH` must be at most the number of rows.
+#[inline]
 pub fn unpack_at<PW: PackedValue, const D: usize>(packed: &[PW; D], rows: &mut [[PW::Value; D]], first: usize) {
     assert!(first <= rows.len() && PW::WIDTH <= rows.len() - first, "rows_in");
     unpack_into(packed, &mut rows[first..first + PW::WIDTH]);
 }
 
 /// Writes a column of `D` values into lane `k`: element `e` of `packed` gets `column[e]`. Other lanes stay.
+#[inline]
 fn set_lane<PW: PackedValue, const D: usize>(packed: &mut [PW; D], k: usize, column: &[PW::Value]) {
     assert!(column.len() == D, "long");
     for (e, element) in packed.iter_mut().enumerate() {
@@ -107,6 +118,7 @@ fn set_lane<PW: PackedValue, const D: usize>(packed: &mut [PW; D], k: usize, col
 
 /// Packs columns, which are arrays or slices of `D` values: lane `k` of element `e` is `f(k)[e]`, for each `k` below
 /// `PW::WIDTH`. `f` must accept each of these `k`, and return `D` values.
+#[inline]
 pub fn pack_columns_fn<PW: PackedValue, X: AsRef<[PW::Value]>, F: Fn(usize) -> X, const D: usize>(f: F) -> [PW; D] {
     let mut packed = [PW::broadcast(PW::Value::default()); D];
     for k in 0..PW::WIDTH {

@@ -15,6 +15,7 @@ pub trait SaltWord: Copy {
 
 /// The lowest 32 bits of a word.
 impl SaltWord for u32 {
+    #[inline]
     fn from_salt_word(w: u64) -> u32 {
         (w & 0xffff_ffff) as u32
     }
@@ -22,6 +23,7 @@ impl SaltWord for u32 {
 
 /// The lowest 8 bits of a word.
 impl SaltWord for u8 {
+    #[inline]
     fn from_salt_word(w: u64) -> u8 {
         (w & 0xff) as u8
     }
@@ -29,6 +31,7 @@ impl SaltWord for u8 {
 
 /// The next eight words of a generator.
 // If each were stored before the next is drawn, the generator's state would go through memory.
+#[inline]
 fn next_eight<R: Rng>(rng: &mut R) -> [u64; 8] {
     [
         rng.next_u64(),
@@ -43,6 +46,7 @@ fn next_eight<R: Rng>(rng: &mut R) -> [u64; 8] {
 }
 
 /// Appends the values of eight words to a vector that has room for them.
+#[inline]
 fn push_eight<T: SaltWord>(values: &mut Vec<T>, words: [u64; 8]) {
     for word in &words {
         values.push_reserved(T::from_salt_word(*word));
@@ -50,6 +54,7 @@ fn push_eight<T: SaltWord>(values: &mut Vec<T>, words: [u64; 8]) {
 }
 
 /// Draws `8 * eights` values, eight at a time, and appends them to a vector that has room for them.
+#[inline]
 fn draw_eights<T: SaltWord, R: Rng>(values: &mut Vec<T>, rng: &mut R, eights: usize) {
     for _ in 0..eights {
         let words = next_eight(rng);
@@ -58,6 +63,7 @@ fn draw_eights<T: SaltWord, R: Rng>(values: &mut Vec<T>, rng: &mut R, eights: us
 }
 
 /// Draws `count` values, one by one, and appends them to a vector that has room for them.
+#[inline]
 fn draw_each<T: SaltWord, R: Rng>(values: &mut Vec<T>, rng: &mut R, count: usize) {
     for _ in 0..count {
         values.push_reserved(T::from_salt_word(rng.next_u64()));
@@ -72,6 +78,7 @@ impl<T: SaltWord> RowMajorMatrix<T> {
     ///
     /// `AllocError` if `rows * cols` does not fit `usize`, or if memory runs out. Then nothing is drawn from the
     /// generator.
+    #[inline]
     pub fn rand<R: Rng>(rng: &mut R, rows: usize, cols: usize) -> Result<RowMajorMatrix<T>, AllocError> {
         let count = rows.checked_mul(cols).ok_or(AllocError)?;
         let mut values = Vec::with_room(count)?;
