@@ -1,5 +1,5 @@
-//! Times of the calls of the package: the work that the benchmark of the proved sources times, with the same names, so
-//! that bench/package can set both side by side. It prints a line of values with commas between them for each.
+//! Times of the calls of the package: the work that bench/src times of the proved sources, under the same names and in
+//! lines of the same form, so that both can be set side by side. Salts come from a counter here.
 //!
 //!     cargo bench --bench times -- short openings
 //!
