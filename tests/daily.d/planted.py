@@ -4,6 +4,7 @@ signed by it that the log does not have, or that does not follow the last stored
 import fcntl
 import os
 import subprocess
+import sys
 
 from script import TOP, check
 
@@ -53,7 +54,7 @@ def plant(play) -> None:
         return play.dir / f".{play.day}-{count:012}.begun"
 
     kept = play.dir / f"{play.day}-{size:012}.checkpoint"
-    signed = subprocess.run(["sh", TOP / "share/fohlazu-sign", key], input=text(size), capture_output=True, check=True)
+    signed = subprocess.run([sys.executable, TOP / "share/fohlazu-sign", key], input=text(size), capture_output=True, check=True)
     for why, path, planted, status, said in [
         ("a forged log", begun(size), text(size, rewritten), 1, b"put them back"),
         ("a smaller log", begun(known - 1), text(known - 1, rewritten), 1, b"put them back"),
@@ -114,6 +115,11 @@ def lock(play) -> None:
     fcntl.flock(held, fcntl.LOCK_EX)
     ran = play.script("fohlazu-daily", play.log, play.dir, "-k", play.key)
     check(ran.returncode == 2 and b"another run" in ran.stderr, ran)
+    os.close(held)
+    held = os.open(play.key, os.O_RDONLY)
+    fcntl.flock(held, fcntl.LOCK_EX)
+    ran = play.script("fohlazu-daily", play.log, play.dir, "-k", play.key)
+    check(ran.returncode == 2 and b"another run signs by this key" in ran.stderr, ran)
     os.close(held)
     for words, said in ([], b"give -k KEY"), (["-k", play.key, "--origin", "other"], b"have another origin"):
         ran = play.run(words=words)
