@@ -113,8 +113,10 @@ def lock(play) -> None:
     play.grow()
     held = os.open(play.dir, os.O_RDONLY)
     fcntl.flock(held, fcntl.LOCK_EX)
+    work = play.dir / ".work"
+    work.mkdir()
     ran = play.script("fohlazu-daily", play.log, play.dir, "-k", play.key)
-    check(ran.returncode == 2 and b"another run" in ran.stderr, ran)
+    check(ran.returncode == 2 and b"another run" in ran.stderr and work.exists(), ran)
     os.close(held)
     held = os.open(play.key, os.O_RDONLY)
     fcntl.flock(held, fcntl.LOCK_EX)
