@@ -75,6 +75,20 @@ def plant(play) -> None:
         path.write_bytes(planted)
         refuse(play, why, status, said)
         path.unlink()
+    # The record beside the key.
+    record = play.record.read_bytes()
+    rewrote = subprocess.run([sys.executable, TOP / "share/fohlazu-sign", play.key], input=text(size, rewritten),
+                             capture_output=True, check=True)
+    for why, planted, status, said in [
+        ("an empty record", b"", 2, b"is damaged, or of another key: put it back"),
+        ("a cut record", record[:-9], 2, b"is damaged, or of another key: put it back"),
+        ("a record that is not signed", text(known), 2, b"is damaged, or of another key: put it back"),
+        ("a record of another key", signed.stdout, 2, b"is damaged, or of another key: put it back"),
+        ("a record of a rewritten log", rewrote.stdout, 1, b"which the key signed, so nothing is signed: LOG and DIR"),
+    ]:
+        play.record.write_bytes(planted)
+        refuse(play, why, status, said)
+    play.record.write_bytes(record)
     # The last checkpoint is lost, and its proof shows it.
     stored[-1].unlink()
     for contents in lines, rewritten, [*lines[:known - 1], b"other"]:
@@ -106,6 +120,13 @@ def plant(play) -> None:
         check(link.read_bytes().startswith(text(size) + b"\n"), "the link is to", link.resolve())
     link.unlink()
     play.grow()
+    # The record cannot be written, so nothing is published.
+    beside = play.record.with_name(play.record.name + ".next")
+    beside.mkdir()
+    before, ran = play.stored(), play.run()
+    check(ran.returncode == 2 and b"cannot be written (Is a directory); --record names another file" in ran.stderr, ran)
+    check(play.stored() == before, "is published without a record", ran)
+    beside.rmdir()
     play.go_on("a log that was put right")
 
 

@@ -11,11 +11,10 @@ import random
 import shutil
 import subprocess
 import sys
-import time
 from collections import Counter
 from itertools import permutations
 
-from script import TOP, check
+from script import TOP, Wrong, check
 
 sys.path.append(str(TOP / "tests/follow.d"))
 
@@ -58,7 +57,7 @@ class Rollback:
         self.held = []
 
     def script(self, name: str, *words) -> subprocess.CompletedProcess:
-        words = [sys.executable, "-B", TOP / "share" / name, *words]
+        words = [sys.executable, "-S", TOP / "share" / name, *words]
         return subprocess.run(words, stdin=subprocess.DEVNULL, capture_output=True, env=self.environment)
 
     # ---- The machine
@@ -231,11 +230,9 @@ class Rollback:
 def rolled_back(folder, program: str, seed: int) -> Counter:
     """What was counted in a play."""
     folder.mkdir()
-    begun = time.monotonic()
     try:
         counts = Rollback(folder, program, seed).play()
-    except Exception as error:
-        error.add_note(f"rollback seed {seed}, {time.monotonic() - begun:.0f} s")
-        raise
+    except Wrong as wrong:
+        raise Wrong(f"machine {seed} that rolls back: {wrong}") from wrong
     shutil.rmtree(folder)
     return counts

@@ -28,7 +28,7 @@ def run(*words, data=b"", **settings):
 
 
 def script(name, *words, **settings):
-    return run(sys.executable, SHARE / name, *words, **settings)
+    return run(sys.executable, "-S", SHARE / name, *words, **settings)
 
 
 def printed(ran):

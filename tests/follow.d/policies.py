@@ -235,7 +235,7 @@ def try_asked(folder, source, counts):
         (folder / "old").write_bytes(every.last())
         proof = printed(run(os.environ["FOHLAZU"], "prove-consistency", folder / "old",
                             operator.folder / "published/checkpoint", operator.folder / "log"))
-        printed(run("python3", SHARE / "fohlazu-follow", every.folder, "-p", every_policy, "-", data=proof))
+        printed(run("python3", "-S", SHARE / "fohlazu-follow", every.folder, "-p", every_policy, "-", data=proof))
         check(every.last() == note, "one proof past a day without witnesses")
         # A log that was rewritten is evidence without any witness.
         lines = [*operator.lines[:-1], b"other"]
