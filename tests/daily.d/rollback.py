@@ -38,7 +38,8 @@ class Rollback:
         self.folder = folder
         self.random = random.Random(f"rollback {seed}")
         self.order = ORDERS[seed % len(ORDERS)]
-        self.asks = ("nobody", "url", "witness")[seed // len(ORDERS) % 3]
+        self.asks = ("nobody", "url", "witness")[(seed // len(ORDERS) + seed) % 3]
+        self.has_second_folder = seed % 7 == 3
         self.log, self.dir, self.key, self.site = (folder / name for name in ("log", "dir", "key", "site"))
         self.signed, self.answered = folder / "signed", {}
         self.lines, self.histories, self.counts = [], {}, Counter()
@@ -217,7 +218,7 @@ class Rollback:
                 self.day(number)
                 if number == copied:
                     self.copy(self.folder / "copy")
-            if self.random.randrange(4) == 0:
+            if self.has_second_folder:
                 self.second_folder()
             else:
                 self.roll_back(self.folder / "copy", self.lines)
