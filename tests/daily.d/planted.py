@@ -4,6 +4,7 @@ signed by it that the log does not have, or that does not follow the last stored
 import fcntl
 import os
 import subprocess
+import sys
 
 from script import TOP, check
 
@@ -53,7 +54,7 @@ def plant(play) -> None:
         return play.dir / f".{play.day}-{count:012}.begun"
 
     kept = play.dir / f"{play.day}-{size:012}.checkpoint"
-    signed = subprocess.run(["sh", TOP / "share/fohlazu-sign", key], input=text(size), capture_output=True, check=True)
+    signed = subprocess.run([sys.executable, TOP / "share/fohlazu-sign", key], input=text(size), capture_output=True, check=True)
     for why, path, planted, status, said in [
         ("a forged log", begun(size), text(size, rewritten), 1, b"put them back"),
         ("a smaller log", begun(known - 1), text(known - 1, rewritten), 1, b"put them back"),
@@ -74,6 +75,20 @@ def plant(play) -> None:
         path.write_bytes(planted)
         refuse(play, why, status, said)
         path.unlink()
+    # The record beside the key.
+    record = play.record.read_bytes()
+    rewrote = subprocess.run([sys.executable, TOP / "share/fohlazu-sign", play.key], input=text(size, rewritten),
+                             capture_output=True, check=True)
+    for why, planted, status, said in [
+        ("an empty record", b"", 2, b"is damaged, or of another key: put it back"),
+        ("a cut record", record[:-9], 2, b"is damaged, or of another key: put it back"),
+        ("a record that is not signed", text(known), 2, b"is damaged, or of another key: put it back"),
+        ("a record of another key", signed.stdout, 2, b"is damaged, or of another key: put it back"),
+        ("a record of a rewritten log", rewrote.stdout, 1, b"which the key signed, so nothing is signed: LOG and DIR"),
+    ]:
+        play.record.write_bytes(planted)
+        refuse(play, why, status, said)
+    play.record.write_bytes(record)
     # The last checkpoint is lost, and its proof shows it.
     stored[-1].unlink()
     for contents in lines, rewritten, [*lines[:known - 1], b"other"]:
@@ -105,6 +120,13 @@ def plant(play) -> None:
         check(link.read_bytes().startswith(text(size) + b"\n"), "the link is to", link.resolve())
     link.unlink()
     play.grow()
+    # The record cannot be written, so nothing is published.
+    beside = play.record.with_name(play.record.name + ".next")
+    beside.mkdir()
+    before, ran = play.stored(), play.run()
+    check(ran.returncode == 2 and b"cannot be written (Is a directory); --record names another file" in ran.stderr, ran)
+    check(play.stored() == before, "is published without a record", ran)
+    beside.rmdir()
     play.go_on("a log that was put right")
 
 
@@ -112,8 +134,15 @@ def lock(play) -> None:
     play.grow()
     held = os.open(play.dir, os.O_RDONLY)
     fcntl.flock(held, fcntl.LOCK_EX)
+    work = play.dir / ".work"
+    work.mkdir()
     ran = play.script("fohlazu-daily", play.log, play.dir, "-k", play.key)
-    check(ran.returncode == 2 and b"another run" in ran.stderr, ran)
+    check(ran.returncode == 2 and b"another run" in ran.stderr and work.exists(), ran)
+    os.close(held)
+    held = os.open(play.key, os.O_RDONLY)
+    fcntl.flock(held, fcntl.LOCK_EX)
+    ran = play.script("fohlazu-daily", play.log, play.dir, "-k", play.key)
+    check(ran.returncode == 2 and b"another run signs by this key" in ran.stderr, ran)
     os.close(held)
     for words, said in ([], b"give -k KEY"), (["-k", play.key, "--origin", "other"], b"have another origin"):
         ran = play.run(words=words)

@@ -3,6 +3,7 @@
 import os
 import shutil
 import subprocess
+import sys
 from collections import Counter
 
 import log_texts
@@ -14,13 +15,12 @@ SHARE = TOP / "share"
 ORIGIN = "ledger.example"
 SECONDS = 120
 BLOCK = 4096
-SHELL = os.environ.get("SHELL_OF_TESTS") or shutil.which("dash") or "sh"
 PAGE = b"<html>\n\n<h1>404</h1>\n\n\xe2\x80\x94 not found\n"
 # What fohlazu-follow says of forgeries.
 REFUSED = b" is refused: "
 NOT_WHOLE = b" is no growth proof, or not whole: fetch it again ("
 BEGINS = b" begins at "
-USAGE = b"fohlazu-follow DIR VKEY PROOF "
+USAGE = b"fohlazu-follow DIR KEYS PROOF "
 
 
 def run(*words, data=b"", **settings):
@@ -28,7 +28,7 @@ def run(*words, data=b"", **settings):
 
 
 def script(name, *words, **settings):
-    return run(SHELL, SHARE / name, *words, **settings)
+    return run(sys.executable, "-S", SHARE / name, *words, **settings)
 
 
 def printed(ran):
@@ -156,7 +156,7 @@ class Customer:
 
     def survives(self, proof, checkpoint, seconds):
         """A run that is killed leaves the checkpoint that was there, or the new one. Whether it is the new one."""
-        before, words = self.last(), [SHELL, SHARE / "fohlazu-follow", self.folder, self.vkey, "-"]
+        before, words = self.last(), [sys.executable, SHARE / "fohlazu-follow", self.folder, self.vkey, "-"]
         run("timeout", "-s", "KILL", seconds, *words, data=proof, start_new_session=True)
         # What its last command was at, such as a sync, may take a while to end, and holds the lock.
         printed(run("flock", "-w", SECONDS // 2, self.folder, "true"))
@@ -177,9 +177,9 @@ class Customer:
     def begins(self, count, how="begins at"):
         """What is said of a proof from another count, and of a checkpoint that has another."""
         have = count_of(self.last())
-        first = "" if how == "has" else f"take the one from {have} first, or "
+        first = "" if how == "has" else " first"
         return (f"fohlazu-follow: standard input {how} {count} entries, and {self.path} has {have}: "
-                f"{first}ask for prove-consistency").encode()
+                f"take from-{have}.growth{first}, or ask for prove-consistency").encode()
 
     def finds(self, proof, forked, is_full=False):
         """Two histories are announced, then stored and named, if there is room; no other file changes."""

@@ -53,8 +53,8 @@ class Witness:
         self.time += 1
         return 200, "text/plain", self.key.line(text + b"\n", self.time)
 
-    def serve(self):
-        """A server on a free port of this machine, in a thread of its own. The caller stops it."""
+    def serve(self, port=0):
+        """A server on a port of this machine, or a free one, in a thread of its own. The caller stops it."""
         witness = self
 
         class Handler(http.server.BaseHTTPRequestHandler):
@@ -68,6 +68,6 @@ class Witness:
             def log_message(self, *_):
                 pass
 
-        server = http.server.HTTPServer(("127.0.0.1", 0), Handler)
+        server = http.server.HTTPServer(("127.0.0.1", port), Handler)
         threading.Thread(target=server.serve_forever, daemon=True).start()
         return server
