@@ -83,7 +83,7 @@ fn hash_group<const N: usize, const D: usize>(digests: &[[u8; D]; N]) -> [u8; 32
 }
 
 /// The message that SHA-256 hashes for a group of digests: their bytes, one digest after another. Two different groups
-/// of equally many digests have different messages, by [`groups_are_messages`](crate::laws::groups_are_messages).
+/// of equally many digests have different messages.
 ///
 /// # Errors
 ///

@@ -6,8 +6,8 @@ pub enum CapRule {
     /// The layer `cap_height` levels below the root, or the highest layer to which a matrix belongs if that is nearer
     /// to the root. So every row of every matrix is hashed on the way to the cap.
     Lowered,
-    /// The layer `cap_height` levels below the root, or the leaves if there are fewer levels, as in the Rust crate. The
-    /// rows of a matrix that belongs to a higher layer are not hashed: only their width is checked, and that queries of
-    /// one index have the same.
+    /// The layer `cap_height` levels below the root, or the leaves if there are fewer levels, as in Plonky3. The rows
+    /// of a matrix that belongs to a higher layer are not hashed: only their width is checked, and that queries of one
+    /// index have the same.
     Fixed,
 }

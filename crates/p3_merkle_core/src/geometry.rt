@@ -26,7 +26,7 @@ pub struct ArityAndPositions {
     pub query_positions: Vec<usize>,
 }
 
-/// The exponent of a height: the least `k` with `2^k >= height` (`log2_ceil_usize` in the Rust crate).
+/// The exponent of a height: the least `k` with `2^k >= height` (`log2_ceil_usize` in Plonky3).
 pub fn exponent_of(height: usize) -> usize
     ensures { result ≡ exponent height }
 {
@@ -84,7 +84,7 @@ pub(crate) fn first_too_large_of(dimensions: &[Dimensions], max_height: usize) -
         .position(|height| height > MAX_HEIGHT)
 }
 
-/// Checks that an opening has one row for each matrix, each as wide as its matrix (`check_widths` in the Rust crate).
+/// Checks that an opening has one row for each matrix, each as wide as its matrix (`check_widths` in Plonky3).
 ///
 /// # Errors
 ///

@@ -38,7 +38,7 @@ pub struct PrunedProof<X> {
     pub sibling_hashes: Vec<X>,
 }
 
-/// The digests of a pruned proof, of `D` words each (`PrunedMerklePaths` in the Rust crate).
+/// The digests of a pruned proof, of `D` words each (`PrunedMerklePaths` in Plonky3).
 pub type PrunedMerklePaths<W, const D: usize> = PrunedProof<[W; D]>;
 
 /// The rows of several leaves, and one proof for all of them. [`PrunedBatchOpening`] has digests of words.
@@ -50,8 +50,8 @@ pub struct PrunedRows<T, X> {
     pub pruned_proof: PrunedProof<X>,
 }
 
-/// The rows of several leaves, and one proof for all of them, with digests of `D` words (`PrunedBatchOpening` in the
-/// Rust crate).
+/// The rows of several leaves, and one proof for all of them, with digests of `D` words (`PrunedBatchOpening` in
+/// Plonky3).
 pub type PrunedBatchOpening<T, W, const D: usize> = PrunedRows<T, [W; D]>;
 
 /// A leaf and the siblings on its path, as a pruned proof restores them. [`MerkleAuthPath`] has digests of words.
@@ -63,7 +63,7 @@ pub struct AuthPath<X> {
     pub siblings: Vec<X>,
 }
 
-/// A leaf and the siblings on its path, of `D` words each (`MerkleAuthPath` in the Rust crate).
+/// A leaf and the siblings on its path, of `D` words each (`MerkleAuthPath` in Plonky3).
 pub type MerkleAuthPath<W, const D: usize> = AuthPath<[W; D]>;
 
 /// A layer on the way up a pruned opening: its covered nodes, and the digests of their children.

@@ -179,7 +179,7 @@ impl<
             [matrix] if H::LANES == 1 && matrix.piece(first, 0).len() / 2 < len => 1,
             _ => messages_per_call(bytes, H::LANES),
         };
-        // Read first, for the proof: the height bounds the sum in the loop.
+        // Only the proof in Rattle needs that it is read first: the height bounds the sum in the loop.
         let height = self.height;
         let mut done = 0;
         while done < slots.len() {

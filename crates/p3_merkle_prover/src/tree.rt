@@ -43,7 +43,7 @@ pub struct Tree<F, X, G, M: Matrix<F>, const N: usize> {
 }
 
 /// A tree over matrices of values `F`, with digests of `D` words `W`, where a node has at most `N` children
-/// (`MerkleTree` in the Rust crate).
+/// (`MerkleTree` in Plonky3).
 pub type MerkleTree<F, W, M, const N: usize, const D: usize> = Tree<F, [W; D], [[W; D]; N], M, N>;
 
 impl<F: Copy, W: Copy, M: Matrix<F> + Drop, const N: usize, const D: usize> MerkleTree<

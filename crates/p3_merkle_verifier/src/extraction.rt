@@ -269,7 +269,6 @@ impl<
         true
     }
 
-    /// The inputs at the last place that the checks of two openings share and at which they differ.
     /// The last place that the checks of two openings share and at which they differ, with both inputs. `None` if they
     /// agree. Both openings must have their siblings up to the cap. It allocates at shared places alone: the rows
     /// there, and the inputs that differ.

@@ -21,7 +21,7 @@ pub trait CryptographicHasher<P: PackedValue, PW: PackedValue, const D: usize> {
     // The digest of a list of words.
     ghost hash: { Self → List P.Value → List PW.Value };
 
-    /// The digest of the items of `input`. `next` must be callable on it, and its items must end.
+    /// The digest of the items of `input`. Its items must end, and `next` must be callable until then.
     fn hash_iter<I: Iterator<Item = P::Value>>(&self, input: I) -> [PW::Value; D]
         requires can { I.can_next input }
         requires ends { IsFinite (I.remaining input) }

@@ -167,7 +167,7 @@ impl<T, M: Matrix<T>> Matrix<T> for &M {
     ghost length_row_of = { λ m r h. M.length_row_of m.now r h };
 }
 
-/// An iterator over the elements of one row of a matrix. Contracts speak of the list of elements that are left.
+/// An iterator over the elements of one row of a matrix, by ascending columns.
 #[derive(Drop)]
 pub struct Row<'a, T, M: Matrix<T>> {
     matrix: &'a M,
@@ -181,6 +181,7 @@ impl<'a, T, M: Matrix<T>> Model for Row<'a, T, M> {
 
     ghost Value = { List T };
 
+    // The elements that are left.
     ghost view = { λ s. drop s.next (M.row_of s.matrix.now s.row) };
 
     ghost invariant = { λ s. (s.row < M.height_of s.matrix.now) × (s.next ≤ M.width_of s.matrix.now) };
@@ -203,8 +204,7 @@ impl<'a, T, M: Matrix<T>> Iterator for Row<'a, T, M> {
     }
 }
 
-/// An iterator over the columns of `P::WIDTH` rows, each column packed: lane `k` is from row `k` of these. Contracts
-/// speak of the list of columns that are left, each as its lanes.
+/// An iterator over the columns of `P::WIDTH` rows, each column packed: lane `k` is from row `k` of these.
 #[derive(Drop)]
 pub struct PackedRow<'a, T, P: PackedValue<Value = T>, M: Matrix<T>> {
     matrix: &'a M,
@@ -219,6 +219,7 @@ impl<'a, T, P: PackedValue<Value = T>, M: Matrix<T>> Model for PackedRow<'a, T, 
 
     ghost Value = { List (List T) };
 
+    // The columns that are left, each as its lanes.
     ghost view = { λ s. drop s.next
         (columns (M.row_of s.matrix.now) P.default_value s.row P.WIDTH (M.width_of s.matrix.now)) };
 
@@ -253,7 +254,7 @@ pub(crate) fn packed_column<P: PackedValue, M: Matrix<P::Value>>(
     requires column { column < M.width_of matrix.now }
     ensures { P.lanes result ≡ column_of_rows (M.row_of matrix.now) P.default_value row P.WIDTH column }
 {
-    // For the proof alone: the height fits `usize`, and so does the index of each row.
+    // Only the proof in Rattle needs this line: the height fits `usize`, and so does the index of each row.
     let _height = matrix.height();
     P::from_fn(
         |k| -> P::Value

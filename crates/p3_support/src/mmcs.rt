@@ -11,7 +11,7 @@ use crate::opening::{BatchOpening, BatchOpeningRef};
 use std::alloc::Global;
 
 /// A scheme that commits to several matrices `M` of words `T` at once, opens the rows that belong to an index, and
-/// verifies an opening against the commitment (`Mmcs` in the Rust crate).
+/// verifies an opening against the commitment (`Mmcs` in Plonky3).
 ///
 /// An index counts the rows of the tallest matrix, from 0. The verifier has the commitment and the dimensions of the
 /// matrices, and no matrix.
@@ -97,7 +97,7 @@ pub trait Mmcs<T, M: Matrix<T>> {
     ///
     /// # Errors
     ///
-    /// The scheme's error that memory ran out (`is_out_of_memory`), and no other.
+    /// The scheme's error that memory ran out, and no other.
     fn open_batch(
         &self,
         alloc: Global,
@@ -117,7 +117,7 @@ pub trait Mmcs<T, M: Matrix<T>> {
     ///
     /// # Errors
     ///
-    /// The scheme's error that memory ran out (`is_out_of_memory`), and no other.
+    /// The scheme's error that memory ran out, and no other.
     fn get_matrices<'a>(
         &self,
         alloc: Global,
@@ -160,7 +160,7 @@ pub trait Mmcs<T, M: Matrix<T>> {
     ///
     /// # Errors
     ///
-    /// The scheme's error that memory ran out (`is_out_of_memory`), and no other.
+    /// The scheme's error that memory ran out, and no other.
     fn open_multi_batch(
         &self,
         alloc: Global,

@@ -13,7 +13,7 @@ pub struct DigestRef<'a, F, X> {
     of: PhantomData<F>,
 }
 
-/// A borrowed digest of `D` words `W` (`Hash` in the Rust crate).
+/// A borrowed digest of `D` words `W` (`Hash` in Plonky3).
 pub type Hash<'a, F, W, const D: usize> = DigestRef<'a, F, [W; D]>;
 
 impl<'a, F, X> From<&'a X> for DigestRef<'a, F, X> {

@@ -9,7 +9,7 @@ ghost use Rattle.p3_support.specs.Lists.{lane_of};
 use std::cmp::Eq;
 use std::convert::AsSlice;
 
-/// `WIDTH` values that are worked on together, each in a lane. Contracts speak of the list of lanes.
+/// `WIDTH` values that are worked on together, each in a lane. A packed value is the list of its lanes.
 pub trait PackedValue: Copy {
     /// What a lane holds. Its `==` is equality of values, and each call of its `default` gives the same value.
     type Value: Copy + Default + Eq;

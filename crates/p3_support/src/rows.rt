@@ -8,8 +8,7 @@ use crate::matrix::{Matrix, packed_column};
 use crate::packed::PackedValue;
 use std::marker::{Model, PhantomData};
 
-/// An iterator over one row of each matrix of one height, in input order, element by element. Contracts speak of the
-/// list of elements that are left.
+/// An iterator over one row of each matrix of one height, in input order, element by element.
 #[derive(Drop)]
 pub struct Rows<'a, T, M: Matrix<T>> {
     matrices: &'a [M],
@@ -25,6 +24,7 @@ impl<'a, T, M: Matrix<T>> Model for Rows<'a, T, M> {
 
     ghost Value = { List T };
 
+    // The elements that are left.
     ghost view = { λ s. rows_left M.height_of M.row_of s.height s.row s.matrices.now s.next };
 
     ghost invariant = { λ s. s.row < s.height };
@@ -95,7 +95,7 @@ fn stored_column<P: PackedValue>(rows: &[P::Value], width: usize, column: usize)
         ≡ slice_index_or rows.now (k * width + column) P.default_value }
 {
     let lanes = &rows[column..];
-    // For the proof alone: the length fits `usize`, and so does the index of each lane.
+    // Only the proof in Rattle needs this line: the length fits `usize`, and so does the index of each lane.
     let _len = lanes.len();
     P::from_fn(
         |k| -> P::Value
@@ -107,7 +107,7 @@ fn stored_column<P: PackedValue>(rows: &[P::Value], width: usize, column: usize)
 }
 
 /// An iterator over the columns of `P::WIDTH` rows of each of several matrices, one matrix after another, each column
-/// packed: lane `k` is from row `k` of these. Contracts speak of the list of columns that are left, each as its lanes.
+/// packed: lane `k` is from row `k` of these.
 #[derive(Drop)]
 pub struct PackedRows<'a, T, P: PackedValue<Value = T>, M: Matrix<T>> {
     matrices: &'a [M],
@@ -124,6 +124,7 @@ impl<'a, T, P: PackedValue<Value = T>, M: Matrix<T>> Model for PackedRows<'a, T,
 
     ghost Value = { List (List T) };
 
+    // The columns that are left, each as its lanes.
     ghost view = { λ s. columns_left M.row_of M.width_of P.default_value s.row P.WIDTH s.matrices.now s.next };
 
     // `stored` has the rows of the first matrix where that stores them in one piece.

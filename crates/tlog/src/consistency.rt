@@ -11,8 +11,8 @@ use crate::hash::LogHash;
 use crate::inclusion::{SIZE_LIMIT, sibling_is_left};
 use sha2::Sha256;
 
-/// Whether a proof of consistency shows that a log of `new_size` entries under `new_root` begins with the `old_size`
-/// entries under `old_root` (RFC 9162, 2.1.4.2). It allocates nothing. From size 0, whose root is
+/// Checks that a proof of consistency shows that a log of `new_size` entries under `new_root` begins with the
+/// `old_size` entries under `old_root` (RFC 9162, 2.1.4.2). It allocates nothing. From size 0, whose root is
 /// [`EMPTY_ROOT`](crate::EMPTY_ROOT), there are no digests, and any root of a size above 0 is accepted. Between equal
 /// sizes there are no digests, and the roots must be equal.
 ///

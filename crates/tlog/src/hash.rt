@@ -34,7 +34,7 @@ pub fn node_hash(left: &[u8; 32], right: &[u8; 32]) -> [u8; 32]
     hasher.finalize()
 }
 
-/// The hash function of a log, with values of `D` bytes, 64 at most.
+/// The hash function of a log, with values of `D` bytes, 64 at most. `Sha256` has this trait at 32.
 pub trait LogHash<const D: usize> {
     // The function, on byte strings.
     ghost hash: { List ℕ → List ℕ };

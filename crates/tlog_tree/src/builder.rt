@@ -87,7 +87,7 @@ impl TreeBuilder {
     {
         let mut values = vec![in alloc; None; self.wanted.len()]?;
         for node in &self.wanted {
-            // Each index is below the count, which only contracts say.
+            // Each index is below the count, though the node's type does not say so.
             if node.index < values.len() {
                 values[node.index] = self.value(node);
             }

@@ -32,7 +32,7 @@ impl TryClone for ArityAndPositions {
     }
 }
 
-/// The exponent of a height: the least `k` with `2^k >= height` (`log2_ceil_usize` in the Rust crate).
+/// The exponent of a height: the least `k` with `2^k >= height` (`log2_ceil_usize` in Plonky3).
 pub(crate) fn exponent_of(height: usize) -> usize {
     (usize::BITS - height.saturating_sub(1).leading_zeros()) as usize
 }
@@ -74,7 +74,7 @@ pub(crate) fn first_too_large_of(dimensions: &[Dimensions], max_height: usize) -
     dimensions.iter().map(|matrix| matrix.height).position(|height| height > MAX_HEIGHT)
 }
 
-/// Checks that an opening has one row for each matrix, each as wide as its matrix (`check_widths` in the Rust crate).
+/// Checks that an opening has one row for each matrix, each as wide as its matrix (`check_widths` in Plonky3).
 ///
 /// # Errors
 ///

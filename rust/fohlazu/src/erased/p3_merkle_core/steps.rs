@@ -1,7 +1,7 @@
 // Made from crates/p3_merkle_core/src/steps.rt by tools/erase.
 
 //! The steps of a tree, from the leaves to the root, and the covered nodes of its layers. The steps are computed once
-//! and stored; all other code reads them. Only the two `clone`s and the two calls that return a list allocate.
+//! and stored; all other code reads them. Only the two clones and the two calls that return a list allocate.
 //!
 //! - Layer 0 is the leaves; level `l` leads from layer `l` to layer `l + 1`. The step of a level is how many children
 //!   each node above it has: the arity, or 2 if a step of the arity would pass over a matrix's layer (a bridge step).
@@ -128,8 +128,7 @@ pub(crate) fn steps_of(dimensions: &[Dimensions], arity: usize) -> Steps<'_> {
     Steps { dimensions, arity, max_height, min_height, exponent, num_levels, of_level }
 }
 
-/// Checks that a tree can be built over matrices of these heights (`validate_commit_reachable_heights` in the Rust
-/// crate).
+/// Checks that a tree can be built over matrices of these heights (`validate_commit_reachable_heights` in Plonky3).
 ///
 /// # Errors
 ///
@@ -278,8 +277,8 @@ impl<'a> Steps<'a> {
     }
 
     /// How many siblings the levels below a layer have, in digests: one less than the step of each
-    /// (`total_siblings_for_levels` in the Rust crate). The layer must be at most the number of levels, the arity a
-    /// power of two from 2 to 2^62, and no height above [`MAX_HEIGHT`].
+    /// (`total_siblings_for_levels` in Plonky3). The layer must be at most the number of levels, the arity a power of
+    /// two from 2 to 2^62, and no height above [`MAX_HEIGHT`].
     pub(crate) fn siblings_below(&self, layer: usize) -> usize {
         // At arity 2 each level has one sibling.
         if self.arity == 2 {

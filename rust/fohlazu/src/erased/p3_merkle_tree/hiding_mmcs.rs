@@ -46,7 +46,7 @@ pub struct HidingScheme<
 }
 
 /// A scheme that commits to matrices of words `P::Value`, each row followed by `SALT_ELEMS` random words, by digests of
-/// `D` words `PW::Value`, where a node has at most `N` children (`MerkleTreeHidingMmcs` in the Rust crate).
+/// `D` words `PW::Value`, where a node has at most `N` children (`MerkleTreeHidingMmcs` in Plonky3).
 pub type MerkleTreeHidingMmcs<
     P: PackedValue,
     PW: PackedValue,
@@ -93,7 +93,7 @@ impl<
 
     /// A scheme that accepts the same openings, with a generator of its own. The new generator is seeded with the next
     /// bytes of this scheme's generator, which then continues after them. That the two draw different salts is not
-    /// proved. There is no `clone`, since a clone would draw the same salts again.
+    /// proved. It can't be cloned, since a clone would draw the same salts again.
     ///
     /// # Errors
     ///

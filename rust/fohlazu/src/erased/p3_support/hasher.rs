@@ -14,7 +14,7 @@ pub trait CryptographicHasher<P: PackedValue, PW: PackedValue, const D: usize> {
     /// it.
     const PREFER_CONTIGUOUS_INPUT: bool;
 
-    /// The digest of the items of `input`. `next` must be callable on it, and its items must end.
+    /// The digest of the items of `input`. Its items must end, and `next` must be callable until then.
     fn hash_iter<I: Iterator<Item = P::Value>>(&self, input: I) -> [PW::Value; D];
 
     /// The digest of the words of a slice.

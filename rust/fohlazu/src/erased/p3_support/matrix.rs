@@ -118,7 +118,7 @@ impl<T, M: Matrix<T>> Matrix<T> for &M {
     }
 }
 
-/// An iterator over the elements of one row of a matrix. Contracts speak of the list of elements that are left.
+/// An iterator over the elements of one row of a matrix, by ascending columns.
 pub struct Row<'a, T, M: Matrix<T>> {
     matrix: &'a M,
     row: usize,
@@ -139,8 +139,7 @@ impl<'a, T, M: Matrix<T>> Iterator for Row<'a, T, M> {
     }
 }
 
-/// An iterator over the columns of `P::WIDTH` rows, each column packed: lane `k` is from row `k` of these. Contracts
-/// speak of the list of columns that are left, each as its lanes.
+/// An iterator over the columns of `P::WIDTH` rows, each column packed: lane `k` is from row `k` of these.
 pub struct PackedRow<'a, T, P: PackedValue<Value = T>, M: Matrix<T>> {
     matrix: &'a M,
     row: usize,
@@ -164,7 +163,7 @@ impl<'a, T, P: PackedValue<Value = T>, M: Matrix<T>> Iterator for PackedRow<'a, 
 /// Packs one column of `P::WIDTH` rows from `row` on: lane `k` is the element of row `row + k`. `row + P::WIDTH` must
 /// be at most the height, and the column below the width.
 pub(crate) fn packed_column<P: PackedValue, M: Matrix<P::Value>>(matrix: &M, row: usize, column: usize) -> P {
-    // For the proof alone: the height fits `usize`, and so does the index of each row.
+    // Only the proof in Rattle needs this line: the height fits `usize`, and so does the index of each row.
     let _height = matrix.height();
     P::from_fn(|k| -> P::Value { matrix.get(row + k, column) })
 }

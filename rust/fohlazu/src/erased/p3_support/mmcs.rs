@@ -7,7 +7,7 @@ use crate::erased::p3_support::opening::{BatchOpening, BatchOpeningRef};
 use alloc::vec::Vec;
 
 /// A scheme that commits to several matrices `M` of words `T` at once, opens the rows that belong to an index, and
-/// verifies an opening against the commitment (`Mmcs` in the Rust crate).
+/// verifies an opening against the commitment (`Mmcs` in Plonky3).
 ///
 /// An index counts the rows of the tallest matrix, from 0. The verifier has the commitment and the dimensions of the
 /// matrices, and no matrix.
@@ -44,7 +44,7 @@ pub trait Mmcs<T, M: Matrix<T>> {
     ///
     /// # Errors
     ///
-    /// The scheme's error that memory ran out (`is_out_of_memory`), and no other.
+    /// The scheme's error that memory ran out, and no other.
     fn open_batch(
         &self,
         index: usize,
@@ -55,7 +55,7 @@ pub trait Mmcs<T, M: Matrix<T>> {
     ///
     /// # Errors
     ///
-    /// The scheme's error that memory ran out (`is_out_of_memory`), and no other.
+    /// The scheme's error that memory ran out, and no other.
     fn get_matrices<'a>(&self, prover_data: &'a Self::ProverData) -> Result<Vec<&'a M>, Self::Error>;
 
     /// The tallest height of the matrices, in rows.
@@ -83,7 +83,7 @@ pub trait Mmcs<T, M: Matrix<T>> {
     ///
     /// # Errors
     ///
-    /// The scheme's error that memory ran out (`is_out_of_memory`), and no other.
+    /// The scheme's error that memory ran out, and no other.
     fn open_multi_batch(
         &self,
         indices: &[usize],

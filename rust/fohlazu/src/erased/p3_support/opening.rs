@@ -41,7 +41,7 @@ impl<'a, F, X: PartialEq> PartialEq for DigestRef<'a, F, X> {
 
 impl<'a, F, X: Eq> Eq for DigestRef<'a, F, X> {}
 
-/// A borrowed digest of `D` words `W` (`Hash` in the Rust crate).
+/// A borrowed digest of `D` words `W` (`Hash` in Plonky3).
 pub type Hash<'a, F, W, const D: usize> = DigestRef<'a, F, [W; D]>;
 
 impl<'a, F, X> From<&'a X> for DigestRef<'a, F, X> {

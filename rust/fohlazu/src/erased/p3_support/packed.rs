@@ -2,7 +2,7 @@
 
 //! Packed values: several values of one type that are worked on together.
 
-/// `WIDTH` values that are worked on together, each in a lane. Contracts speak of the list of lanes.
+/// `WIDTH` values that are worked on together, each in a lane. A packed value is the list of its lanes.
 pub trait PackedValue: Copy {
     /// What a lane holds. Its `==` is equality of values, and each call of its `default` gives the same value.
     type Value: Copy + Default + Eq;

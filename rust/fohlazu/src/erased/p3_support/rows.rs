@@ -6,8 +6,7 @@ use crate::erased::p3_support::matrix::{Matrix, packed_column};
 use crate::erased::p3_support::packed::PackedValue;
 use core::marker::PhantomData;
 
-/// An iterator over one row of each matrix of one height, in input order, element by element. Contracts speak of the
-/// list of elements that are left.
+/// An iterator over one row of each matrix of one height, in input order, element by element.
 pub struct Rows<'a, T, M: Matrix<T>> {
     matrices: &'a [M],
     height: usize,
@@ -58,13 +57,13 @@ fn stored_rows<P: PackedValue, M: Matrix<P::Value>>(matrices: &[M], row: usize) 
 #[inline(always)]
 fn stored_column<P: PackedValue>(rows: &[P::Value], width: usize, column: usize) -> P {
     let lanes = &rows[column..];
-    // For the proof alone: the length fits `usize`, and so does the index of each lane.
+    // Only the proof in Rattle needs this line: the length fits `usize`, and so does the index of each lane.
     let _len = lanes.len();
     P::from_fn(|k| -> P::Value { lanes[k * width] })
 }
 
 /// An iterator over the columns of `P::WIDTH` rows of each of several matrices, one matrix after another, each column
-/// packed: lane `k` is from row `k` of these. Contracts speak of the list of columns that are left, each as its lanes.
+/// packed: lane `k` is from row `k` of these.
 pub struct PackedRows<'a, T, P: PackedValue<Value = T>, M: Matrix<T>> {
     matrices: &'a [M],
     stored: Option<&'a [T]>,

@@ -27,7 +27,7 @@ pub fn node_hash(left: &[u8; 32], right: &[u8; 32]) -> [u8; 32] {
     hasher.finalize()
 }
 
-/// The hash function of a log, with values of `D` bytes, 64 at most.
+/// The hash function of a log, with values of `D` bytes, 64 at most. `Sha256` has this trait at 32.
 pub trait LogHash<const D: usize> {
     /// The leaf hash of an entry: the hash of a byte 0 and the entry (RFC 9162, 2.1.1).
     fn leaf_hash(entry: &[u8]) -> [u8; D];

@@ -9,8 +9,8 @@ use crate::sha256::Sha256;
 /// The greatest size of a log: the verifiers take no greater one.
 pub const SIZE_LIMIT: usize = 1 << 62;
 
-/// Whether a proof of inclusion shows that the log of `size` entries under `root` has `leaf` as the leaf hash of its
-/// entry `index`, counted from 0 (RFC 9162, 2.1.3.2). It allocates nothing.
+/// Checks that a proof of inclusion shows that the log of `size` entries under `root` has `leaf` as the leaf hash of
+/// its entry `index`, counted from 0 (RFC 9162, 2.1.3.2). It allocates nothing.
 ///
 /// # Errors
 ///

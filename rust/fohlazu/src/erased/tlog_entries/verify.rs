@@ -11,8 +11,9 @@ use crate::erased::tlog_entries::tree::{Node, dimensions_of, log_scheme};
 use crate::fallible::try_list;
 use crate::sha256::Sha256;
 
-/// Whether one proof shows that the log of `size` entries under `root` has these leaf hashes as those of the entries at
-/// these indices, counted from 0: one for each index, in their order. The indices may be in any order, with repeats.
+/// Checks that one proof shows that the log of `size` entries under `root` has these leaf hashes as those of the
+/// entries at these indices, counted from 0: one for each index, in their order. The indices may be in any order, with
+/// repeats.
 ///
 /// The proof has a digest for each node that is no entry of the indices, nor above one, and whose sibling is: layer by
 /// layer from the leaves, each from left to right. A node that has no sibling is passed on. For one index these are the

@@ -60,7 +60,7 @@ impl TreeBuilder {
     pub fn values(&self) -> Result<Vec<Option<[u8; 32]>>, AllocError> {
         let mut values = try_vec(None, self.wanted.len())?;
         for node in &self.wanted {
-            // Each index is below the count, which only contracts say.
+            // Each index is below the count, though the node's type does not say so.
             if node.index < values.len() {
                 values[node.index] = self.value(node);
             }
