@@ -184,6 +184,6 @@ pub mod tlog {
     };
     pub use crate::erased::tlog_entries::{EntriesError, entries_collision, entry_places, verify_entries};
     pub use crate::erased::tlog_tree::{
-        Frontier, TreeBuilder, TreeError, WantedNode, consistency_places, inclusion_places, leaf_hashes,
+        Frontier, TreeBuilder, TreeError, consistency_places, inclusion_places, leaf_hashes,
     };
 }

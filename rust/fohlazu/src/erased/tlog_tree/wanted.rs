@@ -3,11 +3,10 @@
 //! Nodes that are wanted, and what becomes of them as a log grows.
 
 use crate::erased::tlog::SIZE_LIMIT;
-use crate::fallible::{AllocError, TryClone};
 
 /// A node that is wanted.
 #[derive(Clone, Copy, Debug, PartialEq, Eq)]
-pub struct WantedNode {
+pub(crate) struct WantedNode {
     /// Its layer: 0 has the leaf hashes.
     pub layer: usize,
     /// Its place in the layer.
@@ -16,12 +15,6 @@ pub struct WantedNode {
     pub index: usize,
     /// Its value, once all leaves below it have come.
     pub value: [u8; 32],
-}
-
-impl TryClone for WantedNode {
-    fn try_clone(&self) -> Result<Self, AllocError> {
-        Ok(*self)
-    }
 }
 
 impl WantedNode {
