@@ -75,6 +75,20 @@ KNOWN = [
     ),
     Form("words inside strings and comments", WORDS, WORDS),
     Form(
+        "statements for the proof",
+        """fn f(m: &M) {
+        // Only the proof in Rattle needs this line: the height fits,
+        // and so does each row.
+        let _height = m.height();
+        // Only the proof in Rattle needs this loop: each row is long.
+        for k in 0..P::WIDTH {
+            lemma_a(&m[k]);
+        }
+        // Stays.
+        g(m); }""",
+        "fn f(m: &M) {\n// Stays.\ng(m); }",
+    ),
+    Form(
         "lemmas",
         """use crate::seen::{lemma_a, Other};
         use crate::seen::lemma_b;

@@ -45,6 +45,21 @@ REFUSED = [
     Refused("a lemma that is a value", "fn f() { g(lemma_x); }", "a lemma that is not called"),
     Refused("a lemma's call that may return", "fn f() { lemma_x(v.pop()?); }", "whose arguments do something"),
     Refused("a lemma's call that changes something", "fn f() { lemma_x(&mut v); }", "whose arguments do something"),
+    Refused(
+        "a statement for the proof that does something",
+        "fn f() {\n// Only the proof in Rattle needs this line.\nlet _x = v.pop(); }",
+        "may do something",
+    ),
+    Refused(
+        "a loop for the proof that does something",
+        "fn f() {\n// Only the proof in Rattle needs this loop.\nfor k in 0..3 { g(k); } }",
+        "a loop for the proof alone that does something",
+    ),
+    Refused(
+        "a loop for the proof over an iterator",
+        "fn f() {\n// Only the proof in Rattle needs this loop.\nfor k in v { lemma_x(k); } }",
+        "over no numbers",
+    ),
     Refused("a lemma under another name", "use crate::a::{lemma_x as y, z};", "a lemma under another name"),
     Refused("a model with code", "impl Model for S { fn view() {} }", "an `impl Model` with code"),
     # Items and words.

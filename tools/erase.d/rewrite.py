@@ -14,9 +14,11 @@ from conditions import Conditions
 from derives import Derives
 from package import Package, walk
 from sheet import Sheet
-from source import OPEN, Item, Source
+from source import OPEN, TRIVIA, Item, Source
 
 LEMMA = "lemma_"
+# How the comment of a statement begins that nothing but a proof needs.
+FOR_PROOF = "// Only the proof in Rattle needs this "
 # What the arguments of a lemma's call may not have: the call is cut, and with it what they would do.
 EFFECTS = {"?", "!", "=", "mut", "return", "break", "continue", "await"}
 
@@ -50,6 +52,7 @@ class Eraser:
         self.check_places_of_clauses()
         self.cut_ghost()
         self.cut_lemmas()
+        self.cut_for_proofs()
         self.cut_impls()
         self.check_words()
         self.check_calls()
@@ -158,6 +161,34 @@ class Eraser:
         if EFFECTS & set(self.code.words(open_, close)):
             raise self.code.fail(at, "the call of a lemma whose arguments do something")
         self.sheet.cut(at, last, "lemma")
+
+    def cut_for_proofs(self) -> None:
+        """Cuts statements of which a comment says that only the proof needs them, with the comment."""
+        for at in self.places("comment"):
+            if not self.code.text(at).startswith(FOR_PROOF):
+                continue
+            first = self.code.next(at)
+            if self.code.text(first) == "for":
+                last = self.end_of_empty_loop(first)
+            else:
+                last = first
+                while self.code.text(last) not in (";", "{", "}", ""):
+                    last = self.code.next(last)
+                if not re.fullmatch(r"let _\w+ = \w+\.(height|len)\(\);", self.code.texts(first, last)):
+                    raise self.code.fail(first, "a statement for the proof alone that may do something")
+            self.sheet.cut(at, last, "statement for the proof")
+
+    def end_of_empty_loop(self, at: int) -> int:
+        """The end of the loop over numbers at `at`, in which nothing is left."""
+        open_ = at
+        while self.code.text(open_) not in ("{", ""):
+            open_ = self.code.next(open_)
+        if not re.fullmatch(r"for \w+ in \d+\.\.[\w:]+(\.len\(\))?", self.code.texts(at, open_ - 1)):
+            raise self.code.fail(at, "a loop for the proof alone that is over no numbers")
+        close = self.code.match(open_)
+        if any(self.code.kind(place) not in TRIVIA for place in range(open_ + 1, close) if self.sheet.live(place)):
+            raise self.code.fail(at, "a loop for the proof alone that does something")
+        return close
 
     def cut_impls(self) -> None:
         """Cuts `impl Model`, which says what contracts see, and `impl From<AllocFailed<..>>`, which no call returns."""

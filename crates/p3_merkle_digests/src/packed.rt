@@ -131,7 +131,7 @@ fn packed_child<PW: PackedValue, const D: usize>(
     ensures { (k : ℕ) → k < PW.WIDTH →
         lane_of PW.lanes PW.default_value k result ≡ slice_index_or below.now (step * (first + k) + n) [] }
 {
-    // Only the proof in Rattle needs this loop, which is empty in Rust: each child has `D` elements, as its type says.
+    // Only the proof in Rattle needs this loop: each child has `D` elements, as its type says.
     for k in 0..PW::WIDTH {
         lemma_row(&below[step * (first + k) + n]);
     }

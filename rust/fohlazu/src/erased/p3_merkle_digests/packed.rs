@@ -79,8 +79,6 @@ fn packed_child<PW: PackedValue, const D: usize>(
     first: usize,
     n: usize,
 ) -> [PW; D] {
-    // Only the proof in Rattle needs this loop, which is empty in Rust: each child has `D` elements, as its type says.
-    for k in 0..PW::WIDTH {}
     core::array::from_fn(|e| -> PW { PW::from_fn(|k| -> PW::Value { below[step * (first + k) + n][e] }) })
 }
 

@@ -163,8 +163,6 @@ impl<'a, T, P: PackedValue<Value = T>, M: Matrix<T>> Iterator for PackedRow<'a, 
 /// Packs one column of `P::WIDTH` rows from `row` on: lane `k` is the element of row `row + k`. `row + P::WIDTH` must
 /// be at most the height, and the column below the width.
 pub(crate) fn packed_column<P: PackedValue, M: Matrix<P::Value>>(matrix: &M, row: usize, column: usize) -> P {
-    // Only the proof in Rattle needs this line: the height fits `usize`, and so does the index of each row.
-    let _height = matrix.height();
     P::from_fn(|k| -> P::Value { matrix.get(row + k, column) })
 }
 

@@ -57,8 +57,6 @@ fn stored_rows<P: PackedValue, M: Matrix<P::Value>>(matrices: &[M], row: usize) 
 #[inline(always)]
 fn stored_column<P: PackedValue>(rows: &[P::Value], width: usize, column: usize) -> P {
     let lanes = &rows[column..];
-    // Only the proof in Rattle needs this line: the length fits `usize`, and so does the index of each lane.
-    let _len = lanes.len();
     P::from_fn(|k| -> P::Value { lanes[k * width] })
 }
 
