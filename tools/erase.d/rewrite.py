@@ -549,9 +549,11 @@ class Eraser:
     def lower_visibility(self) -> None:
         """What the package does not export is visible inside it alone."""
         for path, item, outer in self.walked:
-            if item.visibility is None or not self.sheet.live(item.head) or item.kind == "use":
+            if item.visibility is None or not self.sheet.live(item.head):
                 continue
-            if outer is None:
+            if item.kind == "use":
+                is_exported = any(self.is_exported_name(name) for name in self.used_names(item))
+            elif outer is None:
                 is_exported = path in self.package.exported
             elif outer.kind == "impl" and not outer.of_trait:
                 owner = path.rsplit(".", 1)[0]
@@ -564,6 +566,11 @@ class Eraser:
                 self.sheet.put(end + 1, "(crate)", "visibility")
             elif is_exported and item.kind == "struct" and item.body:
                 self.check_fields(item)
+
+    def is_exported_name(self, name: str) -> bool:
+        """Whether the package exports what a crate's root gives on under a path: of this crate, or of one below."""
+        path = name.removeprefix("crate::").replace("::", ".")
+        return path in self.package.exported or f"{self.crate}.{path}" in self.package.exported
 
     def check_fields(self, item: Item) -> None:
         """Refuses an exported struct with a fact of its fields, or with a model's, whose fields users could change."""
