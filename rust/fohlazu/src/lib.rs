@@ -186,4 +186,14 @@ pub mod tlog {
     pub use crate::erased::tlog_tree::{
         Frontier, TreeBuilder, TreeError, consistency_places, inclusion_places, leaf_hashes,
     };
+
+    /// Verification of inclusion under any hash function.
+    pub mod inclusion {
+        pub use crate::erased::tlog::inclusion::verify;
+    }
+
+    /// Verification of consistency under any hash function.
+    pub mod consistency {
+        pub use crate::erased::tlog::consistency::verify;
+    }
 }

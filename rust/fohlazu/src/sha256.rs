@@ -2,7 +2,7 @@
 
 use sha2::Digest;
 
-/// SHA-256 (FIPS 180-4) of bytes that come in pieces.
+/// SHA-256 (FIPS 180-4). It names the hash of a log where a call takes any, as in `tlog::compose::<Sha256, 32>`.
 #[derive(Clone, Debug, Default)]
 pub struct Sha256(sha2::Sha256);
 

@@ -37,7 +37,7 @@ pub fn verify_consistency(
 /// # Errors
 ///
 /// Those of [`verify_consistency`], in the same order.
-pub(crate) fn verify<H: LogHash<D>, const D: usize>(
+pub fn verify<H: LogHash<D>, const D: usize>(
     old_size: usize,
     new_size: usize,
     proof: &[[u8; D]],

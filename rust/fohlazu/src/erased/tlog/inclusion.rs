@@ -36,7 +36,7 @@ pub fn verify_inclusion(
 /// # Errors
 ///
 /// Those of [`verify_inclusion`], in the same order.
-pub(crate) fn verify<H: LogHash<D>, const D: usize>(
+pub fn verify<H: LogHash<D>, const D: usize>(
     index: usize,
     size: usize,
     leaf: &[u8; D],
