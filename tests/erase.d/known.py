@@ -350,17 +350,30 @@ KNOWN = [
     ),
     Form(
         "conditions",
-        """pub fn seen_tested(n: usize, m: usize)
+        """/// Does it.
+        pub fn seen_tested(n: usize, m: usize)
             requires few { n < 4 }
             requires { 1 ≤ m }
         { g(); }
 
+        /// Does it, too.
         pub fn seen_const<const N: usize>() requires arity { N ≡ 2 } {}
 
         pub fn seen_untested<I>(i: I) requires ends { IsFinite i } {}
 
         fn hidden(n: usize) requires { n < 4 } {}""",
-        """pub fn seen_tested(n: usize, m: usize) { assert!(n < 4, "few"); assert!(1 <= m, "some"); g(); }
+        """/// Does it.
+        ///
+        /// # Panics
+        ///
+        /// - By `few` unless `n < 4`.
+        /// - By `some` unless `1 <= m`.
+        pub fn seen_tested(n: usize, m: usize) { assert!(n < 4, "few"); assert!(1 <= m, "some"); g(); }
+        /// Does it, too.
+        ///
+        /// The compiler refuses a call that breaks one of these:
+        ///
+        /// - `arity`: `N == 2`.
         pub fn seen_const<const N: usize>() { const { assert!(N == 2, "arity") }; }
         pub fn seen_untested<I>(i: I) {}
         fn hidden(n: usize) {}""",

@@ -48,6 +48,8 @@ class Conditions:
         self.check_names(path, item, asked, list(listed))
         for name, condition in listed.items():
             self.write_one(item, name, condition)
+        if self.is_public(path, item, outer) and not (outer and outer.of_trait):
+            self.write_docs(item, listed)
 
     def names(self, item: Item, outer: Item | None) -> list[str]:
         """The names of a function's conditions, each "" where it has none."""
@@ -72,6 +74,21 @@ class Conditions:
             return
         text = f'const {{ assert!({rest}, "{name}") }};' if how == "const" else f'assert!({condition}, "{name}");'
         self.sheet.put(item.body[0] + 1, f"\n{text}", "condition")
+
+    def write_docs(self, item: Item, listed: dict[str, str]) -> None:
+        """Says in the docs of a function what it asserts, and what the compiler does."""
+        docs = [at for at in range(item.start, item.head) if self.code.kind(at) == "doc"]
+        panics, compiled = [], []
+        for name, condition in listed.items():
+            how, _, rest = condition.partition(": ")
+            if how == "const":
+                compiled.append(f"/// - `{name}`: `{rest}`.")
+            elif how not in ("untested", "asserted by"):
+                panics.append(f"/// - By `{name}` unless `{condition}`.")
+        lines = ["///", "/// # Panics", "///", *panics] if panics else []
+        lines += ["///", "/// The compiler refuses a call that breaks one of these:", "///", *compiled] if compiled else []
+        for line in lines if docs else []:
+            self.sheet.put(docs[-1] + 1, f"\n{line}", "docs of a condition")
 
     def is_public(self, path: str, item: Item, outer: Item | None) -> bool:
         """Whether users of the package can call a function."""

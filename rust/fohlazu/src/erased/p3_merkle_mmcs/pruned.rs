@@ -39,6 +39,10 @@ impl<
     /// # Errors
     ///
     /// Only `OutOfMemory`.
+    ///
+    /// # Panics
+    ///
+    /// - By `indices_in` unless `indices.iter().all(|&index| index < self.get_max_height(tree))`.
     pub fn open_batch_pruned<M: Matrix<P::Value>>(
         &self,
         indices: &[usize],
@@ -57,6 +61,10 @@ impl<
     /// # Errors
     ///
     /// Only `OutOfMemory`.
+    ///
+    /// # Panics
+    ///
+    /// - By `indices_in` unless `indices.iter().all(|&index| index < self.get_max_height(tree))`.
     pub fn open_multi_batch<M: Matrix<P::Value>>(
         &self,
         indices: &[usize],

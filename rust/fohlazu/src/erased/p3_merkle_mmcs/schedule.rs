@@ -115,6 +115,10 @@ impl<
     /// - `TooLarge` for the first height above 2^62;
     /// - `IncompatibleHeights` for the first height that is not the tallest one halved and rounded up some number of
     ///   times.
+    ///
+    /// # Panics
+    ///
+    /// - By `matrix_in` unless `matrix < dimensions.len()`.
     pub fn is_authenticated(&self, dimensions: &[Dimensions], matrix: usize) -> Result<bool, MerkleTreeError> {
         assert!(matrix < dimensions.len(), "matrix_in");
         let steps = steps_of(dimensions, N);

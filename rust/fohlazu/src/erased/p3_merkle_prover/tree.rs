@@ -56,6 +56,12 @@ impl<F: Copy, W: Copy, M: Matrix<F>, const N: usize, const D: usize> MerkleTree<
     /// - `TooLarge` for the first height above 2^62;
     /// - `IncompatibleHeights` for the first height that is not the tallest one halved and rounded up some number of
     ///   times.
+    ///
+    /// The compiler refuses a call that breaks one of these:
+    ///
+    /// - `arity`: `N.is_power_of_two() && 2 <= N && N <= 1 << 62`.
+    /// - `lanes`: `P::WIDTH == PW::WIDTH`.
+    /// - `some_lane`: `1 <= P::WIDTH`.
     pub fn new<
         P: PackedValue<Value = F>,
         PW: PackedValue<Value = W>,
@@ -93,6 +99,10 @@ impl<F: Copy, W: Copy, M: Matrix<F>, const N: usize, const D: usize> MerkleTree<
     /// # Errors
     ///
     /// Only `OutOfMemory`.
+    ///
+    /// # Panics
+    ///
+    /// - By `cap_height_in` unless `cap_height < self.num_layers()`.
     pub fn cap(&self, cap_height: usize) -> Result<MerkleCap<F, [W; D]>, MerkleTreeError> {
         assert!(cap_height < self.num_layers(), "cap_height_in");
         let cap = cap_at(self, self.num_layers() - 1 - cap_height)?;

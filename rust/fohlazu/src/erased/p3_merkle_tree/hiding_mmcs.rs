@@ -139,6 +139,13 @@ impl<
 
     /// The salted scheme as [`new`](Self::new) builds it, under the same conditions, but with `rule` to choose the
     /// cap's layer: see [`CapRule`]. A cap of one rule is in general refused under the other. It does not allocate.
+    ///
+    /// The compiler refuses a call that breaks one of these:
+    ///
+    /// - `arity`: `N.is_power_of_two() && 2 <= N && N <= 1 << 62`.
+    /// - `lanes`: `P::WIDTH == PW::WIDTH`.
+    /// - `some_lane`: `1 <= P::WIDTH`.
+    /// - `some_salt`: `1 <= SALT_ELEMS`.
     pub fn new_with_rule(
         hash: H,
         compress: C,

@@ -74,6 +74,10 @@ impl<
     /// # Errors
     ///
     /// Only `OutOfMemory`.
+    ///
+    /// # Panics
+    ///
+    /// - By `index_in` unless `index < self.get_max_height(tree)`.
     pub fn open_batch<M: Matrix<P::Value>>(
         &self,
         index: usize,
@@ -97,6 +101,10 @@ impl<
     /// # Errors
     ///
     /// Only `OutOfMemory`.
+    ///
+    /// # Panics
+    ///
+    /// - By `indices_in` unless `indices.iter().all(|&index| index < self.get_max_height(tree))`.
     pub fn open_multi_batch<M: Matrix<P::Value>>(
         &self,
         indices: &[usize],

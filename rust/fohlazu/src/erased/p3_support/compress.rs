@@ -15,6 +15,10 @@ pub trait PseudoCompressionFunction<PW: PackedValue, const N: usize, const D: us
 
     /// Writes the digest of `groups[i]` into `out[i]`. `out` must be as long as `groups`. They are compressed one by
     /// one, unless the compression has its own call.
+    ///
+    /// # Panics
+    ///
+    /// - By `equal_lengths` unless `groups.len() == out.len()`.
     fn compress_many(&self, groups: &[[[PW::Value; D]; N]], out: &mut [[PW::Value; D]]) {
         assert!(groups.len() == out.len(), "equal_lengths");
         for (i, digest) in out.iter_mut().enumerate() {

@@ -27,6 +27,10 @@ pub trait CryptographicHasher<P: PackedValue, PW: PackedValue, const D: usize> {
     /// Writes the digest of message `i` into `out[i]`. `messages` has as many messages as `out` has places, one after
     /// another and of one length `w`: message `i` is `messages[i * w..(i + 1) * w]`. They are hashed one by one, unless
     /// the hasher has its own call.
+    ///
+    /// # Panics
+    ///
+    /// - By `one_length` unless `messages.len().is_multiple_of(out.len())`.
     fn hash_many(&self, messages: &[P::Value], out: &mut [[PW::Value; D]]) {
         assert!(messages.len().is_multiple_of(out.len()), "one_length");
         if out.is_empty() {

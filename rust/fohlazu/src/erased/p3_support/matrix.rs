@@ -35,11 +35,21 @@ pub trait Matrix<T> {
     fn width(&self) -> usize;
 
     /// The element in a row and a column, both from 0. The row must be below the height, the column below the width.
+    ///
+    /// # Panics
+    ///
+    /// - By `row_in` unless `row < self.height()`.
+    /// - By `column_in` unless `column < self.width()`.
     fn get(&self, row: usize, column: usize) -> T;
 
     /// A slice of elements that the matrix stores one after another, from `column` of `row` on. It may end anywhere,
     /// run on into the next rows, or be empty: the caller reads the elements that it lacks by [`get`](Self::get). The
     /// row must be below the height, and the column at most the width.
+    ///
+    /// # Panics
+    ///
+    /// - By `row_in` unless `row < self.height()`.
+    /// - By `column_in` unless `column <= self.width()`.
     fn piece(&self, row: usize, column: usize) -> &[T] {
         assert!(row < self.height(), "row_in");
         assert!(column <= self.width(), "column_in");
@@ -52,6 +62,10 @@ pub trait Matrix<T> {
     }
 
     /// The elements of a row, by ascending columns. The row must be below the height.
+    ///
+    /// # Panics
+    ///
+    /// - By `row_in` unless `row < self.height()`.
     fn row(&self, row: usize) -> Row<'_, T, Self>
     where
         Self: Sized,
@@ -65,6 +79,10 @@ pub trait Matrix<T> {
     /// # Errors
     ///
     /// `AllocError` if memory runs out. `words` may then have a part of the row.
+    ///
+    /// # Panics
+    ///
+    /// - By `row_in` unless `row < self.height()`.
     // Not inlined: callers copy most rows without it.
     #[inline(never)]
     fn append_row(&self, row: usize, words: &mut Vec<T>) -> Result<(), AllocError>
@@ -90,6 +108,10 @@ pub trait Matrix<T> {
 
     /// `P::WIDTH` rows from `row` on, packed column by column: lane `k` of an item is the element of row `row + k`.
     /// `row + P::WIDTH` must be at most the height.
+    ///
+    /// # Panics
+    ///
+    /// - By `rows_in` unless `row <= self.height() && P::WIDTH <= self.height() - row`.
     fn vertically_packed_row<P: PackedValue<Value = T>>(&self, row: usize) -> PackedRow<'_, T, P, Self>
     where
         Self: Sized,
@@ -201,6 +223,10 @@ pub struct RowMajorMatrix<T> {
 impl<T> RowMajorMatrix<T> {
     /// The matrix of these values, with `width` of them in a row. The width must divide the number of values, which
     /// [`try_new`](Self::try_new) tests. A width of 0 needs an empty list of values, and the matrix then has no rows.
+    ///
+    /// # Panics
+    ///
+    /// - By `divides` unless `values.len().is_multiple_of(width)`.
     pub fn new(values: Vec<T>, width: usize) -> RowMajorMatrix<T> {
         assert!(values.len().is_multiple_of(width), "divides");
         let height = if width == 0 { 0 } else { values.len() / width };

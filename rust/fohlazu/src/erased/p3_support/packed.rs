@@ -14,9 +14,17 @@ pub trait PackedValue: Copy {
     fn broadcast(value: Self::Value) -> Self;
 
     /// Lane `k`, where `k < WIDTH`.
+    ///
+    /// # Panics
+    ///
+    /// - By `lane_in` unless `k < Self::WIDTH`.
     fn lane(&self, k: usize) -> Self::Value;
 
     /// The same lanes with `value` in place of lane `k`, where `k < WIDTH`.
+    ///
+    /// # Panics
+    ///
+    /// - By `lane_in` unless `k < Self::WIDTH`.
     fn with_lane(self, k: usize, value: Self::Value) -> Self;
 
     /// The packed value whose lane `k` is `f(k)`, for each `k` below `WIDTH`. `f` must accept each of these `k`.
@@ -90,6 +98,10 @@ fn unpack_value<PW: PackedValue, const D: usize>(value: PW, e: usize, rows: &mut
 }
 
 /// Unpacks an array of packed values: `rows[k][e]` becomes lane `k` of `packed[e]`. `rows` must have `PW::WIDTH` rows.
+///
+/// # Panics
+///
+/// - By `a_row_for_each_lane` unless `rows.len() == PW::WIDTH`.
 #[inline]
 pub fn unpack_into<PW: PackedValue, const D: usize>(packed: &[PW; D], rows: &mut [[PW::Value; D]]) {
     assert!(rows.len() == PW::WIDTH, "a_row_for_each_lane");
@@ -101,6 +113,10 @@ pub fn unpack_into<PW: PackedValue, const D: usize>(packed: &[PW; D], rows: &mut
 
 /// Unpacks an array of packed values into the rows from `first` on, a row for each lane: `rows[first + k][e]` becomes
 /// lane `k` of `packed[e]`. `first + PW::WIDTH` must be at most the number of rows.
+///
+/// # Panics
+///
+/// - By `rows_in` unless `first <= rows.len() && PW::WIDTH <= rows.len() - first`.
 #[inline]
 pub fn unpack_at<PW: PackedValue, const D: usize>(packed: &[PW; D], rows: &mut [[PW::Value; D]], first: usize) {
     assert!(first <= rows.len() && PW::WIDTH <= rows.len() - first, "rows_in");

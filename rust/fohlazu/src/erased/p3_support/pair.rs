@@ -16,6 +16,11 @@ pub struct HorizontalPair<T, A: Matrix<T>, B: Matrix<T>> {
 impl<T, A: Matrix<T>, B: Matrix<T>> HorizontalPair<T, A, B> {
     /// The matrices `left` and `right`, side by side. Their heights must be equal, and both widths together fit
     /// `usize`.
+    ///
+    /// # Panics
+    ///
+    /// - By `one_height` unless `left.height() == right.height()`.
+    /// - By `width_fits` unless `left.width().checked_add(right.width()).is_some()`.
     pub fn new(left: A, right: B) -> HorizontalPair<T, A, B> {
         assert!(left.height() == right.height(), "one_height");
         assert!(left.width().checked_add(right.width()).is_some(), "width_fits");

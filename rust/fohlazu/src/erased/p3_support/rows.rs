@@ -17,6 +17,10 @@ pub struct Rows<'a, T, M: Matrix<T>> {
 
 /// The elements of row `row` of each of the `matrices` that have `height` rows, in input order. `row` must be below
 /// `height`. The call does not allocate.
+///
+/// # Panics
+///
+/// - By `row_in` unless `row < height`.
 pub fn rows_of<'a, T, M: Matrix<T>>(matrices: &'a [M], height: usize, row: usize) -> Rows<'a, T, M> {
     assert!(row < height, "row_in");
     Rows { matrices, height, row, next: 0, item: PhantomData }
@@ -72,6 +76,10 @@ pub struct PackedRows<'a, T, P: PackedValue<Value = T>, M: Matrix<T>> {
 
 /// `P::WIDTH` rows from `row` on of each of the `matrices`, packed column by column, one matrix after another: lane `k`
 /// of an item is an element of row `row + k`. `row + P::WIDTH` must be at most the height of each.
+///
+/// # Panics
+///
+/// - By `rows_in` unless `matrices.iter().all(|matrix| row <= matrix.height() && P::WIDTH <= matrix.height() - row)`.
 pub fn packed_rows_of<'a, T, P: PackedValue<Value = T>, M: Matrix<T>>(
     matrices: &'a [M],
     row: usize,

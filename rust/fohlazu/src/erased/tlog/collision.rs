@@ -16,6 +16,10 @@ pub struct Collision {
 }
 
 /// The largest power of two below `n`, where RFC 9162 (2.1.1) splits a list of `n` entries. `n` must be above 1.
+///
+/// # Panics
+///
+/// - By `two_entries` unless `1 < n`.
 pub fn split(n: usize) -> usize {
     assert!(1 < n, "two_entries");
     1 << (n - 1).ilog2()
@@ -55,6 +59,10 @@ pub fn leaf_input(entry: &[u8]) -> Result<Vec<u8>, AllocError> {
 /// # Errors
 ///
 /// `AllocError` if memory runs out.
+///
+/// The compiler refuses a call that breaks one of these:
+///
+/// - `short`: `D <= 64`.
 pub fn node_input<const D: usize>(left: &[u8; D], right: &[u8; D]) -> Result<Vec<u8>, AllocError> {
     const { assert!(D <= 64, "short") };
     let mut input = Vec::try_from_slice(&[1])?;
@@ -113,6 +121,10 @@ pub fn root_collision<H: LogHash<D>, const D: usize>(
 /// # Errors
 ///
 /// `AllocError` if memory runs out.
+///
+/// # Panics
+///
+/// - By `index_in` unless `index < entries.len()`.
 pub fn inclusion_proof<H: LogHash<D>, const D: usize>(
     entries: &[Vec<u8>],
     index: usize,
@@ -140,6 +152,11 @@ pub fn inclusion_proof<H: LogHash<D>, const D: usize>(
 /// # Errors
 ///
 /// `AllocError` if memory runs out.
+///
+/// # Panics
+///
+/// - By `some` unless `0 < old_size`.
+/// - By `within` unless `old_size <= entries.len()`.
 pub fn consistency_proof<H: LogHash<D>, const D: usize>(
     entries: &[Vec<u8>],
     old_size: usize,

@@ -19,6 +19,12 @@ use alloc::vec::Vec;
 /// # Errors
 ///
 /// `AllocError` if memory runs out.
+///
+/// # Panics
+///
+/// - By `some` unless `0 < size`.
+/// - By `limit` unless `size <= crate::tlog::SIZE_LIMIT`.
+/// - By `within` unless `indices.iter().all(|&index| index < size)`.
 pub fn entry_places(indices: &[usize], size: usize) -> Result<Vec<(usize, usize)>, AllocError> {
     assert!(0 < size, "some");
     assert!(size <= crate::tlog::SIZE_LIMIT, "limit");

@@ -12,6 +12,10 @@ use alloc::vec::Vec;
 /// # Errors
 ///
 /// `AllocError` if memory runs out.
+///
+/// # Panics
+///
+/// - By `index_in` unless `index < size`.
 pub fn inclusion_places(index: usize, size: usize) -> Result<Vec<(usize, usize)>, AllocError> {
     assert!(index < size, "index_in");
     let mut places = Vec::new();
@@ -26,6 +30,11 @@ pub fn inclusion_places(index: usize, size: usize) -> Result<Vec<(usize, usize)>
 /// # Errors
 ///
 /// `AllocError` if memory runs out.
+///
+/// # Panics
+///
+/// - By `some` unless `0 < old_size`.
+/// - By `grown` unless `old_size < new_size`.
 pub fn consistency_places(old_size: usize, new_size: usize) -> Result<Vec<(usize, usize)>, AllocError> {
     assert!(0 < old_size, "some");
     assert!(old_size < new_size, "grown");
