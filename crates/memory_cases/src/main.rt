@@ -1,9 +1,10 @@
 //! Makes calls of the library, one for each line of standard input, and shows what their caller has where a request for
 //! memory is refused: `tests/memory` runs it with each request refused in turn. A line is one of these:
 //!
-//! - `BUILDER ARITY | MATRICES | QUERIES | CALL`: a call on what a scheme committed to and opened. `salted` stands ahead
-//!   of the builder of a scheme with two salts for each row, which are 100, 101 and so on.
-//! - `verify ARITY CAP | ROOTS | DIMENSIONS | INDEX | ROWS | SIBLINGS`: the plain `verify_batch`, which takes no memory.
+//! - `BUILDER ARITY | MATRICES | QUERIES | CALL`: a call on what a scheme committed to and opened. `salted` stands
+//!   ahead of the builder of a scheme with two salts for each row, which are 100, 101 and so on.
+//! - `verify ARITY CAP | ROOTS | DIMENSIONS | INDEX | ROWS | SIBLINGS`: the plain `verify_batch`, which takes no
+//!   memory.
 //!
 //! CALL is the name of a call of the library, or one of these: `clone_matrices`, `clone_cap`, `clone_opening` and
 //! `clone_multi` say whether a clone is like its original, `tree` builds a tree, takes its leaves and clones it, and
@@ -26,10 +27,11 @@ mod salted;
 mod values;
 mod verify;
 
-use crate::calls::{Tried, make_call};
 use crate::case::Case;
+use crate::counting::Counting;
 use crate::held::hold;
-use crate::salted::salted_scheme;
+use crate::plain::call_plain;
+use crate::salted::{call_salted, salted_scheme};
 use crate::verify::verify;
 use anyhow::{Result, bail};
 use p3_hashes::batched::Batched3;
@@ -40,24 +42,25 @@ use p3_support::compress::PseudoCompressionFunction;
 use p3_support::hasher::CryptographicHasher;
 use p3_support::packed::PackedValue;
 
-/// Makes a call of a scheme, and makes it again where memory ran out. What it is made on comes from `holder`, which is
-/// the same scheme: no salt has been drawn from the other.
-fn answer<S: Tried>(
-    rt: &HostRuntime,
-    case: &Case<'_>,
-    holder: &mut S,
-    scheme: &mut S,
-) -> Result<()> {
-    let mut held = hold(rt.alloc(), case, holder)?;
-    println!(rt; "{}", case.line)?;
-    if make_call(rt, case, &mut held, scheme)? {
-        return Ok(());
-    }
-    println!(rt; "out of memory")?;
-    if !make_call(rt, case, &mut held, scheme)? {
-        bail!("out of memory again");
-    }
-    Ok(())
+/// Makes a call of a scheme, and makes it again where memory ran out. What it is made on comes from another scheme of
+/// the same functions: no salt has been drawn from this one.
+// A macro, and no function over any scheme: with a trait for the calls that each scheme has of its own, a check of such
+// a function's callers gave no verdict.
+macro_rules! answer_by {
+    ($rt:ident, $case:ident, $call:ident, $scheme:expr) => {{
+        let (mut holder, mut scheme) = ($scheme, $scheme);
+        let held = hold($rt.alloc(), $case, &mut holder)?;
+        let mut generator = Counting { last: 0 };
+        println!($rt; "{}", $case.line)?;
+        if $call($rt, $case, &held, &mut generator, &mut scheme)? {
+            return Ok(());
+        }
+        println!($rt; "out of memory")?;
+        if $call($rt, $case, &held, &mut generator, &mut scheme)? {
+            return Ok(());
+        }
+        bail!("out of memory again")
+    }};
 }
 
 /// Makes a call of the plain scheme of a hash and a compression.
@@ -70,9 +73,12 @@ fn answer_plain<
     requires arity { IsTrue (is_arity N) }
     requires some_lane { 1 ≤ P.WIDTH }
 {
-    let mut holder = MerkleTreeMmcs::<P, P, H, C, N, 1>::new(hash, compress, 0);
-    let mut scheme = MerkleTreeMmcs::<P, P, H, C, N, 1>::new(hash, compress, 0);
-    answer(rt, case, &mut holder, &mut scheme)
+    answer_by!(
+        rt,
+        case,
+        call_plain,
+        MerkleTreeMmcs::<P, P, H, C, N, 1>::new(hash, compress, 0)
+    )
 }
 
 /// Makes a call of the salted scheme of a hash and a compression.
@@ -85,9 +91,12 @@ fn answer_salted<
     requires arity { IsTrue (is_arity N) }
     requires some_lane { 1 ≤ P.WIDTH }
 {
-    let mut holder = salted_scheme::<P, H, C, N>(hash, compress);
-    let mut scheme = salted_scheme::<P, H, C, N>(hash, compress);
-    answer(rt, case, &mut holder, &mut scheme)
+    answer_by!(
+        rt,
+        case,
+        call_salted,
+        salted_scheme::<P, H, C, N>(hash, compress)
+    )
 }
 
 /// Makes a call of a scheme of this arity, by its builder.
