@@ -35,17 +35,13 @@ use crate::salted::{call_salted, salted_scheme};
 use crate::verify::verify;
 use anyhow::{Result, bail};
 use p3_hashes::batched::Batched3;
-use p3_hashes::fold::{FoldCompress, FoldHash};
+use p3_hashes::fold::{FoldCompress, FoldHash, FoldLane};
 use p3_hashes::lanes::U32x8;
 use p3_merkle_tree::MerkleTreeMmcs;
-use p3_support::compress::PseudoCompressionFunction;
-use p3_support::hasher::CryptographicHasher;
-use p3_support::packed::PackedValue;
 
 /// Makes a call of a scheme, and makes it again where memory ran out. What it is made on comes from another scheme of
 /// the same functions: no salt has been drawn from this one.
-// A macro, and no function over any scheme: with a trait for the calls that each scheme has of its own, a check of such
-// a function's callers gave no verdict.
+// A macro, and no function over any scheme: how much room a scheme takes is known where its types are named.
 macro_rules! answer_by {
     ($rt:ident, $case:ident, $call:ident, $scheme:expr) => {{
         let (mut holder, mut scheme) = ($scheme, $scheme);
@@ -63,39 +59,56 @@ macro_rules! answer_by {
     }};
 }
 
-/// Makes a call of the plain scheme of a hash and a compression.
-fn answer_plain<
-    P: PackedValue<Value = u32>,
-    H: CryptographicHasher<P, P, 1> + Copy,
-    C: PseudoCompressionFunction<P, N, 1> + Copy,
-    const N: usize,
->(rt: &HostRuntime, case: &Case<'_>, hash: H, compress: C) -> Result<()>
+/// Makes a call of the plain or of the salted scheme by the fold functions in lanes, whose hash and compression take
+/// `L` messages.
+fn answer_in_lanes<P: FoldLane, const L: usize, const N: usize>(
+    rt: &HostRuntime,
+    case: &Case<'_>,
+) -> Result<()>
     requires arity { IsTrue (is_arity N) }
+    requires few { N ≤ 4 }
     requires some_lane { 1 ≤ P.WIDTH }
 {
+    let (hash, compress) = (FoldHash::<L>, FoldCompress::<N, L>);
+    if case.is_salted {
+        answer_by!(
+            rt,
+            case,
+            call_salted,
+            salted_scheme::<P, FoldHash<L>, FoldCompress<N, L>, N>(hash, compress)
+        )
+    }
     answer_by!(
         rt,
         case,
         call_plain,
-        MerkleTreeMmcs::<P, P, H, C, N, 1>::new(hash, compress, 0)
+        MerkleTreeMmcs::<P, P, FoldHash<L>, FoldCompress<N, L>, N, 1>::new(hash, compress, 0)
     )
 }
 
-/// Makes a call of the salted scheme of a hash and a compression.
-fn answer_salted<
-    P: PackedValue<Value = u32>,
-    H: CryptographicHasher<P, P, 1> + Copy,
-    C: PseudoCompressionFunction<P, N, 1> + Copy,
-    const N: usize,
->(rt: &HostRuntime, case: &Case<'_>, hash: H, compress: C) -> Result<()>
+/// Makes a call of the plain or of the salted scheme by the fold functions, three messages a call.
+fn answer_by_three<const N: usize>(rt: &HostRuntime, case: &Case<'_>) -> Result<()>
     requires arity { IsTrue (is_arity N) }
-    requires some_lane { 1 ≤ P.WIDTH }
+    requires few { N ≤ 4 }
 {
+    let (hash, compress) = (Batched3(FoldHash::<1>), Batched3(FoldCompress::<N, 1>));
+    if case.is_salted {
+        answer_by!(
+            rt,
+            case,
+            call_salted,
+            salted_scheme::<u32, Batched3<FoldHash<1>>, Batched3<FoldCompress<N, 1>>, N>(
+                hash, compress,
+            )
+        )
+    }
     answer_by!(
         rt,
         case,
-        call_salted,
-        salted_scheme::<P, H, C, N>(hash, compress)
+        call_plain,
+        MerkleTreeMmcs::<u32, u32, Batched3<FoldHash<1>>, Batched3<FoldCompress<N, 1>>, N, 1>::new(
+            hash, compress, 0,
+        )
     )
 }
 
@@ -104,18 +117,11 @@ fn answer_at<const N: usize>(rt: &HostRuntime, case: &Case<'_>) -> Result<()>
     requires arity { IsTrue (is_arity N) }
     requires few { N ≤ 4 }
 {
-    let (hash, compress) = (FoldHash::<1>, FoldCompress::<N, 1>);
-    let (hash8, compress8) = (FoldHash::<8>, FoldCompress::<N, 8>);
-    let (hash3, compress3) = (Batched3(hash), Batched3(compress));
-    match (case.builder, case.is_salted) {
-        ("scalar", false) => answer_plain::<u32, _, _, N>(rt, case, hash, compress),
-        ("packed", false) => answer_plain::<U32x8, _, _, N>(rt, case, hash, compress),
-        ("batched", false) => answer_plain::<u32, _, _, N>(rt, case, hash8, compress8),
-        ("batched3", false) => answer_plain::<u32, _, _, N>(rt, case, hash3, compress3),
-        ("scalar", true) => answer_salted::<u32, _, _, N>(rt, case, hash, compress),
-        ("packed", true) => answer_salted::<U32x8, _, _, N>(rt, case, hash, compress),
-        ("batched", true) => answer_salted::<u32, _, _, N>(rt, case, hash8, compress8),
-        ("batched3", true) => answer_salted::<u32, _, _, N>(rt, case, hash3, compress3),
+    match case.builder {
+        "scalar" => answer_in_lanes::<u32, 1, N>(rt, case),
+        "packed" => answer_in_lanes::<U32x8, 1, N>(rt, case),
+        "batched" => answer_in_lanes::<u32, 8, N>(rt, case),
+        "batched3" => answer_by_three::<N>(rt, case),
         _ => bail!("no such builder"),
     }
 }
