@@ -1,14 +1,14 @@
 //! What a caller holds.
 
-use crate::calls::Tried;
+use crate::calls::{Cap, HeldBy};
 use crate::case::{Case, Rows};
-use crate::counting::Counting;
 use anyhow::Result;
-use p3_merkle_tree::{BatchOpening, MerkleCap, check_indices};
+use p3_merkle_tree::{BatchOpening, MerkleTreeError, check_indices};
 use p3_support::matrix::{Dimensions, dimensions_of};
+use p3_support::mmcs::Mmcs;
 use std::alloc::{AllocError, Global};
 
-/// What a scheme committed to and opened, and a generator.
+/// What a scheme committed to and opened.
 #[derive(Drop)]
 pub struct Held<D, P, Q> {
     /// The matrices.
@@ -16,7 +16,7 @@ pub struct Held<D, P, Q> {
     /// Their dimensions.
     pub dimensions: Vec<Dimensions>,
     /// The cap.
-    pub cap: MerkleCap<u32, [u32; 1]>,
+    pub cap: Cap,
     /// The tree.
     pub tree: D,
     /// The opening of one index.
@@ -27,8 +27,6 @@ pub struct Held<D, P, Q> {
     pub multi: (Vec<Vec<Vec<u32>>>, Q),
     /// The same rows, where the first row of each query may be another with the same digest.
     pub twins: Vec<Vec<Vec<u32>>>,
-    /// A generator that no call has drawn from.
-    pub generator: Counting,
 }
 
 /// Changes a row into another with the same digest, where it has two words or more.
@@ -49,11 +47,11 @@ fn twin_of(alloc: Global, rows: &[Vec<u32>]) -> Result<Vec<Vec<u32>>, AllocError
 }
 
 /// Commits to the matrices of a case, and opens them.
-pub fn hold<S: Tried>(
+pub fn hold<S: Mmcs<u32, Rows, Commitment = Cap, Error = MerkleTreeError>>(
     alloc: Global,
     case: &Case<'_>,
     scheme: &mut S,
-) -> Result<Held<S::ProverData, S::Proof, S::MultiProof>> {
+) -> Result<HeldBy<S>> {
     let matrices = case.matrices.clone()?;
     let dimensions = dimensions_of(alloc, &matrices)?;
     let (cap, tree) = scheme.commit(alloc, case.matrices.clone()?)?;
@@ -75,6 +73,5 @@ pub fn hold<S: Tried>(
         twin,
         multi,
         twins,
-        generator: Counting { last: 0 },
     })
 }

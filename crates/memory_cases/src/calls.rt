@@ -1,12 +1,16 @@
 //! The calls that both schemes have.
 
 use crate::case::{Case, Rows};
+use crate::counting::Counting;
 use crate::held::Held;
 use crate::values::{call_matrices, clone};
-use anyhow::Result;
+use anyhow::{Result, bail};
 use p3_merkle_tree::{BatchOpeningRef, MerkleCap, MerkleTreeError, check_indices};
 use p3_support::mmcs::Mmcs;
 use std::fmt::Debug;
+
+/// The commitment of a scheme.
+pub type Cap = MerkleCap<u32, [u32; 1]>;
 
 /// What a scheme has committed to and opened.
 pub type HeldBy<S> = Held<
@@ -14,24 +18,6 @@ pub type HeldBy<S> = Held<
     <S as Mmcs<u32, Rows>>::Proof,
     <S as Mmcs<u32, Rows>>::MultiProof,
 >;
-
-/// A scheme with the calls that no trait of the library has.
-pub trait Tried: Mmcs<
-    u32,
-    Rows,
-    Commitment = MerkleCap<u32, [u32; 1]>,
-    Error = MerkleTreeError,
-    Proof: Clone + Debug,
-    MultiProof: Clone + Debug,
-> {
-    /// Makes a call of the inherent form, prints its answer, and returns whether memory was there.
-    fn call_own(
-        &mut self,
-        rt: &HostRuntime,
-        case: &Case<'_>,
-        held: &Held<Self::ProverData, Self::Proof, Self::MultiProof>,
-    ) -> Result<bool>;
-}
 
 /// Prints the answer of a call, unless memory ran out. Returns whether it did so.
 pub fn shown<A: Debug + Drop>(
@@ -46,16 +32,14 @@ pub fn shown<A: Debug + Drop>(
 }
 
 /// Commits to the matrices, and opens index 0: with salts its row shows where the generator stood.
-// A call of `Tried` makes this one, so it takes less than that trait.
-pub fn commit<
-    S: Mmcs<
-        u32,
-        Rows,
-        Commitment = MerkleCap<u32, [u32; 1]>,
-        Error = MerkleTreeError,
-        Proof: Debug,
-    >,
->(rt: &HostRuntime, case: &Case<'_>, scheme: &mut S) -> Result<bool> {
+pub fn commit<S: Mmcs<u32, Rows, Commitment = Cap, Error = MerkleTreeError>>(
+    rt: &HostRuntime,
+    case: &Case<'_>,
+    scheme: &mut S,
+) -> Result<bool>
+where
+    S::Proof: Debug,
+{
     let Ok(matrices) = case.matrices.clone() else {
         return Ok(false);
     };
@@ -70,7 +54,16 @@ pub fn commit<
 }
 
 /// Opens what a tree has of the matrices.
-fn open<S: Tried>(rt: &HostRuntime, case: &Case<'_>, held: &HeldBy<S>, scheme: &S) -> Result<bool> {
+fn open<S: Mmcs<u32, Rows, Commitment = Cap, Error = MerkleTreeError>>(
+    rt: &HostRuntime,
+    case: &Case<'_>,
+    held: &HeldBy<S>,
+    scheme: &S,
+) -> Result<bool>
+where
+    S::Proof: Debug,
+    S::MultiProof: Debug,
+{
     check_indices(scheme.get_max_height(&held.tree), &[case.index])?;
     check_indices(scheme.get_max_height(&held.tree), &case.queries)?;
     match case.call {
@@ -84,7 +77,7 @@ fn open<S: Tried>(rt: &HostRuntime, case: &Case<'_>, held: &HeldBy<S>, scheme: &
 }
 
 /// Verifies what was opened.
-fn verify<S: Tried>(
+fn verify<S: Mmcs<u32, Rows, Commitment = Cap, Error = MerkleTreeError>>(
     rt: &HostRuntime,
     case: &Case<'_>,
     held: &HeldBy<S>,
@@ -105,23 +98,24 @@ fn verify<S: Tried>(
     )
 }
 
-/// Makes a call, and prints its answer. Returns whether memory was there.
-pub fn make_call<S: Tried>(
+/// Makes a call, and prints its answer. Returns whether memory was there. A random matrix comes from `generator`.
+pub fn make_call<S: Mmcs<u32, Rows, Commitment = Cap, Error = MerkleTreeError>>(
     rt: &HostRuntime,
     case: &Case<'_>,
-    held: &mut HeldBy<S>,
+    held: &HeldBy<S>,
+    generator: &mut Counting,
     scheme: &mut S,
-) -> Result<bool> {
+) -> Result<bool>
+where
+    S::Proof: Clone + Debug,
+    S::MultiProof: Clone + Debug,
+{
     match case.call {
         "commit" => commit(rt, case, scheme),
-        "open_batch" | "open_multi_batch" | "get_matrices" => open(rt, case, &*held, &*scheme),
-        "verify_batch" | "verify_multi_batch" => verify(rt, case, &*held, &*scheme),
-        "clone_matrices" | "clone_cap" | "clone_opening" | "clone_multi" => clone(rt, case, &*held),
-        "rand" | "append_row" | "dimensions_of" | "tree" => call_matrices(
-            rt,
-            case,
-            &mut held.generator,
-        ),
-        _ => scheme.call_own(rt, case, &*held),
+        "open_batch" | "open_multi_batch" | "get_matrices" => open(rt, case, held, &*scheme),
+        "verify_batch" | "verify_multi_batch" => verify(rt, case, held, &*scheme),
+        "clone_matrices" | "clone_cap" | "clone_opening" | "clone_multi" => clone(rt, case, held),
+        "rand" | "append_row" | "dimensions_of" | "tree" => call_matrices(rt, case, generator),
+        _ => bail!("no such call"),
     }
 }
