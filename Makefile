@@ -159,9 +159,9 @@ help:
 #: make quick        the programs with no proof, in build/quick/: two minutes
 #: make check-quick  what can be tried with no proof: documents, tests, stored runs, random cases, commands, the Cargo
 #:                   package; 20 minutes
-#: make check        the gate: documents, the Cargo package, then proofs, tests, stored runs and the edits that must be refused, then
-#:                   commands of the proved programs, and their answers with each request for memory refused. It takes
-#:                   up to 200 processor minutes, and needs a C compiler
+#: make check        the gate: documents, the Cargo package, then proofs, tests, stored runs and the edits that must be
+#:                   refused, then commands of the proved programs, and their answers with each request for memory
+#:                   refused. It takes up to 200 processor minutes, and needs a C compiler
 #: make libraries    the proved libraries, with rattle-with: a crate over them is checked in a minute
 #: make dist         archives of the programs and of the libraries, if cargo is installed also the package for Cargo,
 #:                   with their checksums, in build/dist/

@@ -58,8 +58,8 @@ impl<'a> Checkpoint<'a> {
         part_by(text).map_err(|stop| error_of(text, stop))
     }
 
-    /// Prints the origin, the size and the root; It is read again if [`is_origin`] takes the origin, and the size is at
-    /// most 2^62: by `parse_part` if the origin is `PART_ORIGIN`, else by `parse`.
+    /// Prints the origin, the size and the root. The text is read again if [`is_origin`] takes the origin, and the size
+    /// is at most 2^62: by `parse_part` if the origin is `PART_ORIGIN`, else by `parse`.
     ///
     /// # Errors
     ///

@@ -70,6 +70,9 @@ impl<F: Copy, W: Copy, M: Matrix<F> + Drop, const N: usize, const D: usize> Merk
     /// - Every other layer is filled lane by lane (`hash_packed`, `compress_packed`), `WIDTH` digests a call, as far as
     ///   they fill all lanes, and then in batches; if `WIDTH` is 1 in batches alone.
     ///
+    /// A batch may be a single row: `hash_slice` hashes it, or `hash_iter_slices` if a lone matrix stores it in two
+    /// pieces.
+    ///
     /// # Errors
     ///
     /// The first of these that applies, where `OutOfMemory` may come at any time:
