@@ -73,8 +73,8 @@ pub fn run<Src: Read, Dst: Write>(
     Ok(())
 }
 
-/// The text that `run` writes, or the error that it returns, which is not `Write`. It is `Usage` exactly if the arguments
-/// are no command, and then nothing is read.
+/// The text that `run` writes, or the error that it returns, which is not `Write`. It is `Usage` exactly if the
+/// arguments are no command, and then nothing is read.
 fn answer_to<Src: Read>(alloc: Global, args: &[String], input: &mut Src) -> Result<String, Fault>
     ensures usage { (result ≡ Err Fault.Usage) ↔ AreNoCommand (texts_of args.now) }
     ensures unread { result ≡ Err Fault.Usage → input.new ≡ input.old }
