@@ -156,7 +156,7 @@ help:
 #: make              the programs and the libraries for C, proved, for this processor, in build/: one to two hours of
 #:                   processor time the first time. CPU=x86-64-v2 or CPU=x86-64-v3 names another processor.
 #:                   `make build/libfohlazu.a` proves the library for C alone, in half an hour
-#: make quick        the programs with no proof, in build/quick/: two minutes
+#: make quick        the programs with no proof, in build/quick/: two to five minutes
 #: make check-quick  what can be tried with no proof: documents, tests, stored runs, random cases, commands, the Cargo
 #:                   package; 20 minutes
 #: make check        the gate: documents, the Cargo package, then proofs, tests, stored runs and the edits that must be
