@@ -11,7 +11,7 @@
 //! `free` says whether calls that take no memory agree.
 //!
 //! Once the inputs of the call stand, the line is printed, and then the answer. Where memory runs out, `out of memory`
-//! is printed first, and the same call is made again on the same values. So what a call requests comes after its line.
+//! is printed first, and the same call is made again on the same values. So the requests of a call come after its line.
 #![tactic(auto)]
 
 ghost use Rattle.std.specs.Prelude.{◌≤◌, IsTrue};
@@ -39,8 +39,8 @@ use p3_hashes::fold::{FoldCompress, FoldHash, FoldLane};
 use p3_hashes::lanes::U32x8;
 use p3_merkle_tree::MerkleTreeMmcs;
 
-/// Makes a call of a scheme, and makes it again where memory ran out. What it is made on comes from another scheme of
-/// the same functions: no salt has been drawn from this one.
+/// Makes a call of a scheme, and makes it again where memory ran out. Its inputs come from another scheme of the same
+/// functions: no salt has been drawn from this one.
 // A macro, and no function over any scheme: how much room a scheme takes is known where its types are named.
 macro_rules! answer_by {
     ($rt:ident, $case:ident, $call:ident, $scheme:expr) => {{
