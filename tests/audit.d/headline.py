@@ -57,15 +57,23 @@ def headline_of(audit):
         renamed = sorted({name for clause in clauses for name in clause.renamed()})
         yield from (f"    // {name} is {word} of {module}." for name, module, word in renamed)
         yield ""
+    crates = {crate_of(call.source) for call, _ in audit.calls}
     for module in audit.order:
         if words := audit.headline.of(module):
+            crates.add(crate_of(module.path))
             yield from definitions_of(module, words)
-    texts = {source: text_of(source) for source in audit.sources.paths}
+    # Another crate may have a type of the same name.
+    texts = {source: text_of(source) for source in audit.sources.paths if crate_of(source) in crates}
     types = {(source, name) for source, text in texts.items() for name in re.findall(TYPE, "\n".join(text), re.M)}
     types = {found for found in types if found[1] in named} | set(audit.headline.types)
     for source, name in sorted(types):
         if name not in {call.name for call, _ in audit.calls if call.is_trait}:
             yield from type_of(name, source, texts[source])
+
+
+def crate_of(path):
+    """The crate of a source or of a module, by its path."""
+    return str(path).split("/")[1]
 
 
 def contract_of(text, clauses):
