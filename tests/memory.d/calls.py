@@ -11,12 +11,12 @@ SHARED = ["commit", "open_batch", "open_multi_batch", "get_matrices", "verify_ba
           "extract_collision", "extract_collision_multi"]
 CLONES = ["clone_matrices", "clone_cap", "clone_opening", "clone_multi"]
 PLAIN = ["open_batch_pruned", "verify_batch_pruned", "restore_and_recompute_paths", "pruned_len",
-         "proof_arity_schedule", "replay_arity_and_positions"]
+         "proof_arity_schedule", "replay_arity_and_positions", "clone_pruned", "clone_paths", "clone_positions"]
 SALTED = ["fork"]
 VALUES = ["free", "tree", "rand", "append_row", "dimensions_of"]
 BUILDERS = ["scalar", "packed", "batched", "batched3"]
 # Calls that take no memory.
-FREE = ["verify", "verify_batch", "free"]
+FREE = ["verify", "verify_batch", "free", "salted free"]
 # Four heights, with an index that is opened twice.
 BATCH = "2x17 2x9 2x5 2x3 | 16 3 3 0"
 # How many salts a row has, and the first one.

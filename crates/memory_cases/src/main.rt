@@ -6,9 +6,10 @@
 //! - `verify ARITY CAP | ROOTS | DIMENSIONS | INDEX | ROWS | SIBLINGS`: the plain `verify_batch`, which takes no
 //!   memory.
 //!
-//! CALL is the name of a call of the library, or one of these: `clone_matrices`, `clone_cap`, `clone_opening` and
-//! `clone_multi` say whether a clone is like its original, `tree` builds a tree, takes its leaves and clones it, and
-//! `free` says whether calls that take no memory agree.
+//! CALL is the name of a call of the library, or one of these: `clone_matrices`, `clone_cap`, `clone_opening`,
+//! `clone_multi`, and of the plain scheme `clone_pruned`, `clone_paths` and `clone_positions` say whether a clone is
+//! like its original, `tree` builds a tree, takes its leaves and clones it, and `free` says whether calls that take no
+//! memory agree, those of hashers and compressions among them.
 //!
 //! Once the inputs of the call stand, the line is printed, and then the answer. Where memory runs out, `out of memory`
 //! is printed first, and the same call is made again on the same values. So the requests of a call come after its line.

@@ -3,15 +3,18 @@
 use crate::calls::{make_call, shown};
 use crate::case::{Case, Rows};
 use crate::counting::Counting;
-use crate::free::reads_agree;
+use crate::free::{hashes_agree, reads_agree};
 use crate::held::Held;
+use crate::values::is_alike;
 use anyhow::Result;
 use p3_merkle_tree::{
-    BatchOpeningRef, CapRule, MerkleTree, MerkleTreeMmcs, PrunedMerklePaths, check_indices,
+    BatchOpeningRef, CapRule, MerkleTree, MerkleTreeError, MerkleTreeMmcs, PrunedMerklePaths,
+    check_indices,
 };
 use p3_support::compress::PseudoCompressionFunction;
 use p3_support::hasher::CryptographicHasher;
 use p3_support::packed::PackedValue;
+use std::alloc::Global;
 
 /// What a plain scheme committed to and opened.
 pub type HeldPlain<const N: usize> = Held<
@@ -20,7 +23,8 @@ pub type HeldPlain<const N: usize> = Held<
     PrunedMerklePaths<u32, 1>,
 >;
 
-/// Whether calls that take no memory answer what they should: of a matrix, the cap, the tree and the scheme.
+/// Whether calls that take no memory answer what they should: of a matrix, the cap, the tree, the scheme, and of
+/// hashers and compressions.
 fn is_free_right<
     P: PackedValue<Value = u32>,
     H: CryptographicHasher<P, P, 1>,
@@ -36,6 +40,44 @@ fn is_free_right<
         && opening.unpack().0.len() == held.matrices.len()
         && scheme.cap_height() == 0
         && scheme.cap_rule() == CapRule::Lowered
+        && check_indices(scheme.get_max_height(tree), &[0]).is_ok()
+        && !held.dimensions.is_empty()
+        && scheme.is_authenticated(&held.dimensions, 0) == Ok(true)
+        && hashes_agree()
+}
+
+/// Whether a clone is like what some queries open: `clone_pruned`, the pruned opening; `clone_paths`, the restored
+/// paths; `clone_positions`, the steps and positions of the first query.
+fn is_cloned_alike<
+    P: PackedValue<Value = u32>,
+    H: CryptographicHasher<P, P, 1>,
+    C: PseudoCompressionFunction<P, N, 1>,
+    const N: usize,
+>(
+    alloc: Global,
+    case: &Case<'_>,
+    held: &HeldPlain<N>,
+    scheme: &MerkleTreeMmcs<P, P, H, C, N, 1>,
+) -> Result<bool, MerkleTreeError> {
+    let (dimensions, queries, (rows, proof)) = (&held.dimensions, &case.queries, &held.multi);
+    match case.call {
+        "clone_pruned" => {
+            check_indices(scheme.get_max_height(&held.tree), queries)?;
+            let opening = scheme.open_batch_pruned(alloc, queries, &held.tree)?;
+            is_alike(alloc, &opening, opening.clone())
+        }
+        "clone_paths" => {
+            let paths = scheme.restore_and_recompute_paths(
+                alloc, dimensions, queries, rows, proof,
+            )?;
+            is_alike(alloc, &paths, paths.clone())
+        }
+        _ => {
+            let siblings = held.opening.opening_proof.len();
+            let path = scheme.replay_arity_and_positions(alloc, dimensions, case.index, siblings)?;
+            is_alike(alloc, &path, path.clone())
+        }
+    }
 }
 
 /// Makes a call of a plain scheme, and prints its answer. Returns whether memory was there.
@@ -56,6 +98,9 @@ pub fn call_plain<
     let (queries, (rows, proof), twins) = (&case.queries, &held.multi, &held.twins);
     match case.call {
         "free" => shown(rt, Ok(is_free_right(scheme, held))),
+        "clone_pruned" | "clone_paths" | "clone_positions" => {
+            shown(rt, is_cloned_alike(alloc, case, held, &*scheme))
+        }
         "open_batch_pruned" => {
             check_indices(scheme.get_max_height(&held.tree), queries)?;
             shown(rt, scheme.open_batch_pruned(alloc, queries, &held.tree))

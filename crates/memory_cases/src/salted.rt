@@ -9,7 +9,7 @@ use crate::counting::Counting;
 use crate::held::Held;
 use anyhow::Result;
 use p3_merkle_tree::{
-    BatchOpeningRef, MerkleTreeHidingMmcs, SaltedMultiProof, SaltedProof, SaltedTree,
+    BatchOpeningRef, CapRule, MerkleTreeHidingMmcs, SaltedMultiProof, SaltedProof, SaltedTree,
 };
 use p3_support::compress::PseudoCompressionFunction;
 use p3_support::hasher::CryptographicHasher;
@@ -38,6 +38,20 @@ pub fn salted_scheme<
     MerkleTreeHidingMmcs::new(hash, compress, 0, Counting { last: 99 })
 }
 
+/// Whether calls that take no memory answer what they should, of the tree and of the scheme.
+fn is_free_right<
+    P: PackedValue<Value = u32>,
+    H: CryptographicHasher<P, P, 1>,
+    C: PseudoCompressionFunction<P, N, 1>,
+    const N: usize,
+>(scheme: &Salted<P, H, C, N>, held: &HeldSalted<N>) -> bool {
+    held.cap.roots().first() == Some(held.tree.root().value())
+        && scheme.get_max_height(&held.tree)
+            == held.dimensions.first().map_or(0, |size| size.height)
+        && scheme.cap_height() == 0
+        && scheme.cap_rule() == CapRule::Lowered
+}
+
 /// Makes a call of a salted scheme, and prints its answer. Returns whether memory was there.
 pub fn call_salted<
     P: PackedValue<Value = u32>,
@@ -55,6 +69,7 @@ pub fn call_salted<
     let (cap, dimensions) = (&held.cap, &held.dimensions);
     let (queries, (rows, proof), twins) = (&case.queries, &held.multi, &held.twins);
     match case.call {
+        "free" => shown(rt, Ok(is_free_right(&*scheme, held))),
         "fork" => match scheme.fork() {
             Ok(mut fork) => commit(rt, case, &mut fork),
             Err(error) => shown::<()>(rt, Err(error)),

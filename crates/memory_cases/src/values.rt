@@ -12,7 +12,7 @@ use std::alloc::{AllocError, Global};
 use std::fmt::Debug;
 
 /// Whether a clone is written as what it is a clone of, unless memory ran out.
-fn is_alike<A: Debug + Drop>(
+pub fn is_alike<A: Debug + Drop>(
     alloc: Global,
     value: &A,
     copy: Result<A, AllocError>,
