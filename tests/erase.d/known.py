@@ -459,4 +459,6 @@ KNOWN = [
         "impl S { fn clone(&self, alloc: Global) -> Result<S, AllocError> { self.a.clone(alloc) } }",
         "impl S { fn try_clone(&self) -> Result<S, AllocError> { self.a.try_clone() } }",
     ),
+    Form("known conditions", "fn known(n: usize) requires { n < 4 } { g(); }",
+         "fn known(n: usize) { assert!(n < 4); g(); }"),
 ]

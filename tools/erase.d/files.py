@@ -50,6 +50,7 @@ def package_of(crates: Path) -> Package:
         lane_loops=settings["lanes"]["loops"],
         derives=settings["derives"],
         defaults=settings["defaults"],
+        known=settings["known"],
         exported=exported(FACADE, crates, settings["crates"]),
         internal=set(settings["internal"]),
         conditions=settings["conditions"],
@@ -94,7 +95,7 @@ def check_lists(package: Package) -> None:
         lines = "\n".join(f"  {line}" for line in package.missing)
         raise Unknown(f"package.toml does not list what is public:\n{lines}")
     listed = [package.conditions, package.laws, package.internal, package.inline, package.of_words,
-              package.lane_loops, package.derives, package.defaults]
+              package.lane_loops, package.derives, package.defaults, package.known]
     unknown = set().union(*listed) - package.used
     if unknown:
         raise Unknown(f"package.toml names what is not there: {', '.join(sorted(unknown))}")
