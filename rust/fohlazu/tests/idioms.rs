@@ -81,7 +81,7 @@ impl PseudoCompressionFunction<u32, 2, 1> for Short {
 #[test]
 fn constants_may_be_left_out() -> Result<(), MerkleTreeError> {
     assert_eq!(<Short as CryptographicHasher<u32, u32, 1>>::LANES, 1);
-    assert!(!<Short as CryptographicHasher<u32, u32, 1>>::PREFER_CONTIGUOUS_INPUT);
+    const { assert!(!<Short as CryptographicHasher<u32, u32, 1>>::PREFER_CONTIGUOUS_INPUT) };
     assert_eq!(<Short as PseudoCompressionFunction<u32, 2, 1>>::LANES, 1);
     // The README's rows, whose root is worked out there.
     let (cap, _) = MerkleTreeMmcs::<u32, u32, _, _, 2, 1>::new(Short, Short, 0)
@@ -122,15 +122,16 @@ fn values_are_cloned_and_compared() {
     let _: fn(&InputPair<u32, [u32; 1]>) -> bool = is_cloned;
 }
 
+/// What a caller gets that names no value.
+fn of_default<T: Default>() -> T {
+    T::default()
+}
+
 #[test]
 fn defaults_are_what_new_and_the_scheme_take() {
     assert_eq!(CapRule::default(), CapRule::Lowered);
     assert_eq!(RowMajorMatrix::<u32>::default(), RowMajorMatrix::new(Vec::new(), 0));
     assert_eq!(U32x8::default(), U32x8::broadcast(0));
-    let scheme = MerkleTreeMmcs::<u32, u32, FoldHash<4>, FoldCompress<2, 4>, 2, 1>::new(
-        FoldHash::default(),
-        FoldCompress::default(),
-        0,
-    );
+    let scheme = MerkleTreeMmcs::<u32, u32, FoldHash<4>, FoldCompress<2, 4>, 2, 1>::new(of_default(), of_default(), 0);
     assert_eq!(scheme.cap_rule(), CapRule::default());
 }
