@@ -46,7 +46,7 @@ KNOWN = [
 
         struct S {
             // Stays.
-            a: u8,
+            a: Other,
 
             // Goes.
             ghost full: { length a ≡ (b, c) },
@@ -54,7 +54,7 @@ KNOWN = [
         """use crate::erased::own::seen::Other;
         struct S {
             // Stays.
-            a: u8, }""",
+            a: Other, }""",
     ),
     Form(
         "ghost items of a trait and an impl",
@@ -96,8 +96,8 @@ KNOWN = [
         /// Goes.
         fn lemma_c(x: &[u8]) ensures { x ≡ x } { lemma_b(x); }
 
-        fn f(x: &[u8]) { lemma_a(x, &x[1 + 2]); lemma_b::<u8>(x); g(x); }""",
-        "use crate::erased::own::seen::{Other}; fn f(x: &[u8]) { g(x); }",
+        fn f(x: &[Other]) { lemma_a(x, &x[1 + 2]); lemma_b::<u8>(x); g(x); }""",
+        "use crate::erased::own::seen::{Other}; fn f(x: &[Other]) { g(x); }",
     ),
     Form("impl Model", "impl<T> Model for S<T> { ghost Value = { ℕ }; }\n\nfn f() {}", "fn f() {}"),
     Form(
@@ -288,14 +288,14 @@ KNOWN = [
         use std::simd::prelude::*;
         use thiserror::Error;
 
-        fn f<R: Rng>(x: PhantomData<R>, y: Sha256) { mem::replace(x, y); }""",
+        fn f<R: Rng>(x: PhantomData<R>, y: Sha256, z: (B, C)) { mem::replace(x, y); }""",
         """use core::marker::PhantomData;
         use core::mem;
         use crate::sha256::Sha256;
         use crate::simd::*;
         use rand_core::Rng;
         use crate::erased::other::seen::{A as B, C};
-        fn f<R: Rng>(x: PhantomData<R>, y: Sha256) { mem::replace(x, y); }""",
+        fn f<R: Rng>(x: PhantomData<R>, y: Sha256, z: (B, C)) { mem::replace(x, y); }""",
     ),
     Form(
         "modules",
@@ -406,4 +406,59 @@ KNOWN = [
         trait One { fn next(self); }""",
         "small",
     ),
+    Form(
+        "functions of words",
+        "pub(crate) fn sum(x: u32x8, y: [u32x8; 2]) -> u32x8 { u32x8::splat(1) + x }\n\nfn other(x: u32x8) {}",
+        """pub(crate) fn sum<W: Word>(x: W, y: [W; 2]) -> W { W::splat(1) + x }
+        fn other(x: u32x8) {}""",
+        "lanes",
+    ),
+    Form("a module of words", "fn any(x: u32x8) -> u32x8 { x }", "fn any<W: Word>(x: W) -> W { x }", "words"),
+    Form(
+        "loops over lanes",
+        """fn one(w: &[u32x8; 16], v: [u32x8; 8], t: usize) -> [u32x8; 8] { sum(v, w[t]) }
+
+        fn more(w: &mut [u32x8; 16], v: [u32x8; 8]) -> [u32x8; 8] { let v = sum(w, v); v }""",
+        """fn one(w: &[u32x8; 16], v: [u32x8; 8], t: usize) -> [u32x8; 8] {
+            in_each_lane(w, v, #[inline(always)] |w, v| { sum(v, w[t]) }) }
+        fn more(w: &mut [u32x8; 16], v: [u32x8; 8]) -> [u32x8; 8] {
+            in_each_lane_mut(w, v, #[inline(always)] |w, v| { let v = sum(w, v); v }) }""",
+        "lanes",
+    ),
+    Form(
+        "more derives",
+        "#[derive(Debug, Drop)]\npub enum SeenMore { First, Second(First) }",
+        "#[derive(Debug, Clone, Default)] pub enum SeenMore { #[default] First, Second(First) }",
+    ),
+    Form(
+        "constants with a default",
+        "pub trait SeenDefault { const LANES: usize; const OTHER: usize; }",
+        "pub trait SeenDefault { const LANES: usize = 1; const OTHER: usize; }",
+    ),
+    Form(
+        "references to what has no size",
+        "impl<T, M: SeenTrait<T>> SeenTrait<T> for &M { fn f(&self) {} }\n\ntrait SeenTrait<T> { fn f(&self); }",
+        "impl<T, M: ?Sized + SeenTrait<T>> SeenTrait<T> for &M { fn f(&self) {} } trait SeenTrait<T> { fn f(&self); }",
+    ),
+    Form(
+        "names of contracts",
+        """use crate::a::{kept, wrapping_add, Linked, SeenTrait};
+        use crate::b::said_alone;
+
+        /// Like [`Linked`], [`wrapping_add`](Self::wrapping_add) and [`kept`].
+        fn f() requires { wrapping_add 1 ≡ said_alone } { kept().wrapping_add() }
+
+        trait SeenTrait {}""",
+        """use crate::erased::own::a::{kept, SeenTrait};
+        /// Like `Linked`, [`wrapping_add`](Self::wrapping_add) and [`kept`].
+        fn f() { kept().wrapping_add() }
+        trait SeenTrait {}""",
+    ),
+    Form(
+        "a clone of its own",
+        "impl S { fn clone(&self, alloc: Global) -> Result<S, AllocError> { self.a.clone(alloc) } }",
+        "impl S { fn try_clone(&self) -> Result<S, AllocError> { self.a.try_clone() } }",
+    ),
+    Form("known conditions", "fn known(n: usize) requires { n < 4 } { g(); }",
+         "fn known(n: usize) { assert!(n < 4); g(); }"),
 ]

@@ -152,4 +152,13 @@ REFUSED = [
             "has the conditions"),
     Refused("a condition that is gone", "pub fn seen_tested(n: usize, m: usize) {}", "has the conditions"),
     Refused("a line of nothing", "pub fn hidden() {}", "names what is not there"),
+    Refused("an unused name under another one", "use crate::a::{A as B, C};\n\nfn f(x: C) {}", "under another one"),
+    Refused("a known condition of nothing", "fn known(n: usize) {}", "a function of which nothing is known"),
+    Refused("a known condition of a public function", "pub fn seen_known(n: usize) requires { n < 4 } {}",
+            "a function of which nothing is known, or that users call"),
+    # Derives and defaults.
+    Refused("a default that the source has", "pub trait SeenDefault { const LANES: usize = 2; }",
+            "a default of its own"),
+    Refused("an impl for a reference to a type", "impl SeenTrait for &Seen { fn f() {} }\n\ntrait SeenTrait {}",
+            "a reference to what is no parameter"),
 ]

@@ -33,6 +33,8 @@ class Conditions:
 
     def write(self, path: str, item: Item, outer: Item | None) -> None:
         """Asserts the conditions of a function where it begins, as the list says."""
+        if path in self.package.known:
+            self.write_known(path, item, outer)
         own = self.package.conditions.get(path)
         if own is not None:
             self.package.used.add(path)
@@ -50,6 +52,13 @@ class Conditions:
             self.write_one(item, name, condition)
         if self.is_public(path, item, outer) and not (outer and outer.of_trait):
             self.write_docs(item, listed)
+
+    def write_known(self, path: str, item: Item, outer: Item | None) -> None:
+        """Asserts what is known where a function begins that no user calls and that has conditions."""
+        self.package.used.add(path)
+        if self.is_public(path, item, outer) or not self.names(item, outer) or item.body is None:
+            raise self.code.fail(item.head, "a function of which nothing is known, or that users call")
+        self.sheet.put(item.body[0] + 1, f"\nassert!({self.package.known[path]});", "known")
 
     def names(self, item: Item, outer: Item | None) -> list[str]:
         """The names of a function's conditions, each "" where it has none."""

@@ -32,12 +32,26 @@ class Derives:
                 self.sheet.cut_element(place, place, "derive")
             elif name not in names.SAME_DERIVES:
                 raise self.code.fail(place, f"the derive `{name}`")
+        more = self.package.derives.get(f"{self.path}.{item.name}", [])
         if not traits & names.SAME_DERIVES:
             self.sheet.cut(at, close, "derive")
+        elif more:
+            self.add_derives(item, more, close - 1)
         if "Error" in traits:
             self.write_error(item)
         if "Clone" in traits:
             self.write_try_clone(item, "Copy" in traits, None)
+
+    def add_derives(self, item: Item, more: list[str], end: int) -> None:
+        """Adds derives of the list, and marks the variant that is the default where one is named."""
+        self.package.used.add(f"{self.path}.{item.name}")
+        for name in more:
+            trait, _, variant = name.partition(" ")
+            self.sheet.put(end, f", {trait}", "derive")
+            if variant:
+                places = [at for at in range(*item.body) if self.code.text(at) == variant
+                          and self.code.text(self.code.next(at)) in (",", "}")]
+                self.sheet.put(places[0], "#[default]\n", "derive")
 
     def derive_where(self, item: Item | None, at: int, open_: int, close: int) -> None:
         """Writes out a derive whose bounds are named. `skip` on a field is read with its item."""

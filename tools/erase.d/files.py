@@ -46,6 +46,11 @@ def package_of(crates: Path) -> Package:
         left_out=set(settings["left_out"]),
         features={module: name for name, modules in settings["features"].items() for module in modules},
         inline=set(settings["inline"]),
+        of_words=set(settings["lanes"]["of_words"]),
+        lane_loops=settings["lanes"]["loops"],
+        derives=settings["derives"],
+        defaults=settings["defaults"],
+        known=settings["known"],
         exported=exported(FACADE, crates, settings["crates"]),
         internal=set(settings["internal"]),
         conditions=settings["conditions"],
@@ -89,6 +94,8 @@ def check_lists(package: Package) -> None:
     if package.missing:
         lines = "\n".join(f"  {line}" for line in package.missing)
         raise Unknown(f"package.toml does not list what is public:\n{lines}")
-    unknown = (set(package.conditions) | set(package.laws) | package.internal | package.inline) - package.used
+    listed = [package.conditions, package.laws, package.internal, package.inline, package.of_words,
+              package.lane_loops, package.derives, package.defaults, package.known]
+    unknown = set().union(*listed) - package.used
     if unknown:
         raise Unknown(f"package.toml names what is not there: {', '.join(sorted(unknown))}")

@@ -19,6 +19,16 @@ class Package:
     features: dict[str, str]
     # Modules whose functions are inlined: `crate.module`.
     inline: set[str]
+    # Functions of vectors that take words as well, or modules of such functions: `crate.module.function`.
+    of_words: set[str]
+    # By `crate.module.function`, the parameters of a function that a loop over lanes runs, in the order of that loop.
+    lane_loops: dict[str, str]
+    # By `crate.module.Type`, the derives that a type has beside those of its source.
+    derives: dict[str, list[str]]
+    # By `crate.module.Trait.CONSTANT`, what it is where a type does not say.
+    defaults: dict[str, str]
+    # By `crate.module.function`, what is asserted of a function that no user calls.
+    known: dict[str, str]
     # Names that the package exports: `crate.module.name`.
     exported: set[str]
     # Public methods of exported types that stay inside: `crate.module.Type.method`.
@@ -35,6 +45,8 @@ class Package:
     functions: set[str] = field(default_factory=set)
     traits: set[str] = field(default_factory=set)
     of_traits: dict[str, dict[str, str]] = field(default_factory=dict)
+    # Paths that `use` items name, with dots.
+    taken: set[str] = field(default_factory=set)
     # Names of the lists that were found, and functions and traits that the lists lack.
     used: set[str] = field(default_factory=set)
     missing: list[str] = field(default_factory=list)

@@ -17,6 +17,8 @@ from sheet import Sheet
 from source import OPEN, TRIVIA, Item, Source
 
 LEMMA = "lemma_"
+# The type of a vector whose lanes are taken one by one.
+VECTOR = "u32x8"
 # How the comment of a statement begins that nothing but a proof needs.
 FOR_PROOF = "// Only the proof in Rattle needs this "
 # What the arguments of a lemma's call may not have: the call is cut, and with it what they would do.
@@ -35,12 +37,17 @@ class Eraser:
         self.items = self.code.items()
         self.walked = walk(self.items, self.path)
         self.imports: set[str] = set()
+        # Names whose import goes: docstrings have no links to them.
+        self.unused: set[str] = set()
         self.derives = Derives(package, self.path, self.sheet, self.imports)
         self.conditions = Conditions(package, self.path, self.sheet)
 
     def survey(self) -> None:
         """Notes what other sources ask of this one."""
         for path, item, outer in self.walked:
+            if item.kind == "use":
+                paths = (name.replace("::", ".") for name in self.used_names(item))
+                self.package.taken.update(re.sub(r"^crate\b", self.crate, name) for name in paths)
             if item.kind == "trait":
                 self.package.traits.add(item.name)
             if item.kind == "fn":
@@ -64,11 +71,15 @@ class Eraser:
         self.cut_words()
         self.rewrite_imports()
         self.rewrite_modules()
+        self.cut_unused_imports()
         self.rewrite_paths()
         self.rewrite_links()
         self.lower_visibility()
         self.write_conditions()
         self.write_inline()
+        self.write_lanes()
+        self.write_defaults()
+        self.write_unsized()
         self.cut_empty_where()
         self.add_imports()
         return self.sheet.text()
@@ -286,7 +297,9 @@ class Eraser:
             text, (before, behind) = self.code.text(at), self.around(at)
             if text == "clone" and behind == "(" and before in (".", "fn"):
                 self.sheet.swap(at, "try_clone", "fallible call")
-                self.imports.add("crate::fallible::TryClone")
+                # A clone that takes the allocator is a type's own.
+                if before == "." and self.around(self.code.next(at))[1] != "alloc":
+                    self.imports.add("crate::fallible::TryClone")
             elif text == "Clone" and not self.in_attribute(at):
                 if before not in ("+", ":", ">", "impl"):
                     raise self.code.fail(at, "`Clone` that is no bound")
@@ -541,6 +554,7 @@ class Eraser:
             made = re.sub(r"\(crate::", f"(crate::erased::{self.crate}::", text)
             made = re.sub(rf"\(({crates})::", r"(crate::erased::\1::", made)
             made = re.sub(r"\(std::", "(core::", made)
+            made = re.sub(r"\[(`(\w+)`)\](?![(\[])", lambda link: link[link[2] in self.unused], made)
             for gone in self.package.left_out:
                 made = re.sub(rf"\[(`[^]]*`)\]\(crate::erased::{gone.replace('.', '::')}::\w+\)", r"\1", made)
             if made != text:
@@ -599,6 +613,94 @@ class Eraser:
                 names_of = [self.code.text(self.code.next(self.code.next(start))) for start, _ in item.attributes]
                 if "inline" not in names_of:
                     self.sheet.put(item.visibility[0] if item.visibility else item.head, "#[inline]\n", "inline")
+
+    def write_lanes(self) -> None:
+        """Functions of a vector take a word as well, and a loop over lanes runs the bodies of others in each lane."""
+        for path, item, _ in self.walked:
+            if item.kind != "fn":
+                continue
+            if listed := {path, self.path} & self.package.of_words:
+                self.package.used |= listed
+                self.take_words(item)
+            elif path in self.package.lane_loops:
+                self.package.used.add(path)
+                self.run_in_lanes(item, self.package.lane_loops[path])
+
+    def take_words(self, item: Item) -> None:
+        """The function's vectors are of a type that it is called for: a vector, or a word of one lane."""
+        open_ = self.code.next(self.code.next(item.head))
+        if self.code.text(open_) != "(":
+            raise self.code.fail(item.head, "a function of words with type parameters of its own")
+        self.sheet.put(open_, "<W: Word>", "lane")
+        for at in self.places("word", *item.body):
+            self.name_word(at)
+        for at in self.places("word", open_, item.body[0]):
+            self.name_word(at)
+
+    def name_word(self, at: int) -> None:
+        """A vector's type becomes the type parameter."""
+        if self.code.text(at) == VECTOR:
+            self.sheet.swap(at, "W", "lane")
+
+    def run_in_lanes(self, item: Item, params: str) -> None:
+        """The body runs in each lane, where the parameters that are vectors have a word in place of each."""
+        open_, close = item.body
+        is_changing = "mut" in self.code.words(item.head, open_)
+        name = "in_each_lane_mut" if is_changing else "in_each_lane"
+        self.sheet.put(open_ + 1, f" {name}({params}, #[inline(always)] |{params}| {{", "lane")
+        self.sheet.put(close, "})", "lane")
+
+    def write_defaults(self) -> None:
+        """A constant that a trait asks for gets a default, where the list has one."""
+        for path, item, outer in self.walked:
+            if item.kind == "const" and outer and outer.kind == "trait" and path in self.package.defaults:
+                self.package.used.add(path)
+                if "=" in self.code.words(item.head, item.end):
+                    raise self.code.fail(item.head, "a constant with a default of its own")
+                self.sheet.put(item.end, f" = {self.package.defaults[path]}", "default")
+
+    def write_unsized(self) -> None:
+        """A reference to what has no size of its own, as `dyn Matrix<T>`, has the trait that a reference has."""
+        for item in self.items:
+            if item.kind != "impl" or item.name != "&" or not self.sheet.live(item.head):
+                continue
+            text = self.code.texts(item.head, item.body[0] - 1).rstrip()
+            name = text.rpartition("&")[2]
+            bounds = [at for at in self.places("word", item.head, item.body[0])
+                      if self.code.text(at) == name and self.around(at)[1] == ":"]
+            if len(bounds) != 1:
+                raise self.code.fail(item.head, "an `impl` for a reference to what is no parameter with a bound")
+            self.sheet.put(self.code.next(bounds[0]) + 1, " ?Sized +", "unsized")
+
+    def cut_unused_imports(self) -> None:
+        """Cuts imported names that no code of Rust has, as those of contracts, calls of lemmas and proofs, and names of
+        a crate's root that no module of the package takes from there."""
+        used = {self.code.text(at) for at in self.places("word")
+                if not self.use_around(at) and self.around(at)[0] not in (".", "fn")} | self.package.traits
+        for item in self.items:
+            if item.kind != "use" or not self.sheet.live(item.head):
+                continue
+            names_of = [name.split("::")[-1].split(" as ")[-1].strip() for name in self.used_names(item)]
+            if item.visibility:
+                gone = [name for name in names_of if not self.is_taken(name)]
+            else:
+                gone = [name for name in names_of if name not in used | {"*", "self"}]
+                self.unused.update(gone)
+            if gone == names_of:
+                self.sheet.cut(item.start, item.end, "unused import")
+                continue
+            for at in self.places("word", item.head, item.end):
+                if self.code.text(at) in gone and self.around(at)[1] in (",", "}"):
+                    if self.around(at)[0] == "as":
+                        raise self.code.fail(at, "an unused name that stands under another one")
+                    self.sheet.cut_element(at, at, "unused import")
+
+    def is_taken(self, name: str) -> bool:
+        """Whether the package exports what this crate's root gives on under a name, or a module takes it from there."""
+        if self.path != self.crate:
+            return True
+        return f"{self.crate}.{name}" in self.package.taken or any(
+            one.split(".")[-1] == name for one in self.package.exported)
 
     def add_imports(self) -> None:
         """Adds what the source has without an import, or from elsewhere."""

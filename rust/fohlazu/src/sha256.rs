@@ -1,5 +1,8 @@
 //! SHA-256 by the crate `sha2`, with digests as arrays, which is the form that the proved sources know it in.
 
+// The digests of the crate are no arrays; those of its stand-in are.
+#![allow(clippy::useless_conversion)]
+
 use sha2::Digest;
 
 /// SHA-256 (FIPS 180-4). It names the hash of a log where a call takes any, as in `tlog::compose::<Sha256, 32>`.

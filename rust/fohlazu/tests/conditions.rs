@@ -219,6 +219,8 @@ fn new_matrix(trial: &mut Trial) {
     let count = trial.random.below(10);
     let values = trial.random.values(count);
     let width = trial.random.about(5);
+    // In other words than the assertion.
+    #[allow(clippy::manual_is_multiple_of)]
     let divides = if width == 0 { values.is_empty() } else { values.len() % width == 0 };
     let conditions = [("divides", divides)];
     trial.call("p3_support.matrix.RowMajorMatrix.new", &conditions, || RowMajorMatrix::new(values, width));
@@ -466,10 +468,10 @@ fn asserted(list: &str) -> BTreeSet<(&str, &str)> {
     for line in list.lines() {
         if line.starts_with('[') {
             function = line.strip_prefix("[conditions.\"").and_then(|rest| rest.strip_suffix("\"]"));
-        } else if let (Some(function), Some((name, how))) = (function, line.split_once(" = \"")) {
-            if !["const: ", "asserted by: ", "untested: "].iter().any(|other| how.starts_with(other)) {
-                found.insert((function, name));
-            }
+        } else if let (Some(function), Some((name, how))) = (function, line.split_once(" = \""))
+            && !["const: ", "asserted by: ", "untested: "].iter().any(|other| how.starts_with(other))
+        {
+            found.insert((function, name));
         }
     }
     found

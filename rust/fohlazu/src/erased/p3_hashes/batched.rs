@@ -10,7 +10,7 @@ use crate::fallible::{AllocError, TryClone};
 /// The function of `X`, with `LANES` 3: for tests of batches by a number of lanes that is no power of two. `hash_many`
 /// and `compress_many` call `X` once for each message or group, so that trees by `X` and by this are built by different
 /// calls.
-#[derive(Clone, Copy, Debug)]
+#[derive(Clone, Copy, Debug, Default)]
 pub struct Batched3<X>(pub X);
 
 impl<X: Copy> TryClone for Batched3<X> {

@@ -25,7 +25,7 @@ pub(crate) fn initial_state() -> [u32x8; 8] {
 /// Computes the next word of each message's schedule (FIPS 180-4, 6.2.2, step 1), and returns it. `w` is a ring of the
 /// last sixteen words: the new word replaces the oldest, the one at `place`.
 #[inline(always)]
-fn next_word(w: &mut [u32x8; 16], place: usize) -> u32x8 {
+fn next_word<W: Word>(w: &mut [W; 16], place: usize) -> W {
     let word = add(
         add(add(small_sigma1(w[(place + 14) % 16]), w[(place + 9) % 16]), small_sigma0(w[(place + 1) % 16])),
         w[place],
@@ -37,9 +37,9 @@ fn next_word(w: &mut [u32x8; 16], place: usize) -> u32x8 {
 /// One round for each message (FIPS 180-4, 6.2.2, step 3), from the working variables `v`. `k` is the round's constant,
 /// and `word` its word of the schedule.
 #[inline(always)]
-fn round(v: [u32x8; 8], k: u32, word: u32x8) -> [u32x8; 8] {
+fn round<W: Word>(v: [W; 8], k: u32, word: W) -> [W; 8] {
     let [a, b, c, d, e, f, g, h] = v;
-    let temp1 = add(add(add(add(h, big_sigma1(e)), ch(e, f, g)), u32x8::splat(k)), word);
+    let temp1 = add(add(add(add(h, big_sigma1(e)), ch(e, f, g)), W::splat(k)), word);
     let temp2 = add(big_sigma0(a), maj(a, b, c));
     [add(temp1, temp2), a, b, c, add(d, temp1), e, f, g]
 }
@@ -47,7 +47,12 @@ fn round(v: [u32x8; 8], k: u32, word: u32x8) -> [u32x8; 8] {
 /// Round `t` of the first sixteen, from the working variables `v`. `w` is the block: `w[t]` is the schedule's word.
 #[inline(always)]
 fn block_round(w: &[u32x8; 16], v: [u32x8; 8], t: usize) -> [u32x8; 8] {
-    round(v, ROUND_CONSTANTS[t], w[t])
+    in_each_lane(
+        w,
+        v,
+        #[inline(always)]
+        |w, v| round(v, ROUND_CONSTANTS[t], w[t]),
+    )
 }
 
 /// Rounds `t` to `t + 3` of the first sixteen, from the working variables `v`. `w` is the block.
@@ -62,7 +67,7 @@ fn four_block_rounds(w: &[u32x8; 16], v: [u32x8; 8], t: usize) -> [u32x8; 8] {
 /// Round `16 * turn + place` of the last 48, from the working variables `v`. `turn` is 1 to 3. `place` is that of the
 /// round's word of the schedule in the ring `w`, which [`next_word`] computes.
 #[inline(always)]
-fn scheduled_round(w: &mut [u32x8; 16], v: [u32x8; 8], turn: usize, place: usize) -> [u32x8; 8] {
+fn scheduled_round<W: Word>(w: &mut [W; 16], v: [W; 8], turn: usize, place: usize) -> [W; 8] {
     let word = next_word(w, place);
     round(v, ROUND_CONSTANTS[16 * turn + place], word)
 }
@@ -70,10 +75,17 @@ fn scheduled_round(w: &mut [u32x8; 16], v: [u32x8; 8], turn: usize, place: usize
 /// Rounds `16 * turn + place` to `16 * turn + place + 3`, each by [`scheduled_round`].
 #[inline(always)]
 fn four_scheduled_rounds(w: &mut [u32x8; 16], v: [u32x8; 8], turn: usize, place: usize) -> [u32x8; 8] {
-    let v = scheduled_round(w, v, turn, place);
-    let v = scheduled_round(w, v, turn, place + 1);
-    let v = scheduled_round(w, v, turn, place + 2);
-    scheduled_round(w, v, turn, place + 3)
+    in_each_lane_mut(
+        w,
+        v,
+        #[inline(always)]
+        |w, v| {
+            let v = scheduled_round(w, v, turn, place);
+            let v = scheduled_round(w, v, turn, place + 1);
+            let v = scheduled_round(w, v, turn, place + 2);
+            scheduled_round(w, v, turn, place + 3)
+        },
+    )
 }
 
 /// Adds the working variables `v` to the hash values `state` (FIPS 180-4, 6.2.2, step 4).
@@ -133,8 +145,15 @@ pub(crate) fn round_inputs(block: &[u32x8; 16]) -> [u32x8; 64] {
 /// Round `t`, from the working variables `v`. `inputs` are from [`round_inputs`].
 #[inline(always)]
 fn prepared_round(inputs: &[u32x8; 64], v: [u32x8; 8], t: usize) -> [u32x8; 8] {
-    // The constant is in the input.
-    round(v, 0, inputs[t])
+    in_each_lane(
+        inputs,
+        v,
+        #[inline(always)]
+        |inputs, v| {
+            // The constant is in the input.
+            round(v, 0, inputs[t])
+        },
+    )
 }
 
 /// Rounds `t` to `t + 3`, from the working variables `v`. `inputs` are from [`round_inputs`].

@@ -77,7 +77,7 @@ pub(crate) fn hash_words<const D: usize>(words: &[u32]) -> [u32; D] {
 
 /// The fold hash: element `e` of the digest starts at `1 + e`, and each word `x` makes it `31 * element + x`, modulo
 /// 2^32. It is not secure. `L` is its `LANES`; the digests don't depend on it.
-#[derive(Clone, Copy, Debug)]
+#[derive(Clone, Copy, Debug, Default)]
 pub struct FoldHash<const L: usize>;
 
 impl<const L: usize> TryClone for FoldHash<L> {
@@ -154,7 +154,7 @@ pub(crate) fn compress_group<const N: usize, const D: usize>(children: &[[u32; D
 
 /// The fold compression: element `e` starts at 0, and each child `i`, from 0, makes it `31 * element + child[e] + i`,
 /// modulo 2^32. `L` is its `LANES`; the digests don't depend on it.
-#[derive(Clone, Copy, Debug)]
+#[derive(Clone, Copy, Debug, Default)]
 pub struct FoldCompress<const N: usize, const L: usize>;
 
 impl<const N: usize, const L: usize> TryClone for FoldCompress<N, L> {

@@ -8,7 +8,7 @@ use crate::fallible::{AllocError, TryClone};
 use crate::simd::*;
 
 /// Two lanes, each in a field of its own.
-#[derive(Clone, Copy, Debug)]
+#[derive(Clone, Copy, Debug, Default, PartialEq, Eq)]
 pub struct Lanes<T> {
     /// Lane 0.
     pub first: T,
@@ -66,7 +66,7 @@ impl FoldLane for Lanes<u32> {
 }
 
 /// Eight lanes of 32 bits, in vectors of the processor.
-#[derive(Clone, Copy, Debug)]
+#[derive(Clone, Copy, Debug, Default, PartialEq, Eq)]
 pub struct U32x8 {
     lanes: u32x8,
 }

@@ -13,6 +13,7 @@ use crate::simd::*;
 /// The four bytes from `at` on as a word, high byte first.
 #[inline(always)]
 fn word(bytes: &[u8], at: usize) -> u32 {
+    assert!(at <= bytes.len() && 4 <= bytes.len() - at);
     u32::from_be_bytes([bytes[at], bytes[at + 1], bytes[at + 2], bytes[at + 3]])
 }
 

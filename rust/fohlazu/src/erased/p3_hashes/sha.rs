@@ -31,7 +31,7 @@ fn hash_bytes<I: Iterator<Item = u8>>(input: I) -> [u8; 32] {
 }
 
 /// SHA-256 of a row's bytes, one message at a time. A row in one slice is hashed faster than byte by byte.
-#[derive(Clone, Copy, Debug)]
+#[derive(Clone, Copy, Debug, Default)]
 pub struct Sha256Rows;
 
 impl TryClone for Sha256Rows {
@@ -90,7 +90,7 @@ pub fn group_message(digests: &[[u8; 32]]) -> Result<Vec<u8>, AllocError> {
 }
 
 /// SHA-256 of `N` digests of 32 bytes, one after another, one group at a time.
-#[derive(Clone, Copy, Debug)]
+#[derive(Clone, Copy, Debug, Default)]
 pub struct Sha256Nodes<const N: usize>;
 
 impl<const N: usize> TryClone for Sha256Nodes<N> {

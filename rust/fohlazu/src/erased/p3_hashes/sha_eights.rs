@@ -12,7 +12,7 @@ use crate::sha256::Sha256;
 
 /// SHA-256 of a row's bytes, with the digests of [`Sha256Rows`]. `hash_many` hashes eight rows at a time, each in a
 /// lane of vectors of the processor, and the rows after the last whole eight one by one.
-#[derive(Clone, Copy, Debug)]
+#[derive(Clone, Copy, Debug, Default)]
 pub struct Sha256RowsInEights;
 
 impl TryClone for Sha256RowsInEights {
@@ -57,7 +57,7 @@ impl CryptographicHasher<u8, u8, 32> for Sha256RowsInEights {
 /// SHA-256 of `N` digests of 32 bytes, one after another, with the digests of [`Sha256Nodes`]. `compress_many` hashes
 /// eight groups at a time, each in a lane of vectors of the processor, and the groups after the last whole eight one by
 /// one.
-#[derive(Clone, Copy, Debug)]
+#[derive(Clone, Copy, Debug, Default)]
 pub struct Sha256NodesInEights<const N: usize>;
 
 impl<const N: usize> TryClone for Sha256NodesInEights<N> {

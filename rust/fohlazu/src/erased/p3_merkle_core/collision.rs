@@ -5,7 +5,7 @@
 use alloc::vec::Vec;
 /// The place of an input in the check of an opening. A check hashes the leaf, and then goes up level by level; level
 /// `l` leads from layer `l` to layer `l + 1`.
-#[derive(Debug, PartialEq, Eq)]
+#[derive(Debug, PartialEq, Eq, Clone, Copy)]
 pub enum Place {
     /// The words hashed at the leaf.
     Leaf,
@@ -19,7 +19,7 @@ pub enum Place {
 }
 
 /// Two different inputs at one place, of words `T` or of digests `X`. [`Collision`] is this pair at digests of words.
-#[derive(Debug, PartialEq, Eq)]
+#[derive(Debug, PartialEq, Eq, Clone)]
 pub enum InputPair<T, X> {
     /// Inputs of the hasher: the rows of the matrices there, one after another.
     Words {

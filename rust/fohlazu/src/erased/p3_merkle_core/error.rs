@@ -5,7 +5,7 @@
 use crate::fallible::AllocError;
 
 /// Why a pruned proof does not fit the queries and rows that it comes with.
-#[derive(Debug, PartialEq, Eq)]
+#[derive(Debug, PartialEq, Eq, Clone, Copy)]
 pub enum PrunedProofError {
     /// The proof's digest count differs from what the queries require.
     SiblingCountMismatch {
@@ -48,7 +48,7 @@ impl core::fmt::Display for PrunedProofError {
 impl core::error::Error for PrunedProofError {}
 
 /// Why a batch of matrices, an index or an opening is refused.
-#[derive(Debug, PartialEq, Eq)]
+#[derive(Debug, PartialEq, Eq, Clone, Copy)]
 pub enum MerkleTreeError {
     /// Two lists that belong together differ in length: rows and matrices, row sets and indices, salts and rows, or
     /// salt sets and row sets.

@@ -15,7 +15,7 @@ pub const MAX_HEIGHT: usize = 1 << 62;
 
 /// The path of an index to the cap: for each level below the cap, from the leaves up, how many children a node has, and
 /// the position of the index's ancestor among them.
-#[derive(Debug, Clone)]
+#[derive(Debug, Clone, PartialEq, Eq)]
 pub struct ArityAndPositions {
     /// The step of each level, in children per node.
     pub arity_schedule: Vec<usize>,

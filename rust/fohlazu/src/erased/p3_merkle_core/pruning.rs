@@ -11,7 +11,7 @@
 //! - Rows agree if queries of one index have one row set, and queries under a node one row of each matrix of its layer.
 
 use crate::erased::p3_merkle_core::error::{MerkleTreeError, PrunedProofError};
-use crate::erased::p3_merkle_core::geometry::{check_widths, exponent_of, parent_of, position_of};
+use crate::erased::p3_merkle_core::geometry::{check_widths, exponent_of, parent_of};
 use crate::erased::p3_merkle_core::steps::{Covered, Steps, check_heights};
 use crate::erased::p3_support::matrix::Dimensions;
 use crate::fallible::{AllocError, TryClone, VecExt, try_vec};

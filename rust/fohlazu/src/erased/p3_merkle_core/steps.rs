@@ -12,7 +12,7 @@
 use crate::erased::p3_merkle_core::cap::CapRule;
 use crate::erased::p3_merkle_core::error::MerkleTreeError;
 use crate::erased::p3_merkle_core::geometry::{
-    MAX_HEIGHT, exponent_of, extremes_of, first_too_large_of, height_of_exponent, padded_len, parent_of,
+    exponent_of, extremes_of, first_too_large_of, height_of_exponent, padded_len, parent_of,
 };
 use crate::erased::p3_merkle_core::levels::Level;
 use crate::erased::p3_support::matrix::Dimensions;
@@ -135,7 +135,7 @@ pub(crate) fn steps_of(dimensions: &[Dimensions], arity: usize) -> Steps<'_> {
 /// The first of these that applies:
 ///
 /// - `EmptyBatch` if no matrix has a row;
-/// - `TooLarge` for the first height above [`MAX_HEIGHT`];
+/// - `TooLarge` for the first height above `MAX_HEIGHT`;
 /// - `IncompatibleHeights` for the first height that is not the tallest one halved and rounded up some number of times.
 pub(crate) fn check_heights(dimensions: &[Dimensions]) -> Result<(), MerkleTreeError> {
     let (max_height, _) = extremes_of(dimensions);
@@ -278,7 +278,7 @@ impl<'a> Steps<'a> {
 
     /// How many siblings the levels below a layer have, in digests: one less than the step of each
     /// (`total_siblings_for_levels` in Plonky3). The layer must be at most the number of levels, the arity a power of
-    /// two from 2 to 2^62, and no height above [`MAX_HEIGHT`].
+    /// two from 2 to 2^62, and no height above `MAX_HEIGHT`.
     pub(crate) fn siblings_below(&self, layer: usize) -> usize {
         // At arity 2 each level has one sibling.
         if self.arity == 2 {
@@ -344,7 +344,7 @@ pub(crate) struct Covered<'a> {
 
 impl<'a> Covered<'a> {
     /// The covered leaves: `nodes` must be the distinct `indices`, ascending. The indices must be below the tallest
-    /// height, the arity a power of two from 2 to 2^62, and no height above [`MAX_HEIGHT`].
+    /// height, the arity a power of two from 2 to 2^62, and no height above `MAX_HEIGHT`.
     pub(crate) fn new(steps: &'a Steps<'a>, indices: &'a [usize], nodes: Vec<usize>) -> Covered<'a> {
         Covered { steps, indices, layer: 0, exponent: steps.exponent, nodes, boundary_below: 0 }
     }

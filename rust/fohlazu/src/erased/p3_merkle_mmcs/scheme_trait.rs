@@ -5,7 +5,7 @@
 use crate::erased::p3_merkle_core::error::MerkleTreeError;
 use crate::erased::p3_merkle_core::pruning::PrunedMerklePaths;
 use crate::erased::p3_merkle_mmcs::mmcs::MerkleTreeMmcs;
-use crate::erased::p3_merkle_prover::tree::{MerkleTree, Tree};
+use crate::erased::p3_merkle_prover::tree::MerkleTree;
 use crate::erased::p3_support::compress::PseudoCompressionFunction;
 use crate::erased::p3_support::hasher::CryptographicHasher;
 use crate::erased::p3_support::matrix::{Dimensions, Matrix};

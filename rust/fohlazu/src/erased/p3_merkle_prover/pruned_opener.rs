@@ -11,7 +11,7 @@ use crate::erased::p3_merkle_core::steps::Covered;
 use crate::erased::p3_merkle_prover::opener::{rows_of_index, tree_steps};
 use crate::erased::p3_merkle_prover::tree::Tree;
 use crate::erased::p3_support::matrix::Matrix;
-use crate::fallible::{TryClone, VecExt};
+use crate::fallible::VecExt;
 use alloc::vec::Vec;
 
 /// The rows of each of some leaves, in the order of the indices. Each index must be below

@@ -20,7 +20,7 @@ use crate::erased::p3_merkle_verifier::path::is_entry;
 use crate::erased::p3_support::compress::PseudoCompressionFunction;
 use crate::erased::p3_support::hasher::CryptographicHasher;
 use crate::erased::p3_support::packed::PackedValue;
-use crate::fallible::{AllocError, TryClone, VecExt, try_vec};
+use crate::fallible::{AllocError, VecExt, try_vec};
 use alloc::vec::Vec;
 use core::marker::PhantomData;
 use core::mem;

@@ -8,7 +8,7 @@ use crate::erased::p3_support::packed::PackedValue;
 /// compute this one function. None of them allocates.
 pub trait PseudoCompressionFunction<PW: PackedValue, const N: usize, const D: usize> {
     /// How many groups `compress_many` compresses side by side. It is fastest for a multiple of this many.
-    const LANES: usize;
+    const LANES: usize = 1;
 
     /// The digest of a group of `N` digests.
     fn compress(&self, input: [[PW::Value; D]; N]) -> [PW::Value; D];

@@ -8,11 +8,11 @@ use crate::erased::p3_support::packed::PackedValue;
 /// compute this one function. None of them allocates.
 pub trait CryptographicHasher<P: PackedValue, PW: PackedValue, const D: usize> {
     /// How many messages `hash_many` hashes side by side. It is fastest for a multiple of this many.
-    const LANES: usize;
+    const LANES: usize = 1;
 
     /// Whether a message in several pieces is hashed faster when it is copied into one slice first. No builder reads
     /// it.
-    const PREFER_CONTIGUOUS_INPUT: bool;
+    const PREFER_CONTIGUOUS_INPUT: bool = false;
 
     /// The digest of the items of `input`. Its items must end, and `next` must be callable until then.
     fn hash_iter<I: Iterator<Item = P::Value>>(&self, input: I) -> [PW::Value; D];

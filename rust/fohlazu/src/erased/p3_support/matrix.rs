@@ -122,7 +122,7 @@ pub trait Matrix<T> {
 }
 
 // So that a call that takes a slice of matrices also takes a slice of references.
-impl<T, M: Matrix<T>> Matrix<T> for &M {
+impl<T, M: ?Sized + Matrix<T>> Matrix<T> for &M {
     fn height(&self) -> usize {
         (**self).height()
     }
@@ -213,7 +213,7 @@ impl TryClone for ShapeError {
 }
 
 /// A matrix that stores its elements row after row.
-#[derive(Debug)]
+#[derive(Debug, Default, PartialEq, Eq)]
 pub struct RowMajorMatrix<T> {
     values: Vec<T>,
     width: usize,

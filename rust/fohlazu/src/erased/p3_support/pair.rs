@@ -6,7 +6,7 @@ use crate::erased::p3_support::matrix::Matrix;
 use core::marker::PhantomData;
 
 /// Two matrices of one height, side by side: each row is a row of the left matrix followed by that of the right one.
-#[derive(Debug)]
+#[derive(Debug, Clone, Copy)]
 pub struct HorizontalPair<T, A: Matrix<T>, B: Matrix<T>> {
     left: A,
     right: B,

@@ -7,7 +7,7 @@ use crate::fallible::{AllocError, VecExt};
 use alloc::vec::Vec;
 
 /// Two different byte strings with one hash.
-#[derive(Debug)]
+#[derive(Debug, Clone, PartialEq, Eq)]
 pub struct Collision {
     /// The first.
     pub first: Vec<u8>,

@@ -47,7 +47,7 @@ impl TryClone for ProofError {
 }
 
 /// Why two proofs of consistency are not composed: the first reason that applies, in the order of the variants.
-#[derive(Debug)]
+#[derive(Debug, Clone, PartialEq, Eq)]
 pub enum ComposeError {
     /// The first proof is not accepted.
     First(ProofError),

@@ -3,7 +3,7 @@
 //! The tree of a log that is read once, with the values of wanted nodes.
 
 use crate::erased::tlog_tree::error::TreeError;
-use crate::erased::tlog_tree::frontier::{Frontier, root_of_nodes};
+use crate::erased::tlog_tree::frontier::Frontier;
 use crate::erased::tlog_tree::wanted::{WantedNode, whole_count};
 use crate::fallible::{AllocError, VecExt, try_vec};
 use alloc::vec::Vec;
@@ -11,7 +11,7 @@ use alloc::vec::Vec;
 /// The tree of a log that is read once, from its first entry on, with the values of the nodes that were wanted when it
 /// began, and nothing else: what proofs of inclusion and of consistency are computed from. A node has a layer, 0 for
 /// the leaf hashes, and a slot in the layer, counted from 0: below it are the 2^layer leaves from slot * 2^layer on.
-#[derive(Debug)]
+#[derive(Debug, Clone)]
 pub struct TreeBuilder {
     frontier: Frontier,
     /// In the order of their ends, so that a push looks at those alone that end in it.

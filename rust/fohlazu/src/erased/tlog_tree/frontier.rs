@@ -15,7 +15,7 @@ const CHUNK: usize = 4096;
 
 /// The tree of a log that only grows, by its whole nodes (the roots of the largest perfect subtrees, from left to
 /// right) and nothing else. A log has at most 2^62 entries, and its tree at most 62 whole nodes.
-#[derive(Debug)]
+#[derive(Debug, Clone, Default)]
 pub struct Frontier {
     size: usize,
     nodes: Vec<[u8; 32]>,

@@ -14,4 +14,3 @@ pub use error::TreeError;
 pub use frontier::Frontier;
 pub use leaf::leaf_hashes;
 pub use places::{consistency_places, inclusion_places};
-pub(crate) use wanted::WantedNode;
