@@ -251,19 +251,23 @@ def check_question(size: int, numbers: Iterable[int], digests: Iterable[bytes]) 
 
 # What no text has: control characters, and bytes that are not UTF-8.
 OUT = "\0-\x1f\udc80-\udcff"
-ORIGIN = f"(?![ \ufeff])[^{OUT}\x7f]{{1,100}}(?<! )"
+ORIGIN = f"(?![ \ufeff])[^{OUT}\x7f]+(?<! )"
 NUMBER = "(0|[1-9][0-9]{0,18})"
 BASE64 = "(?:[A-Za-z0-9+/]{4})*(?:[A-Za-z0-9+/][AQgw]==|[A-Za-z0-9+/]{2}[AEIMQUYcgkosw048]=)?"
 # The base64 of 32 bytes.
 DIGEST = "[A-Za-z0-9+/]{42}[AEIMQUYcgkosw048]="
 # A line of a checkpoint after its root.
-EXTENSION = f"(?!{DIGEST}$)[^{OUT}]+"
+EXTENSION = f"[^{OUT}]+"
 # The name of a key.
 NAME = f"[^{OUT}\\s+]+"
 # A signature is the base64 of at least 5 bytes.
 SIGNATURE = f"\u2014 {NAME} (?=.{{8}})(?!.{{6}}==(?m:$)){BASE64}"
 MOST_SIGNATURES = 100
 MOST_CHECKPOINT_BYTES = 10**6
+# A second checkpoint in a text: its number and its root, after four lines or more, none of them blank.
+SECOND = rb"(?:[^\n]+\n){4,}[0-9]+\n[^\n]{43}=\n"
+# The other bytes of a checkpoint of three lines are at most 66.
+MOST_ORIGIN_BYTES = MOST_CHECKPOINT_BYTES - 66
 # A proof of consistency has at most so many digests.
 MOST_DIGESTS = 63
 
@@ -333,11 +337,14 @@ def parse_checkpoint(note: bytes, where: str = "") -> Checkpoint:
     if note.startswith(b"fohlazu part 1\n"):
         raise text.refused("the origin of a log, not that of a part, which only `join` takes")
 
-    origin, _ = text.line("the origin: 1 to 100 characters, no control character, and no space first or last", ORIGIN)
+    expected = f"the origin: 1 to {MOST_ORIGIN_BYTES} bytes, no control character, and no space first or last"
+    if note.find(b"\n") > MOST_ORIGIN_BYTES:
+        raise text.refused(expected)
+    origin, _ = text.line(expected, ORIGIN)
     _, [size] = text.line("a checkpoint's number of entries, up to 2^62", NUMBER)
     root = text.digest()
     while not text.stands(b"", b"\n"):
-        text.line("the end, a blank line, or plain text that is no digest: are there two checkpoints?", EXTENSION)
+        text.line("the end, a blank line, or plain text", EXTENSION)
     if not text.stands(b""):
         skip_signatures(text)
     text.end()
@@ -348,7 +355,7 @@ def skip_signatures(text: Text) -> None:
     """Reads the signatures of a note, after its blank line."""
     text.line("a blank line", "")
     for _ in range(MOST_SIGNATURES):
-        text.line("a signature, `\u2014 NAME BASE64`, after the blank line", SIGNATURE)
+        text.line("a signature, `\u2014 NAME BASE64`, after the blank line: are there two texts?", SIGNATURE)
         if text.stands(b"", b"\n"):
             break
 
