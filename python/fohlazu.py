@@ -270,6 +270,8 @@ SECOND = rb"(?:[^\n]+\n){4,}[0-9]+\n[^\n]{43}=\n"
 MOST_ORIGIN_BYTES = MOST_CHECKPOINT_BYTES - 66
 # A proof of consistency has at most so many digests.
 MOST_DIGESTS = 63
+# The old size of a proof of consistency has a line of at most 24 bytes, a digest one of 45, and a blank line is next.
+MOST_CONSISTENCY_BYTES = 24 + 45 * MOST_DIGESTS + 1 + MOST_CHECKPOINT_BYTES
 
 
 class Text:
@@ -575,6 +577,14 @@ def check_args(args: argparse.Namespace, parser: argparse.ArgumentParser) -> Non
 # ---- files
 
 
+class Failure(Exception):
+    """A command fails: its exit status, and what it says."""
+
+    def __init__(self, status: int, why: str) -> None:
+        super().__init__(why)
+        self.status = status
+
+
 def is_output(name: str) -> bool:
     """Whether a file is what standard output is written to."""
     with contextlib.suppress(OSError):
@@ -582,11 +592,13 @@ def is_output(name: str) -> bool:
     return False
 
 
-def read(name: str) -> bytes:
-    """The bytes of a file, or of standard input."""
+def read(name: str, status: int = 2, limit: int | None = None) -> bytes:
+    """The bytes of a file, or of standard input. More than a limit end the command with this status."""
     with open(0 if name == "-" else name, "rb", closefd=name != "-") as file:
         size = os.fstat(file.fileno()).st_size
-        data = file.read()
+        data = file.read() if limit is None else file.read(limit + 1)
+    if limit is not None and len(data) > limit:
+        raise Failure(status, f"{name}: it has more than {limit} bytes")
     if name != "-" and len(data) < size:
         raise Refused(f"{name}: it shrank while it was read")
     return data
@@ -599,14 +611,6 @@ def write(file: int, data: bytes) -> None:
 
 
 # ---- the commands
-
-
-class Failure(Exception):
-    """A command fails: its exit status, and what it says."""
-
-    def __init__(self, status: int, why: str) -> None:
-        super().__init__(why)
-        self.status = status
 
 
 # What the commands say of a verifier's reason. Other reasons can't occur: what they are about is checked ahead of it.
