@@ -251,7 +251,7 @@ def check_question(size: int, numbers: Iterable[int], digests: Iterable[bytes]) 
 
 # What no text has: control characters, and bytes that are not UTF-8.
 OUT = "\0-\x1f\udc80-\udcff"
-ORIGIN = f"(?![ \ufeff])[^{OUT}\x7f]+(?<! )"
+ORIGIN = f"(?![ \ufeff])[^{OUT}]+(?<! )"
 NUMBER = "(0|[1-9][0-9]{0,18})"
 BASE64 = "(?:[A-Za-z0-9+/]{4})*(?:[A-Za-z0-9+/][AQgw]==|[A-Za-z0-9+/]{2}[AEIMQUYcgkosw048]=)?"
 # The base64 of 32 bytes.
@@ -339,7 +339,7 @@ def parse_checkpoint(note: bytes, where: str = "") -> Checkpoint:
     if note.startswith(b"fohlazu part 1\n"):
         raise text.refused("the origin of a log, not that of a part, which only `join` takes")
 
-    expected = f"the origin: 1 to {MOST_ORIGIN_BYTES} bytes, no control character, and no space first or last"
+    expected = f"the origin: 1 to {MOST_ORIGIN_BYTES} bytes, no character below U+0020, and no space first or last"
     if note.find(b"\n") > MOST_ORIGIN_BYTES:
         raise text.refused(expected)
     origin, _ = text.line(expected, ORIGIN)

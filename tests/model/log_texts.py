@@ -23,7 +23,7 @@ def is_text(line):
 
 
 def is_origin(line):
-    if not is_text(line) or b"\x7f" in line:
+    if not is_text(line):
         return False
     text = line.decode()
     return 1 <= len(line) <= MOST_ORIGIN_BYTES and text[0] not in " \ufeff" and text[-1] != " "

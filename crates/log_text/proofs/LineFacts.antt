@@ -5,7 +5,7 @@ use Rattle.std.proofs.Common.{ne_eqb, ◌^◌, Decides, [], ◌∷◌, ◌++◌,
 use Rattle.std.proofs.Common.{decimal, All, eqb-true, leb-true}
 use Rattle.std.proofs.lemmas.List.Elements.{All-append, All-cons, All-nil, All-weaker}
 use Rattle.std.proofs.lemmas.Bool.{and_left, eqb-false, and_parts, false_from_ne_true}
-use Rattle.std.proofs.lemmas.Bool.Decides.{Decides-and, Decides-eqb, Decides-not}
+use Rattle.std.proofs.lemmas.Bool.Decides.{Decides-eqb}
 use Rattle.std.proofs.lemmas.List.{nil_from_length}
 use Rattle.std.proofs.lemmas.Str.{is_utf8-from_IsUtf8, IsUtf8-from_is_utf8}
 use Rattle.std.specs.Cmp.Lexicographic.{pointwise, bytes_decides}
@@ -37,7 +37,7 @@ utf8_tells Y N (Err e) bytes said =
 
 -- the tests of an origin
 abbrev pub plain : List ℕ → Bool
-plain text = list_all (λ b. nat_le 32 b && not (b == 127)) text
+plain text = list_all (λ b. nat_le 32 b) text
 
 pub origin_tests : (text : List ℕ) (few : Bool) → IsUtf8 text → starts_with nat_eq text byte_order_mark ≡ false →
     1 ≤ length text → (slice_index text 0 ≡ 32 → ⊥) →
@@ -162,9 +162,7 @@ origin_parts origin is =
     let (few, all) = and_parts (nat_le (length origin) 999934) _ d in (
       IsUtf8-from_is_utf8 origin utf8,
       leb-true (length origin) 999934 few,
-      All-weaker (λ (c : ℕ). (32 ≤ c) × (c ≡ 127 → ⊥)) (λ c. 32 ≤ c) (λ c is. is.0) origin
-          ((each_decided _ (λ c. (32 ≤ c) × (c ≡ 127 → ⊥))
-          (λ c. Decides-and _ _ (le_decided 32 c) (Decides-not _ (Decides-eqb c 127))) origin).0 all),
+      plain_tested origin all,
     )
 
 abbrev pub IsLogOrigin : List ℕ → Type 0

@@ -77,14 +77,14 @@ is_text bytes = is_utf8 bytes && list_all (λ b. nat_le 32 b) bytes
 abbrev pub byte_order_mark : List ℕ
 byte_order_mark = 239 ∷ 187 ∷ 191 ∷ []
 
--- an origin: text without U+007F, no byte order mark first, no space first or last, and at most 999934 bytes. A
+-- an origin: text that is not empty, no byte order mark first, no space first or last, and at most 999934 bytes. A
 -- checkpoint has at most 10 ^ 6 bytes, and beside its origin it may need 66: the LF of the origin, 19 digits of a size
 -- and their LF, 44 characters of a root and their LF
 unfoldable pub is_origin : List ℕ → Bool
 is_origin text =
     is_utf8 text && (not (starts_with nat_eq text byte_order_mark) && (nat_le 1 (length text) &&
     (not (slice_index text 0 == 32) && (not (slice_index text (length text - 1) == 32) &&
-    (nat_le (length text) 999934 && list_all (λ b. nat_le 32 b && not (b == 127)) text)))))
+    (nat_le (length text) 999934 && list_all (λ b. nat_le 32 b) text)))))
 
 -- a character of a key's name: no space, be it one of Unicode's, and no `+`
 abbrev pub is_name_char : ℕ → Bool

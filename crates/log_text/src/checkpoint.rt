@@ -78,8 +78,8 @@ impl<'a> Checkpoint<'a> {
     }
 }
 
-/// Whether this may be an origin: 1 to 999934 bytes, no control character of ASCII, no byte order mark first, and no
-/// space first or last. So a checkpoint of three lines has at most 1000000 bytes, whatever its size.
+/// Whether this may be an origin: 1 to 999934 bytes, no character below U+0020, no byte order mark first, and no space
+/// first or last. So a checkpoint of three lines has at most 1000000 bytes, whatever its size.
 #[tactic(auto, unfolding(crate::specs::Lines::is_origin))]
 pub fn is_origin(text: &str) -> bool
     ensures { result ≡ is_origin text.now }
@@ -92,7 +92,7 @@ pub fn is_origin(text: &str) -> bool
     if len == 0 || bytes[0] == b' ' || bytes[len - 1] == b' ' {
         return false;
     }
-    len <= MAX_ORIGIN_BYTES && bytes.iter().all(|byte| *byte >= b' ' && *byte != 0x7f)
+    len <= MAX_ORIGIN_BYTES && bytes.iter().all(|byte| *byte >= b' ')
 }
 
 /// The origin that a line is.

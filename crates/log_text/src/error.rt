@@ -58,7 +58,7 @@ pub enum Expected {
     #[error("a text of at most 1000000 bytes")]
     ShortNote,
     /// The origin of a log, as `is_origin` takes it.
-    #[error("the origin: 1 to 999934 bytes, no control character, and no space first or last")]
+    #[error("the origin: 1 to 999934 bytes, no character below U+0020, and no space first or last")]
     Origin,
     /// The origin of a log, where that of a part is.
     #[error("the origin of a log, not that of a part, which only `join` takes")]

@@ -1,4 +1,4 @@
-use Rattle.std.proofs.Common.{◌==◌, true, length, sym, ap, ◌∙◌, arith, rules, ◌&&◌, not, nat_le}
+use Rattle.std.proofs.Common.{true, length, sym, ap, ◌∙◌, arith, rules, nat_le}
 use Rattle.std.proofs.lemmas.Iterator.{YieldsList-from_slice}
 use Rattle.std.proofs.lemmas.Iterator.Search.{all_from_yields_List}
 use Rattle.log_text.specs.Lines.{is_origin}
@@ -11,7 +11,7 @@ returns-then-len-le-MAX_ORIGIN_BYTES c =
     let bytes = c.as_bytes-bytes.result.now in
     let text = c.as_bytes-bytes.ensures.value in
     let unmarked = sym c.starts_with.ensures.value ∙ c.if-starts_with.false in
-    let told = all_from_yields_List (λ b. nat_le 32 b && not (b == 127)) _ _ c.all.result c.all.ensures.ran
+    let told = all_from_yields_List (λ b. nat_le 32 b) _ _ c.all.result c.all.ensures.ran
     (YieldsList-from_slice bytes c.iter.ensures.rest) (λ x b q called. search rules) in
     told
     ∙ origin_tests bytes true c.as_bytes-bytes.ensures.utf8 unmarked (omega arith) c.if-bytes-eq32.false
