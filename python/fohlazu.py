@@ -648,7 +648,12 @@ def answer(args: argparse.Namespace) -> bytes:
     with failing(2):
         for vkey in args.key:
             parse_key(vkey)
-        note, proof = read(checkpoint_name), read(proof_name)
+        limit = MOST_CONSISTENCY_BYTES if args.command == "verify-consistency" else None
+        note = read(checkpoint_name, 2, MOST_CHECKPOINT_BYTES)
+        if re.match(SECOND, note):
+            why = "it has more than one checkpoint: only the first is read"
+            write(2, f"fohlazu: {checkpoint_name}: {why}\n".encode())
+        proof = read(proof_name, 1, limit)
     with failing(2, f"{checkpoint_name}: "):
         checkpoint = parse_checkpoint(note)
 
