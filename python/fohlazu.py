@@ -251,21 +251,27 @@ def check_question(size: int, numbers: Iterable[int], digests: Iterable[bytes]) 
 
 # What no text has: control characters, and bytes that are not UTF-8.
 OUT = "\0-\x1f\udc80-\udcff"
-ORIGIN = f"(?![ \ufeff])[^{OUT}\x7f]{{1,100}}(?<! )"
+ORIGIN = f"(?![ \ufeff])[^{OUT}]+(?<! )"
 NUMBER = "(0|[1-9][0-9]{0,18})"
 BASE64 = "(?:[A-Za-z0-9+/]{4})*(?:[A-Za-z0-9+/][AQgw]==|[A-Za-z0-9+/]{2}[AEIMQUYcgkosw048]=)?"
 # The base64 of 32 bytes.
 DIGEST = "[A-Za-z0-9+/]{42}[AEIMQUYcgkosw048]="
 # A line of a checkpoint after its root.
-EXTENSION = f"(?!{DIGEST}$)[^{OUT}]+"
+EXTENSION = f"[^{OUT}]+"
 # The name of a key.
 NAME = f"[^{OUT}\\s+]+"
 # A signature is the base64 of at least 5 bytes.
 SIGNATURE = f"\u2014 {NAME} (?=.{{8}})(?!.{{6}}==(?m:$)){BASE64}"
 MOST_SIGNATURES = 100
 MOST_CHECKPOINT_BYTES = 10**6
+# A second checkpoint in a text: its number and its root, after four lines or more, none of them blank.
+SECOND = rb"(?:[^\n]+\n){4,}[0-9]+\n[^\n]{43}=\n"
+# The other bytes of a checkpoint of three lines are at most 66.
+MOST_ORIGIN_BYTES = MOST_CHECKPOINT_BYTES - 66
 # A proof of consistency has at most so many digests.
 MOST_DIGESTS = 63
+# The old size of a proof of consistency has a line of at most 24 bytes, a digest one of 45, and a blank line is next.
+MOST_CONSISTENCY_BYTES = 24 + 45 * MOST_DIGESTS + 1 + MOST_CHECKPOINT_BYTES
 
 
 class Text:
@@ -333,11 +339,14 @@ def parse_checkpoint(note: bytes, where: str = "") -> Checkpoint:
     if note.startswith(b"fohlazu part 1\n"):
         raise text.refused("the origin of a log, not that of a part, which only `join` takes")
 
-    origin, _ = text.line("the origin: 1 to 100 characters, no control character, and no space first or last", ORIGIN)
+    expected = f"the origin: 1 to {MOST_ORIGIN_BYTES} bytes, no character below U+0020, and no space first or last"
+    if note.find(b"\n") > MOST_ORIGIN_BYTES:
+        raise text.refused(expected)
+    origin, _ = text.line(expected, ORIGIN)
     _, [size] = text.line("a checkpoint's number of entries, up to 2^62", NUMBER)
     root = text.digest()
     while not text.stands(b"", b"\n"):
-        text.line("the end, a blank line, or plain text that is no digest: are there two checkpoints?", EXTENSION)
+        text.line("the end, a blank line, or plain text", EXTENSION)
     if not text.stands(b""):
         skip_signatures(text)
     text.end()
@@ -348,7 +357,7 @@ def skip_signatures(text: Text) -> None:
     """Reads the signatures of a note, after its blank line."""
     text.line("a blank line", "")
     for _ in range(MOST_SIGNATURES):
-        text.line("a signature, `\u2014 NAME BASE64`, after the blank line", SIGNATURE)
+        text.line("a signature, `\u2014 NAME BASE64`, after the blank line: are there two texts?", SIGNATURE)
         if text.stands(b"", b"\n"):
             break
 
@@ -568,6 +577,14 @@ def check_args(args: argparse.Namespace, parser: argparse.ArgumentParser) -> Non
 # ---- files
 
 
+class Failure(Exception):
+    """A command fails: its exit status, and what it says."""
+
+    def __init__(self, status: int, why: str) -> None:
+        super().__init__(why)
+        self.status = status
+
+
 def is_output(name: str) -> bool:
     """Whether a file is what standard output is written to."""
     with contextlib.suppress(OSError):
@@ -575,11 +592,13 @@ def is_output(name: str) -> bool:
     return False
 
 
-def read(name: str) -> bytes:
-    """The bytes of a file, or of standard input."""
+def read(name: str, status: int = 2, limit: int | None = None) -> bytes:
+    """The bytes of a file, or of standard input. More than a limit end the command with this status."""
     with open(0 if name == "-" else name, "rb", closefd=name != "-") as file:
         size = os.fstat(file.fileno()).st_size
-        data = file.read()
+        data = file.read() if limit is None else file.read(limit + 1)
+    if limit is not None and len(data) > limit:
+        raise Failure(status, f"{name}: it has more than {limit} bytes")
     if name != "-" and len(data) < size:
         raise Refused(f"{name}: it shrank while it was read")
     return data
@@ -592,14 +611,6 @@ def write(file: int, data: bytes) -> None:
 
 
 # ---- the commands
-
-
-class Failure(Exception):
-    """A command fails: its exit status, and what it says."""
-
-    def __init__(self, status: int, why: str) -> None:
-        super().__init__(why)
-        self.status = status
 
 
 # What the commands say of a verifier's reason. Other reasons can't occur: what they are about is checked ahead of it.
@@ -637,7 +648,12 @@ def answer(args: argparse.Namespace) -> bytes:
     with failing(2):
         for vkey in args.key:
             parse_key(vkey)
-        note, proof = read(checkpoint_name), read(proof_name)
+        limit = MOST_CONSISTENCY_BYTES if args.command == "verify-consistency" else None
+        note = read(checkpoint_name, 2, MOST_CHECKPOINT_BYTES)
+        if re.match(SECOND, note):
+            why = "it has more than one checkpoint: only the first is read"
+            write(2, f"fohlazu: {checkpoint_name}: {why}\n".encode())
+        proof = read(proof_name, 1, limit)
     with failing(2, f"{checkpoint_name}: "):
         checkpoint = parse_checkpoint(note)
 

@@ -154,6 +154,13 @@ def file(cut, limit, nodes, wanted, reads, data):
     return " ".join(words)
 
 
+def read(limit, reads, data):
+    found = data[: limit + 1]
+    if len(data) <= limit and reads.endswith("!"):
+        return "cannot be read 0"
+    return f"{len(found)} {short(sha256(found).digest())} {len(data) - len(found)}"
+
+
 def text(said):
     """What a text is answered. `said` gives what the text has, and how that is printed."""
 
@@ -322,6 +329,7 @@ KINDS = {
     "consistent": ("nlnns", consistent),
     "verify": ("nliis", verify),
     "file": ("wwsiwb", file),
+    "read": ("nwb", read),
     "file_entries": ("wbbb", by_commands(file_entries)),
     "file_prefix": ("wbbbb", by_commands(file_prefix)),
     "checkpoint": ("b", text(checkpoint)),

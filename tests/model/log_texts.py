@@ -4,6 +4,8 @@ printed. A text is wrong at a line, numbered from 1, where it is read no further
 from base64 import b64decode, b64encode
 
 MOST_BYTES = 10**6
+# With a size of 19 digits, a checkpoint of this origin has as many bytes as it may.
+MOST_ORIGIN_BYTES = MOST_BYTES - len(b"\n") - len(b"%d\n" % (1 << 62)) - len(b64encode(bytes(32)) + b"\n")
 PART = b"fohlazu part 1"
 DASH = "—".encode()
 
@@ -21,10 +23,10 @@ def is_text(line):
 
 
 def is_origin(line):
-    if not is_text(line) or b"\x7f" in line:
+    if not is_text(line):
         return False
     text = line.decode()
-    return 1 <= len(text) <= 100 and text[0] not in " \ufeff" and text[-1] != " "
+    return 1 <= len(line) <= MOST_ORIGIN_BYTES and text[0] not in " \ufeff" and text[-1] != " "
 
 
 def number(line):
@@ -104,7 +106,7 @@ def checkpoint(text, is_part=False):
     size, root = lines.read(number), lines.read(digest)
     line = None
     while line != b"" and lines.start < len(text):
-        line = lines.read(lambda line: line if is_text(line) and digest(line) is None else None)
+        line = lines.read(lambda line: line if is_text(line) else None)
     # A blank line ends the extension, and one to a hundred signatures follow.
     for count in range(100 if line == b"" else 0):
         if count == 0 or lines.start < len(text):

@@ -4,6 +4,7 @@ ghost use Rattle.std.specs.Prelude.{IfOk, ◌≤◌};
 ghost use Rattle.log_commands.specs.Commands.{IsLawful};
 
 use crate::input::{Input, Notes};
+use crate::many::{MANY, Many, Range, count_of, numbers_in};
 use crate::output::is_same_file;
 use clap::{Arg, ArgMatches, Command as Syntax, arg, value_parser};
 use log_commands::prove::MOST_NUMBERS;
@@ -71,14 +72,14 @@ pub(crate) enum ArgsError<'a> {
     OutOfMemory(#[from(alloc)] AllocError),
 }
 
-/// An argument that prints with its control characters escaped.
+/// An argument that prints without what a terminal acts on: those characters are escaped.
 #[derive(Clone, Copy, Debug)]
 pub(crate) struct Escaped<'a>(pub(crate) &'a str);
 
 impl Display for Escaped<'_> {
     fn fmt<W: Write>(&self, f: &mut Formatter<W>) -> fmt::Result {
         for c in self.0.chars() {
-            if c.is_control() {
+            if is_escaped(c) {
                 write!(f, "{}", c.escape_default())?;
             } else {
                 f.write_char(c)?;
@@ -86,6 +87,16 @@ impl Display for Escaped<'_> {
         }
         Ok(())
     }
+}
+
+/// Whether a character is escaped where it is printed: a control character, up to U+001F or from U+007F to U+009F, or
+/// one that sets the direction of text (Unicode's Bidi_Control).
+fn is_escaped(c: char) -> bool {
+    let sets_direction = matches!(
+        c,
+        '\u{61c}' | '\u{200e}' | '\u{200f}' | '\u{202a}'..='\u{202e}' | '\u{2066}'..='\u{2069}'
+    );
+    c.is_control() || sets_direction
 }
 
 /// The arguments of a command, as far as they are not in it: what its inputs are called, and where its output goes.
@@ -130,7 +141,7 @@ pub(crate) fn parse_args<'a>(
         let why = if matches!(command, Command::Verify { .. }) {
             "--raw takes the number of one entry, and --blocks takes numbers or all"
         } else {
-            "an origin has 1 to 100 characters, no control character, no space first or last: --origin sets it"
+            "an origin has 1 to 999934 bytes, no character below U+0020, no space first or last: --origin sets it"
         };
         return Err(ArgsError::Refused(why));
     }
@@ -191,24 +202,28 @@ impl<'a> Args<'a> {
             },
             "prove" => Command::Prove {
                 cut: self.cut(),
-                checkpoint: self.input("CHECKPOINT"),
+                checkpoint: self.checkpoint("CHECKPOINT"),
                 file: self.input("FILE"),
-                numbers: self.numbers(alloc)?,
+                numbers: match self.many(alloc)? {
+                    // `prove_many` takes their numbers once the file is known to have them.
+                    Some(_) => Some(vec![in alloc; 1]?),
+                    None => self.numbers(alloc)?,
+                },
             },
             "verify" => Command::Verify {
                 print: self.print(),
-                checkpoint: self.input("CHECKPOINT"),
+                checkpoint: self.checkpoint("CHECKPOINT"),
                 proof: self.input("PROOF"),
                 entries: self.requested(alloc)?,
             },
             "prove-consistency" => Command::ProveConsistency {
                 cut: self.cut(),
-                old: self.input("OLD"),
-                new: self.input("NEW"),
+                old: self.checkpoint("OLD"),
+                new: self.checkpoint("NEW"),
                 file: self.input("FILE"),
             },
             "verify-consistency" => Command::VerifyConsistency {
-                old: self.input("OLD"),
+                old: self.checkpoint("OLD"),
                 proof: self.input("PROOF"),
             },
             _ => Command::Join {
@@ -243,31 +258,57 @@ impl<'a> Args<'a> {
     }
 
     /// The input of an argument. That of `FILE` shows its progress, unless `--quiet` is given.
-    fn input(&self, id: &str) -> Input<'a> {
+    pub(crate) fn input(&self, id: &str) -> Input<'a> {
         let shows_progress = id == "FILE" && !self.found.get_flag("quiet");
         let name = self.found.get_str(id).unwrap_or("");
         Input::new(self.rt, name, shows_progress, self.notes)
+    }
+
+    /// The input of an argument that is a checkpoint.
+    pub(crate) fn checkpoint(&self, id: &str) -> Input<'a> {
+        self.input(id).watched()
     }
 
     /// The inputs of `join`.
     fn parts(&self, alloc: Global) -> Result<Vec<Input<'a>>, AllocError> {
         let names = self.found.get_strs("PART").unwrap_or(&[]).iter();
         names
-            .map(|name| Input::new(self.rt, name, false, self.notes))
+            .map(|name| Input::new(self.rt, name, false, self.notes).watched())
             .collect(alloc)
     }
 
-    /// The numbers of entries, or `None` for `all`.
-    fn numbers(&self, alloc: Global) -> Result<Option<Vec<usize>>, ArgsError<'a>> {
+    /// The ranges of numbers of entries, or `None` for `all`.
+    fn ranges(&self, alloc: Global) -> Result<Option<Vec<Range>>, ArgsError<'a>> {
         let words = self.found.get_strs("NUMBER").unwrap_or(&[]);
         if words == ["all"].as_slice() {
             return Ok(None);
         }
-        let mut numbers = Vec::with_capacity(alloc, words.len())?;
+        let mut ranges = Vec::with_capacity(alloc, words.len())?;
+        let mut count = 0;
         for word in words {
-            add_numbers(&mut numbers, word)?;
+            count = add_ranges(&mut ranges, count, word)?;
         }
-        Ok(Some(numbers))
+        Ok(Some(ranges))
+    }
+
+    /// The numbers of entries, or `None` for `all`.
+    fn numbers(&self, alloc: Global) -> Result<Option<Vec<usize>>, ArgsError<'a>> {
+        match self.ranges(alloc)? {
+            Some(ranges) => Ok(Some(numbers_in(alloc, &ranges)?)),
+            None => Ok(None),
+        }
+    }
+
+    /// The numbers of the entries to prove, if these may be many: all of a checkpoint, or ranges of more than `MANY`.
+    pub(crate) fn many(&self, alloc: Global) -> Result<Option<Many>, ArgsError<'a>> {
+        let Some(ranges) = self.ranges(alloc)? else {
+            return Ok(Some(Many::All));
+        };
+        if count_of(&ranges) > MANY {
+            Ok(Some(Many::Ranges(ranges)))
+        } else {
+            Ok(None)
+        }
     }
 
     /// The entries that are requested of a proof.
@@ -296,7 +337,7 @@ impl<'a> Args<'a> {
     }
 
     /// How the file is cut into entries.
-    fn cut(&self) -> Cut {
+    pub(crate) fn cut(&self) -> Cut {
         match self.found.get_one("blocks") {
             Some(bytes) => Cut::Blocks(bytes),
             None if self.found.get_flag("whole-lines") => Cut::Lines(PartialLine::LeaveOut),
@@ -315,17 +356,24 @@ impl<'a> Args<'a> {
     }
 }
 
-/// Appends the numbers that a word names: numbers and ranges, with commas between.
-fn add_numbers<'a>(numbers: &mut Vec<usize>, word: &'a str) -> Result<(), ArgsError<'a>> {
+/// Appends the ranges that a word names, numbers and ranges with commas between, to ranges that have `count` numbers.
+/// Returns how many they have then.
+fn add_ranges<'a>(
+    ranges: &mut Vec<Range>,
+    count: usize,
+    word: &'a str,
+) -> Result<usize, ArgsError<'a>> {
+    let mut count = count;
     for range in word.split(',') {
-        let (first, last) = range_of(range).map_err(|why| ArgsError::Word(Escaped(word), why))?;
-        if numbers.len().saturating_add(last - first) >= MOST_NUMBERS {
+        let range = range_of(range).map_err(|why| ArgsError::Word(Escaped(word), why))?;
+        count = count.saturating_add(count_of(&[range]));
+        if count > MOST_NUMBERS {
             let why = "more than 100000000 entries at once";
             return Err(ArgsError::Word(Escaped(word), why));
         }
-        numbers.extend(first..=last)?;
+        ranges.push(range)?;
     }
-    Ok(())
+    Ok(count)
 }
 
 /// The first and the last number of a range, as `3-7`, or of one number.

@@ -3,7 +3,9 @@
 ghost use Rattle.std.specs.Counts.{IsPrefixLen};
 ghost use Rattle.std.specs.Prelude.{IfOk};
 
+use crate::args::Escaped;
 use crate::progress::Progress;
+use crate::watch::CheckpointWatch;
 use std::cell::Cell;
 use std::fs::File;
 use std::io;
@@ -38,6 +40,12 @@ pub(crate) struct Input<'a> {
     /// regular one.
     file: Option<(File, u64)>,
     progress: Option<Progress<'a>>,
+    /// Looks for a second checkpoint, until the first end of a text that is one.
+    watch: Option<CheckpointWatch>,
+    /// What was read, if it is to be read again, and is no regular file, which is opened again.
+    cache: Option<Vec<u8>>,
+    /// How many bytes of the cache have been read since the last rewind.
+    cache_read: usize,
     notes: &'a Notes,
 }
 
@@ -55,8 +63,64 @@ impl<'a> Input<'a> {
             name,
             file: None,
             progress: Progress::start(rt, shows_progress),
+            watch: None,
+            cache: None,
+            cache_read: 0,
             notes,
         }
+    }
+
+    /// The same input, which is a checkpoint: a line on standard error warns of a second one in it.
+    pub(crate) fn watched(mut self) -> Input<'a> {
+        self.watch = Some(CheckpointWatch::default());
+        self
+    }
+
+    /// The same input, which can be read again from its beginning.
+    pub(crate) fn rereadable(mut self) -> Input<'a> {
+        self.cache = Some(Vec::new(self.rt.alloc()));
+        self
+    }
+
+    /// Goes back to the beginning of an input that is `rereadable`. A regular file is opened again.
+    pub(crate) fn rewind(&mut self) {
+        if self.cache.is_none() {
+            self.file = None;
+        }
+        self.cache_read = 0;
+        if self.watch.is_some() {
+            self.watch = Some(CheckpointWatch::default());
+        }
+        self.progress = Progress::start(self.rt, self.progress.is_some());
+    }
+
+    /// Warns if what was read has a second checkpoint. It does so once.
+    fn warn_of_second(&mut self) {
+        if self.watch.take().is_some_and(|watch| watch.has_second()) {
+            let why = "it has more than one checkpoint: only the first is read";
+            let _ = eprintln!(self.rt; "fohlazu: {}: {why}", Escaped(self.name));
+        }
+    }
+
+    /// Reads the next bytes of the cache. If there are none, it reads the next bytes of the input, and caches them.
+    fn read_cached(&mut self, buf: &mut [u8]) -> io::Result<usize>
+        ensures { IfOk result (λ count. IsPrefixLen count buf.new) }
+    {
+        if let Some(cache) = &self.cache {
+            let rest = cache.get(self.cache_read..).unwrap_or(&[]);
+            if !rest.is_empty() {
+                let count = rest.len().min(buf.len());
+                buf[..count].copy_from_slice(&rest[..count]);
+                self.cache_read = self.cache_read.saturating_add(count);
+                return Ok(count);
+            }
+        }
+        let count = self.read_next(buf)?;
+        if let Some(cache) = &mut self.cache {
+            cache.extend_from_slice(&buf[..count])?;
+            self.cache_read = cache.len();
+        }
+        Ok(count)
     }
 
     /// Reads the next bytes. The first call opens the file.
@@ -71,6 +135,9 @@ impl<'a> Input<'a> {
             let file = File::open(self.rt, self.name)?;
             let metadata = file.metadata()?;
             let len = metadata.is_file().then_some(metadata.len()).unwrap_or(0);
+            if metadata.is_file() {
+                self.cache = None;
+            }
             self.file = Some((file, len));
         }
         let Some((file, left)) = &mut self.file else {
@@ -89,8 +156,14 @@ impl<'a> Read for Input<'a> {
     fn read(&mut self, buf: &mut [u8]) -> io::Result<usize> {
         let notes = self.notes;
         let count = self
-            .read_next(buf)
+            .read_cached(buf)
             .inspect_err(|error| notes.failure.set(Some(*error)))?;
+        if let Some(watch) = &mut self.watch {
+            watch.read(&buf[..count]);
+        }
+        if count == 0 {
+            self.warn_of_second();
+        }
         if let Some(progress) = &mut self.progress {
             let left = self.file.as_ref().map_or(0, |(_, left)| *left);
             if progress.add(count, left) {

@@ -3,14 +3,17 @@
 
 mod args;
 mod input;
+mod many;
 mod output;
 mod progress;
+mod watch;
 
 ghost use Rattle.log_commands.specs.Commands.{IsLawful};
 
 use args::{Args, ArgsError, Escaped, parse_args};
 use input::{Input, Notes};
 use log_commands::{Command, Error, run};
+use many::Many;
 use output::{Replacement, StandardOutput};
 use std::fmt::Display;
 use std::process::ExitCode;
@@ -26,13 +29,12 @@ fn main(rt: HostRuntime) -> ExitCode {
     };
     let notes = Notes::default();
     match parse_args(&rt, &notes, &words) {
-        Ok((command, args)) => match args.output() {
-            Some(name) => run_to_file(&args, command, name),
-            None => {
-                let mut output = StandardOutput(&rt, &notes);
-                finish(&args, run(rt.alloc(), command, &mut output))
-            }
+        Ok((command @ Command::Prove { .. }, args)) => match args.many(rt.alloc()) {
+            Ok(Some(many)) => prove_many(&args, &many),
+            Ok(None) => run_command(&args, command),
+            Err(error) => refuse(&rt, error),
         },
+        Ok((command, args)) => run_command(&args, command),
         Err(ArgsError::Clap(error)) => print_help(&rt, &error),
         Err(error) => refuse(&rt, error),
     }
@@ -46,6 +48,49 @@ fn read_words(rt: &HostRuntime) -> io::Result<Vec<String>> {
         words.push(word.clone()?)?;
     }
     Ok(words)
+}
+
+/// Runs a command.
+fn run_command(args: &Args<'_>, command: Command<Input<'_>>) -> ExitCode
+    requires { IsLawful command }
+{
+    match args.output() {
+        Some(name) => run_to_file(args, command, name),
+        None => {
+            let mut output = StandardOutput(args.rt, args.notes);
+            finish(args, run(args.rt.alloc(), command, &mut output))
+        }
+    }
+}
+
+/// Proves entries that may be many.
+fn prove_many(args: &Args<'_>, many: &Many) -> ExitCode {
+    let (rt, alloc, cut) = (args.rt, args.rt.alloc(), args.cut());
+    // An output that cannot be written is refused ahead of the inputs, as it is where entries are few.
+    if let Some(name) = args.output() {
+        if let Err(error) = Replacement::new(rt, name) {
+            return refuse_output(rt, name, error);
+        }
+    }
+    let mut checkpoint = args.checkpoint("CHECKPOINT").rereadable();
+    let mut file = args.input("FILE").rereadable();
+    match many.numbers(alloc, cut, &mut checkpoint, &mut file) {
+        Ok(numbers) => {
+            let command = Command::Prove {
+                cut,
+                checkpoint,
+                file,
+                numbers,
+            };
+            // It is lawful, since `parse_args` has read the numbers. No contract says so.
+            if command.is_lawful() {
+                run_command(args, command)
+            } else {
+                refuse(rt, "no number of an entry")
+            }
+        }
+        Err(error) => finish(args, Err(error)),
+    }
 }
 
 /// Runs a command, whose output replaces a file.

@@ -1,8 +1,8 @@
 //! Logs in files.
 
 use crate::case::Case;
-use anyhow::Result;
-use log_files::read_log;
+use anyhow::{Result, ensure};
+use log_files::{read_log, read_up_to};
 use sha2::{Digest, Sha256};
 use std::fmt::Write;
 use std::io;
@@ -16,6 +16,18 @@ struct Pieces<'a> {
     most: usize,
     fails: bool,
     is_interrupted: bool,
+}
+
+impl<'a> Pieces<'a> {
+    /// Bytes by a word of a case: how many of them a read gives, with `!` after it if reads fail where they end.
+    fn new(reads: &str, bytes: &'a [u8]) -> Result<Pieces<'a>> {
+        Ok(Pieces {
+            rest: bytes,
+            most: reads.trim_end_matches('!').parse()?,
+            fails: reads.ends_with('!'),
+            is_interrupted: false,
+        })
+    }
 }
 
 impl Read for Pieces<'_> {
@@ -43,12 +55,7 @@ pub fn file(case: &mut Case<'_>) -> Result<()> {
     let (nodes, entries) = (case.nodes()?, case.numbers()?);
     let reads = case.word();
     let bytes = case.bytes()?;
-    let mut pieces = Pieces {
-        rest: &bytes,
-        most: reads.trim_end_matches('!').parse()?,
-        fails: reads.ends_with('!'),
-        is_interrupted: false,
-    };
+    let mut pieces = Pieces::new(reads, &bytes)?;
     match read_log(case.alloc, cut, limit, &nodes, &entries, &mut pieces) {
         Ok(log) => {
             write!(case.answer, "{} ", log.tree.frontier().size())?;
@@ -63,5 +70,24 @@ pub fn file(case: &mut Case<'_>) -> Result<()> {
         }
         Err(error) => write!(case.answer, "{error}")?,
     }
+    Ok(())
+}
+
+/// `read LIMIT READS TEXT`: what is read of a text up to LIMIT: how many bytes, the first four bytes of their SHA-256,
+/// and how many bytes are left in the reader. READS is as in `file`.
+pub fn text(case: &mut Case<'_>) -> Result<()> {
+    let limit = case.number()?;
+    ensure!(limit < 1 << 62, "no limit: {limit}");
+    let reads = case.word();
+    let bytes = case.bytes()?;
+    let mut pieces = Pieces::new(reads, &bytes)?;
+    match read_up_to(case.alloc, limit, &mut pieces) {
+        Ok(read) => {
+            write!(case.answer, "{} ", read.len())?;
+            case.push_short(Some(Sha256::digest(read.as_slice())))?;
+        }
+        Err(error) => write!(case.answer, "{error} ")?,
+    }
+    write!(case.answer, "{}", pieces.rest.len())?;
     Ok(())
 }

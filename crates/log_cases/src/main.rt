@@ -34,6 +34,7 @@ fn answer(case: &mut Case<'_>) -> Result<()> {
         "consistent" => verdicts::consistent(case),
         "verify" => verdicts::verify(case),
         "file" => files::file(case),
+        "read" => files::text(case),
         "file_entries" => commands::file_entries(case),
         "file_prefix" => commands::file_prefix(case),
         "checkpoint" => texts::checkpoint(case, false),

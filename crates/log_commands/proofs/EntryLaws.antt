@@ -1,7 +1,7 @@
 -- Proofs of entries are made, and are accepted.
 use Rattle.std.proofs.Common.{◌≡◌, ◌≤◌, ◌<◌, ◌-◌, ◌∙◌, ℕ, List, [], ◌∷◌, ap, arith, get_or, length, map, refl, subst}
 use Rattle.std.proofs.Common.{sym, take, None, Some, Ok, Option, ◌^◌, Bool, true, is_some, All, map-id, le-leb}
-use Rattle.std.proofs.Common.{get_or-take, inl, inr, ne_eqb, ◌↔◌}
+use Rattle.std.proofs.Common.{get_or-take, inl, inr, ne_eqb, ◌↔◌, Result}
 use Rattle.std.proofs.lemmas.List.Elements.{All-drop, All-head, All-map, All-tail, All-take}
 use Rattle.std.proofs.lemmas.Bool.{cases_eq, eq-eqb}
 use Rattle.std.proofs.lemmas.List.{get_or-map, length-map}
@@ -30,6 +30,8 @@ use Rattle.log_commands.specs.Outcomes.{is_printable, said_by, checkpoint_of, en
 use Rattle.log_commands.specs.Outcomes.{number_refusal, requested, first_other, numbers_refusal, printed, proof_over}
 use Rattle.log_commands.specs.Laws.{printed_of, AreRequested, CanSay, NumbersAreCompared, ProofsAreAccepted}
 use Rattle.log_commands.specs.Commands.{prove_file, AreNumbers}
+use Rattle.log_commands.specs.Outcomes.{and_then}
+use Rattle.log_commands.specs.declared.error.Error.{Error}
 use Rattle.log_commands.specs.Errors.{entries_error}
 use Rattle.log_commands.specs.Laws.{ProofsAreProved}
 use Rattle.log_commands.specs.Outcomes.{proof_refusal, prove_under}
@@ -38,6 +40,7 @@ use Rattle.log_commands.specs.declared.verify.Print.{Print}
 use Rattle.log_commands.proofs.OutcomeFacts.{are_under, digest_is, first_under, none_of, ok_none, root_is, said_ok}
 use Rattle.log_commands.proofs.OutcomeFacts.{prints, stepped}
 use Rattle.log_commands.proofs.ProveFacts.{numbers_inside, within_size}
+use Rattle.log_commands.proofs.RunFacts.{short_came, short_goes}
 
 numbers_pass : (size : ℕ) (numbers : List ℕ) → All (λ n. n ≤ size) numbers →
     first_of (number_refusal size) numbers ≡ None
@@ -53,7 +56,10 @@ is_proved : (cut : Cut) (checkpoint file numbers proof : List ℕ) →
     × (first_of (number_refusal c.size) numbers ≡ None) × (entries_under cut c file ≡ Ok entries)
     × (entries_text (proof_over entries numbers) ≡ proof)
 is_proved cut checkpoint file numbers proof is =
-    let (c, asked, printed) = stepped (requested checkpoint numbers) (λ c. prove_under cut c numbers file) proof is in
+    let next : List ℕ → Result (List ℕ) Error =
+    λ text. and_then (requested text numbers) (λ (c : CheckpointFields). prove_under cut c numbers file) in
+    let came = short_came Checkpoint 1000000 checkpoint next proof is in
+    let (c, asked, printed) = stepped (requested checkpoint numbers) (λ c. prove_under cut c numbers file) proof came in
     let (a, said, few) = stepped (said_by Checkpoint (checkpoint_in checkpoint))
     (λ a. ok_unless (first_of (number_refusal a.size) numbers) a) c asked in
     let (inside, same) = ok_none (first_of (number_refusal a.size) numbers) a c few in
@@ -70,10 +76,15 @@ is_proved cut checkpoint file numbers proof is =
 
 pub proofs_are_proved : ProofsAreProved
 proofs_are_proved cut origin checkpoint file first numbers said_is begins inside =
-    let small = ((notes checkpoint (checkpoint_of origin first)).0 said_is).2.checkpoint.size in (
-      entries_text (proof_over first numbers),
-      rw (said_is, numbers_pass (length first) numbers inside, first_under cut origin file first begins small) refl,
-    )
+    let note = ((notes checkpoint (checkpoint_of origin first)).0 said_is).2 in
+    let small = note.checkpoint.size in
+    let next : List ℕ → Result (List ℕ) Error =
+    λ text. and_then (requested text numbers) (λ (c : CheckpointFields). prove_under cut c numbers file) in
+    let proof = entries_text (proof_over first numbers) in
+    let given : and_then (requested checkpoint numbers) (λ (c : CheckpointFields). prove_under cut c numbers file)
+    ≡ Ok proof =
+    rw (said_is, numbers_pass (length first) numbers inside, first_under cut origin file first begins small) refl in
+    (proof, short_goes Checkpoint 1000000 checkpoint next proof note.short given)
 
 -- ---- what verify makes of it
 

@@ -1,7 +1,7 @@
 -- Growth is proved, and its proofs are accepted.
 use Rattle.std.proofs.Common.{◌≡◌, ◌≤◌, ◌<◌, ◌==◌, ◌∙◌, ℕ, zero, suc, List, [], ◌∷◌, ◌++◌, ap, arith, eq-eqb, inl, inr}
 use Rattle.std.proofs.Common.{length, length-append, refl, sym, subst, None, Some, Ok, Err, Option, map, ◌||◌, not}
-use Rattle.std.proofs.Common.{true, nat_le, le-leb, leb-true, ne_eqb, true≢false, append-nil, take_at}
+use Rattle.std.proofs.Common.{true, nat_le, le-leb, leb-true, ne_eqb, true≢false, append-nil, take_at, Result}
 use Rattle.std.specs.Cmp.Lexicographic.{bytes_decides}
 use Rattle.std.specs.Option.{option_map}
 use Rattle.std.proofs.lemmas.Bool.{cases_eq}
@@ -21,15 +21,19 @@ use Rattle.log_text.specs.Reading.{checkpoint_in, consistency_in}
 use Rattle.log_text.specs.Texts.{consistency_text, CheckpointFields, ConsistencyFields, IsConsistencyProof, IsDigest}
 use Rattle.log_text.proofs.ProofLaws.{consistency_proofs}
 use Rattle.log_text.proofs.NoteLaws.{notes}
+use Rattle.log_files.specs.declared.cut.Cut.{Cut}
+use Rattle.log_commands.specs.Commands.{note_from}
 use Rattle.log_commands.specs.Laws.{GrowthIsAccepted, GrowthIsProved}
 use Rattle.log_commands.specs.Outcomes.{verify_consistency_outcome}
 use Rattle.log_commands.specs.Outcomes.{and_then, checkpoint_of, compared, consistency_refused, entries_under}
 use Rattle.log_commands.specs.Outcomes.{growth_digests, growth_refusal, growth_text, prove_growth, said_by}
+use Rattle.log_commands.specs.declared.error.Error.{Error}
 use Rattle.log_commands.specs.declared.error.Error.TheVariants.{Refused}
 use Rattle.log_commands.specs.declared.error.Source.{Source}
 use Rattle.log_commands.specs.declared.error.Refusal.TheVariants.{Consistency, OtherOldEntries}
 use Rattle.log_commands.specs.declared.error.Source.TheVariants.{File, New, Old, Proof}
 use Rattle.log_commands.proofs.OutcomeFacts.{are_under, entries_root, first_under, ok_none, said_ok, stepped}
+use Rattle.log_commands.proofs.RunFacts.{short_came, short_goes}
 use Rattle.tlog_tree.specs.Trees.{all_there, values_at}
 use Rattle.tlog_entries.proofs.Subproofs.{subproof_map}
 
@@ -100,6 +104,9 @@ same_itself bytes = (bytes_decides bytes bytes).1 refl
 size_of : (text : List ℕ) (c : CheckpointFields) → checkpoint_in text ≡ Ok c → c.size ≤ size_limit
 size_of text c is = let found = (notes text c).0 is in found.2.checkpoint.size
 
+short_of : (text : List ℕ) (c : CheckpointFields) → checkpoint_in text ≡ Ok c → length text ≤ 1000000
+short_of text c is = let found = (notes text c).0 is in found.2.short
+
 -- the digests that are sent
 sent : (old_size : ℕ) (entries : List (List ℕ)) → old_size ≤ length entries → length entries ≤ size_limit →
     AreFew IsDigest 63 (growth_digests old_size entries)
@@ -116,9 +123,21 @@ verified : (old proof : List ℕ) (o n : CheckpointFields) (p : ConsistencyField
 verified old proof o n p old_is proof_is size_is new_is follows accepted =
     rw (old_is, proof_is, eq-eqb p.old_size o.size size_is, new_is, follows, accepted) refl
 
+-- what follows the checkpoints as they are read
+module _ (cut : Cut) (new file : List ℕ) where
+  abbrev with_new : List ℕ → List ℕ → Result (List ℕ) Error
+  with_new old text =
+      and_then (compared old text) (λ (pair : CheckpointFields × CheckpointFields).
+      prove_growth cut pair.0 pair.1 text file)
+
+  abbrev with_old : List ℕ → Result (List ℕ) Error
+  with_old text = and_then (note_from New (Some new)) (with_new text)
+
 pub growth_is_accepted : GrowthIsAccepted
 growth_is_accepted cut old new file proof is =
-    let ((o, n), pair, more) = stepped (compared old new) (λ (o, n). prove_growth cut o n new file) proof is in
+    let came = short_came New 1000000 new (with_new cut new file old) proof
+    (short_came Old 1000000 old (with_old cut new file) proof is) in
+    let ((o, n), pair, more) = stepped (compared old new) (λ (o, n). prove_growth cut o n new file) proof came in
     let (old_is, new_is, follows) = are_compared old new o n pair in
     let (entries, read, last) = stepped (entries_under cut n file) (growth_text o n new) proof more in
     let under = are_under cut n file entries read in
@@ -201,4 +220,9 @@ growth_is_proved cut origin old new file first more old_is new_is begins =
     let proof = consistency_text (record { old_size = length first; digests = digests; checkpoint = new }) in
     let none = none_refused (length first) (length all) digests (root_of sha256 first) (root_of sha256 all) small
     (grown first more small) in
-    (proof, rw (old_is, new_is, follows origin first more, first_under cut origin file all begins small, none) refl)
+    let given : with_new cut new file old new ≡ Ok proof =
+    rw (old_is, new_is, follows origin first more, first_under cut origin file all begins small, none) refl in (
+      proof,
+      short_goes Old 1000000 old (with_old cut new file) proof (short_of old o old_is)
+          (short_goes New 1000000 new (with_new cut new file old) proof (short_of new n new_is) given),
+    )

@@ -1,7 +1,8 @@
 -- What a run of the program ends in.
 use Rattle.std.specs.Prelude.{◌≡◌, ◌⊎◌, ◌≤◌, ◌<◌, ◌+◌, ◌^◌, ℕ, List, [], ◌∷◌, ◌++◌, length, map, All, Option, None}
-use Rattle.std.specs.Prelude.{Some, IfSome, option_map, string_bytes, true, Result, Ok, Err}
+use Rattle.std.specs.Prelude.{Some, IfSome, option_map, string_bytes, true, Result, Ok, Err, nat_le}
 use Rattle.std.specs.Io.KnownBytes.{Appends}
+use Rattle.p3_merkle_core.specs.Refusals.{ok_unless, unless}
 use Rattle.log_text.specs.Lines.{is_origin}
 use Rattle.log_files.specs.Entries.{IsCut}
 use Rattle.log_files.specs.declared.cut.Cut.{Cut}
@@ -9,7 +10,9 @@ use Rattle.log_commands.specs.Outcomes.{and_then, bytes_from, compared, join_out
 use Rattle.log_commands.specs.Outcomes.{prove_under, requested, seal_outcome, verify_consistency_outcome}
 use Rattle.log_commands.specs.Outcomes.{verify_requested}
 use Rattle.log_commands.specs.declared.error.Error.{Error}
-use Rattle.log_commands.specs.declared.error.Error.TheVariants.{OutOfMemory, Write}
+use Rattle.log_commands.specs.declared.error.Error.TheVariants.{OutOfMemory, Refused, Write}
+use Rattle.log_commands.specs.declared.error.Refusal.TheVariants.{TooLong}
+use Rattle.log_commands.specs.declared.error.Source.{Source}
 use Rattle.log_commands.specs.declared.error.Source.TheVariants.{Checkpoint, File, New, Old, Part, Proof}
 use Rattle.log_commands.specs.declared.command.Command.{Command}
 use Rattle.log_commands.specs.declared.command.Command.TheVariants.{Join, Prove}
@@ -63,11 +66,26 @@ AreReadAs known inputs = ⊥
 abbrev pub HoldsOfInputs : List (Option (List ℕ)) → (List (Option (List ℕ)) → Type 0) → Type 0
 HoldsOfInputs known Holds = (inputs : List (Option (List ℕ))) × AreReadAs known inputs × Holds inputs
 
+-- the bytes of an input that may have at most so many
+abbrev pub limited_from : Source → ℕ → Option (List ℕ) → Result (List ℕ) Error
+limited_from source limit input =
+    and_then (bytes_from source input) (λ bytes.
+    ok_unless (unless (nat_le (length bytes) limit) (Refused source (TooLong limit))) bytes)
+
+-- a checkpoint or a part has at most 10 ^ 6 bytes
+abbrev pub note_from : Source → Option (List ℕ) → Result (List ℕ) Error
+note_from source input = limited_from source 1000000 input
+
+-- a consistency proof has at most a line of 24 bytes for the old size, 63 lines of 45 for digests, a blank line, and a
+-- checkpoint
+abbrev pub growth_from : Option (List ℕ) → Result (List ℕ) Error
+growth_from input = limited_from Proof 1002860 input
+
 -- the bytes of parts, counted from k, if all can be read
 abbrev pub bytes_of_parts : ℕ → List (Option (List ℕ)) → Result (List (List ℕ)) Error
 bytes_of_parts k [] = Ok []
 bytes_of_parts k (input ∷ inputs) =
-    and_then (bytes_from (Part k) input) (λ text. and_then (bytes_of_parts (k + 1) inputs) (λ texts. Ok (text ∷ texts)))
+    and_then (note_from (Part k) input) (λ text. and_then (bytes_of_parts (k + 1) inputs) (λ texts. Ok (text ∷ texts)))
 
 -- ---- the outcome
 
@@ -77,28 +95,28 @@ seal_file origin cut file = and_then (bytes_from File file) (seal_outcome origin
 
 abbrev pub prove_file : Cut → (checkpoint file : Option (List ℕ)) → List ℕ → Result (List ℕ) Error
 prove_file cut checkpoint file numbers =
-    and_then (bytes_from Checkpoint checkpoint) (λ text. and_then (requested text numbers) (λ c.
+    and_then (note_from Checkpoint checkpoint) (λ text. and_then (requested text numbers) (λ c.
     and_then (bytes_from File file) (prove_under cut c numbers)))
 
 -- of the requested entries, or of all of the checkpoint
 abbrev pub prove_entries : Cut → (checkpoint file : Option (List ℕ)) → Option (List ℕ) → Result (List ℕ) Error
 prove_entries cut checkpoint file numbers =
-    and_then (bytes_from Checkpoint checkpoint) (λ text. and_then (numbers_under numbers text)
+    and_then (note_from Checkpoint checkpoint) (λ text. and_then (numbers_under numbers text)
     (prove_file cut (Some text) file))
 
 abbrev pub verify_proof : Print → (checkpoint proof : Option (List ℕ)) → Requested → Result (List ℕ) Error
 verify_proof print checkpoint proof requested =
-    and_then (bytes_from Checkpoint checkpoint) (λ text. and_then (bytes_from Proof proof) (λ shown.
+    and_then (note_from Checkpoint checkpoint) (λ text. and_then (bytes_from Proof proof) (λ shown.
     verify_requested print text shown requested))
 
 abbrev pub prove_file_growth : Cut → (old new file : Option (List ℕ)) → Result (List ℕ) Error
 prove_file_growth cut old new file =
-    and_then (bytes_from Old old) (λ one. and_then (bytes_from New new) (λ other.
+    and_then (note_from Old old) (λ one. and_then (note_from New new) (λ other.
     and_then (compared one other) (λ (o, n). and_then (bytes_from File file) (prove_growth cut o n other))))
 
 abbrev pub verify_growth : (old proof : Option (List ℕ)) → Result (List ℕ) Error
 verify_growth old proof =
-    and_then (bytes_from Old old) (λ one. and_then (bytes_from Proof proof) (λ shown.
+    and_then (note_from Old old) (λ one. and_then (growth_from proof) (λ shown.
     verify_consistency_outcome one shown))
 
 abbrev pub join_parts : List ℕ → List (Option (List ℕ)) → Result (List ℕ) Error

@@ -10,16 +10,20 @@ use Rattle.tlog_entries.specs.declared.error.EntriesError.TheVariants.{OutOfMemo
 use Rattle.log_commands.specs.declared.error.Error.{Error}
 use Rattle.log_commands.specs.declared.error.Error.TheVariants.{OutOfMemory, Read, Refused}
 use Rattle.log_commands.specs.declared.error.Refusal.TheVariants.{CheckpointLine, TooManyEntries as TooMany}
-use Rattle.log_commands.specs.declared.error.Refusal.TheVariants.{EndsInsideLine as InsideLine, Entries, Line}
+use Rattle.log_commands.specs.declared.error.Refusal.TheVariants.{EndsInsideLine as InsideLine, Entries, Line, TooLong}
 use Rattle.log_commands.specs.declared.error.Source.{Source}
 use Rattle.log_commands.specs.declared.error.Source.TheVariants.{Checkpoint, File, New, Old, Part, Proof}
 
--- 2 for a wrong line of a checkpoint or part, 1 for any other refusal, 2 for what is no refusal
+-- 2 for a checkpoint or part that is too long or has a wrong line, 1 for any other refusal, 2 for what is no refusal
 abbrev pub status_of : Error → ℕ
 status_of (Refused Checkpoint (Line line)) = 2
 status_of (Refused Old (Line line)) = 2
 status_of (Refused New (Line line)) = 2
 status_of (Refused (Part k) (Line line)) = 2
+status_of (Refused Checkpoint (TooLong most)) = 2
+status_of (Refused Old (TooLong most)) = 2
+status_of (Refused New (TooLong most)) = 2
+status_of (Refused (Part k) (TooLong most)) = 2
 status_of (Refused source refusal) = 1
 status_of error = 2
 

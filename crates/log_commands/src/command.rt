@@ -9,7 +9,7 @@ ghost use Rattle.log_commands.specs.declared.error.Error.{Error};
 ghost use Rattle.log_commands.specs.declared.error.Error.TheVariants.{Write as FailedWrite};
 
 use crate::error::{Error, Source};
-use crate::inputs::read_text;
+use crate::inputs::{read_growth, read_note, read_text};
 use crate::join::join;
 use crate::prove::{numbers_of, prove};
 use crate::prove_consistency::prove_consistency;
@@ -124,7 +124,8 @@ fn is_print(print: Print, requested: &Requested) -> bool
 ///
 /// The first of these that applies, where `OutOfMemory` may come at any time:
 ///
-/// - `Read` for the first checkpoint, proof or part that cannot be read;
+/// - for the first checkpoint, proof or part that cannot be read, `Read`. A checkpoint or part of more than 1000000
+///   bytes, or a consistency proof of more than 1002860, gives `TooLong`: it is read up to its first byte above;
 /// - where all entries of a checkpoint are proved, `Line` for its first wrong line, or `TooManyNumbers` if it has more
 ///   than `MOST_NUMBERS` entries;
 /// - those of the command's own call, as [`prove`] for `Command::Prove`;
@@ -161,7 +162,7 @@ fn answer<R: Read + Drop>(alloc: Global, command: Command<R>) -> Result<Vec<u8>,
             mut file,
             numbers,
         } => {
-            let checkpoint = read_text(alloc, Source::Checkpoint, &mut checkpoint)?;
+            let checkpoint = read_note(alloc, Source::Checkpoint, &mut checkpoint)?;
             let numbers = numbers_of(alloc, numbers, &checkpoint)?;
             prove(alloc, cut, &checkpoint, &numbers, &mut file)
         }
@@ -171,7 +172,7 @@ fn answer<R: Read + Drop>(alloc: Global, command: Command<R>) -> Result<Vec<u8>,
             mut proof,
             entries,
         } => {
-            let checkpoint = read_text(alloc, Source::Checkpoint, &mut checkpoint)?;
+            let checkpoint = read_note(alloc, Source::Checkpoint, &mut checkpoint)?;
             let proof = read_text(alloc, Source::Proof, &mut proof)?;
             verify(alloc, print, &checkpoint, &proof, &entries)
         }
@@ -181,13 +182,13 @@ fn answer<R: Read + Drop>(alloc: Global, command: Command<R>) -> Result<Vec<u8>,
             mut new,
             mut file,
         } => {
-            let old = read_text(alloc, Source::Old, &mut old)?;
-            let new = read_text(alloc, Source::New, &mut new)?;
+            let old = read_note(alloc, Source::Old, &mut old)?;
+            let new = read_note(alloc, Source::New, &mut new)?;
             prove_consistency(alloc, cut, &old, &new, &mut file)
         }
         Command::VerifyConsistency { mut old, mut proof } => {
-            let old = read_text(alloc, Source::Old, &mut old)?;
-            let proof = read_text(alloc, Source::Proof, &mut proof)?;
+            let old = read_note(alloc, Source::Old, &mut old)?;
+            let proof = read_growth(alloc, &mut proof)?;
             verify_consistency(alloc, &old, &proof)
         }
         Command::Join { origin, parts } => join(alloc, &origin, &read_parts(alloc, parts)?),
@@ -202,7 +203,7 @@ fn read_parts<R: Read + Drop>(alloc: Global, parts: Vec<R>) -> Result<Vec<Vec<u8
     let mut texts = Vec::new(alloc);
     for mut part in parts {
         let source = Source::Part(texts.len());
-        texts.push(read_text(alloc, source, &mut part)?)?;
+        texts.push(read_note(alloc, source, &mut part)?)?;
     }
     Ok(texts)
 }

@@ -48,6 +48,9 @@ pub enum Source {
 /// Why an input is refused.
 #[derive(Clone, Copy, Debug, Error)]
 pub enum Refusal {
+    /// A checkpoint, a part or a consistency proof with more bytes than this limit.
+    #[error("it has more than {0} bytes")]
+    TooLong(usize),
     /// The first wrong line of a text.
     #[error("{0}")]
     Line(WrongLine),
@@ -161,14 +164,15 @@ impl Error {
         }
     }
 
-    /// The exit status of a program that stops so: 1 if an input is refused, but 2 for a wrong line of an input that is
-    /// a checkpoint or a part; 2 if an input cannot be read, the output cannot be written, or memory ran out.
+    /// The exit status of a program that stops so. It is 1 if an input is refused, but 2 if that is a checkpoint or a
+    /// part with a wrong line or too many bytes. It is 2 if an input cannot be read, the output cannot be written, or
+    /// memory ran out.
     pub fn status(&self) -> u8
         ensures { result ≡ status_of self.now }
     {
         match self {
             Error::Refused(Source::File | Source::Proof, _) => 1,
-            Error::Refused(_, Refusal::Line(_)) => 2,
+            Error::Refused(_, Refusal::Line(_) | Refusal::TooLong(_)) => 2,
             Error::Refused(_, _) => 1,
             Error::Read(_) | Error::Write | Error::OutOfMemory => 2,
         }

@@ -1,7 +1,7 @@
 //! Inputs: files that are read in one pass, and texts that are read whole. A call that takes an allocator may answer
 //! that memory ran out.
 
-ghost use Rattle.std.specs.Prelude.{◌≡◌, ◌⊎◌, ℕ, ◌≤◌, List, IfErr, IfOk, Some, length};
+ghost use Rattle.std.specs.Prelude.{◌≡◌, ◌⊎◌, ℕ, ◌≤◌, ◌<◌, ◌^◌, List, Err, IfErr, IfOk, Some, length};
 ghost use Rattle.sha2.specs.Sha256.{sha256};
 ghost use Rattle.tlog.specs.Rfc9162.{root_of};
 ghost use Rattle.tlog.specs.Verdicts.{size_limit};
@@ -10,7 +10,7 @@ ghost use Rattle.log_text.specs.Reading.{checkpoint_in, consistency_in, entries_
 ghost use Rattle.log_text.specs.Texts.{checkpoint_fields, consistency_fields, entries_fields};
 ghost use Rattle.tlog_tree.specs.Builders.{IsBuilderOf};
 ghost use Rattle.tlog_tree.specs.Trees.{all_there, values_at};
-ghost use Rattle.log_commands.specs.{Commands.HoldsOfInput, Commands.IsReadAs};
+ghost use Rattle.log_commands.specs.Commands.{growth_from, note_from, limited_from, HoldsOfInput, IsReadAs};
 ghost use Rattle.log_commands.specs.Inner.{Checks, HasEntries, ReadsAs};
 ghost use Rattle.log_commands.specs.Outcomes.{and_then, bytes_from, entries_read, entries_under, Gives, growth_refusal};
 ghost use Rattle.log_commands.specs.Outcomes.{said_by, tree_refusal};
@@ -18,11 +18,18 @@ ghost use Rattle.log_commands.specs.declared.error.Error.TheVariants.{OutOfMemor
 ghost use Rattle.log_commands.specs.declared.error.Source.TheVariants.{File, Proof};
 
 use crate::error::{Error, Refusal, Source, text_error};
-use log_files::{Cut, ReadLog, read_log};
+use log_files::{Cut, ReadError, ReadLog, read_log, read_up_to};
 use log_text::{Checkpoint, ConsistencyProof, EntriesProof};
 use std::alloc::{AllocError, Global};
 use std::io::{ErrorKind, Read};
 use tlog_tree::TreeBuilder;
+
+/// The most bytes that a checkpoint or a part has.
+const MAX_NOTE_BYTES: usize = 1_000_000;
+
+/// The most bytes that a consistency proof has: a line of 24 for the old size, 63 lines of 45 for digests, a blank
+/// line, and a checkpoint.
+const MAX_GROWTH_BYTES: usize = 1_002_860;
 
 /// Reads the first entries of a file, up to a limit, or all, with the values of these nodes and the bytes of the wanted
 /// entries. The errors are those of [`read_log`], with the file as their source.
@@ -115,6 +122,56 @@ pub(crate) fn read_text<R: Read>(
         Err(error) if error.kind() == ErrorKind::OutOfMemory => Err(Error::OutOfMemory),
         Err(_) => Err(Error::Read(source)),
     }
+}
+
+/// All bytes of an input, from where it stands, if there are at most `limit`. Nothing after the first byte above is
+/// read. `Read` of `source` if a read fails, `TooLong` if there are more bytes, `OutOfMemory` if memory runs out.
+#[tactic(auto, using(crate::proofs::RunFacts::read_whole))]
+fn read_limited<R: Read>(
+    alloc: Global,
+    source: Source,
+    limit: usize,
+    input: &mut R,
+) -> Result<Vec<u8>, Error>
+    requires { limit < 2 ^ 62 }
+    ensures bytes { IfOk result
+        (λ bytes. IsReadAs (R.remaining input.old) (Some bytes.items) × (length bytes.items ≤ limit)) }
+    ensures failed { IfErr result (λ error. (error ≡ OutOfMemory)
+        ⊎ HoldsOfInput (R.remaining input.old) (λ all. limited_from source limit all ≡ Err error)) }
+{
+    let bytes = match read_up_to(alloc, limit, input) {
+        Ok(bytes) => bytes,
+        Err(ReadError::OutOfMemory) => return Err(Error::OutOfMemory),
+        Err(_) => return Err(Error::Read(source)),
+    };
+    if bytes.len() > limit {
+        return Err(Error::Refused(source, Refusal::TooLong(limit)));
+    }
+    Ok(bytes)
+}
+
+/// The bytes of a checkpoint or a part, with the errors of [`read_limited`].
+pub(crate) fn read_note<R: Read>(
+    alloc: Global,
+    source: Source,
+    input: &mut R,
+) -> Result<Vec<u8>, Error>
+    ensures bytes { IfOk result
+        (λ bytes. IsReadAs (R.remaining input.old) (Some bytes.items) × (length bytes.items ≤ 1000000)) }
+    ensures failed { IfErr result (λ error. (error ≡ OutOfMemory)
+        ⊎ HoldsOfInput (R.remaining input.old) (λ all. note_from source all ≡ Err error)) }
+{
+    read_limited(alloc, source, MAX_NOTE_BYTES, input)
+}
+
+/// The bytes of a consistency proof, with the errors of [`read_limited`].
+pub(crate) fn read_growth<R: Read>(alloc: Global, input: &mut R) -> Result<Vec<u8>, Error>
+    ensures bytes { IfOk result
+        (λ bytes. IsReadAs (R.remaining input.old) (Some bytes.items) × (length bytes.items ≤ 1002860)) }
+    ensures failed { IfErr result (λ error. (error ≡ OutOfMemory)
+        ⊎ HoldsOfInput (R.remaining input.old) (λ all. growth_from all ≡ Err error)) }
+{
+    read_limited(alloc, Source::Proof, MAX_GROWTH_BYTES, input)
 }
 
 /// Parses a checkpoint. `Line` of `source` for its first wrong line.

@@ -1,5 +1,6 @@
 mod CutFacts
 pub mod CutFiles
+mod LimitedFacts
 mod ReaderFacts
 mod SplitterFacts
 mod WantedFacts

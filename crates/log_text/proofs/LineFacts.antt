@@ -5,7 +5,7 @@ use Rattle.std.proofs.Common.{ne_eqb, ◌^◌, Decides, [], ◌∷◌, ◌++◌,
 use Rattle.std.proofs.Common.{decimal, All, eqb-true, leb-true}
 use Rattle.std.proofs.lemmas.List.Elements.{All-append, All-cons, All-nil, All-weaker}
 use Rattle.std.proofs.lemmas.Bool.{and_left, eqb-false, and_parts, false_from_ne_true}
-use Rattle.std.proofs.lemmas.Bool.Decides.{Decides-and, Decides-eqb, Decides-not}
+use Rattle.std.proofs.lemmas.Bool.Decides.{Decides-eqb}
 use Rattle.std.proofs.lemmas.List.{nil_from_length}
 use Rattle.std.proofs.lemmas.Str.{is_utf8-from_IsUtf8, IsUtf8-from_is_utf8}
 use Rattle.std.specs.Cmp.Lexicographic.{pointwise, bytes_decides}
@@ -37,11 +37,11 @@ utf8_tells Y N (Err e) bytes said =
 
 -- the tests of an origin
 abbrev pub plain : List ℕ → Bool
-plain text = list_all (λ b. nat_le 32 b && not (b == 127)) text
+plain text = list_all (λ b. nat_le 32 b) text
 
 pub origin_tests : (text : List ℕ) (few : Bool) → IsUtf8 text → starts_with nat_eq text byte_order_mark ≡ false →
     1 ≤ length text → (slice_index text 0 ≡ 32 → ⊥) →
-    (slice_index text (length text - 1) ≡ 32 → ⊥) → nat_le (length (chars text)) 100 ≡ few →
+    (slice_index text (length text - 1) ≡ 32 → ⊥) → nat_le (length text) 999934 ≡ few →
     (few && plain text) ≡ is_origin text
 unfolding is_origin
 origin_tests text few utf8 unmarked some first last few_is =
@@ -151,7 +151,7 @@ digest_spelled blank_stops =
 -- ---- origins
 
 pub origin_parts : (origin : List ℕ) → is_origin origin ≡ true →
-    IsUtf8 origin × (length (chars origin) ≤ 100) × IsPlain origin
+    IsUtf8 origin × (length origin ≤ 999934) × IsPlain origin
 unfolding is_origin
 origin_parts origin is =
     let (utf8, a) = and_parts (is_utf8 origin) _ is in
@@ -159,12 +159,10 @@ origin_parts origin is =
     let (some, b) = and_parts (nat_le 1 (length origin)) _ marked in
     let (first, c) = and_parts (not (slice_index origin 0 == 32)) _ b in
     let (last, d) = and_parts (not (slice_index origin (length origin - 1) == 32)) _ c in
-    let (few, all) = and_parts (nat_le (length (chars origin)) 100) _ d in (
+    let (few, all) = and_parts (nat_le (length origin) 999934) _ d in (
       IsUtf8-from_is_utf8 origin utf8,
-      leb-true (length (chars origin)) 100 few,
-      All-weaker (λ (c : ℕ). (32 ≤ c) × (c ≡ 127 → ⊥)) (λ c. 32 ≤ c) (λ c is. is.0) origin
-          ((each_decided _ (λ c. (32 ≤ c) × (c ≡ 127 → ⊥))
-          (λ c. Decides-and _ _ (le_decided 32 c) (Decides-not _ (Decides-eqb c 127))) origin).0 all),
+      leb-true (length origin) 999934 few,
+      plain_tested origin all,
     )
 
 abbrev pub IsLogOrigin : List ℕ → Type 0
@@ -228,8 +226,8 @@ pub is_solid : (expected : Expected) → (expected ≡ Extension) ⊎ (expected 
     is_line expected bytes ≡ true → (1 ≤ length bytes) × IsPlain bytes
 unfolding is_line
 is_solid Extension kind bytes is =
-    let (some, rest) = and_parts (nat_le 1 (length bytes)) _ is in
-    (leb-true 1 (length bytes) some, text_plain bytes (and_parts (is_text bytes) _ rest).0)
+    let (some, text) = and_parts (nat_le 1 (length bytes)) _ is in
+    (leb-true 1 (length bytes) some, text_plain bytes text)
 is_solid Signature kind bytes is = signature_text bytes is
 is_solid other (inl kind) bytes is = cc
 is_solid other (inr kind) bytes is = cc

@@ -1,16 +1,14 @@
 -- The laws of notes.
 use Rattle.std.proofs.Common.{◌≡◌, ◌<◌, ◌≤◌, true, false, ℕ, List, [], ◌∷◌, ◌++◌, length, refl, ap, ◌∙◌, subst, arith}
 use Rattle.std.proofs.Common.{inl, inr, append_assoc, length-append, flat_map, eqb-true, ne_eqb, append-nil, Ok, Err}
-use Rattle.std.proofs.Common.{sym, decimal, nat_lt, ◌+◌, ◌*◌, ◌==◌, cond, count_by}
+use Rattle.std.proofs.Common.{sym, decimal, nat_lt, ◌+◌, ◌==◌, cond, count_by}
 use Rattle.std.proofs.lemmas.List.Elements.{All-cons, All-head, All-nil, All-tail}
 use Rattle.std.proofs.lemmas.Bool.{or_from, or_right}
 use Rattle.std.proofs.lemmas.Bool.Decides.{Decides-ltb}
 use Rattle.std.proofs.lemmas.Fmt.{length-decimal-le}
 use Rattle.std.proofs.lemmas.List.{nil_from_length}
 use Rattle.std.proofs.lemmas.List.Sums.{sum_by-append}
-use Rattle.std.proofs.lemmas.Str.{encodes-chars, length-encode, len_utf8_bounds}
 use Rattle.std.specs.List.{sum_by}
-use Rattle.std.specs.Str.{chars, encode_utf8_all}
 use Rattle.base64.specs.Rfc4648.{padding_len, unpadded_len}
 use Rattle.log_text.specs.Reading.{at_end, at_text_end, extensions_by, line_that, signatures_by, after_origin, note_by}
 use Rattle.log_text.specs.Reading.{part_origin_by, then_read, Reads, checkpoint_in, error_of, log_origin_by}
@@ -204,21 +202,11 @@ parts note c =
 
 -- ---- what is printed
 
-encodes_short : (cs : List ℕ) → length (encode_utf8_all cs) ≤ 4 * length cs
-encodes_short [] = omega arith
-encodes_short (c ∷ cs) =
-    omega (arith, encodes_short cs, length-append {A = ℕ}, length-encode c, (len_utf8_bounds c).1)
-
-origin_short : (origin : List ℕ) → is_origin origin ≡ true → length origin ≤ 400
-origin_short origin is =
-    let (text, few, plain) = origin_parts origin is in
-    omega (arith, few, encodes_short (chars origin), ap length (encodes-chars origin text))
-
 text_short : (c : CheckpointFields) → IsCheckpoint c → length (checkpoint_text c) ≤ 1000000
 text_short c is =
     let root = length-base64 c.root ∙ ap (λ n. unpadded_len n + padding_len n) is.root.0 in
-    let size = length-decimal-le 20 c.size (omega arith) (omega (arith, is.size)) (omega (arith, is.size)) in
-    omega (arith, root, size, origin_short c.origin is.origin, length-append {A = ℕ})
+    let size = length-decimal-le 19 c.size (omega arith) (omega (arith, is.size)) (omega (arith, is.size)) in
+    omega (arith, root, size, (origin_parts c.origin is.origin).1, length-append {A = ℕ})
 
 printed : (c : CheckpointFields) → IsCheckpoint c → IsNote (checkpoint_text c) c [] []
 printed c is =

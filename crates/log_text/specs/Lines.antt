@@ -1,6 +1,6 @@
 -- What a line says. A value is read from its own spelling and from nothing else.
 use Rattle.std.specs.Prelude.{ℕ, ◌+◌, ◌-◌, ◌^◌, ◌==◌, ◌&&◌, not, nat_eq, nat_le, nat_lt, Bool, false, decimal}
-use Rattle.std.specs.Prelude.{if◌then◌else◌, List, ◌∷◌, [], length, take, drop, position, slice_index, codes, is_some}
+use Rattle.std.specs.Prelude.{if◌then◌else◌, List, ◌∷◌, [], length, take, drop, position, slice_index, codes}
 use Rattle.std.specs.Prelude.{option_map, Option, None, Some}
 use Rattle.std.specs.Char.{is_whitespace}
 use Rattle.std.specs.Cmp.Lexicographic.{pointwise}
@@ -77,12 +77,14 @@ is_text bytes = is_utf8 bytes && list_all (λ b. nat_le 32 b) bytes
 abbrev pub byte_order_mark : List ℕ
 byte_order_mark = 239 ∷ 187 ∷ 191 ∷ []
 
--- an origin: 1 to 100 characters, none below U+0020 nor U+007F, no byte order mark first, no space first or last
+-- an origin: text that is not empty, no byte order mark first, no space first or last, and at most 999934 bytes. A
+-- checkpoint has at most 10 ^ 6 bytes, and beside its origin it may need 66: the LF of the origin, 19 digits of a size
+-- and their LF, 44 characters of a root and their LF
 unfoldable pub is_origin : List ℕ → Bool
 is_origin text =
     is_utf8 text && (not (starts_with nat_eq text byte_order_mark) && (nat_le 1 (length text) &&
     (not (slice_index text 0 == 32) && (not (slice_index text (length text - 1) == 32) &&
-    (nat_le (length (chars text)) 100 && list_all (λ b. nat_le 32 b && not (b == 127)) text)))))
+    (nat_le (length text) 999934 && list_all (λ b. nat_le 32 b) text)))))
 
 -- a character of a key's name: no space, be it one of Unicode's, and no `+`
 abbrev pub is_name_char : ℕ → Bool
@@ -108,11 +110,10 @@ is_signature line = option_map_or (λ rest. option_map_or is_signed (cut_at 32 r
 abbrev pub part_origin : List ℕ
 part_origin = codes "fohlazu part 1"
 
--- whether a line is what is expected, of the kinds that say nothing else; an extension line is text, not blank, and no
--- digest, as a second checkpoint has
+-- whether a line is what is expected, of the kinds that say nothing else; an extension line is any text, and not blank
 unfoldable pub is_line : Expected → List ℕ → Bool
 is_line PartOrigin line = pointwise nat_eq line part_origin
-is_line Extension line = nat_le 1 (length line) && (is_text line && not (is_some (digest_of line)))
+is_line Extension line = nat_le 1 (length line) && is_text line
 is_line Signature line = is_signature line
 is_line ProofVersion line = pointwise nat_eq line (codes "fohlazu proof 1")
 is_line Blank line = length line == 0

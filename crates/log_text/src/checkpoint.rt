@@ -22,6 +22,9 @@ pub const PART_ORIGIN: &str = "fohlazu part 1";
 /// The most bytes that a checkpoint has, with its extension lines and signatures.
 const MAX_BYTES: usize = 1_000_000;
 
+/// The most bytes that an origin has: with the longest size, its checkpoint of three lines then has `MAX_BYTES`.
+const MAX_ORIGIN_BYTES: usize = 999_934;
+
 /// A checkpoint of a log, or a part of a file.
 #[derive(Clone, Copy)]
 pub struct Checkpoint<'a> {
@@ -75,8 +78,8 @@ impl<'a> Checkpoint<'a> {
     }
 }
 
-/// Whether this may be an origin: 1 to 100 characters, none of them U+007F or below U+0020, no byte order mark first,
-/// and no space first or last.
+/// Whether this may be an origin: 1 to 999934 bytes, no character below U+0020, no byte order mark first, and no space
+/// first or last. So a checkpoint of three lines has at most 1000000 bytes, whatever its size.
 #[tactic(auto, unfolding(crate::specs::Lines::is_origin))]
 pub fn is_origin(text: &str) -> bool
     ensures { result ≡ is_origin text.now }
@@ -89,8 +92,7 @@ pub fn is_origin(text: &str) -> bool
     if len == 0 || bytes[0] == b' ' || bytes[len - 1] == b' ' {
         return false;
     }
-    let count = text.chars().count();
-    count <= 100 && bytes.iter().all(|byte| *byte >= b' ' && *byte != 0x7f)
+    len <= MAX_ORIGIN_BYTES && bytes.iter().all(|byte| *byte >= b' ')
 }
 
 /// The origin that a line is.

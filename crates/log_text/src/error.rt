@@ -58,7 +58,7 @@ pub enum Expected {
     #[error("a text of at most 1000000 bytes")]
     ShortNote,
     /// The origin of a log, as `is_origin` takes it.
-    #[error("the origin: 1 to 100 characters, no control character, and no space first or last")]
+    #[error("the origin: 1 to 999934 bytes, no character below U+0020, and no space first or last")]
     Origin,
     /// The origin of a log, where that of a part is.
     #[error("the origin of a log, not that of a part, which only `join` takes")]
@@ -73,10 +73,10 @@ pub enum Expected {
     #[error("the base64 of 32 bytes")]
     Digest,
     /// An extension line, or what may follow instead.
-    #[error("the end, a blank line, or plain text that is no digest: are there two checkpoints?")]
+    #[error("the end, a blank line, or plain text")]
     Extension,
     /// A signature of a signed note (C2SP signed-note).
-    #[error("a signature, `— NAME BASE64`, after the blank line")]
+    #[error("a signature, `— NAME BASE64`, after the blank line: are there two texts?")]
     Signature,
     /// The first line of a proof of entries.
     #[error("a proof of entries, which begins with `fohlazu proof 1`")]

@@ -140,7 +140,7 @@ fn is_line(expected: Expected, line: &[u8]) -> bool
 {
     match expected {
         Expected::PartOrigin => line == PART_ORIGIN.as_bytes(),
-        Expected::Extension => !line.is_empty() && is_text(line) && digest_of(line).is_none(),
+        Expected::Extension => !line.is_empty() && is_text(line),
         Expected::Signature => is_signature(line),
         Expected::ProofVersion => line == PROOF_VERSION.as_bytes(),
         Expected::Blank => line.is_empty(),

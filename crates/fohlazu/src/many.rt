@@ -1,0 +1,165 @@
+//! Entries of a file that may be many. A checkpoint may claim any number of entries, so their numbers take memory only
+//! once the file is known to have them.
+
+use crate::input::Input;
+use log_commands::prove::MOST_NUMBERS;
+use log_commands::{Command, Cut, Error, run};
+use std::alloc::{AllocError, Global};
+use std::io;
+use std::io::Read;
+
+/// More entries than these are many.
+pub(crate) const MANY: usize = 65536;
+
+/// How many bytes of a file are read at a time while its entries are counted.
+const CHUNK: usize = 1 << 16;
+
+/// The first and the last number of some entries, counted from 1.
+pub(crate) type Range = (usize, usize);
+
+/// The numbers of entries that may be many.
+#[derive(Drop)]
+pub(crate) enum Many {
+    /// All numbers of a checkpoint.
+    All,
+    /// Those of these ranges.
+    Ranges(Vec<Range>),
+}
+
+/// How many numbers ranges have, up to `usize::MAX`.
+pub(crate) fn count_of(ranges: &[Range]) -> usize {
+    let mut count = 0usize;
+    for (first, last) in ranges {
+        count = count
+            .saturating_add(last.saturating_sub(*first))
+            .saturating_add(1);
+    }
+    count
+}
+
+/// The numbers of ranges, one range after another.
+pub(crate) fn numbers_in(alloc: Global, ranges: &[Range]) -> Result<Vec<usize>, AllocError> {
+    let mut numbers = Vec::with_capacity(alloc, count_of(ranges))?;
+    for (first, last) in ranges {
+        numbers.extend(*first..last.saturating_add(1))?;
+    }
+    Ok(numbers)
+}
+
+impl Many {
+    /// The numbers, or `None` for all of the checkpoint, once the file is known to have the entries. Both inputs are
+    /// then at their beginning again.
+    ///
+    /// # Errors
+    ///
+    /// That of a run, if the checkpoint is refused, or the file has too few entries.
+    pub(crate) fn numbers<'a>(
+        &self,
+        alloc: Global,
+        cut: Cut,
+        checkpoint: &mut Input<'a>,
+        file: &mut Input<'a>,
+    ) -> Result<Option<Vec<usize>>, Error> {
+        let size = claimed_size(alloc, checkpoint);
+        checkpoint.rewind();
+        match self {
+            Many::All => {
+                // A run refuses more entries than `MOST_NUMBERS` ahead of their numbers.
+                if MANY < size && size <= MOST_NUMBERS {
+                    check_entries(alloc, cut, checkpoint, file, 1, size)?;
+                }
+                Ok(None)
+            }
+            Many::Ranges(ranges) => {
+                let last = ranges.iter().map(|range| range.1).max().unwrap_or(0);
+                let number = first_number(ranges, size);
+                check_entries(alloc, cut, checkpoint, file, number, last)?;
+                Ok(Some(numbers_in(alloc, ranges)?))
+            }
+        }
+    }
+}
+
+/// The first number of ranges that is past the size of a checkpoint, or 1.
+fn first_number(ranges: &[Range], size: usize) -> usize {
+    match ranges.iter().find(|range| range.1 > size) {
+        Some((first, _)) => (*first).max(size.saturating_add(1)),
+        None => 1,
+    }
+}
+
+/// How many entries a checkpoint claims. If it says no number, a run refuses it, and this is `usize::MAX`.
+fn claimed_size(alloc: Global, checkpoint: &mut Input<'_>) -> usize {
+    let mut text = Vec::new(alloc);
+    // A run fails again where this fails, and refuses more bytes.
+    let _ = checkpoint.take(1_000_000).read_to_end(&mut text);
+    let mut lines = text.split(|byte| *byte == b'\n');
+    let size = lines
+        .nth(1)
+        .and_then(|line| str::from_utf8(line).ok()?.parse().ok());
+    size.unwrap_or(usize::MAX)
+}
+
+/// Checks that a file has entries up to `last`. If it has fewer, a run that proves the entry `number` alone says what
+/// is wrong. Both inputs are then at their beginning again.
+fn check_entries<'a>(
+    alloc: Global,
+    cut: Cut,
+    checkpoint: &mut Input<'a>,
+    file: &mut Input<'a>,
+    number: usize,
+    last: usize,
+) -> Result<(), Error> {
+    let has_last = number == 1 && has_entries(alloc, cut, file, last)?;
+    file.rewind();
+    if has_last {
+        return Ok(());
+    }
+    let command = Command::Prove {
+        cut,
+        checkpoint: &mut *checkpoint,
+        file: &mut *file,
+        numbers: Some(vec![in alloc; number]?),
+    };
+    run_unwritten(alloc, command)?;
+    checkpoint.rewind();
+    file.rewind();
+    Ok(())
+}
+
+/// Runs a command for its errors alone. One that is not lawful is refused later.
+fn run_unwritten(alloc: Global, command: Command<&mut Input<'_>>) -> Result<(), Error> {
+    if command.is_lawful() {
+        run(alloc, command, &mut io::sink())
+    } else {
+        Ok(())
+    }
+}
+
+/// Whether a file has so many entries. What follows its last line feed counts as one.
+fn has_entries(
+    alloc: Global,
+    cut: Cut,
+    file: &mut Input<'_>,
+    count: usize,
+) -> Result<bool, AllocError> {
+    let mut buffer = vec![in alloc; 0; CHUNK]?;
+    let (mut bytes, mut lines) = (0usize, 1usize);
+    for _turn in 0..u64::MAX {
+        let read = match file.read(&mut buffer) {
+            Ok(read) if read > 0 => read,
+            _ => return Ok(false),
+        };
+        bytes = bytes.saturating_add(read);
+        let feeds = buffer[..read].iter().filter(|byte| **byte == b'\n');
+        lines = lines.saturating_add(feeds.count());
+        let has_count = match cut {
+            Cut::Lines(_) => lines >= count,
+            Cut::Blocks(size) => bytes.div_ceil(size.max(1)) >= count,
+        };
+        if has_count {
+            return Ok(true);
+        }
+    }
+    Ok(false)
+}
