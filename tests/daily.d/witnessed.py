@@ -116,7 +116,8 @@ class Witnessed:
         if away:
             away.start()
         is_stopped = steps is None or steps >= at
-        check(not is_stopped or ran.returncode == (-9 if how == "kill" else 2), at, how, ran)
+        # A step that fails may be one whose failure does not matter.
+        check(not is_stopped or ran.returncode in ([-9] if how == "kill" else [0, 2]), at, how, ran)
         self.look(False)
         self.counts[f"{how}ed runs with witnesses"] += is_stopped
         if self.random.randrange(3) == 0:
