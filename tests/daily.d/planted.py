@@ -130,6 +130,33 @@ def plant(play) -> None:
     play.go_on("a log that was put right")
 
 
+def lose(play) -> None:
+    """The record is on a disk that is not there, or lost, which a run says. A log is read in two ways."""
+    play.go_on("a day")
+    play.record.unlink()
+    play.record.symlink_to(play.folder / "no disk" / "record")
+    play.grow()
+    refuse(play, "a record that cannot be read", 2, b"cannot be read: No such file")
+    play.record.unlink()
+    ran = play.run()
+    said = f"; there was no record, and {play.record} is a new one\n".encode()
+    check(ran.returncode == 0 and ran.stdout.endswith(said) and play.record.read_bytes() == play.last(), ran)
+    play.grow()
+    program, misread = play.program, play.folder / "misread"
+    misread.write_text(f"#!/bin/sh\nif [ \"$1\" = seal ]; then\n  '{program}' \"$@\" | sed '3{{s/^A/B/;t;s/^./A/}}'\n"
+                       f"else\n  exec '{program}' \"$@\"\nfi\n")
+    misread.chmod(0o755)
+    play.program = str(misread)
+    refuse(play, "a log that is read in two ways", 1, b"so nothing is signed")
+    words = [play.log, play.folder / "first", "-k", play.key, "--origin", "other", "--record", play.folder / "other"]
+    signed, ran = play.signed.read_bytes(), play.script("fohlazu-daily", *words)
+    is_left = (play.folder / "first").exists() or signed != play.signed.read_bytes()
+    check(ran.returncode == 1 and b"changed meanwhile, so nothing is signed" in ran.stderr and not is_left, ran)
+    play.program = program
+    play.counts["logs read in two ways"] += 2
+    play.go_on("a log that was read in two ways")
+
+
 def lock(play) -> None:
     play.grow()
     held = os.open(play.dir, os.O_RDONLY)

@@ -72,7 +72,7 @@ class Rollback:
         notes = [path.read_bytes() for path in directory.glob("*.checkpoint")] if directory.exists() else []
         if self.record.exists():
             notes.append(self.record.read_bytes())
-        if self.asks == "url" and (self.site / "checkpoint").exists():
+        if self.asks in ("url", "both") and (self.site / "checkpoint").exists():
             notes.append((self.site / "checkpoint").read_bytes())
         return {note.partition(b"\n\n")[0] + b"\n" for note in notes}
 
@@ -91,13 +91,15 @@ class Rollback:
         """A run, whose status has to be the right one."""
         directory = directory or self.dir
         words = [] if (directory / "checkpoint").exists() else ["--origin", ORIGIN]
-        if self.asks == "url":
+        if self.asks in ("url", "both"):
             words += ["-u", self.site.as_uri()]
-        elif self.asks == "witness":
+        if self.asks in ("witness", "both"):
             words += ["-w", self.url]
         known = self.texts(directory)
         counts = [int(text.split(b"\n")[1]) for text in known]
-        cosigned = self.witness.last.get(ORIGIN.encode(), (0, logs.EMPTY_ROOT)) if self.asks == "witness" else (0, b"")
+        cosigned = 0, b""
+        if self.asks in ("witness", "both"):
+            cosigned = self.witness.last.get(ORIGIN.encode(), cosigned)
         witnessed = {log_texts.checkpoint_text(ORIGIN.encode(), *cosigned)} if cosigned[0] else set()
         is_good = self.is_extended(known | witnessed) and cosigned[0] <= max([0, *counts])
         before = self.signed_texts()
@@ -192,6 +194,13 @@ class Rollback:
             self.grow()
             check(self.run() == 0, self.order, self.asks, "the true lines are refused")
             self.counts["the true lines came back"] += 1
+        else:
+            # The witness may know more than the machine. What is published tells the rest.
+            self.lines = true_lines
+            self.grow()
+            self.asks = "both" if self.run() else "witness"
+            check(self.run() == 0, self.order, "the true lines are refused with -u and -w")
+            self.counts[f"the true lines came back{' by -u and -w' * (self.asks == 'both')}"] += 1
 
     def second_folder(self) -> None:
         """Another log in a folder of its own, under the same key and name."""

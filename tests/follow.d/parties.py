@@ -174,12 +174,19 @@ class Customer:
         check(ran.returncode == status and not ran.stdout and is_said and is_same, why, ran, proof)
         self.counts["refused"] += 1
 
-    def begins(self, count, how="begins at"):
-        """What is said of a proof from another count, and of a checkpoint that has another."""
+    def begins(self, count):
+        """What is said of a proof from another count."""
         have = count_of(self.last())
-        first = "" if how == "has" else " first"
-        return (f"fohlazu-follow: standard input {how} {count} entries, and {self.path} has {have}: "
-                f"take from-{have}.growth{first}, or ask for prove-consistency").encode()
+        return (f"fohlazu-follow: standard input begins at {count} entries, and {self.path} has {have}: "
+                f"take from-{have}.growth first, or ask for prove-consistency").encode()
+
+    def has_other(self, count):
+        """What is said of a checkpoint with another count."""
+        have = count_of(self.last())
+        advice = f"take from-{have}.growth, or ask for prove-consistency"
+        if count < have:
+            advice = "to compare them, ask for prove-consistency from the smaller one, whose owner follows it"
+        return f"fohlazu-follow: standard input has {count} entries, and {self.path} has {have}: {advice}".encode()
 
     def finds(self, proof, forked, is_full=False):
         """Two histories are announced, then stored and named, if there is room; no other file changes."""

@@ -2,6 +2,7 @@
 policy who follow what it publishes."""
 
 import os
+from base64 import b64encode
 from collections import Counter
 
 import log_texts
@@ -12,7 +13,7 @@ from script import check, counted
 from witness import Witness
 
 POLICIES = 30
-USAGE = b"expected log VKEY, witness NAME VKEY [URL], group NAME any|all|K NAME.. or quorum NAME"
+USAGE = b"expected log VKEY [URL], witness NAME VKEY [URL], group NAME any|all|K NAME.. or quorum NAME"
 
 
 # ---- Which notes a policy opens
@@ -172,14 +173,14 @@ class Published:
     def urls(self):
         return [word for port in self.ports.values() for word in ("-w", f"http://127.0.0.1:{port}")]
 
-    def day(self, is_new, cosigners):
+    def day(self, is_new, cosigners, more=()):
         """A run that goes well, and says how many cosigned; the last checkpoint has their cosignatures."""
         if is_new:
             self.lines += [b"%d" % self.source.randrange(10**6) for _ in range(self.source.randint(1, 9))]
             (self.folder / "log").write_bytes(b"\n".join(self.lines) + b"\n")
         words = [self.folder / "log", self.folder / "published", "-k", self.key.path, "--origin", ORIGIN]
-        said = printed(script("fohlazu-daily", *words, *self.urls())).decode()
-        check(f", cosigned by {cosigners} of 3" in said, said)
+        said = printed(script("fohlazu-daily", *words, *self.urls(), *more)).decode()
+        check(f", cosigned by {cosigners} of {3 + len(more) // 2}" in said, said)
         note = (self.folder / "published/checkpoint").read_bytes()
         growth = (self.folder / "published/growth").read_bytes()
         text = log_texts.checkpoint_text(ORIGIN.encode(), len(self.lines), logs.Log(self.lines).root(0, len(self.lines)))
@@ -254,9 +255,34 @@ def try_asked(folder, source, counts):
             said, _ = operator.day(source.randrange(2), 2)
             check(what in said, said)
             counts["days with a broken witness"] += 1
+        try_hostile(operator, two, follow, two_policy, counts)
     finally:
         for name in list(operator.servers):
             operator.stop(name)
+
+
+def try_hostile(operator, customer, follow, policy, counts):
+    """A witness takes no room and no name of another's, and counts once under two URLs. Who asks for two of the three
+    can go on each time."""
+    def line(name, raw):
+        return b"\xe2\x80\x94 %s %s\n" % (name, b64encode(raw))
+
+    north = operator.witnesses["north"].key
+    for answer, what in [
+        (b"".join(line(b"w%d.example" % number, bytes([number]) * 76) for number in range(9)), "is no cosignature"),
+        (line(b"w" * 20_000, bytes(76)), "is no cosignature"), (line(b"w", bytes(4)), "is no cosignature"),
+        (line(b"w\xff", bytes(76)), "is no cosignature"), (line(b"w", bytes(76))[:-1], "is no cosignature"),
+        (line(ORIGIN.encode(), operator.key.id + bytes(64)), "its name and ID are another's"),
+        (line(north.name.encode(), north.id + bytes(72)), "its name and ID are another's"),
+    ]:
+        operator.witnesses["south"].answer = lambda body, answer=answer: (200, "text/plain", answer)
+        said, note = operator.day(True, 2)
+        check(what in said and note.count(b"\xe2\x80\x94") == 3, said, note)
+        while customer.last() != note:
+            follow(customer, policy, 0)
+        counts["days with a hostile witness"] += 1
+    said, _ = operator.day(True, 2, ["-w", f"http://127.0.0.1:{operator.ports['north']}/"])
+    check(said.count("its name and ID are another's") == 2, said)
 
 
 def try_policies(folder, source):

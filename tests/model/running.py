@@ -1,9 +1,11 @@
 """Runs a program in a folder of its own, and says what is wrong about a run."""
 
 import os
+import resource
 import signal
 import subprocess
 import sys
+from functools import partial
 from pathlib import Path
 from typing import NamedTuple
 
@@ -23,11 +25,12 @@ class Ran(NamedTuple):
 
 
 class Program:
-    """A program, and the folder that it runs in."""
+    """A program, the folder that it runs in, and how many bytes of memory a run may have, if there is a limit."""
 
-    def __init__(self, path, folder, _=None):
+    def __init__(self, path, folder, room=None):
         self.path = path
         self.folder = Path(folder)
+        self.room = room
         self.written = {}
 
     def write(self, name, data):
@@ -49,6 +52,8 @@ class Program:
         if not {"stdin", "input"} & settings.keys():
             settings["input"] = data
         settings = {"stdout": subprocess.PIPE, "stderr": subprocess.PIPE, "timeout": SECONDS, **settings}
+        if self.room:
+            settings["preexec_fn"] = partial(resource.setrlimit, resource.RLIMIT_AS, (self.room, self.room))
         ran = subprocess.run([self.path, *words], cwd=self.folder, **settings)
         return Ran(ran.returncode, ran.stdout or b"", ran.stderr or b"")
 
