@@ -161,7 +161,7 @@ help:
 #:                   package; 20 minutes
 #: make check        the gate: documents, the Cargo package, then proofs, tests, stored runs and the edits that must be
 #:                   refused, then commands of the proved programs, and their answers with each request for memory
-#:                   refused. It takes some 200 processor minutes, and needs a C compiler
+#:                   refused. It takes some 150 processor minutes, and needs a C compiler
 #: make libraries    the proved libraries, with rattle-with: a crate over them is checked in a minute
 #: make dist         archives of the programs and of the libraries, if cargo is installed also the package for Cargo,
 #:                   with their checksums, in build/dist/
