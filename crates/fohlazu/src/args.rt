@@ -266,14 +266,15 @@ impl<'a> Args<'a> {
 
     /// The input of an argument that is a checkpoint.
     pub(crate) fn checkpoint(&self, id: &str) -> Input<'a> {
-        self.input(id).watched()
+        let name = self.found.get_str(id).unwrap_or("");
+        Input::checkpoint(self.rt, name, self.notes)
     }
 
     /// The inputs of `join`.
     fn parts(&self, alloc: Global) -> Result<Vec<Input<'a>>, AllocError> {
         let names = self.found.get_strs("PART").unwrap_or(&[]).iter();
         names
-            .map(|name| Input::new(self.rt, name, false, self.notes).watched())
+            .map(|name| Input::checkpoint(self.rt, name, self.notes))
             .collect(alloc)
     }
 

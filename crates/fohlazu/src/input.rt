@@ -70,10 +70,11 @@ impl<'a> Input<'a> {
         }
     }
 
-    /// The same input, which is a checkpoint: a line on standard error warns of a second one in it.
-    pub(crate) fn watched(mut self) -> Input<'a> {
-        self.watch = Some(CheckpointWatch::default());
-        self
+    /// The input of this name, which is a checkpoint or a part: a line on standard error warns of a second one in it.
+    pub(crate) fn checkpoint(rt: &'a HostRuntime, name: &'a str, notes: &'a Notes) -> Input<'a> {
+        let mut input = Input::new(rt, name, false, notes);
+        input.watch = Some(CheckpointWatch::default());
+        input
     }
 
     /// The same input, which can be read again from its beginning.
