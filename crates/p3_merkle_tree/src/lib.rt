@@ -14,8 +14,8 @@
 
 mod hiding_mmcs;
 mod join;
-mod open;
-mod scheme_trait;
+mod hiding_open;
+mod hiding_trait;
 
 pub use hiding_mmcs::{
     HidingScheme, MerkleTreeHidingMmcs, SaltedMultiProof, SaltedProof, SaltedTree,

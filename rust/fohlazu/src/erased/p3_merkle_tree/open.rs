@@ -1,4 +1,4 @@
-// Made from crates/p3_merkle_tree/src/open.rt by tools/erase.
+// Made from crates/p3_merkle_tree/src/hiding_open.rt by tools/erase.
 
 //! Salted openings: those of the plain scheme, with each row split into the matrix's own words and its salts, which are
 //! joined again for a check. A row set has one row of each matrix, a salt set one list of salts for each row. A matrix

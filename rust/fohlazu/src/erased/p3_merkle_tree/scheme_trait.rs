@@ -1,4 +1,4 @@
-// Made from crates/p3_merkle_tree/src/scheme_trait.rt by tools/erase.
+// Made from crates/p3_merkle_tree/src/hiding_trait.rt by tools/erase.
 
 //! The trait `Mmcs` for the salted scheme, so that callers can be generic in the scheme.
 
