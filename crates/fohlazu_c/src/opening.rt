@@ -14,7 +14,7 @@ use crate::setting::{MatrixSize, TreeSetting, rule};
 use p3_hashes::sha::{Sha256Nodes, Sha256Rows};
 use p3_merkle_core::cap::CapRule;
 use p3_merkle_core::error::MerkleTreeError;
-use p3_merkle_mmcs::mmcs::MerkleTreeMmcs;
+use p3_merkle_tree::mmcs::MerkleTreeMmcs;
 use p3_support::matrix::Dimensions;
 use p3_support::opening::{BatchOpeningRef, MerkleCap};
 use std::alloc::{AllocError, Global};

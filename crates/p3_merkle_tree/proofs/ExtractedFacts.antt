@@ -20,8 +20,8 @@ use Rattle.p3_merkle_core.specs.declared.cap.CapRule.{CapRule}
 use Rattle.p3_merkle_core.specs.declared.error.MerkleTreeError.{MerkleTreeError}
 use Rattle.p3_merkle_core.specs.declared.error.MerkleTreeError.TheVariants.{OutOfMemory}
 use Rattle.p3_merkle_core.proofs.Collisions.ExtractionFacts.{IsPresentation, all_authenticated, extracted}
-use Rattle.p3_merkle_mmcs.specs.Schemes.{cap_height_of, cap_rule_of, params_of}
-use Rattle.p3_merkle_mmcs.proofs.VerdictFacts.{verdict_by}
+use Rattle.p3_merkle_tree.specs.Schemes.{cap_height_of, cap_rule_of, params_of}
+use Rattle.p3_merkle_tree.proofs.VerdictFacts.{verdict_by}
 use Rattle.p3_merkle_tree.specs.HidingSchemes.{plain_of}
 use Rattle.p3_merkle_tree.specs.SaltedOpenings.{IsSaltedAccepted, IsSaltedPrunedAccepted, SaltedOpening}
 use Rattle.p3_merkle_tree.specs.SaltedOpenings.{SaltedPruned, joined, joined_sets, widened}

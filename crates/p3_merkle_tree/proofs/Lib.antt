@@ -9,3 +9,9 @@ pub mod SaltFacts
 mod DrawFacts
 pub mod JoinedFacts
 pub mod SaltedExtractionFacts
+pub mod VerdictFacts
+pub mod OpenedFacts
+pub mod CapFacts
+pub mod AuthenticFacts
+pub mod CheckFacts
+pub mod CommitmentFacts

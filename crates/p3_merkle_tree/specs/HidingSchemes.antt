@@ -15,8 +15,8 @@ use Rattle.p3_merkle_core.specs.Checks.{Params}
 use Rattle.p3_merkle_core.specs.Geometry.{shape_of}
 use Rattle.p3_merkle_core.specs.Presented.{Presented}
 use Rattle.p3_merkle_core.specs.declared.pruning.PrunedProof.{PrunedProof}
-use Rattle.p3_merkle_mmcs.specs.Schemes.{params_of}
-use Rattle.p3_merkle_mmcs.specs.declared.mmcs.Scheme.{Scheme}
+use Rattle.p3_merkle_tree.specs.Schemes.{params_of}
+use Rattle.p3_merkle_tree.specs.declared.mmcs.Scheme.{Scheme}
 use Rattle.p3_merkle_tree.specs.SaltedOpenings.{SaltedOpening, SaltedPruned, widened}
 use Rattle.p3_merkle_tree.specs.SaltedPresented.{presented_salted, presented_salted_pruned}
 use Rattle.p3_merkle_tree.specs.declared.hiding_mmcs.HidingScheme.{HidingScheme}

@@ -1,3 +1,4 @@
 -- Definitions that only proofs, and calls that no public contract mentions, use.
 pub mod SaltedCommitmentLaws
 pub mod SaltedParts
+pub mod CommitmentLaws

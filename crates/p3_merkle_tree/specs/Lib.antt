@@ -21,9 +21,8 @@ pub use Rattle.p3_merkle_core.specs.declared.error.MerkleTreeError
 pub use Rattle.p3_merkle_core.specs.declared.error.PrunedProofError
 pub use Rattle.p3_merkle_prover.specs.Parts
 pub use Rattle.p3_merkle_prover.specs.declared.tree.Tree
-pub use Rattle.p3_merkle_mmcs.specs.Schemes
-pub use Rattle.p3_merkle_mmcs.specs.Committed
-pub use Rattle.p3_merkle_mmcs.specs.declared.mmcs.Scheme
+pub mod Schemes
+pub mod Committed
 pub mod Salted
 pub mod SaltedOpenings
 pub mod SaltRefusals

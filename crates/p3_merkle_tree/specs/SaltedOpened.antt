@@ -14,7 +14,7 @@ use Rattle.p3_merkle_core.specs.Openings.{honest, honest_rows, node_in, siblings
 use Rattle.p3_merkle_core.specs.Pruning.{boundary_by, honest_query}
 use Rattle.p3_merkle_prover.specs.Parts.{layers_of, matrices_of, tree_batch}
 use Rattle.p3_merkle_prover.specs.declared.tree.Tree.{Tree}
-use Rattle.p3_merkle_mmcs.specs.Schemes.{cap_layer_of, params_of}
+use Rattle.p3_merkle_tree.specs.Schemes.{cap_layer_of, params_of}
 use Rattle.p3_merkle_tree.specs.HidingSchemes.{generator_of, plain_of, salted_params_of}
 use Rattle.p3_merkle_tree.specs.Salted.{IsAfterSome, after_salts}
 use Rattle.p3_merkle_tree.specs.SaltedCommitments.{IsSaltedCommitment}

@@ -18,7 +18,7 @@ use p3_merkle_core::cap::CapRule;
 use p3_merkle_core::error::MerkleTreeError;
 use p3_merkle_core::pruning::PrunedMerklePaths;
 use p3_merkle_core::steps::check_heights;
-use p3_merkle_mmcs::mmcs::{MerkleTreeMmcs, Scheme};
+use crate::mmcs::{MerkleTreeMmcs, Scheme};
 use p3_merkle_prover::checked::CheckedMatrices;
 use p3_merkle_prover::tree::MerkleTree;
 use p3_support::compress::PseudoCompressionFunction;
@@ -96,7 +96,7 @@ impl<
     const SALT_ELEMS: usize,
 > HidingScheme<P, PW, H, C, R, X, G, N, D, SALT_ELEMS> {
     ghost use Rattle.rand_core.specs.Stream.{fill_bytes};
-    ghost use Rattle.p3_merkle_mmcs.specs.Schemes.{cap_height_of, cap_rule_of};
+    ghost use Rattle.p3_merkle_tree.specs.Schemes.{cap_height_of, cap_rule_of};
     ghost use Rattle.p3_merkle_tree.specs.HidingSchemes.{generator_of, plain_of};
 
     /// The cap height that was given to [`new`](Self::new), in levels below the root.
@@ -159,7 +159,7 @@ impl<
     ghost use Rattle.p3_merkle_core.specs.declared.cap.CapRule.TheVariants.{Lowered};
     ghost use Rattle.p3_merkle_core.specs.declared.error.MerkleTreeError.TheVariants.{OutOfMemory};
     ghost use Rattle.p3_merkle_prover.specs.Parts.{matrices_of, tree_batch};
-    ghost use Rattle.p3_merkle_mmcs.specs.Schemes.{cap_height_of, cap_rule_of, compression_of, hash_of};
+    ghost use Rattle.p3_merkle_tree.specs.Schemes.{cap_height_of, cap_rule_of, compression_of, hash_of};
     ghost use Rattle.p3_merkle_tree.specs.HidingSchemes.{generator_of, plain_of};
     ghost use Rattle.p3_merkle_tree.specs.Salted.{salted_batch};
     ghost use Rattle.p3_merkle_tree.specs.SaltedOpened.{CommitsSalted, Draws};

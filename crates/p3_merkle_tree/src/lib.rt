@@ -12,14 +12,20 @@
 //! `PrunedProof`, `PrunedRows`, `AuthPath` and `InputPair`.
 #![tactic(auto)]
 
+mod extract;
 mod hiding_mmcs;
-mod join;
 mod hiding_open;
 mod hiding_trait;
+mod join;
+pub mod mmcs;
+mod mmcs_trait;
+mod pruned;
+mod schedule;
 
 pub use hiding_mmcs::{
     HidingScheme, MerkleTreeHidingMmcs, SaltedMultiProof, SaltedProof, SaltedTree,
 };
+pub use mmcs::{MerkleTreeMmcs, Scheme};
 pub use p3_merkle_core::cap::CapRule;
 pub use p3_merkle_core::collision::{Collision, InputPair, Place};
 pub use p3_merkle_core::error::{MerkleTreeError, PrunedProofError};
@@ -29,6 +35,5 @@ pub use p3_merkle_core::pruning::{
     AuthPath, MerkleAuthPath, PrunedBatchOpening, PrunedMerklePaths, PrunedProof, PrunedRows,
     check_indices,
 };
-pub use p3_merkle_mmcs::mmcs::{MerkleTreeMmcs, Scheme};
 pub use p3_merkle_prover::tree::{MerkleTree, Tree};
 pub use p3_support::opening::{BatchOpening, BatchOpeningRef, DigestRef, Hash, MerkleCap};

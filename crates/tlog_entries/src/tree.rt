@@ -1,13 +1,13 @@
 //! The nodes of a log's tree, and its hash and compression (RFC 9162, 2.1.1).
 ghost use Rattle.std.specs.Prelude.{◌≡◌, ℕ, ◌<◌, ◌∷◌, [], map, refl};
 ghost use Rattle.std.proofs.Common.{rules};
-ghost use Rattle.p3_merkle_mmcs.specs.Schemes.{params_of};
+ghost use Rattle.p3_merkle_tree.specs.Schemes.{params_of};
 ghost use Rattle.p3_support.specs.Lists.{lane_of};
 ghost use Rattle.tlog_entries.specs.Instance.{log_dimensions, log_params, log_shape};
 ghost use Rattle.tlog_entries.specs.Nodes.{last_word, parent_digest, parent};
 ghost use Rattle.tlog_entries.specs.declared.tree.Node.TheVariants.{Absent};
 
-use p3_merkle_mmcs::mmcs::MerkleTreeMmcs;
+use p3_merkle_tree::mmcs::MerkleTreeMmcs;
 use p3_support::compress::PseudoCompressionFunction;
 use p3_support::hasher::CryptographicHasher;
 use p3_support::matrix::Dimensions;

@@ -327,21 +327,21 @@ impl Trees {
 
         let index = trial.random.about(Self::HEIGHT);
         let conditions = [("index_in", index < Self::HEIGHT)];
-        let name = "p3_merkle_mmcs.mmcs.MerkleTreeMmcs.open_batch";
+        let name = "p3_merkle_tree.mmcs.MerkleTreeMmcs.open_batch";
         trial.call(name, &conditions, || plain.open_batch(index, tree).is_ok());
         trial.call(name, &conditions, || Mmcs::<u32, Words>::open_batch(plain, index, tree).is_ok());
-        let name = "p3_merkle_tree.open.MerkleTreeHidingMmcs.open_batch";
+        let name = "p3_merkle_tree.hiding_open.MerkleTreeHidingMmcs.open_batch";
         trial.call(name, &conditions, || hiding.open_batch(index, salted).is_ok());
         trial.call(name, &conditions, || Mmcs::<u32, Words>::open_batch(hiding, index, salted).is_ok());
 
         let indices = trial.random.indices(4, Self::HEIGHT);
         let conditions = [("indices_in", indices.iter().all(|index| *index < Self::HEIGHT))];
-        let name = "p3_merkle_mmcs.pruned.MerkleTreeMmcs.open_batch_pruned";
+        let name = "p3_merkle_tree.pruned.MerkleTreeMmcs.open_batch_pruned";
         trial.call(name, &conditions, || plain.open_batch_pruned(&indices, tree).is_ok());
-        let name = "p3_merkle_mmcs.pruned.MerkleTreeMmcs.open_multi_batch";
+        let name = "p3_merkle_tree.pruned.MerkleTreeMmcs.open_multi_batch";
         trial.call(name, &conditions, || plain.open_multi_batch(&indices, tree).is_ok());
         trial.call(name, &conditions, || Mmcs::<u32, Words>::open_multi_batch(plain, &indices, tree).is_ok());
-        let name = "p3_merkle_tree.open.MerkleTreeHidingMmcs.open_multi_batch";
+        let name = "p3_merkle_tree.hiding_open.MerkleTreeHidingMmcs.open_multi_batch";
         trial.call(name, &conditions, || hiding.open_multi_batch(&indices, salted).is_ok());
         trial.call(name, &conditions, || Mmcs::<u32, Words>::open_multi_batch(hiding, &indices, salted).is_ok());
 
@@ -349,7 +349,7 @@ impl Trees {
         let dimensions = vec![Dimensions { width: 2, height: 5 }; count];
         let matrix = trial.random.about(count);
         let conditions = [("matrix_in", matrix < count)];
-        let name = "p3_merkle_mmcs.schedule.Scheme.is_authenticated";
+        let name = "p3_merkle_tree.schedule.Scheme.is_authenticated";
         trial.call(name, &conditions, || plain.is_authenticated(&dimensions, matrix).is_ok());
     }
 }

@@ -8,7 +8,7 @@ use Rattle.p3_support.specs.Pairs.{left_of}
 use Rattle.p3_support.specs.declared.matrix.Dimensions.{Dimensions}
 use Rattle.p3_support.specs.declared.matrix.Matrix.{Ghosts}
 use Rattle.p3_support.specs.declared.pair.HorizontalPair.{HorizontalPair}
-use Rattle.p3_merkle_mmcs.specs.Schemes.{IsSameScheme}
+use Rattle.p3_merkle_tree.specs.Schemes.{IsSameScheme}
 use Rattle.p3_merkle_core.specs.Views.{heights_in}
 use Rattle.p3_merkle_core.specs.Geometry.{IsLawful, shape_of}
 use Rattle.p3_merkle_core.specs.Nodes.{Functions, dimensions_of}
@@ -20,7 +20,7 @@ use Rattle.p3_support.specs.declared.hasher.CryptographicHasher as hasher
 use Rattle.p3_support.specs.declared.packed.PackedValue as packed
 use Rattle.std.specs.declared.default.Default as default
 use Rattle.std.specs.declared.cmp.PartialEq as equality
-use Rattle.p3_merkle_mmcs.specs.Inner.CommitmentLaws.{all_zip, greatest_is, same_is_equivalence}
+use Rattle.p3_merkle_tree.specs.Inner.CommitmentLaws.{all_zip, greatest_is, same_is_equivalence}
 use Rattle.p3_merkle_tree.specs.HidingSchemes.{plain_of}
 use Rattle.p3_merkle_tree.specs.SaltedCommitments.{HaveSaltedProof}
 use Rattle.p3_merkle_tree.specs.SaltedOpenings.{HaveSalts, IsSaltedPrunedAccepted, SaltedPruned, joined_sets}

@@ -38,16 +38,16 @@ const BROKEN: [(&str, &str, &[&str]); 11] = [
     ),
     ("p3_merkle_prover.tree.MerkleTree.new", "some_lane", &["tree::<NoLane, NoLane, 2>()"]),
     (
-        "p3_merkle_mmcs.mmcs.MerkleTreeMmcs.new_with_rule",
+        "p3_merkle_tree.mmcs.MerkleTreeMmcs.new_with_rule",
         "arity",
         &["plain::<u32, u32, 0>()", "plain::<u32, u32, 1>()", "plain::<u32, u32, 3>()"],
     ),
     (
-        "p3_merkle_mmcs.mmcs.MerkleTreeMmcs.new_with_rule",
+        "p3_merkle_tree.mmcs.MerkleTreeMmcs.new_with_rule",
         "lanes",
         &["plain::<Lanes<u32>, u32, 2>()", "plain::<u32, Lanes<u32>, 2>()"],
     ),
-    ("p3_merkle_mmcs.mmcs.MerkleTreeMmcs.new_with_rule", "some_lane", &["plain::<NoLane, NoLane, 2>()"]),
+    ("p3_merkle_tree.mmcs.MerkleTreeMmcs.new_with_rule", "some_lane", &["plain::<NoLane, NoLane, 2>()"]),
     (
         "p3_merkle_tree.hiding_mmcs.MerkleTreeHidingMmcs.new_with_rule",
         "arity",

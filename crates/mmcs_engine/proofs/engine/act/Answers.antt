@@ -13,7 +13,7 @@ use Rattle.p3_merkle_core.specs.Pruning.{pruned_len, pruned_of, PrunedOpening}
 use Rattle.p3_merkle_core.specs.Views.{pruned_borrowed, pruned_made}
 use Rattle.p3_merkle_core.specs.Refusals.{pruned_len_refusal, queries_refusal}
 use Rattle.p3_merkle_prover.specs.Parts.{layers_of, tree_batch}
-use Rattle.p3_merkle_mmcs.specs.Schemes.{cap_layer_of, params_of}
+use Rattle.p3_merkle_tree.specs.Schemes.{cap_layer_of, params_of}
 use Rattle.mmcs_engine.specs.Inner.Stored.{stored_batch}
 use Rattle.mmcs_engine.specs.Inner.Alike.{opened_lines, opened_text}
 use Rattle.mmcs_engine.specs.Text.{digest_lines, hex_lines, ok_line}

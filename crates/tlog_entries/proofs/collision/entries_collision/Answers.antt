@@ -7,7 +7,7 @@ use Rattle.p3_support.specs.Shown.{row_sets}
 use Rattle.p3_support.specs.declared.matrix.Dimensions.{Dimensions}
 use Rattle.p3_merkle_core.specs.Geometry.{shape_of}
 use Rattle.p3_merkle_core.specs.Pruning.{pruned_of, restored_path, restored_paths}
-use Rattle.p3_merkle_mmcs.specs.Schemes.{params_of}
+use Rattle.p3_merkle_tree.specs.Schemes.{params_of}
 use Rattle.tlog.specs.Collisions.{entries_of}
 use Rattle.tlog.specs.declared.collision.Collision.{Collision}
 use Rattle.tlog.specs.Fixed.{RootFixesLeaf}

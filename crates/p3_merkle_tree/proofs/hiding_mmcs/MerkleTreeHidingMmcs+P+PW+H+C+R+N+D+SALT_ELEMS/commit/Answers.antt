@@ -11,7 +11,7 @@ use Rattle.p3_merkle_tree.specs.SaltRefusals.{salted_commit_refusal}
 use Rattle.p3_merkle_tree.specs.SaltedTrees.{HaveSaltColumns}
 use Rattle.p3_merkle_tree.specs.Inner.SaltedParts.{pair_matrix}
 use Rattle.p3_merkle_core.proofs.Lists.ViewFacts.{dimensions_are}
-use Rattle.p3_merkle_mmcs.proofs.CommitmentFacts.{memory_alone}
+use Rattle.p3_merkle_tree.proofs.CommitmentFacts.{memory_alone}
 use Rattle.p3_merkle_tree.proofs.CommitFacts.{both_made, memory_or, nothing_drawn, on_ok}
 use Rattle.p3_merkle_tree.proofs.hiding_mmcs.MerkleTreeHidingMmcs+P+PW+H+C+R+N+D+SALT_ELEMS.commit.Goals as goal
 

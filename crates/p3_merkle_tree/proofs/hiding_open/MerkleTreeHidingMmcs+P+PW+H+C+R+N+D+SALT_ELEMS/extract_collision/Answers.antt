@@ -8,7 +8,7 @@ use Rattle.p3_merkle_core.specs.Refusals.{AnswersUnlessMemory}
 use Rattle.p3_merkle_core.specs.Views.{inputs_in, found_alone, opening_borrowed}
 use Rattle.p3_merkle_core.specs.declared.error.MerkleTreeError.{MerkleTreeError}
 use Rattle.p3_merkle_core.specs.declared.error.MerkleTreeError.TheVariants.{OutOfMemory}
-use Rattle.p3_merkle_mmcs.proofs.CommitmentFacts.{answers_by_definition}
+use Rattle.p3_merkle_tree.proofs.CommitmentFacts.{answers_by_definition}
 use Rattle.p3_merkle_tree.specs.HidingSchemes.{salted_borrowed}
 use Rattle.p3_merkle_tree.specs.SaltRefusals.{salted_rows_refusal}
 use Rattle.p3_merkle_tree.specs.SaltedOpenings.{salted_rows}

@@ -5,7 +5,7 @@ use Rattle.p3_merkle_core.specs.Geometry.{shape_of}
 use Rattle.p3_merkle_core.specs.Nodes.{shape}
 use Rattle.p3_merkle_core.specs.Openings.{Opening, opening_of}
 use Rattle.p3_merkle_prover.specs.Parts.{matrices_of, tree_batch}
-use Rattle.p3_merkle_mmcs.specs.Schemes.{params_of}
+use Rattle.p3_merkle_tree.specs.Schemes.{params_of}
 use Rattle.p3_support.specs.Shown.{row_lists}
 use Rattle.p3_support.specs.declared.matrix.Dimensions.{Dimensions}
 use Rattle.p3_merkle_tree.proofs.SplitFacts.{left_is, right_is, salted_from}

@@ -4,7 +4,7 @@ use Rattle.p3_merkle_core.specs.Geometry.{shape_of}
 use Rattle.p3_merkle_core.specs.Nodes.{shape}
 use Rattle.p3_merkle_core.specs.Pruning.{IsPrunedAccepted, PrunedOpening, pruned_of}
 use Rattle.p3_merkle_prover.specs.Parts.{matrices_of, tree_batch}
-use Rattle.p3_merkle_mmcs.specs.Schemes.{params_of}
+use Rattle.p3_merkle_tree.specs.Schemes.{params_of}
 use Rattle.p3_support.specs.declared.matrix.Dimensions.{Dimensions}
 use Rattle.p3_merkle_tree.proofs.SplitFacts.{left_sets_are, right_sets_are, salted_pruned_from}
 use Rattle.p3_merkle_tree.specs.HidingSchemes.{plain_of}

@@ -4,7 +4,7 @@ use Rattle.p3_support.specs.Shown.{roots_of, row_lists}
 use Rattle.p3_merkle_core.specs.Openings.{opening_of}
 use Rattle.p3_merkle_core.specs.Refusals.{AnswersUnlessMemory}
 use Rattle.p3_merkle_core.specs.Views.{opening_borrowed}
-use Rattle.p3_merkle_mmcs.proofs.CommitmentFacts.{answers_by_definition}
+use Rattle.p3_merkle_tree.proofs.CommitmentFacts.{answers_by_definition}
 use Rattle.p3_merkle_tree.specs.HidingSchemes.{salted_borrowed}
 use Rattle.p3_merkle_tree.specs.SaltRefusals.{salted_rows_refusal}
 use Rattle.p3_merkle_tree.specs.SaltedOpenings.{salted_rows}

@@ -1,5 +1,5 @@
 -- What the calls promise of this scheme gives what the trait promises of all.
-use Rattle.p3_merkle_mmcs.proofs.CommitmentFacts.{memory_alone}
+use Rattle.p3_merkle_tree.proofs.CommitmentFacts.{memory_alone}
 use Rattle.p3_support.specs.Shown.{roots_of}
 use Rattle.p3_merkle_tree.proofs.hiding_trait.MerkleTreeHidingMmcsMmcsValue.TheImpl.Goals as goal
 

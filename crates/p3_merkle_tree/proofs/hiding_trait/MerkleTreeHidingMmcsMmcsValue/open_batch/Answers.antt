@@ -5,7 +5,7 @@ use Rattle.std.specs.Prelude.{◌<◌, ℕ}
 use Rattle.p3_support.specs.Pairs.{left_of}
 use Rattle.p3_support.specs.declared.matrix.Dimensions.{Dimensions}
 use Rattle.p3_merkle_prover.specs.Parts.{matrices_of}
-use Rattle.p3_merkle_mmcs.specs.Inner.CommitmentLaws.{greatest_is, rows_are}
+use Rattle.p3_merkle_tree.specs.Inner.CommitmentLaws.{greatest_is, rows_are}
 use Rattle.p3_merkle_core.proofs.Lists.ViewFacts.{dimensions_are}
 use Rattle.p3_merkle_tree.specs.HidingSchemes.{salted_made, salted_params_of}
 use Rattle.p3_merkle_tree.specs.Inner.SaltedCommitmentLaws.{left_lawful}

@@ -1,5 +1,0 @@
-use Rattle.std.proofs.Common.{rules}
-use Rattle.p3_merkle_mmcs.proofs.mmcs.Scheme.cap_rule.Goals as goal
-
-pub returns : goal.returns
-returns g c = search rules

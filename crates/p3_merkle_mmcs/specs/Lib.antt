@@ -1,3 +1,0 @@
-pub mod Schemes
-pub mod Committed
-pub mod Inner

@@ -1,0 +1,5 @@
+use Rattle.std.proofs.Common.{rules}
+use Rattle.p3_merkle_tree.proofs.mmcs.Scheme.cap_rule.Goals as goal
+
+pub returns : goal.returns
+returns g c = search rules

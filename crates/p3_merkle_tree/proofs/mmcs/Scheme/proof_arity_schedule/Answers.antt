@@ -1,0 +1,55 @@
+-- The steps below the cap are the first of all steps.
+use Rattle.std.proofs.Common.{◌∙◌, ap, arith, inl, length, sym}
+use Rattle.std.proofs.lemmas.Result.{IfOk-from_err, err_from_is_err_and}
+use Rattle.std.proofs.lemmas.List.FromFn.{length-map-range_with_len, take-map-range_with_len}
+use Rattle.p3_merkle_core.specs.Geometry.{levels, schedule_below, shape_of, step}
+use Rattle.p3_merkle_core.proofs.Shapes.LadderFacts.{levels_le}
+use Rattle.p3_merkle_tree.specs.Schemes.{cap_layer_of}
+use Rattle.p3_merkle_tree.proofs.CheckFacts.{are_steps}
+use Rattle.p3_merkle_tree.proofs.mmcs.Scheme.proof_arity_schedule.Goals as goal
+
+pub returns-in_err-check_heights-clause-steps : goal.returns-in_err-check_heights-clause-steps
+returns-in_err-check_heights-clause-steps g c = IfOk-from_err c.from_residual.result _ c.from_residual.ensures.0
+
+pub returns-in_err-check_heights-clause-first : goal.returns-in_err-check_heights-clause-first
+returns-in_err-check_heights-clause-first g c = IfOk-from_err c.from_residual.result _ c.from_residual.ensures.0
+
+pub returns-in_err-check_heights-clause-few : goal.returns-in_err-check_heights-clause-few
+returns-in_err-check_heights-clause-few g c = IfOk-from_err c.from_residual.result _ c.from_residual.ensures.0
+
+pub returns-in_err-schedule_below-clause-steps : goal.returns-in_err-schedule_below-clause-steps
+returns-in_err-schedule_below-clause-steps g c =
+    IfOk-from_err c.from_residual-in_err-schedule_below.result _ c.from_residual-in_err-schedule_below.ensures.0
+
+pub returns-in_err-schedule_below-clause-first : goal.returns-in_err-schedule_below-clause-first
+returns-in_err-schedule_below-clause-first g c =
+    IfOk-from_err c.from_residual-in_err-schedule_below.result _ c.from_residual-in_err-schedule_below.ensures.0
+
+pub returns-in_err-schedule_below-clause-few : goal.returns-in_err-schedule_below-clause-few
+returns-in_err-schedule_below-clause-few g c =
+    IfOk-from_err c.from_residual-in_err-schedule_below.result _ c.from_residual-in_err-schedule_below.ensures.0
+
+pub returns-in_err-schedule_below-clause-answer : goal.returns-in_err-schedule_below-clause-answer
+returns-in_err-schedule_below-clause-answer g c =
+    let p = err_from_is_err_and c.from_residual-in_err-schedule_below.result c.from_residual-in_err-schedule_below.ensures.1 in
+    rw p.1 (inl p.2)
+
+pub returns-clause-steps : goal.returns-clause-steps
+returns-clause-steps g c =
+    let scheme = c.args.self.now in
+    let made = c.steps_of-steps in
+    let steps = are_steps g.row.N c.args.dimensions.now scheme.cap_rule scheme.cap_height made.result
+    c.cap_layer-cap_layer.result made.ensures.arity made.ensures.dimensions c.cap_layer-cap_layer.ensures in
+    c.in_ok-schedule_below.ensures ∙ (λ i. schedule_below (steps.tree i) (steps.at_cap i))
+
+pub returns-clause-first : goal.returns-clause-first
+returns-clause-first g c =
+    let s = shape_of g.row.N c.args.dimensions.now in
+    let t = cap_layer_of c.args.self.now s in
+    returns-clause-steps g c ∙ sym (take-map-range_with_len (step s) 0 (levels s) t (omega arith))
+
+pub returns-clause-few : goal.returns-clause-few
+returns-clause-few g c =
+    let s = shape_of g.row.N c.args.dimensions.now in
+    let t = cap_layer_of c.args.self.now s in
+    omega (arith, ap length (returns-clause-steps g c), length-map-range_with_len (step s) 0 t, levels_le s)

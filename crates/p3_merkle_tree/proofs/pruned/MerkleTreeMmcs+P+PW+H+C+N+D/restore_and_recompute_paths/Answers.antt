@@ -1,0 +1,28 @@
+-- The paths are those of the checker's walk.
+use Rattle.std.proofs.Common.{subst}
+use Rattle.std.specs.Prelude.{◌≡◌, IfOk}
+use Rattle.p3_merkle_core.specs.Geometry.{shape_of}
+use Rattle.p3_merkle_core.specs.Pruning.{restored_paths}
+use Rattle.p3_merkle_core.specs.Refusals.{AnswersUnlessMemory, pruned_refusal}
+use Rattle.p3_merkle_core.specs.Views.{pruned_borrowed, shown_paths}
+use Rattle.p3_merkle_tree.specs.Schemes.{cap_layer_of}
+use Rattle.p3_merkle_tree.proofs.VerdictFacts.{restoring_verdict}
+use Rattle.p3_merkle_tree.proofs.pruned.MerkleTreeMmcs+P+PW+H+C+N+D.restore_and_recompute_paths.Goals as goal
+
+pub returns : goal.returns
+returns g c =
+    let scheme = c.args.self.now in
+    let eq = g.P.Value.PartialEq.eq in
+    let s = shape_of g.row.N c.args.dimensions.now in
+    let alike = c.checker.ensures in
+    let restored = c.restored_paths.result in
+    record {
+      verdict = restoring_verdict eq s (cap_layer_of scheme s)
+          (pruned_borrowed c.args.indices.now c.args.rows.now c.args.proof.now)
+          g.met.P.PackedValue.eq_is_equality restored
+          (subst (AnswersUnlessMemory restored)
+          (λ i. pruned_refusal eq (alike i).shape (alike i).layer (c.new-opening.ensures i))
+          c.restored_paths.ensures.answer);
+      paths = subst (λ (ps : _). IfOk restored (λ paths. shown_paths paths.items ≡ ps))
+          (λ i. restored_paths (alike i) (c.new-opening.ensures i)) c.restored_paths.ensures.paths;
+    }

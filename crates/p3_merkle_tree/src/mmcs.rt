@@ -1,0 +1,337 @@
+//! The scheme: it commits to matrices, opens their rows, and verifies openings. A cap is a layer of the tree; a level
+//! leads from a layer to the next above it; a cap height counts levels below the root.
+
+ghost use Rattle.std.specs.Prelude.{◌≡◌, ◌<◌, ◌≤◌, IfOk, IsTrue, None};
+ghost use Rattle.p3_merkle_core.specs.Computed.{Computes};
+ghost use Rattle.p3_merkle_core.specs.Geometry.{is_arity, IsArity};
+ghost use Rattle.p3_support.specs.Batches.{greatest};
+
+use p3_merkle_core::cap::CapRule;
+use p3_merkle_core::error::MerkleTreeError;
+use p3_merkle_core::steps::steps_of;
+use p3_merkle_prover::checked::{CheckedMatrices, checked_matrices, tree_over};
+use p3_merkle_prover::opener::{cap_at, rows_of_index, siblings_of_index, tree_steps};
+use p3_merkle_prover::tree::MerkleTree;
+use p3_merkle_verifier::checker::Checker;
+use p3_merkle_verifier::openings::OpeningRef;
+use p3_support::compress::PseudoCompressionFunction;
+use p3_support::hasher::CryptographicHasher;
+use p3_support::matrix::{Dimensions, Matrix};
+use p3_support::opening::{BatchOpening, BatchOpeningRef, MerkleCap};
+use p3_support::packed::PackedValue;
+use std::alloc::{AllocError, Global};
+use std::marker::PhantomData;
+
+/// The scheme of a hasher `H` and a compression `C`, with digests `X` and groups `G` of `N` digests. `P` packs the
+/// words of rows, and `PW` those of digests. [`MerkleTreeMmcs`] is this scheme at digests of words.
+///
+/// The arity `N` is a power of two from 2 to 2^62. Both packings have equally many lanes, at least one.
+#[derive(Debug)]
+pub struct Scheme<
+    P: PackedValue,
+    PW: PackedValue,
+    H: CryptographicHasher<P, PW, D>,
+    C: PseudoCompressionFunction<PW, N, D>,
+    X,
+    G,
+    const N: usize,
+    const D: usize,
+> {
+    pub(crate) hash: H,
+    pub(crate) compress: C,
+    pub(crate) cap_height: usize,
+    pub(crate) cap_rule: CapRule,
+    item: PhantomData<(P, PW, X, G)>,
+    ghost arity: { IsArity N },
+    ghost lanes: { P.WIDTH ≡ PW.WIDTH },
+    ghost some_lane: { 1 ≤ P.WIDTH },
+    ghost functions: { Computes (H.hash hash) (C.compression compress) PW.default_value },
+}
+
+/// A scheme that commits to matrices of words `P::Value` by digests of `D` words `PW::Value`, where a node has at most
+/// `N` children (`MerkleTreeMmcs` in Plonky3).
+pub type MerkleTreeMmcs<
+    P: PackedValue,
+    PW: PackedValue,
+    H: CryptographicHasher<P, PW, D>,
+    C: PseudoCompressionFunction<PW, N, D>,
+    const N: usize,
+    const D: usize,
+> = Scheme<P, PW, H, C, [PW::Value; D], [[PW::Value; D]; N], N, D>;
+
+impl<
+    P: PackedValue,
+    PW: PackedValue,
+    H: CryptographicHasher<P, PW, D> + Copy,
+    C: PseudoCompressionFunction<PW, N, D> + Copy,
+    X: Copy,
+    G: Copy,
+    const N: usize,
+    const D: usize,
+> Copy for Scheme<P, PW, H, C, X, G, N, D> {}
+
+/// Clones the hasher and the compression, and copies the cap height and the rule.
+impl<
+    P: PackedValue,
+    PW: PackedValue,
+    H: CryptographicHasher<P, PW, D> + Clone,
+    C: PseudoCompressionFunction<PW, N, D> + Clone,
+    X: Clone,
+    G: Clone,
+    const N: usize,
+    const D: usize,
+> Clone for Scheme<P, PW, H, C, X, G, N, D> {
+    ghost use Rattle.p3_merkle_tree.specs.Schemes.{cap_height_of, cap_rule_of, compression_of, hash_of};
+
+    ghost is_clone = { λ s t. H.is_clone (hash_of s) (hash_of t) ×
+        C.is_clone (compression_of s) (compression_of t) ×
+        (cap_height_of t ≡ cap_height_of s) × (cap_rule_of t ≡ cap_rule_of s) };
+
+    ghost is_infallible = { λ s. H.is_infallible (hash_of s) × C.is_infallible (compression_of s) };
+
+    fn clone(&self) -> Result<Self, AllocError> {
+        Ok(Scheme {
+            hash: self.hash.clone()?,
+            compress: self.compress.clone()?,
+            cap_height: self.cap_height,
+            cap_rule: self.cap_rule,
+            item: PhantomData,
+        })
+    }
+}
+
+impl<
+    P: PackedValue,
+    PW: PackedValue,
+    H: CryptographicHasher<P, PW, D>,
+    C: PseudoCompressionFunction<PW, N, D>,
+    X,
+    G,
+    const N: usize,
+    const D: usize,
+> Scheme<P, PW, H, C, X, G, N, D> {
+    ghost use Rattle.p3_merkle_tree.specs.Schemes.{cap_height_of, cap_rule_of, compression_of, hash_of};
+
+    /// The cap height that was given to [`new`](Self::new), in levels below the root.
+    pub fn cap_height(&self) -> usize
+        ensures { result ≡ cap_height_of self.now }
+    {
+        self.cap_height
+    }
+
+    /// The rule that chooses the cap's layer.
+    pub fn cap_rule(&self) -> CapRule
+        ensures { result ≡ cap_rule_of self.now }
+    {
+        self.cap_rule
+    }
+}
+
+impl<
+    P: PackedValue,
+    PW: PackedValue,
+    H: CryptographicHasher<P, PW, D>,
+    C: PseudoCompressionFunction<PW, N, D>,
+    const N: usize,
+    const D: usize,
+> MerkleTreeMmcs<P, PW, H, C, N, D> {
+    ghost use Rattle.p3_merkle_core.specs.Gate.{gate_refusal};
+    ghost use Rattle.p3_merkle_core.specs.Geometry.{heights, shape_of};
+    ghost use Rattle.p3_merkle_core.specs.Nodes.{shape};
+    ghost use Rattle.p3_merkle_core.specs.Presented.{IsExactVerdict};
+    ghost use Rattle.p3_merkle_core.specs.Refusals.{AnswersUnlessMemory};
+    ghost use Rattle.p3_merkle_core.specs.Views.{opening_made, heights_in};
+    ghost use Rattle.p3_merkle_core.specs.declared.cap.CapRule.TheVariants.{Lowered};
+    ghost use Rattle.p3_merkle_prover.specs.Parts.{matrices_of, tree_batch};
+    ghost use Rattle.p3_merkle_tree.specs.Committed.{presented_one, Commits, Opens};
+    ghost use Rattle.p3_merkle_tree.specs.Schemes.{cap_height_of, cap_rule_of, compression_of, hash_of, params_of};
+    ghost use Rattle.p3_merkle_verifier.specs.Inner.Checks.{params_in};
+    ghost use Rattle.p3_support.specs.Shown.{roots_of};
+
+    /// The scheme of a hasher and a compression. Its cap is the layer `cap_height` levels below the root (0 is the root
+    /// alone), or the highest layer to which a matrix belongs if that is nearer to the root: the leaves if all matrices
+    /// have one height. This is the rule [`CapRule::Lowered`], under which a cap binds every row of every matrix.
+    /// [`new_with_rule`](Self::new_with_rule) also takes the rule of Plonky3.
+    ///
+    /// `N` must be a power of two from 2 to 2^62, and both packings must have equally many lanes, at least one.
+    pub fn new(hash: H, compress: C, cap_height: usize) -> MerkleTreeMmcs<P, PW, H, C, N, D>
+        requires arity { IsTrue (is_arity N) }
+        requires lanes { P.WIDTH ≡ PW.WIDTH }
+        requires some_lane { 1 ≤ P.WIDTH }
+        ensures hash { hash_of result ≡ hash }
+        ensures compress { compression_of result ≡ compress }
+        ensures cap_height { cap_height_of result ≡ cap_height }
+        ensures rule { cap_rule_of result ≡ Lowered }
+    {
+        Self::new_with_rule(hash, compress, cap_height, CapRule::Lowered)
+    }
+
+    /// The scheme with a cap of this height by this rule: see [`CapRule`]. A cap of one rule is in general refused
+    /// under the other. The conditions are those of [`new`](Self::new). It does not allocate.
+    pub fn new_with_rule(
+        hash: H,
+        compress: C,
+        cap_height: usize,
+        rule: CapRule,
+    ) -> MerkleTreeMmcs<P, PW, H, C, N, D>
+        requires arity { IsTrue (is_arity N) }
+        requires lanes { P.WIDTH ≡ PW.WIDTH }
+        requires some_lane { 1 ≤ P.WIDTH }
+        ensures hash { hash_of result ≡ hash }
+        ensures compress { compression_of result ≡ compress }
+        ensures cap_height { cap_height_of result ≡ cap_height }
+        ensures rule { cap_rule_of result ≡ rule }
+    {
+        Scheme {
+            hash,
+            compress,
+            cap_height,
+            cap_rule: rule,
+            item: PhantomData,
+        }
+    }
+
+    /// The checker of openings of a tree over matrices of these dimensions.
+    pub(crate) fn checker<'a>(
+        &'a self,
+        dimensions: &'a [Dimensions],
+    ) -> Checker<'a, P, PW, H, C, [[PW::Value; D]; N], N, D>
+        ensures { params_in result ≡ params_of self.now (shape_of N dimensions.now) }
+    {
+        let steps = steps_of(dimensions, N);
+        let cap_layer = steps.cap_layer(self.cap_rule, self.cap_height);
+        Checker {
+            hash: &self.hash,
+            compress: &self.compress,
+            steps,
+            cap_layer,
+            item: PhantomData,
+        }
+    }
+
+    /// Commits to matrices. Returns the cap of their tree, and the tree, which owns the matrices in input order. The
+    /// cap is a whole layer of digests, padding included.
+    ///
+    /// # Errors
+    ///
+    /// The first of these that applies, where `OutOfMemory` may come at any time:
+    ///
+    /// - `EmptyBatch` if no matrix has a row;
+    /// - `TooLarge` for the first height above 2^62;
+    /// - `IncompatibleHeights` for the first height that is not the tallest one halved and rounded up some number of
+    ///   times.
+    pub fn commit<M: Matrix<P::Value> + Drop>(
+        &self,
+        alloc: Global,
+        matrices: Vec<M>,
+    ) -> Result<
+        (
+            MerkleCap<P::Value, [PW::Value; D]>,
+            MerkleTree<P::Value, PW::Value, M, N, D>,
+        ),
+        MerkleTreeError,
+    >
+        ensures answer { AnswersUnlessMemory result
+            (gate_refusal (heights_in M.height_of M.width_of M.row_of matrices.items)) }
+        ensures matrices { IfOk result (λ (cap, tree). matrices_of tree ≡ matrices.items) }
+        ensures committed { IfOk result (λ (cap, tree). Commits self.now (roots_of cap) tree) }
+    {
+        self.commit_checked(alloc, checked_matrices(alloc, matrices)?)
+    }
+
+    /// Commits to matrices whose heights are checked already, `leaves`, as [`commit`](Self::commit) does.
+    ///
+    /// # Errors
+    ///
+    /// Only `OutOfMemory`.
+    pub fn commit_checked<M: Matrix<P::Value> + Drop>(
+        &self,
+        alloc: Global,
+        leaves: CheckedMatrices<P::Value, M>,
+    ) -> Result<
+        (
+            MerkleCap<P::Value, [PW::Value; D]>,
+            MerkleTree<P::Value, PW::Value, M, N, D>,
+        ),
+        MerkleTreeError,
+    >
+        ensures memory { AnswersUnlessMemory result None }
+        ensures matrices { IfOk result (λ (cap, tree). matrices_of tree ≡ leaves.matrices.items) }
+        ensures committed { IfOk result (λ (cap, tree). Commits self.now (roots_of cap) tree) }
+    {
+        lemma_arity::<N>();
+        let tree = tree_over::<P, PW, H, C, M, N, D>(alloc, &self.hash, &self.compress, leaves)?;
+        let cap_layer = tree_steps(&tree).cap_layer(self.cap_rule, self.cap_height);
+        let cap = cap_at(alloc, &tree, cap_layer)?;
+        Ok((cap, tree))
+    }
+
+    /// Opens the leaf `index` of a tree: the row of each matrix that belongs to the leaf, in input order, and the
+    /// siblings on the leaf's path to the cap.
+    ///
+    /// The index counts rows of the tallest matrix and must be below its height. A matrix whose height is the tallest
+    /// one halved `k` times (rounded up each time) opens its row `index >> k`. The siblings come level by level, from
+    /// the leaves to the cap: the other children of the parent of the path's node, ascending. The opening is accepted
+    /// under the cap of the tree if the tree was built with this scheme's hasher and compression.
+    ///
+    /// # Errors
+    ///
+    /// Only `OutOfMemory`.
+    pub fn open_batch<M: Matrix<P::Value>>(
+        &self,
+        alloc: Global,
+        index: usize,
+        tree: &MerkleTree<P::Value, PW::Value, M, N, D>,
+    ) -> Result<BatchOpening<P::Value, Vec<[PW::Value; D]>>, MerkleTreeError>
+        requires { index < greatest (heights (shape (tree_batch tree.now))) }
+        ensures opened { IfOk result (λ o. Opens self.now tree.now (opening_made index o)) }
+        ensures memory { AnswersUnlessMemory result None }
+    {
+        let steps = tree_steps(tree);
+        let cap_layer = steps.cap_layer(self.cap_rule, self.cap_height);
+        let opened_values = rows_of_index(alloc, tree, index)?;
+        let opening_proof = siblings_of_index(alloc, tree, &steps, index, cap_layer)?;
+        Ok(BatchOpening {
+            opened_values,
+            opening_proof,
+        })
+    }
+
+    /// Verifies an opening of the leaf `index` against a cap: hashes the rows, compresses the digest with its siblings
+    /// level by level, and compares the last digest with the cap's entry above the leaf. It does not allocate.
+    ///
+    /// An accepted opening has one row for each of `dimensions`, of that width. For each level below the cap it has the
+    /// siblings of the path's node. `dimensions` are those of the matrices, in input order. They must come from the
+    /// verifier, never from the proof: a cap does not bind them. Under the rule `Fixed` the rows of a matrix above the
+    /// cap's layer are never hashed, and only their width is checked; under `Lowered` there is no such matrix.
+    ///
+    /// # Errors
+    ///
+    /// The first of these that applies:
+    ///
+    /// - `WrongBatchSize`: the number of rows is not that of the dimensions;
+    /// - `EmptyBatch`, `TooLarge` or `IncompatibleHeights`: [`commit`](Self::commit) refuses such heights;
+    /// - `WrongHeight`: the number of siblings is not what the levels below the cap need;
+    /// - `WrongWidth`, for the first row whose length is not the width of its matrix;
+    /// - `IndexOutOfBounds`: the index is not below the tallest height;
+    /// - `CapMismatch`: the cap has no entry above the leaf, or another digest than the one computed.
+    pub fn verify_batch(
+        &self,
+        commit: &MerkleCap<P::Value, [PW::Value; D]>,
+        dimensions: &[Dimensions],
+        index: usize,
+        opening: BatchOpeningRef<'_, P::Value, Vec<[PW::Value; D]>>,
+    ) -> Result<(), MerkleTreeError>
+        ensures { IsExactVerdict (presented_one self.now dimensions.now commit.now index opening.entry) result }
+    {
+        let opening = OpeningRef::new(index, opening);
+        self.checker(dimensions)
+            .check_opening(commit.roots(), opening)
+    }
+}
+
+/// States that an arity, a power of two from 2 to 2^62, passes the test of arities.
+fn lemma_arity<const N: usize>()
+    requires { IsArity N }
+    ensures { IsTrue (is_arity N) }
+{}
