@@ -8,7 +8,7 @@ use crate::case::{Case, Fault};
 use crate::matrices::matrices_by;
 use crate::scheme::{Cap, FoldScheme, fold_scheme};
 use p3_hashes::fold::{FoldCompress, FoldHash};
-use p3_merkle_core::steps::check_heights;
+use p3_merkle_core::gate::check_heights;
 use p3_merkle_tree::{BatchOpeningRef, CapRule, MerkleCap, MerkleTree, MerkleTreeError};
 use p3_support::matrix::{Dimensions, Matrix};
 use std::alloc::{AllocError, Global};

@@ -2,7 +2,7 @@
 
 use crate::case::Fault;
 use crate::field::Item;
-use p3_merkle_core::steps::check_heights;
+use p3_merkle_core::gate::check_heights;
 use p3_support::matrix::Dimensions;
 use rand_chacha::ChaCha20Rng;
 use rand_core::{Rng, SeedableRng};

@@ -10,7 +10,7 @@ use crate::opened::{Committed, accepted, accepted_leaves, commit_shown};
 use crate::queries::{batches_in, lists_in};
 use crate::scheme::{Cap, FoldScheme, Tried, fold_scheme};
 use p3_merkle_core::geometry::exponent_of;
-use p3_merkle_core::steps::steps_of;
+use p3_merkle_core::schedule::schedule_of;
 use p3_merkle_tree::{BatchOpeningRef, InputPair, MerkleTreeError, Place};
 use p3_support::matrix::Dimensions;
 use std::alloc::Global;
@@ -66,7 +66,7 @@ fn twin_places<T: Word, const N: usize>(
     dimensions: &[Dimensions],
 ) -> Result<Vec<Option<Place>>, MerkleTreeError> {
     let steps = plain.proof_arity_schedule(alloc, dimensions)?;
-    let leaves = steps_of(dimensions, 2).exponent;
+    let leaves = schedule_of(dimensions, 2).exponent;
     let mut places = Vec::new(alloc);
     for Dimensions { width, height } in dimensions {
         if !T::HAS_TWINS || *width < 2 {

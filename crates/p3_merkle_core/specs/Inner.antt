@@ -2,7 +2,7 @@
 pub mod Agreement
 pub mod Children
 pub mod Exponents
-pub mod Steps
+pub mod Schedules
 pub mod Levels
 pub mod Shapes
 pub mod Covered

@@ -120,7 +120,7 @@ pub fn collision_eq<P: PackedValue, PW: PackedValue, const D: usize>(
 /// - `schedule`: the steps below a cap are the first of all steps;
 /// - `layers`: each matrix has a layer of its exponent;
 /// - `rows`: for lawful heights the row of an index in a matrix has the number of the index's ancestor in that layer;
-/// - `gate`: [`check_heights`](crate::steps::check_heights) accepts exactly the lawful heights.
+/// - `gate`: [`check_heights`](crate::gate::check_heights) accepts exactly the lawful heights.
 pub fn shape()
     ensures arities { TestedIsArity }
     ensures ends { WalkEnds }

@@ -15,10 +15,13 @@
 
 pub mod cap;
 pub mod collision;
+pub mod covered_nodes;
 pub mod error;
+pub mod gate;
 pub mod geometry;
 pub mod group;
 pub mod laws;
-pub mod levels;
+pub mod layer_shape;
 pub mod pruning;
-pub mod steps;
+pub mod schedule;
+

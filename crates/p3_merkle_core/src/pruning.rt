@@ -27,7 +27,9 @@ ghost use Rattle.p3_merkle_core.specs.declared.error.MerkleTreeError.TheVariants
 
 use crate::error::{MerkleTreeError, PrunedProofError};
 use crate::geometry::{check_widths, exponent_of, parent_of, position_of};
-use crate::steps::{Covered, Steps, check_heights};
+use crate::covered_nodes::Covered;
+use crate::gate::check_heights;
+use crate::schedule::Schedule;
 use p3_support::matrix::Dimensions;
 use std::alloc::{AllocError, Global};
 
@@ -268,34 +270,34 @@ fn list_matrices(
 /// `cap_layer`, else `InconsistentGroupOpening`. `rows` has the row set of each query, with a row for each matrix.
 fn check_shared_rows<T: Eq>(
     alloc: Global,
-    steps: &Steps<'_>,
+    schedule: &Schedule<'_>,
     cap_layer: usize,
     queried: &DistinctQueries,
     rows: &[Vec<Vec<T>>],
 ) -> Result<(), MerkleTreeError>
-    requires arity { IsArity steps.now.arity }
-    requires low { greatest (heights_of steps.now.dimensions.now) ≤ height_limit }
-    requires below { All (λ i. i < greatest (heights_of steps.now.dimensions.now)) queried.now.indices.items }
-    requires layer { cap_layer ≤ steps.now.num_levels }
+    requires arity { IsArity schedule.now.arity }
+    requires low { greatest (heights_of schedule.now.dimensions.now) ≤ height_limit }
+    requires below { All (λ i. i < greatest (heights_of schedule.now.dimensions.now)) queried.now.indices.items }
+    requires layer { cap_layer ≤ schedule.now.num_levels }
     requires pairs { length queried.now.indices.items ≡ length queried.now.first_queries.items }
     requires ascending { IsStrictlyIncreasing queried.now.indices.items }
     requires queries { All (λ query. query < length rows.now) queried.now.first_queries.items }
     requires full { (k : ℕ) → k < length queried.now.first_queries.items →
-        length (slot_rows queried.now.first_queries.items (row_sets rows.now) k) ≡ length steps.now.dimensions.now }
-    ensures { let s = shape_of steps.now.arity steps.now.dimensions.now in
+        length (slot_rows queried.now.first_queries.items (row_sets rows.now) k) ≡ length schedule.now.dimensions.now }
+    ensures { let s = shape_of schedule.now.arity schedule.now.dimensions.now in
         let refusal = layers_refusal T.eq s cap_layer queried.now.indices.items queried.now.first_queries.items
         (row_sets rows.now) in
         AnswersUnlessMemory result refusal }
 {
     let mut matrices = Vec::new(alloc);
-    let mut exponent = steps.exponent;
+    let mut exponent = schedule.exponent;
     // No two slots are under one leaf, so the first layer to look at is the one above the leaves.
     for level in 0..cap_layer {
-        let up = steps.step_up(steps.arity, level, exponent);
+        let up = schedule.step_up(schedule.arity, level, exponent);
         exponent = up.exponent;
         if up.has_rows {
-            list_matrices(&mut matrices, steps.dimensions, exponent)?;
-            let bits = steps.exponent - exponent;
+            list_matrices(&mut matrices, schedule.dimensions, exponent)?;
+            let bits = schedule.exponent - exponent;
             check_rows_under_nodes(
                 &matrices,
                 &queried.indices,
@@ -331,46 +333,46 @@ fn check_shared_rows<T: Eq>(
 ///   layer's matrices, a row is not that of the lowest index under the same node.
 pub fn check_pruned<T: Eq>(
     alloc: Global,
-    steps: &Steps<'_>,
+    schedule: &Schedule<'_>,
     cap_layer: usize,
     indices: &[usize],
     rows: &[Vec<Vec<T>>],
     num_digests: usize,
 ) -> Result<DistinctQueries, MerkleTreeError>
-    requires arity { IsArity steps.now.arity }
-    requires layer { cap_layer ≤ steps.now.num_levels }
-    ensures { let refusal = pruned_refusal T.eq (shape_of steps.now.arity steps.now.dimensions.now) cap_layer
+    requires arity { IsArity schedule.now.arity }
+    requires layer { cap_layer ≤ schedule.now.num_levels }
+    ensures { let refusal = pruned_refusal T.eq (shape_of schedule.now.arity schedule.now.dimensions.now) cap_layer
         (opened_with indices.now (row_sets rows.now) num_digests) in
         MatchResult result (λ queried. (refusal ≡ None) × AreDistinctOf queried indices.now)
         (λ e. (e ≡ OutOfMemory) ⊎ (refusal ≡ Some e)) }
 {
-    check_queries(steps, indices, rows.len(), num_digests)?;
+    check_queries(schedule, indices, rows.len(), num_digests)?;
     let queried = distinct_queries_of(alloc, indices)?;
     check_repeats(indices, rows, &queried)?;
     let leaves = Vec::from_slice(alloc, &queried.indices)?;
-    let covered = Covered::new(steps, indices, leaves);
+    let covered = Covered::new(schedule, indices, leaves);
     check_digest_count(covered.boundary_len(cap_layer), num_digests)?;
     for query in &queried.first_queries {
-        check_widths(steps.dimensions, &rows[*query])?;
+        check_widths(schedule.dimensions, &rows[*query])?;
     }
-    check_shared_rows(alloc, steps, cap_layer, &queried, rows)?;
+    check_shared_rows(alloc, schedule, cap_layer, &queried, rows)?;
     Ok(queried)
 }
 
 /// Checks, in this order: the heights; that there is a row set for each index; that there is no digest where there is
 /// no index; and that each index is below the tallest height. It does not allocate.
 fn check_queries(
-    steps: &Steps<'_>,
+    schedule: &Schedule<'_>,
     indices: &[usize],
     num_row_sets: usize,
     num_digests: usize,
 ) -> Result<(), MerkleTreeError>
-    ensures answer { let heights = heights_of steps.now.dimensions.now in
+    ensures answer { let heights = heights_of schedule.now.dimensions.now in
         let refusal = early_refusal heights indices.now num_row_sets num_digests in
         MatchResult result (λ ok. refusal ≡ None) (λ e. refusal ≡ Some e) }
-    ensures low { IfOk result (λ ok. greatest (heights_of steps.now.dimensions.now) ≤ height_limit) }
+    ensures low { IfOk result (λ ok. greatest (heights_of schedule.now.dimensions.now) ≤ height_limit) }
 {
-    check_heights(steps.dimensions)?;
+    check_heights(schedule.dimensions)?;
     let (expected, got) = (indices.len(), num_row_sets);
     if got != expected {
         return Err(MerkleTreeError::WrongBatchSize { expected, got });
@@ -378,7 +380,7 @@ fn check_queries(
     if indices.is_empty() {
         check_digest_count(0, num_digests)?;
     }
-    check_indices(steps.max_height, indices)
+    check_indices(schedule.max_height, indices)
 }
 
 /// Checks that a proof has `expected` digests, where it has `got`, else `SiblingCountMismatch`.

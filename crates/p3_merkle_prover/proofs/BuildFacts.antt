@@ -12,7 +12,7 @@ use Rattle.p3_merkle_core.specs.Geometry.{padded_len, height_limit, IsLawful}
 use Rattle.p3_merkle_core.specs.Inner.Levels.{IsBelowTop, IsLevel}
 use Rattle.p3_merkle_core.specs.Nodes.{Functions, Batch, shape, layer, layers, node}
 use Rattle.p3_merkle_core.specs.Views.{batch_of}
-use Rattle.p3_merkle_core.specs.declared.levels.Level.{Level}
+use Rattle.p3_merkle_core.specs.declared.layer_shape.LayerShape.{LayerShape}
 use Rattle.p3_merkle_core.proofs.Shapes.LevelFacts.{low}
 use Rattle.p3_merkle_prover.specs.Inner.Levels.{CanBuild}
 use Rattle.p3_merkle_prover.proofs.LayerFacts.{layer_first}
@@ -25,7 +25,7 @@ pub record IsBuilt {T W : Type 0} (f : Functions T W) (b : Batch T) (l x len : �
   pub are_layers : made ≡ map (layer f b) (range_with_len 0 (suc l))
 
 -- a level of the batch's tree, and the layer below it
-pub record CanRaise {T W : Type 0} (f : Functions T W) (b : Batch T) (v : Level) (below : List (List W)) : Type 0 where
+pub record CanRaise {T W : Type 0} (f : Functions T W) (b : Batch T) (v : LayerShape) (below : List (List W)) : Type 0 where
   pub lawful : IsLawful (heights (shape b))
   pub level : IsLevel (shape b) v
   pub is_below : below ≡ layer f b v.below
@@ -82,7 +82,7 @@ module _ {T W : Type 0} {f : Functions T W} {b : Batch T} {l x len : ℕ} where
 
   -- one layer more
   pub built_more : {made : List (List (List W))} → IsBuilt f b l x len made → (below nodes : List (List W))
-      (level : Level) → CanRaise f b level below → level.below ≡ l → nodes ≡ layer f b (suc level.below) →
+      (level : LayerShape) → CanRaise f b level below → level.below ≡ l → nodes ≡ layer f b (suc level.below) →
       IsBuilt f b (l + 1) level.exponent level.raw_len (made ++ nodes ∷ [])
   built_more k below nodes level w at e =
       let next : suc level.below ≡ l + 1 = omega (arith, at) in
@@ -113,7 +113,7 @@ layers_long {f = f} {b = b} {l = l} vs k = sym (length-map vs (λ nodes. nodes.i
 
 -- the last of the layers so far, and the level above it
 pub can_raise : {T W A : Type 0} {f : Functions T W} {b : Batch T} {ds : List Dimensions} {l x len arity : ℕ}
-    (vs : List (Vec (List W) A)) {v : Vec (List W) A} {below : List (List W)} {level : Level} → CanBuild b ds →
+    (vs : List (Vec (List W) A)) {v : Vec (List W) A} {below : List (List W)} {level : LayerShape} → CanBuild b ds →
     IsBuilt f b l x len (map (λ nodes. nodes.items) vs) → arity ≡ b.arity → IsLevel (shape_of arity ds) level →
     level.below ≡ l → v ≡ get_or vs l v → below ≡ v.items → CanRaise f b level below
 can_raise {f = f} {b = b} {ds = ds} {l = l} vs {v = v} {level = level} w k of is at read shown =
@@ -130,7 +130,7 @@ can_raise {f = f} {b = b} {ds = ds} {l = l} vs {v = v} {level = level} w k of is
     }
 
 -- which has as many slots as the dimensions give it
-pub slots_are : {T W : Type 0} {f : Functions T W} {b : Batch T} {ds : List Dimensions} {arity : ℕ} {level : Level}
+pub slots_are : {T W : Type 0} {f : Functions T W} {b : Batch T} {ds : List Dimensions} {arity : ℕ} {level : LayerShape}
     {below : List (List W)} → CanBuild b ds → arity ≡ b.arity → CanRaise f b level below →
     length below ≡ layer_len (shape_of arity ds) level.below
 slots_are {f = f} {b = b} {ds = ds} {level = level} w of k =

@@ -17,7 +17,7 @@ use Rattle.p3_merkle_core.specs.Geometry.{has_rows, IsLawful, height_at}
 use Rattle.p3_merkle_core.specs.Nodes.{Functions, Batch, layer}
 use Rattle.p3_merkle_core.specs.Nodes.{shape, at_layer, joined_rows, row_digest, with_rows, compress_padded, node}
 use Rattle.p3_merkle_core.specs.Inner.Levels.{IsLevel}
-use Rattle.p3_merkle_core.specs.declared.levels.Level.{Level}
+use Rattle.p3_merkle_core.specs.declared.layer_shape.LayerShape.{LayerShape}
 use Rattle.p3_merkle_core.specs.Openings.{children_by}
 use Rattle.p3_merkle_core.proofs.Checks.Completeness.{node_next}
 use Rattle.p3_merkle_core.proofs.Shapes.StepFacts.{layer_start}
@@ -230,7 +230,7 @@ module _ {T W M : Type 0} (f : Functions T W) (n : ℕ) (height width_of : M →
         heights_are w.on_ladder
 
     -- a node is built as it is defined
-    built_is : (v : Level) (below : List (List W)) (j : ℕ) → IsLevel (shape whole) v →
+    built_is : (v : LayerShape) (below : List (List W)) (j : ℕ) → IsLevel (shape whole) v →
         IsLawful (heights (shape whole)) →
         below ≡ layer f whole v.below → j < v.raw_len →
         node_above f n (leaf_above v.height) v.has_rows j (take v.step (drop (v.step * j) below))
@@ -259,7 +259,7 @@ module _ {T W M : Type 0} (f : Functions T W) (n : ℕ) (height width_of : M →
         ∙ sym (node_next f whole l j (omega (arith, k.raw_is))))
 
     -- the layer above a layer of the definition is the definition's
-    pub layer_next : (v : Level) (below : List (List W)) → IsLevel (shape whole) v → IsLawful (heights (shape whole)) →
+    pub layer_next : (v : LayerShape) (below : List (List W)) → IsLevel (shape whole) v → IsLawful (heights (shape whole)) →
         below ≡ layer f whole v.below →
         map (λ j. cond (nat_lt j v.raw_len)
         (node_above f n (leaf_above v.height) v.has_rows j (take v.step (drop (v.step * j) below))) f.default_digest)

@@ -5,11 +5,11 @@ use Rattle.std.proofs.Math.Nat.{mul-add, mul-le-mul_left, mul-suc}
 use Rattle.std.proofs.lemmas.Bool.{lt-ltb}
 use Rattle.std.proofs.lemmas.List.{drop-drop, length-take-le, take_all}
 use Rattle.p3_merkle_core.specs.Nodes.{Functions, compress_padded}
-use Rattle.p3_merkle_core.specs.declared.levels.Level.{Level}
+use Rattle.p3_merkle_core.specs.declared.layer_shape.LayerShape.{LayerShape}
 use Rattle.p3_merkle_prover.specs.Inner.Levels.{slot_above, HasChildren}
 
 -- the children of node j in the layer from those of the first node on
-pub children_from : {T W : Type 0} (f : Functions T W) (n : ℕ) (v : Level) (below : List (List W)) (first j : ℕ) →
+pub children_from : {T W : Type 0} (f : Functions T W) (n : ℕ) (v : LayerShape) (below : List (List W)) (first j : ℕ) →
     f.compression (take v.step (drop (v.step * j)
     (take (length below - v.step * first) (drop (v.step * first) below))) ++ replicate (n - v.step) f.default_digest)
     ≡ f.compression (take v.step (drop (v.step * (first + j)) below) ++ replicate (n - v.step) f.default_digest)
@@ -21,7 +21,7 @@ children_from f n v below first j =
     (ap (drop (v.step * j)) all ∙ drop-drop (v.step * j) from below
     ∙ ap (λ i. drop i below) (sym (mul-add v.step first j)))
 
-module _ {T W : Type 0} (f : Functions T W) (n : ℕ) (leaf : ℕ → List W) (v : Level) (below : List (List W))
+module _ {T W : Type 0} (f : Functions T W) (n : ℕ) (leaf : ℕ → List W) (v : LayerShape) (below : List (List W))
     (w : HasChildren n v (length below)) (j : ℕ) (inside : j < v.raw_len)
   where
     -- the children of node j

@@ -10,10 +10,11 @@ ghost use Rattle.p3_merkle_core.specs.Refusals.{AnswersUnlessMemory};
 ghost use Rattle.p3_merkle_core.specs.Views.{heights_in};
 ghost use Rattle.p3_merkle_prover.specs.Parts.{layers_of, matrices_of, tree_batch};
 
-use crate::layers::TreeBuilder;
+use crate::layers::MerkleTreeBuilder;
 use crate::tree::{MerkleTree, Tree};
 use p3_merkle_core::error::MerkleTreeError;
-use p3_merkle_core::steps::{OwnedSteps, check_heights};
+use p3_merkle_core::gate::check_heights;
+use p3_merkle_core::schedule::OwnedSchedule;
 use p3_support::compress::PseudoCompressionFunction;
 use p3_support::hasher::CryptographicHasher;
 use p3_support::matrix::{Dimensions, Matrix, dimensions_of};
@@ -90,19 +91,19 @@ pub fn tree_over<
         dimensions,
         ..
     } = leaves;
-    let kept = OwnedSteps::new(dimensions, N);
-    let steps = kept.steps();
-    let builder = TreeBuilder::<P, PW, H, C, M, N, D> {
+    let kept = OwnedSchedule::new(dimensions, N);
+    let schedule = kept.schedule();
+    let builder = MerkleTreeBuilder::<P, PW, H, C, M, N, D> {
         hash,
         compress,
         matrices: &matrices,
-        steps: &steps,
+        schedule: &schedule,
         item: PhantomData,
     };
     let layers = builder.layers(alloc)?;
     Ok(Tree {
         matrices,
-        steps: kept,
+        schedule: kept,
         layers,
         item: PhantomData,
     })

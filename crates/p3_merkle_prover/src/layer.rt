@@ -12,7 +12,7 @@ ghost use Rattle.p3_merkle_core.specs.Computed.{Computes};
 ghost use Rattle.p3_merkle_prover.specs.Inner.Levels.{HasChildren};
 ghost use Rattle.p3_merkle_digests.specs.Inner.Slots.{IsFilled};
 
-use p3_merkle_core::levels::Level;
+use p3_merkle_core::layer_shape::LayerShape;
 use p3_merkle_digests::batched::{LayerRows, compress_children, inject_row_digests};
 use p3_merkle_digests::packed::{
     compress_children_packed, compress_pairs_packed, packed_block_count,
@@ -27,7 +27,7 @@ use std::marker::PhantomData;
 /// Builds a layer above the layer below it, over the rows of its matrices, with a compression of `N` digests for nodes.
 /// `X` is the type of a digest, and `G` that of a group. [`LayerBuilder`] is this builder at digests of words.
 #[derive(Drop)]
-pub(crate) struct LayerOver<
+pub(crate) struct GenericLayerBuilder<
     'a,
     'b,
     P: PackedValue,
@@ -45,7 +45,7 @@ pub(crate) struct LayerOver<
     /// The compression of the children of a node.
     pub compress: &'a C,
     /// The step from the layer below, and the shape of the layer.
-    pub level: Level,
+    pub level: LayerShape,
     /// The digests of the layer below.
     pub below: &'b [X],
     /// Marks the type of a group.
@@ -66,7 +66,7 @@ pub(crate) type LayerBuilder<
     M: Matrix<P::Value>,
     const N: usize,
     const D: usize,
-> = LayerOver<'a, 'b, P, PW, H, C, M, [PW::Value; D], [[PW::Value; D]; N], N, D>;
+> = GenericLayerBuilder<'a, 'b, P, PW, H, C, M, [PW::Value; D], [[PW::Value; D]; N], N, D>;
 
 /// Scratch memory that all layers of a tree share. What it holds between two layers does not matter.
 #[derive(Drop)]
@@ -91,9 +91,9 @@ impl<T, X, G> Buffers<T, X, G> {
 }
 
 /// States that the children of the `count` nodes from `first` on lie within the layer below, which has the children of
-/// each node one after another, so that [`write_batched`](LayerOver::write_batched) may begin to read there. `arity` is
+/// each node one after another, so that [`write_batched`](GenericLayerBuilder::write_batched) may begin to read there. `arity` is
 /// the most children that a node has.
-fn lemma_children_from<X>(arity: usize, level: &Level, below: &[X], first: usize, count: usize)
+fn lemma_children_from<X>(arity: usize, level: &LayerShape, below: &[X], first: usize, count: usize)
     requires children { HasChildren arity level.now (length below.now) }
     requires nodes { first + count ≤ level.now.raw_len }
     ensures { level.now.step * first + level.now.step * count ≤ length below.now }

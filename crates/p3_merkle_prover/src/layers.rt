@@ -13,8 +13,8 @@ ghost use Rattle.p3_merkle_prover.specs.Inner.Levels.{CanBuild, HasChildren};
 
 use crate::layer::{Buffers, LayerBuilder};
 use p3_merkle_core::geometry::padded_len;
-use p3_merkle_core::levels::Level;
-use p3_merkle_core::steps::Steps;
+use p3_merkle_core::layer_shape::LayerShape;
+use p3_merkle_core::schedule::Schedule;
 use p3_merkle_digests::batched::LayerRows;
 use p3_support::compress::PseudoCompressionFunction;
 use p3_support::hasher::CryptographicHasher;
@@ -26,10 +26,10 @@ use std::marker::PhantomData;
 /// Builds the layers of a tree, with a hasher for rows and a compression of `N` digests for nodes. `G` is the type of a
 /// group. [`TreeBuilder`] is this builder at digests of words.
 ///
-/// `N` is a power of two from 2 to 2^62, [`check_heights`](p3_merkle_core::steps::check_heights) accepts the heights,
+/// `N` is a power of two from 2 to 2^62, [`check_heights`](p3_merkle_core::gate::check_heights) accepts the heights,
 /// and both packings have equally many lanes.
 #[derive(Drop)]
-pub(crate) struct TreeOver<
+pub(crate) struct GenericTreeBuilder<
     'a,
     P: PackedValue,
     PW: PackedValue,
@@ -47,17 +47,17 @@ pub(crate) struct TreeOver<
     /// The matrices, in input order.
     pub matrices: &'a [M],
     /// The steps of the tree.
-    pub steps: &'a Steps<'a>,
+    pub schedule: &'a Schedule<'a>,
     /// Marks the packings of words and the type of a group.
     pub item: PhantomData<(P, PW, G)>,
     ghost lanes: { P.WIDTH ≡ PW.WIDTH },
-    ghost build: { CanBuild (batch_of M.height_of M.width_of M.row_of N matrices.now) steps.now.dimensions.now },
-    ghost arity: { steps.now.arity ≡ N },
+    ghost build: { CanBuild (batch_of M.height_of M.width_of M.row_of N matrices.now) schedule.now.dimensions.now },
+    ghost arity: { schedule.now.arity ≡ N },
     ghost functions: { Computes (H.hash hash.now) (C.compression compress.now) PW.default_value },
 }
 
 /// The builder of layers whose digests have `D` words.
-pub(crate) type TreeBuilder<
+pub(crate) type MerkleTreeBuilder<
     'a,
     P: PackedValue,
     PW: PackedValue,
@@ -66,7 +66,7 @@ pub(crate) type TreeBuilder<
     M: Matrix<P::Value>,
     const N: usize,
     const D: usize,
-> = TreeOver<'a, P, PW, H, C, M, [[PW::Value; D]; N], N, D>;
+> = GenericTreeBuilder<'a, P, PW, H, C, M, [[PW::Value; D]; N], N, D>;
 
 /// Replaces the contents of `picked` by the matrices that have `height` rows, in input order.
 fn pick_matrices<'a, T, M: Matrix<T>>(
@@ -95,10 +95,10 @@ fn default_digests<PW: PackedValue, const D: usize>(
 }
 
 /// States that a layer `below`, padding included, has the children of each node of the layer above, `level`.
-fn lemma_children<X>(steps: &Steps<'_>, level: &Level, below: &[X])
-    requires level { IsLevel (shape_of steps.now.arity steps.now.dimensions.now) level.now }
-    requires slots { length below.now ≡ layer_len (shape_of steps.now.arity steps.now.dimensions.now) level.now.below }
-    ensures { HasChildren steps.now.arity level.now (length below.now) }
+fn lemma_children<X>(schedule: &Schedule<'_>, level: &LayerShape, below: &[X])
+    requires level { IsLevel (shape_of schedule.now.arity schedule.now.dimensions.now) level.now }
+    requires slots { length below.now ≡ layer_len (shape_of schedule.now.arity schedule.now.dimensions.now) level.now.below }
+    ensures { HasChildren schedule.now.arity level.now (length below.now) }
 {}
 
 impl<
@@ -110,7 +110,7 @@ impl<
     M: Matrix<P::Value>,
     const N: usize,
     const D: usize,
-> TreeBuilder<'a, P, PW, H, C, M, N, D> {
+> MerkleTreeBuilder<'a, P, PW, H, C, M, N, D> {
     ghost use Rattle.p3_merkle_prover.specs.Inner.Slots.{batch_for, functions_for, layer_above};
 
     /// The leaves: the digests of the rows of the tallest matrices, then default digests. `picked` and `buffers` are
@@ -123,7 +123,7 @@ impl<
     ) -> Result<Vec<[PW::Value; D]>, AllocError>
         ensures { IfOk result (λ v. v.items ≡ layer (functions_for self.now) (batch_for self.now) 0) }
     {
-        let height = self.steps.max_height;
+        let height = self.schedule.max_height;
         pick_matrices(picked, self.matrices, height)?;
         let rows = LayerRows {
             hash: self.hash,
@@ -142,10 +142,10 @@ impl<
         alloc: Global,
         picked: &mut Vec<&'a M>,
         buffers: &mut Buffers<P::Value, [PW::Value; D], [[PW::Value; D]; N]>,
-        level: Level,
+        level: LayerShape,
         below: &[[PW::Value; D]],
     ) -> Result<Vec<[PW::Value; D]>, AllocError>
-        requires { HasChildren self.now.steps.now.arity level (length below.now) }
+        requires { HasChildren self.now.schedule.now.arity level (length below.now) }
         ensures { IfOk result (λ v. v.items ≡ layer_above self.now level below.now) }
     {
         pick_matrices(picked, self.matrices, level.height)?;
@@ -172,17 +172,17 @@ impl<
         ensures { let all = layers_over (functions_for self.now) (batch_for self.now) in
             IfOk result (λ layers. map (λ nodes. nodes.items) layers.items ≡ all) }
     {
-        let mut exponent = self.steps.exponent;
-        let mut len = self.steps.max_height;
+        let mut exponent = self.schedule.exponent;
+        let mut len = self.schedule.max_height;
         let mut picked = Vec::new(alloc);
         let mut buffers = Buffers::new(alloc);
         let leaves = self.leaf_layer(alloc, &mut picked, &mut buffers)?;
-        let mut layers = Vec::with_capacity(alloc, self.steps.num_levels + 1)?;
+        let mut layers = Vec::with_capacity(alloc, self.schedule.num_levels + 1)?;
         layers.push(leaves)?;
-        for below in 0..self.steps.num_levels {
-            let level = self.steps.level_from(below, exponent, len);
+        for below in 0..self.schedule.num_levels {
+            let level = self.schedule.level_from(below, exponent, len);
             let nodes = layers[below].as_slice();
-            lemma_children(self.steps, &level, nodes);
+            lemma_children(self.schedule, &level, nodes);
             let layer = self.next_layer(alloc, &mut picked, &mut buffers, level, nodes)?;
             layers.push(layer)?;
             exponent = level.exponent;

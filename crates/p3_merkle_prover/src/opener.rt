@@ -16,23 +16,23 @@ use crate::tree::{MerkleTree, Tree};
 use p3_merkle_core::error::MerkleTreeError;
 use p3_merkle_core::geometry::{bits_reduced_of, parent_of, position_of};
 use p3_merkle_core::pruning::extend_except;
-use p3_merkle_core::steps::Steps;
+use p3_merkle_core::schedule::Schedule;
 use p3_support::matrix::Matrix;
 use p3_support::opening::MerkleCap;
 use std::alloc::{AllocError, Global};
 
 /// The steps of a tree, from the leaves to the root, which it stores.
-pub fn tree_steps<F, X, G, M: Matrix<F>, const N: usize>(tree: &Tree<F, X, G, M, N>) -> Steps<'_>
+pub fn tree_schedule<F, X, G, M: Matrix<F>, const N: usize>(tree: &Tree<F, X, G, M, N>) -> Schedule<'_>
     ensures { shape_of result.arity result.dimensions.now ≡ shape (tree_batch tree.now) }
 {
-    tree.steps.steps()
+    tree.schedule.schedule()
 }
 
 /// The height of the tallest matrix of a tree, in rows. It is the number of leaves, without padding.
 pub fn max_height<F, X, G, M: Matrix<F>, const N: usize>(tree: &Tree<F, X, G, M, N>) -> usize
     ensures { result ≡ greatest (heights (shape (tree_batch tree.now))) }
 {
-    tree.steps.max_height
+    tree.schedule.max_height
 }
 
 /// The cap that is layer `layer` of a tree, padding included. `layer` must be at most the number of levels.
@@ -105,11 +105,11 @@ pub fn matrix_refs<'a, F, X, G, M: Matrix<F>, const N: usize>(
 pub fn siblings_of_index<F, X: Copy, G, M: Matrix<F>, const N: usize>(
     alloc: Global,
     tree: &Tree<F, X, G, M, N>,
-    steps: &Steps<'_>,
+    schedule: &Schedule<'_>,
     index: usize,
     layer: usize,
 ) -> Result<Vec<X>, MerkleTreeError>
-    requires own { shape_of steps.now.arity steps.now.dimensions.now ≡ shape (tree_batch tree.now) }
+    requires own { shape_of schedule.now.arity schedule.now.dimensions.now ≡ shape (tree_batch tree.now) }
     requires index { index < greatest (heights (shape (tree_batch tree.now))) }
     requires layer { layer ≤ levels (shape (tree_batch tree.now)) }
     ensures siblings { (d : X) → let own = siblings_by (node_in d (layers_of tree.now))
@@ -117,10 +117,10 @@ pub fn siblings_of_index<F, X: Copy, G, M: Matrix<F>, const N: usize>(
         IfOk result (λ siblings. siblings.items ≡ own) }
     ensures memory { AnswersUnlessMemory result None }
 {
-    let mut siblings = Vec::with_capacity(alloc, steps.siblings_below(layer))?;
+    let mut siblings = Vec::with_capacity(alloc, schedule.siblings_below(layer))?;
     let mut node = index;
     for level in 0..layer {
-        let step = steps.step(level);
+        let step = schedule.step(level);
         let position = position_of(node, step);
         let first = node - position;
         let group = &tree.layers[level][first..first + step];

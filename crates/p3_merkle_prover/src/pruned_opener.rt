@@ -15,12 +15,12 @@ ghost use Rattle.p3_support.specs.Shown.{row_sets};
 ghost use Rattle.p3_merkle_prover.specs.Inner.Own.{others_beside};
 ghost use Rattle.p3_merkle_prover.specs.Parts.{layers_of, tree_batch};
 
-use crate::opener::{rows_of_index, tree_steps};
+use crate::opener::{rows_of_index, tree_schedule};
 use crate::tree::Tree;
 use p3_merkle_core::error::MerkleTreeError;
 use p3_merkle_core::geometry::position_of;
 use p3_merkle_core::pruning::{distinct_indices, extend_except};
-use p3_merkle_core::steps::Covered;
+use p3_merkle_core::covered_nodes::Covered;
 use p3_support::matrix::Matrix;
 use std::alloc::Global;
 
@@ -67,12 +67,12 @@ pub fn boundary_digests<F, X: Copy, G, M: Matrix<F>, const N: usize>(
         IfOk result (λ digests. digests.items ≡ own) }
     ensures memory { AnswersUnlessMemory result None }
 {
-    let steps = tree_steps(tree);
-    let mut covered = Covered::new(&steps, indices, distinct_indices(alloc, indices)?);
+    let schedule = tree_schedule(tree);
+    let mut covered = Covered::new(&schedule, indices, distinct_indices(alloc, indices)?);
     let len = covered.clone(alloc)?.boundary_len(cap_layer);
     let mut digests = Vec::with_capacity(alloc, len)?;
     for level in 0..cap_layer {
-        let step = steps.step(level);
+        let step = schedule.step(level);
         extend_with_boundary(&mut digests, &tree.layers[level], &covered.nodes, step)?;
         covered.climb();
     }

@@ -14,7 +14,7 @@ ghost use Rattle.p3_merkle_core.specs.Views.{batch_of, ClonesShowTheSame};
 use crate::checked::{checked_matrices, tree_over};
 use crate::opener::cap_at;
 use p3_merkle_core::error::MerkleTreeError;
-use p3_merkle_core::steps::OwnedSteps;
+use p3_merkle_core::schedule::OwnedSchedule;
 use p3_support::compress::PseudoCompressionFunction;
 use p3_support::hasher::CryptographicHasher;
 use p3_support::matrix::Matrix;
@@ -31,14 +31,14 @@ use std::marker::PhantomData;
 #[derive(Debug, Drop)]
 pub struct Tree<F, X, G, M: Matrix<F>, const N: usize> {
     pub(crate) matrices: Vec<M>,
-    pub(crate) steps: OwnedSteps,
+    pub(crate) schedule: OwnedSchedule,
     pub(crate) layers: Vec<Vec<X>>,
     pub(crate) item: PhantomData<(F, G)>,
     ghost arity: { IsArity N },
     ghost lawful: { IsLawful (heights (shape (batch_of M.height_of M.width_of M.row_of N matrices.items))) },
     ghost layer_lengths: { let s = shape (batch_of M.height_of M.width_of M.row_of N matrices.items) in
         map (λ nodes. length nodes.items) layers.items ≡ map (layer_len s) (range_with_len 0 (suc (levels s))) },
-    ghost own_shape: { shape_of steps.arity steps.dimensions.items
+    ghost own_shape: { shape_of schedule.arity schedule.dimensions.items
         ≡ shape (batch_of M.height_of M.width_of M.row_of N matrices.items) },
 }
 
@@ -161,7 +161,7 @@ impl<F: Copy, W: Copy, M: Matrix<F>, const N: usize, const D: usize> MerkleTree<
         let alloc = *self.matrices.allocator();
         Ok(Tree {
             matrices: self.matrices.clone()?,
-            steps: self.steps.clone()?,
+            schedule: self.schedule.clone()?,
             layers: copies_of(alloc, &self.layers)?,
             item: PhantomData,
         })

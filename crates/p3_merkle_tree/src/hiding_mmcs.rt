@@ -17,7 +17,7 @@ use crate::join::widened_dimensions;
 use p3_merkle_core::cap::CapRule;
 use p3_merkle_core::error::MerkleTreeError;
 use p3_merkle_core::pruning::PrunedMerklePaths;
-use p3_merkle_core::steps::check_heights;
+use p3_merkle_core::gate::check_heights;
 use crate::mmcs::{MerkleTreeMmcs, Scheme};
 use p3_merkle_prover::checked::CheckedMatrices;
 use p3_merkle_prover::tree::MerkleTree;

@@ -8,9 +8,9 @@ ghost use Rattle.p3_support.specs.Batches.{greatest};
 
 use p3_merkle_core::cap::CapRule;
 use p3_merkle_core::error::MerkleTreeError;
-use p3_merkle_core::steps::steps_of;
+use p3_merkle_core::schedule::schedule_of;
 use p3_merkle_prover::checked::{CheckedMatrices, checked_matrices, tree_over};
-use p3_merkle_prover::opener::{cap_at, rows_of_index, siblings_of_index, tree_steps};
+use p3_merkle_prover::opener::{cap_at, rows_of_index, siblings_of_index, tree_schedule};
 use p3_merkle_prover::tree::MerkleTree;
 use p3_merkle_verifier::checker::Checker;
 use p3_merkle_verifier::openings::OpeningRef;
@@ -198,12 +198,12 @@ impl<
     ) -> Checker<'a, P, PW, H, C, [[PW::Value; D]; N], N, D>
         ensures { params_in result ≡ params_of self.now (shape_of N dimensions.now) }
     {
-        let steps = steps_of(dimensions, N);
-        let cap_layer = steps.cap_layer(self.cap_rule, self.cap_height);
+        let schedule = schedule_of(dimensions, N);
+        let cap_layer = schedule.cap_layer(self.cap_rule, self.cap_height);
         Checker {
             hash: &self.hash,
             compress: &self.compress,
-            steps,
+            schedule,
             cap_layer,
             item: PhantomData,
         }
@@ -261,7 +261,7 @@ impl<
     {
         lemma_arity::<N>();
         let tree = tree_over::<P, PW, H, C, M, N, D>(alloc, &self.hash, &self.compress, leaves)?;
-        let cap_layer = tree_steps(&tree).cap_layer(self.cap_rule, self.cap_height);
+        let cap_layer = tree_schedule(&tree).cap_layer(self.cap_rule, self.cap_height);
         let cap = cap_at(alloc, &tree, cap_layer)?;
         Ok((cap, tree))
     }
@@ -287,10 +287,10 @@ impl<
         ensures opened { IfOk result (λ o. Opens self.now tree.now (opening_made index o)) }
         ensures memory { AnswersUnlessMemory result None }
     {
-        let steps = tree_steps(tree);
-        let cap_layer = steps.cap_layer(self.cap_rule, self.cap_height);
+        let schedule = tree_schedule(tree);
+        let cap_layer = schedule.cap_layer(self.cap_rule, self.cap_height);
         let opened_values = rows_of_index(alloc, tree, index)?;
-        let opening_proof = siblings_of_index(alloc, tree, &steps, index, cap_layer)?;
+        let opening_proof = siblings_of_index(alloc, tree, &schedule, index, cap_layer)?;
         Ok(BatchOpening {
             opened_values,
             opening_proof,

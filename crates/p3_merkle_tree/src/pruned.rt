@@ -18,7 +18,7 @@ use p3_merkle_core::error::MerkleTreeError;
 use p3_merkle_core::pruning::{
     MerkleAuthPath, PrunedBatchOpening, PrunedMerklePaths, PrunedProof, PrunedRows,
 };
-use p3_merkle_prover::opener::tree_steps;
+use p3_merkle_prover::opener::tree_schedule;
 use p3_merkle_prover::pruned_opener::{boundary_digests, rows_of_indices};
 use p3_merkle_prover::tree::MerkleTree;
 use p3_merkle_verifier::openings::PrunedOpeningRef;
@@ -58,7 +58,7 @@ impl<
         ensures opened { IfOk result (λ o. OpensPruned self.now tree.now (pruned_made indices.now o)) }
         ensures memory { AnswersUnlessMemory result None }
     {
-        let cap_layer = tree_steps(tree).cap_layer(self.cap_rule, self.cap_height);
+        let cap_layer = tree_schedule(tree).cap_layer(self.cap_rule, self.cap_height);
         let opened_values = rows_of_indices(alloc, tree, indices)?;
         let sibling_hashes = boundary_digests(alloc, tree, indices, cap_layer)?;
         Ok(PrunedRows {

@@ -11,7 +11,9 @@ use crate::mmcs::Scheme;
 use p3_merkle_core::error::MerkleTreeError;
 use p3_merkle_core::geometry::{ArityAndPositions, exponent_of};
 use p3_merkle_core::pruning::{check_indices, distinct_indices};
-use p3_merkle_core::steps::{Covered, check_heights, steps_of};
+use p3_merkle_core::covered_nodes::Covered;
+use p3_merkle_core::gate::check_heights;
+use p3_merkle_core::schedule::schedule_of;
 use p3_merkle_prover::opener::{matrix_refs, max_height};
 use p3_merkle_prover::tree::Tree;
 use p3_support::compress::PseudoCompressionFunction;
@@ -62,10 +64,10 @@ impl<
             IfOk result (λ v. v.items ≡ take (cap_layer_of self.now s) (schedule_in s)) }
         ensures few { IfOk result (λ v. vec_len v ≤ exponent (greatest (heights_of dimensions.now))) }
     {
-        let steps = steps_of(dimensions, N);
-        check_heights(steps.dimensions)?;
-        let cap_layer = steps.cap_layer(self.cap_rule, self.cap_height);
-        Ok(steps.schedule_below(alloc, cap_layer)?)
+        let schedule = schedule_of(dimensions, N);
+        check_heights(schedule.dimensions)?;
+        let cap_layer = schedule.cap_layer(self.cap_rule, self.cap_height);
+        Ok(schedule.schedule_below(alloc, cap_layer)?)
     }
 
     /// The path of the leaf `index` to the cap, for a proof of `num_siblings` digests: the steps of
@@ -93,14 +95,14 @@ impl<
         ensures positions { let s = shape_of N dimensions.now in
             IfOk result (λ r. r.query_positions.items ≡ positions_below s (cap_layer_of self.now s) index) }
     {
-        let steps = steps_of(dimensions, N);
-        check_heights(steps.dimensions)?;
-        let max_height = steps.max_height;
+        let schedule = schedule_of(dimensions, N);
+        check_heights(schedule.dimensions)?;
+        let max_height = schedule.max_height;
         if index >= max_height {
             return Err(MerkleTreeError::IndexOutOfBounds { max_height, index });
         }
-        let cap_layer = steps.cap_layer(self.cap_rule, self.cap_height);
-        let expected_proof_len = steps.siblings_below(cap_layer);
+        let cap_layer = schedule.cap_layer(self.cap_rule, self.cap_height);
+        let expected_proof_len = schedule.siblings_below(cap_layer);
         if num_siblings != expected_proof_len {
             return Err(MerkleTreeError::WrongHeight {
                 expected_proof_len,
@@ -108,8 +110,8 @@ impl<
             });
         }
         Ok(ArityAndPositions {
-            arity_schedule: steps.schedule_below(alloc, cap_layer)?,
-            query_positions: steps.positions_below(alloc, cap_layer, index)?,
+            arity_schedule: schedule.schedule_below(alloc, cap_layer)?,
+            query_positions: schedule.positions_below(alloc, cap_layer, index)?,
         })
     }
 
@@ -136,12 +138,12 @@ impl<
         ensures least { let s = shape_of N dimensions.now in
             IfOk result (λ count. IsLeast s indices.now (cap_layer_of self.now s) count) }
     {
-        let steps = steps_of(dimensions, N);
-        check_heights(steps.dimensions)?;
-        check_indices(steps.max_height, indices)?;
-        let cap_layer = steps.cap_layer(self.cap_rule, self.cap_height);
+        let schedule = schedule_of(dimensions, N);
+        check_heights(schedule.dimensions)?;
+        check_indices(schedule.max_height, indices)?;
+        let cap_layer = schedule.cap_layer(self.cap_rule, self.cap_height);
         let leaves = distinct_indices(alloc, indices)?;
-        Ok(Covered::new(&steps, indices, leaves).boundary_len(cap_layer))
+        Ok(Covered::new(&schedule, indices, leaves).boundary_len(cap_layer))
     }
 
     /// Whether a cap over matrices of these dimensions authenticates the rows of one of them: its rows are hashed into
@@ -171,11 +173,11 @@ impl<
             IfOk result (λ answer. answer ≡ authenticates s (cap_layer_of self.now s) matrix) }
         ensures lowered { cap_rule_of self.now ≡ Lowered → IfOk result (λ answer. IsTrue answer) }
     {
-        let steps = steps_of(dimensions, N);
-        check_heights(steps.dimensions)?;
-        let cap_layer = steps.cap_layer(self.cap_rule, self.cap_height);
+        let schedule = schedule_of(dimensions, N);
+        check_heights(schedule.dimensions)?;
+        let cap_layer = schedule.cap_layer(self.cap_rule, self.cap_height);
         let height = dimensions[matrix].height;
-        Ok(exponent_of(height) >= steps.layer_exponent(cap_layer))
+        Ok(exponent_of(height) >= schedule.layer_exponent(cap_layer))
     }
 
     /// The matrices of a tree, in input order.

@@ -28,7 +28,7 @@ use Rattle.p3_merkle_verifier.specs.Inner.Collisions.{first_rows, first_words, s
 use Rattle.p3_merkle_verifier.specs.Inner.QueryPairs.{query_difference, query_in, AgreesWithAll, IsBetween}
 use Rattle.p3_merkle_verifier.specs.Inner.QueryPairs.{StandsBetween}
 use Rattle.p3_merkle_verifier.specs.declared.extraction.RowPair.{RowPair}
-use Rattle.p3_merkle_verifier.specs.declared.path.ComputedLevel.{ComputedLevel}
+use Rattle.p3_merkle_verifier.specs.declared.path.PathLevel.{PathLevel}
 use Rattle.p3_merkle_verifier.specs.declared.pruned_extraction.RestoredQueries.{RestoredQueries}
 use Rattle.p3_merkle_verifier.proofs.LevelFacts.{words_read}
 use Rattle.p3_merkle_verifier.proofs.SharedFacts.{meets, so_far_all}
@@ -153,7 +153,7 @@ module _ {T W : Type 0} (f : Functions T W) (s : Shape) where
 -- ---- one computed level
 
 module _ {T W : Type 0} (f : Functions T W) (s : Shape) (l : ℕ) (o : Opening T W)
-    (level : ComputedLevel (List W) (List (List W))) (is : IsLevelOfCheck f s o l level) where
+    (level : PathLevel (List W) (List (List W))) (is : IsLevelOfCheck f s o l level) where
   -- its group is that of the check
   pub level_group : level.group ≡ full_group f s o l
   level_group = same_group f s o l level.group _ is.inputs_are
@@ -181,7 +181,7 @@ rows_same eq dec rows test =
 
 -- levels with one group, and with the same rows above them if there are any, have the same inputs
 pub levels_same : {T W : Type 0} (eq : T → T → Bool) (same : W → W → Bool) → IsEquality eq → IsEquality same →
-    (rows : RowPair T) (first second : ComputedLevel (List W) (List (List W))) →
+    (rows : RowPair T) (first second : PathLevel (List W) (List (List W))) →
     pointwise (pointwise same) first.group second.group ≡ true →
     (first.pair ≡ None) ⊎ (pointwise (pointwise eq) (first_rows rows) (second_rows rows) ≡ true) →
     AgreeOnLevel (first_words rows) (second_words rows) first second

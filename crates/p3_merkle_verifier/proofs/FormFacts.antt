@@ -8,13 +8,13 @@ use Rattle.p3_merkle_core.specs.Nodes.{Functions}
 use Rattle.p3_merkle_core.specs.Openings.{Opening}
 use Rattle.p3_merkle_core.specs.Refusals.{answer_under, form_refusal, is_entry, unless, ok_unless}
 use Rattle.p3_merkle_core.specs.declared.error.MerkleTreeError.TheVariants.{CapMismatch}
-use Rattle.p3_merkle_verifier.specs.Inner.Checks.{IsProgress}
-use Rattle.p3_merkle_verifier.specs.declared.path.Progress.{Progress}
+use Rattle.p3_merkle_verifier.specs.Inner.Checks.{IsPathState}
+use Rattle.p3_merkle_verifier.specs.declared.path.PathState.{PathState}
 
 pub answered_by_entry : {T W : Type 0} (same : W → W → Bool) (roots : List (List W)) {f : Functions T W} {s : Shape}
-    {t : ℕ} {o : Opening T W} {progress : Progress (List W)} {entry known : Bool} →
-    form_refusal s t o.index o.rows (length o.siblings) ≡ None → IsProgress f s o t progress →
-    entry ≡ is_entry (pointwise same) roots progress.node progress.digest → entry ≡ known →
+    {t : ℕ} {o : Opening T W} {state : PathState (List W)} {entry known : Bool} →
+    form_refusal s t o.index o.rows (length o.siblings) ≡ None → IsPathState f s o t state →
+    entry ≡ is_entry (pointwise same) roots state.node state.digest → entry ≡ known →
     ok_unless (unless known CapMismatch) (tt {0}) ≡ answer_under same (params f s t) roots o
 answered_by_entry same roots {f} {s} {t} {o} form is is_known at =
     let decided : _ ≡ is_entry (pointwise same) roots (ancestor s t o.index) (path_digest f s o t) =

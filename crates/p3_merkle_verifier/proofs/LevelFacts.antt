@@ -12,9 +12,9 @@ use Rattle.p3_merkle_core.specs.Checks.{layer_words, path_digest, siblings_below
 use Rattle.p3_merkle_core.proofs.Checks.Completeness.{reached_next}
 use Rattle.p3_merkle_core.proofs.Shapes.SiblingFacts.{siblings_next}
 use Rattle.p3_merkle_core.proofs.Shapes.StepFacts.{anc_next, step_above_1}
-use Rattle.p3_merkle_verifier.specs.Inner.Checks.{CanStep, IsAbove, IsLevelOfCheck, IsProgress, step_siblings}
+use Rattle.p3_merkle_verifier.specs.Inner.Checks.{CanStep, IsAbove, IsLevelOfCheck, IsPathState, step_siblings}
 use Rattle.p3_merkle_verifier.specs.Inner.Paths.{CanReach, rows_of_exponent}
-use Rattle.p3_merkle_verifier.specs.declared.path.Progress.{Progress}
+use Rattle.p3_merkle_verifier.specs.declared.path.PathState.{PathState}
 use Rattle.p3_merkle_core.proofs.Checks.CheckFacts.{full_group, inputs_with_rows, inputs_alone}
 
 -- rows that are read whole, one after another, are the words of these rows
@@ -56,18 +56,18 @@ can_step {s} {t} l w inside is_step taken =
     }
 
 module _ {T W : Type 0} {f : Functions T W} {s : Shape} {o : Opening T W} {l n y : ℕ} {has : Bool}
-    {progress : Progress (List W)} (from : IsStepFrom s l n y has) (at : IsProgress f s o l progress) where
+    {state : PathState (List W)} (from : IsStepFrom s l n y has) (at : IsPathState f s o l state) where
   -- the group of the level
   abbrev group : List (List W)
   group = padded s.arity f.default_digest
-      (insert (step_siblings n o.siblings progress.used) (progress.node % n) progress.digest)
+      (insert (step_siblings n o.siblings state.used) (state.node % n) state.digest)
 
   group_is : {made : List (List W)} → made ≡ group → made ≡ full_group f s o l
   group_is e = e ∙ rw (from.is_step, at.taken, at.at_node, at.reached) refl
 
   -- the check stands at the next layer, if the digest there is the one that the path reaches
-  progress_above : {above : Progress (List W)} {digest : List W} → IsAbove n y digest progress above →
-      digest ≡ path_digest f s o (suc l) → IsProgress f s o (suc l) above
+  progress_above : {above : PathState (List W)} {digest : List W} → IsAbove n y digest state above →
+      digest ≡ path_digest f s o (suc l) → IsPathState f s o (suc l) above
   progress_above up reached =
       record {
         at_exponent = up.at_exponent ∙ from.above;
@@ -77,9 +77,9 @@ module _ {T W : Type 0} {f : Functions T W} {s : Shape} {o : Opening T W} {l n y
       }
 
   -- a level with rows above it
-  pub level_with_rows : {made pair : List (List W)} {above : Progress (List W)} → made ≡ group → has ≡ true → pair
+  pub level_with_rows : {made pair : List (List W)} {above : PathState (List W)} → made ≡ group → has ≡ true → pair
       ≡ padded s.arity f.default_digest (f.compression made ∷ f.hash (words_of_exponent y (zip (heights s) o.rows))
-      ∷ []) → IsAbove n y (f.compression pair) progress above →
+      ∷ []) → IsAbove n y (f.compression pair) state above →
       IsLevelOfCheck f s o l (record { level = l; group = made; pair = Some pair; above = above })
   level_with_rows {pair = pair} e has_is p up =
       let whole = group_is e in
@@ -90,12 +90,12 @@ module _ {T W : Type 0} {f : Functions T W} {s : Shape} {o : Opening T W} {l n y
       record {
         at_level = refl;
         inputs_are = rw (whole, full) (sym (inputs_with_rows f s o l present));
-        progress = progress_above up (ap f.compression full ∙ sym (rw present at (reached_next f s o l)));
+        state = progress_above up (ap f.compression full ∙ sym (rw present at (reached_next f s o l)));
       }
 
   -- a level without
-  pub level_alone : {made : List (List W)} {above : Progress (List W)} → made ≡ group → has ≡ false →
-      IsAbove n y (f.compression made) progress above →
+  pub level_alone : {made : List (List W)} {above : PathState (List W)} → made ≡ group → has ≡ false →
+      IsAbove n y (f.compression made) state above →
       IsLevelOfCheck f s o l (record { level = l; group = made; pair = None; above = above })
   level_alone e has_is up =
       let whole = group_is e in
@@ -103,5 +103,5 @@ module _ {T W : Type 0} {f : Functions T W} {s : Shape} {o : Opening T W} {l n y
       record {
         at_level = refl;
         inputs_are = rw whole (sym (inputs_alone f s o l absent));
-        progress = progress_above up (ap f.compression whole ∙ sym (rw absent at (reached_next f s o l)));
+        state = progress_above up (ap f.compression whole ∙ sym (rw absent at (reached_next f s o l)));
       }

@@ -7,10 +7,10 @@ use Rattle.p3_merkle_core.specs.Nodes.{Functions}
 use Rattle.p3_merkle_core.specs.Refusals.{AnswersUnlessMemory, cap_refusal, pruned_refusal, pruned_refusal_under}
 use Rattle.p3_merkle_core.specs.declared.error.MerkleTreeError.{MerkleTreeError}
 use Rattle.p3_merkle_core.specs.declared.error.MerkleTreeError.TheVariants.{OutOfMemory}
-use Rattle.p3_merkle_core.specs.declared.steps.Steps.{Steps}
+use Rattle.p3_merkle_core.specs.declared.schedule.Schedule.{Schedule}
 use Rattle.p3_merkle_verifier.specs.Inner.RestoredLevels.{opened_by, pruned_in, tree_of}
 use Rattle.p3_merkle_verifier.specs.declared.openings.PrunedOpeningRef.{PrunedOpeningRef}
-use Rattle.p3_merkle_verifier.specs.declared.openings.RestorableOpening.{RestorableOpening}
+use Rattle.p3_merkle_verifier.specs.declared.openings.CheckedPrunedOpening.{CheckedPrunedOpening}
 
 -- the error that a `?` hands on answers what it answered before
 pub handed_on : {V : Type 0} (r : Result V MerkleTreeError) (e : MerkleTreeError) (refusal : Option MerkleTreeError) →
@@ -20,16 +20,16 @@ handed_on (Err x) e refusal is a = rw is a
 
 -- where the form is right, the answer is that of the cap
 pub cap_decides : {T W V : Type 0} (row_eq : T → T → Bool) (digest_eq : W → W → Bool) (f : Functions T W)
-    (roots : List (List W)) {steps : Steps} {t : ℕ} {opening : PrunedOpeningRef T (List W)}
-    (restorable : RestorableOpening T (List W)) (r : Result V MerkleTreeError) → restorable.steps.now ≡ steps →
+    (roots : List (List W)) {schedule : Schedule} {t : ℕ} {opening : PrunedOpeningRef T (List W)}
+    (restorable : CheckedPrunedOpening T (List W)) (r : Result V MerkleTreeError) → restorable.schedule.now ≡ schedule →
     restorable.cap_layer ≡ t → restorable.opening ≡ opening →
-    pruned_refusal row_eq (shape_of steps.arity steps.dimensions.now) t (pruned_in opening) ≡ None →
+    pruned_refusal row_eq (shape_of schedule.arity schedule.dimensions.now) t (pruned_in opening) ≡ None →
     AnswersUnlessMemory r
     (cap_refusal digest_eq (params f (tree_of restorable) restorable.cap_layer) roots (opened_by restorable)) →
     AnswersUnlessMemory r
-    (pruned_refusal_under row_eq digest_eq (params f (shape_of steps.arity steps.dimensions.now) t) roots
+    (pruned_refusal_under row_eq digest_eq (params f (shape_of schedule.arity schedule.dimensions.now) t) roots
     (pruned_in opening))
 cap_decides row_eq digest_eq f roots restorable r same layer is none answer =
-    let shape = λ (steps : Steps). shape_of steps.arity steps.dimensions.now in
+    let shape = λ (schedule : Schedule). shape_of schedule.arity schedule.dimensions.now in
     subst (AnswersUnlessMemory r) (λ i. option_or (sym none i)
     (cap_refusal digest_eq (params f (shape (same i)) (layer i)) roots (pruned_in (is i)))) answer

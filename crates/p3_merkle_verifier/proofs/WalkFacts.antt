@@ -11,17 +11,17 @@ use Rattle.p3_merkle_core.specs.Checks.{Input, layer_words, leaf_input, words_at
 use Rattle.p3_merkle_core.specs.Refusals.{unless}
 use Rattle.p3_merkle_core.specs.declared.collision.Place.TheVariants.{Leaf}
 use Rattle.p3_merkle_core.specs.declared.collision.InputPair.{InputPair}
-use Rattle.p3_merkle_verifier.specs.Inner.Checks.{IsLevelOfCheck, IsProgress, leaf_difference, level_difference}
+use Rattle.p3_merkle_verifier.specs.Inner.Checks.{IsLevelOfCheck, IsPathState, leaf_difference, level_difference}
 use Rattle.p3_merkle_verifier.specs.Inner.Collisions.{IsDifference, Shows, level_inputs}
-use Rattle.p3_merkle_verifier.specs.declared.path.ComputedLevel.{ComputedLevel}
-use Rattle.p3_merkle_verifier.specs.declared.path.Progress.{Progress}
+use Rattle.p3_merkle_verifier.specs.declared.path.PathLevel.{PathLevel}
+use Rattle.p3_merkle_verifier.specs.declared.path.PathState.{PathState}
 use Rattle.p3_merkle_verifier.proofs.SharedFacts.{difference_below, shows_later}
 
 -- the checks of two openings stand at layer l, and this is the last difference below it
 pub record StandTogether {T W : Type 0} (test : Input T W → Input T W → Bool) (f : Functions T W) (s : Shape)
-    (o u : Opening T W) (l : ℕ) (first second : Progress (List W)) (last : Option (InputPair T (List W))) : Type 0 where
-  pub first_progress : IsProgress f s o l first
-  pub second_progress : IsProgress f s u l second
+    (o u : Opening T W) (l : ℕ) (first second : PathState (List W)) (last : Option (InputPair T (List W))) : Type 0 where
+  pub first_state : IsPathState f s o l first
+  pub second_state : IsPathState f s u l second
   pub found : Shows last (difference_below test f s o u l)
 
 -- ---- at the leaf
@@ -46,14 +46,14 @@ found_leaf eq same s o u found e a b is =
 
 -- where both checks stand at one node above the level, what is shown of the two levels is the last difference there
 pub found_here : {T W : Type 0} (test : Input T W → Input T W → Bool) {f : Functions T W} {s : Shape} {l : ℕ}
-    {o u : Opening T W} (found : Option (InputPair T (List W))) {mine theirs : ComputedLevel (List W) (List (List W))}
+    {o u : Opening T W} (found : Option (InputPair T (List W))) {mine theirs : PathLevel (List W) (List (List W))}
     {a b : List T} → IsLevelOfCheck f s o l mine → IsLevelOfCheck f s u l theirs →
     a ≡ layer_words s o.rows (suc l) → b ≡ layer_words s u.rows (suc l) → mine.above.node ≡ theirs.above.node →
     Shows found (last_difference test (level_inputs mine.level a mine) (level_inputs mine.level b theirs)) →
     Shows found (level_difference test f s l o u)
 found_here test {f} {s} {l} {o} {u} found {mine} {theirs} m n is_a is_b one shown =
     rw (eq-eqb (ancestor s (suc l) o.index) (ancestor s (suc l) u.index)
-    (sym m.progress.at_node ∙ one ∙ n.progress.at_node))
+    (sym m.state.at_node ∙ one ∙ n.state.at_node))
     (subst (λ (both : List (Input _ _) × List (Input _ _)). Shows found (last_difference test both.0 both.1))
     ((λ i. (level_inputs (m.at_level i) (is_a i) mine, level_inputs (m.at_level i) (is_b i) theirs))
     ∙ (λ i. (m.inputs_are i, n.inputs_are i))) shown)

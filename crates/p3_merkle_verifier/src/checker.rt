@@ -5,7 +5,7 @@ ghost use Rattle.p3_merkle_core.specs.Computed.{Computes};
 ghost use Rattle.p3_merkle_core.specs.Geometry.{shape_of};
 ghost use Rattle.p3_merkle_verifier.specs.Inner.Paths.{CanCheck};
 
-use p3_merkle_core::steps::Steps;
+use p3_merkle_core::schedule::Schedule;
 use p3_support::compress::PseudoCompressionFunction;
 use p3_support::hasher::CryptographicHasher;
 use p3_support::packed::PackedValue;
@@ -29,12 +29,12 @@ pub struct Checker<
     /// The compression of the children of a node.
     pub compress: &'a C,
     /// The steps of the tree. Their arity is `N`.
-    pub steps: Steps<'a>,
+    pub schedule: Schedule<'a>,
     /// The cap's layer, at most the number of levels.
     pub cap_layer: usize,
     /// The packings of words, and the type of a group.
     pub item: PhantomData<(P, PW, G)>,
     ghost functions: { Computes (H.hash hash.now) (C.compression compress.now) PW.default_value },
-    ghost arity: { steps.arity ≡ N },
-    ghost check: { CanCheck (shape_of steps.arity steps.dimensions.now) cap_layer },
+    ghost arity: { schedule.arity ≡ N },
+    ghost check: { CanCheck (shape_of schedule.arity schedule.dimensions.now) cap_layer },
 }

@@ -23,10 +23,10 @@ ghost use Rattle.p3_merkle_verifier.specs.Inner.Paths.{CanReach};
 
 use crate::checker::Checker;
 use crate::openings::{OpenedRows, OpeningRef};
-use crate::path::ComputedLevel;
+use crate::path::PathLevel;
 use p3_merkle_core::collision::{Collision, InputPair, Place};
 use p3_merkle_core::error::MerkleTreeError;
-use p3_merkle_core::steps::Steps;
+use p3_merkle_core::schedule::Schedule;
 use p3_support::compress::PseudoCompressionFunction;
 use p3_support::hasher::CryptographicHasher;
 use p3_support::matrix::Dimensions;
@@ -132,11 +132,11 @@ fn differing_words<T: Copy + Eq + Drop, W, const D: usize>(
 /// The words that two checks hash at the leaf, if both openings are of one leaf and the words differ.
 fn leaf_difference<T: Copy + Eq + Drop, W: Copy + Eq, const D: usize>(
     alloc: Global,
-    steps: &Steps<'_>,
+    schedule: &Schedule<'_>,
     first: OpeningRef<'_, T, [W; D]>,
     second: OpeningRef<'_, T, [W; D]>,
 ) -> Result<Option<InputPair<T, [W; D]>>, AllocError>
-    ensures { let s = shape_of steps.now.arity steps.now.dimensions.now in
+    ensures { let s = shape_of schedule.now.arity schedule.now.dimensions.now in
         let difference = leaf_difference (input_eq T.eq W.eq) s (opening_in first.entry) (opening_in second.entry) in
         IfOk result (λ found. Shows found difference) }
 {
@@ -144,8 +144,8 @@ fn leaf_difference<T: Copy + Eq + Drop, W: Copy + Eq, const D: usize>(
         return Ok(None);
     }
     let rows = RowPair {
-        dimensions: steps.dimensions,
-        exponent: steps.exponent,
+        dimensions: schedule.dimensions,
+        exponent: schedule.exponent,
         first: first.rows,
         second: second.rows,
     };
@@ -159,8 +159,8 @@ fn leaf_difference<T: Copy + Eq + Drop, W: Copy + Eq, const D: usize>(
 fn difference_above_group<T: Copy + Eq + Drop, W: Copy + Eq, const N: usize, const D: usize>(
     alloc: Global,
     rows: &RowPair<'_, T>,
-    first: &ComputedLevel<[W; D], [[W; D]; N]>,
-    second: &ComputedLevel<[W; D], [[W; D]; N]>,
+    first: &PathLevel<[W; D], [[W; D]; N]>,
+    second: &PathLevel<[W; D], [[W; D]; N]>,
 ) -> Result<Option<InputPair<T, [W; D]>>, AllocError>
     ensures { let mine = inputs_above first.now.level (first_words rows.now) first.now.pair in
         let theirs = inputs_above first.now.level (second_words rows.now) second.now.pair in
@@ -181,8 +181,8 @@ fn difference_above_group<T: Copy + Eq + Drop, W: Copy + Eq, const N: usize, con
 fn level_difference<T: Copy + Eq + Drop, W: Copy + Eq, const N: usize, const D: usize>(
     alloc: Global,
     rows: &RowPair<'_, T>,
-    first: &ComputedLevel<[W; D], [[W; D]; N]>,
-    second: &ComputedLevel<[W; D], [[W; D]; N]>,
+    first: &PathLevel<[W; D], [[W; D]; N]>,
+    second: &PathLevel<[W; D], [[W; D]; N]>,
 ) -> Result<Option<InputPair<T, [W; D]>>, AllocError>
     ensures { let mine = first_words rows.now in
         let theirs = second_words rows.now in
@@ -207,8 +207,8 @@ fn level_difference<T: Copy + Eq + Drop, W: Copy + Eq, const N: usize, const D: 
 /// computed from the groups and these rows, so they are not compared.
 fn levels_agree<T: Eq, W: Copy + Eq, const N: usize, const D: usize>(
     rows: &RowPair<'_, T>,
-    first: &ComputedLevel<[W; D], [[W; D]; N]>,
-    second: &ComputedLevel<[W; D], [[W; D]; N]>,
+    first: &PathLevel<[W; D], [[W; D]; N]>,
+    second: &PathLevel<[W; D], [[W; D]; N]>,
 ) -> bool
     ensures { IsEquality T.eq → IsEquality W.eq → IsTrue result →
         AgreeOnLevel (first_words rows.now) (second_words rows.now) first.now second.now }
@@ -241,21 +241,21 @@ impl<
             (opening_in second.entry) self.now.cap_layer }
     {
         let leaves = RowPair {
-            dimensions: self.steps.dimensions,
-            exponent: self.steps.exponent,
+            dimensions: self.schedule.dimensions,
+            exponent: self.schedule.exponent,
             first: first.rows,
             second: second.rows,
         };
         if first.index == second.index && !leaves.agree() {
             return false;
         }
-        let mut first_progress = self.start(first);
-        let mut second_progress = self.start(second);
+        let mut first_state = self.start(first);
+        let mut second_state = self.start(second);
         for level in 0..self.cap_layer {
-            let mine = self.compute_level(level, first, &first_progress);
-            let theirs = self.compute_level(level, second, &second_progress);
+            let mine = self.compute_level(level, first, &first_state);
+            let theirs = self.compute_level(level, second, &second_state);
             let rows = RowPair {
-                dimensions: self.steps.dimensions,
+                dimensions: self.schedule.dimensions,
                 exponent: mine.above.exponent,
                 first: first.rows,
                 second: second.rows,
@@ -263,8 +263,8 @@ impl<
             if !levels_agree(&rows, &mine, &theirs) {
                 return false;
             }
-            first_progress = mine.above;
-            second_progress = theirs.above;
+            first_state = mine.above;
+            second_state = theirs.above;
         }
         true
     }
@@ -284,22 +284,22 @@ impl<
             let difference = difference_of P.Value.eq PW.Value.eq (params_in self.now) o (opening_in second.entry) in
             IfOk result (λ found. Shows found difference) }
     {
-        let mut first_progress = self.start(first);
-        let mut second_progress = self.start(second);
-        let mut last = leaf_difference(alloc, &self.steps, first, second)?;
+        let mut first_state = self.start(first);
+        let mut second_state = self.start(second);
+        let mut last = leaf_difference(alloc, &self.schedule, first, second)?;
         for level in 0..self.cap_layer {
-            let mine = self.compute_level(level, first, &first_progress);
-            let theirs = self.compute_level(level, second, &second_progress);
+            let mine = self.compute_level(level, first, &first_state);
+            let theirs = self.compute_level(level, second, &second_state);
             let rows = RowPair {
-                dimensions: self.steps.dimensions,
+                dimensions: self.schedule.dimensions,
                 exponent: mine.above.exponent,
                 first: first.rows,
                 second: second.rows,
             };
             let found = level_difference(alloc, &rows, &mine, &theirs)?;
             last = found.or(last);
-            first_progress = mine.above;
-            second_progress = theirs.above;
+            first_state = mine.above;
+            second_state = theirs.above;
         }
         Ok(last)
     }

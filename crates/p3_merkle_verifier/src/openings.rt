@@ -13,7 +13,7 @@ ghost use Rattle.p3_merkle_verifier.specs.Inner.Paths.{rows_of_exponent};
 
 use p3_merkle_core::geometry::exponent_of;
 use p3_merkle_core::pruning::DistinctQueries;
-use p3_merkle_core::steps::Steps;
+use p3_merkle_core::schedule::Schedule;
 use p3_support::matrix::{Dimensions, Matrix};
 use p3_support::opening::BatchOpeningRef;
 
@@ -152,9 +152,9 @@ pub struct PrunedOpeningRef<'a, T, X> {
 /// A pruned opening from which the path of each query can be restored, with the steps of its tree. Its form is right,
 /// and its rows agree.
 #[derive(Drop)]
-pub struct RestorableOpening<'a, T, X> {
+pub struct CheckedPrunedOpening<'a, T, X> {
     /// The steps of the tree.
-    pub steps: &'a Steps<'a>,
+    pub schedule: &'a Schedule<'a>,
     /// The cap's layer.
     pub cap_layer: usize,
     /// The opening.
@@ -162,12 +162,12 @@ pub struct RestorableOpening<'a, T, X> {
     /// Its distinct indices, with the first query of each.
     pub leaves: DistinctQueries,
     ghost distinct: { AreDistinctOf leaves opening.indices.now },
-    ghost queried: { CanQuery (shape_of steps.now.arity steps.now.dimensions.now) opening.indices.now cap_layer },
-    ghost low: { greatest (heights_of steps.now.dimensions.now) ≤ height_limit },
+    ghost queried: { CanQuery (shape_of schedule.now.arity schedule.now.dimensions.now) opening.indices.now cap_layer },
+    ghost low: { greatest (heights_of schedule.now.dimensions.now) ≤ height_limit },
     ghost pairs: { length opening.sets.now ≡ length opening.indices.now },
     ghost all_sent: { length opening.sent.now
-        ≡ length (boundary (shape_of steps.now.arity steps.now.dimensions.now) opening.indices.now cap_layer) },
-    ghost agreed: { IsAgreed (shape_of steps.now.arity steps.now.dimensions.now) cap_layer
+        ≡ length (boundary (shape_of schedule.now.arity schedule.now.dimensions.now) opening.indices.now cap_layer) },
+    ghost agreed: { IsAgreed (shape_of schedule.now.arity schedule.now.dimensions.now) cap_layer
         (opened_of opening.indices.now (row_sets opening.sets.now)) },
-    ghost fit: { All (λ rows. map length rows ≡ widths_of steps.now.dimensions.now) (row_sets opening.sets.now) },
+    ghost fit: { All (λ rows. map length rows ≡ widths_of schedule.now.dimensions.now) (row_sets opening.sets.now) },
 }

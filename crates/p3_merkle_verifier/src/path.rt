@@ -13,7 +13,7 @@ ghost use Rattle.p3_merkle_core.specs.Checks.{siblings_below, words_of_exponent}
 ghost use Rattle.p3_merkle_core.specs.Nodes.{padded};
 ghost use Rattle.p3_merkle_core.specs.Refusals.{answer_under, form_refusal, is_entry as is_entry_of};
 ghost use Rattle.p3_merkle_verifier.specs.Inner.Checks.{functions_of, opening_in, params_in, shape_in};
-ghost use Rattle.p3_merkle_verifier.specs.Inner.Checks.{step_siblings, CanStep, IsLevelOfCheck, IsProgress};
+ghost use Rattle.p3_merkle_verifier.specs.Inner.Checks.{step_siblings, CanStep, IsLevelOfCheck, IsPathState};
 ghost use Rattle.p3_merkle_verifier.specs.Inner.Paths.{CanCheck, CanReach};
 
 use crate::checker::Checker;
@@ -21,14 +21,15 @@ use crate::openings::{OpenedRows, OpeningRef};
 use p3_merkle_core::error::MerkleTreeError;
 use p3_merkle_core::geometry::{check_widths, parent_of, position_of};
 use p3_merkle_core::group::{group_with, pair_group};
-use p3_merkle_core::steps::{StepUp, Steps, check_heights};
+use p3_merkle_core::gate::check_heights;
+use p3_merkle_core::schedule::{LevelStep, Schedule};
 use p3_support::compress::PseudoCompressionFunction;
 use p3_support::hasher::CryptographicHasher;
 use p3_support::packed::PackedValue;
 
 /// The node that the check of an opening has reached on the path from the leaf, with its digest.
 #[derive(Drop)]
-pub struct Progress<X> {
+pub struct PathState<X> {
     /// The exponent of the node's layer.
     pub exponent: usize,
     /// The node.
@@ -39,7 +40,7 @@ pub struct Progress<X> {
     pub digest: X,
 }
 
-impl<W: Copy, const D: usize> Progress<[W; D]> {
+impl<W: Copy, const D: usize> PathState<[W; D]> {
     /// The group that is compressed to this node's parent: the node's siblings with its own digest at its position,
     /// then default digests. `step` is how many children the parent has, and `siblings` are those of the whole path.
     fn group<const N: usize>(
@@ -61,7 +62,7 @@ impl<W: Copy, const D: usize> Progress<[W; D]> {
 
 /// One level of the check of an opening: what it compresses, and the node that it reaches.
 #[derive(Drop)]
-pub struct ComputedLevel<X, G> {
+pub struct PathLevel<X, G> {
     /// The level, counted from the leaves.
     pub level: usize,
     /// The siblings with the node's digest at its position, then default digests.
@@ -69,24 +70,24 @@ pub struct ComputedLevel<X, G> {
     /// The digests of the group and of the rows, if matrices belong to the layer above.
     pub pair: Option<G>,
     /// The node above the level.
-    pub above: Progress<X>,
+    pub above: PathState<X>,
 }
 
 /// States that `siblings`, those of an opening up to layer `cap_layer`, have the `step - 1` ones of level `level` after
 /// the `used` ones of the levels below it.
 fn lemma_step<X>(
-    steps: &Steps<'_>,
+    schedule: &Schedule<'_>,
     cap_layer: usize,
     level: usize,
     step: usize,
     used: usize,
     siblings: &[X],
 )
-    requires reach { CanReach (shape_of steps.now.arity steps.now.dimensions.now) cap_layer (length siblings.now) }
+    requires reach { CanReach (shape_of schedule.now.arity schedule.now.dimensions.now) cap_layer (length siblings.now) }
     requires level { level < cap_layer }
-    requires step { step ≡ step_of (shape_of steps.now.arity steps.now.dimensions.now) level }
-    requires used { used ≡ siblings_below (shape_of steps.now.arity steps.now.dimensions.now) level }
-    ensures { CanStep steps.now.arity step used (length siblings.now) }
+    requires step { step ≡ step_of (shape_of schedule.now.arity schedule.now.dimensions.now) level }
+    requires used { used ≡ siblings_below (shape_of schedule.now.arity schedule.now.dimensions.now) level }
+    ensures { CanStep schedule.now.arity step used (length siblings.now) }
 {}
 
 /// Checks the form of an opening of the leaf `index`, before anything is hashed: one row for each matrix, of its width;
@@ -95,20 +96,20 @@ fn lemma_step<X>(
 ///
 /// The arity must be a power of two from 2 to 2^62, and `cap_layer` at most the number of levels.
 fn check_form<T>(
-    steps: &Steps<'_>,
+    schedule: &Schedule<'_>,
     cap_layer: usize,
     index: usize,
     rows: &[Vec<T>],
     num_siblings: usize,
 ) -> Result<(), MerkleTreeError>
-    requires { CanCheck (shape_of steps.now.arity steps.now.dimensions.now) cap_layer }
-    ensures answer { let refusal = form_refusal (shape_of steps.now.arity steps.now.dimensions.now) cap_layer index
+    requires { CanCheck (shape_of schedule.now.arity schedule.now.dimensions.now) cap_layer }
+    ensures answer { let refusal = form_refusal (shape_of schedule.now.arity schedule.now.dimensions.now) cap_layer index
         (row_lists rows.now) num_siblings in
         MatchResult result (λ ok. refusal ≡ None) (λ e. refusal ≡ Some e) }
-    ensures reach { IfOk result (λ ok. CanReach (shape_of steps.now.arity steps.now.dimensions.now) cap_layer
+    ensures reach { IfOk result (λ ok. CanReach (shape_of schedule.now.arity schedule.now.dimensions.now) cap_layer
         num_siblings) }
 {
-    let dimensions = steps.dimensions;
+    let dimensions = schedule.dimensions;
     // The number of rows is checked ahead of the heights, and their widths after the siblings.
     if rows.len() != dimensions.len() {
         return Err(MerkleTreeError::WrongBatchSize {
@@ -116,8 +117,8 @@ fn check_form<T>(
             got: rows.len(),
         });
     }
-    check_heights(steps.dimensions)?;
-    let expected_proof_len = steps.siblings_below(cap_layer);
+    check_heights(schedule.dimensions)?;
+    let expected_proof_len = schedule.siblings_below(cap_layer);
     if num_siblings != expected_proof_len {
         return Err(MerkleTreeError::WrongHeight {
             expected_proof_len,
@@ -125,7 +126,7 @@ fn check_form<T>(
         });
     }
     check_widths(dimensions, rows)?;
-    let max_height = steps.max_height;
+    let max_height = schedule.max_height;
     if index >= max_height {
         return Err(MerkleTreeError::IndexOutOfBounds { max_height, index });
     }
@@ -143,11 +144,11 @@ impl<
 > Checker<'a, P, PW, H, C, [[PW::Value; D]; N], N, D> {
     /// The digest of the rows of the matrices of one exponent, as one message. `rows` has a row of each matrix.
     fn row_digest(&self, rows: &[Vec<P::Value>], exponent: usize) -> [PW::Value; D]
-        ensures { let rows = zip (heights_of self.now.steps.dimensions.now) (row_lists rows.now) in
+        ensures { let rows = zip (heights_of self.now.schedule.dimensions.now) (row_lists rows.now) in
             result ≡ H.hash self.now.hash.now (words_of_exponent exponent rows) }
     {
         self.hash.hash_iter_slices(OpenedRows {
-            dimensions: self.steps.dimensions,
+            dimensions: self.schedule.dimensions,
             rows,
             exponent,
         })
@@ -157,11 +158,11 @@ impl<
     pub(crate) fn start(
         &self,
         opening: OpeningRef<'_, P::Value, [PW::Value; D]>,
-    ) -> Progress<[PW::Value; D]>
-        ensures { IsProgress (functions_of self.now) (shape_in self.now) (opening_in opening.entry) 0 result }
+    ) -> PathState<[PW::Value; D]>
+        ensures { IsPathState (functions_of self.now) (shape_in self.now) (opening_in opening.entry) 0 result }
     {
-        let exponent = self.steps.exponent;
-        Progress {
+        let exponent = self.schedule.exponent;
+        PathState {
             exponent,
             node: opening.index,
             used: 0,
@@ -176,39 +177,39 @@ impl<
         &self,
         level: usize,
         opening: OpeningRef<'_, P::Value, [PW::Value; D]>,
-        progress: &Progress<[PW::Value; D]>,
-    ) -> ComputedLevel<[PW::Value; D], [[PW::Value; D]; N]>
+        state: &PathState<[PW::Value; D]>,
+    ) -> PathLevel<[PW::Value; D], [[PW::Value; D]; N]>
         requires reach { CanReach (shape_in self.now) self.now.cap_layer (length opening.siblings.now) }
         requires level { level < self.now.cap_layer }
-        requires progress { let f = functions_of self.now in
-            IsProgress f (shape_in self.now) (opening_in opening) level progress.now }
+        requires state { let f = functions_of self.now in
+            IsPathState f (shape_in self.now) (opening_in opening) level state.now }
         ensures { let f = functions_of self.now in
             IsLevelOfCheck f (shape_in self.now) (opening_in opening.entry) level result }
     {
-        let StepUp {
+        let LevelStep {
             step,
             has_rows,
             exponent,
-        } = self.steps.step_up(N, level, progress.exponent);
+        } = self.schedule.step_up(N, level, state.exponent);
         let siblings = opening.siblings;
         lemma_step(
-            &self.steps,
+            &self.schedule,
             self.cap_layer,
             level,
             step,
-            progress.used,
+            state.used,
             siblings,
         );
         let default_digest = [PW::Value::default(); D];
-        let group = progress.group::<N>(default_digest, step, siblings);
-        let mut above = Progress {
+        let group = state.group::<N>(default_digest, step, siblings);
+        let mut above = PathState {
             exponent,
-            node: parent_of(progress.node, step),
-            used: progress.used + (step - 1),
+            node: parent_of(state.node, step),
+            used: state.used + (step - 1),
             digest: self.compress.compress(group),
         };
         if !has_rows {
-            return ComputedLevel {
+            return PathLevel {
                 level,
                 group,
                 pair: None,
@@ -218,7 +219,7 @@ impl<
         let rows = self.row_digest(opening.rows, exponent);
         let pair = pair_group::<PW::Value, N, D>(default_digest, above.digest, rows);
         above.digest = self.compress.compress(pair);
-        ComputedLevel {
+        PathLevel {
             level,
             group,
             pair: Some(pair),
@@ -249,17 +250,17 @@ impl<
     {
         let (index, num_siblings) = (opening.index, opening.siblings.len());
         check_form(
-            &self.steps,
+            &self.schedule,
             self.cap_layer,
             index,
             opening.rows,
             num_siblings,
         )?;
-        let mut progress = self.start(opening);
+        let mut state = self.start(opening);
         for level in 0..self.cap_layer {
-            progress = self.compute_level(level, opening, &progress).above;
+            state = self.compute_level(level, opening, &state).above;
         }
-        if is_entry(roots, progress.node, &progress.digest) {
+        if is_entry(roots, state.node, &state.digest) {
             Ok(())
         } else {
             Err(MerkleTreeError::CapMismatch)

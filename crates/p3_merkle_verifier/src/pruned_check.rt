@@ -26,14 +26,15 @@ ghost use Rattle.p3_merkle_verifier.specs.Inner.RestoredLevels.{AreLeaves, AreQu
 ghost use Rattle.p3_merkle_verifier.specs.Inner.RestoredLevels.{IsCoveredAt, IsLayer, IsLayerAbove};
 
 use crate::checker::Checker;
-use crate::openings::{OpenedMatrix, PrunedOpeningRef, RestorableOpening};
+use crate::openings::{OpenedMatrix, PrunedOpeningRef, CheckedPrunedOpening};
 use crate::path::is_entry;
 use p3_merkle_core::error::MerkleTreeError;
 use p3_merkle_core::geometry::exponent_of;
 use p3_merkle_core::pruning::{
     AuthPath, CoveredLayer, PrunedMerklePaths, check_pruned, children_of, siblings_on_path,
 };
-use p3_merkle_core::steps::{Covered, StepUp};
+use p3_merkle_core::covered_nodes::Covered;
+use p3_merkle_core::schedule::LevelStep;
 use p3_merkle_digests::batched::{LayerRows, compress_children, inject_row_digests};
 use p3_support::compress::PseudoCompressionFunction;
 use p3_support::hasher::CryptographicHasher;
@@ -63,7 +64,7 @@ impl<'a, T, W: Copy, const D: usize> PrunedOpeningRef<'a, T, [W; D]> {
 /// covered node of `below`; the other children of the layer above have the next digests of the proof.
 fn layer_above<'a, T, X: Copy>(
     alloc: Global,
-    restorable: &RestorableOpening<'_, T, X>,
+    restorable: &CheckedPrunedOpening<'_, T, X>,
     level: usize,
     below: &CoveredLayer<'a, X>,
     digests: &[X],
@@ -75,7 +76,7 @@ fn layer_above<'a, T, X: Copy>(
         below.now digests.now restorable.now.opening.sent.now above) }
 {
     let mut covered = below.covered.clone(alloc)?;
-    let StepUp { step, has_rows, .. } = covered.climb();
+    let LevelStep { step, has_rows, .. } = covered.climb();
     let left = &restorable.opening.sent[below.covered.boundary_below..];
     let children = children_of(
         alloc,
@@ -97,7 +98,7 @@ fn layer_above<'a, T, X: Copy>(
 /// its lowest leaf.
 fn queries_at<T, X>(
     alloc: Global,
-    restorable: &RestorableOpening<'_, T, X>,
+    restorable: &CheckedPrunedOpening<'_, T, X>,
     exponent: usize,
 ) -> Result<Vec<usize>, AllocError>
     ensures among { IfOk result (λ queries. All (λ k. k < length restorable.now.opening.indices.now) queries.items) }
@@ -105,7 +106,7 @@ fn queries_at<T, X>(
         IfOk result (λ queries. AreQueriesAt (tree_of restorable.now) restorable.now.opening.indices.now l
         queries.items) }
 {
-    let bits = restorable.steps.exponent.saturating_sub(exponent);
+    let bits = restorable.schedule.exponent.saturating_sub(exponent);
     let leaves = &restorable.leaves.indices;
     let mut queries = Vec::with_capacity(alloc, leaves.len())?;
     let mut previous = 0;
@@ -122,18 +123,18 @@ fn queries_at<T, X>(
 /// The matrices of this exponent, in input order, each with the rows that `queries` opened of it.
 fn opened_matrices<'a, T, X>(
     alloc: Global,
-    restorable: &'a RestorableOpening<'_, T, X>,
+    restorable: &'a CheckedPrunedOpening<'_, T, X>,
     exponent: usize,
     queries: &'a [usize],
 ) -> Result<Vec<OpenedMatrix<'a, T>>, AllocError>
     requires { All (λ k. k < length restorable.now.opening.indices.now) queries.now }
     ensures heights { IfOk result (λ matrices. All (λ m. length m.queries.now ≡ length queries.now) matrices.items) }
     ensures rows { let sets = row_sets restorable.now.opening.sets.now in
-        let heights = heights_of restorable.now.steps.now.dimensions.now in
+        let heights = heights_of restorable.now.schedule.now.dimensions.now in
         IfOk result (λ matrices. (j : ℕ) → j < length queries.now → rows_over row_in matrices.items j
         ≡ words_of_exponent exponent (zip heights (slice_index_or sets (slice_index queries.now j) []))) }
 {
-    let dimensions = restorable.steps.dimensions;
+    let dimensions = restorable.schedule.dimensions;
     let mut matrices = Vec::new(alloc);
     for place in 0..dimensions.len() {
         if exponent_of(dimensions[place].height) == exponent {
@@ -152,7 +153,7 @@ fn opened_matrices<'a, T, X>(
 /// other children of the parent of each node on the path, ascending.
 pub(crate) fn paths_of<T, W: Copy, const D: usize>(
     alloc: Global,
-    restorable: &RestorableOpening<'_, T, [W; D]>,
+    restorable: &CheckedPrunedOpening<'_, T, [W; D]>,
     layers: &[CoveredLayer<'_, [W; D]>],
 ) -> Result<Vec<AuthPath<[W; D]>>, AllocError>
     requires { IsClimb (tree_of restorable.now) restorable.now.opening.indices.now restorable.now.cap_layer layers.now }
@@ -218,32 +219,32 @@ impl<
         opening: PrunedOpeningRef<'b, P::Value, [PW::Value; D]>,
     ) -> Result<
         (
-            RestorableOpening<'b, P::Value, [PW::Value; D]>,
+            CheckedPrunedOpening<'b, P::Value, [PW::Value; D]>,
             CoveredLayer<'b, [PW::Value; D]>,
         ),
         MerkleTreeError,
     >
         ensures answer { let refusal = pruned_refusal P.Value.eq (shape_in self.now) self.now.cap_layer in
             AnswersUnlessMemory result (refusal (pruned_in opening.entry)) }
-        ensures steps { IfOk result (λ made. made.0.steps.now ≡ self.now.steps) }
+        ensures schedule { IfOk result (λ made. made.0.schedule.now ≡ self.now.schedule) }
         ensures layer { IfOk result (λ made. made.0.cap_layer ≡ self.now.cap_layer) }
         ensures opening { IfOk result (λ made. made.0.opening ≡ opening.entry) }
         ensures leaves { IfOk result (λ made. AreLeaves (tree_of made.0) made.0.opening.indices.now made.1) }
     {
-        let steps = &self.steps;
+        let schedule = &self.schedule;
         let cap_layer = self.cap_layer;
         let indices = opening.indices;
         let num_digests = opening.sent.len();
-        let leaves = check_pruned(alloc, steps, cap_layer, indices, opening.sets, num_digests)?;
+        let leaves = check_pruned(alloc, schedule, cap_layer, indices, opening.sets, num_digests)?;
         let nodes = Vec::from_slice(alloc, &leaves.indices)?;
-        let restorable = RestorableOpening {
-            steps,
+        let restorable = CheckedPrunedOpening {
+            schedule,
             cap_layer,
             opening,
             leaves,
         };
         let leaf_layer = CoveredLayer {
-            covered: Covered::new(steps, indices, nodes),
+            covered: Covered::new(schedule, indices, nodes),
             step: 0,
             has_rows: true,
             children: Vec::new(alloc),
@@ -256,7 +257,7 @@ impl<
     fn row_digests(
         &self,
         alloc: Global,
-        restorable: &RestorableOpening<'_, P::Value, [PW::Value; D]>,
+        restorable: &CheckedPrunedOpening<'_, P::Value, [PW::Value; D]>,
         exponent: usize,
     ) -> Result<Vec<[PW::Value; D]>, AllocError>
         ensures { (l : ℕ) → l ≤ restorable.now.cap_layer → exponent ≡ layer_exponent (tree_of restorable.now) l →
@@ -304,11 +305,11 @@ impl<
     pub(crate) fn node_digests(
         &self,
         alloc: Global,
-        restorable: &RestorableOpening<'_, P::Value, [PW::Value; D]>,
+        restorable: &CheckedPrunedOpening<'_, P::Value, [PW::Value; D]>,
         layer: usize,
         here: &CoveredLayer<'_, [PW::Value; D]>,
     ) -> Result<Vec<[PW::Value; D]>, AllocError>
-        requires arity { restorable.now.steps.now.arity ≡ N }
+        requires arity { restorable.now.schedule.now.arity ≡ N }
         requires in_tree { layer ≤ restorable.now.cap_layer }
         requires covered { let f = functions_of self.now in
             IsLayer f (tree_of restorable.now) restorable.now.cap_layer (opened_by restorable.now) layer here.now }
@@ -334,11 +335,11 @@ impl<
     pub(crate) fn check_roots(
         &self,
         alloc: Global,
-        restorable: &RestorableOpening<'_, P::Value, [PW::Value; D]>,
+        restorable: &CheckedPrunedOpening<'_, P::Value, [PW::Value; D]>,
         here: &CoveredLayer<'_, [PW::Value; D]>,
         roots: &[[PW::Value; D]],
     ) -> Result<(), MerkleTreeError>
-        requires arity { restorable.now.steps.now.arity ≡ N }
+        requires arity { restorable.now.schedule.now.arity ≡ N }
         requires covered { let f = functions_of self.now in
             IsLayer f (tree_of restorable.now) restorable.now.cap_layer (opened_by restorable.now)
             restorable.now.cap_layer here.now }
@@ -356,10 +357,10 @@ impl<
     fn top_layer<'b>(
         &self,
         alloc: Global,
-        restorable: &RestorableOpening<'_, P::Value, [PW::Value; D]>,
+        restorable: &CheckedPrunedOpening<'_, P::Value, [PW::Value; D]>,
         leaves: CoveredLayer<'b, [PW::Value; D]>,
     ) -> Result<CoveredLayer<'b, [PW::Value; D]>, AllocError>
-        requires arity { restorable.now.steps.now.arity ≡ N }
+        requires arity { restorable.now.schedule.now.arity ≡ N }
         requires leaves { AreLeaves (tree_of restorable.now) restorable.now.opening.indices.now leaves }
         ensures { let f = functions_of self.now in
             let cap_layer = restorable.now.cap_layer in
@@ -380,10 +381,10 @@ impl<
     pub(crate) fn restored_layers<'b>(
         &self,
         alloc: Global,
-        restorable: &RestorableOpening<'_, P::Value, [PW::Value; D]>,
+        restorable: &CheckedPrunedOpening<'_, P::Value, [PW::Value; D]>,
         leaves: CoveredLayer<'b, [PW::Value; D]>,
     ) -> Result<Vec<CoveredLayer<'b, [PW::Value; D]>>, AllocError>
-        requires arity { restorable.now.steps.now.arity ≡ N }
+        requires arity { restorable.now.schedule.now.arity ≡ N }
         requires leaves { AreLeaves (tree_of restorable.now) restorable.now.opening.indices.now leaves }
         ensures { let f = functions_of self.now in
             let cap_layer = restorable.now.cap_layer in

@@ -26,7 +26,8 @@ use p3_merkle_core::geometry::MAX_HEIGHT;
 use p3_merkle_core::pruning::{
     PrunedBatchOpening, PrunedProof, PrunedRows, check_indices, distinct_indices,
 };
-use p3_merkle_core::steps::{Covered, steps_of};
+use p3_merkle_core::covered_nodes::Covered;
+use p3_merkle_core::schedule::schedule_of;
 use std::alloc::{AllocError, Global};
 
 /// The nodes whose values are the proof of the entries at these indices, counted from 0, in a log of `size` entries, in
@@ -85,10 +86,10 @@ fn boundary_slots(
     ensures layers { IfOk result (λ slots. All (λ slot. slot.0 < 64) slots.items) }
 {
     let dimensions = dimensions_of(size);
-    let steps = steps_of(&dimensions, 2);
-    let mut covered = Covered::new(&steps, indices, distinct_indices(alloc, indices)?);
+    let schedule = schedule_of(&dimensions, 2);
+    let mut covered = Covered::new(&schedule, indices, distinct_indices(alloc, indices)?);
     let mut slots = Vec::new(alloc);
-    for layer in 0..steps.num_levels {
+    for layer in 0..schedule.num_levels {
         push_uncovered(&mut slots, layer, &covered.nodes)?;
         covered.climb();
     }

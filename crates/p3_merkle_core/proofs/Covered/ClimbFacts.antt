@@ -5,15 +5,15 @@ use Rattle.p3_merkle_core.specs.Geometry.{Shape, layer_exponent, layer_len, shap
 use Rattle.p3_merkle_core.specs.Pruning.{CanQuery, is_covered}
 use Rattle.p3_merkle_core.specs.Inner.Agreement.{distinct, IsAscending}
 use Rattle.p3_merkle_core.specs.Inner.Covered.{covered_at, AreCovered}
-use Rattle.p3_merkle_core.specs.declared.steps.Covered.{Covered}
-use Rattle.p3_merkle_core.specs.declared.steps.StepUp.{StepUp}
+use Rattle.p3_merkle_core.specs.declared.covered_nodes.Covered.{Covered}
+use Rattle.p3_merkle_core.specs.declared.schedule.LevelStep.{LevelStep}
 use Rattle.p3_merkle_core.proofs.Covered.CoveredFacts.{counted_at, covered_above, pruned_next}
 use Rattle.p3_merkle_core.proofs.Lists.RisingFacts.{rising_filter}
 use Rattle.p3_merkle_core.proofs.Pruned.SlotFacts.{ascending_from, parents_once}
 use Rattle.p3_merkle_core.proofs.Shapes.StepFacts.{step_above_1}
 
 abbrev pub shape_over : Covered → Shape
-shape_over covered = shape_of covered.steps.now.arity covered.steps.now.dimensions.now
+shape_over covered = shape_of covered.schedule.now.arity covered.schedule.now.dimensions.now
 
 -- `here` covered nodes have `above` parents, n children each: what is counted of these fits
 pub record IsClimb (covered : Covered) (x n here above : ℕ) (parents : List ℕ) : Type 0 where
@@ -23,8 +23,8 @@ pub record IsClimb (covered : Covered) (x n here above : ℕ) (parents : List �
   pub there : AreCovered (shape_over covered) covered.indices.now (covered.layer + 1) x parents
       (covered.boundary_below + (n * above - here))
 
-pub climbs : (covered : Covered) (up : StepUp) (here above : ℕ) (parents : List ℕ) →
-    covered.layer < covered.steps.now.num_levels → up.step ≡ step (shape_over covered) covered.layer →
+pub climbs : (covered : Covered) (up : LevelStep) (here above : ℕ) (parents : List ℕ) →
+    covered.layer < covered.schedule.now.num_levels → up.step ≡ step (shape_over covered) covered.layer →
     up.exponent ≡ layer_exponent (shape_over covered) (suc covered.layer) → here ≡ length covered.nodes.items →
     above ≡ length parents →
     (IsAscending covered.nodes.items → parents ≡ distinct (map (λ j. j / up.step) covered.nodes.items)) →
@@ -38,7 +38,7 @@ climbs covered up here above parents h is_step is_exponent many fewer divided =
     record {
       well_shaped = c.queried.well_shaped;
       below = c.queried.below;
-      in_tree = omega (arith, covered.steps.now.walked.whole);
+      in_tree = omega (arith, covered.schedule.now.walked.whole);
     } in
     let order = ascending_from (covered_at s queries l) (rising_filter (is_covered s queries l) 0 (layer_len s l)) in
     let some : 0 < step s l = omega (arith, step_above_1 s l w.well_shaped.above_1) in

@@ -18,8 +18,8 @@ use Rattle.p3_support.specs.Batches.{heights_of}
 use Rattle.p3_support.specs.declared.matrix.Dimensions.{Dimensions}
 use Rattle.p3_merkle_core.specs.Geometry.{exponent, Shape, heights, is_bridge, layer_exponent}
 use Rattle.p3_merkle_core.specs.Inner.Exponents.{digits, next_below}
-use Rattle.p3_merkle_core.specs.Inner.Steps.{level_step}
-use Rattle.p3_merkle_core.specs.declared.steps.LevelStep.{LevelStep}
+use Rattle.p3_merkle_core.specs.Inner.Schedules.{level_step}
+use Rattle.p3_merkle_core.specs.declared.schedule.LevelKind.{LevelKind}
 use Rattle.p3_merkle_core.proofs.Shapes.StepFacts.{whole_step_falls, next_exponent, IsAt, at_more}
 
 -- a number that has k digits
@@ -214,40 +214,40 @@ step_found arity x e a n y r hs two some is_e is_a is_n is_r is_y =
     ]
 
 -- one that is read
-pub kept_at : (s : Shape) (kept : List LevelStep) (n l : ℕ) (none : LevelStep) → take n kept
+pub kept_at : (s : Shape) (kept : List LevelKind) (n l : ℕ) (none : LevelKind) → take n kept
     ≡ map (level_step s) (range_with_len 0 n) → l < n → get_or kept l none ≡ level_step s l
 kept_at s kept n l none all below = grind (arith, common_steps, get_or-take, get_or-map-range_with_len)
 
 -- and whether it is a bridge step
-pub bridge_at : (s : Shape) (kept : List LevelStep) (n l : ℕ) (none : LevelStep) → take n kept
+pub bridge_at : (s : Shape) (kept : List LevelKind) (n l : ℕ) (none : LevelKind) → take n kept
     ≡ map (level_step s) (range_with_len 0 n) → l < n →
     (get_or kept l none).is_bridge ≡ is_bridge s (layer_exponent s l)
-bridge_at s kept n l none all below = ap (λ (step : LevelStep). step.is_bridge) (kept_at s kept n l none all below)
+bridge_at s kept n l none all below = ap (λ (step : LevelKind). step.is_bridge) (kept_at s kept n l none all below)
 
 -- one more that is written
-pub kept_more : (s : Shape) (kept : List LevelStep) (n : ℕ) (more : LevelStep) → take n kept
+pub kept_more : (s : Shape) (kept : List LevelKind) (n : ℕ) (more : LevelKind) → take n kept
     ≡ map (level_step s) (range_with_len 0 n) → n < length kept → more ≡ level_step s n →
     take (n + 1) (set kept n more) ≡ map (level_step s) (range_with_len 0 (n + 1))
 kept_more s kept n more all room is = take_more_set kept n more room ∙ rw (all, is) refl
     ∙ sym (map-range_with_len_more (level_step s) 0 n n (omega arith))
 
 -- what the walk finds at layer l, whose exponent is x: the next one has y
-pub level_is : (s : Shape) (l x y : ℕ) (found : LevelStep) → x ≡ layer_exponent s l → found.is_bridge ≡ is_bridge s x →
+pub level_is : (s : Shape) (l x y : ℕ) (found : LevelKind) → x ≡ layer_exponent s l → found.is_bridge ≡ is_bridge s x →
     y ≡ cond (is_bridge s x) (x - 1) (x - exponent s.arity) →
     found.has_rows ≡ list_any (λ h. eqb (exponent h) y) (heights s) → found ≡ level_step s l
 level_is s l x y found at bridge next rows = grind (arith, common_steps, next_exponent)
 
 -- a whole step to a layer without rows
-abbrev pub none : LevelStep
+abbrev pub none : LevelKind
 none = record { is_bridge = false; has_rows = false }
 
 -- m steps are kept, and lead to the root
-pub record IsWalked (s : Shape) (kept : List LevelStep) (m : ℕ) : Type 0 where
+pub record IsWalked (s : Shape) (kept : List LevelKind) (m : ℕ) : Type 0 where
   pub at_root : IsAt s m 0
   pub all : take m kept ≡ map (level_step s) (range_with_len 0 m)
 
 -- from layer n with the exponent x, under which no height has one, k whole steps are left; they are kept already
-pub whole_steps : (s : Shape) (k n x m : ℕ) (kept : List LevelStep) → m ≡ n + k → 2 ≤ s.arity → m ≤ length kept →
+pub whole_steps : (s : Shape) (k n x m : ℕ) (kept : List LevelKind) → m ≡ n + k → 2 ≤ s.arity → m ≤ length kept →
     IsAt s n x → next_below x (heights s) ≡ 0 → x ≤ k * exponent s.arity →
     ((j : ℕ) → j < k → j * exponent s.arity < x) → ((l : ℕ) → n ≤ l → l < length kept → get_or kept l none ≡ none) →
     take n kept ≡ map (level_step s) (range_with_len 0 n) → IsWalked s kept m

@@ -2,7 +2,7 @@
 use Rattle.std.specs.Prelude.{◌≡◌, ◌+◌, ◌-◌, ◌%◌, ◌^◌, ◌≤◌, ℕ, List, [], ◌∷◌, max, nat_lt, if◌then◌else◌}
 use Rattle.std.specs.Int.{leading_zeros, w64}
 use Rattle.p3_merkle_core.specs.Geometry.{exponent}
-use Rattle.p3_merkle_core.specs.declared.steps.Exponents.{Exponents}
+use Rattle.p3_merkle_core.specs.declared.schedule.Exponents.{Exponents}
 
 -- one more than the greatest exponent below x that a height has, and 0 where none has one
 abbrev pub next_below : ℕ → List ℕ → ℕ

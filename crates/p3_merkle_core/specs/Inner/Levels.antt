@@ -2,7 +2,7 @@
 use Rattle.std.specs.Prelude.{◌≡◌, ℕ, suc, ◌*◌, ◌<◌, ◌≤◌}
 use Rattle.p3_merkle_core.specs.Geometry.{Shape, heights, layer_exponent, step, raw_len, layer_len, levels, IsArity}
 use Rattle.p3_merkle_core.specs.Geometry.{IsLawful, has_rows, height_at}
-use Rattle.p3_merkle_core.specs.declared.levels.Level.{Level}
+use Rattle.p3_merkle_core.specs.declared.layer_shape.LayerShape.{LayerShape}
 use Rattle.p3_support.specs.Batches.{greatest}
 
 -- layer l is below the top, with the exponent x and r nodes
@@ -14,7 +14,7 @@ pub record IsBelowTop (s : Shape) (l x r : ℕ) : Type 0 where
   pub in_tree : l < levels s
 
 -- what is known of the layer above the layer v.below
-pub record IsLevel (s : Shape) (v : Level) : Type 0 where
+pub record IsLevel (s : Shape) (v : LayerShape) : Type 0 where
   pub step_is : v.step ≡ step s v.below
   pub wide : 2 ≤ v.step
   pub narrow : v.step ≤ s.arity

@@ -15,9 +15,9 @@ use Rattle.p3_merkle_core.specs.Checks.{leaf_input}
 use Rattle.p3_merkle_core.specs.declared.collision.InputPair.{InputPair}
 use Rattle.p3_support.specs.Shown.{row_lists}
 use Rattle.p3_merkle_verifier.specs.declared.openings.OpeningRef.{OpeningRef}
-use Rattle.p3_merkle_verifier.specs.declared.path.ComputedLevel.{ComputedLevel}
+use Rattle.p3_merkle_verifier.specs.declared.path.PathLevel.{PathLevel}
 use Rattle.p3_merkle_verifier.specs.declared.checker.Checker.{Checker}
-use Rattle.p3_merkle_verifier.specs.declared.path.Progress.{Progress}
+use Rattle.p3_merkle_verifier.specs.declared.path.PathState.{PathState}
 use Rattle.p3_merkle_verifier.specs.Inner.Collisions.{level_inputs, Shows}
 
 module _ {P PW H C G V W : Type 0} {N D : ℕ} {p : packed.Ghosts P V} {pd : default.Ghosts V} {pe : equality.Ghosts V}
@@ -34,7 +34,7 @@ module _ {P PW H C G V W : Type 0} {N D : ℕ} {p : packed.Ghosts P V} {pd : def
 
   -- the shape of a checker's tree
   abbrev pub shape_in : Checker P PW H C G N D V W p pd pe q qd qe h c → Shape
-  shape_in checker = shape_of checker.steps.arity checker.steps.dimensions.now
+  shape_in checker = shape_of checker.schedule.arity checker.schedule.dimensions.now
 
   -- what a checker checks openings against
   abbrev pub params_in : Checker P PW H C G N D V W p pd pe q qd qe h c → Params V W
@@ -55,26 +55,26 @@ abbrev pub step_siblings : {X : Type 0} → ℕ → List X → ℕ → List X
 step_siblings step siblings used = take (step - 1) (drop used siblings)
 
 -- one step higher, at a layer of this exponent, with this digest
-pub record IsAbove {X : Type 0} (step exponent : ℕ) (digest : X) (progress above : Progress X) : Type 0 where
+pub record IsAbove {X : Type 0} (step exponent : ℕ) (digest : X) (state above : PathState X) : Type 0 where
   pub at_exponent : above.exponent ≡ exponent
-  pub at_node : above.node ≡ progress.node / step
-  pub taken : above.used ≡ progress.used + (step - 1)
+  pub at_node : above.node ≡ state.node / step
+  pub taken : above.used ≡ state.used + (step - 1)
   pub reached : above.digest ≡ digest
 
 -- how far the check of an opening is at layer l: at the node above the leaf, with the digest that the path reaches
-pub record IsProgress {T W : Type 0} (f : Functions T W) (s : Shape) (o : Opening T W) (l : ℕ)
-    (progress : Progress (List W)) : Type 0 where
-  pub at_exponent : progress.exponent ≡ layer_exponent s l
-  pub at_node : progress.node ≡ ancestor s l o.index
-  pub taken : progress.used ≡ siblings_below s l
-  pub reached : progress.digest ≡ path_digest f s o l
+pub record IsPathState {T W : Type 0} (f : Functions T W) (s : Shape) (o : Opening T W) (l : ℕ)
+    (state : PathState (List W)) : Type 0 where
+  pub at_exponent : state.exponent ≡ layer_exponent s l
+  pub at_node : state.node ≡ ancestor s l o.index
+  pub taken : state.used ≡ siblings_below s l
+  pub reached : state.digest ≡ path_digest f s o l
 
 -- level l of the check of an opening: it has the level's inputs, and reaches the next layer
 pub record IsLevelOfCheck {T W : Type 0} (f : Functions T W) (s : Shape) (o : Opening T W) (l : ℕ)
-    (level : ComputedLevel (List W) (List (List W))) : Type 0 where
+    (level : PathLevel (List W) (List (List W))) : Type 0 where
   pub at_level : level.level ≡ l
   pub inputs_are : level_inputs l (layer_words s o.rows (suc l)) level ≡ inputs_at f s o l
-  pub progress : IsProgress f s o (suc l) level.above
+  pub state : IsPathState f s o (suc l) level.above
 
 -- the inputs of the leaf, if the checks of o and u share it and they differ
 abbrev pub leaf_difference : {T W : Type 0} → (Input T W → Input T W → Bool) → Shape → Opening T W → Opening T W →
@@ -91,7 +91,7 @@ level_difference test f s l o u =
 
 -- what is found of two levels, where these are the words of the matrices above them, shows their last difference
 abbrev pub ShowsLevel : {T W : Type 0} → (Input T W → Input T W → Bool) → List T → List T →
-    ComputedLevel (List W) (List (List W)) → ComputedLevel (List W) (List (List W)) → Option (InputPair T (List W)) →
+    PathLevel (List W) (List (List W)) → PathLevel (List W) (List (List W)) → Option (InputPair T (List W)) →
     Type 0
 ShowsLevel {T} {W} test a b first second found =
     (f : Functions T W) (s : Shape) (l : ℕ) (o u : Opening T W) → IsLevelOfCheck f s o l first →
@@ -106,8 +106,8 @@ pub record AgreeBelow {T W : Type 0} (f : Functions T W) (s : Shape) (o u : Open
       inputs_at f s o k ≡ inputs_at f s u k
 
 -- two levels, where these are the words of the matrices above them, have the same inputs if their checks share them
-abbrev pub AgreeOnLevel : {T W : Type 0} → List T → List T → ComputedLevel (List W) (List (List W)) →
-    ComputedLevel (List W) (List (List W)) → Type 0
+abbrev pub AgreeOnLevel : {T W : Type 0} → List T → List T → PathLevel (List W) (List (List W)) →
+    PathLevel (List W) (List (List W)) → Type 0
 AgreeOnLevel {T} {W} a b first second =
     (f : Functions T W) (s : Shape) (l : ℕ) (o u : Opening T W) → IsLevelOfCheck f s o l first →
     IsLevelOfCheck f s u l second → a ≡ layer_words s o.rows (suc l) → b ≡ layer_words s u.rows (suc l) →

@@ -8,7 +8,7 @@ use Rattle.p3_support.specs.Batches.{heights_of}
 use Rattle.p3_support.specs.Shown.{row_lists}
 use Rattle.p3_merkle_verifier.specs.Inner.Paths.{rows_of_exponent}
 use Rattle.p3_merkle_verifier.specs.declared.extraction.RowPair.{RowPair}
-use Rattle.p3_merkle_verifier.specs.declared.path.ComputedLevel.{ComputedLevel}
+use Rattle.p3_merkle_verifier.specs.declared.path.PathLevel.{PathLevel}
 
 module _ {T W : Type 0} where
   -- what is found shows these two inputs, or there are none and nothing is found
@@ -41,5 +41,5 @@ inputs_above l words None = []
 inputs_above l words (Some pair) = words_at (Rows l) words ∷ digests_at (Pair l) pair ∷ []
 
 -- the inputs of level l, where these are the words of the matrices above it
-abbrev pub level_inputs : {T W : Type 0} → ℕ → List T → ComputedLevel (List W) (List (List W)) → List (Input T W)
+abbrev pub level_inputs : {T W : Type 0} → ℕ → List T → PathLevel (List W) (List (List W)) → List (Input T W)
 level_inputs l words level = digests_at (Group l) level.group ∷ inputs_above l words level.pair

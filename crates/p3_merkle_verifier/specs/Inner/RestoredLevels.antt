@@ -11,18 +11,18 @@ use Rattle.p3_merkle_core.specs.Pruning.{PrunedOpening, pruned_of, restored_node
 use Rattle.p3_merkle_core.specs.declared.pruning.CoveredLayer.{CoveredLayer}
 use Rattle.p3_support.specs.Shown.{row_sets}
 use Rattle.p3_merkle_verifier.specs.declared.openings.PrunedOpeningRef.{PrunedOpeningRef}
-use Rattle.p3_merkle_verifier.specs.declared.openings.RestorableOpening.{RestorableOpening}
+use Rattle.p3_merkle_verifier.specs.declared.openings.CheckedPrunedOpening.{CheckedPrunedOpening}
 
 -- the borrowed pruned opening
 abbrev pub pruned_in : {T W : Type 0} → PrunedOpeningRef T (List W) → PrunedOpening T W
 pruned_in opening = pruned_of opening.indices.now (row_sets opening.sets.now) opening.sent.now
 
 -- the shape of the tree that an opening is of
-abbrev pub tree_of : {T X : Type 0} → RestorableOpening T X → Shape
-tree_of restorable = shape_of restorable.steps.now.arity restorable.steps.now.dimensions.now
+abbrev pub tree_of : {T X : Type 0} → CheckedPrunedOpening T X → Shape
+tree_of restorable = shape_of restorable.schedule.now.arity restorable.schedule.now.dimensions.now
 
 -- the opening itself
-abbrev pub opened_by : {T W : Type 0} → RestorableOpening T (List W) → PrunedOpening T W
+abbrev pub opened_by : {T W : Type 0} → CheckedPrunedOpening T (List W) → PrunedOpening T W
 opened_by restorable = pruned_in restorable.opening
 
 -- the node of layer l above the index of query k
@@ -40,7 +40,7 @@ row_values f s p l = map (λ j. f.hash (words_under s p l j)) (covered_at s p.in
 
 -- layer l of a tree of this shape, whose covered nodes are those of some indices
 pub record IsCoveredAt {X : Type 0} (s : Shape) (indices : List ℕ) (l : ℕ) (layer : CoveredLayer X) : Type 0 where
-  pub shape_is : shape_of layer.covered.steps.now.arity layer.covered.steps.now.dimensions.now ≡ s
+  pub shape_is : shape_of layer.covered.schedule.now.arity layer.covered.schedule.now.dimensions.now ≡ s
   pub indices_are : layer.covered.indices.now ≡ indices
   pub layer_is : layer.covered.layer ≡ l
 

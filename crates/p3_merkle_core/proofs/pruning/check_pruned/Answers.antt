@@ -24,20 +24,20 @@ pub new-covered-requires : goal.new-covered-requires
 new-covered-requires g c = record {
   arity = c.requires.arity;
   low = c.in_ok-check_queries.ensures.low;
-  below = all_below (greatest (heights_of c.args.steps.now.dimensions.now)) c.args.indices.now
-      (asked_from (heights_of c.args.steps.now.dimensions.now) c.args.indices.now (length c.args.rows.now)
+  below = all_below (greatest (heights_of c.args.schedule.now.dimensions.now)) c.args.indices.now
+      (asked_from (heights_of c.args.schedule.now.dimensions.now) c.args.indices.now (length c.args.rows.now)
       c.args.num_digests c.in_ok-check_queries.ensures.answer).highest;
   nodes = c.in_ok-leaves.ensures.items ∙ c.deref.ensures.value ∙ c.in_ok-queried.ensures.indices;
 }
 
 pub returns-in_err-check_digest_count : goal.returns-in_err-check_digest_count
 returns-in_err-check_digest_count g c =
-    let s = shape_of c.args.steps.now.arity c.args.steps.now.dimensions.now in
+    let s = shape_of c.args.schedule.now.arity c.args.schedule.now.dimensions.now in
     let early = rw (← length-map c.args.rows.now (λ rows. row_lists rows.items)) at
     c.in_ok-check_queries.ensures.answer in
     let left = err_from_is_err_and c.from_residual-in_err-check_digest_count.result
     c.from_residual-in_err-check_digest_count.ensures.1 in
-    let len = rw (c.new-covered.ensures.steps, c.new-covered.ensures.indices) at c.boundary_len.ensures in
+    let len = rw (c.new-covered.ensures.schedule, c.new-covered.ensures.indices) at c.boundary_len.ensures in
     let some = rw len at c.in_err-check_digest_count.ensures in
     let found = pruned_counted g.T.PartialEq.eq s c.args.cap_layer c.args.indices.now (row_sets c.args.rows.now)
     c.args.num_digests c.in_err-check_digest_count.field-0.0 early
@@ -48,7 +48,7 @@ returns-in_err-check_digest_count g c =
 inside : (g : Over) (c : After-deref-query-items g) →
     All (λ query. query < length c.args.rows.now) c.deref-query-items.result.now
 inside g c =
-    let asked = asked_from (heights_of c.args.steps.now.dimensions.now) c.args.indices.now (length c.args.rows.now)
+    let asked = asked_from (heights_of c.args.schedule.now.dimensions.now) c.args.indices.now (length c.args.rows.now)
     c.args.num_digests c.in_ok-check_queries.ensures.answer in
     rw (c.deref-query-items.ensures.value, ← asked.pairs) (firsts_inside
     c.in_ok-queried.queried.first_queries.items c.args.indices.now c.in_ok-queried.ensures.first_queries)
@@ -64,7 +64,7 @@ read g c all = set_read c.args.rows.now (get_or c.deref-query-items.result.now c
 
 -- where nothing is refused before the rows are looked at, they decide
 late : (g : Over) (c : In_ok-check_digest_count g) (answer : Option MerkleTreeError) →
-    let s = shape_of c.args.steps.now.arity c.args.steps.now.dimensions.now in
+    let s = shape_of c.args.schedule.now.arity c.args.schedule.now.dimensions.now in
     let sets = row_sets c.args.rows.now in
     late_refusal g.T.PartialEq.eq s c.args.cap_layer c.in_ok-queried.queried.indices.items
     c.in_ok-queried.queried.first_queries.items sets ≡ answer →
@@ -72,8 +72,8 @@ late : (g : Over) (c : In_ok-check_digest_count g) (answer : Option MerkleTreeEr
 late g c answer is =
     let early = rw (← length-map c.args.rows.now (λ rows. row_lists rows.items)) at
     c.in_ok-check_queries.ensures.answer in
-    let len = rw (c.new-covered.ensures.steps, c.new-covered.ensures.indices) at c.boundary_len.ensures in
-    pruned_late g.T.PartialEq.eq (shape_of c.args.steps.now.arity c.args.steps.now.dimensions.now) c.args.cap_layer
+    let len = rw (c.new-covered.ensures.schedule, c.new-covered.ensures.indices) at c.boundary_len.ensures in
+    pruned_late g.T.PartialEq.eq (shape_of c.args.schedule.now.arity c.args.schedule.now.dimensions.now) c.args.cap_layer
     c.in_ok-queried.queried.indices.items c.in_ok-queried.queried.first_queries.items c.args.indices.now
     (row_sets c.args.rows.now) c.args.num_digests answer c.in_ok-queried.ensures.indices
     c.in_ok-queried.ensures.first_queries early c.in_ok-check_repeats.ensures
@@ -93,7 +93,7 @@ loop-query-preserved g c =
     let firsts = c.deref-query-items.result.now in
     let n = c.loop-query.query-index in
     let at = goal.at.loop-query-preserved g c in
-    let h = λ (query : ℕ). width_refusal c.args.steps.now.dimensions.now
+    let h = λ (query : ℕ). width_refusal c.args.schedule.now.dimensions.now
     (slice_index_or (row_sets c.args.rows.now) query []) in
     let none : h (get_or firsts n 0) ≡ None =
     rw (read g at.After-deref-in-loop-query (inside g at.After-deref-query-items)) c.in_ok-check_widths.ensures in
@@ -105,7 +105,7 @@ returns-in_err-check_widths g c =
     let firsts = c.deref-query-items.result.now in
     let n = c.loop-query.query-index in
     let at = goal.at.returns-in_err-check_widths g c in
-    let h = λ (query : ℕ). width_refusal c.args.steps.now.dimensions.now
+    let h = λ (query : ℕ). width_refusal c.args.schedule.now.dimensions.now
     (slice_index_or (row_sets c.args.rows.now) query []) in
     let e = c.in_err-check_widths.field-0.0 in
     let here : h (get_or firsts n 0) ≡ Some e =
@@ -124,10 +124,10 @@ check_shared_rows-requires g c =
     let indices = c.args.indices.now in
     let d = distinct indices in
     let firsts = c.in_ok-queried.queried.first_queries.items in
-    let asked = asked_from (heights_of c.args.steps.now.dimensions.now) c.args.indices.now (length c.args.rows.now)
+    let asked = asked_from (heights_of c.args.schedule.now.dimensions.now) c.args.indices.now (length c.args.rows.now)
     c.args.num_digests c.in_ok-check_queries.ensures.answer in
-    let s = shape_of c.args.steps.now.arity c.args.steps.now.dimensions.now in
-    let m = greatest (heights_of c.args.steps.now.dimensions.now) in
+    let s = shape_of c.args.schedule.now.arity c.args.schedule.now.dimensions.now in
+    let m = greatest (heights_of c.args.schedule.now.dimensions.now) in
     record {
       arity = c.requires.arity;
       low = c.in_ok-check_queries.ensures.low;
@@ -137,17 +137,17 @@ check_shared_rows-requires g c =
           ∙ ap length (sym c.in_ok-queried.ensures.first_queries);
       ascending = rw c.in_ok-queried.ensures.indices (increasing_from 0 d (distinct_rising indices));
       queries = rw (← asked.pairs) (firsts_inside firsts indices c.in_ok-queried.ensures.first_queries);
-      full = full_from c.args.steps.now.dimensions.now firsts (row_sets c.args.rows.now)
+      full = full_from c.args.schedule.now.dimensions.now firsts (row_sets c.args.rows.now)
           (all_fit c.deref-query-items.result.now _ _ c.loop-query.query-index (omega arith)
           c.deref-query-items.ensures.value c.loop-query.invariant);
     }
 
 pub returns-in_err-check_shared_rows : goal.returns-in_err-check_shared_rows
 returns-in_err-check_shared_rows g c =
-    let s = shape_of c.args.steps.now.arity c.args.steps.now.dimensions.now in
+    let s = shape_of c.args.schedule.now.arity c.args.schedule.now.dimensions.now in
     let queried = c.in_ok-queried.queried in
     let sets = row_sets c.args.rows.now in
-    let widths = first_of (λ query. width_refusal c.args.steps.now.dimensions.now (slice_index_or sets query []))
+    let widths = first_of (λ query. width_refusal c.args.schedule.now.dimensions.now (slice_index_or sets query []))
     queried.first_queries.items in
     let groups = layers_refusal g.T.PartialEq.eq s c.args.cap_layer queried.indices.items queried.first_queries.items
     sets in
@@ -166,10 +166,10 @@ returns-in_err-check_shared_rows g c =
 
 pub returns : goal.returns
 returns g c =
-    let s = shape_of c.args.steps.now.arity c.args.steps.now.dimensions.now in
+    let s = shape_of c.args.schedule.now.arity c.args.schedule.now.dimensions.now in
     let queried = c.in_ok-queried.queried in
     let sets = row_sets c.args.rows.now in
-    let widths = first_of (λ query. width_refusal c.args.steps.now.dimensions.now (slice_index_or sets query []))
+    let widths = first_of (λ query. width_refusal c.args.schedule.now.dimensions.now (slice_index_or sets query []))
     queried.first_queries.items in
     let groups = layers_refusal g.T.PartialEq.eq s c.args.cap_layer queried.indices.items queried.first_queries.items
     sets in

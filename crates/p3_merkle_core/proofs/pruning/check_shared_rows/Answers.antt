@@ -20,7 +20,7 @@ use Rattle.p3_merkle_core.proofs.pruning.check_shared_rows.Goals as goal
 
 pub loop-level-init : goal.loop-level-init
 loop-level-init g c =
-    let s = shape_of c.args.steps.now.arity c.args.steps.now.dimensions.now in
+    let s = shape_of c.args.schedule.now.arity c.args.schedule.now.dimensions.now in
     let leaves = c.args.queried.now.indices.items in
     let firsts = c.args.queried.now.first_queries.items in
     let sets = row_sets c.args.rows.now in
@@ -28,7 +28,7 @@ loop-level-init g c =
     let t = c.args.cap_layer in
     let e : t - 0 ≡ t = omega arith in
     record {
-      at = c.args.steps.now.walked.leaves;
+      at = c.args.schedule.now.walked.leaves;
       so_far = kept_or (h 0) (first_of h (range_with_len 1 (t - 0)))
           (layers_refusal g.T.PartialEq.eq s t leaves firsts sets) (rw e refl)
           (leaves_agree g.T.PartialEq.eq g.met.T.Eq.laws s leaves firsts sets c.requires.ascending);
@@ -36,18 +36,18 @@ loop-level-init g c =
 
 pub overflow_sub-bits : goal.overflow_sub-bits
 overflow_sub-bits g c =
-    let s = shape_of c.args.steps.now.arity c.args.steps.now.dimensions.now in
+    let s = shape_of c.args.schedule.now.arity c.args.schedule.now.dimensions.now in
     omega (
       arith,
       c.step_up-up.ensures.exponent,
-      c.args.steps.now.walked.leaves,
+      c.args.schedule.now.walked.leaves,
       layer_start s,
       exponent_low s (suc c.loop-level.level),
     )
 
 pub check_rows_under_nodes-requires : goal.check_rows_under_nodes-requires
 check_rows_under_nodes-requires g c =
-    let s = shape_of c.args.steps.now.arity c.args.steps.now.dimensions.now in
+    let s = shape_of c.args.schedule.now.arity c.args.schedule.now.dimensions.now in
     let leaves = c.args.queried.now.indices.items in
     let firsts = c.args.queried.now.first_queries.items in
     let sets = row_sets c.args.rows.now in
@@ -60,12 +60,12 @@ check_rows_under_nodes-requires g c =
       ascending = rw nodes_is (ascending_from leaves (rising_from leaves c.requires.ascending));
       bits = omega (
         arith,
-        c.args.steps.now.walked.leaves,
+        c.args.schedule.now.walked.leaves,
         layer_start s,
         exponent_le (greatest (heights s)) 62 c.requires.low,
       );
       queries = rw read_is c.requires.queries;
-      full = matrices_full c.args.steps.now.dimensions.now firsts read c.deref.result.now sets
+      full = matrices_full c.args.schedule.now.dimensions.now firsts read c.deref.result.now sets
           c.step_up-up.result.exponent c.requires.full (c.deref.ensures.value ∙ c.in_ok-list_matrices.ensures)
           read_is;
     }
@@ -73,7 +73,7 @@ check_rows_under_nodes-requires g c =
 pub returns-in_err-check_rows_under_nodes : goal.returns-in_err-check_rows_under_nodes
 returns-in_err-check_rows_under_nodes g c =
     let eq = g.T.PartialEq.eq in
-    let s = shape_of c.args.steps.now.arity c.args.steps.now.dimensions.now in
+    let s = shape_of c.args.schedule.now.arity c.args.schedule.now.dimensions.now in
     let leaves = c.args.queried.now.indices.items in
     let firsts = c.args.queried.now.first_queries.items in
     let sets = row_sets c.args.rows.now in
@@ -83,10 +83,10 @@ returns-in_err-check_rows_under_nodes g c =
     let total = layers_refusal eq s t leaves firsts sets in
     let e = c.in_err-check_rows_under_nodes.field-0.0 in
     let at : c.step_up-up.result.exponent ≡ layer_exponent s (l + 1) = rw add-one c.step_up-up.ensures.exponent in
-    let bits = c.args.steps.now.exponent - c.step_up-up.result.exponent in
+    let bits = c.args.schedule.now.exponent - c.step_up-up.result.exponent in
     let nodes = map (λ i. i / 2 ^ bits) c.deref-then-up.result.now in
     let above : nodes ≡ map (ancestor s (l + 1)) leaves = rw c.deref-then-up.ensures.value
-    (nodes_by_bits s c.requires.arity (l + 1) bits (rw (at, c.args.steps.now.walked.leaves, layer_start s) refl) leaves
+    (nodes_by_bits s c.requires.arity (l + 1) bits (rw (at, c.args.schedule.now.walked.leaves, layer_start s) refl) leaves
     c.requires.below) in
     let some = layer_read eq s leaves firsts c.deref-then-up-2.result.now c.deref.result.now
     nodes sets (l + 1) c.step_up-up.result.exponent (Some e) at
@@ -101,7 +101,7 @@ returns-in_err-check_rows_under_nodes g c =
 pub loop-level-preserved : goal.loop-level-preserved
 loop-level-preserved g c =
     let eq = g.T.PartialEq.eq in
-    let s = shape_of c.args.steps.now.arity c.args.steps.now.dimensions.now in
+    let s = shape_of c.args.schedule.now.arity c.args.schedule.now.dimensions.now in
     let leaves = c.args.queried.now.indices.items in
     let firsts = c.args.queried.now.first_queries.items in
     let sets = row_sets c.args.rows.now in
@@ -110,9 +110,9 @@ loop-level-preserved g c =
     let h = layer_fault eq s leaves firsts sets in
     let total = layers_refusal eq s t leaves firsts sets in
     let at : c.step_up-up.result.exponent ≡ layer_exponent s (l + 1) = rw add-one c.step_up-up.ensures.exponent in
-    let bits = c.args.steps.now.exponent - c.step_up-up.result.exponent in
+    let bits = c.args.schedule.now.exponent - c.step_up-up.result.exponent in
     let above : map (λ i. i / 2 ^ bits) leaves ≡ map (ancestor s (l + 1)) leaves =
-    nodes_by_bits s c.requires.arity (l + 1) bits (rw (at, c.args.steps.now.walked.leaves, layer_start s) refl) leaves
+    nodes_by_bits s c.requires.arity (l + 1) bits (rw (at, c.args.schedule.now.walked.leaves, layer_start s) refl) leaves
     c.requires.below in
     let none : h (l + 1) ≡ None = elim c.if-up.branch [
       | then-up+in_ok-list_matrices+in_ok-check_rows_under_nodes w ↦

@@ -10,7 +10,7 @@ use Rattle.p3_merkle_core.proofs.pruning.check_shared_rows.Given as goal
 -- the layer and those below it agree, so those above it decide
 abbrev pub invariant-loop-level : goal.invariant-loop-level
 invariant-loop-level g l =
-    let s = shape_of l.steps.arity l.steps.dimensions.now in
+    let s = shape_of l.schedule.arity l.schedule.dimensions.now in
     record {
       at : l.exponent ≡ layer_exponent s l.level;
       so_far :

@@ -20,7 +20,7 @@ invariant_of-builder-clause-build g c =
     rw c.deref.ensures.value (record {
       arity = arity_from g.row.N c.requires.arity;
       lawful = subst (λ (ds : List Dimensions). IsLawful (heights_of ds)) own c.args.leaves.lawful;
-      same = c.steps-steps.ensures.dimensions ∙ c.new-kept.ensures.dimensions ∙ own;
+      same = c.schedule-schedule.ensures.dimensions ∙ c.new-kept.ensures.dimensions ∙ own;
     })
 
 pub returns-clause-layers : goal.returns-clause-layers

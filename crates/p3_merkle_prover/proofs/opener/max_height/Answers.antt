@@ -6,4 +6,4 @@ use Rattle.p3_merkle_prover.proofs.opener.max_height.Goals as goal
 
 pub returns : goal.returns
 returns g c =
-    c.args.tree.now.steps.walked.tallest ∙ ap (λ (s : Shape). greatest (heights s)) c.args.tree.now.own_shape
+    c.args.tree.now.schedule.walked.tallest ∙ ap (λ (s : Shape). greatest (heights s)) c.args.tree.now.own_shape

@@ -25,10 +25,10 @@ siblings_below-requires-clause-low g c =
     (lawful_fits (heights (shape (tree_batch c.args.tree.now))) c.args.tree.now.lawful)
 
 pub siblings_below-requires-clause-layer : goal.siblings_below-requires-clause-layer
-siblings_below-requires-clause-layer g c = omega (arith, c.args.steps.now.walked.whole, ap levels c.requires.own)
+siblings_below-requires-clause-layer g c = omega (arith, c.args.schedule.now.walked.whole, ap levels c.requires.own)
 
 pub step-step-requires : goal.step-step-requires
-step-step-requires g c = omega (arith, c.args.steps.now.walked.whole, ap levels c.requires.own)
+step-step-requires g c = omega (arith, c.args.schedule.now.walked.whole, ap levels c.requires.own)
 
 pub position_of-position-requires : goal.position_of-position-requires
 position_of-position-requires g c =

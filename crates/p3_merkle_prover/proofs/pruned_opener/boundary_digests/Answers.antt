@@ -13,12 +13,12 @@ use Rattle.p3_merkle_prover.proofs.pruned_opener.boundary_digests.Goals as goal
 
 pub new-covered-requires-clause-low : goal.new-covered-requires-clause-low
 new-covered-requires-clause-low g c =
-    subst (λ (s : Shape). greatest (heights s) ≤ height_limit) (sym c.tree_steps-steps.ensures)
+    subst (λ (s : Shape). greatest (heights s) ≤ height_limit) (sym c.tree_schedule-schedule.ensures)
     (lawful_fits (heights (shape (tree_batch c.args.tree.now))) c.args.tree.now.lawful)
 
 pub loop-level-init : goal.loop-level-init
 loop-level-init g c = record {
-  shape_is = rw c.new-covered.ensures.steps c.tree_steps-steps.ensures;
+  shape_is = rw c.new-covered.ensures.schedule c.tree_schedule-schedule.ensures;
   indices = c.new-covered.ensures.indices;
   layer = c.new-covered.ensures.layer;
   so_far = λ d. c.in_ok-digests.ensures.items;
@@ -47,7 +47,7 @@ extend_with_boundary-requires-clause-groups g c =
     let here = covered_here c.loop-level.covered s _ _ at.shape_is at.indices at.layer in
     let w : CanQuery s c.args.indices.now c.args.cap_layer =
     record { well_shaped = tree.arity; below = c.requires.indices; in_tree = c.requires.layer } in
-    let is = c.step-step.ensures ∙ ap (λ (z : Shape). step z l) c.tree_steps-steps.ensures in
+    let is = c.step-step.ensures ∙ ap (λ (z : Shape). step z l) c.tree_schedule-schedule.ensures in
     let long = layer_long (λ nodes. length nodes.items) tree.layers.items s tree.layer_lengths l c.index.result.now
     (omega arith) c.index.ensures in
     groups_fit s c.args.indices.now c.args.cap_layer w l c.loop-level-test.true c.step-step.result
@@ -57,7 +57,7 @@ extend_with_boundary-requires-clause-groups g c =
 pub climb-requires : goal.climb-requires
 climb-requires g c =
     let w = c.loop-level.invariant in
-    omega (arith, w.layer, c.loop-level.covered.steps.now.walked.whole, ap levels w.shape_is)
+    omega (arith, w.layer, c.loop-level.covered.schedule.now.walked.whole, ap levels w.shape_is)
 
 pub loop-level-preserved : goal.loop-level-preserved
 loop-level-preserved g c =
@@ -68,12 +68,12 @@ loop-level-preserved g c =
     let here = covered_here c.loop-level.covered s _ _ at.shape_is at.indices at.layer in
     let w : CanQuery s c.args.indices.now c.args.cap_layer =
     record { well_shaped = tree.arity; below = c.requires.indices; in_tree = c.requires.layer } in
-    let is = c.step-step.ensures ∙ ap (λ (z : Shape). step z l) c.tree_steps-steps.ensures in
+    let is = c.step-step.ensures ∙ ap (λ (z : Shape). step z l) c.tree_schedule-schedule.ensures in
     let long = layer_long (λ nodes. length nodes.items) tree.layers.items s tree.layer_lengths l c.index.result.now
     (omega arith) c.index.ensures in
     let count = layers_count (λ nodes. length nodes.items) tree.layers.items s tree.layer_lengths in
     record {
-      shape_is = rw c.climb.ensures.steps at.shape_is;
+      shape_is = rw c.climb.ensures.schedule at.shape_is;
       indices = c.climb.ensures.indices ∙ at.indices;
       layer = rw add-one (rw at.layer at c.climb.ensures.layer);
       so_far = λ d.

@@ -10,12 +10,12 @@ use Rattle.p3_merkle_verifier.proofs.extraction.leaf_difference.Goals as goal
 
 pub returns : goal.returns
 returns g c =
-    let steps = c.args.steps.now in
+    let schedule = c.args.schedule.now in
     let o = opening_in c.args.first in
     let u = opening_in c.args.second in
-    let heights = heights_of steps.dimensions.now in
-    let mine = ap (λ x. words_of_exponent x (zip heights o.rows)) steps.walked.leaves in
-    let theirs = ap (λ x. words_of_exponent x (zip heights u.rows)) steps.walked.leaves in
+    let heights = heights_of schedule.dimensions.now in
+    let mine = ap (λ x. words_of_exponent x (zip heights o.rows)) schedule.walked.leaves in
+    let theirs = ap (λ x. words_of_exponent x (zip heights u.rows)) schedule.walked.leaves in
     IfOk-weaker c.differing_words.result _ _
-    (λ found is. found_leaf g.T.PartialEq.eq g.W.PartialEq.eq (shape_of steps.arity steps.dimensions.now) o u found
+    (λ found is. found_leaf g.T.PartialEq.eq g.W.PartialEq.eq (shape_of schedule.arity schedule.dimensions.now) o u found
     c.if-first-second.false mine theirs is) c.differing_words.ensures

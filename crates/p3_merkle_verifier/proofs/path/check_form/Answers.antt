@@ -21,13 +21,13 @@ returns-in_err-check_heights-clause-answer g c =
     rw (
       p.1,
       p.2,
-      sized (length c.args.steps.now.dimensions.now) c.args.rows.now c.if-rows-dimensions.false,
+      sized (length c.args.schedule.now.dimensions.now) c.args.rows.now c.if-rows-dimensions.false,
       c.in_err-check_heights.ensures.answer,
     )
     refl
 
 pub siblings_below-expected_proof_len-requires-clause-low : goal.siblings_below-expected_proof_len-requires-clause-low
 siblings_below-expected_proof_len-requires-clause-low g c =
-    tallest_fits (heights_of c.args.steps.now.dimensions.now)
-    (none_large_from_lawful (heights_of c.args.steps.now.dimensions.now)
+    tallest_fits (heights_of c.args.schedule.now.dimensions.now)
+    (none_large_from_lawful (heights_of c.args.schedule.now.dimensions.now)
     (c.in_ok-check_heights.ensures.lawful.0 refl))

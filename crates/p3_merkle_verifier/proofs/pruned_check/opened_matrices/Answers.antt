@@ -19,7 +19,7 @@ use Rattle.p3_merkle_verifier.proofs.pruned_check.opened_matrices.Goals.{else-ex
 pub loop-place-preserved : goal.loop-place-preserved
 loop-place-preserved g c =
     let restorable = c.args.restorable.now in
-    let dimensions = restorable.steps.now.dimensions.now in
+    let dimensions = restorable.schedule.now.dimensions.now in
     let heights = heights_of dimensions in
     let sets = row_sets restorable.opening.sets.now in
     let queries = c.args.queries.now in
@@ -63,7 +63,7 @@ loop-place-preserved g c =
 pub returns : goal.returns
 returns g c =
     let restorable = c.args.restorable.now in
-    let dimensions = restorable.steps.now.dimensions.now in
+    let dimensions = restorable.schedule.now.dimensions.now in
     let heights = heights_of dimensions in
     let sets = row_sets restorable.opening.sets.now in
     let queries = c.args.queries.now in
@@ -81,7 +81,7 @@ returns g c =
 pub invariant_of-push : goal.invariant_of-push
 invariant_of-push g c =
     let restorable = c.args.restorable.now in
-    let dimensions = restorable.steps.now.dimensions.now in
+    let dimensions = restorable.schedule.now.dimensions.now in
     let sets = row_sets restorable.opening.sets.now in
     let i = c.loop-place.place in
     let none : Dimensions = record { width = 0; height = 0 } in

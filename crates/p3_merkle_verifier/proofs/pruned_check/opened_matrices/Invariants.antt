@@ -11,7 +11,7 @@ use Rattle.p3_merkle_verifier.proofs.pruned_check.opened_matrices.Given as goal
 abbrev pub invariant-loop-place : goal.invariant-loop-place
 invariant-loop-place g l =
     let sets = row_sets l.restorable.opening.sets.now in
-    let hs = heights_of l.restorable.steps.now.dimensions.now in
+    let hs = heights_of l.restorable.schedule.now.dimensions.now in
     let queries = l.queries in
     record {
       long : All (λ m. length m.queries.now ≡ length queries) l.matrices.items;

@@ -10,8 +10,8 @@ use Rattle.tlog_entries.proofs.opening.boundary_slots.Goals as goal
 
 pub new-covered-requires : goal.new-covered-requires
 new-covered-requires c = let size = c.args.size in
-    let steps = c.steps_of-steps in
-    rw (steps.ensures.arity, steps.ensures.dimensions ∙ c.dimensions_of-dimensions.ensures) (record {
+    let schedule = c.schedule_of-schedule in
+    rw (schedule.ensures.arity, schedule.ensures.dimensions ∙ c.dimensions_of-dimensions.ensures) (record {
       arity = two_is_arity;
       low = rw (tallest size) c.requires.limit;
       below = (log_query size c.args.indices.now c.requires.within).below;
@@ -21,9 +21,9 @@ new-covered-requires c = let size = c.args.size in
 pub loop-layer-init : goal.loop-layer-init
 loop-layer-init c = record {
   shape_is = rw (
-    c.new-covered.ensures.steps,
-    c.steps_of-steps.ensures.arity,
-    c.steps_of-steps.ensures.dimensions ∙ c.dimensions_of-dimensions.ensures,
+    c.new-covered.ensures.schedule,
+    c.schedule_of-schedule.ensures.arity,
+    c.schedule_of-schedule.ensures.dimensions ∙ c.dimensions_of-dimensions.ensures,
   ) refl;
   indices = c.new-covered.ensures.indices;
   layer = c.new-covered.ensures.layer;
@@ -51,11 +51,11 @@ push_uncovered-requires-clause-fits c =
 pub climb-requires : goal.climb-requires
 climb-requires c =
     let at = c.loop-layer.invariant in
-    let steps = c.steps_of-steps in
-    let whole : steps.result.num_levels ≡ levels (log_shape c.args.size) =
-    rw (steps.ensures.arity, steps.ensures.dimensions ∙ c.dimensions_of-dimensions.ensures) at
-    steps.result.walked.whole in
-    omega (arith, at.layer, c.loop-layer.covered.steps.now.walked.whole, ap levels at.shape_is)
+    let schedule = c.schedule_of-schedule in
+    let whole : schedule.result.num_levels ≡ levels (log_shape c.args.size) =
+    rw (schedule.ensures.arity, schedule.ensures.dimensions ∙ c.dimensions_of-dimensions.ensures) at
+    schedule.result.walked.whole in
+    omega (arith, at.layer, c.loop-layer.covered.schedule.now.walked.whole, ap levels at.shape_is)
 
 pub loop-layer-preserved : goal.loop-layer-preserved
 loop-layer-preserved c =
@@ -63,14 +63,14 @@ loop-layer-preserved c =
     let indices = c.args.indices.now in
     let l = c.loop-layer.layer in
     let at = c.loop-layer.invariant in
-    let steps = c.steps_of-steps in
-    let whole : steps.result.num_levels ≡ levels (log_shape size) =
-    rw (steps.ensures.arity, steps.ensures.dimensions ∙ c.dimensions_of-dimensions.ensures) at
-    steps.result.walked.whole in
+    let schedule = c.schedule_of-schedule in
+    let whole : schedule.result.num_levels ≡ levels (log_shape size) =
+    rw (schedule.ensures.arity, schedule.ensures.dimensions ∙ c.dimensions_of-dimensions.ensures) at
+    schedule.result.walked.whole in
     let below : l < levels (log_shape size) = omega arith in
     let here = covered_here c.loop-layer.covered (log_shape size) indices l at.shape_is at.indices at.layer in
     record {
-      shape_is = rw c.climb.ensures.steps at.shape_is;
+      shape_is = rw c.climb.ensures.schedule at.shape_is;
       indices = c.climb.ensures.indices ∙ at.indices;
       layer = rw add-one (rw at.layer at c.climb.ensures.layer);
       so_far = boundary_more size indices l c.deref.result.now c.loop-layer.slots.items
@@ -81,10 +81,10 @@ loop-layer-preserved c =
 pub returns-clause-layers : goal.returns-clause-layers
 returns-clause-layers c =
     let size = c.args.size in
-    let steps = c.steps_of-steps in
-    let whole : steps.result.num_levels ≡ levels (log_shape size) =
-    rw (steps.ensures.arity, steps.ensures.dimensions ∙ c.dimensions_of-dimensions.ensures) at
-    steps.result.walked.whole in
+    let schedule = c.schedule_of-schedule in
+    let whole : schedule.result.num_levels ≡ levels (log_shape size) =
+    rw (schedule.ensures.arity, schedule.ensures.dimensions ∙ c.dimensions_of-dimensions.ensures) at
+    schedule.result.walked.whole in
     let top : c.loop-layer.layer ≡ levels (log_shape size) = omega arith in
     layers_small size c.args.indices.now c.loop-layer.slots.items c.requires.limit
     (c.loop-layer.invariant.so_far ∙ ap (boundary (log_shape size) c.args.indices.now) top)

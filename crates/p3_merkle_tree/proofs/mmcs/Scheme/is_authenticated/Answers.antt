@@ -14,7 +14,7 @@ returns-clause-authenticated g c =
     let s = shape_of g.row.N dimensions in
     let t = cap_layer_of c.args.self.now s in
     let k = c.args.matrix in
-    let made = c.steps_of-steps.ensures in
+    let made = c.schedule_of-schedule.ensures in
     let cap = rw (made.arity, made.dimensions) at c.cap_layer-cap_layer.ensures in
     let at_cap : c.layer_exponent.result ≡ layer_exponent s t = rw (made.arity, made.dimensions, cap) at
     c.layer_exponent.ensures in

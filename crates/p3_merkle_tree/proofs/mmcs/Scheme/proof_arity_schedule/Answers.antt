@@ -37,10 +37,10 @@ returns-in_err-schedule_below-clause-answer g c =
 pub returns-clause-steps : goal.returns-clause-steps
 returns-clause-steps g c =
     let scheme = c.args.self.now in
-    let made = c.steps_of-steps in
-    let steps = are_steps g.row.N c.args.dimensions.now scheme.cap_rule scheme.cap_height made.result
+    let made = c.schedule_of-schedule in
+    let schedule = are_steps g.row.N c.args.dimensions.now scheme.cap_rule scheme.cap_height made.result
     c.cap_layer-cap_layer.result made.ensures.arity made.ensures.dimensions c.cap_layer-cap_layer.ensures in
-    c.in_ok-schedule_below.ensures ∙ (λ i. schedule_below (steps.tree i) (steps.at_cap i))
+    c.in_ok-schedule_below.ensures ∙ (λ i. schedule_below (schedule.tree i) (schedule.at_cap i))
 
 pub returns-clause-first : goal.returns-clause-first
 returns-clause-first g c =

@@ -28,17 +28,17 @@ returns-in_err-leaves-clause-answer g c =
 
 pub new-requires-clause-low : goal.new-requires-clause-low
 new-requires-clause-low g c =
-    let heights = heights_of c.steps_of-steps.result.dimensions.now in
+    let heights = heights_of c.schedule_of-schedule.result.dimensions.now in
     tallest_fits heights (none_large_from_lawful heights (c.in_ok-check_heights.ensures.lawful.0 refl))
 
 pub new-requires-clause-below : goal.new-requires-clause-below
-new-requires-clause-below g c = rw c.steps_of-steps.result.walked.tallest at c.in_ok-check_indices.ensures.below
+new-requires-clause-below g c = rw c.schedule_of-schedule.result.walked.tallest at c.in_ok-check_indices.ensures.below
 
 pub returns-clause-least : goal.returns-clause-least
 returns-clause-least g c =
     let scheme = c.args.self.now in
-    let made = c.steps_of-steps in
-    let steps = are_steps g.row.N c.args.dimensions.now scheme.cap_rule scheme.cap_height made.result
+    let made = c.schedule_of-schedule in
+    let schedule = are_steps g.row.N c.args.dimensions.now scheme.cap_rule scheme.cap_height made.result
     c.cap_layer-cap_layer.result made.ensures.arity made.ensures.dimensions c.cap_layer-cap_layer.ensures in
     let s = shape_of g.row.N c.args.dimensions.now in
     let arity : IsArity made.result.arity = rw made.ensures.arity scheme.arity in
@@ -51,6 +51,6 @@ returns-clause-least g c =
       in_tree = omega arith;
     })
     (c.boundary_len.ensures
-    ∙ (λ i. pruned_len (shape_of (own.steps i).arity (own.steps i).dimensions.now) (own.indices i)
+    ∙ (λ i. pruned_len (shape_of (own.schedule i).arity (own.schedule i).dimensions.now) (own.indices i)
     c.cap_layer-cap_layer.result)
-    ∙ (λ i. pruned_len (steps.tree i) c.args.indices.now (steps.at_cap i)))
+    ∙ (λ i. pruned_len (schedule.tree i) c.args.indices.now (schedule.at_cap i)))

@@ -31,21 +31,21 @@ returns-in_err-positions_below-clause-positions g c =
 
 pub siblings_below-expected_proof_len-requires-clause-low : goal.siblings_below-expected_proof_len-requires-clause-low
 siblings_below-expected_proof_len-requires-clause-low g c =
-    let heights = heights_of c.steps_of-steps.result.dimensions.now in
+    let heights = heights_of c.schedule_of-schedule.result.dimensions.now in
     tallest_fits heights (none_large_from_lawful heights (c.in_ok-check_heights.ensures.lawful.0 refl))
 
 pub returns-clause-schedule : goal.returns-clause-schedule
 returns-clause-schedule g c =
     let scheme = c.args.self.now in
-    let made = c.steps_of-steps in
-    let steps = are_steps g.row.N c.args.dimensions.now scheme.cap_rule scheme.cap_height made.result
+    let made = c.schedule_of-schedule in
+    let schedule = are_steps g.row.N c.args.dimensions.now scheme.cap_rule scheme.cap_height made.result
     c.cap_layer-cap_layer.result made.ensures.arity made.ensures.dimensions c.cap_layer-cap_layer.ensures in
-    c.in_ok-schedule_below.ensures ∙ (λ i. schedule_below (steps.tree i) (steps.at_cap i))
+    c.in_ok-schedule_below.ensures ∙ (λ i. schedule_below (schedule.tree i) (schedule.at_cap i))
 
 pub returns-clause-positions : goal.returns-clause-positions
 returns-clause-positions g c =
     let scheme = c.args.self.now in
-    let made = c.steps_of-steps in
-    let steps = are_steps g.row.N c.args.dimensions.now scheme.cap_rule scheme.cap_height made.result
+    let made = c.schedule_of-schedule in
+    let schedule = are_steps g.row.N c.args.dimensions.now scheme.cap_rule scheme.cap_height made.result
     c.cap_layer-cap_layer.result made.ensures.arity made.ensures.dimensions c.cap_layer-cap_layer.ensures in
-    c.in_ok-positions_below.ensures ∙ (λ i. positions_below (steps.tree i) (steps.at_cap i) c.args.index)
+    c.in_ok-positions_below.ensures ∙ (λ i. positions_below (schedule.tree i) (schedule.at_cap i) c.args.index)

@@ -17,7 +17,7 @@ returns-in_err-sibling_hashes-clause-opened g c =
     IfOk-from_err c.from_residual-in_err-sibling_hashes.result _ c.from_residual-in_err-sibling_hashes.ensures.0
 
 pub cap_layer-cap_layer-requires : goal.cap_layer-cap_layer-requires
-cap_layer-cap_layer-requires g c = rw (ap (λ s. s.arity) c.tree_steps.ensures) c.args.tree.now.arity
+cap_layer-cap_layer-requires g c = rw (ap (λ s. s.arity) c.tree_schedule.ensures) c.args.tree.now.arity
 
 pub returns-clause-opened : goal.returns-clause-opened
 returns-clause-opened g c =
@@ -26,6 +26,6 @@ returns-clause-opened g c =
     let s = shape (tree_batch tree) in
     let digests = c.in_ok-sibling_hashes.ensures.digests []
     ∙ ap (λ (t : ℕ). boundary_by (node_in [] (layers_of tree)) s c.args.indices.now t)
-    (c.cap_layer-cap_layer.ensures ∙ ap (cap_layer_of scheme) c.tree_steps.ensures) in
+    (c.cap_layer-cap_layer.ensures ∙ ap (cap_layer_of scheme) c.tree_schedule.ensures) in
     is_pruned_opened (functions_of scheme) tree (cap_layer_of scheme s) (omega arith) g.met.M.Matrix.length_row_of _
     c.requires (λ i. pruned_of c.args.indices.now (c.in_ok-opened_values.ensures.rows i) (digests i))

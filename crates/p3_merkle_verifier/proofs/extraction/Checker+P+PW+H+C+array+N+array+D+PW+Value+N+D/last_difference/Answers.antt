@@ -15,17 +15,17 @@ loop-level-preserved g c =
     let l = c.loop-level.level in
     let o = opening_in c.args.first in
     let u = opening_in c.args.second in
-    let heights = heights_of c.args.self.now.steps.dimensions.now in
+    let heights = heights_of c.args.self.now.schedule.dimensions.now in
     let mine = c.compute_level-mine.ensures in
     let theirs = c.compute_level-theirs.ensures in
     record {
-      first_progress = rw add-one mine.progress;
-      second_progress = rw add-one theirs.progress;
+      first_state = rw add-one mine.state;
+      second_state = rw add-one theirs.state;
       found = found_next (input_eq g.P.Value.PartialEq.eq g.PW.Value.PartialEq.eq) f s l o u c.in_ok-found.found
           c.loop-level.last c.loop-level.invariant.found
           (c.in_ok-found.ensures f s l o u mine theirs
-          (ap (λ x. words_of_exponent x (zip heights o.rows)) mine.progress.at_exponent)
-          (ap (λ x. words_of_exponent x (zip heights u.rows)) mine.progress.at_exponent)) c.or-last.ensures;
+          (ap (λ x. words_of_exponent x (zip heights o.rows)) mine.state.at_exponent)
+          (ap (λ x. words_of_exponent x (zip heights u.rows)) mine.state.at_exponent)) c.or-last.ensures;
     }
 
 pub returns : goal.returns

@@ -8,4 +8,4 @@ abbrev pub invariant-loop-level : goal.invariant-loop-level
 invariant-loop-level g l =
     StandTogether (input_eq g.P.Value.PartialEq.eq g.PW.Value.PartialEq.eq)
     (functions_of l.self) (shape_in l.self)
-    (opening_in l.first) (opening_in l.second) l.level l.first_progress l.second_progress l.last
+    (opening_in l.first) (opening_in l.second) l.level l.first_state l.second_state l.last

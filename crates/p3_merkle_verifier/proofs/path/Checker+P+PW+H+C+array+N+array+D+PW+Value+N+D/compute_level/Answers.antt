@@ -7,18 +7,18 @@ pub returns-then-not-has_rows : goal.returns-then-not-has_rows
 returns-then-not-has_rows g c =
     let checker = c.args.self.now in
     let step = c.step_up-step.ensures in
-    let from = step_from checker.steps.dimensions.now c.args.level checker.arity step.step step.exponent step.rows in
+    let from = step_from checker.schedule.dimensions.now c.args.level checker.arity step.step step.exponent step.rows in
     let one = g.met.PW.PackedValue.default_is_unique c.default-default_digest.result c.default-default_digest.ensures in
-    level_alone from c.requires.progress (rw (one, ← checker.arity) at c.group-group.ensures) c.if-not-has_rows.true
+    level_alone from c.requires.state (rw (one, ← checker.arity) at c.group-group.ensures) c.if-not-has_rows.true
     (record { at_exponent = refl; at_node = c.parent_of.ensures; taken = refl; reached = c.compress.ensures })
 
 pub returns : goal.returns
 returns g c =
     let checker = c.args.self.now in
     let step = c.step_up-step.ensures in
-    let from = step_from checker.steps.dimensions.now c.args.level checker.arity step.step step.exponent step.rows in
+    let from = step_from checker.schedule.dimensions.now c.args.level checker.arity step.step step.exponent step.rows in
     let one = g.met.PW.PackedValue.default_is_unique c.default-default_digest.result c.default-default_digest.ensures in
-    level_with_rows from c.requires.progress (rw (one, ← checker.arity) at c.group-group.ensures)
+    level_with_rows from c.requires.state (rw (one, ← checker.arity) at c.group-group.ensures)
     c.if-not-has_rows.false
     (rw (← checker.arity, one, c.row_digest-rows.ensures, c.compress.ensures) at c.pair_group-pair.ensures)
     (record { at_exponent = refl; at_node = c.parent_of.ensures; taken = refl; reached = c.compress-above.ensures })

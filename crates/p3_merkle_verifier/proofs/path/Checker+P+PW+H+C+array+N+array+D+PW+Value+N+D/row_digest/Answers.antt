@@ -13,7 +13,7 @@ use Rattle.p3_merkle_verifier.proofs.path.Checker+P+PW+H+C+array+N+array+D+PW+Va
 pub returns : goal.returns
 returns g c =
     let hash = g.H.CryptographicHasher.hash c.args.self.now.hash.now in
-    let pairs = zip (heights_of c.args.self.now.steps.dimensions.now) (row_lists c.args.rows.now) in
+    let pairs = zip (heights_of c.args.self.now.schedule.dimensions.now) (row_lists c.args.rows.now) in
     fact_of_run (λ row. row.now) (λ rows. c.hash_iter_slices.result ≡ hash (flat_map (λ row. row.now) rows))
     (c.hash_iter_slices.result ≡ hash (words_of_exponent c.args.exponent pairs)) c.hash_iter_slices.ensures
     (YieldsList-from_first (λ row. row.now)

@@ -13,7 +13,7 @@ returns g c =
     let f = functions_of c.args.self.now in
     let s = shape_in c.args.self.now in
     let o = opening_in c.args.opening in
-    let leaves = c.args.self.now.steps.walked.leaves in
+    let leaves = c.args.self.now.schedule.walked.leaves in
     record {
       at_exponent = leaves;
       at_node = sym (anc_start s o.index);

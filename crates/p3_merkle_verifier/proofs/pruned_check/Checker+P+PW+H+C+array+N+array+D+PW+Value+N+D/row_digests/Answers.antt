@@ -24,7 +24,7 @@ returns g c = λ l le at.
     let p = opened_by restorable in
     let queries = c.in_ok-queries.queries.items in
     let row = λ (j : ℕ). f.hash (rows_over row_in c.deref-2.result.now (0 + j)) in
-    let digest = query_digest f.hash c.args.exponent (heights_of restorable.steps.now.dimensions.now)
+    let digest = query_digest f.hash c.args.exponent (heights_of restorable.schedule.now.dimensions.now)
     (row_sets opening.sets.now) in
     let opened = rw (← c.deref-2.ensures.value, c.deref.ensures.value) at c.in_ok-matrices.ensures.rows in
     let n = length queries in

@@ -4,7 +4,7 @@ use Rattle.p3_merkle_core.specs.Checks.{params}
 use Rattle.p3_merkle_core.specs.Geometry.{shape_of}
 use Rattle.p3_merkle_core.specs.Inner.Agreement.{AreDistinctOf}
 use Rattle.p3_merkle_core.specs.Pruning.{restored_paths}
-use Rattle.p3_merkle_core.specs.declared.steps.Steps.{Steps}
+use Rattle.p3_merkle_core.specs.declared.schedule.Schedule.{Schedule}
 use Rattle.p3_merkle_verifier.specs.Inner.{Checks.functions_of, Checks.params_in, Checks.shape_in}
 use Rattle.p3_merkle_verifier.specs.Inner.RestoredLevels.{pruned_in}
 use Rattle.p3_merkle_verifier.specs.declared.openings.PrunedOpeningRef.{PrunedOpeningRef}
@@ -18,24 +18,24 @@ returns-in_err-check_roots-clause-answer g c =
     handed_on c.from_residual-in_err-check_roots.result c.in_err-check_roots.field-0.0 _
     c.from_residual-in_err-check_roots.ensures.1
     (cap_decides {V = Unit {0}} g.P.Value.PartialEq.eq g.PW.Value.PartialEq.eq (functions_of c.args.self.now)
-    c.args.roots.now made.restorable (Err c.in_err-check_roots.field-0.0) made.ensures.steps made.ensures.layer
+    c.args.roots.now made.restorable (Err c.in_err-check_roots.field-0.0) made.ensures.schedule made.ensures.layer
     made.ensures.opening made.ensures.answer c.in_err-check_roots.ensures)
 
 pub returns-clause-answer : goal.returns-clause-answer
 returns-clause-answer g c =
     let made = c.in_ok-restorable in
     cap_decides {V = Unit {0}} g.P.Value.PartialEq.eq g.PW.Value.PartialEq.eq (functions_of c.args.self.now)
-    c.args.roots.now made.restorable (Ok tt) made.ensures.steps made.ensures.layer made.ensures.opening
+    c.args.roots.now made.restorable (Ok tt) made.ensures.schedule made.ensures.layer made.ensures.opening
     made.ensures.answer c.in_ok-check_roots.ensures
 
 pub returns-clause-restored : goal.returns-clause-restored
 returns-clause-restored g c =
     let f = functions_of c.args.self.now in
     let made = c.in_ok-restorable.ensures in
-    let shape = λ (steps : Steps). shape_of steps.arity steps.dimensions.now in
+    let shape = λ (schedule : Schedule). shape_of schedule.arity schedule.dimensions.now in
     restored (params_in c.args.self.now) (pruned_in c.args.opening) _ refl
     (c.in_ok-paths_of.ensures f (rw c.deref.ensures.value c.in_ok-layers.ensures)
-    ∙ (λ i. restored_paths (params f (shape (made.steps i)) (made.layer i)) (pruned_in (made.opening i))))
+    ∙ (λ i. restored_paths (params f (shape (made.schedule i)) (made.layer i)) (pruned_in (made.opening i))))
 
 pub returns-clause-queries : goal.returns-clause-queries
 returns-clause-queries g c =

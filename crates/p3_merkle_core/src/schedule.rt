@@ -1,0 +1,407 @@
+//! The schedule of a tree: the steps from the leaves to the root. It is computed once and stored; all other code reads
+//! it. Only the clone and the two calls that return a list allocate.
+//!
+//! - Layer 0 is the leaves; level `l` leads from layer `l` to layer `l + 1`. The step of a level is how many children
+//!   each node above it has: the arity, or 2 if a step of the arity would pass over a matrix's layer (a bridge step).
+//! - The exponent of a height is its log2, rounded up. That of layer 0 is the tallest height's, and each step takes its
+//!   own log2 from it, down to the root's 0. A matrix belongs to the layer of its exponent.
+
+ghost use Rattle.std.specs.Prelude.{◌≡◌, suc, ◌-◌, ◌/◌, ◌<◌, ◌≤◌, ◌==◌, if◌then◌else◌, IfOk};
+ghost use Rattle.std.specs.List.{list_any};
+ghost use Rattle.p3_support.specs.Batches.{heights_of, greatest};
+ghost use Rattle.p3_merkle_core.specs.Caps.{cap_layer};
+ghost use Rattle.p3_merkle_core.specs.Checks.{siblings_below};
+ghost use Rattle.p3_merkle_core.specs.Geometry.{exponent, has_rows, is_bridge, layer_exponent, levels, height_limit};
+ghost use Rattle.p3_merkle_core.specs.Geometry.{positions_below, schedule_below, shape_of, step, IsArity};
+ghost use Rattle.p3_merkle_core.specs.Inner.Levels.{IsBelowTop, IsLevel};
+ghost use Rattle.p3_merkle_core.specs.Inner.Shapes.{shortest};
+ghost use Rattle.p3_merkle_core.specs.Inner.Schedules.{IsWalk};
+ghost use Rattle.p3_merkle_core.specs.Inner.Exponents.{AreExponents, AreMarked};
+
+use crate::cap::CapRule;
+use crate::geometry::{MAX_HEIGHT, exponent_of, extremes_of, height_of_exponent, padded_len};
+use crate::layer_shape::LayerShape;
+use p3_support::matrix::Dimensions;
+use std::alloc::{AllocError, Global};
+
+/// How many levels a tree has at most: each halves the heights, which are below 2^64, at least.
+const MAX_LEVELS: usize = 64;
+
+/// What the steps above a layer depend on: its exponent, and the end of the matrices' exponents that are lower.
+#[derive(Clone, Copy)]
+struct Exponents {
+    /// The exponent of the layer.
+    pub layer: usize,
+    /// The end of the lower exponents that matrices have: one more than the greatest of them, or 0 if there is none.
+    pub lower_end: usize,
+}
+
+/// Which exponents the matrices have, as a bit mask, so that the matrices are read once for all layers.
+#[derive(Clone, Copy)]
+struct MatrixExponents<'a> {
+    pub dimensions: &'a [Dimensions],
+    /// Bit `e` is set where a matrix has the exponent `e`. The exponent 64 has no bit: it is below no layer's.
+    pub bits: usize,
+    ghost marked: { AreMarked (heights_of dimensions.now) bits },
+}
+
+impl<'a> MatrixExponents<'a> {
+    /// The exponents on which the steps above a layer depend: the layer's own, `layer`, which must be at most 64, and
+    /// the end of the matrices' lower ones.
+    fn exponents_at(&self, layer: usize) -> Exponents
+        requires { layer ≤ 64 }
+        ensures layer { result.layer ≡ layer }
+        ensures next { AreExponents (heights_of self.now.dimensions.now) result }
+    {
+        let below = if layer < usize::BITS as usize {
+            self.bits % (1 << layer)
+        } else {
+            self.bits
+        };
+        Exponents {
+            layer,
+            lower_end: (usize::BITS - below.leading_zeros()) as usize,
+        }
+    }
+}
+
+/// The step of a level, and whether matrices belong to the layer above it.
+#[derive(Debug, Clone, Copy)]
+struct LevelKind {
+    /// Whether it is a bridge step of 2, and none of the whole arity.
+    pub is_bridge: bool,
+    /// Whether matrices belong to the layer above the level.
+    pub has_rows: bool,
+}
+
+/// The step above a layer, with whether matrices belong to the layer that it leads to, and the exponents there. The
+/// layer is below the root, and has these `exponents`, of at most 64. The arity must be at least 2.
+fn next_step(
+    matrices: &MatrixExponents<'_>,
+    arity: usize,
+    exponents: Exponents,
+) -> (LevelKind, Exponents)
+    requires arity { 2 ≤ arity }
+    requires below { 0 < exponents.layer }
+    requires layer { exponents.layer ≤ 64 }
+    requires next { AreExponents (heights_of matrices.now.dimensions.now) exponents }
+    ensures bridge { result.0.is_bridge ≡ is_bridge (shape_of arity matrices.now.dimensions.now) exponents.layer }
+    ensures layer { result.1.layer
+        ≡ (if is_bridge (shape_of arity matrices.now.dimensions.now) exponents.layer then exponents.layer - 1
+        else exponents.layer - exponent arity) }
+    ensures rows { result.0.has_rows
+        ≡ list_any (λ h. exponent h == result.1.layer) (heights_of matrices.now.dimensions.now) }
+    ensures next { AreExponents (heights_of matrices.now.dimensions.now) result.1 }
+{
+    let target = exponents.layer.saturating_sub(exponent_of(arity));
+    // A matrix's exponent lies strictly between the layer's and what a step of the whole arity leaves of it.
+    let is_bridge = exponents.lower_end.saturating_sub(target) > 1;
+    let layer = if is_bridge {
+        exponents.layer - 1
+    } else {
+        target
+    };
+    // No matrix's exponent lies between those of the two layers, so all lower ones are at most the upper layer's.
+    let has_rows = exponents.lower_end > layer;
+    let above = if has_rows {
+        matrices.exponents_at(layer)
+    } else {
+        Exponents { layer, ..exponents }
+    };
+    let level = LevelKind {
+        is_bridge,
+        has_rows,
+    };
+    (level, above)
+}
+
+/// A step from one layer to the next.
+#[derive(Clone, Copy)]
+pub struct LevelStep {
+    /// How many children a node of the next layer has.
+    pub step: usize,
+    /// Whether matrices belong to the next layer.
+    pub has_rows: bool,
+    /// The exponent of the next layer.
+    pub exponent: usize,
+}
+
+/// The steps of the tree over matrices of some dimensions, from the leaves to the root.
+#[derive(Clone, Copy)]
+pub struct Schedule<'a> {
+    /// The dimensions of all matrices.
+    pub dimensions: &'a [Dimensions],
+    /// How many children a node has at most.
+    pub arity: usize,
+    /// The tallest height, in rows, or 0 if there are no matrices.
+    pub max_height: usize,
+    /// The least height, in rows, or 0 if there are no matrices.
+    pub min_height: usize,
+    /// The exponent of the leaves.
+    pub exponent: usize,
+    /// How many steps lead from the leaves to the root.
+    pub num_levels: usize,
+    of_level: [LevelKind; MAX_LEVELS],
+    ghost walked: { IsWalk (shape_of arity dimensions.now) max_height min_height exponent num_levels of_level },
+}
+
+/// The steps of the tree over matrices of these dimensions, where a node has at most `arity` children. The heights need
+/// not be lawful. The arity must be at least 2. It reads each matrix twice: for its height, and for its exponent.
+pub fn schedule_of(dimensions: &[Dimensions], arity: usize) -> Schedule<'_>
+    requires { 2 ≤ arity }
+    ensures dimensions { result.dimensions.now ≡ dimensions.now }
+    ensures arity { result.arity ≡ arity }
+{
+    let (max_height, min_height) = extremes_of(dimensions);
+    let exponent = exponent_of(max_height);
+    let mut bits = 0;
+    for matrix in dimensions {
+        let bit = exponent_of(matrix.height);
+        if bit < usize::BITS as usize {
+            bits |= 1 << bit;
+        }
+    }
+    let matrices = MatrixExponents { dimensions, bits };
+    let mut exponents = matrices.exponents_at(exponent);
+    let none = LevelKind {
+        is_bridge: false,
+        has_rows: false,
+    };
+    let mut of_level = [none; MAX_LEVELS];
+    let mut num_levels = 0;
+    while exponents.lower_end > 0 {
+        let (step, above) = next_step(&matrices, arity, exponents);
+        of_level[num_levels] = step;
+        num_levels += 1;
+        exponents = above;
+    }
+    // No matrix belongs to a layer above: whole steps without rows lead to the root, and all of them are `none`.
+    num_levels += exponents.layer.div_ceil(exponent_of(arity));
+    Schedule {
+        dimensions,
+        arity,
+        max_height,
+        min_height,
+        exponent,
+        num_levels,
+        of_level,
+    }
+}
+
+/// The steps of a tree, with its own copy of the dimensions. A tree stores them for its openings.
+#[derive(Debug, Drop)]
+pub struct OwnedSchedule {
+    /// The dimensions of all matrices.
+    pub dimensions: Vec<Dimensions>,
+    /// How many children a node has at most.
+    pub arity: usize,
+    /// The tallest height, in rows, or 0 if there are no matrices.
+    pub max_height: usize,
+    min_height: usize,
+    exponent: usize,
+    num_levels: usize,
+    of_level: [LevelKind; MAX_LEVELS],
+    ghost walked: { IsWalk (shape_of arity dimensions.items) max_height min_height exponent num_levels of_level },
+}
+
+impl OwnedSchedule {
+    /// Computes the steps of the tree over matrices of these dimensions by [`schedule_of`]. The arity must be at least 2.
+    pub fn new(dimensions: Vec<Dimensions>, arity: usize) -> OwnedSchedule
+        requires { 2 ≤ arity }
+        ensures dimensions { result.dimensions.items ≡ dimensions.items }
+        ensures arity { result.arity ≡ arity }
+    {
+        let schedule = schedule_of(&dimensions, arity);
+        OwnedSchedule {
+            arity,
+            max_height: schedule.max_height,
+            min_height: schedule.min_height,
+            exponent: schedule.exponent,
+            num_levels: schedule.num_levels,
+            of_level: schedule.of_level,
+            dimensions,
+        }
+    }
+
+    /// The steps, with the dimensions borrowed.
+    pub fn schedule(&self) -> Schedule<'_>
+        ensures dimensions { result.dimensions.now ≡ self.now.dimensions.items }
+        ensures arity { result.arity ≡ self.now.arity }
+    {
+        Schedule {
+            dimensions: &self.dimensions,
+            arity: self.arity,
+            max_height: self.max_height,
+            min_height: self.min_height,
+            exponent: self.exponent,
+            num_levels: self.num_levels,
+            of_level: self.of_level,
+        }
+    }
+
+    /// The same steps, with a copy of the dimensions.
+    ///
+    /// # Errors
+    ///
+    /// `AllocError` if memory runs out.
+    pub fn clone(&self) -> Result<OwnedSchedule, AllocError>
+        ensures dimensions { IfOk result (λ kept. kept.dimensions.items ≡ self.now.dimensions.items) }
+        ensures arity { IfOk result (λ kept. kept.arity ≡ self.now.arity) }
+    {
+        Ok(OwnedSchedule::new(self.dimensions.clone()?, self.arity))
+    }
+}
+
+impl<'a> Schedule<'a> {
+    /// The layer, counted from the leaves, that is the cap of this height by this rule (see [`CapRule`]). `cap_height`
+    /// counts levels below the root. The arity must be a power of two from 2 to 2^62. It does not allocate.
+    pub fn cap_layer(&self, rule: CapRule, cap_height: usize) -> usize
+        requires { IsArity self.now.arity }
+        ensures { result ≡ cap_layer (shape_of self.now.arity self.now.dimensions.now) rule cap_height }
+    {
+        // No step above the layer of the shortest matrix is a bridge step.
+        let max_cap_height = match rule {
+            CapRule::Lowered => exponent_of(self.min_height).div_ceil(exponent_of(self.arity)),
+            CapRule::Fixed => self.num_levels,
+        };
+        self.num_levels
+            .saturating_sub(cap_height.min(max_cap_height))
+    }
+
+    /// The step of a level, in children per node. The level must be below the root.
+    pub fn step(&self, level: usize) -> usize
+        requires { level < self.now.num_levels }
+        ensures { result ≡ step (shape_of self.now.arity self.now.dimensions.now) level }
+    {
+        if self.of_level[level].is_bridge {
+            2
+        } else {
+            self.arity
+        }
+    }
+
+    /// The step of a level, the exponent of the layer above it, and whether matrices belong to that layer. The level
+    /// must be below the root. `exponent` must be that of the layer below: a caller that goes up level by level has it.
+    /// `arity` must be that of the steps: a caller that has it as a constant divides by a constant.
+    pub fn step_up(&self, arity: usize, level: usize, exponent: usize) -> LevelStep
+        requires arity { arity ≡ self.now.arity }
+        requires level { level < self.now.num_levels }
+        requires exponent { exponent ≡ layer_exponent (shape_of arity self.now.dimensions.now) level }
+        ensures step { result.step ≡ step (shape_of arity self.now.dimensions.now) level }
+        ensures rows { result.has_rows ≡ has_rows (shape_of arity self.now.dimensions.now) (suc level) }
+        ensures exponent { result.exponent ≡ layer_exponent (shape_of arity self.now.dimensions.now) (suc level) }
+    {
+        let kept = self.of_level[level];
+        let step = if kept.is_bridge { 2 } else { arity };
+        LevelStep {
+            step,
+            has_rows: kept.has_rows,
+            exponent: exponent.saturating_sub(exponent_of(step)),
+        }
+    }
+
+    /// The shape of the layer above the layer `below`, which must be below the root, and have `len` nodes and this
+    /// exponent. The arity must be a power of two from 2 to 2^62, and [`check_heights`] must accept the heights.
+    pub fn level_from(&self, below: usize, exponent: usize, len: usize) -> LayerShape
+        requires { IsBelowTop (shape_of self.now.arity self.now.dimensions.now) below exponent len }
+        ensures level { IsLevel (shape_of self.now.arity self.now.dimensions.now) result }
+        ensures below { result.below ≡ below }
+    {
+        let arity = self.arity;
+        let up = self.step_up(arity, below, exponent);
+        // Where a bridge step halves a layer that is shorter than the arity, the 2^exponent slots that its nodes can
+        // fill are grouped, and the slots after them are padding.
+        let grouped_len = if self.of_level[below].is_bridge && len < arity {
+            1 << exponent
+        } else {
+            padded_len(len, arity)
+        };
+        let raw_len = grouped_len / up.step;
+        LayerShape {
+            below,
+            step: up.step,
+            exponent: up.exponent,
+            raw_len,
+            layer_len: padded_len(raw_len, arity),
+            height: height_of_exponent(self.max_height, up.exponent),
+            has_rows: up.has_rows,
+        }
+    }
+
+    /// The exponent of a layer, counted from the leaves. The layer must be at most the number of levels.
+    pub fn layer_exponent(&self, layer: usize) -> usize
+        requires { layer ≤ self.now.num_levels }
+        ensures { result ≡ layer_exponent (shape_of self.now.arity self.now.dimensions.now) layer }
+    {
+        let mut exponent = self.exponent;
+        for level in 0..layer {
+            exponent = self.step_up(self.arity, level, exponent).exponent;
+        }
+        exponent
+    }
+
+    /// How many siblings the levels below a layer have, in digests: one less than the step of each
+    /// (`total_siblings_for_levels` in Plonky3). The layer must be at most the number of levels, the arity a power of
+    /// two from 2 to 2^62, and no height above [`MAX_HEIGHT`].
+    pub fn siblings_below(&self, layer: usize) -> usize
+        requires arity { IsArity self.now.arity }
+        requires low { greatest (heights_of self.now.dimensions.now) ≤ height_limit }
+        requires layer { layer ≤ self.now.num_levels }
+        ensures { result ≡ siblings_below (shape_of self.now.arity self.now.dimensions.now) layer }
+    {
+        // At arity 2 each level has one sibling.
+        if self.arity == 2 {
+            return layer;
+        }
+        let mut count = 0;
+        for level in 0..layer {
+            count += self.step(level) - 1;
+        }
+        count
+    }
+
+    /// The steps of the levels below a layer, from the leaves up, in children per node. The layer must be at most the
+    /// number of levels. It allocates a list of one number for each level.
+    ///
+    /// # Errors
+    ///
+    /// `AllocError` if memory runs out.
+    pub fn schedule_below(&self, alloc: Global, layer: usize) -> Result<Vec<usize>, AllocError>
+        requires { layer ≤ self.now.num_levels }
+        ensures { let s = shape_of self.now.arity self.now.dimensions.now in
+            IfOk result (λ v. v.items ≡ schedule_below s layer) }
+    {
+        let mut schedule = Vec::with_capacity(alloc, layer)?;
+        for level in 0..layer {
+            schedule.push_reserved(self.step(level));
+        }
+        Ok(schedule)
+    }
+
+    /// For each level below a layer, from the leaves up, the position of the index's ancestor there among its parent's
+    /// children, from 0. The layer must be at most the number of levels. It allocates a list of one number for each
+    /// level.
+    ///
+    /// # Errors
+    ///
+    /// `AllocError` if memory runs out.
+    pub fn positions_below(
+        &self,
+        alloc: Global,
+        layer: usize,
+        index: usize,
+    ) -> Result<Vec<usize>, AllocError>
+        requires { layer ≤ self.now.num_levels }
+        ensures { let s = shape_of self.now.arity self.now.dimensions.now in
+            IfOk result (λ v. v.items ≡ positions_below s layer index) }
+    {
+        let mut positions = Vec::with_capacity(alloc, layer)?;
+        let mut ancestor = index;
+        for level in 0..layer {
+            let step = self.step(level);
+            positions.push_reserved(ancestor % step);
+            ancestor /= step;
+        }
+        Ok(positions)
+    }
+}
