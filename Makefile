@@ -21,7 +21,7 @@ FILES := $(PROGRAMS) $(LIBRARY_FOR_C)
 CPUS := x86-64-v2 x86-64-v3
 QUICK := $(PROGRAMS:%=build/quick/%)
 # What answers the cases of tests/fuzz, tests/memory, tests/peers and tests/rust/compare.
-CASES := merkle_cases log_cases rust_cases memory_cases
+CASES := test_merkle test_log test_rust test_memory
 LIBRARIES := build/libraries.tar.zst
 
 # This processor: x86-64-v3 where each has what that adds to x86-64-v2. Linux calls lzcnt by the name abm.

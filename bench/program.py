@@ -31,12 +31,12 @@ def lay_out(folder):
 
 def take_generator(bench):
     """Salts are those of a generator of the tests that counts, and its proofs come with it."""
-    cases = TOP / "crates/merkle_cases"
+    cases = TOP / "crates/test_merkle"
     shutil.copy(cases / "src/counting.rt", bench / "src")
     for proof in (cases / "proofs/counting").rglob("*.antt"):
         path = bench / proof.relative_to(cases)
         path.parent.mkdir(parents=True, exist_ok=True)
-        path.write_text(proof.read_text().replace("Rattle.merkle_cases.", "Rattle.bench."))
+        path.write_text(proof.read_text().replace("Rattle.test_merkle.", "Rattle.bench."))
 
 
 def built(folder, cpus):

@@ -1,4 +1,4 @@
-"""Lines of crates/memory_cases, and what the model answers to their calls, as Rust's `Debug` writes it."""
+"""Lines of crates/test_memory, and what the model answers to their calls, as Rust's `Debug` writes it."""
 
 from cases import Batch
 from claims import Claim, checks_of, extract

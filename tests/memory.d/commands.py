@@ -74,7 +74,7 @@ def stored(cases: Path, program: str) -> list[Trial]:
 
 
 def named(trials: list[Trial]) -> list[Trial]:
-    """The cases over the matrices whose worked answers memory_cases has, and over its four heights."""
+    """The cases over the matrices whose worked answers test_memory has, and over its four heights."""
     return [trial for trial in trials if NAMED.search(trial.data.decode())]
 
 

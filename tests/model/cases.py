@@ -1,4 +1,4 @@
-"""Models the answers to cases of crates/merkle_cases: a line of fields with | between them, first the kind.
+"""Models the answers to cases of crates/test_merkle: a line of fields with | between them, first the kind.
 
 A kind is a function, with a reader for each of its arguments, which reads a field or more of them."""
 

@@ -2,7 +2,7 @@
 
 import random
 
-import log_commands
+import fohlazu_commands
 import random_files
 import logs
 from claims import Error
@@ -20,7 +20,7 @@ TABLES = {"one line": (50_000_000, b"1 "), "blank lines": (10_000_000, b"\n"), "
 
 def compared(program, name, words, contents, held=LITTLE, is_told=False):
     """A measured run beside the model."""
-    answer = log_commands.answer(words, contents.get)
+    answer = fohlazu_commands.answer(words, contents.get)
     ran = program.measured(words, contents)
     if is_told:
         print(f"{name}: {ran.seconds:.2f} s, {ran.held / MIB:.1f} MiB")

@@ -1,4 +1,4 @@
-"""The cases of crates/log_cases: what a question is answered. Its program says what the words of each kind mean."""
+"""The cases of crates/test_log: what a question is answered. Its program says what the words of each kind mean."""
 
 from functools import cache, reduce
 from hashlib import sha256
@@ -7,7 +7,7 @@ from types import SimpleNamespace
 from unittest import mock
 from urllib.parse import unquote_to_bytes
 
-import log_commands
+import fohlazu_commands
 import log_texts
 import logs
 
@@ -137,7 +137,7 @@ def verify(size, log, indices, leaves, nodes):
 
 
 def file(cut, limit, nodes, wanted, reads, data):
-    found, is_refused = log_commands.cut_entries(cut, data)
+    found, is_refused = fohlazu_commands.cut_entries(cut, data)
     limit = None if limit == "-" else int(limit)
     if limit is None or len(found) < limit:
         # The reader comes to the end.
@@ -199,7 +199,7 @@ def by_commands(call):
         told.partial, told.whole_lines = cut == "include", cut == "leave-out"
         try:
             call(told, *data)
-        except log_commands.Refused as refused:
+        except fohlazu_commands.Refused as refused:
             return refused.args[2]
         return "none"
 
@@ -207,14 +207,14 @@ def by_commands(call):
 
 
 def file_entries(told, file, checkpoint, proof):
-    log_commands.verify(told, log_commands.Inputs([checkpoint, proof].__getitem__))
-    log_commands.tree_under(told, file, *log_texts.checkpoint(checkpoint)[1:])
+    fohlazu_commands.verify(told, fohlazu_commands.Inputs([checkpoint, proof].__getitem__))
+    fohlazu_commands.tree_under(told, file, *log_texts.checkpoint(checkpoint)[1:])
 
 
 def file_prefix(told, old_file, new_file, checkpoint, proof):
-    new = log_commands.verify_consistency(told, log_commands.Inputs([checkpoint, proof].__getitem__))
+    new = fohlazu_commands.verify_consistency(told, fohlazu_commands.Inputs([checkpoint, proof].__getitem__))
     for file, text in (old_file, checkpoint), (new_file, new):
-        log_commands.tree_under(told, file, *log_texts.checkpoint(text)[1:])
+        fohlazu_commands.tree_under(told, file, *log_texts.checkpoint(text)[1:])
 
 
 # ---- collisions under eight bits: what is accepted, and is not what it is to be

@@ -131,7 +131,7 @@ def consistency(old, new, proof, old_root, new_root):
 
 
 def entries(size, indices, leaves, proof, root):
-    """The verdict on a proof of several entries, as tlog_entries words it."""
+    """The verdict on a proof of several entries, as tlog_multiproof words it."""
     if size > MOST:
         return "the size is above 2^62"
     if not indices:

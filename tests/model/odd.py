@@ -6,7 +6,7 @@ import signal
 import subprocess
 from pathlib import Path
 
-import log_commands
+import fohlazu_commands
 from random_files import printed
 from running import Ran, faults, is_line
 
@@ -75,7 +75,7 @@ def arguments(program):
     yield "--help", helped(program.run(["--help"]), b"verify-consistency")
     yield "--version", helped(program.run(["--version"]), b"fohlazu ")
     for words in WRONG:
-        answer = log_commands.answer(words.split(), CONTENTS.get)
+        answer = fohlazu_commands.answer(words.split(), CONTENTS.get)
         is_wrong = [] if answer.expected() == (2, b"", None) else [f"the model answers {answer}"]
         yield f"fohlazu {words}", [*is_wrong, *faults(program.run(words.split(), CONTENTS), 2, line=None)]
 
@@ -140,7 +140,7 @@ def changing(program):
     proof = printed(words, contents)
     for name, other in [("cut", data[:-201]), ("emptied", b""), ("changed", data[:1000] + b"x" + data[1001:])]:
         changed = {**contents, "file": other}
-        answer = log_commands.answer(words, changed.get)
+        answer = fohlazu_commands.answer(words, changed.get)
         is_answered = [] if answer.status else ["the model answers"]
         yield f"a file that was {name}", [*is_answered, *faults(program.run(words, changed), *answer.expected())]
     for change in (shrink, grow, flip):

@@ -3,7 +3,7 @@
 from pathlib import Path
 from typing import NamedTuple
 
-import log_commands
+import fohlazu_commands
 import log_texts
 import logs
 from log_texts import checkpoint_text, consistency_text, entries_text
@@ -26,7 +26,7 @@ class Case(NamedTuple):
     contents: dict
 
     def answer(self):
-        return log_commands.answer(self.words, self.contents.get)
+        return fohlazu_commands.answer(self.words, self.contents.get)
 
     def shown(self):
         """The case, to be tried by hand."""
@@ -42,7 +42,7 @@ class Case(NamedTuple):
 
 def printed(words, contents):
     """What a command prints that is not to be refused."""
-    answer = log_commands.answer(words, contents.get)
+    answer = fohlazu_commands.answer(words, contents.get)
     assert answer.status == 0, (words, answer)
     return answer.printed
 
@@ -216,8 +216,8 @@ def verifies(source, limit, few):
 def grown(source, limit):
     """A file that has grown, how it is cut, and the checkpoints of its beginning and of all of it."""
     data, cut, new, size = sealed(source, limit)
-    told = log_commands.words_of("seal").parse_args([*cut, "log"])
-    log = logs.Log(log_commands.entries_of(told, data, None))
+    told = fohlazu_commands.words_of("seal").parse_args([*cut, "log"])
+    log = logs.Log(fohlazu_commands.entries_of(told, data, None))
     old = source.choice([0, size, *range(size)])
     return data, cut, checkpoint_text(log_texts.checkpoint(new)[0], old, log.root(0, old)), new
 

@@ -1,4 +1,4 @@
-"""Models the answers to cases of crates/rust_cases/data: a line of numbers, as the head of cases.txt says."""
+"""Models the answers to cases of crates/test_rust/data: a line of numbers, as the head of cases.txt says."""
 
 from functools import partial
 from itertools import accumulate, repeat

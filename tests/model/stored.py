@@ -43,13 +43,13 @@ def of_logs(line):
 
 
 # What answers the cases of each crate.
-ANSWERS = {"merkle_cases": of_library, "rust_cases": of_rust, "log_cases": of_logs}
+ANSWERS = {"test_merkle": of_library, "test_rust": of_rust, "test_log": of_logs}
 
 
 def lines_of(crate):
     """The stored lines of a crate."""
     folder = CRATES / crate
-    if crate == "rust_cases":
+    if crate == "test_rust":
         return [line for path in sorted((folder / "data").iterdir()) for line in path.read_text().split("\n")]
     return (folder / "stdin").read_text().split("\n")
 
@@ -59,10 +59,10 @@ def tests(crate, is_quick):
     for number, line in enumerate(lines_of(crate), 1):
         if line.strip() and not line.startswith("#") and not (is_quick and SLOW.search(line)):
             expected, answer = ANSWERS[crate](line)
-            kind = re.match("[a-z_0-9]+", line)[0] if crate in ("merkle_cases", "log_cases") else "a case"
+            kind = re.match("[a-z_0-9]+", line)[0] if crate in ("test_merkle", "test_log") else "a case"
             yield f"{crate}: {kind}", [] if answer == expected else [f"line {number}: {line[:400]}",
                                                                      f"the model answers: {answer[:400]}"]
-    if crate == "merkle_cases":
+    if crate == "test_merkle":
         yield "the block of ChaCha20 in RFC 8439", [] if salts.has_block() else ["the model has another"]
 
 

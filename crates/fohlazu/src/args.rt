@@ -1,14 +1,14 @@
 //! The arguments of the program.
 
 ghost use Rattle.std.specs.Prelude.{IfOk, ◌≤◌};
-ghost use Rattle.log_commands.specs.Commands.{IsLawful};
+ghost use Rattle.fohlazu_commands.specs.Commands.{IsLawful};
 
 use crate::input::{Input, Notes};
 use crate::many::{MANY, Many, Range, count_of, numbers_in};
 use crate::output::is_same_file;
 use clap::{Arg, ArgMatches, Command as Syntax, arg, value_parser};
-use log_commands::prove::MOST_NUMBERS;
-use log_commands::{Command, Cut, PART_ORIGIN, PartialLine, Print, Requested, Source};
+use fohlazu_commands::prove::MOST_NUMBERS;
+use fohlazu_commands::{Command, Cut, PART_ORIGIN, PartialLine, Print, Requested, Source};
 use std::alloc::{AllocError, Global};
 use std::fmt;
 use std::fmt::{Display, Formatter, Write};

@@ -8,11 +8,11 @@ mod output;
 mod progress;
 mod watch;
 
-ghost use Rattle.log_commands.specs.Commands.{IsLawful};
+ghost use Rattle.fohlazu_commands.specs.Commands.{IsLawful};
 
 use args::{Args, ArgsError, Escaped, parse_args};
 use input::{Input, Notes};
-use log_commands::{Command, Error, run};
+use fohlazu_commands::{Command, Error, run};
 use many::Many;
 use output::{Replacement, StandardOutput};
 use std::fmt::Display;

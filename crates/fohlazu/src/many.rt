@@ -2,8 +2,8 @@
 //! once the file is known to have them.
 
 use crate::input::Input;
-use log_commands::prove::MOST_NUMBERS;
-use log_commands::{Command, Cut, Error, run};
+use fohlazu_commands::prove::MOST_NUMBERS;
+use fohlazu_commands::{Command, Cut, Error, run};
 use std::alloc::{AllocError, Global};
 use std::io;
 use std::io::Read;

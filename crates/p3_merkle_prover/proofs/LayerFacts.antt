@@ -21,7 +21,7 @@ use Rattle.p3_merkle_core.specs.declared.layer_shape.LayerShape.{LayerShape}
 use Rattle.p3_merkle_core.specs.Openings.{children_by}
 use Rattle.p3_merkle_core.proofs.Checks.Completeness.{node_next}
 use Rattle.p3_merkle_core.proofs.Shapes.StepFacts.{layer_start}
-use Rattle.p3_merkle_digests.specs.Inner.Slots.{leaf_over, rows_over}
+use Rattle.p3_merkle_hashing.specs.Inner.Slots.{leaf_over, rows_over}
 use Rattle.p3_merkle_prover.specs.Inner.Levels.{node_above}
 
 -- two functions that agree below n make the same list

@@ -10,11 +10,11 @@ ghost use denote.Param.{ArrayAt};
 ghost use Rattle.p3_support.specs.Lists.{lane_of};
 ghost use Rattle.p3_merkle_core.specs.Computed.{Computes};
 ghost use Rattle.p3_merkle_prover.specs.Inner.Levels.{HasChildren};
-ghost use Rattle.p3_merkle_digests.specs.Inner.Slots.{IsFilled};
+ghost use Rattle.p3_merkle_hashing.specs.Inner.Slots.{IsFilled};
 
 use p3_merkle_core::layer_shape::LayerShape;
-use p3_merkle_digests::batched::{LayerRows, compress_children, inject_row_digests};
-use p3_merkle_digests::packed::{
+use p3_merkle_hashing::batched::{LayerRows, compress_children, inject_row_digests};
+use p3_merkle_hashing::packed::{
     compress_children_packed, compress_pairs_packed, packed_block_count,
 };
 use p3_support::compress::PseudoCompressionFunction;

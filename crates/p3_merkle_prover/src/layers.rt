@@ -15,7 +15,7 @@ use crate::layer::{Buffers, LayerBuilder};
 use p3_merkle_core::geometry::padded_len;
 use p3_merkle_core::layer_shape::LayerShape;
 use p3_merkle_core::schedule::Schedule;
-use p3_merkle_digests::batched::LayerRows;
+use p3_merkle_hashing::batched::LayerRows;
 use p3_support::compress::PseudoCompressionFunction;
 use p3_support::hasher::CryptographicHasher;
 use p3_support::matrix::Matrix;

@@ -6,7 +6,7 @@ use Rattle.std.proofs.lemmas.List.{get_or-map, length-map, length-take-le}
 use Rattle.std.proofs.lemmas.List.FromFn.{fill_by_all}
 use Rattle.std.proofs.lemmas.Slice.Zip.{get_or-zip, length-zip}
 use Rattle.std.specs.List.{range_with_len}
-use Rattle.p3_merkle_digests.specs.Inner.Slots.{IsFilled}
+use Rattle.p3_merkle_hashing.specs.Inner.Slots.{IsFilled}
 use Rattle.p3_merkle_verifier.specs.Inner.NodeDigests.{group_digest, pair_digest}
 
 -- compressions of children with default digests are the digests of groups

@@ -17,7 +17,7 @@ ghost use Rattle.p3_merkle_core.specs.Pruning.{restored_paths};
 ghost use Rattle.p3_merkle_core.specs.Refusals.{cap_refusal, AnswersUnlessMemory};
 ghost use Rattle.p3_merkle_core.specs.Refusals.{is_entry as is_entry_of, pruned_refusal, pruned_refusal_under};
 ghost use Rattle.p3_merkle_core.specs.Views.{pruned_borrowed, shown_paths};
-ghost use Rattle.p3_merkle_digests.specs.Inner.Slots.{rows_over};
+ghost use Rattle.p3_merkle_hashing.specs.Inner.Slots.{rows_over};
 ghost use Rattle.p3_merkle_verifier.specs.Inner.Checks.{functions_of, params_in, shape_in};
 ghost use Rattle.p3_merkle_verifier.specs.Inner.NodeDigests.{child_group, group_digest};
 ghost use Rattle.p3_merkle_verifier.specs.Inner.OpenedMatrices.{row_in};
@@ -35,7 +35,7 @@ use p3_merkle_core::pruning::{
 };
 use p3_merkle_core::covered_nodes::Covered;
 use p3_merkle_core::schedule::LevelStep;
-use p3_merkle_digests::batched::{LayerRows, compress_children, inject_row_digests};
+use p3_merkle_hashing::batched::{LayerRows, compress_children, inject_row_digests};
 use p3_support::compress::PseudoCompressionFunction;
 use p3_support::hasher::CryptographicHasher;
 use p3_support::packed::PackedValue;

@@ -24,7 +24,7 @@ mod simd;
 mod erased {
     pub(crate) mod p3_hashes;
     pub(crate) mod p3_merkle_core;
-    pub(crate) mod p3_merkle_digests;
+    pub(crate) mod p3_merkle_hashing;
     pub(crate) mod p3_merkle_mmcs;
     pub(crate) mod p3_merkle_prover;
     pub(crate) mod p3_merkle_tree;
@@ -33,7 +33,7 @@ mod erased {
     #[cfg(feature = "sha2")]
     pub(crate) mod tlog;
     #[cfg(feature = "sha2")]
-    pub(crate) mod tlog_entries;
+    pub(crate) mod tlog_multiproof;
     #[cfg(feature = "sha2")]
     pub(crate) mod tlog_tree;
 }
@@ -184,7 +184,7 @@ pub mod tlog {
         growth_collision, leaf_collision, leaf_hash, node_hash, prefix_collision, proof_collision, verify_consistency,
         verify_inclusion,
     };
-    pub use crate::erased::tlog_entries::{EntriesError, entries_collision, entry_places, verify_entries};
+    pub use crate::erased::tlog_multiproof::{EntriesError, entries_collision, entry_places, verify_entries};
     pub use crate::erased::tlog_tree::{
         Frontier, TreeBuilder, TreeError, consistency_places, inclusion_places, leaf_hashes,
     };

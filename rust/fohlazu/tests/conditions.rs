@@ -427,7 +427,7 @@ mod sha2 {
         let indices = trial.random.indices(3, size);
         let is_within = indices.iter().all(|index| *index < size);
         let conditions = [("some", size != 0), ("limit", size <= 1 << 62), ("within", is_within)];
-        trial.call("tlog_entries.opening.entry_places", &conditions, || entry_places(&indices, size).is_ok());
+        trial.call("tlog_multiproof.opening.entry_places", &conditions, || entry_places(&indices, size).is_ok());
     }
 }
 

@@ -1,4 +1,4 @@
-//! Logs by RFC 9162: the stored cases of `crates/log_cases/stdin`, but for those of files and texts, which the package
+//! Logs by RFC 9162: the stored cases of `crates/test_log/stdin`, but for those of files and texts, which the package
 //! does not read; and the log of certificate transparency's own tests.
 //!
 //! A case is `KIND WORD.. | ANSWER`. A list has commas between its items, and `-` is the empty one. A node is its layer
@@ -373,7 +373,7 @@ fn is_long(question: &str) -> bool {
 
 /// Checks the answers to the cases of these kinds that take long, or to all others, and that there are so many.
 fn check_some(kinds: &[&str], are_long: bool, count: usize) {
-    let text = common::stored("crates/log_cases/stdin");
+    let text = common::stored("crates/test_log/stdin");
     let mut cases = 0;
     for (number, line) in common::cases(&text) {
         let (question, expected) = line.split_once(" |").expect("a case has an answer");
@@ -419,7 +419,7 @@ fn every_kind_is_tried() {
                  consistency_collision growth_collision compose";
     let left_out = "file read file_entries file_prefix checkpoint part entries_proof consistency_proof";
     let known: Vec<_> = tried.split_whitespace().chain(left_out.split_whitespace()).collect();
-    for (number, line) in common::cases(&common::stored("crates/log_cases/stdin")) {
+    for (number, line) in common::cases(&common::stored("crates/test_log/stdin")) {
         let kind = line.split(' ').next().unwrap_or_default();
         assert!(known.contains(&kind), "line {number} is of no kind that is known here: {kind}");
     }

@@ -11,7 +11,7 @@ use Rattle.p3_support.specs.Lists.{rows_of_height}
 use Rattle.p3_merkle_core.specs.declared.layer_shape.LayerShape.{LayerShape}
 use Rattle.p3_merkle_core.specs.Nodes.{Batch, Functions, functions_of}
 use Rattle.p3_merkle_core.specs.Views.{batch_of}
-use Rattle.p3_merkle_digests.specs.Inner.Slots.{leaf_over, rows_over}
+use Rattle.p3_merkle_hashing.specs.Inner.Slots.{leaf_over, rows_over}
 use Rattle.p3_merkle_prover.specs.Inner.Levels.{slot_above}
 use Rattle.p3_merkle_prover.specs.declared.layer.GenericLayerBuilder.{GenericLayerBuilder}
 use Rattle.p3_merkle_prover.specs.declared.layers.GenericTreeBuilder.{GenericTreeBuilder}

@@ -1,4 +1,4 @@
-//! The worked rows and the other stored cases of `crates/merkle_cases/stdin`, answered by the package.
+//! The worked rows and the other stored cases of `crates/test_merkle/stdin`, answered by the package.
 //!
 //! A line there is a keyword, fields and the expected answer, with `|` between them; docs/ROWS.md says which lines a
 //! worked row is. The answers were worked out by hand or by `tests/model`, never by the library. Lines of the program
@@ -145,7 +145,7 @@ fn is_long(line: &str) -> bool {
 
 /// Checks the cases of these keywords that take long, or all others, and that there are so many.
 fn check(keywords: &[&str], are_long: bool, count: usize) {
-    let text = common::stored("crates/merkle_cases/stdin");
+    let text = common::stored("crates/test_merkle/stdin");
     let keyword_of = |line: &str| line.split_once(" |").expect("a case has fields").0.to_string();
     let mut cases = 0;
     for (number, line) in common::cases(&text) {
@@ -210,7 +210,7 @@ fn every_kind_is_tried() {
                  salted_extract salted_extract_pruned layers sha256_layers";
     let left_out = "mmcs mmcs_unread mmcs_unwritten";
     let known: Vec<_> = tried.split_whitespace().chain(left_out.split_whitespace()).collect();
-    for (number, line) in common::cases(&common::stored("crates/merkle_cases/stdin")) {
+    for (number, line) in common::cases(&common::stored("crates/test_merkle/stdin")) {
         let keyword = line.split(" |").next().unwrap_or_default();
         assert!(known.contains(&keyword), "line {number} is of no kind that is known here: {keyword}");
     }

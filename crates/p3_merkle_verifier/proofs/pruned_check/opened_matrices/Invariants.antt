@@ -3,7 +3,7 @@ use Rattle.std.specs.Prelude.{slice_index, slice_index_or}
 use Rattle.p3_support.specs.Batches.{heights_of}
 use Rattle.p3_support.specs.Shown.{row_sets}
 use Rattle.p3_merkle_core.specs.Checks.{words_of_exponent}
-use Rattle.p3_merkle_digests.specs.Inner.Slots.{rows_over}
+use Rattle.p3_merkle_hashing.specs.Inner.Slots.{rows_over}
 use Rattle.p3_merkle_verifier.specs.Inner.OpenedMatrices.{row_in}
 use Rattle.p3_merkle_verifier.proofs.pruned_check.opened_matrices.Given as goal
 

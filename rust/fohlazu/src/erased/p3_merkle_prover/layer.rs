@@ -6,8 +6,8 @@
 //! take many messages fill the others.
 
 use crate::erased::p3_merkle_core::levels::Level;
-use crate::erased::p3_merkle_digests::batched::{LayerRows, compress_children, inject_row_digests};
-use crate::erased::p3_merkle_digests::packed::{compress_children_packed, compress_pairs_packed, packed_block_count};
+use crate::erased::p3_merkle_hashing::batched::{LayerRows, compress_children, inject_row_digests};
+use crate::erased::p3_merkle_hashing::packed::{compress_children_packed, compress_pairs_packed, packed_block_count};
 use crate::erased::p3_support::compress::PseudoCompressionFunction;
 use crate::erased::p3_support::hasher::CryptographicHasher;
 use crate::erased::p3_support::matrix::Matrix;

@@ -8,7 +8,7 @@
 use crate::erased::p3_merkle_core::geometry::padded_len;
 use crate::erased::p3_merkle_core::levels::Level;
 use crate::erased::p3_merkle_core::steps::Steps;
-use crate::erased::p3_merkle_digests::batched::LayerRows;
+use crate::erased::p3_merkle_hashing::batched::LayerRows;
 use crate::erased::p3_merkle_prover::layer::{Buffers, LayerBuilder};
 use crate::erased::p3_support::compress::PseudoCompressionFunction;
 use crate::erased::p3_support::hasher::CryptographicHasher;

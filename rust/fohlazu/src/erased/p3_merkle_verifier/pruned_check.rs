@@ -13,7 +13,7 @@ use crate::erased::p3_merkle_core::pruning::{
     AuthPath, CoveredLayer, PrunedMerklePaths, check_pruned, children_of, siblings_on_path,
 };
 use crate::erased::p3_merkle_core::steps::{Covered, StepUp};
-use crate::erased::p3_merkle_digests::batched::{LayerRows, compress_children, inject_row_digests};
+use crate::erased::p3_merkle_hashing::batched::{LayerRows, compress_children, inject_row_digests};
 use crate::erased::p3_merkle_verifier::checker::Checker;
 use crate::erased::p3_merkle_verifier::openings::{OpenedMatrix, PrunedOpeningRef, RestorableOpening};
 use crate::erased::p3_merkle_verifier::path::is_entry;

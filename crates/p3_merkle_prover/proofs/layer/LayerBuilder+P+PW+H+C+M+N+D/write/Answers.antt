@@ -3,7 +3,7 @@ use Rattle.std.proofs.Common.{arith, ◌+◌, ◌-◌, ◌≤◌, length, refl, 
 use Rattle.std.proofs.lemmas.Bool.{le-ltb}
 use Rattle.std.proofs.lemmas.List.{length-take-le}
 use Rattle.std.proofs.lemmas.Result.{IfOk-weaker}
-use Rattle.p3_merkle_digests.proofs.StageFacts.{all_written, none_written, some_written, IsWritten}
+use Rattle.p3_merkle_hashing.proofs.StageFacts.{all_written, none_written, some_written, IsWritten}
 use Rattle.p3_merkle_prover.specs.Inner.Slots.{slot_of}
 use Rattle.p3_merkle_prover.proofs.layer.LayerBuilder+P+PW+H+C+M+N+D.write.Goals as goal
 use Rattle.p3_merkle_prover.proofs.layer.LayerBuilder+P+PW+H+C+M+N+D.write.Goals.{then-LANES-gt1+then-LANES-gt1-2}

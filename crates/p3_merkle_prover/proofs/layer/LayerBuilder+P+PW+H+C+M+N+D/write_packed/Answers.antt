@@ -2,7 +2,7 @@
 use Rattle.std.proofs.Common.{arith, ◌≡◌, ℕ, ◌+◌, ◌*◌, ◌<◌, ◌≤◌, ◌∙◌, [], refl, length, slice_index_or, true}
 use Rattle.p3_support.specs.Lists.{lane_of}
 use Rattle.p3_merkle_prover.specs.Inner.Slots.{slot_of}
-use Rattle.p3_merkle_digests.proofs.LaneFacts.{group_end, group_more}
+use Rattle.p3_merkle_hashing.proofs.LaneFacts.{group_end, group_more}
 use Rattle.p3_merkle_prover.proofs.layer.LayerBuilder+P+PW+H+C+M+N+D.write_packed.Goals as goal
 use Rattle.p3_merkle_prover.proofs.layer.LayerBuilder+P+PW+H+C+M+N+D.write_packed.Goals.{then-self, else-self}
 

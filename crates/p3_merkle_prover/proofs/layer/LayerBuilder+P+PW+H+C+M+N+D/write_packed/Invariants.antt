@@ -1,5 +1,5 @@
 use Rattle.std.proofs.Common.{◌≡◌, ◌<◌, ◌≤◌, ◌+◌, ◌*◌, ℕ, length, true}
-use Rattle.p3_merkle_digests.specs.Inner.Slots.{IsFilled}
+use Rattle.p3_merkle_hashing.specs.Inner.Slots.{IsFilled}
 use Rattle.p3_merkle_prover.specs.Inner.Slots.{slot_of}
 use Rattle.p3_merkle_prover.proofs.layer.LayerBuilder+P+PW+H+C+M+N+D.write_packed.Given as goal
 

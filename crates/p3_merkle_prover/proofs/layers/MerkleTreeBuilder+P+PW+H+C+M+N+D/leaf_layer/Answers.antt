@@ -6,7 +6,7 @@ use Rattle.std.specs.List.{range_with_len}
 use Rattle.p3_support.specs.Lists.{rows_of_height}
 use Rattle.p3_merkle_core.specs.Geometry.{padded_len}
 use Rattle.p3_merkle_core.proofs.Covered.CoveredFacts.{padded_le}
-use Rattle.p3_merkle_digests.specs.Inner.Slots.{leaf_over, rows_over}
+use Rattle.p3_merkle_hashing.specs.Inner.Slots.{leaf_over, rows_over}
 use Rattle.p3_merkle_prover.specs.Inner.Slots.{functions_for}
 use Rattle.p3_merkle_prover.proofs.BuildFacts.{leaves_are, tallest_low}
 use Rattle.p3_merkle_prover.proofs.LayerFacts.{picked_high, rows_picked, same_made}

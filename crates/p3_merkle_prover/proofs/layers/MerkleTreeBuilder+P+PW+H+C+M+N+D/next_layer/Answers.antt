@@ -4,7 +4,7 @@ use Rattle.std.proofs.lemmas.List.{take_at}
 use Rattle.std.proofs.lemmas.List.FromFn.{length-map-range_with_len}
 use Rattle.std.specs.List.{range_with_len}
 use Rattle.p3_support.specs.Lists.{rows_of_height}
-use Rattle.p3_merkle_digests.specs.Inner.Slots.{leaf_over, rows_over}
+use Rattle.p3_merkle_hashing.specs.Inner.Slots.{leaf_over, rows_over}
 use Rattle.p3_merkle_prover.specs.Inner.Levels.{slot_above}
 use Rattle.p3_merkle_prover.specs.Inner.Slots.{functions_for}
 use Rattle.p3_merkle_prover.proofs.LayerFacts.{picked_high, rows_picked, same_made}

@@ -5,7 +5,7 @@ use Rattle.p3_merkle_core.specs.Geometry.{levels}
 use Rattle.p3_merkle_core.specs.Nodes.{shape}
 use Rattle.p3_merkle_prover.specs.Parts.{tree_batch}
 use Rattle.p3_merkle_prover.proofs.TreeFacts.{layers_count, layer_long, layer_read, top_len}
-use Rattle.p3_merkle_digests.proofs.LaneFacts.{one_element}
+use Rattle.p3_merkle_hashing.proofs.LaneFacts.{one_element}
 use Rattle.p3_merkle_prover.proofs.tree.MerkleTree+F+W+M+N+D.root.Goals as goal
 
 pub index-requires : goal.index-requires

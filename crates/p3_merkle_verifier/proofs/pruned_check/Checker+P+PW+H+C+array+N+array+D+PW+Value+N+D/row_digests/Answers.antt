@@ -6,7 +6,7 @@ use Rattle.std.specs.List.{range_with_len}
 use Rattle.p3_support.specs.Batches.{heights_of}
 use Rattle.p3_support.specs.Shown.{row_sets}
 use Rattle.p3_merkle_core.specs.Geometry.{heights}
-use Rattle.p3_merkle_digests.specs.Inner.Slots.{rows_over}
+use Rattle.p3_merkle_hashing.specs.Inner.Slots.{rows_over}
 use Rattle.p3_merkle_verifier.specs.Inner.Checks.{functions_of}
 use Rattle.p3_merkle_verifier.specs.Inner.NodeDigests.{query_digest}
 use Rattle.p3_merkle_verifier.specs.Inner.OpenedMatrices.{row_in}

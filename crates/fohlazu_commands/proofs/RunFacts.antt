@@ -1,0 +1,176 @@
+-- Inputs are read one after another, and a text is written piece by piece.
+use Rattle.std.proofs.Common.{◌≡◌, ◌⊎◌, ◌∙◌, ◌+◌, List, [], ◌∷◌, ◌++◌, ℕ, Option, None, Some, Result, Ok, Err, Vec}
+use Rattle.std.proofs.Common.{Global, ap, arith, inl, inr, ⊎_elim, length, map, refl, subst, sym, add-zero}
+use Rattle.std.proofs.Common.{append_assoc, drop, ◌-◌, take, take-append-drop, length-drop, take_all, Bool, true, false}
+use Rattle.std.proofs.Common.{◌≤◌, ◌<◌, All, le-leb, length-take, nat_le}
+use Rattle.tlog_files.specs.Entries.{HoldsOfFile}
+use Rattle.std.proofs.lemmas.Bool.{lt-leb}
+use Rattle.std.proofs.lemmas.List.Elements.{All-head, All-tail}
+use Rattle.p3_merkle_core.specs.Refusals.{ok_unless, unless}
+use Rattle.std.proofs.KnownBytes.{Appends-kept, Appends-trans}
+use Rattle.std.specs.Io.KnownBytes.{Appends, Keeps, WriteAppends}
+use Rattle.fohlazu_commands.specs.Commands.{AreReadAs, EndsIn, HoldsOfInput, IsReadAs, bytes_of_parts, note_from}
+use Rattle.fohlazu_commands.specs.Commands.{limited_from}
+use Rattle.fohlazu_commands.specs.Outcomes.{bytes_in, Gives, and_then}
+use Rattle.fohlazu_commands.specs.declared.error.Error.{Error}
+use Rattle.fohlazu_commands.specs.declared.error.Error.TheVariants.{OutOfMemory, Read, Refused}
+use Rattle.fohlazu_commands.specs.declared.error.Refusal.TheVariants.{TooLong}
+use Rattle.fohlazu_commands.specs.declared.error.Source.{Source}
+use Rattle.fohlazu_commands.specs.declared.error.Source.TheVariants.{Part}
+
+-- an input that is not too long
+pub short_read : (source : Source) (limit : ℕ) (bytes : List ℕ) → length bytes ≤ limit →
+    limited_from source limit (Some bytes) ≡ Ok bytes
+short_read source limit bytes short =
+    ap (λ (t : Bool). ok_unless (unless t (Refused source (TooLong limit))) bytes) (le-leb (length bytes) limit short)
+
+-- one that is
+pub long_read : (source : Source) (limit : ℕ) (bytes : List ℕ) → limit < length bytes →
+    limited_from source limit (Some bytes) ≡ Err (Refused source (TooLong limit))
+long_read source limit bytes long =
+    let not_short : nat_le (length bytes) limit ≡ false = lt-leb (length bytes) limit long in
+    ap (λ (t : Bool). ok_unless (unless t (Refused source (TooLong limit))) bytes) not_short
+
+-- what comes of an input that is not too long
+pub short_goes : {W : Type 0} (source : Source) (limit : ℕ) (bytes : List ℕ) (next : List ℕ → Result W Error) (w : W) →
+    length bytes ≤ limit → next bytes ≡ Ok w → and_then (limited_from source limit (Some bytes)) next ≡ Ok w
+short_goes source limit bytes next w short is = ap (λ r. and_then r next) (short_read source limit bytes short) ∙ is
+
+-- something comes of no other
+pub short_came : {W : Type 0} (source : Source) (limit : ℕ) (bytes : List ℕ) (next : List ℕ → Result W Error) (w : W) →
+    and_then (limited_from source limit (Some bytes)) next ≡ Ok w → next bytes ≡ Ok w
+short_came {W} source limit bytes next w is = by (nat_le (length bytes) limit) is
+  where
+    by : (t : Bool) → and_then (ok_unless (unless t (Refused source (TooLong limit))) bytes) next ≡ Ok w →
+        next bytes ≡ Ok w
+    by true given = given
+    by false given = absurd (cc)
+
+-- what is read up to a limit is the whole, or shows that it is too long
+pub read_whole : (known : Option (List ℕ)) (bytes : List ℕ) (limit : ℕ) →
+    HoldsOfFile known (λ all. bytes ≡ take (limit + 1) all) → length bytes ≤ limit → IsReadAs known (Some bytes)
+read_whole None bytes limit holds short = tt
+read_whole (Some all) bytes limit is short =
+    is ∙ take_all (limit + 1) all (omega (arith, ap length is, length-take (limit + 1) all, short))
+
+pub read_long : (source : Source) (known : Option (List ℕ)) (bytes : List ℕ) (limit : ℕ) →
+    HoldsOfFile known (λ all. bytes ≡ take (limit + 1) all) → limit < length bytes →
+    HoldsOfInput known (λ all. limited_from source limit all ≡ Err (Refused source (TooLong limit)))
+read_long source None bytes limit (all, is) long =
+    (Some all, tt, long_read source limit all (omega (arith, ap length is, length-take (limit + 1) all, long)))
+read_long source (Some all) bytes limit is long =
+    (Some all, refl, long_read source limit all (omega (arith, ap length is, length-take (limit + 1) all, long)))
+
+abbrev pub IsShort : List ℕ → Type 0
+IsShort x = length x ≤ 1000000
+
+-- what becomes of the next part's text
+abbrev pub with_more : ℕ → List (Option (List ℕ)) → List ℕ → Result (List (List ℕ)) Error
+with_more k inputs text = and_then (bytes_of_parts (k + 1) inputs) (λ texts. Ok (text ∷ texts))
+
+-- all parts are read
+pub all_read : (k : ℕ) (xs : List (List ℕ)) → All IsShort xs → bytes_of_parts k (map Some xs) ≡ Ok xs
+all_read k [] short = refl
+all_read k (x ∷ xs) short =
+    ap (λ r. and_then r (with_more k (map Some xs)))
+    (short_read (Part k) 1000000 x (All-head IsShort x xs short))
+    ∙ ap (λ r. and_then r (λ texts. Ok (x ∷ texts))) (all_read (k + 1) xs (All-tail IsShort x xs short))
+
+-- the parts up to one that is refused are read
+pub read_until : (k : ℕ) (done : List (List ℕ)) (input : Option (List ℕ)) (more : List (Option (List ℕ))) (e : Error) →
+    All IsShort done → note_from (Part (k + length done)) input ≡ Err e →
+    bytes_of_parts k (map Some done ++ input ∷ more) ≡ Err e
+read_until k [] input more e short why =
+    ap (λ r. and_then r (with_more k more)) (ap (λ n. note_from (Part n) input) (sym (add-zero k)) ∙ why)
+read_until k (x ∷ xs) input more e short why =
+    let same : (k + 1) + length xs ≡ k + length (x ∷ xs) = omega arith in
+    ap (λ r. and_then r (with_more k (map Some xs ++ input ∷ more)))
+    (short_read (Part k) 1000000 x (All-head IsShort x xs short))
+    ∙ ap (λ r. and_then r (λ texts. Ok (x ∷ texts)))
+    (read_until (k + 1) xs input more e (All-tail IsShort x xs short) (ap (λ n. note_from (Part n) input) same ∙ why))
+
+module _ {R : Type 0} (remaining : R → Option (List ℕ)) where
+  -- nothing is said of inputs that are not read
+  pub unread : (xs : List R) → (more : List (Option (List ℕ))) × AreReadAs (map remaining xs) more
+  unread [] = ([], tt)
+  unread (x ∷ xs) = let rest = unread xs in (None ∷ rest.0, (tt, rest.1))
+
+  -- what is read of the inputs that are left makes all, after some that were read
+  abbrev pub MakesAll : List R → List R → List (Vec ℕ Global) → Type 0
+  MakesAll left all done =
+      (more : List (Option (List ℕ))) → AreReadAs (map remaining left) more →
+      AreReadAs (map remaining all) (map Some (map bytes_in done) ++ more)
+
+  -- the first input that is refused
+  pub stops_at : (left rest : List R) (next : R) (all : List R) (done : List (Vec ℕ Global)) → left ≡ next ∷ rest →
+      MakesAll left all done → (input : Option (List ℕ)) → IsReadAs (remaining next) input →
+      (more : List (Option (List ℕ))) × AreReadAs (map remaining all) (map Some (map bytes_in done) ++ input ∷ more)
+  stops_at left rest next all done left_is makes input is =
+      let others = unread rest in (
+        others.0,
+        makes (input ∷ others.0)
+            (subst (λ (xs : List R). AreReadAs (map remaining xs) (input ∷ others.0)) (sym left_is) (is, others.1)),
+      )
+
+-- ---- what a call gives of its inputs
+
+-- an input that cannot be read
+pub unread_gives : {V W : Type 0} (view : V → W) (source : Source) (e : Error) → (e ≡ OutOfMemory) ⊎ (e ≡ Read source) →
+    Gives view (Err e) (Err (Read source))
+unread_gives view source e why = ⊎_elim inl (λ is. inr (ap Err (sym is))) why
+
+-- an input that is read, and what follows
+pub goes_first : {V W : Type 0} (view : V → W) (result : Result V Error) (r : Result (List ℕ) Error) (x : List ℕ)
+    (next : List ℕ → Result W Error) → r ≡ Ok x → Gives view result (next x) → Gives view result (and_then r next)
+goes_first view result r x next is given = subst (λ q. Gives view result (and_then q next)) (sym is) given
+
+-- one that is not
+pub fails_first : {V W : Type 0} (view : V → W) (e : Error) (r : Result (List ℕ) Error)
+    (next : List ℕ → Result W Error) → r ≡ Err e → Gives view (Err e) (and_then r next)
+fails_first view e r next is = inr (ap (λ q. and_then q next) is)
+
+-- an error ends a run
+pub ends_failed : (V : Type 0) (old new : Option (List ℕ)) (outcome : Result (List ℕ) Error) (e : Error) →
+    (e ≡ OutOfMemory) ⊎ (outcome ≡ Err e) → EndsIn {V = V} old new outcome (Err e)
+ends_failed V old new (Ok text) e why = ⊎_elim inl (λ is. absurd (ok_err is)) why
+  where
+    ok_err : {text : List ℕ} {e : Error} → ◌≡◌ {A = Result (List ℕ) Error} (Ok text) (Err e) → ⊥
+    ok_err is = cc
+ends_failed V old new (Err wanted) e why = ⊎_elim inl (λ is. let same : e ≡ wanted = cc in inr same) why
+
+-- the output has the text up to what is left
+abbrev pub Wrote : Option (List ℕ) → Option (List ℕ) → List ℕ → List ℕ → Type 0
+Wrote old new text rest = (front : List ℕ) × (text ≡ front ++ rest) × Appends old new front
+
+-- nothing more
+pub wrote_same : (old now new : Option (List ℕ)) (text rest : List ℕ) → Wrote old now text rest → Keeps now new →
+    Wrote old new text rest
+wrote_same old now new text rest wrote keeps =
+    (wrote.0, wrote.1, Appends-kept old now new wrote.0 wrote.2 keeps)
+
+-- the next bytes
+pub wrote_more : (old now new : Option (List ℕ)) (text rest after : List ℕ) (n : ℕ) → Wrote old now text rest →
+    Appends now new (take n rest) → after ≡ drop n rest → Wrote old new text after
+wrote_more old now new text rest after n wrote more after_is = (
+  wrote.0 ++ take n rest,
+  wrote.1 ∙ ap (λ r. wrote.0 ++ r) (sym (take-append-drop n rest))
+      ∙ sym (append_assoc wrote.0 (take n rest) (drop n rest))
+      ∙ ap (λ r. (wrote.0 ++ take n rest) ++ r) (sym after_is),
+  Appends-trans old now new wrote.0 (take n rest) wrote.2 more,
+)
+
+-- ---- by what a write returns
+
+drop_rest : (xs : List ℕ) (n : ℕ) → take (length xs - n) (drop n xs) ≡ drop n xs
+drop_rest xs n = take_all (length xs - n) (drop n xs) (omega (arith, length-drop n xs))
+
+module _ {E : Type 0} (old now new : Option (List ℕ)) (text rest : List ℕ) (r : Result ℕ E)
+    (wrote : Wrote old now text rest) (bytes : WriteAppends now new r rest) where
+  pub step_ok : (after : List ℕ) (n : ℕ) → r ≡ Ok n → after ≡ take (length rest - n) (drop n rest) →
+      Wrote old new text after
+  step_ok after n is after_is =
+      wrote_more old now new text rest after n wrote (subst (λ (x : Result ℕ E). WriteAppends now new x rest) is bytes)
+      (after_is ∙ drop_rest rest n)
+
+  pub step_err : (e : E) → r ≡ Err e → Keeps now new
+  step_err e is = subst (λ (x : Result ℕ E). WriteAppends now new x rest) is bytes

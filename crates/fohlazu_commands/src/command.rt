@@ -1,0 +1,229 @@
+//! Runs commands.
+
+ghost use Rattle.std.specs.Prelude.{◌≡◌, ◌⊎◌, Decides, Err, IfErr, List, Ok, OnErr, Result, map, option_map, ℕ};
+ghost use Rattle.tlog_files.specs.Entries.{IsCut};
+ghost use Rattle.fohlazu_commands.specs.Commands.{AreNumbers, EndsIn, HasOutcome, HoldsOfInputs, IsLawful, IsPrint};
+ghost use Rattle.fohlazu_commands.specs.Commands.{bytes_of_parts};
+ghost use Rattle.fohlazu_commands.specs.Outcomes.{bytes_in, Gives};
+ghost use Rattle.fohlazu_commands.specs.declared.error.Error.{Error};
+ghost use Rattle.fohlazu_commands.specs.declared.error.Error.TheVariants.{Write as FailedWrite};
+
+use crate::error::{Error, Source};
+use crate::inputs::{read_growth, read_note, read_text};
+use crate::join::join;
+use crate::prove::{numbers_of, prove};
+use crate::prove_consistency::prove_consistency;
+use crate::seal::seal;
+use crate::verify::{Print, Requested, verify};
+use crate::verify_consistency::verify_consistency;
+use tlog_files::Cut;
+use tlog_text::is_origin;
+use std::alloc::Global;
+use std::io::{ErrorKind, Read, Write};
+
+/// A command, with the inputs that it reads.
+#[derive(Drop)]
+pub enum Command<R> {
+    /// Prints the checkpoint of a file, or with the origin `PART_ORIGIN` of a part of a file.
+    Seal {
+        origin: String,
+        cut: Cut,
+        file: R,
+    },
+    /// Prints a proof of entries of a file.
+    Prove {
+        cut: Cut,
+        /// The checkpoint of the file, which may have grown since.
+        checkpoint: R,
+        file: R,
+        /// The numbers of the entries, counted from 1; `None` for all entries of the checkpoint.
+        numbers: Option<Vec<usize>>,
+    },
+    /// Prints the entries of a proof that is accepted.
+    Verify {
+        print: Print,
+        checkpoint: R,
+        proof: R,
+        entries: Requested,
+    },
+    /// Prints a proof that the file of a new checkpoint begins with the entries of an old one.
+    ProveConsistency {
+        cut: Cut,
+        old: R,
+        new: R,
+        file: R,
+    },
+    /// Prints the new checkpoint of such a proof, if it is accepted.
+    VerifyConsistency {
+        old: R,
+        proof: R,
+    },
+    /// Prints the checkpoint of a file whose parts are sealed.
+    Join {
+        origin: String,
+        parts: Vec<R>,
+    },
+}
+
+impl<R> Command<R> {
+    /// Whether it can be run: the origin passes [`is_origin`], a block has 1 to 2^30 bytes, and given numbers are one
+    /// or more, each from 1 on. `Requested::Any` goes with `Print::Lines` alone, `Print::Raw` with exactly one number.
+    pub fn is_lawful(&self) -> bool
+        ensures { Decides result (IsLawful self.now) }
+    {
+        match self {
+            Command::Seal { origin, cut, .. } => is_origin(origin) && is_cut(*cut),
+            Command::Prove { cut, numbers, .. } => {
+                is_cut(*cut) && numbers.as_deref().is_none_or(are_numbers)
+            }
+            Command::Verify { print, entries, .. } => is_print(*print, entries),
+            Command::ProveConsistency { cut, .. } => is_cut(*cut),
+            Command::VerifyConsistency { .. } => true,
+            Command::Join { origin, .. } => is_origin(origin),
+        }
+    }
+}
+
+/// Whether a file may be cut so.
+fn is_cut(cut: Cut) -> bool
+    ensures { Decides result (IsCut cut) }
+{
+    match cut {
+        Cut::Lines(_) => true,
+        Cut::Blocks(size) => 1 <= size && size <= 1 << 30,
+    }
+}
+
+/// Whether these are numbers of entries: at least one, each from 1 on.
+fn are_numbers(numbers: &[usize]) -> bool
+    ensures { Decides result (AreNumbers numbers.now) }
+{
+    !numbers.is_empty() && numbers.iter().all(|number| 1 <= *number)
+}
+
+/// Whether requested entries may be printed so.
+fn is_print(print: Print, requested: &Requested) -> bool
+    ensures { Decides result (IsPrint print requested.now) }
+{
+    match (print, requested) {
+        (Print::Lines, Requested::Numbers(numbers)) => are_numbers(numbers),
+        (Print::Lines, _) => true,
+        (Print::Blocks(size), Requested::Numbers(numbers)) => {
+            are_numbers(numbers) && is_cut(Cut::Blocks(size))
+        }
+        (Print::Blocks(size), Requested::All) => is_cut(Cut::Blocks(size)),
+        (Print::Raw, Requested::Numbers(numbers)) => are_numbers(numbers) && numbers.len() == 1,
+        _ => false,
+    }
+}
+
+/// Runs a command that [`is_lawful`](Command::is_lawful): reads its inputs one after another, and writes what it
+/// answers.
+///
+/// # Errors
+///
+/// The first of these that applies, where `OutOfMemory` may come at any time:
+///
+/// - for the first checkpoint, proof or part that cannot be read, `Read`. A checkpoint or part of more than 1000000
+///   bytes, or a consistency proof of more than 1002860, gives `TooLong`: it is read up to its first byte above;
+/// - where all entries of a checkpoint are proved, `Line` for its first wrong line, or `TooManyNumbers` if it has more
+///   than `MOST_NUMBERS` entries;
+/// - those of the command's own call, as [`prove`] for `Command::Prove`;
+/// - `Write` if the output cannot be written. After any other error nothing is written.
+pub fn run<R: Read + Drop, W: Write>(
+    alloc: Global,
+    command: Command<R>,
+    output: &mut W,
+) -> Result<(), Error>
+    requires { IsLawful command }
+    ensures silent { OnErr result ((result ≡ Err FailedWrite) ⊎ (output.new ≡ output.old)) }
+    ensures outcome { (outcome : Result (List ℕ) Error) × HasOutcome R.remaining command outcome
+        × EndsIn (W.contents output.old) (W.contents output.new) outcome result }
+{
+    let text = answer(alloc, command)?;
+    write_text(output, &text)
+}
+
+/// What a command prints.
+fn answer<R: Read + Drop>(alloc: Global, command: Command<R>) -> Result<Vec<u8>, Error>
+    requires { IsLawful command }
+    ensures { (outcome : Result (List ℕ) Error) × HasOutcome R.remaining command outcome
+        × Gives bytes_in result outcome }
+{
+    match command {
+        Command::Seal {
+            origin,
+            cut,
+            mut file,
+        } => seal(alloc, &origin, cut, &mut file),
+        Command::Prove {
+            cut,
+            mut checkpoint,
+            mut file,
+            numbers,
+        } => {
+            let checkpoint = read_note(alloc, Source::Checkpoint, &mut checkpoint)?;
+            let numbers = numbers_of(alloc, numbers, &checkpoint)?;
+            prove(alloc, cut, &checkpoint, &numbers, &mut file)
+        }
+        Command::Verify {
+            print,
+            mut checkpoint,
+            mut proof,
+            entries,
+        } => {
+            let checkpoint = read_note(alloc, Source::Checkpoint, &mut checkpoint)?;
+            let proof = read_text(alloc, Source::Proof, &mut proof)?;
+            verify(alloc, print, &checkpoint, &proof, &entries)
+        }
+        Command::ProveConsistency {
+            cut,
+            mut old,
+            mut new,
+            mut file,
+        } => {
+            let old = read_note(alloc, Source::Old, &mut old)?;
+            let new = read_note(alloc, Source::New, &mut new)?;
+            prove_consistency(alloc, cut, &old, &new, &mut file)
+        }
+        Command::VerifyConsistency { mut old, mut proof } => {
+            let old = read_note(alloc, Source::Old, &mut old)?;
+            let proof = read_growth(alloc, &mut proof)?;
+            verify_consistency(alloc, &old, &proof)
+        }
+        Command::Join { origin, parts } => join(alloc, &origin, &read_parts(alloc, parts)?),
+    }
+}
+
+/// All bytes of the parts.
+fn read_parts<R: Read + Drop>(alloc: Global, parts: Vec<R>) -> Result<Vec<Vec<u8>>, Error>
+    ensures { HoldsOfInputs (map R.remaining parts.items)
+        (λ texts. Gives (λ all. map bytes_in all.items) result (bytes_of_parts 0 texts)) }
+{
+    let mut texts = Vec::new(alloc);
+    for mut part in parts {
+        let source = Source::Part(texts.len());
+        texts.push(read_note(alloc, source, &mut part)?)?;
+    }
+    Ok(texts)
+}
+
+/// Writes a text, and flushes. `Write` if a write or the flush fails; an interrupted write is tried again.
+fn write_text<W: Write>(output: &mut W, text: &[u8]) -> Result<(), Error>
+    ensures ends { EndsIn (W.contents output.old) (W.contents output.new) (Ok text.now) result }
+    ensures failed { IfErr result (λ error. error ≡ FailedWrite) }
+{
+    let mut rest = text;
+    for _turn in 0..u64::MAX {
+        if rest.is_empty() {
+            return output.flush().map_err(|_| Error::Write);
+        }
+        match output.write(rest) {
+            Ok(0) => return Err(Error::Write),
+            Ok(count) => rest = &rest[count..],
+            Err(error) if error.kind() == ErrorKind::Interrupted => {}
+            Err(_) => return Err(Error::Write),
+        }
+    }
+    Err(Error::Write)
+}

@@ -1,0 +1,215 @@
+//! Verifies proofs of entries.
+
+ghost use Rattle.std.specs.Prelude.{◌≡◌, ◌≤◌, ◌-◌, ◌++◌, ℕ, IfOk, OnOk, Some, flat_map, is_some, map};
+ghost use Rattle.sha2.specs.Sha256.{sha256};
+ghost use Rattle.p3_merkle_core.specs.Refusals.{first_of};
+ghost use Rattle.tlog.specs.Rfc9162.{leaf_hash as leaf_hash_by};
+ghost use Rattle.tlog.specs.Verdicts.{size_limit};
+ghost use Rattle.tlog_text.specs.Texts.{checkpoint_fields, entries_fields, entry_fields};
+ghost use Rattle.fohlazu_commands.specs.Inner.{Checks, ChecksUnlessMemory};
+ghost use Rattle.fohlazu_commands.specs.Outcomes.{bytes_in, entry_refusal, Gives, is_printable, numbers_in};
+ghost use Rattle.fohlazu_commands.specs.Outcomes.{numbers_refusal, printed, proof_refusal, verify_requested};
+
+use crate::error::{Error, Refusal, Source};
+use crate::inputs::{parse_checkpoint, parse_entries_proof};
+use crate::prove::all_numbers;
+use tlog_text::{Checkpoint, EntriesProof, Entry};
+use std::alloc::{AllocError, Global};
+use tlog::leaf_hash;
+use tlog_multiproof::verify_entries;
+
+/// How entries are printed.
+#[derive(Clone, Copy, Debug, PartialEq, Eq)]
+pub enum Print {
+    /// As lines, each with a line feed; for `Requested::Any` after its number and a tab.
+    Lines,
+    /// As blocks of so many bytes, one after another. The last of the log may be shorter.
+    Blocks(usize),
+    /// The bytes of an entry, as they are.
+    Raw,
+}
+
+/// The entries that are requested of a proof.
+#[derive(Drop)]
+pub enum Requested {
+    /// Those that it has.
+    Any,
+    /// All of the checkpoint, in their order.
+    All,
+    /// Those of these numbers, in this order.
+    Numbers(Vec<usize>),
+}
+
+/// The entries of a proof, as they are printed, if it is accepted under a checkpoint and they are the requested ones.
+/// Signatures are not checked.
+///
+/// # Errors
+///
+/// The first of these that applies, each within `Refused`, where `OutOfMemory` may come at any time:
+///
+/// - `Line` for the first wrong line of the checkpoint, then of the proof;
+/// - `OtherNumber`, `UnrequestedEntry` or `MissingEntry` where its entries first differ from the requested ones;
+/// - `NoSuchEntry` for the first entry that cannot be printed: a line with a line feed inside, or a block of another
+///   length;
+/// - `Entries` with the verifier's reason.
+pub fn verify(
+    alloc: Global,
+    print: Print,
+    checkpoint: &[u8],
+    proof: &[u8],
+    requested: &Requested,
+) -> Result<Vec<u8>, Error>
+    ensures { Gives bytes_in result (verify_requested print checkpoint.now proof.now requested.now) }
+{
+    let checkpoint = parse_checkpoint(Source::Checkpoint, checkpoint)?;
+    let proof = parse_entries_proof(alloc, proof)?;
+    check_requested(alloc, requested, checkpoint.size, &proof.entries)?;
+    check_entries(print, checkpoint.size, &proof.entries)?;
+    check_proof(alloc, &checkpoint, &proof)?;
+    Ok(text_of(alloc, print, is_compared(requested), &proof.entries)?)
+}
+
+/// Whether the numbers of entries are compared.
+fn is_compared(requested: &Requested) -> bool
+    ensures { (size : ℕ) → result ≡ is_some (numbers_in requested.now size) }
+{
+    !matches!(requested, Requested::Any)
+}
+
+/// Checks that entries are the requested ones of a log of so many, in their order.
+fn check_requested(
+    alloc: Global,
+    requested: &Requested,
+    size: usize,
+    entries: &[Entry],
+) -> Result<(), Error>
+    requires { size ≤ size_limit }
+    ensures { ChecksUnlessMemory result
+        (numbers_refusal (numbers_in requested.now size) (map entry_fields entries.now)) }
+{
+    match requested {
+        Requested::Any => Ok(()),
+        Requested::All => {
+            // One number more than there are entries shows whether one is missing.
+            let count = size.min(entries.len().saturating_add(1));
+            check_numbers(&all_numbers(alloc, count)?, entries)
+        }
+        Requested::Numbers(numbers) => check_numbers(numbers, entries),
+    }
+}
+
+/// Checks that entries are those of these numbers, in their order.
+fn check_numbers(numbers: &[usize], entries: &[Entry]) -> Result<(), Error>
+    ensures { Checks result (numbers_refusal (Some numbers.now) (map entry_fields entries.now)) }
+{
+    let mut rest = numbers;
+    for entry in entries {
+        let got = entry.number;
+        let Some((&expected, more)) = rest.split_first() else {
+            return Err(Error::Refused(Source::Proof, Refusal::UnrequestedEntry(got)));
+        };
+        if got != expected {
+            return Err(Error::Refused(Source::Proof, Refusal::OtherNumber(got, expected)));
+        }
+        rest = more;
+    }
+    if let Some(&expected) = rest.first() {
+        return Err(Error::Refused(Source::Proof, Refusal::MissingEntry(expected)));
+    }
+    Ok(())
+}
+
+/// The indices of entries, counted from 0.
+pub(crate) fn indices_of(alloc: Global, entries: &[Entry]) -> Result<Vec<usize>, AllocError>
+    ensures { IfOk result (λ indices. indices.items ≡ map (λ e. e.number - 1) (map entry_fields entries.now)) }
+{
+    entries
+        .iter()
+        .map(|entry| entry.number.saturating_sub(1))
+        .collect(alloc)
+}
+
+/// The leaf hashes of entries.
+pub(crate) fn leaves_of(alloc: Global, entries: &[Entry]) -> Result<Vec<[u8; 32]>, AllocError>
+    ensures { IfOk result
+        (λ leaves. leaves.items ≡ map (λ e. leaf_hash_by sha256 e.bytes) (map entry_fields entries.now)) }
+{
+    let mut leaves = Vec::with_capacity(alloc, entries.len())?;
+    for entry in entries {
+        leaves.push(leaf_hash(&entry.bytes))?;
+    }
+    Ok(leaves)
+}
+
+/// Checks that entries can be printed.
+fn check_entries(print: Print, size: usize, entries: &[Entry]) -> Result<(), Error>
+    ensures { Checks result (first_of (entry_refusal print size) (map entry_fields entries.now)) }
+{
+    for entry in entries {
+        if !is_printable(print, size, entry) {
+            return Err(Error::Refused(Source::Proof, Refusal::NoSuchEntry(entry.number)));
+        }
+    }
+    Ok(())
+}
+
+/// Whether an entry can be printed.
+fn is_printable(print: Print, size: usize, entry: &Entry) -> bool
+    ensures { result ≡ is_printable print size (entry_fields entry.now) }
+{
+    let len = entry.bytes.len();
+    match print {
+        Print::Lines => entry.bytes.iter().all(|byte| *byte != b'\n'),
+        Print::Blocks(block) if entry.number == size => 1 <= len && len <= block,
+        Print::Blocks(block) => len == block,
+        Print::Raw => true,
+    }
+}
+
+/// Checks a proof by the verifier.
+fn check_proof(alloc: Global, checkpoint: &Checkpoint, proof: &EntriesProof) -> Result<(), Error>
+    ensures { ChecksUnlessMemory result
+        (proof_refusal (checkpoint_fields checkpoint.now) (entries_fields proof.now)) }
+{
+    let indices = indices_of(alloc, &proof.entries)?;
+    let leaves = leaves_of(alloc, &proof.entries)?;
+    let (size, root) = (checkpoint.size, &checkpoint.root);
+    Ok(verify_entries(alloc, size, &indices, &leaves, &proof.digests, root)?)
+}
+
+/// What is printed of entries. Where `bare`, lines are printed without their numbers.
+fn text_of(
+    alloc: Global,
+    print: Print,
+    bare: bool,
+    entries: &[Entry],
+) -> Result<Vec<u8>, AllocError>
+    ensures { IfOk result (λ text. text.items ≡ flat_map (printed print bare) (map entry_fields entries.now)) }
+{
+    let mut text = Vec::new(alloc);
+    for entry in entries {
+        push_entry(alloc, &mut text, print, bare, entry)?;
+    }
+    Ok(text)
+}
+
+/// Appends what is printed of an entry. Where `bare`, a line is printed without its number.
+fn push_entry(
+    alloc: Global,
+    text: &mut Vec<u8>,
+    print: Print,
+    bare: bool,
+    entry: &Entry,
+) -> Result<(), AllocError>
+    ensures { OnOk result (text.new.items ≡ text.old.items ++ printed print bare (entry_fields entry.now)) }
+{
+    if print == Print::Lines && !bare {
+        let head = format!(in alloc; "{}\t", entry.number)?;
+        text.extend_from_slice(head.as_bytes())?;
+    }
+    text.extend_from_slice(&entry.bytes)?;
+    if print == Print::Lines {
+        text.push(b'\n')?;
+    }
+    Ok(())
+}

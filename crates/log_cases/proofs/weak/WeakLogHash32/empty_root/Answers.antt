@@ -1,7 +1,0 @@
-use Rattle.std.proofs.Common.{◌∙◌, ap}
-use Rattle.tlog.proofs.Accepted.{nothing}
-use Rattle.log_cases.specs.Weak.{weakened}
-use Rattle.log_cases.proofs.weak.WeakLogHash32.empty_root.Goals as goal
-
-pub returns : goal.returns
-returns c = c.weakened.ensures ∙ ap weakened nothing

@@ -1,5 +1,0 @@
-use Rattle.log_commands.proofs.OutcomeFacts.{files_grow}
-use Rattle.log_commands.proofs.laws.files_grow.Goals as goal
-
-pub returns : goal.returns
-returns c = files_grow

@@ -1,5 +1,0 @@
-use Rattle.log_commands.proofs.SealLaws.{joins_read}
-use Rattle.log_commands.proofs.laws.joins_are_read_again.Goals as goal
-
-pub returns : goal.returns
-returns c = joins_read

@@ -1,6 +1,0 @@
-use Rattle.log_commands.proofs.ProveFacts.{numbers_inside}
-use Rattle.log_commands.proofs.prove.requested.Goals as goal
-
-pub returns-clause-numbers : goal.returns-clause-numbers
-returns-clause-numbers c =
-    numbers_inside c.in_ok-checkpoint.checkpoint.size c.args.numbers.now c.in_ok-check_numbers.ensures

@@ -1,5 +1,0 @@
-use Rattle.log_text.proofs.ProofLaws.{consistency_proofs}
-use Rattle.log_text.proofs.laws.consistency_proofs_are_spelled.Goals as goal
-
-pub returns : goal.returns
-returns c = consistency_proofs

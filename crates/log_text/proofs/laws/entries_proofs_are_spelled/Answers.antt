@@ -1,5 +1,0 @@
-use Rattle.log_text.proofs.ProofLaws.{entries_proofs}
-use Rattle.log_text.proofs.laws.entries_proofs_are_spelled.Goals as goal
-
-pub returns : goal.returns
-returns c = entries_proofs

@@ -1,5 +1,0 @@
-use Rattle.log_text.proofs.NoteLaws.{notes}
-use Rattle.log_text.proofs.laws.notes_are_spelled.Goals as goal
-
-pub returns : goal.returns
-returns c = notes

@@ -1,5 +1,0 @@
-use Rattle.log_text.proofs.NoteLaws.{parts}
-use Rattle.log_text.proofs.laws.parts_are_spelled.Goals as goal
-
-pub returns : goal.returns
-returns c = parts

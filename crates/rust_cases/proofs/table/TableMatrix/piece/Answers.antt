@@ -1,5 +1,0 @@
--- The rows of a stored matrix are the rows of the matrix of a case.
-use Rattle.rust_cases.proofs.table.TableMatrix.piece.Goals as goal
-
-pub returns-in-Rows : goal.returns-in-Rows
-returns-in-Rows g c = rw c.in-Rows.is c.piece.ensures

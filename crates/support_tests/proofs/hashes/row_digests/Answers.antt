@@ -1,6 +1,0 @@
--- One message of all words.
-use Rattle.std.proofs.Common.{length, rules}
-use Rattle.support_tests.proofs.hashes.row_digests.Goals as goal
-
-pub hash_many-requires : goal.hash_many-requires
-hash_many-requires g c = (search rules, (length c.args.row.now, search rules))

@@ -1,6 +1,0 @@
--- Two rows of two words.
-use Rattle.std.proofs.Common.{rules}
-use Rattle.support_tests.proofs.matrices.two_rows.Goals as goal
-
-pub new-requires : goal.new-requires
-new-requires c = record { divides = (2, search rules) }

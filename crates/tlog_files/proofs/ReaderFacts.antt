@@ -1,0 +1,235 @@
+-- What a reader gives, piece after piece, and the tree of the entries that have ended.
+use Rattle.std.proofs.Common.{if◌then◌else◌, length-append, append_assoc, length-take, append-nil, leb-false, length, ℕ}
+use Rattle.std.proofs.Common.{nat_le, nat_lt, Option, false, arith, subst, ◌++◌, List, Bool, true, refl, take, None, []}
+use Rattle.std.proofs.Common.{Some, ◌≡◌, ◌⊎◌, ◌∙◌, ◌+◌, ◌-◌, ◌^◌, ◌<◌, ◌≤◌, inl, inr, map, sym, ap, unwrap_or, le-leb}
+use Rattle.std.proofs.Common.{ltb-true, ⊎_elim, ◌==◌, ◌&&◌, not, take_all, lt-ltb}
+use Rattle.std.proofs.lemmas.Bool.{lt-leb, cases_lt}
+use Rattle.std.proofs.lemmas.List.{length-map, map-append}
+use Rattle.std.specs.Io.KnownBytes.{Consumes, IsAtEnd}
+use Rattle.sha2.specs.Sha256.{sha256}
+use Rattle.tlog.specs.Rfc9162.{leaf_hash}
+use Rattle.tlog.specs.Verdicts.{size_limit}
+use Rattle.tlog_tree.specs.Builders.{IsBuilderOf}
+use Rattle.tlog_tree.specs.declared.builder.TreeBuilder.{TreeBuilder}
+use Rattle.tlog_tree.specs.declared.error.TreeError.{TreeError}
+use Rattle.tlog_tree.specs.declared.error.TreeError.TheVariants.{SizeTooLarge, OutOfMemory as NoTreeMemory}
+use Rattle.tlog_files.specs.Entries.{entries_in, is_refused, read_refusal, wanted_of, first_of, is_short, partial_of}
+use Rattle.tlog_files.specs.Inner.Splitting.{AreAll, AreTooMany, HasBuilt, HasGrown, ReadsTooMany}
+use Rattle.tlog_files.specs.Entries.{refuses, rest_of, HoldsOfFile}
+use Rattle.tlog_files.specs.Errors.{read_error_of}
+use Rattle.tlog_files.specs.Inner.Wanted.{HoldsWanted}
+use Rattle.tlog_files.specs.Logs.{IsLogOf}
+use Rattle.tlog_files.specs.declared.cut.Cut.{Cut}
+use Rattle.tlog_files.specs.declared.error.ReadError.{ReadError}
+use Rattle.tlog_files.specs.declared.error.ReadError.TheVariants.{EndsInsideLine, OutOfMemory, TooManyEntries}
+use Rattle.tlog_files.specs.declared.error.ReadError.TheVariants.{Read as FailedRead}
+use Rattle.tlog_files.specs.declared.reading.ReadLog.{ReadLog}
+use Rattle.tlog_files.specs.declared.splitter.Splitter.{Splitter}
+use Rattle.tlog_files.specs.declared.wanted.WantedEntries.{WantedEntries}
+
+-- why a file is not read, by two tests
+abbrev pub refusal_of : Bool → Bool → Option ReadError
+refusal_of few refused = if few then (if refused then Some EndsInsideLine else None) else Some TooManyEntries
+
+abbrev pub leaves : List (List ℕ) → List (List ℕ)
+leaves entries = map (leaf_hash sha256) entries
+
+-- ---- all that is read
+
+-- where not as many entries have ended as are read, all of the bytes have been read
+pub whole_read : (nodes : List (ℕ × ℕ)) (wanted : List ℕ) (s : Splitter) (tree : TreeBuilder) (front bytes : List ℕ) →
+    nat_le s.limit s.count ≡ false → (g : HasGrown nodes wanted s tree front bytes) → bytes ≡ g.read
+whole_read nodes wanted s tree front bytes room g =
+    elim g.all_read [
+      | inl none ↦ g.parts ∙ ap (λ xs. g.read ++ xs) none ∙ append-nil g.read
+      | inr full ↦ absurd (omega (arith, leb-false s.limit s.count room, full))
+    ]
+
+pub grown_on : (nodes : List (ℕ × ℕ)) (wanted : List ℕ) (s t : Splitter) (tree grown : TreeBuilder)
+    (bytes more : List ℕ) → nat_le s.limit s.count ≡ false → (g : HasGrown nodes wanted s tree [] bytes) →
+    HasGrown nodes wanted t grown g.read more → HasGrown nodes wanted t grown [] (bytes ++ more)
+grown_on nodes wanted s t tree grown bytes more room g step =
+    let whole = whole_read nodes wanted s tree [] bytes room g in
+    record {
+      read = g.read ++ step.read;
+      left = step.left;
+      parts = (λ i. whole i ++ step.parts i) ∙ sym (append_assoc g.read step.read step.left);
+      built = step.built;
+      all_read = step.all_read;
+    }
+
+pub log_of : (log : ReadLog) (cut : Cut) (limit : ℕ) (nodes : List (ℕ × ℕ)) (wanted bytes : List ℕ) (w : WantedEntries)
+    (ended hashes : List (List ℕ)) → AreAll wanted w cut limit ended bytes hashes →
+    IsBuilderOf (leaves ended ++ hashes) nodes log.tree →
+    ((all : List (List ℕ)) (open_bytes : List ℕ) → HoldsWanted w wanted all open_bytes →
+    map (λ entry. entry.items) log.entries.items ≡ wanted_of all wanted) →
+    IsLogOf log cut (Some limit) nodes wanted bytes
+log_of log cut limit nodes wanted bytes w ended hashes all built kept =
+    record {
+      not_refused = all.not_refused;
+      tree = subst (λ xs. IsBuilderOf xs nodes log.tree)
+          (ap (λ xs. leaves ended ++ xs) all.hashed ∙ sym (map-append (leaf_hash sha256) ended all.more)
+          ∙ ap leaves (sym all.all)) built;
+      entries = kept (ended ++ all.more) all.open_bytes all.kept ∙ ap (λ xs. wanted_of xs wanted) (sym all.all);
+    }
+
+-- ---- too many entries
+
+-- why a tree does not grow
+pub refused_by : (e : ReadError) (why : TreeError) (test : Bool) (Many : Type 0) → e ≡ read_error_of why →
+    why ≡ (if test then SizeTooLarge else NoTreeMemory) → (test ≡ true → Many) →
+    (e ≡ OutOfMemory) ⊎ ((e ≡ TooManyEntries) × Many)
+refused_by e why true Many is said many = inr (is ∙ ap read_error_of said, many refl)
+refused_by e why false Many is said many = inl (is ∙ ap read_error_of said)
+
+-- the size of a tree
+pub size_of : (entries : List (List ℕ)) (nodes : List (ℕ × ℕ)) (tree : TreeBuilder) →
+    IsBuilderOf (leaves entries) nodes tree → tree.frontier.size ≡ length entries
+size_of entries nodes tree built = built.frontier.size ∙ length-map entries (leaf_hash sha256)
+
+-- ---- why a file is not read
+
+pub refused_many : (cut : Cut) (limit : Option ℕ) (n : ℕ) (bytes : List ℕ) → n ≡ unwrap_or limit (2 ^ 64 - 1) →
+    AreTooMany cut n bytes → read_refusal cut limit bytes ≡ Some TooManyEntries
+refused_many cut (Some m) n bytes is many =
+    let far : 2 ^ 62 < length (take m (entries_in cut bytes)) = subst (λ k. AreTooMany cut k bytes) is many in
+    ap (λ few. refusal_of few (is_refused cut (Some m) bytes))
+    (lt-leb (length (take m (entries_in cut bytes))) (2 ^ 62) far)
+refused_many cut None n bytes is many =
+    let entries = entries_in cut bytes in
+    ap (λ few. refusal_of few (is_refused cut None bytes))
+    (lt-leb (length entries) (2 ^ 62) (omega (arith, many, length-take n entries)))
+
+-- the file ends inside a line
+pub refused_inside : (nodes : List (ℕ × ℕ)) (wanted : List ℕ) (s : Splitter) (tree : TreeBuilder)
+    (front bytes : List ℕ) → (b : HasBuilt nodes wanted s tree front) → (e : ReadError) →
+    (e ≡ OutOfMemory) ⊎ ((e ≡ EndsInsideLine) × (is_refused s.cut (Some s.limit) bytes ≡ true)
+    × (take s.limit (entries_in s.cut bytes) ≡ b.ended)) →
+    (e ≡ OutOfMemory) ⊎ (read_refusal s.cut (Some s.limit) bytes ≡ Some e)
+refused_inside nodes wanted s tree front bytes b e (inl none) = inl none
+refused_inside nodes wanted s tree front bytes b e (inr (is, refused, all)) =
+    let read = take s.limit (entries_in s.cut bytes) in
+    let few : length read ≤ 2 ^ 62 =
+    omega (arith, ap length all, size_of b.ended nodes tree b.built, tree.frontier.limit) in
+    inr ((λ i. refusal_of (le-leb (length read) (2 ^ 62) few i) (refused i)) ∙ ap Some (sym is))
+
+pub many_at_end : (nodes : List (ℕ × ℕ)) (wanted : List ℕ) (s : Splitter) (tree : TreeBuilder) (front bytes : List ℕ) →
+    (b : HasBuilt nodes wanted s tree front) → (w : WantedEntries) (hashes : List (List ℕ)) →
+    AreAll wanted w s.cut s.limit b.ended bytes hashes →
+    nat_lt size_limit (tree.frontier.size + length hashes) ≡ true → AreTooMany s.cut s.limit bytes
+many_at_end nodes wanted s tree front bytes b w hashes all many =
+    let more = ap length all.hashed ∙ length-map all.more (leaf_hash sha256) in
+    let far = ltb-true size_limit (tree.frontier.size + length hashes) many in
+    let size = size_of b.ended nodes tree b.built in
+    omega (arith, far, size, more, ap length all.all, length-append b.ended all.more)
+
+pub refused_far : (e : ReadError) (cut : Cut) (limit : ℕ) (bytes : List ℕ) →
+    (e ≡ OutOfMemory) ⊎ ((e ≡ TooManyEntries) × AreTooMany cut limit bytes) →
+    (e ≡ OutOfMemory) ⊎ (read_refusal cut (Some limit) bytes ≡ Some e)
+refused_far e cut limit bytes (inl none) = inl none
+refused_far e cut limit bytes (inr (is, many)) =
+    inr (refused_many cut (Some limit) limit bytes refl many ∙ ap Some (sym is))
+
+-- what holds of a file that was read to its end, or far enough for whatever follows, where some that was read is left
+pub of_file : (before after : Option (List ℕ)) (front left : List ℕ) (Enough : Type 0) →
+    Consumes before after (front ++ left) → (left ≡ []) ⊎ Enough → IsAtEnd after ⊎ Enough → (more : List ℕ)
+    × ((left ++ more ≡ []) ⊎ Enough)
+    × ((Holds : List ℕ → Type 0) → Holds (front ++ (left ++ more)) → HoldsOfFile before Holds)
+of_file None after front left Enough read all end = (
+  [],
+  ⊎_elim (λ none. inl (append-nil left ∙ none)) (λ far. inr far) all,
+  λ Holds holds. (front ++ (left ++ []), holds),
+)
+of_file (Some bytes) None front left Enough read all end = absurd read
+of_file (Some bytes) (Some more) front left Enough read all end = (
+  more,
+  ⊎_elim (λ none. ⊎_elim (λ at. inl (λ i. none i ++ at i)) (λ far. inr far) end) (λ far. inr far) all,
+  λ Holds holds. subst Holds (sym (read ∙ append_assoc front left more)) holds,
+)
+
+-- ---- too many entries
+
+only : (e : ReadError) (Many : Type 0) → e ≡ TooManyEntries → (e ≡ OutOfMemory) ⊎ ((e ≡ TooManyEntries) × Many) → Many
+only e Many is (inl none) = absurd (cc)
+only e Many is (inr far) = far.1
+
+-- as a file is read
+pub refused_reading : (e : ReadError) (cut : Cut) (limit : ℕ) (before after : Option (List ℕ)) (front more : List ℕ) →
+    Consumes before after (front ++ more) →
+    ((rest : List ℕ) → (e ≡ OutOfMemory) ⊎ ((e ≡ TooManyEntries) × AreTooMany cut limit (front ++ (more ++ rest)))) →
+    (e ≡ OutOfMemory) ⊎ ((e ≡ FailedRead) ⊎ ((e ≡ TooManyEntries) × ReadsTooMany cut limit before after))
+refused_reading e cut limit before after front more consumed each =
+    elim (each []) [
+      | inl none ↦ inl none
+      | inr far ↦
+          inr (inr (
+            far.0,
+            record {
+              front = front ++ more;
+              consumed = consumed;
+              many = λ rest. subst (λ bytes. AreTooMany cut limit bytes) (sym (append_assoc front more rest))
+                  (only e (AreTooMany cut limit (front ++ (more ++ rest))) far.0 (each rest));
+            },
+          ))
+    ]
+
+-- and once it was
+pub refused_file : (e : ReadError) (cut : Cut) (limit : Option ℕ) (n : ℕ) (before after : Option (List ℕ)) →
+    n ≡ unwrap_or limit (2 ^ 64 - 1) →
+    (e ≡ OutOfMemory) ⊎ ((e ≡ FailedRead) ⊎ ((e ≡ TooManyEntries) × ReadsTooMany cut n before after)) →
+    (e ≡ OutOfMemory) ⊎ ((e ≡ FailedRead) ⊎ HoldsOfFile before (λ bytes. read_refusal cut limit bytes ≡ Some e))
+refused_file e cut limit n before after is (inl none) = inl none
+refused_file e cut limit n before after is (inr (inl failed)) = inr (inl failed)
+refused_file e cut limit n before after is (inr (inr (why, far))) =
+    let (more, _, holds) = of_file before after [] far.front (Unit {0}) far.consumed (inr tt) (inr tt) in
+    inr (inr (holds (λ bytes. read_refusal cut limit bytes ≡ Some e)
+    (refused_many cut limit n (far.front ++ more) is (far.many more) ∙ ap Some (sym why))))
+
+-- ---- without a limit
+
+-- a limit that is not met changes nothing
+same_read : (limit : Option ℕ) (n : ℕ) (entries : List (List ℕ)) → n ≡ unwrap_or limit (2 ^ 64 - 1) →
+    length (take n entries) ≤ 2 ^ 62 →
+    (first_of limit entries ≡ take n entries) × (is_short limit entries ≡ nat_lt (length entries) n)
+same_read (Some m) n entries is few =
+    (ap (λ k. take k entries) (sym is), ap (λ k. nat_lt (length entries) k) (sym is))
+same_read None n entries is few =
+    let count = length-take n entries in (
+      sym (take_all n entries (omega (arith, few, count, is))),
+      sym (lt-ltb (length entries) n (omega (arith, few, count, is))),
+    )
+
+pub log_with : (log : ReadLog) (cut : Cut) (limit : Option ℕ) (n : ℕ) (nodes : List (ℕ × ℕ)) (wanted bytes : List ℕ) →
+    n ≡ unwrap_or limit (2 ^ 64 - 1) → IsLogOf log cut (Some n) nodes wanted bytes →
+    IsLogOf log cut limit nodes wanted bytes
+log_with log cut limit n nodes wanted bytes is log_is =
+    let entries = entries_in cut bytes in
+    let count = log_is.tree.frontier.size ∙ length-map (take n entries) (leaf_hash sha256) in
+    let (first, short) = same_read limit n entries is (omega (arith, count, log.tree.frontier.limit)) in
+    record {
+      not_refused = ap (λ t. refuses (partial_of cut) && (not (length (rest_of cut bytes) == 0) && t)) short
+          ∙ log_is.not_refused;
+      tree = rw first log_is.tree;
+      entries = log_is.entries ∙ ap (λ xs. wanted_of xs wanted) (sym first);
+    }
+
+same_refusal : (cut : Cut) (limit : Option ℕ) (n : ℕ) (bytes : List ℕ) → n ≡ unwrap_or limit (2 ^ 64 - 1) →
+    read_refusal cut limit bytes ≡ read_refusal cut (Some n) bytes
+same_refusal cut limit n bytes is =
+    elim (cases_lt (2 ^ 62) (length (take n (entries_in cut bytes)))) [
+      | inl many ↦ refused_many cut limit n bytes is many ∙ sym (refused_many cut (Some n) n bytes refl many)
+      | inr few ↦
+          let (first, short) = same_read limit n (entries_in cut bytes) is few in
+          λ i. refusal_of (nat_le (length (first i)) (2 ^ 62))
+          (refuses (partial_of cut) && (not (length (rest_of cut bytes) == 0) && short i))
+    ]
+
+pub refused_either : (e : ReadError) (was cut : Cut) (limit : Option ℕ) (n : ℕ) (bytes : List ℕ)
+    (before : Option (List ℕ)) → was ≡ cut → n ≡ unwrap_or limit (2 ^ 64 - 1) →
+    ((Holds : List ℕ → Type 0) → Holds bytes → HoldsOfFile before Holds) →
+    (e ≡ OutOfMemory) ⊎ (read_refusal was (Some n) bytes ≡ Some e) →
+    (e ≡ OutOfMemory) ⊎ ((e ≡ FailedRead) ⊎ HoldsOfFile before (λ bs. read_refusal cut limit bs ≡ Some e))
+refused_either e was cut limit n bytes before same is holds (inl none) = inl none
+refused_either e was cut limit n bytes before same is holds (inr refusal) =
+    inr (inr (holds (λ bs. read_refusal cut limit bs ≡ Some e)
+    (same_refusal cut limit n bytes is ∙ ap (λ k. read_refusal k (Some n) bytes) (sym same) ∙ refusal)))

@@ -1,0 +1,14 @@
+use Rattle.std.proofs.Common.{◌≡◌, ℕ, List, [], length}
+use Rattle.std.specs.Io.KnownBytes.{Consumes}
+use Rattle.tlog_files.specs.Inner.Splitting.{HasBuilt, HasGrown, IsReady}
+use Rattle.tlog_files.proofs.reading.read_through.Given as goal
+
+abbrev pub invariant-loop-turn : goal.invariant-loop-turn
+invariant-loop-turn g l = record {
+  wide : length l.window ≡ 1048576;
+  ready : IsReady l.splitter;
+  same : (l.splitter.cut ≡ l.fn.splitter.cut) × (l.splitter.limit ≡ l.fn.splitter.limit);
+  built : (nodes : List (ℕ × ℕ)) (wanted : List ℕ) → HasBuilt nodes wanted l.fn.splitter l.fn.tree [] →
+      (bytes : List ℕ) × Consumes (g.R.Read.remaining l.fn.file) (g.R.Read.remaining l.file) bytes
+      × HasGrown nodes wanted l.splitter l.tree [] bytes;
+}

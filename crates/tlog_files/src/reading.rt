@@ -1,0 +1,130 @@
+//! The tree of a log that stands in a file, and single entries of it, in one pass over a reader.
+
+ghost use Rattle.std.specs.Prelude.{◌≡◌, ◌⊎◌, ◌≤◌, ◌++◌, ℕ, List, [], IfErr, IfOk, OnOk, Some};
+ghost use Rattle.std.specs.Io.KnownBytes.{Consumes, IsAtEnd};
+ghost use Rattle.tlog_files.specs.Entries.{read_refusal, HoldsOfFile, IsCut};
+ghost use Rattle.tlog_files.specs.Logs.{IsLogOf};
+ghost use Rattle.tlog_files.specs.Inner.Splitting.{AreTooMany, HasBuilt, HasGrown, IsReady, ReadsTooMany};
+ghost use Rattle.tlog_files.specs.declared.error.ReadError.TheVariants.{OutOfMemory, Read as FailedRead, TooManyEntries};
+
+use crate::cut::Cut;
+use crate::error::ReadError;
+use crate::splitter::Splitter;
+use crate::wanted::{WantedEntries, places_in_order};
+use std::alloc::Global;
+use std::io::{ErrorKind, Read};
+use tlog_tree::TreeBuilder;
+
+/// How many bytes are read at a time.
+const BUFFER: usize = 1 << 20;
+
+/// What is read of a log in a file.
+#[derive(Drop)]
+pub struct ReadLog {
+    /// Its tree, with the values of the wanted nodes.
+    pub tree: TreeBuilder,
+    /// The bytes of the wanted entries, in the order of their indices in the call. Empty if the log lacks one of them.
+    pub entries: Vec<Vec<u8>>,
+}
+
+/// Reads a log that stands in a file, in one pass from where the reader stands: its tree (RFC 9162, 2.1.1), with the
+/// values of wanted nodes, each by its layer and its slot, and the bytes of wanted entries, each by its index, counted
+/// from 0, in any order and as often as it is named. Blocks of `cut` must have from 1 to 2^30 bytes.
+///
+/// With a limit it reads so many entries, and of the file at most 1 MiB more, which decides nothing. Without one it
+/// reads to the end of the file. Beside wanted nodes and entries it holds less than 8 MiB, whatever the file has; of
+/// wanted entries at most three times their bytes.
+///
+/// # Errors
+///
+/// The first of these that applies, where `OutOfMemory` may come at any time:
+///
+/// - `Read` if a read fails; an interrupted read is retried;
+/// - `TooManyEntries` if more than 2^62 entries are read;
+/// - `EndsInsideLine` if the file ends inside a line, ahead of the limit, and a partial line is refused.
+pub fn read_log<R: Read>(
+    alloc: Global,
+    cut: Cut,
+    limit: Option<usize>,
+    wanted_nodes: &[(usize, usize)],
+    wanted_entries: &[usize],
+    file: &mut R,
+) -> Result<ReadLog, ReadError>
+    requires { IsCut cut }
+    ensures read { IfOk result (λ log. HoldsOfFile (R.remaining file.old)
+        (IsLogOf log cut limit wanted_nodes.now wanted_entries.now)) }
+    ensures refused { IfErr result (λ e. (e ≡ OutOfMemory) ⊎ ((e ≡ FailedRead)
+        ⊎ HoldsOfFile (R.remaining file.old) (λ bytes. read_refusal cut limit bytes ≡ Some e))) }
+{
+    let places = places_in_order(alloc, wanted_entries)?;
+    let wanted = WantedEntries::new(alloc, &places)?;
+    let mut splitter = Splitter::new(cut, limit.unwrap_or(usize::MAX), wanted);
+    let tree = TreeBuilder::new(alloc, wanted_nodes)?;
+    let tree = read_through(alloc, &mut splitter, tree, file)?;
+    let hashes = splitter.end_file(alloc)?;
+    let tree = tree.push_many(alloc, &hashes)?;
+    let entries = splitter.wanted.into_entries(alloc);
+    Ok(ReadLog { tree, entries })
+}
+
+/// Reads a file until it ends, or until as many entries have ended as are read at most.
+fn read_through<R: Read>(
+    alloc: Global,
+    splitter: &mut Splitter<'_>,
+    mut tree: TreeBuilder,
+    file: &mut R,
+) -> Result<TreeBuilder, ReadError>
+    requires { IsReady splitter.old }
+    ensures ready { OnOk result (IsReady splitter.new) }
+    ensures same { OnOk result ((splitter.new.cut ≡ splitter.old.cut) × (splitter.new.limit ≡ splitter.old.limit)) }
+    ensures built { (nodes : List (ℕ × ℕ)) (wanted : List ℕ) → HasBuilt nodes wanted splitter.old tree [] →
+        IfOk result (λ read. (bytes : List ℕ) × Consumes (R.remaining file.old) (R.remaining file.new) bytes
+        × HasGrown nodes wanted splitter.new read [] bytes
+        × (IsAtEnd (R.remaining file.new) ⊎ (splitter.new.limit ≤ splitter.new.count))) }
+    ensures refused { (nodes : List (ℕ × ℕ)) (wanted : List ℕ) → HasBuilt nodes wanted splitter.old tree [] →
+        IfErr result (λ e. (e ≡ OutOfMemory) ⊎ ((e ≡ FailedRead) ⊎ ((e ≡ TooManyEntries)
+        × ReadsTooMany splitter.old.cut splitter.old.limit (R.remaining file.old) (R.remaining file.new)))) }
+{
+    let mut buffer = vec![in alloc; 0; BUFFER]?;
+    let window = buffer.as_mut_slice();
+    for _turn in 0..u64::MAX {
+        if splitter.is_full() {
+            return Ok(tree);
+        }
+        match file.read(window) {
+            Ok(0) => return Ok(tree),
+            Ok(count) => tree = push(alloc, splitter, tree, &window[..count])?,
+            Err(error) if error.kind() == ErrorKind::Interrupted => {}
+            Err(error) if error.kind() == ErrorKind::OutOfMemory => {
+                return Err(ReadError::OutOfMemory);
+            }
+            Err(_) => return Err(ReadError::Read),
+        }
+    }
+    Err(ReadError::Read)
+}
+
+/// Reads the next bytes of a file, and grows its tree by the entries that end in them.
+fn push(
+    alloc: Global,
+    splitter: &mut Splitter<'_>,
+    mut tree: TreeBuilder,
+    bytes: &[u8],
+) -> Result<TreeBuilder, ReadError>
+    requires { IsReady splitter.old }
+    ensures ready { OnOk result (IsReady splitter.new) }
+    ensures same { OnOk result ((splitter.new.cut ≡ splitter.old.cut) × (splitter.new.limit ≡ splitter.old.limit)) }
+    ensures built { (nodes : List (ℕ × ℕ)) (wanted front : List ℕ) → HasBuilt nodes wanted splitter.old tree front →
+        IfOk result (λ grown. HasGrown nodes wanted splitter.new grown front bytes.now) }
+    ensures refused { (nodes : List (ℕ × ℕ)) (wanted front rest : List ℕ) →
+        HasBuilt nodes wanted splitter.old tree front → IfErr result (λ e. (e ≡ OutOfMemory) ⊎ ((e ≡ TooManyEntries)
+        × AreTooMany splitter.old.cut splitter.old.limit (front ++ (bytes.now ++ rest)))) }
+{
+    let mut left = bytes;
+    'entries: while !left.is_empty() && !splitter.is_full() {
+        let (hashes, rest) = splitter.read(alloc, left)?;
+        tree = tree.push_many(alloc, &hashes)?;
+        left = rest;
+    }
+    Ok(tree)
+}

@@ -1,0 +1,5 @@
+use Rattle.tlog_text.proofs.ProofLaws.{consistency_proofs}
+use Rattle.tlog_text.proofs.laws.consistency_proofs_are_spelled.Goals as goal
+
+pub returns : goal.returns
+returns c = consistency_proofs

@@ -1,0 +1,5 @@
+use Rattle.tlog_text.proofs.ProofLaws.{entries_proofs}
+use Rattle.tlog_text.proofs.laws.entries_proofs_are_spelled.Goals as goal
+
+pub returns : goal.returns
+returns c = entries_proofs
