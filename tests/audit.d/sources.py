@@ -7,7 +7,7 @@ from functools import cache
 
 from definitions import names_in, names_of_use
 
-TESTS = re.compile(r"callers|\w+_(?:tests|cases)")
+TESTS = re.compile(r"callers|test_\w+")
 # Crates whose functions are `pub` for other code of this repository alone, and their modules that are public.
 INTERNAL = set("p3_merkle_core p3_merkle_hashing p3_merkle_prover p3_merkle_verifier mmcs_engine fohlazu".split())
 PUBLIC = set("""mmcs_engine/src/engine mmcs_engine/src/fault mmcs_engine/src/laws mmcs_engine/src/process

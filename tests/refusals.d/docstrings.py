@@ -84,7 +84,7 @@ def named_in(part, calls):
             errors.append(name)
         elif name in calls and not errors:
             less = re.search(r"(?:but for|except|without) ([^.;]*)", rest)
-            is_plain = "p3_merkle_tree" in (found[2] or "") or part[: found.start()].endswith("plain ")
+            is_plain = "MerkleTreeMmcs" in (found[2] or "") or part[: found.start()].endswith("plain ")
             return [Call(name, is_plain, tuple(re.findall(r"`(\w+)`", less[1] if less else "")))]
     return errors
 

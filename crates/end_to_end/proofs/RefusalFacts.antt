@@ -17,7 +17,8 @@ use Rattle.p3_merkle_tree.specs.MerkleTreeError.TheVariants.{OutOfMemory, TooLar
 use Rattle.p3_merkle_tree.specs.Openings.{Opening}
 use Rattle.p3_merkle_tree.specs.Pruning.{IsPrunedAccepted, PrunedOpening}
 use Rattle.p3_merkle_tree.specs.Refusals.{IsEquality}
-use Rattle.p3_merkle_tree.specs.Refusals.{first_of, ok_unless, pruned_refusal_under, refusal_under, width_fault}
+use Rattle.p3_merkle_tree.specs.Refusals.{pruned_refusal_under, refusal_under, width_fault}
+use Rattle.p3_answers.specs.Answers.{first_of, ok_unless}
 use Rattle.p3_merkle_tree.specs.SaltedOpenings.{CanWiden, HaveSalts, IsSaltedAccepted, IsSaltedPrunedAccepted}
 use Rattle.p3_merkle_tree.specs.SaltedOpenings.{SaltedOpening, SaltedPruned, joined, joined_sets}
 use Rattle.p3_merkle_tree.specs.SaltRefusals.{first_too_wide, salt_refusal, salted_refusal_under}

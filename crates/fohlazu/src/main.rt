@@ -11,8 +11,8 @@ mod watch;
 ghost use Rattle.fohlazu_commands.specs.Commands.{IsLawful};
 
 use args::{Args, ArgsError, Escaped, parse_args};
-use input::{Input, Notes};
 use fohlazu_commands::{Command, Error, run};
+use input::{Input, Notes};
 use many::Many;
 use output::{Replacement, StandardOutput};
 use std::fmt::Display;

@@ -5,7 +5,7 @@ ghost use Rattle.std.specs.Result.{result_err};
 ghost use Rattle.p3_support.specs.Batches.{widths_of};
 ghost use Rattle.p3_support.specs.Shown.{row_lists};
 ghost use Rattle.p3_merkle_core.specs.Checks.{IsAccepted, Params};
-ghost use Rattle.p3_merkle_core.specs.Refusals.{ok_unless};
+ghost use Rattle.p3_answers.specs.Answers.{ok_unless};
 ghost use Rattle.p3_merkle_core.specs.declared.error.MerkleTreeError.TheVariants.{OutOfMemory};
 ghost use Rattle.fohlazu_c.specs.Openings.{cut_rows, is_arity_taken, opening_status, params_at, params_shown};
 ghost use Rattle.fohlazu_c.specs.Openings.{presented_opening, refusal_at, size_shown};

@@ -8,8 +8,8 @@ use Rattle.std.proofs.lemmas.List.FromFn.{fill_by_all, get_or-range_with_len, le
 use Rattle.std.proofs.lemmas.List.Sums.{list_all-from_AllPass}
 use Rattle.std.specs.List.{range_with_len}
 use Rattle.sha2.specs.Sha256.{sha256}
-use Rattle.p3_merkle_core.proofs.Pruned.NoneFacts.{map_none, none_parts}
-use Rattle.p3_merkle_core.specs.Refusals.{first_of, first_some, ok_unless}
+use Rattle.p3_answers.proofs.AnswerFacts.{map_none, none_parts}
+use Rattle.p3_answers.specs.Answers.{first_of, first_some, ok_unless}
 use Rattle.tlog.proofs.Accepted.{consistency_accepted}
 use Rattle.tlog.specs.Collisions.{entries_of}
 use Rattle.tlog.specs.Fixed.{RootsFixPrefix}

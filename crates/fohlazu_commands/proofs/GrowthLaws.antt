@@ -7,8 +7,8 @@ use Rattle.std.specs.Option.{option_map}
 use Rattle.std.proofs.lemmas.Bool.{cases_eq}
 use Rattle.std.proofs.lemmas.List.{nil_from_length, length-map}
 use Rattle.std.proofs.lemmas.List.Elements.{All-nil}
-use Rattle.p3_merkle_core.specs.Refusals.{ok_unless, unless}
-use Rattle.p3_merkle_core.proofs.Pruned.NoneFacts.{map_none, none_parts, unless_none}
+use Rattle.p3_answers.specs.Answers.{ok_unless, unless}
+use Rattle.p3_answers.proofs.AnswerFacts.{map_none, none_parts, unless_none}
 use Rattle.sha2.specs.Sha256.{sha256}
 use Rattle.tlog.specs.Rfc9162.{leaf_hash, proof_of, root_of, Hash, consistency_proof, subproof_within}
 use Rattle.tlog.specs.Verdicts.{consistency_refusal, is_same, size_limit, IsConsistent}

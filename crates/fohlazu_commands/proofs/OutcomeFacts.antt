@@ -11,14 +11,14 @@ use Rattle.std.proofs.lemmas.List.Sums.{list_all-from_AllPass}
 use Rattle.std.specs.Int.{byte_at, byte_len, bytes_high_first, to_be_bytes, w32}
 use Rattle.std.specs.Cmp.Lexicographic.{bytes_decides}
 use Rattle.std.specs.List.{concat, flat_map}
-use Rattle.p3_merkle_core.proofs.Pruned.NoneFacts.{none_parts, unless_none}
-use Rattle.p3_merkle_core.specs.Refusals.{first_some, ok_unless, unless, first_of}
+use Rattle.p3_answers.proofs.AnswerFacts.{none_parts, unless_none}
+use Rattle.p3_answers.specs.Answers.{first_some, ok_unless, unless, first_of}
 use Rattle.tlog.proofs.Roots.{root_is as root_by}
 use Rattle.tlog.specs.Rfc9162.{root_of, leaf_hash, mth}
 use Rattle.tlog.specs.Verdicts.{size_limit, is_same}
 use Rattle.tlog_tree.specs.Trees.{all_there}
 use Rattle.tlog_files.proofs.CutFiles.{block_is, entries_grow, lines_lack, no_entries, no_rest, rest_grows}
-use Rattle.tlog_files.specs.Entries.{entries_in, first_of as first_entries, is_refused, read_refusal, HoldsOfFile}
+use Rattle.tlog_files.specs.Entries.{entries_in, first_entries, is_refused, read_refusal, HoldsOfFile}
 use Rattle.tlog_files.specs.Entries.{partial_of, refuses, rest_of, entry_at, IsCut}
 use Rattle.tlog_files.specs.Inner.Splitting.{LacksFeed}
 use Rattle.tlog_files.specs.declared.cut.Cut.{Cut}

@@ -6,7 +6,7 @@ use Rattle.std.proofs.Common.{◌≤◌, ◌<◌, All, le-leb, length-take, nat_
 use Rattle.tlog_files.specs.Entries.{HoldsOfFile}
 use Rattle.std.proofs.lemmas.Bool.{lt-leb}
 use Rattle.std.proofs.lemmas.List.Elements.{All-head, All-tail}
-use Rattle.p3_merkle_core.specs.Refusals.{ok_unless, unless}
+use Rattle.p3_answers.specs.Answers.{ok_unless, unless}
 use Rattle.std.proofs.KnownBytes.{Appends-kept, Appends-trans}
 use Rattle.std.specs.Io.KnownBytes.{Appends, Keeps, WriteAppends}
 use Rattle.fohlazu_commands.specs.Commands.{AreReadAs, EndsIn, HoldsOfInput, IsReadAs, bytes_of_parts, note_from}

@@ -11,9 +11,9 @@ use Rattle.std.proofs.lemmas.List.FromFn.{get_or-range_with_len, length-range_wi
 use Rattle.std.proofs.lemmas.List.Sums.{sum-map}
 use Rattle.std.proofs.lemmas.Simd.{map-map}
 use Rattle.std.specs.Int.{is_power_of_two}
-use Rattle.p3_merkle_core.proofs.Pruned.NoneFacts.{none_parts, range_none, unless_none}
+use Rattle.p3_answers.proofs.AnswerFacts.{none_parts, range_none, unless_none}
 use Rattle.p3_merkle_core.proofs.Shapes.LeastFacts.{n_below_pow}
-use Rattle.p3_merkle_core.specs.Refusals.{ok_unless, unless}
+use Rattle.p3_answers.specs.Answers.{ok_unless, unless}
 use Rattle.sha2.specs.Sha256.{sha256}
 use Rattle.tlog.proofs.Powers.{power_is, power_only}
 use Rattle.tlog.specs.Rfc9162.{leaf_hash, root_of}

@@ -2,7 +2,7 @@
 use Rattle.std.specs.Prelude.{◌≡◌, ◌⊎◌, ◌≤◌, ◌<◌, ◌+◌, ◌^◌, ℕ, List, [], ◌∷◌, ◌++◌, length, map, All, Option, None}
 use Rattle.std.specs.Prelude.{Some, IfSome, option_map, string_bytes, true, Result, Ok, Err, nat_le}
 use Rattle.std.specs.Io.KnownBytes.{Appends}
-use Rattle.p3_merkle_core.specs.Refusals.{ok_unless, unless}
+use Rattle.p3_answers.specs.Answers.{ok_unless, unless}
 use Rattle.tlog_text.specs.Lines.{is_origin}
 use Rattle.tlog_files.specs.Entries.{IsCut}
 use Rattle.tlog_files.specs.declared.cut.Cut.{Cut}

@@ -6,7 +6,7 @@ use Rattle.std.specs.Global.{Global}
 use Rattle.std.specs.Int.{is_power_of_two}
 use Rattle.std.specs.List.{list_all, range_with_len, sum}
 use Rattle.sha2.specs.Sha256.{sha256}
-use Rattle.p3_merkle_core.specs.Refusals.{first_of, first_some, ok_unless, unless}
+use Rattle.p3_answers.specs.Answers.{first_of, first_some, ok_unless, unless}
 use Rattle.tlog.specs.Rfc9162.{leaf_hash, proof_of, root_of}
 use Rattle.tlog.specs.Verdicts.{consistency_refusal, is_same, size_limit}
 use Rattle.tlog_tree.specs.Trees.{leaves_root, node_at}
@@ -15,7 +15,7 @@ use Rattle.tlog_text.specs.Reading.{checkpoint_in, consistency_in, entries_in as
 use Rattle.tlog_text.specs.Texts.{CheckpointFields, ConsistencyFields, EntriesFields, EntryFields, checkpoint_text}
 use Rattle.tlog_text.specs.Texts.{consistency_text, entries_text}
 use Rattle.tlog_text.specs.declared.error.TextError.{TextError}
-use Rattle.tlog_files.specs.Entries.{entries_in, entry_at, first_of as first_entries, is_refused}
+use Rattle.tlog_files.specs.Entries.{entries_in, entry_at, first_entries, is_refused}
 use Rattle.tlog_files.specs.declared.cut.Cut.{Cut}
 use Rattle.fohlazu_commands.specs.Errors.{checkpoint_error, entries_error, text_error}
 use Rattle.fohlazu_commands.specs.declared.error.Error.{Error}

@@ -16,13 +16,13 @@ use crate::error::{Error, Source};
 use crate::inputs::{parse_checkpoint, parse_consistency_proof, parse_entries_proof, read_under};
 use crate::verify::{Print, Requested, indices_of, leaves_of, verify};
 use crate::verify_consistency::verify_consistency;
-use tlog_files::{Cut, ReadLog};
-use tlog_text::{Checkpoint, EntriesProof, Entry};
 use sha2::Sha256;
 use std::alloc::{AllocError, Global};
 use tlog::collision::{Collision, leaf_input};
 use tlog::prefix_collision;
+use tlog_files::{Cut, ReadLog};
 use tlog_multiproof::entries_collision;
+use tlog_text::{Checkpoint, EntriesProof, Entry};
 
 /// A collision, if `verify` prints entries of a proof under the checkpoint of a file, and one of them is not the file's
 /// entry of its number; else `None`. The file, whose entries are copied, may have grown since it was sealed.

@@ -16,10 +16,10 @@ use crate::prove_consistency::prove_consistency;
 use crate::seal::seal;
 use crate::verify::{Print, Requested, verify};
 use crate::verify_consistency::verify_consistency;
-use tlog_files::Cut;
-use tlog_text::is_origin;
 use std::alloc::Global;
 use std::io::{ErrorKind, Read, Write};
+use tlog_files::Cut;
+use tlog_text::is_origin;
 
 /// A command, with the inputs that it reads.
 #[derive(Drop)]

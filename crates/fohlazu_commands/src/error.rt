@@ -4,12 +4,12 @@ ghost use Rattle.std.specs.Prelude.{◌≡◌};
 ghost use Rattle.fohlazu_commands.specs.Errors.{entries_error, read_error, status_of, text_error};
 ghost use Rattle.fohlazu_commands.specs.declared.error.Error.TheVariants.{OutOfMemory};
 
-use tlog_files::ReadError;
-use tlog_text::{TextError, WrongLine};
 use std::alloc::{AllocError, AllocFailed};
 use thiserror::Error;
 use tlog::ProofError;
+use tlog_files::ReadError;
 use tlog_multiproof::EntriesError;
+use tlog_text::{TextError, WrongLine};
 
 /// Why a command stops. It prints as one line, without the name of an input.
 #[derive(Clone, Copy, Debug, Error)]

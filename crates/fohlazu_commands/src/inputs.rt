@@ -18,10 +18,10 @@ ghost use Rattle.fohlazu_commands.specs.declared.error.Error.TheVariants.{OutOfM
 ghost use Rattle.fohlazu_commands.specs.declared.error.Source.TheVariants.{File, Proof};
 
 use crate::error::{Error, Refusal, Source, text_error};
-use tlog_files::{Cut, ReadError, ReadLog, read_log, read_up_to};
-use tlog_text::{Checkpoint, ConsistencyProof, EntriesProof};
 use std::alloc::{AllocError, Global};
 use std::io::{ErrorKind, Read};
+use tlog_files::{Cut, ReadError, ReadLog, read_log, read_up_to};
+use tlog_text::{Checkpoint, ConsistencyProof, EntriesProof};
 use tlog_tree::TreeBuilder;
 
 /// The most bytes that a checkpoint or a part has.

@@ -1,7 +1,7 @@
 //! Joins the parts of a file.
 
 ghost use Rattle.std.specs.Prelude.{◌≡◌, ◌≤◌, ◌<◌, IfOk, MatchOption, MatchResult, length, map};
-ghost use Rattle.p3_merkle_core.specs.Refusals.{ok_unless};
+ghost use Rattle.p3_answers.specs.Answers.{ok_unless};
 ghost use Rattle.std.specs.List.{sum};
 ghost use Rattle.tlog.specs.Verdicts.{size_limit};
 ghost use Rattle.tlog_tree.specs.Trees.{leaves_root};
@@ -11,9 +11,9 @@ ghost use Rattle.fohlazu_commands.specs.Outcomes.{bytes_in};
 ghost use Rattle.fohlazu_commands.specs.Outcomes.{Gives, is_part_size, join_outcome, join_refusal, parts_in, sizes_refusal};
 
 use crate::error::{Error, Refusal, Source, text_error};
-use tlog_text::Checkpoint;
 use std::alloc::{AllocError, Global};
 use tlog::SIZE_LIMIT;
+use tlog_text::Checkpoint;
 use tlog_tree::Frontier;
 
 /// The text of the checkpoint, under this origin, of the file whose parts these texts are, in their order. Each part is

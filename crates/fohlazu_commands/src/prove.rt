@@ -1,7 +1,7 @@
 //! Proves entries of a file.
 
 ghost use Rattle.std.specs.Prelude.{◌≡◌, ℕ, ◌-◌, ◌≤◌, List, length, All, Err, IfOk, IfSome, map, option_map, zip};
-ghost use Rattle.p3_merkle_core.specs.Refusals.{first_of};
+ghost use Rattle.p3_answers.specs.Answers.{first_of};
 ghost use Rattle.tlog.specs.Verdicts.{size_limit};
 ghost use Rattle.tlog_multiproof.specs.Entries.{proof_nodes};
 ghost use Rattle.tlog_files.specs.Entries.{IsCut, entry_at, wanted_of};
@@ -15,11 +15,11 @@ ghost use Rattle.fohlazu_commands.specs.declared.error.Source.TheVariants.{File}
 
 use crate::error::{Error, Refusal, Source};
 use crate::inputs::{digests_of, parse_checkpoint, read_under};
-use tlog_files::{Cut, ReadLog};
-use tlog_text::{Checkpoint, EntriesProof, Entry};
 use std::alloc::{AllocError, Global};
 use std::io::Read;
+use tlog_files::{Cut, ReadLog};
 use tlog_multiproof::entry_places;
+use tlog_text::{Checkpoint, EntriesProof, Entry};
 
 /// The most entries that `run` proves where no numbers are given, and the most numbers that `fohlazu` takes.
 pub const MOST_NUMBERS: usize = 100_000_000;

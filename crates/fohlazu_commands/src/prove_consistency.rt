@@ -15,11 +15,11 @@ ghost use Rattle.fohlazu_commands.specs.declared.error.Source.TheVariants.{File}
 
 use crate::error::{Error, Refusal, Source};
 use crate::inputs::{check_growth, digests_of, parse_checkpoint, read_under};
-use tlog_files::{Cut, ReadLog};
-use tlog_text::{Checkpoint, ConsistencyProof};
 use std::alloc::{AllocError, Global};
 use std::io::Read;
 use tlog::verify_consistency;
+use tlog_files::{Cut, ReadLog};
+use tlog_text::{Checkpoint, ConsistencyProof};
 use tlog_tree::consistency_places;
 
 /// The proof that the file of a new checkpoint begins with the entries of an old one (RFC 9162, 2.1.4), with the new

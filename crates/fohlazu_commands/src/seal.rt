@@ -6,10 +6,10 @@ ghost use Rattle.fohlazu_commands.specs.Outcomes.{bytes_in, Gives};
 
 use crate::error::Error;
 use crate::inputs::{read_file, size_and_root};
-use tlog_files::Cut;
-use tlog_text::Checkpoint;
 use std::alloc::Global;
 use std::io::Read;
+use tlog_files::Cut;
+use tlog_text::Checkpoint;
 
 /// The checkpoint of a file under this origin, in one pass over the file: how many entries it has, and the root of
 /// their tree (RFC 9162, 2.1.1). With `PART_ORIGIN` it is a part of a file. It is read again if

@@ -2,7 +2,7 @@
 
 ghost use Rattle.std.specs.Prelude.{◌≡◌, ◌≤◌, ◌-◌, ◌++◌, ℕ, IfOk, OnOk, Some, flat_map, is_some, map};
 ghost use Rattle.sha2.specs.Sha256.{sha256};
-ghost use Rattle.p3_merkle_core.specs.Refusals.{first_of};
+ghost use Rattle.p3_answers.specs.Answers.{first_of};
 ghost use Rattle.tlog.specs.Rfc9162.{leaf_hash as leaf_hash_by};
 ghost use Rattle.tlog.specs.Verdicts.{size_limit};
 ghost use Rattle.tlog_text.specs.Texts.{checkpoint_fields, entries_fields, entry_fields};
@@ -13,10 +13,10 @@ ghost use Rattle.fohlazu_commands.specs.Outcomes.{numbers_refusal, printed, proo
 use crate::error::{Error, Refusal, Source};
 use crate::inputs::{parse_checkpoint, parse_entries_proof};
 use crate::prove::all_numbers;
-use tlog_text::{Checkpoint, EntriesProof, Entry};
 use std::alloc::{AllocError, Global};
 use tlog::leaf_hash;
 use tlog_multiproof::verify_entries;
+use tlog_text::{Checkpoint, EntriesProof, Entry};
 
 /// How entries are printed.
 #[derive(Clone, Copy, Debug, PartialEq, Eq)]

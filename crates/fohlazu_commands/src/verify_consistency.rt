@@ -8,9 +8,9 @@ ghost use Rattle.fohlazu_commands.specs.Outcomes.{verify_consistency_outcome};
 
 use crate::error::{Error, Refusal, Source};
 use crate::inputs::{check_growth, parse_checkpoint, parse_consistency_proof};
-use tlog_text::{Checkpoint, ConsistencyProof, TextError};
 use std::alloc::Global;
 use tlog::verify_consistency as verify;
+use tlog_text::{Checkpoint, ConsistencyProof, TextError};
 
 /// The new checkpoint that a consistency proof contains, as it stands there with its signatures, if the proof shows
 /// that its log begins with the entries of the old checkpoint (RFC 9162, 2.1.4.2). Signatures are not checked.

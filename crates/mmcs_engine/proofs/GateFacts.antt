@@ -11,7 +11,8 @@ use Rattle.p3_merkle_core.specs.Refusals.{queries_refusal, pruned_len_refusal}
 use Rattle.p3_merkle_core.specs.declared.error.MerkleTreeError.TheVariants.{IndexOutOfBounds}
 use Rattle.p3_support.specs.Batches.{greatest}
 use Rattle.p3_merkle_core.proofs.Shapes.GateFacts.{gate_lawful}
-use Rattle.p3_merkle_core.proofs.Pruned.NoneFacts.{below_from, none_unless}
+use Rattle.p3_answers.proofs.AnswerFacts.{none_unless}
+use Rattle.p3_merkle_core.proofs.Pruned.NoneFacts.{below_from}
 use Rattle.mmcs_engine.specs.Matrices.{batch_of_rows}
 use Rattle.mmcs_engine.specs.Program.{heights_of_rows}
 

@@ -10,7 +10,8 @@ use Rattle.p3_merkle_core.specs.Checks.{AgreeWhereShared, Content, Digests, HasD
 use Rattle.p3_merkle_core.specs.Checks.{IsLastShared, Params, Words, input_digest, is_authenticated, opened_row}
 use Rattle.p3_merkle_core.specs.Checks.{shared_inputs}
 use Rattle.p3_merkle_core.specs.Presented.{Presented}
-use Rattle.p3_merkle_core.specs.Refusals.{AnswersUnlessMemory, first_of, ok_unless, unless}
+use Rattle.p3_merkle_core.specs.Refusals.{AnswersUnlessMemory}
+use Rattle.p3_answers.specs.Answers.{first_of, ok_unless, unless}
 use Rattle.p3_merkle_core.specs.declared.cap.CapRule.{CapRule}
 use Rattle.p3_merkle_core.specs.declared.cap.CapRule.TheVariants.{Lowered}
 use Rattle.p3_merkle_core.specs.declared.collision.Place.{Place}

@@ -4,7 +4,8 @@ use Rattle.p3_merkle_core.specs.Geometry.{Shape}
 use Rattle.p3_merkle_core.specs.Openings.{Opening, opening_of}
 use Rattle.p3_merkle_core.specs.Checks.{IsAccepted, Params}
 use Rattle.p3_merkle_core.specs.Pruning.{IsPrunedAccepted, IsRestorable, PrunedOpening, opening_at}
-use Rattle.p3_merkle_core.specs.Refusals.{AnswersUnlessMemory, ok_unless, pruned_refusal, pruned_refusal_under}
+use Rattle.p3_merkle_core.specs.Refusals.{AnswersUnlessMemory, pruned_refusal, pruned_refusal_under}
+use Rattle.p3_answers.specs.Answers.{ok_unless}
 use Rattle.p3_merkle_core.specs.Refusals.{refusal_under}
 use Rattle.p3_merkle_core.specs.declared.error.MerkleTreeError.{MerkleTreeError}
 

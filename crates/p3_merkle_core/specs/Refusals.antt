@@ -17,7 +17,7 @@ use Rattle.p3_merkle_core.specs.declared.error.MerkleTreeError.{MerkleTreeError}
 use Rattle.p3_merkle_core.specs.declared.error.MerkleTreeError.TheVariants.{WrongBatchSize, WrongWidth, WrongHeight}
 use Rattle.p3_merkle_core.specs.declared.error.MerkleTreeError.TheVariants.{CapMismatch, IndexOutOfBounds}
 use Rattle.p3_merkle_core.specs.declared.error.MerkleTreeError.TheVariants.{MalformedPrunedProof, OutOfMemory}
-use Rattle.p3_support.specs.Answers.{AnswersUnless}
+use Rattle.p3_answers.specs.Answers.{AnswersUnless, first_of, first_some, ok_unless, unless}
 use Rattle.p3_support.specs.Batches.{greatest, widths_of}
 use Rattle.p3_support.specs.declared.matrix.Dimensions.{Dimensions}
 use Rattle.p3_support.specs.Lists.{is_among}
@@ -25,24 +25,6 @@ use Rattle.p3_support.specs.Lists.{is_among}
 -- the test decides equality
 abbrev pub IsEquality : {T : Type 0} → (T → T → Bool) → Type 0
 IsEquality {T} test = (x y : T) → Decides (test x y) (x ≡ y)
-
--- the first value among some options
-abbrev pub first_some : {E : Type 0} → List (Option E) → Option E
-first_some [] = None
-first_some (x ∷ xs) = option_or x (first_some xs)
-
--- the first value that h gives for one of some items
-abbrev pub first_of : {X E : Type 0} → (X → Option E) → List X → Option E
-first_of h xs = first_some (map h xs)
-
--- e, unless the test passes
-abbrev pub unless : {E : Type 0} → Bool → E → Option E
-unless b e = if b then None else Some e
-
--- the refusal if there is one, else the value
-abbrev pub ok_unless : {V E : Type 0} → Option E → V → Result V E
-ok_unless None v = Ok v
-ok_unless (Some e) v = Err e
 
 -- ---- what a call returns
 

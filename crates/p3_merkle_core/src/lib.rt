@@ -24,4 +24,3 @@ pub mod laws;
 pub mod layer_shape;
 pub mod pruning;
 pub mod schedule;
-

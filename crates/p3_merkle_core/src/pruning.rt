@@ -25,10 +25,10 @@ ghost use Rattle.p3_merkle_core.specs.Inner.Children.{levels_in, siblings_on_pat
 ghost use Rattle.p3_merkle_core.specs.Inner.Children.{IsFamily};
 ghost use Rattle.p3_merkle_core.specs.declared.error.MerkleTreeError.TheVariants.{OutOfMemory};
 
-use crate::error::{MerkleTreeError, PrunedProofError};
-use crate::geometry::{check_widths, exponent_of, parent_of, position_of};
 use crate::covered_nodes::Covered;
+use crate::error::{MerkleTreeError, PrunedProofError};
 use crate::gate::check_heights;
+use crate::geometry::{check_widths, exponent_of, parent_of, position_of};
 use crate::schedule::Schedule;
 use p3_support::matrix::Dimensions;
 use std::alloc::{AllocError, Global};

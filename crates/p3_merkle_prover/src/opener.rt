@@ -22,7 +22,9 @@ use p3_support::opening::MerkleCap;
 use std::alloc::{AllocError, Global};
 
 /// The steps of a tree, from the leaves to the root, which it stores.
-pub fn tree_schedule<F, X, G, M: Matrix<F>, const N: usize>(tree: &Tree<F, X, G, M, N>) -> Schedule<'_>
+pub fn tree_schedule<F, X, G, M: Matrix<F>, const N: usize>(
+    tree: &Tree<F, X, G, M, N>,
+) -> Schedule<'_>
     ensures { shape_of result.arity result.dimensions.now ≡ shape (tree_batch tree.now) }
 {
     tree.schedule.schedule()

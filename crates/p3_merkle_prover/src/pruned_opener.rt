@@ -17,10 +17,10 @@ ghost use Rattle.p3_merkle_prover.specs.Parts.{layers_of, tree_batch};
 
 use crate::opener::{rows_of_index, tree_schedule};
 use crate::tree::Tree;
+use p3_merkle_core::covered_nodes::Covered;
 use p3_merkle_core::error::MerkleTreeError;
 use p3_merkle_core::geometry::position_of;
 use p3_merkle_core::pruning::{distinct_indices, extend_except};
-use p3_merkle_core::covered_nodes::Covered;
 use p3_support::matrix::Matrix;
 use std::alloc::Global;
 

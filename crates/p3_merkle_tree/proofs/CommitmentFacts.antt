@@ -5,7 +5,8 @@ use Rattle.p3_merkle_core.specs.Gate.{gate_refusal}
 use Rattle.p3_merkle_core.specs.Geometry.{IsLawful}
 use Rattle.p3_merkle_core.specs.declared.error.MerkleTreeError.TheVariants.{OutOfMemory}
 use Rattle.p3_merkle_core.specs.declared.error.MerkleTreeError.{MerkleTreeError}
-use Rattle.p3_merkle_core.specs.Refusals.{ok_unless, AnswersUnlessMemory}
+use Rattle.p3_merkle_core.specs.Refusals.{AnswersUnlessMemory}
+use Rattle.p3_answers.specs.Answers.{ok_unless}
 use Rattle.p3_merkle_core.proofs.Shapes.GateFacts.{gate_lawful}
 
 -- Ok is answered of lawful heights alone

@@ -11,10 +11,10 @@ use Rattle.std.specs.declared.vec.Vec.{Vec}
 use Rattle.p3_support.specs.declared.matrix.Dimensions.{Dimensions}
 use Rattle.p3_support.specs.Batches.{widths_of}
 use Rattle.p3_support.specs.Shown.{row_lists, row_sets}
-use Rattle.p3_merkle_core.specs.Refusals.{first_of, first_some}
+use Rattle.p3_answers.specs.Answers.{first_of, first_some}
 use Rattle.p3_merkle_core.specs.declared.error.MerkleTreeError.{MerkleTreeError}
 use Rattle.p3_merkle_core.specs.declared.error.MerkleTreeError.TheVariants.{TooLarge}
-use Rattle.p3_merkle_core.proofs.Pruned.NoneFacts.{map_none}
+use Rattle.p3_answers.proofs.AnswerFacts.{map_none}
 use Rattle.p3_merkle_core.proofs.Pruned.Unrefused.{size_none}
 use Rattle.p3_merkle_tree.specs.SaltRefusals.{first_too_wide, salt_refusal, salt_sets_refusal, widening_refusal}
 use Rattle.p3_merkle_tree.specs.SaltedOpenings.{CanWiden}

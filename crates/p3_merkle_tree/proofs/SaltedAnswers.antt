@@ -6,11 +6,13 @@ use Rattle.std.specs.{List.AllZip}
 use Rattle.p3_support.specs.declared.matrix.Dimensions.{Dimensions}
 use Rattle.p3_support.specs.Batches.{widths_of}
 use Rattle.p3_merkle_core.specs.{Geometry.IsArity}
-use Rattle.p3_merkle_core.specs.Refusals.{IsEquality, first_of, pruned_refusal_under}
-use Rattle.p3_merkle_core.specs.Refusals.{refusal_under, row_width_refusal, size_refusal, width_refusal, ok_unless}
+use Rattle.p3_merkle_core.specs.Refusals.{IsEquality, pruned_refusal_under}
+use Rattle.p3_answers.specs.Answers.{first_of, ok_unless}
+use Rattle.p3_merkle_core.specs.Refusals.{refusal_under, row_width_refusal, size_refusal, width_refusal}
 use Rattle.p3_merkle_core.specs.declared.error.MerkleTreeError.{TheVariants.WrongBatchSize}
 use Rattle.p3_merkle_core.specs.Checks.{Params}
-use Rattle.p3_merkle_core.proofs.Pruned.NoneFacts.{fit_from, none_of_both, none_parts, unless_none, verdict_ok}
+use Rattle.p3_answers.proofs.AnswerFacts.{none_of_both, none_parts, unless_none, verdict_ok}
+use Rattle.p3_merkle_core.proofs.Pruned.NoneFacts.{fit_from}
 use Rattle.p3_merkle_core.proofs.Pruned.Unrefused.{each_width, size_none}
 use Rattle.p3_merkle_core.proofs.Checks.Verdicts.{accepted_answer, accepted_from, pruned_accepted}
 use Rattle.p3_merkle_tree.proofs.SaltFacts.{widening}

@@ -9,7 +9,7 @@ use Rattle.p3_merkle_core.specs.declared.error.MerkleTreeError.{MerkleTreeError}
 use Rattle.p3_merkle_core.specs.declared.error.MerkleTreeError.TheVariants.{OutOfMemory}
 use Rattle.p3_support.specs.Batches.{heights_of}
 use Rattle.p3_merkle_core.proofs.Shapes.GateFacts.{gate_lawful}
-use Rattle.p3_merkle_core.proofs.Pruned.NoneFacts.{none_of_both, none_parts}
+use Rattle.p3_answers.proofs.AnswerFacts.{none_of_both, none_parts}
 use Rattle.p3_merkle_core.proofs.Lists.ViewFacts.{dimensions_are}
 use Rattle.p3_merkle_tree.proofs.SaltFacts.{widening}
 use Rattle.p3_merkle_tree.specs.SaltRefusals.{salted_commit_refusal, widening_refusal}

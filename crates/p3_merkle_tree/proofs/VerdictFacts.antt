@@ -8,11 +8,12 @@ use Rattle.p3_merkle_core.specs.Presented.{IsExactVerdict, IsVerdict, Presented,
 use Rattle.p3_merkle_core.specs.Presented.{presented_to_restore}
 use Rattle.p3_merkle_core.specs.Pruning.{PrunedOpening}
 use Rattle.p3_merkle_core.specs.Refusals.{AnswersUnlessMemory}
-use Rattle.p3_merkle_core.specs.Refusals.{IsEquality, answer_under, ok_unless, pruned_refusal, pruned_refusal_under}
+use Rattle.p3_merkle_core.specs.Refusals.{IsEquality, answer_under, pruned_refusal, pruned_refusal_under}
+use Rattle.p3_answers.specs.Answers.{ok_unless}
 use Rattle.p3_merkle_core.specs.declared.error.MerkleTreeError.{MerkleTreeError}
 use Rattle.p3_merkle_core.proofs.Checks.Verdicts.{accepted_answer, accepted_from, pruned_accepted}
 use Rattle.p3_merkle_core.proofs.Pruned.Answered.{restorable}
-use Rattle.p3_merkle_core.proofs.Pruned.NoneFacts.{verdict_ok}
+use Rattle.p3_answers.proofs.AnswerFacts.{verdict_ok}
 use Rattle.p3_merkle_core.proofs.Pruned.Unrefused.{unrefused}
 
 -- there is one Ok

@@ -5,7 +5,8 @@ use Rattle.p3_support.specs.declared.matrix.Dimensions.{Dimensions}
 use Rattle.p3_support.specs.Batches.{heights_of, widths_of}
 use Rattle.p3_merkle_core.specs.Gate.{gate_refusal}
 use Rattle.p3_merkle_core.specs.Checks.{Params}
-use Rattle.p3_merkle_core.specs.Refusals.{first_of, pruned_refusal_under, refusal_under, size_refusal, width_refusal}
+use Rattle.p3_merkle_core.specs.Refusals.{pruned_refusal_under, refusal_under, size_refusal, width_refusal}
+use Rattle.p3_answers.specs.Answers.{first_of}
 use Rattle.p3_merkle_core.specs.declared.error.MerkleTreeError.{MerkleTreeError}
 use Rattle.p3_merkle_core.specs.declared.error.MerkleTreeError.TheVariants.{TooLarge}
 use Rattle.p3_merkle_tree.specs.SaltedOpenings.{SaltedOpening, SaltedPruned, joined, joined_sets}

@@ -14,11 +14,11 @@ ghost use Rattle.p3_merkle_tree.specs.SaltedOpenings.{widened, CanWiden};
 ghost use Rattle.p3_merkle_tree.specs.SaltedTrees.{HaveSaltColumns};
 
 use crate::join::widened_dimensions;
+use crate::mmcs::{MerkleTreeMmcs, Scheme};
 use p3_merkle_core::cap::CapRule;
 use p3_merkle_core::error::MerkleTreeError;
-use p3_merkle_core::pruning::PrunedMerklePaths;
 use p3_merkle_core::gate::check_heights;
-use crate::mmcs::{MerkleTreeMmcs, Scheme};
+use p3_merkle_core::pruning::PrunedMerklePaths;
 use p3_merkle_prover::checked::CheckedMatrices;
 use p3_merkle_prover::tree::MerkleTree;
 use p3_support::compress::PseudoCompressionFunction;

@@ -8,11 +8,11 @@ ghost use Rattle.p3_merkle_core.specs.Geometry.{positions_below, schedule_below,
 ghost use Rattle.p3_merkle_core.specs.Refusals.{pruned_len_refusal, replay_refusal, AnswersUnlessMemory};
 
 use crate::mmcs::Scheme;
+use p3_merkle_core::covered_nodes::Covered;
 use p3_merkle_core::error::MerkleTreeError;
+use p3_merkle_core::gate::check_heights;
 use p3_merkle_core::geometry::{ArityAndPositions, exponent_of};
 use p3_merkle_core::pruning::{check_indices, distinct_indices};
-use p3_merkle_core::covered_nodes::Covered;
-use p3_merkle_core::gate::check_heights;
 use p3_merkle_core::schedule::schedule_of;
 use p3_merkle_prover::opener::{matrix_refs, max_height};
 use p3_merkle_prover::tree::Tree;

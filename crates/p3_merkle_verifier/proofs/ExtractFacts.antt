@@ -2,7 +2,7 @@
 use Rattle.std.proofs.Common.{◌≡◌, Option, None, Some}
 use Rattle.std.specs.Prelude.{Ok, Err}
 use Rattle.std.specs.Option.{option_or}
-use Rattle.p3_merkle_core.specs.Refusals.{ok_unless}
+use Rattle.p3_answers.specs.Answers.{ok_unless}
 
 -- the first refusal comes before the second
 pub first_refused : {E : Type 0} (x y : Option E) (e : E) → Err e ≡ ok_unless x (tt {0}) → option_or x y ≡ Some e

@@ -6,7 +6,8 @@ use Rattle.p3_merkle_core.specs.Checks.{params, path_digest}
 use Rattle.p3_merkle_core.specs.Geometry.{Shape, ancestor}
 use Rattle.p3_merkle_core.specs.Nodes.{Functions}
 use Rattle.p3_merkle_core.specs.Openings.{Opening}
-use Rattle.p3_merkle_core.specs.Refusals.{answer_under, form_refusal, is_entry, unless, ok_unless}
+use Rattle.p3_merkle_core.specs.Refusals.{answer_under, form_refusal, is_entry}
+use Rattle.p3_answers.specs.Answers.{unless, ok_unless}
 use Rattle.p3_merkle_core.specs.declared.error.MerkleTreeError.TheVariants.{CapMismatch}
 use Rattle.p3_merkle_verifier.specs.Inner.Checks.{IsPathState}
 use Rattle.p3_merkle_verifier.specs.declared.path.PathState.{PathState}

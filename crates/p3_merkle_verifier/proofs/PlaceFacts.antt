@@ -5,7 +5,7 @@ use Rattle.std.proofs.lemmas.Bool.{cases_eq}
 use Rattle.std.specs.List.{range_with_len}
 use Rattle.std.specs.Option.{option_or, option_map}
 use Rattle.p3_merkle_core.specs.Extraction.{first_pair}
-use Rattle.p3_merkle_core.specs.Refusals.{first_of}
+use Rattle.p3_answers.specs.Answers.{first_of}
 use Rattle.p3_merkle_core.proofs.Pruned.Unrefused.{all_in_range}
 use Rattle.p3_merkle_verifier.specs.Inner.QueryPairs.{first_place}
 

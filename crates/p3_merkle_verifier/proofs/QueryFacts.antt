@@ -11,7 +11,8 @@ use Rattle.p3_merkle_core.specs.Openings.{Opening, opening_of}
 use Rattle.p3_merkle_core.specs.Checks.{Params, params}
 use Rattle.p3_merkle_core.specs.Inner.Agreement.{AreDistinctOf}
 use Rattle.p3_merkle_core.specs.Pruning.{PrunedOpening, opening_at, restored_path, restored_paths}
-use Rattle.p3_merkle_core.specs.Refusals.{IsEquality, pruned_refusal_under, ok_unless}
+use Rattle.p3_merkle_core.specs.Refusals.{IsEquality, pruned_refusal_under}
+use Rattle.p3_answers.specs.Answers.{ok_unless}
 use Rattle.p3_merkle_core.specs.declared.collision.InputPair.{InputPair}
 use Rattle.p3_merkle_verifier.specs.Inner.Paths.{CanCheck}
 use Rattle.p3_merkle_verifier.specs.Inner.Collisions.{Shows}

@@ -8,7 +8,8 @@ use Rattle.std.proofs.lemmas.Bool.{and_from, and_parts, eqb-true, or_cases, or_l
 use Rattle.std.proofs.lemmas.List.Folds.{list_all-map}
 use Rattle.p3_merkle_core.specs.Geometry.{Shape, ancestor}
 use Rattle.p3_merkle_core.specs.Nodes.{Functions}
-use Rattle.p3_merkle_core.specs.Refusals.{cap_refusal, unless, is_entry}
+use Rattle.p3_merkle_core.specs.Refusals.{cap_refusal, is_entry}
+use Rattle.p3_answers.specs.Answers.{unless}
 use Rattle.p3_merkle_core.specs.declared.error.MerkleTreeError.TheVariants.{CapMismatch}
 use Rattle.p3_merkle_core.specs.Pruning.{CanQuery, PrunedOpening, restored_node}
 use Rattle.p3_merkle_core.specs.Inner.Covered.{covered_at}

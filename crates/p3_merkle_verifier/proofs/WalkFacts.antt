@@ -8,7 +8,7 @@ use Rattle.p3_merkle_core.specs.Geometry.{Shape, ancestor}
 use Rattle.p3_merkle_core.specs.Nodes.{Functions}
 use Rattle.p3_merkle_core.specs.Openings.{Opening}
 use Rattle.p3_merkle_core.specs.Checks.{Input, layer_words, leaf_input, words_at}
-use Rattle.p3_merkle_core.specs.Refusals.{unless}
+use Rattle.p3_answers.specs.Answers.{unless}
 use Rattle.p3_merkle_core.specs.declared.collision.Place.TheVariants.{Leaf}
 use Rattle.p3_merkle_core.specs.declared.collision.InputPair.{InputPair}
 use Rattle.p3_merkle_verifier.specs.Inner.Checks.{IsLevelOfCheck, IsPathState, leaf_difference, level_difference}

@@ -26,14 +26,14 @@ ghost use Rattle.p3_merkle_verifier.specs.Inner.RestoredLevels.{AreLeaves, AreQu
 ghost use Rattle.p3_merkle_verifier.specs.Inner.RestoredLevels.{IsCoveredAt, IsLayer, IsLayerAbove};
 
 use crate::checker::Checker;
-use crate::openings::{OpenedMatrix, PrunedOpeningRef, CheckedPrunedOpening};
+use crate::openings::{CheckedPrunedOpening, OpenedMatrix, PrunedOpeningRef};
 use crate::path::is_entry;
+use p3_merkle_core::covered_nodes::Covered;
 use p3_merkle_core::error::MerkleTreeError;
 use p3_merkle_core::geometry::exponent_of;
 use p3_merkle_core::pruning::{
     AuthPath, CoveredLayer, PrunedMerklePaths, check_pruned, children_of, siblings_on_path,
 };
-use p3_merkle_core::covered_nodes::Covered;
 use p3_merkle_core::schedule::LevelStep;
 use p3_merkle_hashing::batched::{LayerRows, compress_children, inject_row_digests};
 use p3_support::compress::PseudoCompressionFunction;
@@ -235,7 +235,14 @@ impl<
         let cap_layer = self.cap_layer;
         let indices = opening.indices;
         let num_digests = opening.sent.len();
-        let leaves = check_pruned(alloc, schedule, cap_layer, indices, opening.sets, num_digests)?;
+        let leaves = check_pruned(
+            alloc,
+            schedule,
+            cap_layer,
+            indices,
+            opening.sets,
+            num_digests,
+        )?;
         let nodes = Vec::from_slice(alloc, &leaves.indices)?;
         let restorable = CheckedPrunedOpening {
             schedule,

@@ -1,4 +1,3 @@
-pub mod Answers
 pub mod Batches
 pub mod Lists
 pub mod RowMajor

@@ -1,7 +1,7 @@
 //! Schemes that commit to matrices of different heights.
 ghost use Rattle.std.specs.Prelude.{◌≡◌, ◌⊎◌, ℕ, ◌<◌, All, IfErr, IfOk, IsOk, List, Option, map};
 ghost use Rattle.std.specs.List.{AllZip};
-ghost use Rattle.p3_support.specs.Answers.{AnswersUnless};
+ghost use Rattle.p3_answers.specs.Answers.{AnswersUnless};
 ghost use Rattle.p3_support.specs.Batches.{dimensions_in, greatest, rows_in, FitDimensions, IsEquivalence};
 ghost use Rattle.p3_support.specs.Shown.{row_lists, row_sets};
 ghost use Rattle.p3_support.specs.declared.matrix.Dimensions.{Dimensions};

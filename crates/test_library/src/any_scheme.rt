@@ -5,7 +5,7 @@ ghost use Rattle.std.specs.Prelude.{◌≡◌, ◌<◌, ◌↔◌, IfErr, IfOk, 
 ghost use Rattle.test_library.specs.Reasons.{rejection_of};
 ghost use Rattle.test_library.specs.declared.reasons.Rejection.TheVariants as rejection;
 ghost use Rattle.p3_merkle_tree.specs.MerkleTreeError.TheVariants.{OutOfMemory};
-ghost use Rattle.p3_support.specs.Answers.{AnswersUnless};
+ghost use Rattle.p3_answers.specs.Answers.{AnswersUnless};
 ghost use Rattle.p3_support.specs.Batches.{dimensions_in, greatest, heights_of};
 ghost use Rattle.p3_support.specs.RowMajor.{row_count, row_width};
 ghost use Rattle.p3_support.specs.Shown.{row_lists, row_sets};

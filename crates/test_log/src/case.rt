@@ -3,10 +3,10 @@ ghost use Rattle.std.specs.Prelude.{IfOk};
 ghost use Rattle.tlog_files.specs.Entries.{IsCut};
 
 use anyhow::{Result, bail, ensure};
-use tlog_files::{Cut, PartialLine};
 use percent_encoding::percent_decode_str;
 use std::alloc::Global;
 use std::fmt::{Display, Write};
+use tlog_files::{Cut, PartialLine};
 
 /// A case.
 #[derive(Drop)]

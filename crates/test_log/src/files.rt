@@ -2,11 +2,11 @@
 
 use crate::case::Case;
 use anyhow::{Result, ensure};
-use tlog_files::{read_log, read_up_to};
 use sha2::{Digest, Sha256};
 use std::fmt::Write;
 use std::io;
 use std::io::{Error, ErrorKind, Read};
+use tlog_files::{read_log, read_up_to};
 
 /// Gives its bytes in pieces, and is interrupted before each. It may fail where they end.
 #[derive(Drop)]

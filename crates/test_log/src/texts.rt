@@ -3,8 +3,8 @@
 
 use crate::case::Case;
 use anyhow::{Result, bail};
-use tlog_text::{Checkpoint, ConsistencyProof, EntriesProof, TextError};
 use std::fmt::Write;
+use tlog_text::{Checkpoint, ConsistencyProof, EntriesProof, TextError};
 
 /// Answers whether a text was printed as it was read.
 fn push_mark(case: &mut Case<'_>, text: &[u8], printed: &[u8]) -> Result<()> {

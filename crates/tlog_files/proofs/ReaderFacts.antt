@@ -13,7 +13,7 @@ use Rattle.tlog_tree.specs.Builders.{IsBuilderOf}
 use Rattle.tlog_tree.specs.declared.builder.TreeBuilder.{TreeBuilder}
 use Rattle.tlog_tree.specs.declared.error.TreeError.{TreeError}
 use Rattle.tlog_tree.specs.declared.error.TreeError.TheVariants.{SizeTooLarge, OutOfMemory as NoTreeMemory}
-use Rattle.tlog_files.specs.Entries.{entries_in, is_refused, read_refusal, wanted_of, first_of, is_short, partial_of}
+use Rattle.tlog_files.specs.Entries.{entries_in, is_refused, read_refusal, wanted_of, first_entries, is_short, partial_of}
 use Rattle.tlog_files.specs.Inner.Splitting.{AreAll, AreTooMany, HasBuilt, HasGrown, ReadsTooMany}
 use Rattle.tlog_files.specs.Entries.{refuses, rest_of, HoldsOfFile}
 use Rattle.tlog_files.specs.Errors.{read_error_of}
@@ -190,7 +190,7 @@ refused_file e cut limit n before after is (inr (inr (why, far))) =
 -- a limit that is not met changes nothing
 same_read : (limit : Option ℕ) (n : ℕ) (entries : List (List ℕ)) → n ≡ unwrap_or limit (2 ^ 64 - 1) →
     length (take n entries) ≤ 2 ^ 62 →
-    (first_of limit entries ≡ take n entries) × (is_short limit entries ≡ nat_lt (length entries) n)
+    (first_entries limit entries ≡ take n entries) × (is_short limit entries ≡ nat_lt (length entries) n)
 same_read (Some m) n entries is few =
     (ap (λ k. take k entries) (sym is), ap (λ k. nat_lt (length entries) k) (sym is))
 same_read None n entries is few =

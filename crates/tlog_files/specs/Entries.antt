@@ -65,9 +65,9 @@ entries_in cut bytes = whole_entries cut bytes ++ last_entry (partial_of cut) (r
 -- ---- what is read of them
 
 -- the first entries, as many as are read
-abbrev pub first_of : Option ℕ → List (List ℕ) → List (List ℕ)
-first_of None entries = entries
-first_of (Some limit) entries = take limit entries
+abbrev pub first_entries : Option ℕ → List (List ℕ) → List (List ℕ)
+first_entries None entries = entries
+first_entries (Some limit) entries = take limit entries
 
 -- whether a reader of so many entries comes to the end of the file
 abbrev pub is_short : Option ℕ → List (List ℕ) → Bool
@@ -88,7 +88,7 @@ is_refused cut limit bytes =
 -- why the first entries of a file are not read: there are more than a log may have, or the file is refused
 abbrev pub read_refusal : Cut → Option ℕ → List ℕ → Option ReadError
 read_refusal cut limit bytes =
-    if nat_le (length (first_of limit (entries_in cut bytes))) (2 ^ 62)
+    if nat_le (length (first_entries limit (entries_in cut bytes))) (2 ^ 62)
     then (if is_refused cut limit bytes then Some EndsInsideLine else None) else Some TooManyEntries
 
 -- the entry of this index, counted from 0

@@ -3,7 +3,7 @@ use Rattle.std.specs.Prelude.{◌≡◌, ℕ, false, List, map, Option}
 use Rattle.sha2.specs.Sha256.{sha256}
 use Rattle.tlog.specs.Rfc9162.{leaf_hash}
 use Rattle.tlog_tree.specs.Builders.{IsBuilderOf}
-use Rattle.tlog_files.specs.Entries.{entries_in, first_of, is_refused, wanted_of}
+use Rattle.tlog_files.specs.Entries.{entries_in, first_entries, is_refused, wanted_of}
 use Rattle.tlog_files.specs.declared.cut.Cut.{Cut}
 use Rattle.tlog_files.specs.declared.reading.ReadLog.{ReadLog}
 
@@ -11,5 +11,5 @@ use Rattle.tlog_files.specs.declared.reading.ReadLog.{ReadLog}
 pub record IsLogOf (log : ReadLog) (cut : Cut) (limit : Option ℕ) (nodes : List (ℕ × ℕ)) (wanted bytes : List ℕ)
     : Type 0 where
   pub not_refused : is_refused cut limit bytes ≡ false
-  pub tree : IsBuilderOf (map (leaf_hash sha256) (first_of limit (entries_in cut bytes))) nodes log.tree
-  pub entries : map (λ entry. entry.items) log.entries.items ≡ wanted_of (first_of limit (entries_in cut bytes)) wanted
+  pub tree : IsBuilderOf (map (leaf_hash sha256) (first_entries limit (entries_in cut bytes))) nodes log.tree
+  pub entries : map (λ entry. entry.items) log.entries.items ≡ wanted_of (first_entries limit (entries_in cut bytes)) wanted

@@ -8,10 +8,9 @@ use Rattle.std.specs.Prelude.{Result, Ok, Err, IsOk, ◌↔◌, ◌⊎◌}
 use Rattle.std.specs.List.{list_all}
 use Rattle.std.specs.Option.{option_map, option_or}
 use Rattle.std.specs.Cmp.Lexicographic.{bytes_decides}
-use Rattle.p3_support.specs.Answers.{AnswersUnless}
+use Rattle.p3_answers.specs.Answers.{AnswersUnless, first_of, first_some, unless}
 use Rattle.p3_support.specs.Batches.{greatest}
-use Rattle.p3_merkle_core.specs.Refusals.{first_of, first_some, unless}
-use Rattle.p3_merkle_core.proofs.Pruned.NoneFacts.{none_of_both, none_parts, paired_none, unless_none}
+use Rattle.p3_answers.proofs.AnswerFacts.{none_of_both, none_parts, paired_none, unless_none}
 use Rattle.p3_merkle_core.proofs.Pruned.SlotFacts.{all_below}
 use Rattle.tlog.specs.Rfc9162.{Hash as HashFunction}
 use Rattle.tlog.specs.Verdicts.{IsIncluded, inclusion_refusal, is_same, size_limit}

@@ -13,14 +13,15 @@ use Rattle.p3_merkle_core.specs.Geometry.{Shape, ancestor, exponent, heights, la
 use Rattle.p3_merkle_core.specs.Gate.{gate_refusal}
 use Rattle.p3_merkle_core.specs.Presented.{IsVerdict, Presented, presented_pruned}
 use Rattle.p3_merkle_core.specs.Pruning.{IsPrunedAccepted, IsRestorable, PrunedOpening, boundary}
-use Rattle.p3_merkle_core.specs.Refusals.{cap_refusal, digest_count_refusal, duplicate_refusal, first_of, first_some}
+use Rattle.p3_merkle_core.specs.Refusals.{cap_refusal, digest_count_refusal, duplicate_refusal}
+use Rattle.p3_answers.specs.Answers.{first_of, first_some, unless}
 use Rattle.p3_merkle_core.specs.Refusals.{group_refusal, idle_refusal, pruned_refusal, queries_refusal, rows_of}
-use Rattle.p3_merkle_core.specs.Refusals.{size_refusal, slot_of, slots_below, unless, width_refusal}
+use Rattle.p3_merkle_core.specs.Refusals.{size_refusal, slot_of, slots_below, width_refusal}
 use Rattle.p3_merkle_core.specs.declared.error.MerkleTreeError.{MerkleTreeError}
 use Rattle.p3_merkle_core.specs.declared.error.MerkleTreeError.TheVariants.{CapMismatch, IndexOutOfBounds}
 use Rattle.p3_merkle_core.specs.declared.error.MerkleTreeError.TheVariants.{MalformedPrunedProof, OutOfMemory}
 use Rattle.p3_merkle_core.specs.declared.error.PrunedProofError.TheVariants.{InconsistentDuplicateOpenings}
-use Rattle.p3_merkle_core.proofs.Pruned.NoneFacts.{none_unless, paired_none, unless_none, verdict_ok}
+use Rattle.p3_answers.proofs.AnswerFacts.{none_unless, paired_none, unless_none, verdict_ok}
 use Rattle.p3_merkle_core.proofs.Pruned.SlotFacts.{all_below}
 use Rattle.p3_merkle_core.proofs.Pruned.Unrefused.{size_none, unrefused as port_unrefused}
 use Rattle.p3_merkle_core.proofs.Shapes.GateFacts.{gate_lawful}

@@ -7,7 +7,7 @@ use Rattle.std.specs.Option.{option_or}
 use Rattle.p3_support.specs.Batches.{greatest}
 use Rattle.p3_merkle_core.specs.Geometry.{levels}
 use Rattle.p3_merkle_core.specs.Pruning.{PrunedOpening, boundary, pruned_of, restored_path}
-use Rattle.p3_merkle_core.specs.Refusals.{first_of, first_some, unless}
+use Rattle.p3_answers.specs.Answers.{first_of, first_some, unless}
 use Rattle.tlog.specs.Rfc9162.{Hash as HashFunction}
 use Rattle.tlog.specs.Verdicts.{IsIncluded, inclusion_refusal, is_same, size_limit}
 use Rattle.tlog_multiproof.specs.Instance.{leaf_row, log_params, log_shape, present}

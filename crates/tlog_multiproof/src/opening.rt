@@ -7,7 +7,7 @@ ghost use Rattle.p3_merkle_core.specs.Geometry.{levels};
 ghost use Rattle.p3_merkle_core.specs.Inner.Agreement.{IsAscending};
 ghost use Rattle.p3_merkle_core.specs.Pruning.{boundary};
 ghost use Rattle.p3_merkle_core.specs.Views.{pruned_made};
-ghost use Rattle.p3_support.specs.Answers.{AnswersUnless};
+ghost use Rattle.p3_answers.specs.Answers.{AnswersUnless};
 ghost use Rattle.p3_support.specs.Lists.{is_among};
 ghost use Rattle.p3_support.specs.Shown.{row_sets};
 ghost use Rattle.tlog.specs.Rfc9162.{Hash};
@@ -22,11 +22,11 @@ ghost use Rattle.tlog_multiproof.specs.declared.error.EntriesError.TheVariants.{
 
 use crate::error::EntriesError;
 use crate::tree::{Node, dimensions_of};
+use p3_merkle_core::covered_nodes::Covered;
 use p3_merkle_core::geometry::MAX_HEIGHT;
 use p3_merkle_core::pruning::{
     PrunedBatchOpening, PrunedProof, PrunedRows, check_indices, distinct_indices,
 };
-use p3_merkle_core::covered_nodes::Covered;
 use p3_merkle_core::schedule::schedule_of;
 use std::alloc::{AllocError, Global};
 

@@ -3,7 +3,7 @@ ghost use Rattle.std.specs.{Prelude.◌≡◌, Prelude.◌≤◌, Prelude.length
 ghost use Rattle.std.specs.Prelude.{None, Some};
 ghost use Rattle.std.specs.Result.{result_err};
 ghost use Rattle.sha2.specs.Sha256.{sha256};
-ghost use Rattle.p3_support.specs.Answers.{AnswersUnless};
+ghost use Rattle.p3_answers.specs.Answers.{AnswersUnless};
 ghost use Rattle.tlog.specs.Verdicts.{size_limit};
 ghost use Rattle.tlog_multiproof.specs.Entries.{AreIncluded, entries_refusal, indices_refusal};
 ghost use Rattle.tlog_multiproof.specs.Inner.Meanings.{IsMeaning};

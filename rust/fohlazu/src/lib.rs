@@ -25,7 +25,6 @@ mod erased {
     pub(crate) mod p3_hashes;
     pub(crate) mod p3_merkle_core;
     pub(crate) mod p3_merkle_hashing;
-    pub(crate) mod p3_merkle_mmcs;
     pub(crate) mod p3_merkle_prover;
     pub(crate) mod p3_merkle_tree;
     pub(crate) mod p3_merkle_verifier;

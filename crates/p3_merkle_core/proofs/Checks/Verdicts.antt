@@ -11,7 +11,8 @@ use Rattle.std.specs.Option.{unwrap_or, option_map, option_or}
 use Rattle.p3_merkle_core.proofs.Checks.CheckFacts.{accepted_walk, accepted_by_walk}
 use Rattle.p3_merkle_core.proofs.Covered.Equivalence.{query_covered, rows_under_is, equivalent}
 use Rattle.p3_merkle_core.proofs.Pruned.Answered.{restorable}
-use Rattle.p3_merkle_core.proofs.Pruned.NoneFacts.{none_parts, unless_none, none_unless, verdict_ok, rows_fit_from}
+use Rattle.p3_answers.proofs.AnswerFacts.{none_parts, unless_none, none_unless, verdict_ok}
+use Rattle.p3_merkle_core.proofs.Pruned.NoneFacts.{rows_fit_from}
 use Rattle.p3_merkle_core.proofs.Pruned.Unrefused.{unrefused, size_none, each_width}
 use Rattle.p3_merkle_core.proofs.Shapes.GateFacts.{gate_lawful}
 use Rattle.p3_merkle_core.proofs.Shapes.LeastFacts.{length-widths}
@@ -21,8 +22,9 @@ use Rattle.p3_merkle_core.specs.Nodes.{Functions}
 use Rattle.p3_merkle_core.specs.Openings.{Opening}
 use Rattle.p3_merkle_core.specs.Checks.{IsAccepted, siblings_below, path_digest, params}
 use Rattle.p3_merkle_core.specs.Pruning.{PrunedOpening, restored_node, IsCapped, IsPrunedAccepted, IsRestorable}
-use Rattle.p3_merkle_core.specs.Refusals.{unless, is_entry, row_width_refusal, refusal_under, answer_under}
-use Rattle.p3_merkle_core.specs.Refusals.{pruned_refusal, cap_refusal, pruned_answer_under, form_refusal, ok_unless}
+use Rattle.p3_merkle_core.specs.Refusals.{is_entry, row_width_refusal, refusal_under, answer_under}
+use Rattle.p3_answers.specs.Answers.{unless, ok_unless}
+use Rattle.p3_merkle_core.specs.Refusals.{pruned_refusal, cap_refusal, pruned_answer_under, form_refusal}
 use Rattle.p3_merkle_core.specs.declared.error.MerkleTreeError.TheVariants.{WrongHeight, IndexOutOfBounds, CapMismatch}
 
 -- ---- entries

@@ -15,9 +15,10 @@ use Rattle.p3_merkle_core.specs.Extraction.{first_pair}
 use Rattle.p3_merkle_core.specs.Geometry.{IsArity, Shape}
 use Rattle.p3_merkle_core.specs.Nodes.{Functions}
 use Rattle.p3_merkle_core.specs.Openings.{Opening}
-use Rattle.p3_merkle_core.specs.Refusals.{unless, IsEquality, first_of}
+use Rattle.p3_merkle_core.specs.Refusals.{IsEquality}
+use Rattle.p3_answers.specs.Answers.{unless, first_of}
 use Rattle.p3_merkle_core.specs.declared.collision.Place.TheVariants.{Leaf, Group, Rows, Pair}
-use Rattle.p3_merkle_core.proofs.Pruned.NoneFacts.{none_unless, map_none, none_map, range_none}
+use Rattle.p3_answers.proofs.AnswerFacts.{none_unless, map_none, none_map, range_none}
 use Rattle.p3_merkle_core.proofs.Collisions.Extraction.{collides, level_lengths}
 use Rattle.p3_merkle_core.proofs.Checks.InputFacts.{of_last_difference, shared_full, at_one_place}
 use Rattle.p3_merkle_core.proofs.Checks.Binding.{pieces_long}

@@ -12,7 +12,8 @@ use Rattle.p3_merkle_core.specs.Openings.{Opening}
 use Rattle.p3_merkle_core.specs.Checks.{AgreeWhereShared, Input, IsAccepted, Params, is_authenticated, shared_inputs}
 use Rattle.p3_merkle_core.specs.Pruning.{PrunedOpening, opening_at}
 use Rattle.p3_merkle_core.specs.Refusals.{AnswersUnlessMemory}
-use Rattle.p3_merkle_core.specs.Refusals.{IsEquality, ok_unless, pruned_refusal_under, refusal_under}
+use Rattle.p3_merkle_core.specs.Refusals.{IsEquality, pruned_refusal_under, refusal_under}
+use Rattle.p3_answers.specs.Answers.{ok_unless}
 use Rattle.p3_merkle_core.specs.Extraction.{RowsAgreeWhereAuthenticated, RowsConflictWhereAuthenticated, EachPair}
 use Rattle.p3_merkle_core.specs.Extraction.{IsExtraction, IsFirstCollision, difference_of, extraction, first_difference}
 use Rattle.p3_merkle_core.specs.Extraction.{first_pair}
@@ -25,7 +26,7 @@ use Rattle.p3_merkle_core.specs.declared.error.MerkleTreeError.{MerkleTreeError}
 use Rattle.p3_merkle_core.proofs.Checks.SameIndex.{authenticated_at_one_index, authenticated_bound}
 use Rattle.p3_merkle_core.proofs.Checks.Verdicts.{accepted_answer, accepted_from, pruned_accepted}
 use Rattle.p3_merkle_core.proofs.Collisions.Extracted.{difference_collides, no_difference, no_pair, one_pair}
-use Rattle.p3_merkle_core.proofs.Pruned.NoneFacts.{none_parts, verdict_ok}
+use Rattle.p3_answers.proofs.AnswerFacts.{none_parts, verdict_ok}
 use Rattle.p3_merkle_core.proofs.Shapes.CapFacts.{none_out}
 use Rattle.p3_merkle_core.proofs.Shapes.LeastFacts.{widths_in_pairs}
 

@@ -6,7 +6,8 @@ use Rattle.std.proofs.lemmas.Bool.{cases_lt, eqb-true, and_parts, and_from, fals
 use Rattle.std.proofs.lemmas.List.{get_or-map, length-map}
 use Rattle.std.specs.List.{range_with_len}
 use Rattle.p3_merkle_core.specs.Geometry.{Shape, ancestor, heights, layer_exponent}
-use Rattle.p3_merkle_core.specs.Refusals.{first_of, group_refusal, lead, matrices_at, row_refusal, slots_below}
+use Rattle.p3_merkle_core.specs.Refusals.{group_refusal, lead, matrices_at, row_refusal, slots_below}
+use Rattle.p3_answers.specs.Answers.{first_of}
 use Rattle.p3_merkle_core.specs.Refusals.{width_refusal, rows_of}
 use Rattle.p3_merkle_core.specs.Inner.Agreement.{distinct, slot_rows}
 use Rattle.p3_merkle_core.specs.Inner.Agreement.{first_query, layers_refusal, matrices_with, opened_of, rows_refusal}

@@ -7,8 +7,8 @@ use Rattle.std.proofs.lemmas.List.{length-map, get_or_default}
 use Rattle.std.specs.Prelude.{Ok, Decides}
 use Rattle.std.specs.Cmp.Lexicographic.{pointwise, pointwise_decides}
 use Rattle.p3_merkle_core.proofs.Pruned.SlotFacts.{queried_at}
-use Rattle.p3_merkle_core.proofs.Pruned.NoneFacts.{unless_none}
-use Rattle.p3_merkle_core.proofs.Pruned.NoneFacts.{verdict_ok, kept_none, range_none, paired_none, below_from, fit_from}
+use Rattle.p3_answers.proofs.AnswerFacts.{unless_none, verdict_ok, kept_none, range_none, paired_none}
+use Rattle.p3_merkle_core.proofs.Pruned.NoneFacts.{below_from, fit_from}
 use Rattle.p3_merkle_core.proofs.Shapes.LeastFacts.{widths_in_pairs}
 use Rattle.p3_merkle_core.proofs.Shapes.GateFacts.{gate_lawful}
 use Rattle.p3_support.specs.Lists.{is_among}
@@ -16,7 +16,8 @@ use Rattle.p3_support.specs.Batches.{greatest}
 use Rattle.p3_merkle_core.specs.Geometry.{Shape, exponent, layer_exponent, ancestor, heights, widths}
 use Rattle.p3_merkle_core.specs.Gate.{gate_refusal}
 use Rattle.p3_merkle_core.specs.Pruning.{PrunedOpening, boundary, IsRestorable}
-use Rattle.p3_merkle_core.specs.Refusals.{first_of, lead, matrices_at, slots_below, slot_of, queries_refusal}
+use Rattle.p3_merkle_core.specs.Refusals.{lead, matrices_at, slots_below, slot_of, queries_refusal}
+use Rattle.p3_answers.specs.Answers.{first_of}
 use Rattle.p3_merkle_core.specs.Refusals.{duplicate_refusal, width_refusal, row_refusal, group_refusal, pruned_refusal}
 use Rattle.p3_merkle_core.specs.Refusals.{pruned_answer, rows_of}
 use Rattle.p3_merkle_core.specs.declared.error.PrunedProofError.TheVariants.{InconsistentDuplicateOpenings}

@@ -16,7 +16,8 @@ use Rattle.p3_support.specs.Lists.{is_among}
 use Rattle.p3_support.specs.Batches.{greatest, heights_of}
 use Rattle.p3_support.specs.declared.matrix.Dimensions.{Dimensions}
 use Rattle.p3_merkle_core.specs.Geometry.{Shape, ancestor, exponent, heights, layer_exponent, IsArity}
-use Rattle.p3_merkle_core.specs.Refusals.{first_of}
+use Rattle.p3_answers.specs.Answers.{first_of}
+use Rattle.p3_answers.proofs.AnswerFacts.{kept_or}
 use Rattle.p3_merkle_core.specs.Inner.Agreement.{first_query, matrices_with}
 use Rattle.p3_merkle_core.specs.Inner.Agreement.{rows_refusal, slot_rows, nodes_refusal, IsAscending}
 use Rattle.p3_merkle_core.specs.declared.error.MerkleTreeError.{MerkleTreeError}
@@ -142,12 +143,6 @@ pub all_fit : (read firsts : List ℕ) (h : ℕ → Option MerkleTreeError) (n :
     first_of h (drop n read) ≡ first_of h read → first_of h firsts ≡ None
 all_fit read firsts h n all is so_far =
     ap (first_of h) (sym is) ∙ sym so_far ∙ ap (first_of h) (drop_all n read all)
-
-pub kept_or : {E : Type 0} (x y total : Option E) → option_or x y ≡ total → x ≡ None → y ≡ total
-kept_or x y total e n = rw n at e
-
-pub found_or : {E : Type 0} (x y total : Option E) (e : E) → option_or x y ≡ total → x ≡ Some e → total ≡ Some e
-found_or x y total e h s = sym (rw s at h)
 
 height_is : (dimensions : List Dimensions) (m e : ℕ) → m < length dimensions → e
     ≡ exponent (get_or dimensions m (record { width = 0; height = 0 })).height → e

@@ -22,7 +22,8 @@ use Rattle.p3_support.specs.Batches.{greatest}
 use Rattle.p3_merkle_core.specs.Geometry.{Shape, heights, layer_len, raw_len}
 use Rattle.p3_merkle_core.specs.Pruning.{PrunedOpening, is_covered}
 use Rattle.p3_merkle_core.specs.Inner.Covered.{covered_at}
-use Rattle.p3_merkle_core.specs.Refusals.{slots_below, slot_of, first_of, unless, rows_of}
+use Rattle.p3_merkle_core.specs.Refusals.{slots_below, slot_of, rows_of}
+use Rattle.p3_answers.specs.Answers.{first_of, unless}
 use Rattle.p3_merkle_core.specs.declared.error.PrunedProofError.TheVariants.{InconsistentDuplicateOpenings}
 use Rattle.p3_merkle_core.specs.declared.error.MerkleTreeError.{MerkleTreeError}
 use Rattle.p3_merkle_core.specs.declared.error.MerkleTreeError.TheVariants.{MalformedPrunedProof}

@@ -12,17 +12,18 @@ use Rattle.std.specs.Option.{unwrap_or, option_map}
 use Rattle.p3_support.specs.declared.matrix.Dimensions.{Dimensions}
 use Rattle.p3_support.specs.Lists.{is_among}
 use Rattle.p3_support.specs.Batches.{greatest, widths_of}
-use Rattle.p3_merkle_core.proofs.Pruned.NoneFacts.{none_of_both, none_unless}
+use Rattle.p3_answers.proofs.AnswerFacts.{none_of_both, none_unless}
 use Rattle.p3_merkle_core.proofs.Pruned.SlotFacts.{queried_at}
 use Rattle.p3_merkle_core.proofs.Shapes.GateFacts.{gate_lawful}
 use Rattle.p3_merkle_core.proofs.Shapes.LeastFacts.{widths_in_pairs, least_passes, least_bound}
 use Rattle.p3_merkle_core.proofs.Lists.ListFacts.{joined_more}
 use Rattle.p3_merkle_core.specs.Geometry.{Shape, exponent, layer_exponent, ancestor, least, layer_len, heights}
 use Rattle.p3_merkle_core.specs.Pruning.{PrunedOpening, is_boundary, boundary, boundary_at, IsRestorable}
-use Rattle.p3_merkle_core.specs.Refusals.{first_of, lead, matrices_at, slots_below, slot_of, size_refusal}
+use Rattle.p3_merkle_core.specs.Refusals.{lead, matrices_at, slots_below, slot_of, size_refusal}
+use Rattle.p3_answers.specs.Answers.{first_of, ok_unless}
 use Rattle.p3_merkle_core.specs.Refusals.{idle_refusal, queries_refusal, duplicate_refusal, digest_count_refusal}
 use Rattle.p3_merkle_core.specs.Refusals.{width_refusal, row_refusal, group_refusal, pruned_refusal, pruned_answer}
-use Rattle.p3_merkle_core.specs.Refusals.{row_width_refusal, width_fault, rows_of, ok_unless}
+use Rattle.p3_merkle_core.specs.Refusals.{row_width_refusal, width_fault, rows_of}
 use Rattle.p3_merkle_core.specs.declared.error.PrunedProofError.TheVariants.{SiblingCountMismatch}
 use Rattle.p3_merkle_core.specs.declared.error.PrunedProofError.TheVariants.{InconsistentDuplicateOpenings}
 use Rattle.p3_merkle_core.specs.declared.error.PrunedProofError.TheVariants.{InconsistentGroupOpening}

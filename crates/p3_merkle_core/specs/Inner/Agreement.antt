@@ -6,8 +6,9 @@ use Rattle.std.specs.Cmp.Lexicographic.{pointwise}
 use Rattle.p3_merkle_core.specs.Geometry.{Shape, ancestor, exponent, heights, layer_exponent}
 use Rattle.p3_merkle_core.specs.Gate.{gate_refusal}
 use Rattle.p3_merkle_core.specs.Pruning.{PrunedOpening, pruned_of}
-use Rattle.p3_merkle_core.specs.Refusals.{first_of, first_some, idle_refusal, queries_refusal, size_refusal}
-use Rattle.p3_merkle_core.specs.Refusals.{slots_below, slot_of, unless, width_refusal}
+use Rattle.p3_merkle_core.specs.Refusals.{idle_refusal, queries_refusal, size_refusal}
+use Rattle.p3_answers.specs.Answers.{first_of, first_some, unless}
+use Rattle.p3_merkle_core.specs.Refusals.{slots_below, slot_of, width_refusal}
 use Rattle.p3_merkle_core.specs.declared.error.MerkleTreeError.{MerkleTreeError}
 use Rattle.p3_merkle_core.specs.declared.error.MerkleTreeError.TheVariants.{MalformedPrunedProof}
 use Rattle.p3_merkle_core.specs.declared.error.PrunedProofError.TheVariants.{InconsistentGroupOpening}

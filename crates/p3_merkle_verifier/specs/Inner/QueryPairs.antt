@@ -8,7 +8,7 @@ use Rattle.p3_merkle_core.specs.Inner.Agreement.{IsAscending}
 use Rattle.p3_merkle_core.specs.Openings.{Opening, opening_of}
 use Rattle.p3_merkle_core.specs.Checks.{Input, Params}
 use Rattle.p3_merkle_core.specs.Pruning.{PrunedOpening, opening_at}
-use Rattle.p3_merkle_core.specs.Refusals.{first_of}
+use Rattle.p3_answers.specs.Answers.{first_of}
 use Rattle.p3_merkle_core.specs.declared.collision.InputPair.{InputPair}
 use Rattle.p3_support.specs.Shown.{row_sets}
 use Rattle.p3_merkle_verifier.specs.Inner.Checks.{AgreeBelow}

@@ -4,7 +4,7 @@ use Rattle.std.proofs.lemmas.List.{length-map}
 use Rattle.std.proofs.lemmas.Result.{err_from_is_err_and}
 use Rattle.sha2.specs.Sha256.{sha256}
 use Rattle.tlog.specs.Rfc9162.{leaf_hash}
-use Rattle.tlog_files.specs.Entries.{entries_in, first_of as first_entries, read_refusal}
+use Rattle.tlog_files.specs.Entries.{entries_in, first_entries, read_refusal}
 use Rattle.tlog_files.specs.Logs.{IsLogOf}
 use Rattle.fohlazu_commands.specs.Errors.{read_error}
 use Rattle.fohlazu_commands.proofs.OutcomeFacts.{file_known, read_err, read_ok}

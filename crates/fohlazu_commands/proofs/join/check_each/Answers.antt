@@ -2,8 +2,8 @@
 use Rattle.std.proofs.Common.{◌≡◌, ◌<◌, ◌+◌, ◌-◌, ap, arith, get_or, length, suc, sym, ℕ, Option}
 use Rattle.std.specs.List.{range_with_len}
 use Rattle.std.specs.Option.{option_or}
-use Rattle.p3_merkle_core.proofs.Pruned.LeadFacts.{found_or, kept_or}
-use Rattle.p3_merkle_core.specs.Refusals.{first_of, unless}
+use Rattle.p3_answers.proofs.AnswerFacts.{found_or, kept_or}
+use Rattle.p3_answers.specs.Answers.{first_of, unless}
 use Rattle.fohlazu_commands.specs.Outcomes.{part_refusal, sizes_refusal}
 use Rattle.fohlazu_commands.specs.declared.error.Error.TheVariants.{Refused}
 use Rattle.fohlazu_commands.specs.declared.error.Source.TheVariants.{Part}

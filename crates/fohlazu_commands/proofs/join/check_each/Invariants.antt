@@ -1,6 +1,6 @@
 use Rattle.std.proofs.Common.{◌≡◌, ◌-◌, length}
 use Rattle.std.specs.List.{range_with_len}
-use Rattle.p3_merkle_core.specs.Refusals.{first_of}
+use Rattle.p3_answers.specs.Answers.{first_of}
 use Rattle.fohlazu_commands.specs.Outcomes.{part_refusal, sizes_refusal}
 use Rattle.fohlazu_commands.proofs.join.check_each.Given as goal
 

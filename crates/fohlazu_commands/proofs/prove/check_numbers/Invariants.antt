@@ -1,5 +1,5 @@
 use Rattle.std.proofs.Common.{◌≡◌, drop}
-use Rattle.p3_merkle_core.specs.Refusals.{first_of}
+use Rattle.p3_answers.specs.Answers.{first_of}
 use Rattle.fohlazu_commands.specs.Outcomes.{number_refusal}
 use Rattle.fohlazu_commands.proofs.prove.check_numbers.Given as goal
 

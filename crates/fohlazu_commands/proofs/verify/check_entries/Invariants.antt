@@ -1,5 +1,5 @@
 use Rattle.std.proofs.Common.{◌≡◌, drop, map}
-use Rattle.p3_merkle_core.specs.Refusals.{first_of}
+use Rattle.p3_answers.specs.Answers.{first_of}
 use Rattle.tlog_text.specs.Texts.{entry_fields}
 use Rattle.fohlazu_commands.specs.Outcomes.{entry_refusal}
 use Rattle.fohlazu_commands.proofs.verify.check_entries.Given as goal

@@ -1,7 +1,8 @@
 use Rattle.std.proofs.Common.{◌≡◌, map, drop, zip}
 use Rattle.std.specs.List.{enumerate_from}
 use Rattle.p3_support.specs.Batches.{widths_of}
-use Rattle.p3_merkle_core.specs.Refusals.{first_of, row_width_refusal, width_fault}
+use Rattle.p3_merkle_core.specs.Refusals.{row_width_refusal, width_fault}
+use Rattle.p3_answers.specs.Answers.{first_of}
 use Rattle.p3_merkle_core.proofs.geometry.check_widths.Given as goal
 
 -- the rows so far have their widths, so the rest decides

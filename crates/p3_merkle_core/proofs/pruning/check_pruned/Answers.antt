@@ -7,12 +7,14 @@ use Rattle.std.specs.Prelude.{slice_index_or}
 use Rattle.p3_support.specs.Shown.{row_lists, row_sets}
 use Rattle.p3_support.specs.Batches.{greatest, heights_of}
 use Rattle.p3_merkle_core.specs.Geometry.{shape_of}
-use Rattle.p3_merkle_core.specs.Refusals.{first_of, width_refusal, pruned_refusal}
+use Rattle.p3_merkle_core.specs.Refusals.{width_refusal, pruned_refusal}
+use Rattle.p3_answers.specs.Answers.{first_of}
 use Rattle.p3_merkle_core.specs.Inner.Agreement.{distinct, first_query, late_refusal, layers_refusal, opened_with}
 use Rattle.p3_merkle_core.specs.declared.error.MerkleTreeError.{MerkleTreeError}
 use Rattle.p3_merkle_core.proofs.Lists.RisingFacts.{increasing_from}
 use Rattle.p3_merkle_core.proofs.Pruned.AgreeFacts.{firsts_inside}
-use Rattle.p3_merkle_core.proofs.Pruned.LeadFacts.{all_fit, firsts_next, found_or, kept_or}
+use Rattle.p3_answers.proofs.AnswerFacts.{found_or, kept_or}
+use Rattle.p3_merkle_core.proofs.Pruned.LeadFacts.{all_fit, firsts_next}
 use Rattle.p3_merkle_core.proofs.Pruned.SlotFacts.{all_below, distinct_bounded, distinct_rising, set_read}
 use Rattle.p3_merkle_core.proofs.Pruned.PrunedFacts.{asked_from, full_from, late_from, pruned_counted, pruned_late}
 use Rattle.p3_merkle_core.proofs.pruning.check_pruned.Given.{Over}

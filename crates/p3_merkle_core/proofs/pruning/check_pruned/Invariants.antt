@@ -1,6 +1,7 @@
 use Rattle.std.proofs.Common.{◌≡◌, ℕ, [], drop, get_or}
 use Rattle.p3_support.specs.Shown.{row_sets}
-use Rattle.p3_merkle_core.specs.Refusals.{first_of, width_refusal}
+use Rattle.p3_merkle_core.specs.Refusals.{width_refusal}
+use Rattle.p3_answers.specs.Answers.{first_of}
 use Rattle.p3_merkle_core.proofs.pruning.check_pruned.Given as goal
 
 -- the row sets so far have their widths, so the rest decides

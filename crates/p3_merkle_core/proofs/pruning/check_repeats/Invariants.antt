@@ -1,6 +1,7 @@
 use Rattle.std.proofs.Common.{◌≡◌, zip, drop}
 use Rattle.p3_merkle_core.specs.Inner.Agreement.{opened_of}
-use Rattle.p3_merkle_core.specs.Refusals.{first_of, duplicate_refusal}
+use Rattle.p3_merkle_core.specs.Refusals.{duplicate_refusal}
+use Rattle.p3_answers.specs.Answers.{first_of}
 use Rattle.p3_support.specs.Shown.{row_sets}
 use Rattle.p3_merkle_core.proofs.Pruned.SlotFacts.{repeat_fault}
 use Rattle.p3_merkle_core.proofs.pruning.check_repeats.Given as goal

@@ -7,9 +7,10 @@ use Rattle.std.proofs.lemmas.Result.{err_from_is_err_and}
 use Rattle.std.specs.List.{range_with_len}
 use Rattle.p3_support.specs.Shown.{row_sets}
 use Rattle.p3_merkle_core.specs.Inner.Agreement.{nodes_refusal}
-use Rattle.p3_merkle_core.specs.Refusals.{first_of}
+use Rattle.p3_answers.specs.Answers.{first_of}
 use Rattle.p3_merkle_core.proofs.Pruned.LeadFacts.{first_slot_agrees, first_slot_kept, first_slot_new, first_start}
-use Rattle.p3_merkle_core.proofs.Pruned.LeadFacts.{found_or, full_rows, kept_or, rows_read, slot_fault, slot_read}
+use Rattle.p3_answers.proofs.AnswerFacts.{found_or, kept_or}
+use Rattle.p3_merkle_core.proofs.Pruned.LeadFacts.{full_rows, rows_read, slot_fault, slot_read}
 use Rattle.p3_merkle_core.proofs.Pruned.LeadFacts.{slots_next, slots_start}
 use Rattle.p3_merkle_core.proofs.Pruned.SlotFacts.{divided}
 use Rattle.p3_merkle_core.proofs.pruning.check_rows_under_nodes.Goals.{then-indices-slot+in_ok-check_same_rows}

@@ -2,7 +2,7 @@ use Rattle.std.proofs.Common.{◌≡◌, ◌-◌, ◌/◌, ◌^◌, ◌<◌, len
 use Rattle.std.specs.List.{range_with_len}
 use Rattle.p3_support.specs.Shown.{row_sets}
 use Rattle.p3_merkle_core.specs.Inner.Agreement.{first_query, nodes_refusal}
-use Rattle.p3_merkle_core.specs.Refusals.{first_of}
+use Rattle.p3_answers.specs.Answers.{first_of}
 use Rattle.p3_merkle_core.proofs.Pruned.LeadFacts.{slot_fault}
 use Rattle.p3_merkle_core.proofs.pruning.check_rows_under_nodes.Given as goal
 

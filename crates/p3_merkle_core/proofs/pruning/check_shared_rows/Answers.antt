@@ -4,11 +4,12 @@ use Rattle.std.specs.List.{range_with_len}
 use Rattle.std.proofs.lemmas.Result.{err_from_is_err_and}
 use Rattle.p3_merkle_core.specs.Geometry.{ancestor, heights, layer_exponent, shape_of}
 use Rattle.p3_merkle_core.specs.Inner.Agreement.{layers_refusal}
-use Rattle.p3_merkle_core.specs.Refusals.{first_of}
+use Rattle.p3_answers.specs.Answers.{first_of}
 use Rattle.p3_support.specs.Batches.{greatest}
 use Rattle.p3_support.specs.Shown.{row_sets}
 use Rattle.p3_merkle_core.proofs.Lists.RisingFacts.{rising_from}
-use Rattle.p3_merkle_core.proofs.Pruned.LeadFacts.{found_or, kept_or, no_matrix, nodes_by_bits}
+use Rattle.p3_answers.proofs.AnswerFacts.{found_or, kept_or}
+use Rattle.p3_merkle_core.proofs.Pruned.LeadFacts.{no_matrix, nodes_by_bits}
 use Rattle.p3_merkle_core.proofs.Pruned.LeadFacts.{layer_fault, layer_read, leaves_agree, levels_next, matrices_full}
 use Rattle.p3_merkle_core.proofs.Pruned.SlotFacts.{ascending_from}
 use Rattle.p3_merkle_core.proofs.Shapes.LeastFacts.{exponent_le}

@@ -2,7 +2,7 @@ use Rattle.std.proofs.Common.{◌≡◌, ◌-◌, ◌+◌}
 use Rattle.std.specs.List.{range_with_len}
 use Rattle.p3_merkle_core.specs.Geometry.{shape_of, layer_exponent}
 use Rattle.p3_merkle_core.specs.Inner.Agreement.{layers_refusal}
-use Rattle.p3_merkle_core.specs.Refusals.{first_of}
+use Rattle.p3_answers.specs.Answers.{first_of}
 use Rattle.p3_support.specs.Shown.{row_sets}
 use Rattle.p3_merkle_core.proofs.Pruned.LeadFacts.{layer_fault}
 use Rattle.p3_merkle_core.proofs.pruning.check_shared_rows.Given as goal

@@ -1,7 +1,7 @@
 use Rattle.std.proofs.Common.{◌≡◌, zip}
 use Rattle.std.specs.Iterator.Adapters.{zip_first, zip_second}
 use Rattle.std.specs.Slice.Iter.{iter_rest}
-use Rattle.p3_merkle_core.specs.Refusals.{first_of}
+use Rattle.p3_answers.specs.Answers.{first_of}
 use Rattle.p3_support.specs.Shown.{row_sets}
 use Rattle.p3_merkle_tree.specs.SaltRefusals.{salt_refusal}
 use Rattle.p3_merkle_tree.proofs.join.salted_sets.Given as goal

@@ -6,7 +6,7 @@ use Rattle.p3_support.specs.Shown.{row_sets}
 use Rattle.p3_support.specs.declared.matrix.Dimensions.{Dimensions}
 use Rattle.p3_merkle_core.specs.Geometry.{shape_of}
 use Rattle.p3_merkle_core.specs.Pruning.{pruned_of}
-use Rattle.p3_merkle_core.proofs.Pruned.NoneFacts.{none_parts}
+use Rattle.p3_answers.proofs.AnswerFacts.{none_parts}
 use Rattle.p3_merkle_tree.specs.Schemes.{params_of}
 use Rattle.tlog_multiproof.specs.Entries.{digests_refusal, indices_refusal, proof_nodes}
 use Rattle.tlog_multiproof.specs.contracts.tree.NodePartialEq.TheImpl.{ghosts as node}

@@ -16,9 +16,11 @@
 
 pub(crate) mod cap;
 pub(crate) mod collision;
+pub(crate) mod covered_nodes;
 pub(crate) mod error;
+pub(crate) mod gate;
 pub(crate) mod geometry;
 pub(crate) mod group;
-pub(crate) mod levels;
+pub(crate) mod layer_shape;
 pub(crate) mod pruning;
-pub(crate) mod steps;
+pub(crate) mod schedule;

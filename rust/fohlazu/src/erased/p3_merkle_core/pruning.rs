@@ -10,9 +10,11 @@
 //! - The exponent of a height is its log2, rounded up. A matrix belongs to the layer of its exponent.
 //! - Rows agree if queries of one index have one row set, and queries under a node one row of each matrix of its layer.
 
+use crate::erased::p3_merkle_core::covered_nodes::Covered;
 use crate::erased::p3_merkle_core::error::{MerkleTreeError, PrunedProofError};
+use crate::erased::p3_merkle_core::gate::check_heights;
 use crate::erased::p3_merkle_core::geometry::{check_widths, exponent_of, parent_of};
-use crate::erased::p3_merkle_core::steps::{Covered, Steps, check_heights};
+use crate::erased::p3_merkle_core::schedule::Schedule;
 use crate::erased::p3_support::matrix::Dimensions;
 use crate::fallible::{AllocError, TryClone, VecExt, try_vec};
 use alloc::vec::Vec;
@@ -219,20 +221,20 @@ fn list_matrices(matrices: &mut Vec<usize>, dimensions: &[Dimensions], exponent:
 /// Checks that slots under one node have the same rows of the matrices of its layer, layer by layer up to layer
 /// `cap_layer`, else `InconsistentGroupOpening`. `rows` has the row set of each query, with a row for each matrix.
 fn check_shared_rows<T: Eq>(
-    steps: &Steps<'_>,
+    schedule: &Schedule<'_>,
     cap_layer: usize,
     queried: &DistinctQueries,
     rows: &[Vec<Vec<T>>],
 ) -> Result<(), MerkleTreeError> {
     let mut matrices = Vec::new();
-    let mut exponent = steps.exponent;
+    let mut exponent = schedule.exponent;
     // No two slots are under one leaf, so the first layer to look at is the one above the leaves.
     for level in 0..cap_layer {
-        let up = steps.step_up(steps.arity, level, exponent);
+        let up = schedule.step_up(schedule.arity, level, exponent);
         exponent = up.exponent;
         if up.has_rows {
-            list_matrices(&mut matrices, steps.dimensions, exponent)?;
-            let bits = steps.exponent - exponent;
+            list_matrices(&mut matrices, schedule.dimensions, exponent)?;
+            let bits = schedule.exponent - exponent;
             check_rows_under_nodes(&matrices, &queried.indices, bits, &queried.first_queries, rows)?;
         }
     }
@@ -261,34 +263,34 @@ fn check_shared_rows<T: Eq>(
 /// - `InconsistentGroupOpening`: layer by layer up to `cap_layer`, by ascending indices and in input order of the
 ///   layer's matrices, a row is not that of the lowest index under the same node.
 pub(crate) fn check_pruned<T: Eq>(
-    steps: &Steps<'_>,
+    schedule: &Schedule<'_>,
     cap_layer: usize,
     indices: &[usize],
     rows: &[Vec<Vec<T>>],
     num_digests: usize,
 ) -> Result<DistinctQueries, MerkleTreeError> {
-    check_queries(steps, indices, rows.len(), num_digests)?;
+    check_queries(schedule, indices, rows.len(), num_digests)?;
     let queried = distinct_queries_of(indices)?;
     check_repeats(indices, rows, &queried)?;
     let leaves = Vec::try_from_slice(&queried.indices)?;
-    let covered = Covered::new(steps, indices, leaves);
+    let covered = Covered::new(schedule, indices, leaves);
     check_digest_count(covered.boundary_len(cap_layer), num_digests)?;
     for query in &queried.first_queries {
-        check_widths(steps.dimensions, &rows[*query])?;
+        check_widths(schedule.dimensions, &rows[*query])?;
     }
-    check_shared_rows(steps, cap_layer, &queried, rows)?;
+    check_shared_rows(schedule, cap_layer, &queried, rows)?;
     Ok(queried)
 }
 
 /// Checks, in this order: the heights; that there is a row set for each index; that there is no digest where there is
 /// no index; and that each index is below the tallest height. It does not allocate.
 fn check_queries(
-    steps: &Steps<'_>,
+    schedule: &Schedule<'_>,
     indices: &[usize],
     num_row_sets: usize,
     num_digests: usize,
 ) -> Result<(), MerkleTreeError> {
-    check_heights(steps.dimensions)?;
+    check_heights(schedule.dimensions)?;
     let (expected, got) = (indices.len(), num_row_sets);
     if got != expected {
         return Err(MerkleTreeError::WrongBatchSize { expected, got });
@@ -296,7 +298,7 @@ fn check_queries(
     if indices.is_empty() {
         check_digest_count(0, num_digests)?;
     }
-    check_indices(steps.max_height, indices)
+    check_indices(schedule.max_height, indices)
 }
 
 /// Checks that a proof has `expected` digests, where it has `got`, else `SiblingCountMismatch`.

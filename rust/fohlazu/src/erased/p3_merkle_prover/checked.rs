@@ -4,8 +4,9 @@
 //! halved, and each time rounded up, some number of times.
 
 use crate::erased::p3_merkle_core::error::MerkleTreeError;
-use crate::erased::p3_merkle_core::steps::{OwnedSteps, check_heights};
-use crate::erased::p3_merkle_prover::layers::TreeBuilder;
+use crate::erased::p3_merkle_core::gate::check_heights;
+use crate::erased::p3_merkle_core::schedule::OwnedSchedule;
+use crate::erased::p3_merkle_prover::layers::MerkleTreeBuilder;
 use crate::erased::p3_merkle_prover::tree::{MerkleTree, Tree};
 use crate::erased::p3_support::compress::PseudoCompressionFunction;
 use crate::erased::p3_support::hasher::CryptographicHasher;
@@ -57,10 +58,15 @@ pub(crate) fn tree_over<
     leaves: CheckedMatrices<P::Value, M>,
 ) -> Result<MerkleTree<P::Value, PW::Value, M, N, D>, AllocError> {
     let CheckedMatrices { matrices, dimensions, .. } = leaves;
-    let kept = OwnedSteps::new(dimensions, N);
-    let steps = kept.steps();
-    let builder =
-        TreeBuilder::<P, PW, H, C, M, N, D> { hash, compress, matrices: &matrices, steps: &steps, item: PhantomData };
+    let kept = OwnedSchedule::new(dimensions, N);
+    let schedule = kept.schedule();
+    let builder = MerkleTreeBuilder::<P, PW, H, C, M, N, D> {
+        hash,
+        compress,
+        matrices: &matrices,
+        schedule: &schedule,
+        item: PhantomData,
+    };
     let layers = builder.layers()?;
-    Ok(Tree { matrices, steps: kept, layers, item: PhantomData })
+    Ok(Tree { matrices, schedule: kept, layers, item: PhantomData })
 }

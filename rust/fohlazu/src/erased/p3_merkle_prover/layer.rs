@@ -5,7 +5,7 @@
 //! Slots are filled from the first to the last. Packed calls fill the first ones, one node in each lane; calls that
 //! take many messages fill the others.
 
-use crate::erased::p3_merkle_core::levels::Level;
+use crate::erased::p3_merkle_core::layer_shape::LayerShape;
 use crate::erased::p3_merkle_hashing::batched::{LayerRows, compress_children, inject_row_digests};
 use crate::erased::p3_merkle_hashing::packed::{compress_children_packed, compress_pairs_packed, packed_block_count};
 use crate::erased::p3_support::compress::PseudoCompressionFunction;
@@ -18,7 +18,7 @@ use core::marker::PhantomData;
 
 /// Builds a layer above the layer below it, over the rows of its matrices, with a compression of `N` digests for nodes.
 /// `X` is the type of a digest, and `G` that of a group. [`LayerBuilder`] is this builder at digests of words.
-pub(crate) struct LayerOver<
+pub(crate) struct GenericLayerBuilder<
     'a,
     'b,
     P: PackedValue,
@@ -36,7 +36,7 @@ pub(crate) struct LayerOver<
     /// The compression of the children of a node.
     pub compress: &'a C,
     /// The step from the layer below, and the shape of the layer.
-    pub level: Level,
+    pub level: LayerShape,
     /// The digests of the layer below.
     pub below: &'b [X],
     /// Marks the type of a group.
@@ -54,7 +54,7 @@ pub(crate) type LayerBuilder<
     M: Matrix<P::Value>,
     const N: usize,
     const D: usize,
-> = LayerOver<'a, 'b, P, PW, H, C, M, [PW::Value; D], [[PW::Value; D]; N], N, D>;
+> = GenericLayerBuilder<'a, 'b, P, PW, H, C, M, [PW::Value; D], [[PW::Value; D]; N], N, D>;
 
 /// Scratch memory that all layers of a tree share. What it holds between two layers does not matter.
 pub(crate) struct Buffers<T, X, G> {

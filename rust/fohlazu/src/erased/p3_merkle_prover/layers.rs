@@ -6,8 +6,8 @@
 //! and its rows are read from those alone.
 
 use crate::erased::p3_merkle_core::geometry::padded_len;
-use crate::erased::p3_merkle_core::levels::Level;
-use crate::erased::p3_merkle_core::steps::Steps;
+use crate::erased::p3_merkle_core::layer_shape::LayerShape;
+use crate::erased::p3_merkle_core::schedule::Schedule;
 use crate::erased::p3_merkle_hashing::batched::LayerRows;
 use crate::erased::p3_merkle_prover::layer::{Buffers, LayerBuilder};
 use crate::erased::p3_support::compress::PseudoCompressionFunction;
@@ -21,9 +21,9 @@ use core::marker::PhantomData;
 /// Builds the layers of a tree, with a hasher for rows and a compression of `N` digests for nodes. `G` is the type of a
 /// group. [`TreeBuilder`] is this builder at digests of words.
 ///
-/// `N` is a power of two from 2 to 2^62, [`check_heights`](crate::erased::p3_merkle_core::steps::check_heights) accepts the heights,
+/// `N` is a power of two from 2 to 2^62, [`check_heights`](crate::erased::p3_merkle_core::gate::check_heights) accepts the heights,
 /// and both packings have equally many lanes.
-pub(crate) struct TreeOver<
+pub(crate) struct GenericTreeBuilder<
     'a,
     P: PackedValue,
     PW: PackedValue,
@@ -41,13 +41,13 @@ pub(crate) struct TreeOver<
     /// The matrices, in input order.
     pub matrices: &'a [M],
     /// The steps of the tree.
-    pub steps: &'a Steps<'a>,
+    pub schedule: &'a Schedule<'a>,
     /// Marks the packings of words and the type of a group.
     pub item: PhantomData<(P, PW, G)>,
 }
 
 /// The builder of layers whose digests have `D` words.
-pub(crate) type TreeBuilder<
+pub(crate) type MerkleTreeBuilder<
     'a,
     P: PackedValue,
     PW: PackedValue,
@@ -56,7 +56,7 @@ pub(crate) type TreeBuilder<
     M: Matrix<P::Value>,
     const N: usize,
     const D: usize,
-> = TreeOver<'a, P, PW, H, C, M, [[PW::Value; D]; N], N, D>;
+> = GenericTreeBuilder<'a, P, PW, H, C, M, [[PW::Value; D]; N], N, D>;
 
 /// Replaces the contents of `picked` by the matrices that have `height` rows, in input order.
 fn pick_matrices<'a, T, M: Matrix<T>>(
@@ -84,7 +84,7 @@ impl<
     M: Matrix<P::Value>,
     const N: usize,
     const D: usize,
-> TreeBuilder<'a, P, PW, H, C, M, N, D>
+> MerkleTreeBuilder<'a, P, PW, H, C, M, N, D>
 {
     /// The leaves: the digests of the rows of the tallest matrices, then default digests. `picked` and `buffers` are
     /// scratch memory that all layers share.
@@ -93,7 +93,7 @@ impl<
         picked: &mut Vec<&'a M>,
         buffers: &mut Buffers<P::Value, [PW::Value; D], [[PW::Value; D]; N]>,
     ) -> Result<Vec<[PW::Value; D]>, AllocError> {
-        let height = self.steps.max_height;
+        let height = self.schedule.max_height;
         pick_matrices(picked, self.matrices, height)?;
         let rows = LayerRows { hash: self.hash, matrices: picked.as_slice(), height, item: PhantomData };
         let mut leaves = default_digests::<PW, D>(padded_len(height, N))?;
@@ -106,7 +106,7 @@ impl<
         &self,
         picked: &mut Vec<&'a M>,
         buffers: &mut Buffers<P::Value, [PW::Value; D], [[PW::Value; D]; N]>,
-        level: Level,
+        level: LayerShape,
         below: &[[PW::Value; D]],
     ) -> Result<Vec<[PW::Value; D]>, AllocError> {
         pick_matrices(picked, self.matrices, level.height)?;
@@ -120,15 +120,15 @@ impl<
 
     /// All layers, from the leaves to the root.
     pub(crate) fn layers(&self) -> Result<Vec<Vec<[PW::Value; D]>>, AllocError> {
-        let mut exponent = self.steps.exponent;
-        let mut len = self.steps.max_height;
+        let mut exponent = self.schedule.exponent;
+        let mut len = self.schedule.max_height;
         let mut picked = Vec::new();
         let mut buffers = Buffers::new();
         let leaves = self.leaf_layer(&mut picked, &mut buffers)?;
-        let mut layers = Vec::with_room(self.steps.num_levels + 1)?;
+        let mut layers = Vec::with_room(self.schedule.num_levels + 1)?;
         layers.try_push(leaves)?;
-        for below in 0..self.steps.num_levels {
-            let level = self.steps.level_from(below, exponent, len);
+        for below in 0..self.schedule.num_levels {
+            let level = self.schedule.level_from(below, exponent, len);
             let nodes = layers[below].as_slice();
             let layer = self.next_layer(&mut picked, &mut buffers, level, nodes)?;
             layers.try_push(layer)?;

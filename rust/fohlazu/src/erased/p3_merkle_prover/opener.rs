@@ -6,7 +6,7 @@
 use crate::erased::p3_merkle_core::error::MerkleTreeError;
 use crate::erased::p3_merkle_core::geometry::{bits_reduced_of, parent_of, position_of};
 use crate::erased::p3_merkle_core::pruning::extend_except;
-use crate::erased::p3_merkle_core::steps::Steps;
+use crate::erased::p3_merkle_core::schedule::Schedule;
 use crate::erased::p3_merkle_prover::tree::{MerkleTree, Tree};
 use crate::erased::p3_support::matrix::Matrix;
 use crate::erased::p3_support::opening::MerkleCap;
@@ -14,13 +14,13 @@ use crate::fallible::{AllocError, VecExt};
 use alloc::vec::Vec;
 
 /// The steps of a tree, from the leaves to the root, which it stores.
-pub(crate) fn tree_steps<F, X, G, M: Matrix<F>, const N: usize>(tree: &Tree<F, X, G, M, N>) -> Steps<'_> {
-    tree.steps.steps()
+pub(crate) fn tree_schedule<F, X, G, M: Matrix<F>, const N: usize>(tree: &Tree<F, X, G, M, N>) -> Schedule<'_> {
+    tree.schedule.schedule()
 }
 
 /// The height of the tallest matrix of a tree, in rows. It is the number of leaves, without padding.
 pub(crate) fn max_height<F, X, G, M: Matrix<F>, const N: usize>(tree: &Tree<F, X, G, M, N>) -> usize {
-    tree.steps.max_height
+    tree.schedule.max_height
 }
 
 /// The cap that is layer `layer` of a tree, padding included. `layer` must be at most the number of levels.
@@ -78,14 +78,14 @@ pub(crate) fn matrix_refs<'a, F, X, G, M: Matrix<F>, const N: usize>(
 /// Only `OutOfMemory`.
 pub(crate) fn siblings_of_index<F, X: Copy, G, M: Matrix<F>, const N: usize>(
     tree: &Tree<F, X, G, M, N>,
-    steps: &Steps<'_>,
+    schedule: &Schedule<'_>,
     index: usize,
     layer: usize,
 ) -> Result<Vec<X>, MerkleTreeError> {
-    let mut siblings = Vec::with_room(steps.siblings_below(layer))?;
+    let mut siblings = Vec::with_room(schedule.siblings_below(layer))?;
     let mut node = index;
     for level in 0..layer {
-        let step = steps.step(level);
+        let step = schedule.step(level);
         let position = position_of(node, step);
         let first = node - position;
         let group = &tree.layers[level][first..first + step];

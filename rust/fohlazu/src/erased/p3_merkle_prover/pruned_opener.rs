@@ -4,11 +4,11 @@
 //! if it is one of these leaves or above one. The boundary is the children of covered nodes that are not covered
 //! themselves.
 
+use crate::erased::p3_merkle_core::covered_nodes::Covered;
 use crate::erased::p3_merkle_core::error::MerkleTreeError;
 use crate::erased::p3_merkle_core::geometry::position_of;
 use crate::erased::p3_merkle_core::pruning::{distinct_indices, extend_except};
-use crate::erased::p3_merkle_core::steps::Covered;
-use crate::erased::p3_merkle_prover::opener::{rows_of_index, tree_steps};
+use crate::erased::p3_merkle_prover::opener::{rows_of_index, tree_schedule};
 use crate::erased::p3_merkle_prover::tree::Tree;
 use crate::erased::p3_support::matrix::Matrix;
 use crate::fallible::VecExt;
@@ -43,12 +43,12 @@ pub(crate) fn boundary_digests<F, X: Copy, G, M: Matrix<F>, const N: usize>(
     indices: &[usize],
     cap_layer: usize,
 ) -> Result<Vec<X>, MerkleTreeError> {
-    let steps = tree_steps(tree);
-    let mut covered = Covered::new(&steps, indices, distinct_indices(indices)?);
+    let schedule = tree_schedule(tree);
+    let mut covered = Covered::new(&schedule, indices, distinct_indices(indices)?);
     let len = covered.try_clone()?.boundary_len(cap_layer);
     let mut digests = Vec::with_room(len)?;
     for level in 0..cap_layer {
-        let step = steps.step(level);
+        let step = schedule.step(level);
         extend_with_boundary(&mut digests, &tree.layers[level], &covered.nodes, step)?;
         covered.climb();
     }

@@ -3,7 +3,7 @@
 //! The tree over a batch of matrices.
 
 use crate::erased::p3_merkle_core::error::MerkleTreeError;
-use crate::erased::p3_merkle_core::steps::OwnedSteps;
+use crate::erased::p3_merkle_core::schedule::OwnedSchedule;
 use crate::erased::p3_merkle_prover::checked::{checked_matrices, tree_over};
 use crate::erased::p3_merkle_prover::opener::cap_at;
 use crate::erased::p3_support::compress::PseudoCompressionFunction;
@@ -23,7 +23,7 @@ use core::marker::PhantomData;
 #[derive(Debug)]
 pub struct Tree<F, X, G, M: Matrix<F>, const N: usize> {
     pub(crate) matrices: Vec<M>,
-    pub(crate) steps: OwnedSteps,
+    pub(crate) schedule: OwnedSchedule,
     pub(crate) layers: Vec<Vec<X>>,
     pub(crate) item: PhantomData<(F, G)>,
 }
@@ -124,7 +124,7 @@ impl<F: Copy, W: Copy, M: Matrix<F>, const N: usize, const D: usize> MerkleTree<
     {
         Ok(Tree {
             matrices: self.matrices.try_clone()?,
-            steps: self.steps.try_clone()?,
+            schedule: self.schedule.try_clone()?,
             layers: copies_of(&self.layers)?,
             item: PhantomData,
         })

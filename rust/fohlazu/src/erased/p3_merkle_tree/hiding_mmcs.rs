@@ -5,12 +5,12 @@
 
 use crate::erased::p3_merkle_core::cap::CapRule;
 use crate::erased::p3_merkle_core::error::MerkleTreeError;
+use crate::erased::p3_merkle_core::gate::check_heights;
 use crate::erased::p3_merkle_core::pruning::PrunedMerklePaths;
-use crate::erased::p3_merkle_core::steps::check_heights;
-use crate::erased::p3_merkle_mmcs::mmcs::{MerkleTreeMmcs, Scheme};
 use crate::erased::p3_merkle_prover::checked::CheckedMatrices;
 use crate::erased::p3_merkle_prover::tree::MerkleTree;
 use crate::erased::p3_merkle_tree::join::widened_dimensions;
+use crate::erased::p3_merkle_tree::mmcs::{MerkleTreeMmcs, Scheme};
 use crate::erased::p3_support::compress::PseudoCompressionFunction;
 use crate::erased::p3_support::hasher::CryptographicHasher;
 use crate::erased::p3_support::matrix::{Dimensions, Matrix, RowMajorMatrix, dimensions_of};

@@ -13,10 +13,15 @@
 //! what a message of the compiler says, stand beside them: `Tree`, `Scheme`, `HidingScheme`, `DigestRef`,
 //! `PrunedProof`, `PrunedRows`, `AuthPath` and `InputPair`.
 
+pub(crate) mod extract;
 pub(crate) mod hiding_mmcs;
+pub(crate) mod hiding_open;
+pub(crate) mod hiding_trait;
 pub(crate) mod join;
-pub(crate) mod open;
-pub(crate) mod scheme_trait;
+pub(crate) mod mmcs;
+pub(crate) mod mmcs_trait;
+pub(crate) mod pruned;
+pub(crate) mod schedule;
 
 pub use crate::erased::p3_merkle_core::cap::CapRule;
 pub use crate::erased::p3_merkle_core::collision::{Collision, InputPair, Place};
@@ -25,7 +30,7 @@ pub use crate::erased::p3_merkle_core::geometry::{ArityAndPositions, MAX_HEIGHT}
 pub use crate::erased::p3_merkle_core::pruning::{
     AuthPath, MerkleAuthPath, PrunedBatchOpening, PrunedMerklePaths, PrunedProof, PrunedRows, check_indices,
 };
-pub use crate::erased::p3_merkle_mmcs::mmcs::{MerkleTreeMmcs, Scheme};
 pub use crate::erased::p3_merkle_prover::tree::{MerkleTree, Tree};
 pub use crate::erased::p3_support::opening::{BatchOpening, BatchOpeningRef, DigestRef, Hash, MerkleCap};
 pub use hiding_mmcs::{HidingScheme, MerkleTreeHidingMmcs, SaltedMultiProof, SaltedProof, SaltedTree};
+pub use mmcs::{MerkleTreeMmcs, Scheme};

@@ -2,7 +2,7 @@
 
 //! What checks of openings compute with.
 
-use crate::erased::p3_merkle_core::steps::Steps;
+use crate::erased::p3_merkle_core::schedule::Schedule;
 use crate::erased::p3_support::compress::PseudoCompressionFunction;
 use crate::erased::p3_support::hasher::CryptographicHasher;
 use crate::erased::p3_support::packed::PackedValue;
@@ -25,7 +25,7 @@ pub(crate) struct Checker<
     /// The compression of the children of a node.
     pub compress: &'a C,
     /// The steps of the tree. Their arity is `N`.
-    pub steps: Steps<'a>,
+    pub schedule: Schedule<'a>,
     /// The cap's layer, at most the number of levels.
     pub cap_layer: usize,
     /// The packings of words, and the type of a group.

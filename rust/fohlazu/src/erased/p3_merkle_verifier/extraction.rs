@@ -9,10 +9,10 @@
 
 use crate::erased::p3_merkle_core::collision::{Collision, InputPair, Place};
 use crate::erased::p3_merkle_core::error::MerkleTreeError;
-use crate::erased::p3_merkle_core::steps::Steps;
+use crate::erased::p3_merkle_core::schedule::Schedule;
 use crate::erased::p3_merkle_verifier::checker::Checker;
 use crate::erased::p3_merkle_verifier::openings::{OpenedRows, OpeningRef};
-use crate::erased::p3_merkle_verifier::path::ComputedLevel;
+use crate::erased::p3_merkle_verifier::path::PathLevel;
 use crate::erased::p3_support::compress::PseudoCompressionFunction;
 use crate::erased::p3_support::hasher::CryptographicHasher;
 use crate::erased::p3_support::matrix::Dimensions;
@@ -77,15 +77,19 @@ fn differing_words<T: Copy + Eq, W, const D: usize>(
 
 /// The words that two checks hash at the leaf, if both openings are of one leaf and the words differ.
 fn leaf_difference<T: Copy + Eq, W: Copy + Eq, const D: usize>(
-    steps: &Steps<'_>,
+    schedule: &Schedule<'_>,
     first: OpeningRef<'_, T, [W; D]>,
     second: OpeningRef<'_, T, [W; D]>,
 ) -> Result<Option<InputPair<T, [W; D]>>, AllocError> {
     if first.index != second.index {
         return Ok(None);
     }
-    let rows =
-        RowPair { dimensions: steps.dimensions, exponent: steps.exponent, first: first.rows, second: second.rows };
+    let rows = RowPair {
+        dimensions: schedule.dimensions,
+        exponent: schedule.exponent,
+        first: first.rows,
+        second: second.rows,
+    };
     differing_words(Place::Leaf, &rows)
 }
 
@@ -95,8 +99,8 @@ fn leaf_difference<T: Copy + Eq, W: Copy + Eq, const D: usize>(
 /// openings at the layer above.
 fn difference_above_group<T: Copy + Eq, W: Copy + Eq, const N: usize, const D: usize>(
     rows: &RowPair<'_, T>,
-    first: &ComputedLevel<[W; D], [[W; D]; N]>,
-    second: &ComputedLevel<[W; D], [[W; D]; N]>,
+    first: &PathLevel<[W; D], [[W; D]; N]>,
+    second: &PathLevel<[W; D], [[W; D]; N]>,
 ) -> Result<Option<InputPair<T, [W; D]>>, AllocError> {
     let (Some(first_pair), Some(second_pair)) = (&first.pair, &second.pair) else {
         return Ok(None);
@@ -112,8 +116,8 @@ fn difference_above_group<T: Copy + Eq, W: Copy + Eq, const N: usize, const D: u
 /// and `second` are that level of each check; `rows` are the rows of both openings at the layer above it.
 fn level_difference<T: Copy + Eq, W: Copy + Eq, const N: usize, const D: usize>(
     rows: &RowPair<'_, T>,
-    first: &ComputedLevel<[W; D], [[W; D]; N]>,
-    second: &ComputedLevel<[W; D], [[W; D]; N]>,
+    first: &PathLevel<[W; D], [[W; D]; N]>,
+    second: &PathLevel<[W; D], [[W; D]; N]>,
 ) -> Result<Option<InputPair<T, [W; D]>>, AllocError> {
     if first.above.node != second.above.node {
         return Ok(None);
@@ -129,8 +133,8 @@ fn level_difference<T: Copy + Eq, W: Copy + Eq, const N: usize, const D: usize>(
 /// computed from the groups and these rows, so they are not compared.
 fn levels_agree<T: Eq, W: Copy + Eq, const N: usize, const D: usize>(
     rows: &RowPair<'_, T>,
-    first: &ComputedLevel<[W; D], [[W; D]; N]>,
-    second: &ComputedLevel<[W; D], [[W; D]; N]>,
+    first: &PathLevel<[W; D], [[W; D]; N]>,
+    second: &PathLevel<[W; D], [[W; D]; N]>,
 ) -> bool {
     if first.above.node != second.above.node {
         return true;
@@ -156,21 +160,21 @@ impl<
         second: OpeningRef<'_, P::Value, [PW::Value; D]>,
     ) -> bool {
         let leaves = RowPair {
-            dimensions: self.steps.dimensions,
-            exponent: self.steps.exponent,
+            dimensions: self.schedule.dimensions,
+            exponent: self.schedule.exponent,
             first: first.rows,
             second: second.rows,
         };
         if first.index == second.index && !leaves.agree() {
             return false;
         }
-        let mut first_progress = self.start(first);
-        let mut second_progress = self.start(second);
+        let mut first_state = self.start(first);
+        let mut second_state = self.start(second);
         for level in 0..self.cap_layer {
-            let mine = self.compute_level(level, first, &first_progress);
-            let theirs = self.compute_level(level, second, &second_progress);
+            let mine = self.compute_level(level, first, &first_state);
+            let theirs = self.compute_level(level, second, &second_state);
             let rows = RowPair {
-                dimensions: self.steps.dimensions,
+                dimensions: self.schedule.dimensions,
                 exponent: mine.above.exponent,
                 first: first.rows,
                 second: second.rows,
@@ -178,8 +182,8 @@ impl<
             if !levels_agree(&rows, &mine, &theirs) {
                 return false;
             }
-            first_progress = mine.above;
-            second_progress = theirs.above;
+            first_state = mine.above;
+            second_state = theirs.above;
         }
         true
     }
@@ -192,22 +196,22 @@ impl<
         first: OpeningRef<'_, P::Value, [PW::Value; D]>,
         second: OpeningRef<'_, P::Value, [PW::Value; D]>,
     ) -> Result<Option<Collision<P::Value, PW::Value, D>>, AllocError> {
-        let mut first_progress = self.start(first);
-        let mut second_progress = self.start(second);
-        let mut last = leaf_difference(&self.steps, first, second)?;
+        let mut first_state = self.start(first);
+        let mut second_state = self.start(second);
+        let mut last = leaf_difference(&self.schedule, first, second)?;
         for level in 0..self.cap_layer {
-            let mine = self.compute_level(level, first, &first_progress);
-            let theirs = self.compute_level(level, second, &second_progress);
+            let mine = self.compute_level(level, first, &first_state);
+            let theirs = self.compute_level(level, second, &second_state);
             let rows = RowPair {
-                dimensions: self.steps.dimensions,
+                dimensions: self.schedule.dimensions,
                 exponent: mine.above.exponent,
                 first: first.rows,
                 second: second.rows,
             };
             let found = level_difference(&rows, &mine, &theirs)?;
             last = found.or(last);
-            first_progress = mine.above;
-            second_progress = theirs.above;
+            first_state = mine.above;
+            second_state = theirs.above;
         }
         Ok(last)
     }

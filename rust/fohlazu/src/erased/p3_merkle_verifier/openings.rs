@@ -5,7 +5,7 @@
 
 use crate::erased::p3_merkle_core::geometry::exponent_of;
 use crate::erased::p3_merkle_core::pruning::DistinctQueries;
-use crate::erased::p3_merkle_core::steps::Steps;
+use crate::erased::p3_merkle_core::schedule::Schedule;
 use crate::erased::p3_support::matrix::{Dimensions, Matrix};
 use crate::erased::p3_support::opening::BatchOpeningRef;
 use alloc::vec::Vec;
@@ -121,9 +121,9 @@ impl<'a, T, X> Copy for PrunedOpeningRef<'a, T, X> {}
 
 /// A pruned opening from which the path of each query can be restored, with the steps of its tree. Its form is right,
 /// and its rows agree.
-pub(crate) struct RestorableOpening<'a, T, X> {
+pub(crate) struct CheckedPrunedOpening<'a, T, X> {
     /// The steps of the tree.
-    pub steps: &'a Steps<'a>,
+    pub schedule: &'a Schedule<'a>,
     /// The cap's layer.
     pub cap_layer: usize,
     /// The opening.

@@ -6,9 +6,10 @@
 //! above it has. A matrix belongs to the layer whose exponent is log2 of its height, rounded up.
 
 use crate::erased::p3_merkle_core::error::MerkleTreeError;
+use crate::erased::p3_merkle_core::gate::check_heights;
 use crate::erased::p3_merkle_core::geometry::{check_widths, parent_of, position_of};
 use crate::erased::p3_merkle_core::group::{group_with, pair_group};
-use crate::erased::p3_merkle_core::steps::{StepUp, Steps, check_heights};
+use crate::erased::p3_merkle_core::schedule::{LevelStep, Schedule};
 use crate::erased::p3_merkle_verifier::checker::Checker;
 use crate::erased::p3_merkle_verifier::openings::{OpenedRows, OpeningRef};
 use crate::erased::p3_support::compress::PseudoCompressionFunction;
@@ -17,7 +18,7 @@ use crate::erased::p3_support::packed::PackedValue;
 use alloc::vec::Vec;
 
 /// The node that the check of an opening has reached on the path from the leaf, with its digest.
-pub(crate) struct Progress<X> {
+pub(crate) struct PathState<X> {
     /// The exponent of the node's layer.
     pub exponent: usize,
     /// The node.
@@ -28,7 +29,7 @@ pub(crate) struct Progress<X> {
     pub digest: X,
 }
 
-impl<W: Copy, const D: usize> Progress<[W; D]> {
+impl<W: Copy, const D: usize> PathState<[W; D]> {
     /// The group that is compressed to this node's parent: the node's siblings with its own digest at its position,
     /// then default digests. `step` is how many children the parent has, and `siblings` are those of the whole path.
     fn group<const N: usize>(&self, default_digest: [W; D], step: usize, siblings: &[[W; D]]) -> [[W; D]; N] {
@@ -40,7 +41,7 @@ impl<W: Copy, const D: usize> Progress<[W; D]> {
 }
 
 /// One level of the check of an opening: what it compresses, and the node that it reaches.
-pub(crate) struct ComputedLevel<X, G> {
+pub(crate) struct PathLevel<X, G> {
     /// The level, counted from the leaves.
     pub level: usize,
     /// The siblings with the node's digest at its position, then default digests.
@@ -48,7 +49,7 @@ pub(crate) struct ComputedLevel<X, G> {
     /// The digests of the group and of the rows, if matrices belong to the layer above.
     pub pair: Option<G>,
     /// The node above the level.
-    pub above: Progress<X>,
+    pub above: PathState<X>,
 }
 
 /// Checks the form of an opening of the leaf `index`, before anything is hashed: one row for each matrix, of its width;
@@ -57,24 +58,24 @@ pub(crate) struct ComputedLevel<X, G> {
 ///
 /// The arity must be a power of two from 2 to 2^62, and `cap_layer` at most the number of levels.
 fn check_form<T>(
-    steps: &Steps<'_>,
+    schedule: &Schedule<'_>,
     cap_layer: usize,
     index: usize,
     rows: &[Vec<T>],
     num_siblings: usize,
 ) -> Result<(), MerkleTreeError> {
-    let dimensions = steps.dimensions;
+    let dimensions = schedule.dimensions;
     // The number of rows is checked ahead of the heights, and their widths after the siblings.
     if rows.len() != dimensions.len() {
         return Err(MerkleTreeError::WrongBatchSize { expected: dimensions.len(), got: rows.len() });
     }
-    check_heights(steps.dimensions)?;
-    let expected_proof_len = steps.siblings_below(cap_layer);
+    check_heights(schedule.dimensions)?;
+    let expected_proof_len = schedule.siblings_below(cap_layer);
     if num_siblings != expected_proof_len {
         return Err(MerkleTreeError::WrongHeight { expected_proof_len, num_siblings });
     }
     check_widths(dimensions, rows)?;
-    let max_height = steps.max_height;
+    let max_height = schedule.max_height;
     if index >= max_height {
         return Err(MerkleTreeError::IndexOutOfBounds { max_height, index });
     }
@@ -93,13 +94,13 @@ impl<
 {
     /// The digest of the rows of the matrices of one exponent, as one message. `rows` has a row of each matrix.
     fn row_digest(&self, rows: &[Vec<P::Value>], exponent: usize) -> [PW::Value; D] {
-        self.hash.hash_iter_slices(OpenedRows { dimensions: self.steps.dimensions, rows, exponent })
+        self.hash.hash_iter_slices(OpenedRows { dimensions: self.schedule.dimensions, rows, exponent })
     }
 
     /// The start of the check of an opening: the leaf, with the digest of its rows.
-    pub(crate) fn start(&self, opening: OpeningRef<'_, P::Value, [PW::Value; D]>) -> Progress<[PW::Value; D]> {
-        let exponent = self.steps.exponent;
-        Progress { exponent, node: opening.index, used: 0, digest: self.row_digest(opening.rows, exponent) }
+    pub(crate) fn start(&self, opening: OpeningRef<'_, P::Value, [PW::Value; D]>) -> PathState<[PW::Value; D]> {
+        let exponent = self.schedule.exponent;
+        PathState { exponent, node: opening.index, used: 0, digest: self.row_digest(opening.rows, exponent) }
     }
 
     /// Computes level `level` of the check of an opening, from the node that it has reached to its parent.
@@ -109,25 +110,25 @@ impl<
         &self,
         level: usize,
         opening: OpeningRef<'_, P::Value, [PW::Value; D]>,
-        progress: &Progress<[PW::Value; D]>,
-    ) -> ComputedLevel<[PW::Value; D], [[PW::Value; D]; N]> {
-        let StepUp { step, has_rows, exponent } = self.steps.step_up(N, level, progress.exponent);
+        state: &PathState<[PW::Value; D]>,
+    ) -> PathLevel<[PW::Value; D], [[PW::Value; D]; N]> {
+        let LevelStep { step, has_rows, exponent } = self.schedule.step_up(N, level, state.exponent);
         let siblings = opening.siblings;
         let default_digest = [PW::Value::default(); D];
-        let group = progress.group::<N>(default_digest, step, siblings);
-        let mut above = Progress {
+        let group = state.group::<N>(default_digest, step, siblings);
+        let mut above = PathState {
             exponent,
-            node: parent_of(progress.node, step),
-            used: progress.used + (step - 1),
+            node: parent_of(state.node, step),
+            used: state.used + (step - 1),
             digest: self.compress.compress(group),
         };
         if !has_rows {
-            return ComputedLevel { level, group, pair: None, above };
+            return PathLevel { level, group, pair: None, above };
         }
         let rows = self.row_digest(opening.rows, exponent);
         let pair = pair_group::<PW::Value, N, D>(default_digest, above.digest, rows);
         above.digest = self.compress.compress(pair);
-        ComputedLevel { level, group, pair: Some(pair), above }
+        PathLevel { level, group, pair: Some(pair), above }
     }
 
     /// Checks an opening against the roots of a cap: its form, and that its path leads to the root above the leaf.
@@ -148,12 +149,12 @@ impl<
         opening: OpeningRef<'_, P::Value, [PW::Value; D]>,
     ) -> Result<(), MerkleTreeError> {
         let (index, num_siblings) = (opening.index, opening.siblings.len());
-        check_form(&self.steps, self.cap_layer, index, opening.rows, num_siblings)?;
-        let mut progress = self.start(opening);
+        check_form(&self.schedule, self.cap_layer, index, opening.rows, num_siblings)?;
+        let mut state = self.start(opening);
         for level in 0..self.cap_layer {
-            progress = self.compute_level(level, opening, &progress).above;
+            state = self.compute_level(level, opening, &state).above;
         }
-        if is_entry(roots, progress.node, &progress.digest) { Ok(()) } else { Err(MerkleTreeError::CapMismatch) }
+        if is_entry(roots, state.node, &state.digest) { Ok(()) } else { Err(MerkleTreeError::CapMismatch) }
     }
 }
 

@@ -7,15 +7,16 @@
 //! one; a proof has the digests of the other children of covered nodes. A matrix belongs to the layer whose exponent is
 //! log2 of its height, rounded up. A restored path has the siblings of a query, computed or from the proof.
 
+use crate::erased::p3_merkle_core::covered_nodes::Covered;
 use crate::erased::p3_merkle_core::error::MerkleTreeError;
 use crate::erased::p3_merkle_core::geometry::exponent_of;
 use crate::erased::p3_merkle_core::pruning::{
     AuthPath, CoveredLayer, PrunedMerklePaths, check_pruned, children_of, siblings_on_path,
 };
-use crate::erased::p3_merkle_core::steps::{Covered, StepUp};
+use crate::erased::p3_merkle_core::schedule::LevelStep;
 use crate::erased::p3_merkle_hashing::batched::{LayerRows, compress_children, inject_row_digests};
 use crate::erased::p3_merkle_verifier::checker::Checker;
-use crate::erased::p3_merkle_verifier::openings::{OpenedMatrix, PrunedOpeningRef, RestorableOpening};
+use crate::erased::p3_merkle_verifier::openings::{CheckedPrunedOpening, OpenedMatrix, PrunedOpeningRef};
 use crate::erased::p3_merkle_verifier::path::is_entry;
 use crate::erased::p3_support::compress::PseudoCompressionFunction;
 use crate::erased::p3_support::hasher::CryptographicHasher;
@@ -39,13 +40,13 @@ impl<'a, T, W: Copy, const D: usize> PrunedOpeningRef<'a, T, [W; D]> {
 /// The layer above `below`, which must be layer `level` and below the cap's layer. `digests` has the digest of each
 /// covered node of `below`; the other children of the layer above have the next digests of the proof.
 fn layer_above<'a, T, X: Copy>(
-    restorable: &RestorableOpening<'_, T, X>,
+    restorable: &CheckedPrunedOpening<'_, T, X>,
     level: usize,
     below: &CoveredLayer<'a, X>,
     digests: &[X],
 ) -> Result<CoveredLayer<'a, X>, AllocError> {
     let mut covered = below.covered.try_clone()?;
-    let StepUp { step, has_rows, .. } = covered.climb();
+    let LevelStep { step, has_rows, .. } = covered.climb();
     let left = &restorable.opening.sent[below.covered.boundary_below..];
     let children = children_of(&below.covered.nodes, digests, &covered.nodes, step, left)?;
     Ok(CoveredLayer { covered, step, has_rows, children })
@@ -53,8 +54,8 @@ fn layer_above<'a, T, X: Copy>(
 
 /// For each covered node of the layer of this exponent, ascending, the position of a query under it: the first one of
 /// its lowest leaf.
-fn queries_at<T, X>(restorable: &RestorableOpening<'_, T, X>, exponent: usize) -> Result<Vec<usize>, AllocError> {
-    let bits = restorable.steps.exponent.saturating_sub(exponent);
+fn queries_at<T, X>(restorable: &CheckedPrunedOpening<'_, T, X>, exponent: usize) -> Result<Vec<usize>, AllocError> {
+    let bits = restorable.schedule.exponent.saturating_sub(exponent);
     let leaves = &restorable.leaves.indices;
     let mut queries = Vec::with_room(leaves.len())?;
     let mut previous = 0;
@@ -70,11 +71,11 @@ fn queries_at<T, X>(restorable: &RestorableOpening<'_, T, X>, exponent: usize) -
 
 /// The matrices of this exponent, in input order, each with the rows that `queries` opened of it.
 fn opened_matrices<'a, T, X>(
-    restorable: &'a RestorableOpening<'_, T, X>,
+    restorable: &'a CheckedPrunedOpening<'_, T, X>,
     exponent: usize,
     queries: &'a [usize],
 ) -> Result<Vec<OpenedMatrix<'a, T>>, AllocError> {
-    let dimensions = restorable.steps.dimensions;
+    let dimensions = restorable.schedule.dimensions;
     let mut matrices = Vec::new();
     for place in 0..dimensions.len() {
         if exponent_of(dimensions[place].height) == exponent {
@@ -92,7 +93,7 @@ fn opened_matrices<'a, T, X>(
 /// The path of each query of an opening, in query order, out of `layers`, its layers from the leaves to the cap's: the
 /// other children of the parent of each node on the path, ascending.
 pub(crate) fn paths_of<T, W: Copy, const D: usize>(
-    restorable: &RestorableOpening<'_, T, [W; D]>,
+    restorable: &CheckedPrunedOpening<'_, T, [W; D]>,
     layers: &[CoveredLayer<'_, [W; D]>],
 ) -> Result<Vec<AuthPath<[W; D]>>, AllocError> {
     let mut capacity = 0usize;
@@ -143,17 +144,17 @@ impl<
     pub(crate) fn check_restorable<'b>(
         &'b self,
         opening: PrunedOpeningRef<'b, P::Value, [PW::Value; D]>,
-    ) -> Result<(RestorableOpening<'b, P::Value, [PW::Value; D]>, CoveredLayer<'b, [PW::Value; D]>), MerkleTreeError>
+    ) -> Result<(CheckedPrunedOpening<'b, P::Value, [PW::Value; D]>, CoveredLayer<'b, [PW::Value; D]>), MerkleTreeError>
     {
-        let steps = &self.steps;
+        let schedule = &self.schedule;
         let cap_layer = self.cap_layer;
         let indices = opening.indices;
         let num_digests = opening.sent.len();
-        let leaves = check_pruned(steps, cap_layer, indices, opening.sets, num_digests)?;
+        let leaves = check_pruned(schedule, cap_layer, indices, opening.sets, num_digests)?;
         let nodes = Vec::try_from_slice(&leaves.indices)?;
-        let restorable = RestorableOpening { steps, cap_layer, opening, leaves };
+        let restorable = CheckedPrunedOpening { schedule, cap_layer, opening, leaves };
         let leaf_layer = CoveredLayer {
-            covered: Covered::new(steps, indices, nodes),
+            covered: Covered::new(schedule, indices, nodes),
             step: 0,
             has_rows: true,
             children: Vec::new(),
@@ -165,7 +166,7 @@ impl<
     /// it opened of the layer's matrices.
     fn row_digests(
         &self,
-        restorable: &RestorableOpening<'_, P::Value, [PW::Value; D]>,
+        restorable: &CheckedPrunedOpening<'_, P::Value, [PW::Value; D]>,
         exponent: usize,
     ) -> Result<Vec<[PW::Value; D]>, AllocError> {
         let queries = queries_at(restorable, exponent)?;
@@ -200,7 +201,7 @@ impl<
     /// compressed once more with the digest of their rows, which the queries under the node share.
     pub(crate) fn node_digests(
         &self,
-        restorable: &RestorableOpening<'_, P::Value, [PW::Value; D]>,
+        restorable: &CheckedPrunedOpening<'_, P::Value, [PW::Value; D]>,
         layer: usize,
         here: &CoveredLayer<'_, [PW::Value; D]>,
     ) -> Result<Vec<[PW::Value; D]>, AllocError> {
@@ -220,7 +221,7 @@ impl<
     /// Checks that the roots of a cap have the digest of each covered node of its layer, `here`, else `CapMismatch`.
     pub(crate) fn check_roots(
         &self,
-        restorable: &RestorableOpening<'_, P::Value, [PW::Value; D]>,
+        restorable: &CheckedPrunedOpening<'_, P::Value, [PW::Value; D]>,
         here: &CoveredLayer<'_, [PW::Value; D]>,
         roots: &[[PW::Value; D]],
     ) -> Result<(), MerkleTreeError> {
@@ -234,7 +235,7 @@ impl<
     /// The cap's layer of a pruned opening, computed up from its covered leaves. Only one layer's children are stored.
     fn top_layer<'b>(
         &self,
-        restorable: &RestorableOpening<'_, P::Value, [PW::Value; D]>,
+        restorable: &CheckedPrunedOpening<'_, P::Value, [PW::Value; D]>,
         leaves: CoveredLayer<'b, [PW::Value; D]>,
     ) -> Result<CoveredLayer<'b, [PW::Value; D]>, AllocError> {
         let mut layer = leaves;
@@ -251,7 +252,7 @@ impl<
     /// nodes' children: each is computed from the layer below, or is a digest of the proof.
     pub(crate) fn restored_layers<'b>(
         &self,
-        restorable: &RestorableOpening<'_, P::Value, [PW::Value; D]>,
+        restorable: &CheckedPrunedOpening<'_, P::Value, [PW::Value; D]>,
         leaves: CoveredLayer<'b, [PW::Value; D]>,
     ) -> Result<Vec<CoveredLayer<'b, [PW::Value; D]>>, AllocError> {
         let mut layers = Vec::with_room(restorable.cap_layer + 1)?;

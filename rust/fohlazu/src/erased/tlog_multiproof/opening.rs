@@ -2,11 +2,12 @@
 
 //! The digests of a proof of several entries, and the pruned opening of a log's tree that they give.
 
+use crate::erased::p3_merkle_core::covered_nodes::Covered;
 use crate::erased::p3_merkle_core::geometry::MAX_HEIGHT;
 use crate::erased::p3_merkle_core::pruning::{
     PrunedBatchOpening, PrunedProof, PrunedRows, check_indices, distinct_indices,
 };
-use crate::erased::p3_merkle_core::steps::{Covered, steps_of};
+use crate::erased::p3_merkle_core::schedule::schedule_of;
 use crate::erased::tlog_multiproof::error::EntriesError;
 use crate::erased::tlog_multiproof::tree::{Node, dimensions_of};
 use crate::fallible::{AllocError, VecExt, try_list};
@@ -48,10 +49,10 @@ fn is_node(size: usize, slot: (usize, usize)) -> bool {
 /// leaves, ascending, padding included.
 fn boundary_slots(size: usize, indices: &[usize]) -> Result<Vec<(usize, usize)>, AllocError> {
     let dimensions = dimensions_of(size);
-    let steps = steps_of(&dimensions, 2);
-    let mut covered = Covered::new(&steps, indices, distinct_indices(indices)?);
+    let schedule = schedule_of(&dimensions, 2);
+    let mut covered = Covered::new(&schedule, indices, distinct_indices(indices)?);
     let mut slots = Vec::new();
-    for layer in 0..steps.num_levels {
+    for layer in 0..schedule.num_levels {
         push_uncovered(&mut slots, layer, &covered.nodes)?;
         covered.climb();
     }

@@ -2,7 +2,7 @@
 
 //! The nodes of a log's tree, and its hash and compression (RFC 9162, 2.1.1).
 
-use crate::erased::p3_merkle_mmcs::mmcs::MerkleTreeMmcs;
+use crate::erased::p3_merkle_tree::mmcs::MerkleTreeMmcs;
 use crate::erased::p3_support::compress::PseudoCompressionFunction;
 use crate::erased::p3_support::hasher::CryptographicHasher;
 use crate::erased::p3_support::matrix::Dimensions;

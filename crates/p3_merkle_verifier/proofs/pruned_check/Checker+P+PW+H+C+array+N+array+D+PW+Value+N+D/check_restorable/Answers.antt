@@ -4,7 +4,7 @@ use Rattle.std.proofs.lemmas.List.{length-map, length-replicate}
 use Rattle.p3_support.specs.Shown.{row_lists, row_sets}
 use Rattle.p3_merkle_core.specs.Geometry.{heights}
 use Rattle.p3_merkle_core.specs.Inner.Agreement.{opened_with}
-use Rattle.p3_merkle_core.specs.Refusals.{ok_unless}
+use Rattle.p3_answers.specs.Answers.{ok_unless}
 use Rattle.p3_merkle_core.proofs.Pruned.Answered.{restorable}
 use Rattle.p3_merkle_core.proofs.Pruned.PrunedFacts.{asked_of}
 use Rattle.p3_merkle_core.proofs.Shapes.GateFacts.{none_large_from_lawful, tallest_fits}

@@ -1,15 +1,17 @@
-// Made from crates/p3_merkle_mmcs/src/schedule.rt by tools/erase.
+// Made from crates/p3_merkle_tree/src/schedule.rt by tools/erase.
 
 //! What dimensions alone say: the steps and positions on paths, level by level, the size of pruned proofs, and which
 //! matrices a cap authenticates; and the matrices of a tree. A level's step is how many children a node above it has.
 
+use crate::erased::p3_merkle_core::covered_nodes::Covered;
 use crate::erased::p3_merkle_core::error::MerkleTreeError;
+use crate::erased::p3_merkle_core::gate::check_heights;
 use crate::erased::p3_merkle_core::geometry::{ArityAndPositions, exponent_of};
 use crate::erased::p3_merkle_core::pruning::{check_indices, distinct_indices};
-use crate::erased::p3_merkle_core::steps::{Covered, check_heights, steps_of};
-use crate::erased::p3_merkle_mmcs::mmcs::Scheme;
+use crate::erased::p3_merkle_core::schedule::schedule_of;
 use crate::erased::p3_merkle_prover::opener::{matrix_refs, max_height};
 use crate::erased::p3_merkle_prover::tree::Tree;
+use crate::erased::p3_merkle_tree::mmcs::Scheme;
 use crate::erased::p3_support::compress::PseudoCompressionFunction;
 use crate::erased::p3_support::hasher::CryptographicHasher;
 use crate::erased::p3_support::matrix::{Dimensions, Matrix};
@@ -39,10 +41,10 @@ impl<
     /// - `IncompatibleHeights` for the first height that is not the tallest one halved and rounded up some number of
     ///   times.
     pub fn proof_arity_schedule(&self, dimensions: &[Dimensions]) -> Result<Vec<usize>, MerkleTreeError> {
-        let steps = steps_of(dimensions, N);
-        check_heights(steps.dimensions)?;
-        let cap_layer = steps.cap_layer(self.cap_rule, self.cap_height);
-        Ok(steps.schedule_below(cap_layer)?)
+        let schedule = schedule_of(dimensions, N);
+        check_heights(schedule.dimensions)?;
+        let cap_layer = schedule.cap_layer(self.cap_rule, self.cap_height);
+        Ok(schedule.schedule_below(cap_layer)?)
     }
 
     /// The path of the leaf `index` to the cap, for a proof of `num_siblings` digests: the steps of
@@ -62,20 +64,20 @@ impl<
         index: usize,
         num_siblings: usize,
     ) -> Result<ArityAndPositions, MerkleTreeError> {
-        let steps = steps_of(dimensions, N);
-        check_heights(steps.dimensions)?;
-        let max_height = steps.max_height;
+        let schedule = schedule_of(dimensions, N);
+        check_heights(schedule.dimensions)?;
+        let max_height = schedule.max_height;
         if index >= max_height {
             return Err(MerkleTreeError::IndexOutOfBounds { max_height, index });
         }
-        let cap_layer = steps.cap_layer(self.cap_rule, self.cap_height);
-        let expected_proof_len = steps.siblings_below(cap_layer);
+        let cap_layer = schedule.cap_layer(self.cap_rule, self.cap_height);
+        let expected_proof_len = schedule.siblings_below(cap_layer);
         if num_siblings != expected_proof_len {
             return Err(MerkleTreeError::WrongHeight { expected_proof_len, num_siblings });
         }
         Ok(ArityAndPositions {
-            arity_schedule: steps.schedule_below(cap_layer)?,
-            query_positions: steps.positions_below(cap_layer, index)?,
+            arity_schedule: schedule.schedule_below(cap_layer)?,
+            query_positions: schedule.positions_below(cap_layer, index)?,
         })
     }
 
@@ -93,12 +95,12 @@ impl<
     /// - `EmptyBatch`, `TooLarge` or `IncompatibleHeights`: [`commit`](Self::commit) refuses such heights;
     /// - `IndexOutOfBounds`, for the highest index: it is not below the tallest height.
     pub fn pruned_len(&self, dimensions: &[Dimensions], indices: &[usize]) -> Result<usize, MerkleTreeError> {
-        let steps = steps_of(dimensions, N);
-        check_heights(steps.dimensions)?;
-        check_indices(steps.max_height, indices)?;
-        let cap_layer = steps.cap_layer(self.cap_rule, self.cap_height);
+        let schedule = schedule_of(dimensions, N);
+        check_heights(schedule.dimensions)?;
+        check_indices(schedule.max_height, indices)?;
+        let cap_layer = schedule.cap_layer(self.cap_rule, self.cap_height);
         let leaves = distinct_indices(indices)?;
-        Ok(Covered::new(&steps, indices, leaves).boundary_len(cap_layer))
+        Ok(Covered::new(&schedule, indices, leaves).boundary_len(cap_layer))
     }
 
     /// Whether a cap over matrices of these dimensions authenticates the rows of one of them: its rows are hashed into
@@ -121,11 +123,11 @@ impl<
     /// - By `matrix_in` unless `matrix < dimensions.len()`.
     pub fn is_authenticated(&self, dimensions: &[Dimensions], matrix: usize) -> Result<bool, MerkleTreeError> {
         assert!(matrix < dimensions.len(), "matrix_in");
-        let steps = steps_of(dimensions, N);
-        check_heights(steps.dimensions)?;
-        let cap_layer = steps.cap_layer(self.cap_rule, self.cap_height);
+        let schedule = schedule_of(dimensions, N);
+        check_heights(schedule.dimensions)?;
+        let cap_layer = schedule.cap_layer(self.cap_rule, self.cap_height);
         let height = dimensions[matrix].height;
-        Ok(exponent_of(height) >= steps.layer_exponent(cap_layer))
+        Ok(exponent_of(height) >= schedule.layer_exponent(cap_layer))
     }
 
     /// The matrices of a tree, in input order.

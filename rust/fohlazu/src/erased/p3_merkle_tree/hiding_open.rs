@@ -154,7 +154,7 @@ impl<
     /// - `WrongWidth`, for the first row whose length is not the width of its matrix;
     /// - `WrongBatchSize`: the number of lists of salts is not that of the rows;
     /// - `TooLarge`, for the first matrix whose width with its salts does not fit `usize`;
-    /// - the error of the plain [`verify_batch`](crate::erased::p3_merkle_mmcs::mmcs::Scheme::verify_batch) for the joined rows, so
+    /// - the error of the plain [`verify_batch`](crate::erased::p3_merkle_tree::mmcs::Scheme::verify_batch) for the joined rows, so
     ///   that a wrong number of salts is a `WrongWidth` of the joined row.
     pub fn verify_batch(
         &self,
@@ -187,7 +187,7 @@ impl<
     ///   dimensions, `WrongWidth` for the first row whose length is not the width of its matrix, `WrongBatchSize` if
     ///   the number of lists of salts is not that of the rows;
     /// - `TooLarge`, for the first matrix whose width with its salts does not fit `usize`;
-    /// - the error of the plain [`verify_multi_batch`](crate::erased::p3_merkle_mmcs::mmcs::Scheme::verify_multi_batch) for the joined
+    /// - the error of the plain [`verify_multi_batch`](crate::erased::p3_merkle_tree::mmcs::Scheme::verify_multi_batch) for the joined
     ///   rows.
     pub fn verify_multi_batch(
         &self,
@@ -205,7 +205,7 @@ impl<
     /// Extracts a collision from two accepted openings of one cap: two different inputs of the hasher or of the
     /// compression with one digest, or `None` if the openings agree.
     ///
-    /// It is the plain scheme's [`extract_collision`](crate::erased::p3_merkle_mmcs::mmcs::Scheme::extract_collision) of the rows
+    /// It is the plain scheme's [`extract_collision`](crate::erased::p3_merkle_tree::mmcs::Scheme::extract_collision) of the rows
     /// followed by their salts. Both openings are verified as by [`verify_batch`](Self::verify_batch). Two openings of
     /// one index give a collision exactly if they differ in a sibling, or in a row or the salts of an authenticated
     /// matrix. Openings of any two indices give one if they conflict in a row of such a matrix. Under the rule
@@ -250,7 +250,7 @@ impl<
     /// The first opening is `indices1`, `rows1` and `proof1`, the second `indices2`, `rows2` and `proof2`: a row set
     /// for each index, and a proof with a salt set for each. Both are verified as by
     /// [`verify_multi_batch`](Self::verify_multi_batch). The call is the plain scheme's
-    /// [`extract_collision_multi`](crate::erased::p3_merkle_mmcs::mmcs::Scheme::extract_collision_multi) of the rows followed by their
+    /// [`extract_collision_multi`](crate::erased::p3_merkle_tree::mmcs::Scheme::extract_collision_multi) of the rows followed by their
     /// salts. It finds a collision wherever two queries conflict in a row of an authenticated matrix. Under the rule
     /// `Lowered` every matrix is authenticated.
     ///

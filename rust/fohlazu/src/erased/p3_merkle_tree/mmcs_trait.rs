@@ -1,11 +1,11 @@
-// Made from crates/p3_merkle_mmcs/src/scheme_trait.rt by tools/erase.
+// Made from crates/p3_merkle_tree/src/mmcs_trait.rt by tools/erase.
 
 //! The trait `Mmcs` for the scheme, so that callers can be generic in the scheme.
 
 use crate::erased::p3_merkle_core::error::MerkleTreeError;
 use crate::erased::p3_merkle_core::pruning::PrunedMerklePaths;
-use crate::erased::p3_merkle_mmcs::mmcs::MerkleTreeMmcs;
 use crate::erased::p3_merkle_prover::tree::MerkleTree;
+use crate::erased::p3_merkle_tree::mmcs::MerkleTreeMmcs;
 use crate::erased::p3_support::compress::PseudoCompressionFunction;
 use crate::erased::p3_support::hasher::CryptographicHasher;
 use crate::erased::p3_support::matrix::{Dimensions, Matrix};

@@ -1,4 +1,4 @@
-// Made from crates/p3_merkle_mmcs/src/pruned.rt by tools/erase.
+// Made from crates/p3_merkle_tree/src/pruned.rt by tools/erase.
 
 //! Pruned openings: the rows of several leaves by one proof. A query is one index of a list, and its row set has one
 //! row of each matrix. Its restored path is its siblings, each from the proof or computed.
@@ -7,10 +7,10 @@ use crate::erased::p3_merkle_core::error::MerkleTreeError;
 use crate::erased::p3_merkle_core::pruning::{
     MerkleAuthPath, PrunedBatchOpening, PrunedMerklePaths, PrunedProof, PrunedRows,
 };
-use crate::erased::p3_merkle_mmcs::mmcs::MerkleTreeMmcs;
-use crate::erased::p3_merkle_prover::opener::tree_steps;
+use crate::erased::p3_merkle_prover::opener::tree_schedule;
 use crate::erased::p3_merkle_prover::pruned_opener::{boundary_digests, rows_of_indices};
 use crate::erased::p3_merkle_prover::tree::MerkleTree;
+use crate::erased::p3_merkle_tree::mmcs::MerkleTreeMmcs;
 use crate::erased::p3_merkle_verifier::openings::PrunedOpeningRef;
 use crate::erased::p3_support::compress::PseudoCompressionFunction;
 use crate::erased::p3_support::hasher::CryptographicHasher;
@@ -49,7 +49,7 @@ impl<
         tree: &MerkleTree<P::Value, PW::Value, M, N, D>,
     ) -> Result<PrunedBatchOpening<P::Value, PW::Value, D>, MerkleTreeError> {
         assert!(indices.iter().all(|&index| index < self.get_max_height(tree)), "indices_in");
-        let cap_layer = tree_steps(tree).cap_layer(self.cap_rule, self.cap_height);
+        let cap_layer = tree_schedule(tree).cap_layer(self.cap_rule, self.cap_height);
         let opened_values = rows_of_indices(tree, indices)?;
         let sibling_hashes = boundary_digests(tree, indices, cap_layer)?;
         Ok(PrunedRows { opened_values, pruned_proof: PrunedProof { sibling_hashes } })

@@ -1,4 +1,4 @@
-// Made from crates/p3_merkle_mmcs/src/extract.rt by tools/erase.
+// Made from crates/p3_merkle_tree/src/extract.rt by tools/erase.
 
 //! Extraction of collisions from two openings of one cap, single or pruned. A check goes from the leaf up, level by
 //! level, and has an input of the hash or of the compression at each place. Openings conflict in a row if both have it
@@ -7,7 +7,7 @@
 use crate::erased::p3_merkle_core::collision::Collision;
 use crate::erased::p3_merkle_core::error::MerkleTreeError;
 use crate::erased::p3_merkle_core::pruning::PrunedMerklePaths;
-use crate::erased::p3_merkle_mmcs::mmcs::MerkleTreeMmcs;
+use crate::erased::p3_merkle_tree::mmcs::MerkleTreeMmcs;
 use crate::erased::p3_merkle_verifier::openings::{OpeningRef, PrunedOpeningRef};
 use crate::erased::p3_support::compress::PseudoCompressionFunction;
 use crate::erased::p3_support::hasher::CryptographicHasher;

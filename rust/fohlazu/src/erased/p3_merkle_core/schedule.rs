@@ -1,20 +1,16 @@
-// Made from crates/p3_merkle_core/src/steps.rt by tools/erase.
+// Made from crates/p3_merkle_core/src/schedule.rt by tools/erase.
 
-//! The steps of a tree, from the leaves to the root, and the covered nodes of its layers. The steps are computed once
-//! and stored; all other code reads them. Only the two clones and the two calls that return a list allocate.
+//! The schedule of a tree: the steps from the leaves to the root. It is computed once and stored; all other code reads
+//! it. Only the clone and the two calls that return a list allocate.
 //!
 //! - Layer 0 is the leaves; level `l` leads from layer `l` to layer `l + 1`. The step of a level is how many children
 //!   each node above it has: the arity, or 2 if a step of the arity would pass over a matrix's layer (a bridge step).
 //! - The exponent of a height is its log2, rounded up. That of layer 0 is the tallest height's, and each step takes its
 //!   own log2 from it, down to the root's 0. A matrix belongs to the layer of its exponent.
-//! - Heights are lawful if each is the tallest one halved, and each time rounded up, some number of times.
 
 use crate::erased::p3_merkle_core::cap::CapRule;
-use crate::erased::p3_merkle_core::error::MerkleTreeError;
-use crate::erased::p3_merkle_core::geometry::{
-    exponent_of, extremes_of, first_too_large_of, height_of_exponent, padded_len, parent_of,
-};
-use crate::erased::p3_merkle_core::levels::Level;
+use crate::erased::p3_merkle_core::geometry::{exponent_of, extremes_of, height_of_exponent, padded_len};
+use crate::erased::p3_merkle_core::layer_shape::LayerShape;
 use crate::erased::p3_support::matrix::Dimensions;
 use crate::fallible::{AllocError, TryClone, VecExt};
 use alloc::vec::Vec;
@@ -50,7 +46,7 @@ impl<'a> MatrixExponents<'a> {
 
 /// The step of a level, and whether matrices belong to the layer above it.
 #[derive(Debug, Clone, Copy)]
-struct LevelStep {
+struct LevelKind {
     /// Whether it is a bridge step of 2, and none of the whole arity.
     pub is_bridge: bool,
     /// Whether matrices belong to the layer above the level.
@@ -59,7 +55,7 @@ struct LevelStep {
 
 /// The step above a layer, with whether matrices belong to the layer that it leads to, and the exponents there. The
 /// layer is below the root, and has these `exponents`, of at most 64. The arity must be at least 2.
-fn next_step(matrices: &MatrixExponents<'_>, arity: usize, exponents: Exponents) -> (LevelStep, Exponents) {
+fn next_step(matrices: &MatrixExponents<'_>, arity: usize, exponents: Exponents) -> (LevelKind, Exponents) {
     let target = exponents.layer.saturating_sub(exponent_of(arity));
     // A matrix's exponent lies strictly between the layer's and what a step of the whole arity leaves of it.
     let is_bridge = exponents.lower_end.saturating_sub(target) > 1;
@@ -67,13 +63,13 @@ fn next_step(matrices: &MatrixExponents<'_>, arity: usize, exponents: Exponents)
     // No matrix's exponent lies between those of the two layers, so all lower ones are at most the upper layer's.
     let has_rows = exponents.lower_end > layer;
     let above = if has_rows { matrices.exponents_at(layer) } else { Exponents { layer, ..exponents } };
-    let level = LevelStep { is_bridge, has_rows };
+    let level = LevelKind { is_bridge, has_rows };
     (level, above)
 }
 
 /// A step from one layer to the next.
 #[derive(Clone, Copy)]
-pub(crate) struct StepUp {
+pub(crate) struct LevelStep {
     /// How many children a node of the next layer has.
     pub step: usize,
     /// Whether matrices belong to the next layer.
@@ -84,7 +80,7 @@ pub(crate) struct StepUp {
 
 /// The steps of the tree over matrices of some dimensions, from the leaves to the root.
 #[derive(Clone, Copy)]
-pub(crate) struct Steps<'a> {
+pub(crate) struct Schedule<'a> {
     /// The dimensions of all matrices.
     pub dimensions: &'a [Dimensions],
     /// How many children a node has at most.
@@ -97,12 +93,12 @@ pub(crate) struct Steps<'a> {
     pub exponent: usize,
     /// How many steps lead from the leaves to the root.
     pub num_levels: usize,
-    of_level: [LevelStep; MAX_LEVELS],
+    of_level: [LevelKind; MAX_LEVELS],
 }
 
 /// The steps of the tree over matrices of these dimensions, where a node has at most `arity` children. The heights need
 /// not be lawful. The arity must be at least 2. It reads each matrix twice: for its height, and for its exponent.
-pub(crate) fn steps_of(dimensions: &[Dimensions], arity: usize) -> Steps<'_> {
+pub(crate) fn schedule_of(dimensions: &[Dimensions], arity: usize) -> Schedule<'_> {
     let (max_height, min_height) = extremes_of(dimensions);
     let exponent = exponent_of(max_height);
     let mut bits = 0;
@@ -114,7 +110,7 @@ pub(crate) fn steps_of(dimensions: &[Dimensions], arity: usize) -> Steps<'_> {
     }
     let matrices = MatrixExponents { dimensions, bits };
     let mut exponents = matrices.exponents_at(exponent);
-    let none = LevelStep { is_bridge: false, has_rows: false };
+    let none = LevelKind { is_bridge: false, has_rows: false };
     let mut of_level = [none; MAX_LEVELS];
     let mut num_levels = 0;
     while exponents.lower_end > 0 {
@@ -125,51 +121,12 @@ pub(crate) fn steps_of(dimensions: &[Dimensions], arity: usize) -> Steps<'_> {
     }
     // No matrix belongs to a layer above: whole steps without rows lead to the root, and all of them are `none`.
     num_levels += exponents.layer.div_ceil(exponent_of(arity));
-    Steps { dimensions, arity, max_height, min_height, exponent, num_levels, of_level }
-}
-
-/// Checks that a tree can be built over matrices of these heights (`validate_commit_reachable_heights` in Plonky3).
-///
-/// # Errors
-///
-/// The first of these that applies:
-///
-/// - `EmptyBatch` if no matrix has a row;
-/// - `TooLarge` for the first height above `MAX_HEIGHT`;
-/// - `IncompatibleHeights` for the first height that is not the tallest one halved and rounded up some number of times.
-pub(crate) fn check_heights(dimensions: &[Dimensions]) -> Result<(), MerkleTreeError> {
-    let (max_height, _) = extremes_of(dimensions);
-    if max_height == 0 {
-        return Err(MerkleTreeError::EmptyBatch);
-    }
-    if let Some(matrix) = first_too_large_of(dimensions, max_height) {
-        let size = dimensions[matrix].height;
-        return Err(MerkleTreeError::TooLarge { matrix, size });
-    }
-    // A height that equals the last lawful one is not checked again: short matrices often have one height.
-    let mut lawful_height = max_height;
-    for matrix in dimensions {
-        let height = matrix.height;
-        if height != lawful_height {
-            let exponent = exponent_of(height);
-            let expected_height = height_of_exponent(max_height, exponent);
-            if height != expected_height {
-                return Err(MerkleTreeError::IncompatibleHeights {
-                    height,
-                    max_height,
-                    expected_height,
-                    bits_reduced: exponent_of(max_height).saturating_sub(exponent),
-                });
-            }
-            lawful_height = height;
-        }
-    }
-    Ok(())
+    Schedule { dimensions, arity, max_height, min_height, exponent, num_levels, of_level }
 }
 
 /// The steps of a tree, with its own copy of the dimensions. A tree stores them for its openings.
 #[derive(Debug)]
-pub(crate) struct OwnedSteps {
+pub(crate) struct OwnedSchedule {
     /// The dimensions of all matrices.
     pub dimensions: Vec<Dimensions>,
     /// How many children a node has at most.
@@ -179,27 +136,27 @@ pub(crate) struct OwnedSteps {
     min_height: usize,
     exponent: usize,
     num_levels: usize,
-    of_level: [LevelStep; MAX_LEVELS],
+    of_level: [LevelKind; MAX_LEVELS],
 }
 
-impl OwnedSteps {
-    /// Computes the steps of the tree over matrices of these dimensions by [`steps_of`]. The arity must be at least 2.
-    pub(crate) fn new(dimensions: Vec<Dimensions>, arity: usize) -> OwnedSteps {
-        let steps = steps_of(&dimensions, arity);
-        OwnedSteps {
+impl OwnedSchedule {
+    /// Computes the steps of the tree over matrices of these dimensions by [`schedule_of`]. The arity must be at least 2.
+    pub(crate) fn new(dimensions: Vec<Dimensions>, arity: usize) -> OwnedSchedule {
+        let schedule = schedule_of(&dimensions, arity);
+        OwnedSchedule {
             arity,
-            max_height: steps.max_height,
-            min_height: steps.min_height,
-            exponent: steps.exponent,
-            num_levels: steps.num_levels,
-            of_level: steps.of_level,
+            max_height: schedule.max_height,
+            min_height: schedule.min_height,
+            exponent: schedule.exponent,
+            num_levels: schedule.num_levels,
+            of_level: schedule.of_level,
             dimensions,
         }
     }
 
     /// The steps, with the dimensions borrowed.
-    pub(crate) fn steps(&self) -> Steps<'_> {
-        Steps {
+    pub(crate) fn schedule(&self) -> Schedule<'_> {
+        Schedule {
             dimensions: &self.dimensions,
             arity: self.arity,
             max_height: self.max_height,
@@ -215,12 +172,12 @@ impl OwnedSteps {
     /// # Errors
     ///
     /// `AllocError` if memory runs out.
-    pub(crate) fn try_clone(&self) -> Result<OwnedSteps, AllocError> {
-        Ok(OwnedSteps::new(self.dimensions.try_clone()?, self.arity))
+    pub(crate) fn try_clone(&self) -> Result<OwnedSchedule, AllocError> {
+        Ok(OwnedSchedule::new(self.dimensions.try_clone()?, self.arity))
     }
 }
 
-impl<'a> Steps<'a> {
+impl<'a> Schedule<'a> {
     /// The layer, counted from the leaves, that is the cap of this height by this rule (see [`CapRule`]). `cap_height`
     /// counts levels below the root. The arity must be a power of two from 2 to 2^62. It does not allocate.
     pub(crate) fn cap_layer(&self, rule: CapRule, cap_height: usize) -> usize {
@@ -240,15 +197,15 @@ impl<'a> Steps<'a> {
     /// The step of a level, the exponent of the layer above it, and whether matrices belong to that layer. The level
     /// must be below the root. `exponent` must be that of the layer below: a caller that goes up level by level has it.
     /// `arity` must be that of the steps: a caller that has it as a constant divides by a constant.
-    pub(crate) fn step_up(&self, arity: usize, level: usize, exponent: usize) -> StepUp {
+    pub(crate) fn step_up(&self, arity: usize, level: usize, exponent: usize) -> LevelStep {
         let kept = self.of_level[level];
         let step = if kept.is_bridge { 2 } else { arity };
-        StepUp { step, has_rows: kept.has_rows, exponent: exponent.saturating_sub(exponent_of(step)) }
+        LevelStep { step, has_rows: kept.has_rows, exponent: exponent.saturating_sub(exponent_of(step)) }
     }
 
     /// The shape of the layer above the layer `below`, which must be below the root, and have `len` nodes and this
     /// exponent. The arity must be a power of two from 2 to 2^62, and [`check_heights`] must accept the heights.
-    pub(crate) fn level_from(&self, below: usize, exponent: usize, len: usize) -> Level {
+    pub(crate) fn level_from(&self, below: usize, exponent: usize, len: usize) -> LayerShape {
         let arity = self.arity;
         let up = self.step_up(arity, below, exponent);
         // Where a bridge step halves a layer that is shorter than the arity, the 2^exponent slots that its nodes can
@@ -256,7 +213,7 @@ impl<'a> Steps<'a> {
         let grouped_len =
             if self.of_level[below].is_bridge && len < arity { 1 << exponent } else { padded_len(len, arity) };
         let raw_len = grouped_len / up.step;
-        Level {
+        LayerShape {
             below,
             step: up.step,
             exponent: up.exponent,
@@ -322,90 +279,4 @@ impl<'a> Steps<'a> {
         }
         Ok(positions)
     }
-}
-
-/// The covered nodes of one layer of a tree: the queried leaves, or the nodes above them. The boundary is the children
-/// of covered nodes that are not covered themselves.
-pub(crate) struct Covered<'a> {
-    /// The steps of the tree.
-    pub steps: &'a Steps<'a>,
-    /// The queried indices.
-    pub indices: &'a [usize],
-    /// The layer, counted from the leaves.
-    pub layer: usize,
-    /// The layer's exponent.
-    pub exponent: usize,
-    /// The covered nodes, ascending.
-    pub nodes: Vec<usize>,
-    /// How many digests of a pruned proof belong to the levels below the layer: one for each node of the boundary
-    /// there.
-    pub boundary_below: usize,
-}
-
-impl<'a> Covered<'a> {
-    /// The covered leaves: `nodes` must be the distinct `indices`, ascending. The indices must be below the tallest
-    /// height, the arity a power of two from 2 to 2^62, and no height above `MAX_HEIGHT`.
-    pub(crate) fn new(steps: &'a Steps<'a>, indices: &'a [usize], nodes: Vec<usize>) -> Covered<'a> {
-        Covered { steps, indices, layer: 0, exponent: steps.exponent, nodes, boundary_below: 0 }
-    }
-
-    /// The same nodes, in a list of their own.
-    ///
-    /// # Errors
-    ///
-    /// `AllocError` if memory runs out.
-    pub(crate) fn try_clone(&self) -> Result<Covered<'a>, AllocError> {
-        Ok(Covered {
-            steps: self.steps,
-            indices: self.indices,
-            layer: self.layer,
-            exponent: self.exponent,
-            nodes: Vec::try_from_slice(&self.nodes)?,
-            boundary_below: self.boundary_below,
-        })
-    }
-
-    /// Climbs to the layer above, in place: replaces the covered nodes by their parents, and returns the step that led
-    /// to them. This layer must be below the root.
-    // Inlined: the count of a proof's digests is a loop of this alone.
-    #[inline(always)]
-    pub(crate) fn climb(&mut self) -> StepUp {
-        let steps = self.steps;
-        let up = steps.step_up(steps.arity, self.layer, self.exponent);
-        let below = self.nodes.len();
-        replace_by_parents(&mut self.nodes, up.step);
-        self.layer += 1;
-        self.exponent = up.exponent;
-        self.boundary_below += up.step * self.nodes.len() - below;
-        up
-    }
-
-    /// How many digests a pruned proof of the indices has, where the cap is layer `layer`: on each level below it, one
-    /// for each child of a covered node that is not covered itself. `layer` must be at most the number of levels, and
-    /// not below the layer of these nodes. It does not allocate, and takes one step for each node and level.
-    pub(crate) fn boundary_len(mut self, layer: usize) -> usize {
-        for _ in self.layer..layer {
-            self.climb();
-        }
-        self.boundary_below
-    }
-}
-
-/// Replaces ascending nodes of a layer by their parents, each once, ascending. A parent has `step` children.
-fn replace_by_parents(covered: &mut Vec<usize>, step: usize) {
-    if covered.is_empty() {
-        return;
-    }
-    let nodes = covered.as_mut_slice();
-    let mut last = parent_of(nodes[0], step);
-    nodes[0] = last;
-    let mut kept = 0;
-    for place in 1..nodes.len() {
-        let node = parent_of(nodes[place], step);
-        // Added without a branch: where a new parent begins can't be predicted.
-        kept += usize::from(node != last);
-        nodes[kept] = node;
-        last = node;
-    }
-    covered.truncate(kept + 1);
 }
