@@ -516,7 +516,7 @@ class Library:
 
 MOST_BLOCK_BYTES = 1 << 30
 # The most entries that a command may ask for.
-MOST_NUMBERS = 10**8
+MAX_ENTRIES_PER_PROOF = 10**8
 
 
 def number(word: str) -> int:
@@ -550,7 +550,7 @@ def parse_numbers(words: list[str], parser: argparse.ArgumentParser) -> list[int
     for word in ",".join(words).split(",") if words else []:
         ends = re.fullmatch("0*([0-9]{1,19})(?:-0*([0-9]{1,19}))?", word)
         first, last = (int(ends[1]), int(ends[2] or ends[1])) if ends else (0, 0)
-        is_range = 1 <= first <= last <= MOST_ENTRIES and len(numbers) + last - first < MOST_NUMBERS
+        is_range = 1 <= first <= last <= MOST_ENTRIES and len(numbers) + last - first < MAX_ENTRIES_PER_PROOF
         if not is_range:
             parser.error(f"{word}: no number of an entry, as 3, 3-7 or 3,7")
         numbers.extend(range(first, last + 1))

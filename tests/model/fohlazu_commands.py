@@ -11,8 +11,8 @@ from log_texts import PART, checkpoint_text, consistency_text, entries_text
 
 MOST_BYTES = 1 << 30
 # How many entries may be requested, and what is said of more.
-MOST_NUMBERS = 10**8
-TOO_MANY = f"more than {MOST_NUMBERS} entries at once"
+MAX_ENTRIES_PER_PROOF = 10**8
+TOO_MANY = f"more than {MAX_ENTRIES_PER_PROOF} entries at once"
 # The words of each command, of options that exclude each other one.
 COMMANDS = {
     "seal": "--blocks=SIZE|--whole-lines|--partial --origin=ORIGIN|--part FILE",
@@ -90,7 +90,7 @@ def ranges(words):
     for part in ",".join(words).split(",") if words not in ([], ["all"]) else []:
         first, *last = map(number(1, logs.MOST), part.split("-", 1))
         found.append(range(first, max(last, default=first) + 1))
-    if not all(found) or sum(map(len, found)) > MOST_NUMBERS:
+    if not all(found) or sum(map(len, found)) > MAX_ENTRIES_PER_PROOF:
         raise ValueError(words)
     return found
 
@@ -198,7 +198,7 @@ def seal(told, inputs):
 
 def prove(told, inputs):
     _, size, root = inputs.read(2, told.CHECKPOINT, inputs.bytes(told.CHECKPOINT), log_texts.checkpoint)
-    refuse_if(not told.ranges and size > MOST_NUMBERS, told.CHECKPOINT, TOO_MANY)
+    refuse_if(not told.ranges and size > MAX_ENTRIES_PER_PROOF, told.CHECKPOINT, TOO_MANY)
     names = [*(told.ranges or [range(1, max(size, 1) + 1)])]
     for each in names:
         past = max(each.start, size + 1)

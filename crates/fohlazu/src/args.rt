@@ -1,14 +1,14 @@
 //! The arguments of the program.
 
 ghost use Rattle.std.specs.Prelude.{IfOk, ◌≤◌};
-ghost use Rattle.fohlazu_commands.specs.Commands.{IsLawful};
+ghost use Rattle.fohlazu_commands.specs.Commands.{IsWellFormed};
 
-use crate::input::{Input, Notes};
+use crate::input::{Input, RunState};
 use crate::many::{MANY, Many, Range, count_of, numbers_in};
 use crate::output::is_same_file;
 use clap::{Arg, ArgMatches, Command as Syntax, arg, value_parser};
-use fohlazu_commands::prove::MOST_NUMBERS;
-use fohlazu_commands::{Command, Cut, PART_ORIGIN, PartialLine, Print, Requested, Source};
+use fohlazu_commands::prove::MAX_ENTRIES_PER_PROOF;
+use fohlazu_commands::{Command, Framing, PART_ORIGIN, PartialLine, Print, Requested, Source};
 use std::alloc::{AllocError, Global};
 use std::fmt;
 use std::fmt::{Display, Formatter, Write};
@@ -104,7 +104,7 @@ fn is_escaped(c: char) -> bool {
 pub(crate) struct Args<'a> {
     pub(crate) rt: &'a HostRuntime,
     found: ArgMatches<'a>,
-    pub(crate) notes: &'a Notes,
+    pub(crate) state: &'a RunState,
 }
 
 /// Reads the arguments: the command, and what its inputs are called. The notes take what happens while they are read.
@@ -117,14 +117,14 @@ pub(crate) struct Args<'a> {
 /// - `Clap` if the arguments are not as the help says, or ask for it;
 /// - `Refused` if no command is given, or `-` is more than one input;
 /// - `Word` for the first input that is the output too;
-/// - `Word` for the first number or range that is none, or that makes the numbers more than `MOST_NUMBERS`;
-/// - `Refused` if the command cannot be run: see [`Command::is_lawful`].
+/// - `Word` for the first number or range that is none, or that makes the numbers more than `MAX_ENTRIES_PER_PROOF`;
+/// - `Refused` if the command cannot be run: see [`Command::is_well_formed`].
 pub(crate) fn parse_args<'a>(
     rt: &'a HostRuntime,
-    notes: &'a Notes,
+    state: &'a RunState,
     words: &'a [String],
 ) -> Result<(Command<Input<'a>>, Args<'a>), ArgsError<'a>>
-    ensures { IfOk result (λ (command, args). IsLawful command) }
+    ensures { IfOk result (λ (command, args). IsWellFormed command) }
 {
     let alloc = rt.alloc();
     check_options(words)?;
@@ -134,10 +134,10 @@ pub(crate) fn parse_args<'a>(
     let Some((name, found)) = matches.remove_subcommand() else {
         return Err(ArgsError::Refused("a command is wanted"));
     };
-    let args = Args { rt, found, notes };
+    let args = Args { rt, found, state };
     args.check_inputs(alloc)?;
     let command = args.command(alloc, name)?;
-    if !command.is_lawful() {
+    if !command.is_well_formed() {
         let why = if matches!(command, Command::Verify { .. }) {
             "--raw takes the number of one entry, and --blocks takes numbers or all"
         } else {
@@ -197,11 +197,11 @@ impl<'a> Args<'a> {
         Ok(match name {
             "seal" => Command::Seal {
                 origin: self.origin(alloc)?,
-                cut: self.cut(),
+                framing: self.framing(),
                 file: self.input("FILE"),
             },
             "prove" => Command::Prove {
-                cut: self.cut(),
+                framing: self.framing(),
                 checkpoint: self.checkpoint("CHECKPOINT"),
                 file: self.input("FILE"),
                 numbers: match self.many(alloc)? {
@@ -217,7 +217,7 @@ impl<'a> Args<'a> {
                 entries: self.requested(alloc)?,
             },
             "prove-consistency" => Command::ProveConsistency {
-                cut: self.cut(),
+                framing: self.framing(),
                 old: self.checkpoint("OLD"),
                 new: self.checkpoint("NEW"),
                 file: self.input("FILE"),
@@ -261,20 +261,20 @@ impl<'a> Args<'a> {
     pub(crate) fn input(&self, id: &str) -> Input<'a> {
         let shows_progress = id == "FILE" && !self.found.get_flag("quiet");
         let name = self.found.get_str(id).unwrap_or("");
-        Input::new(self.rt, name, shows_progress, self.notes)
+        Input::new(self.rt, name, shows_progress, self.state)
     }
 
     /// The input of an argument that is a checkpoint.
     pub(crate) fn checkpoint(&self, id: &str) -> Input<'a> {
         let name = self.found.get_str(id).unwrap_or("");
-        Input::checkpoint(self.rt, name, self.notes)
+        Input::checkpoint(self.rt, name, self.state)
     }
 
     /// The inputs of `join`.
     fn parts(&self, alloc: Global) -> Result<Vec<Input<'a>>, AllocError> {
         let names = self.found.get_strs("PART").unwrap_or(&[]).iter();
         names
-            .map(|name| Input::checkpoint(self.rt, name, self.notes))
+            .map(|name| Input::checkpoint(self.rt, name, self.state))
             .collect(alloc)
     }
 
@@ -315,7 +315,7 @@ impl<'a> Args<'a> {
     /// The entries that are requested of a proof.
     fn requested(&self, alloc: Global) -> Result<Requested, ArgsError<'a>> {
         if self.found.get_strs("NUMBER").is_none() {
-            self.notes.lacks_numbers.set(true);
+            self.state.lacks_numbers.set(true);
             return Ok(Requested::Any);
         }
         let numbers = self.numbers(alloc)?;
@@ -338,12 +338,12 @@ impl<'a> Args<'a> {
     }
 
     /// How the file is cut into entries.
-    pub(crate) fn cut(&self) -> Cut {
+    pub(crate) fn framing(&self) -> Framing {
         match self.found.get_one("blocks") {
-            Some(bytes) => Cut::Blocks(bytes),
-            None if self.found.get_flag("whole-lines") => Cut::Lines(PartialLine::LeaveOut),
-            None if self.found.get_flag("partial") => Cut::Lines(PartialLine::Include),
-            None => Cut::Lines(PartialLine::Refuse),
+            Some(bytes) => Framing::Blocks(bytes),
+            None if self.found.get_flag("whole-lines") => Framing::Lines(PartialLine::LeaveOut),
+            None if self.found.get_flag("partial") => Framing::Lines(PartialLine::Include),
+            None => Framing::Lines(PartialLine::Refuse),
         }
     }
 
@@ -368,7 +368,7 @@ fn add_ranges<'a>(
     for range in word.split(',') {
         let range = range_of(range).map_err(|why| ArgsError::Word(Escaped(word), why))?;
         count = count.saturating_add(count_of(&[range]));
-        if count > MOST_NUMBERS {
+        if count > MAX_ENTRIES_PER_PROOF {
             let why = "more than 100000000 entries at once";
             return Err(ArgsError::Word(Escaped(word), why));
         }

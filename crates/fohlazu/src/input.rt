@@ -13,7 +13,7 @@ use std::io::{Error, ErrorKind, Read};
 
 /// What is noted while arguments and inputs are read.
 #[derive(Default, Drop)]
-pub(crate) struct Notes {
+pub(crate) struct RunState {
     /// Why a read, or a write to standard output, last failed.
     pub(crate) failure: Cell<Option<Error>>,
     /// Whether a line of progress stands on standard error.
@@ -22,7 +22,7 @@ pub(crate) struct Notes {
     pub(crate) lacks_numbers: Cell<bool>,
 }
 
-impl Notes {
+impl RunState {
     /// Takes the line of progress away.
     pub(crate) fn clear_progress(&self, rt: &HostRuntime) {
         if self.is_shown.replace(false) {
@@ -46,7 +46,7 @@ pub(crate) struct Input<'a> {
     cache: Option<Vec<u8>>,
     /// How many bytes of the cache have been read since the last rewind.
     cache_read: usize,
-    notes: &'a Notes,
+    state: &'a RunState,
 }
 
 impl<'a> Input<'a> {
@@ -56,7 +56,7 @@ impl<'a> Input<'a> {
         rt: &'a HostRuntime,
         name: &'a str,
         shows_progress: bool,
-        notes: &'a Notes,
+        state: &'a RunState,
     ) -> Input<'a> {
         Input {
             rt,
@@ -66,13 +66,13 @@ impl<'a> Input<'a> {
             watch: None,
             cache: None,
             cache_read: 0,
-            notes,
+            state,
         }
     }
 
     /// The input of this name, which is a checkpoint or a part: a line on standard error warns of a second one in it.
-    pub(crate) fn checkpoint(rt: &'a HostRuntime, name: &'a str, notes: &'a Notes) -> Input<'a> {
-        let mut input = Input::new(rt, name, false, notes);
+    pub(crate) fn checkpoint(rt: &'a HostRuntime, name: &'a str, state: &'a RunState) -> Input<'a> {
+        let mut input = Input::new(rt, name, false, state);
         input.watch = Some(CheckpointWatch::default());
         input
     }
@@ -155,10 +155,10 @@ impl<'a> Input<'a> {
 
 impl<'a> Read for Input<'a> {
     fn read(&mut self, buf: &mut [u8]) -> io::Result<usize> {
-        let notes = self.notes;
+        let state = self.state;
         let count = self
             .read_cached(buf)
-            .inspect_err(|error| notes.failure.set(Some(*error)))?;
+            .inspect_err(|error| state.failure.set(Some(*error)))?;
         if let Some(watch) = &mut self.watch {
             watch.read(&buf[..count]);
         }
@@ -168,7 +168,7 @@ impl<'a> Read for Input<'a> {
         if let Some(progress) = &mut self.progress {
             let left = self.file.as_ref().map_or(0, |(_, left)| *left);
             if progress.add(count, left) {
-                notes.is_shown.set(true);
+                state.is_shown.set(true);
             }
         }
         Ok(count)

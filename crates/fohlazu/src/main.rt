@@ -8,11 +8,11 @@ mod output;
 mod progress;
 mod watch;
 
-ghost use Rattle.fohlazu_commands.specs.Commands.{IsLawful};
+ghost use Rattle.fohlazu_commands.specs.Commands.{IsWellFormed};
 
 use args::{Args, ArgsError, Escaped, parse_args};
 use fohlazu_commands::{Command, Error, run};
-use input::{Input, Notes};
+use input::{Input, RunState};
 use many::Many;
 use output::{Replacement, StandardOutput};
 use std::fmt::Display;
@@ -27,8 +27,8 @@ fn main(rt: HostRuntime) -> ExitCode {
         }
         Err(_) => return refuse(&rt, "an argument is no text in UTF-8"),
     };
-    let notes = Notes::default();
-    match parse_args(&rt, &notes, &words) {
+    let state = RunState::default();
+    match parse_args(&rt, &state, &words) {
         Ok((command @ Command::Prove { .. }, args)) => match args.many(rt.alloc()) {
             Ok(Some(many)) => prove_many(&args, &many),
             Ok(None) => run_command(&args, command),
@@ -52,12 +52,12 @@ fn read_words(rt: &HostRuntime) -> io::Result<Vec<String>> {
 
 /// Runs a command.
 fn run_command(args: &Args<'_>, command: Command<Input<'_>>) -> ExitCode
-    requires { IsLawful command }
+    requires { IsWellFormed command }
 {
     match args.output() {
         Some(name) => run_to_file(args, command, name),
         None => {
-            let mut output = StandardOutput(args.rt, args.notes);
+            let mut output = StandardOutput(args.rt, args.state);
             finish(args, run(args.rt.alloc(), command, &mut output))
         }
     }
@@ -65,7 +65,7 @@ fn run_command(args: &Args<'_>, command: Command<Input<'_>>) -> ExitCode
 
 /// Proves entries that may be many.
 fn prove_many(args: &Args<'_>, many: &Many) -> ExitCode {
-    let (rt, alloc, cut) = (args.rt, args.rt.alloc(), args.cut());
+    let (rt, alloc, framing) = (args.rt, args.rt.alloc(), args.framing());
     // An output that cannot be written is refused ahead of the inputs, as it is where entries are few.
     if let Some(name) = args.output() {
         if let Err(error) = Replacement::new(rt, name) {
@@ -74,16 +74,16 @@ fn prove_many(args: &Args<'_>, many: &Many) -> ExitCode {
     }
     let mut checkpoint = args.checkpoint("CHECKPOINT").rereadable();
     let mut file = args.input("FILE").rereadable();
-    match many.numbers(alloc, cut, &mut checkpoint, &mut file) {
+    match many.numbers(alloc, framing, &mut checkpoint, &mut file) {
         Ok(numbers) => {
             let command = Command::Prove {
-                cut,
+                framing,
                 checkpoint,
                 file,
                 numbers,
             };
             // It is lawful, since `parse_args` has read the numbers. No contract says so.
-            if command.is_lawful() {
+            if command.is_well_formed() {
                 run_command(args, command)
             } else {
                 refuse(rt, "no number of an entry")
@@ -95,7 +95,7 @@ fn prove_many(args: &Args<'_>, many: &Many) -> ExitCode {
 
 /// Runs a command, whose output replaces a file.
 fn run_to_file(args: &Args<'_>, command: Command<Input<'_>>, name: &str) -> ExitCode
-    requires { IsLawful command }
+    requires { IsWellFormed command }
 {
     let rt = args.rt;
     let mut output = match Replacement::new(rt, name) {
@@ -111,7 +111,7 @@ fn run_to_file(args: &Args<'_>, command: Command<Input<'_>>, name: &str) -> Exit
     match replaced {
         Ok(()) => finish(args, done),
         Err(error) => {
-            args.notes.clear_progress(rt);
+            args.state.clear_progress(rt);
             refuse_output(rt, name, error)
         }
     }
@@ -120,17 +120,17 @@ fn run_to_file(args: &Args<'_>, command: Command<Input<'_>>, name: &str) -> Exit
 /// Ends a run: prints why it failed and what the input is called, or that the caller has to compare numbers.
 fn finish(args: &Args<'_>, done: Result<(), Error>) -> ExitCode {
     let rt = args.rt;
-    let notes = args.notes;
-    notes.clear_progress(rt);
+    let state = args.state;
+    state.clear_progress(rt);
     let Err(error) = done else {
-        if notes.lacks_numbers.get() {
+        if state.lacks_numbers.get() {
             let why = "entry numbers were not compared: check that they are those you requested";
             let _ = eprintln!(rt; "fohlazu: {why}");
         }
         return ExitCode::SUCCESS;
     };
     let name = error.source().map(|source| Escaped(args.name_of(source)));
-    let _ = match (name, error, notes.failure.get()) {
+    let _ = match (name, error, state.failure.get()) {
         (Some(name), Error::Read(_), Some(failure)) => eprintln!(rt; "fohlazu: {name}: {failure}"),
         (Some(name), _, _) => eprintln!(rt; "fohlazu: {name}: {error}"),
         (None, Error::Write, Some(failure)) => eprintln!(rt; "fohlazu: standard output: {failure}"),

@@ -2,8 +2,8 @@
 //! once the file is known to have them.
 
 use crate::input::Input;
-use fohlazu_commands::prove::MOST_NUMBERS;
-use fohlazu_commands::{Command, Cut, Error, run};
+use fohlazu_commands::prove::MAX_ENTRIES_PER_PROOF;
+use fohlazu_commands::{Command, Error, Framing, run};
 use std::alloc::{AllocError, Global};
 use std::io;
 use std::io::Read;
@@ -56,7 +56,7 @@ impl Many {
     pub(crate) fn numbers<'a>(
         &self,
         alloc: Global,
-        cut: Cut,
+        framing: Framing,
         checkpoint: &mut Input<'a>,
         file: &mut Input<'a>,
     ) -> Result<Option<Vec<usize>>, Error> {
@@ -64,16 +64,16 @@ impl Many {
         checkpoint.rewind();
         match self {
             Many::All => {
-                // A run refuses more entries than `MOST_NUMBERS` ahead of their numbers.
-                if MANY < size && size <= MOST_NUMBERS {
-                    check_entries(alloc, cut, checkpoint, file, 1, size)?;
+                // A run refuses more entries than `MAX_ENTRIES_PER_PROOF` ahead of their numbers.
+                if MANY < size && size <= MAX_ENTRIES_PER_PROOF {
+                    check_entries(alloc, framing, checkpoint, file, 1, size)?;
                 }
                 Ok(None)
             }
             Many::Ranges(ranges) => {
                 let last = ranges.iter().map(|range| range.1).max().unwrap_or(0);
                 let number = first_number(ranges, size);
-                check_entries(alloc, cut, checkpoint, file, number, last)?;
+                check_entries(alloc, framing, checkpoint, file, number, last)?;
                 Ok(Some(numbers_in(alloc, ranges)?))
             }
         }
@@ -104,19 +104,19 @@ fn claimed_size(alloc: Global, checkpoint: &mut Input<'_>) -> usize {
 /// is wrong. Both inputs are then at their beginning again.
 fn check_entries<'a>(
     alloc: Global,
-    cut: Cut,
+    framing: Framing,
     checkpoint: &mut Input<'a>,
     file: &mut Input<'a>,
     number: usize,
     last: usize,
 ) -> Result<(), Error> {
-    let has_last = number == 1 && has_entries(alloc, cut, file, last)?;
+    let has_last = number == 1 && has_entries(alloc, framing, file, last)?;
     file.rewind();
     if has_last {
         return Ok(());
     }
     let command = Command::Prove {
-        cut,
+        framing,
         checkpoint: &mut *checkpoint,
         file: &mut *file,
         numbers: Some(vec![in alloc; number]?),
@@ -129,7 +129,7 @@ fn check_entries<'a>(
 
 /// Runs a command for its errors alone. One that is not lawful is refused later.
 fn run_unwritten(alloc: Global, command: Command<&mut Input<'_>>) -> Result<(), Error> {
-    if command.is_lawful() {
+    if command.is_well_formed() {
         run(alloc, command, &mut io::sink())
     } else {
         Ok(())
@@ -139,7 +139,7 @@ fn run_unwritten(alloc: Global, command: Command<&mut Input<'_>>) -> Result<(), 
 /// Whether a file has so many entries. What follows its last line feed counts as one.
 fn has_entries(
     alloc: Global,
-    cut: Cut,
+    framing: Framing,
     file: &mut Input<'_>,
     count: usize,
 ) -> Result<bool, AllocError> {
@@ -153,9 +153,9 @@ fn has_entries(
         bytes = bytes.saturating_add(read);
         let feeds = buffer[..read].iter().filter(|byte| **byte == b'\n');
         lines = lines.saturating_add(feeds.count());
-        let has_count = match cut {
-            Cut::Lines(_) => lines >= count,
-            Cut::Blocks(size) => bytes.div_ceil(size.max(1)) >= count,
+        let has_count = match framing {
+            Framing::Lines(_) => lines >= count,
+            Framing::Blocks(size) => bytes.div_ceil(size.max(1)) >= count,
         };
         if has_count {
             return Ok(true);

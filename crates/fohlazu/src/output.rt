@@ -1,6 +1,6 @@
 //! The output of a command: standard output, or a file that is replaced as a whole.
 
-use crate::input::Notes;
+use crate::input::RunState;
 use std::fs::{File, OpenOptions, Permissions};
 use std::io::{Error, ErrorKind, Write};
 use std::os::unix::fs::{MetadataExt, OpenOptionsExt, PermissionsExt};
@@ -139,7 +139,7 @@ pub(crate) fn is_same_file(rt: &HostRuntime, output: &str, input: &str) -> bool 
 
 /// Standard output. It takes the line of progress away first, which may stand on the same terminal.
 #[derive(Drop)]
-pub(crate) struct StandardOutput<'a>(pub(crate) &'a HostRuntime, pub(crate) &'a Notes);
+pub(crate) struct StandardOutput<'a>(pub(crate) &'a HostRuntime, pub(crate) &'a RunState);
 
 impl Write for StandardOutput<'_> {
     fn write(&mut self, buf: &[u8]) -> io::Result<usize> {

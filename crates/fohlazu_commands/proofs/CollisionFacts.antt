@@ -25,7 +25,7 @@ use Rattle.tlog_text.proofs.ProofLaws.{entries_proofs}
 use Rattle.tlog_text.specs.Reading.{checkpoint_in, consistency_in, entries_in as proof_in}
 use Rattle.tlog_text.specs.declared.error.TextError.{TextError}
 use Rattle.tlog_files.specs.Entries.{entries_in, entry_at, wanted_of}
-use Rattle.tlog_files.specs.declared.cut.Cut.{Cut}
+use Rattle.tlog_files.specs.declared.framing.Framing.{Framing}
 use Rattle.tlog_files.specs.declared.reading.ReadLog.{ReadLog}
 use Rattle.fohlazu_commands.specs.Collisions.{AreEntriesOfFile, BeginsWithOldFile, IsCheckpointOf, IsCheckpointOfFile}
 use Rattle.fohlazu_commands.specs.Inner.{AreProved, HasLeafIn, ReadsAs, entries_by}
@@ -54,54 +54,54 @@ not_both {V = V} {E = E} r v e a b = let both : ◌≡◌ {A = Result V E} (Ok v
 -- ---- the entries under a checkpoint
 
 -- first entries of a file, where the checkpoint is theirs
-pub under_of : (cut : Cut) (c : CheckpointFields) (bytes : List ℕ) (n : ℕ) →
-    c ≡ checkpoint_of c.origin (take n (entries_in cut bytes)) → c.size ≤ size_limit →
-    entries_under cut c bytes ≡ Ok (take n (entries_in cut bytes))
-under_of cut c bytes n is small =
-    let all = entries_in cut bytes in
+pub under_of : (framing : Framing) (c : CheckpointFields) (bytes : List ℕ) (n : ℕ) →
+    c ≡ checkpoint_of c.origin (take n (entries_in framing bytes)) → c.size ≤ size_limit →
+    entries_under framing c bytes ≡ Ok (take n (entries_in framing bytes))
+under_of framing c bytes n is small =
+    let all = entries_in framing bytes in
     let size_is : c.size ≡ length (take n all) = ap (λ (x : CheckpointFields). x.size) is in
     let first_is : take c.size all ≡ take n all = ap (λ k. take k all) (size_is ∙ length-take n all) ∙ take_min n all in
-    under_first cut c bytes small (omega (arith, size_is, length-take n all))
+    under_first framing c bytes small (omega (arith, size_is, length-take n all))
     (ap (root_of sha256) first_is ∙ sym (ap (λ (x : CheckpointFields). x.root) is))
     ∙ ap Ok first_is
 
 -- the same by the text of the checkpoint
-pub record ByText (cut : Cut) (text file : List ℕ) (entries : List (List ℕ)) : Type 0 where
+pub record ByText (framing : Framing) (text file : List ℕ) (entries : List (List ℕ)) : Type 0 where
   pub origin : List ℕ
   pub n : ℕ
   pub says : checkpoint_in text ≡ Ok (checkpoint_of origin entries)
-  pub are : take n (entries_in cut file) ≡ entries
+  pub are : take n (entries_in framing file) ≡ entries
   pub small : length entries ≤ size_limit
 
-pub by_text : (source : Source) (cut : Cut) (text file : List ℕ) (entries : List (List ℕ)) →
-    entries_by source cut text file ≡ Ok entries → ByText cut text file entries
-by_text source cut text file entries is =
-    let (c, said, read) = stepped (said_by source (checkpoint_in text)) (λ c. entries_under cut c file) entries is in
-    let u = are_under cut c file entries read in
+pub by_text : (source : Source) (framing : Framing) (text file : List ℕ) (entries : List (List ℕ)) →
+    entries_by source framing text file ≡ Ok entries → ByText framing text file entries
+by_text source framing text file entries is =
+    let (c, said, read) = stepped (said_by source (checkpoint_in text)) (λ c. entries_under framing c file) entries is in
+    let u = are_under framing c file entries read in
     let says : checkpoint_in text ≡ Ok (checkpoint_of c.origin entries) = said_ok source (checkpoint_in text) c said
     ∙ (λ i. Ok (record { origin = c.origin; size = sym u.size i; root = sym u.root i })) in
     let small = ((notes text (checkpoint_of c.origin entries)).0 says).2.checkpoint.size in
     record { origin = c.origin; n = c.size; says = says; are = u.first; small = small }
 
-pub of_text : (source : Source) (cut : Cut) (text file : List ℕ) (n : ℕ) →
-    IsCheckpointOf (take n (entries_in cut file)) text →
-    entries_by source cut text file ≡ Ok (take n (entries_in cut file))
-of_text source cut text file n of =
-    let c = checkpoint_of of.0 (take n (entries_in cut file)) in
+pub of_text : (source : Source) (framing : Framing) (text file : List ℕ) (n : ℕ) →
+    IsCheckpointOf (take n (entries_in framing file)) text →
+    entries_by source framing text file ≡ Ok (take n (entries_in framing file))
+of_text source framing text file n of =
+    let c = checkpoint_of of.0 (take n (entries_in framing file)) in
     let limit = ((notes text c).0 of.1).2.checkpoint.size in
-    ap (λ r. and_then (said_by source r) (λ x. entries_under cut x file)) of.1 ∙ under_of cut c file n refl limit
+    ap (λ r. and_then (said_by source r) (λ x. entries_under framing x file)) of.1 ∙ under_of framing c file n refl limit
 
 -- a text whose entries are not those of a file is no checkpoint of it
-pub not_of_file : (source : Source) (cut : Cut) (text file : List ℕ) (e : Error) →
-    entries_by source cut text file ≡ Err e → IsCheckpointOfFile cut file text → ⊥
-not_of_file source cut text file e is of =
-    not_both (entries_by source cut text file) (take of.0 (entries_in cut file)) e
-    (of_text source cut text file of.0 of.1) is
+pub not_of_file : (source : Source) (framing : Framing) (text file : List ℕ) (e : Error) →
+    entries_by source framing text file ≡ Err e → IsCheckpointOfFile framing file text → ⊥
+not_of_file source framing text file e is of =
+    not_both (entries_by source framing text file) (take of.0 (entries_in framing file)) e
+    (of_text source framing text file of.0 of.1) is
 
 -- the checkpoint of the entries that were read
-own_checkpoint : (cut : Cut) (text file : List ℕ) (entries : List (List ℕ)) (by : ByText cut text file entries) →
-    IsCheckpointOf (take by.n (entries_in cut file)) text
-own_checkpoint cut text file entries by =
+own_checkpoint : (framing : Framing) (text file : List ℕ) (entries : List (List ℕ)) (by : ByText framing text file entries) →
+    IsCheckpointOf (take by.n (entries_in framing file)) text
+own_checkpoint framing text file entries by =
     subst (λ (es : List (List ℕ)). IsCheckpointOf es text) (sym by.are) (by.origin, by.says)
 
 -- ---- entries
@@ -116,15 +116,15 @@ all_wanted entries n is =
     rw all (sym (fill_by_all (entry_at entries) entries n [] is (λ k within. refl)))
 
 -- all entries of a checkpoint, where all are wanted
-pub read_all : (source : Source) (cut : Cut) (text file : List ℕ) (c : CheckpointFields) (indices : List ℕ)
+pub read_all : (source : Source) (framing : Framing) (text file : List ℕ) (c : CheckpointFields) (indices : List ℕ)
     (log : ReadLog) → said_by source (checkpoint_in text) ≡ Ok c →
-    ReadsAs [] indices (Ok log) (entries_under cut c file) → indices ≡ range_with_len 0 c.size →
-    entries_by source cut text file ≡ Ok (entries_of log.entries.items)
-read_all source cut text file c indices log says reads all =
+    ReadsAs [] indices (Ok log) (entries_under framing c file) → indices ≡ range_with_len 0 c.size →
+    entries_by source framing text file ≡ Ok (entries_of log.entries.items)
+read_all source framing text file c indices log says reads all =
     let (entries, is, has) = reads in
-    ap (λ r. and_then r (λ x. entries_under cut x file)) says ∙ is
+    ap (λ r. and_then r (λ x. entries_under framing x file)) says ∙ is
     ∙ ap Ok (sym (has.wanted_are ∙ ap (wanted_of entries) all
-    ∙ all_wanted entries c.size (are_under cut c file entries is).size))
+    ∙ all_wanted entries c.size (are_under framing c file entries is).size))
 
 abbrev pub indices_in : List EntryFields → List ℕ
 indices_in es = map (λ (e : EntryFields). e.number - 1) es
@@ -145,11 +145,11 @@ verified print checkpoint proof numbers c p text says shows is =
     let last = none_parts (first_of (entry_refusal print c.size) p.entries) _ behind.1 in
     ((none_parts (proof_refusal c p) None last.1).0, prints)
 
-module _ (cut : Cut) (checkpoint proof file text : List ℕ) (entries : List (List ℕ)) (p : EntriesFields)
+module _ (framing : Framing) (checkpoint proof file text : List ℕ) (entries : List (List ℕ)) (p : EntriesFields)
     (out : verify_outcome Raw checkpoint proof None ≡ Ok text)
-    (is : entries_by Checkpoint cut checkpoint file ≡ Ok entries) (says : said_by Proof (proof_in proof) ≡ Ok p) where
-  by : ByText cut checkpoint file entries
-  by = by_text Checkpoint cut checkpoint file entries is
+    (is : entries_by Checkpoint framing checkpoint file ≡ Ok entries) (says : said_by Proof (proof_in proof) ≡ Ok p) where
+  by : ByText framing checkpoint file entries
+  by = by_text Checkpoint framing checkpoint file entries is
 
   shows : proof_in proof ≡ Ok p
   shows = said_ok Proof (proof_in proof) p says
@@ -166,11 +166,11 @@ module _ (cut : Cut) (checkpoint proof file text : List ℕ) (entries : List (Li
 
   -- a collision is found unless the printed entries are the file's
   pub shown : (found : Option Collision) → (IsNone found ↔ All (IsEntryOf entries) p.entries) →
-      IsNone found ↔ AreEntriesOfFile cut file checkpoint proof
+      IsNone found ↔ AreEntriesOfFile framing file checkpoint proof
   shown found iff = (
     λ none n q print numbers other of other_shows accepted.
-        let same = same_ok (entries_by Checkpoint cut checkpoint file) entries (take n (entries_in cut file)) is
-        (of_text Checkpoint cut checkpoint file n of) in (
+        let same = same_ok (entries_by Checkpoint framing checkpoint file) entries (take n (entries_in framing file)) is
+        (of_text Checkpoint framing checkpoint file n of) in (
           sym (verified print checkpoint proof numbers (checkpoint_of by.origin entries) q other by.says other_shows
               accepted).1,
           subst (λ (es : List (List ℕ)). All (IsEntryOf es) q.entries) same
@@ -178,7 +178,7 @@ module _ (cut : Cut) (checkpoint proof file text : List ℕ) (entries : List (Li
               (same_ok (proof_in proof) p q shows other_shows) (iff.0 none)),
         ),
     λ own. iff.1 (subst (λ (es : List (List ℕ)). All (IsEntryOf es) p.entries) by.are
-        (own by.n p Raw None text (own_checkpoint cut checkpoint file entries by) shows out).1),
+        (own by.n p Raw None text (own_checkpoint framing checkpoint file entries by) shows out).1),
   )
 
 -- ---- entries of an accepted proof
@@ -254,14 +254,14 @@ grown old proof new o n p old_says new_says shows is =
     (none_parts (consistency_refused o b p.digests) None both.1).0)
 
 -- a collision is found unless the new file begins with the entries of the old one
-module _ (cut : Cut) (old proof old_file new_file new : List ℕ) (D E : List (List ℕ)) (p : ConsistencyFields)
-    (out : verify_consistency_outcome old proof ≡ Ok new) (old_is : entries_by Old cut old old_file ≡ Ok D)
-    (new_is : entries_by Proof cut new new_file ≡ Ok E) (says : said_by Proof (consistency_in proof) ≡ Ok p) where
-  old_by : ByText cut old old_file D
-  old_by = by_text Old cut old old_file D old_is
+module _ (framing : Framing) (old proof old_file new_file new : List ℕ) (D E : List (List ℕ)) (p : ConsistencyFields)
+    (out : verify_consistency_outcome old proof ≡ Ok new) (old_is : entries_by Old framing old old_file ≡ Ok D)
+    (new_is : entries_by Proof framing new new_file ≡ Ok E) (says : said_by Proof (consistency_in proof) ≡ Ok p) where
+  old_by : ByText framing old old_file D
+  old_by = by_text Old framing old old_file D old_is
 
-  new_by : ByText cut new new_file E
-  new_by = by_text Proof cut new new_file E new_is
+  new_by : ByText framing new new_file E
+  new_by = by_text Proof framing new new_file E new_is
 
   consistent : IsConsistent sha256 (length D) (length E) p.digests (root_of sha256 D) (root_of sha256 E)
   consistent =
@@ -271,21 +271,21 @@ module _ (cut : Cut) (old proof old_file new_file new : List ℕ) (D E : List (L
       (sym none)).0 (search)).1
 
   pub begins : (found : Option Collision) → (IsNone found ↔ RootsFixPrefix sha256 D E p.digests) →
-      IsNone found ↔ BeginsWithOldFile cut old_file new_file old proof
+      IsNone found ↔ BeginsWithOldFile framing old_file new_file old proof
   begins found iff = (
     λ none m n other of_old other_out of_new.
         let new_same = same_ok (verify_consistency_outcome old proof) new other out other_out in
-        let old_same = same_ok (entries_by Old cut old old_file) D (take m (entries_in cut old_file)) old_is
-        (of_text Old cut old old_file m of_old) in
-        let of = subst (λ (t : List ℕ). IsCheckpointOf (take n (entries_in cut new_file)) t) (sym new_same) of_new in
-        let same = same_ok (entries_by Proof cut new new_file) E (take n (entries_in cut new_file)) new_is
-        (of_text Proof cut new new_file n of) in
-        let all = take m (entries_in cut old_file) in
+        let old_same = same_ok (entries_by Old framing old old_file) D (take m (entries_in framing old_file)) old_is
+        (of_text Old framing old old_file m of_old) in
+        let of = subst (λ (t : List ℕ). IsCheckpointOf (take n (entries_in framing new_file)) t) (sym new_same) of_new in
+        let same = same_ok (entries_by Proof framing new new_file) E (take n (entries_in framing new_file)) new_is
+        (of_text Proof framing new new_file n of) in
+        let all = take m (entries_in framing old_file) in
         subst (λ (es : List (List ℕ)). all ≡ take (length all) es) same
         (subst (λ (ds : List (List ℕ)). ds ≡ take (length ds) E) old_same (iff.0 none new_by.small consistent)),
     λ all. iff.1 (λ small is.
         subst (λ (es : List (List ℕ)). D ≡ take (length D) es) new_by.are
-        (subst (λ (ds : List (List ℕ)). ds ≡ take (length ds) (take new_by.n (entries_in cut new_file))) old_by.are
-        (all old_by.n new_by.n new (own_checkpoint cut old old_file D old_by) out
-        (own_checkpoint cut new new_file E new_by)))),
+        (subst (λ (ds : List (List ℕ)). ds ≡ take (length ds) (take new_by.n (entries_in framing new_file))) old_by.are
+        (all old_by.n new_by.n new (own_checkpoint framing old old_file D old_by) out
+        (own_checkpoint framing new new_file E new_by)))),
   )

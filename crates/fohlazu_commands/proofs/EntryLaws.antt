@@ -25,7 +25,7 @@ use Rattle.tlog_text.proofs.ProofLaws.{entries_proofs}
 use Rattle.tlog_text.specs.Reading.{checkpoint_in, entries_in as proof_in}
 use Rattle.tlog_text.specs.Texts.{IsDigest}
 use Rattle.tlog_files.specs.Entries.{entries_in, entry_at}
-use Rattle.tlog_files.specs.declared.cut.Cut.{Cut}
+use Rattle.tlog_files.specs.declared.framing.Framing.{Framing}
 use Rattle.fohlazu_commands.specs.Outcomes.{is_printable, said_by, checkpoint_of, entries_under, entry_refusal}
 use Rattle.fohlazu_commands.specs.Outcomes.{number_refusal, requested, first_other, numbers_refusal, printed, proof_over}
 use Rattle.fohlazu_commands.specs.Laws.{printed_of, AreRequested, CanSay, NumbersAreCompared, ProofsAreAccepted}
@@ -50,20 +50,20 @@ numbers_pass size numbers inside =
 
 -- ---- what prove has printed
 
-is_proved : (cut : Cut) (checkpoint file numbers proof : List ℕ) →
-    prove_file cut (Some checkpoint) (Some file) numbers ≡ Ok proof →
+is_proved : (framing : Framing) (checkpoint file numbers proof : List ℕ) →
+    prove_file framing (Some checkpoint) (Some file) numbers ≡ Ok proof →
     (c : CheckpointFields) × (entries : List (List ℕ)) × (checkpoint_in checkpoint ≡ Ok c)
-    × (first_of (number_refusal c.size) numbers ≡ None) × (entries_under cut c file ≡ Ok entries)
+    × (first_of (number_refusal c.size) numbers ≡ None) × (entries_under framing c file ≡ Ok entries)
     × (entries_text (proof_over entries numbers) ≡ proof)
-is_proved cut checkpoint file numbers proof is =
+is_proved framing checkpoint file numbers proof is =
     let next : List ℕ → Result (List ℕ) Error =
-    λ text. and_then (requested text numbers) (λ (c : CheckpointFields). prove_under cut c numbers file) in
+    λ text. and_then (requested text numbers) (λ (c : CheckpointFields). prove_under framing c numbers file) in
     let came = short_came Checkpoint 1000000 checkpoint next proof is in
-    let (c, asked, printed) = stepped (requested checkpoint numbers) (λ c. prove_under cut c numbers file) proof came in
+    let (c, asked, printed) = stepped (requested checkpoint numbers) (λ c. prove_under framing c numbers file) proof came in
     let (a, said, few) = stepped (said_by Checkpoint (checkpoint_in checkpoint))
     (λ a. ok_unless (first_of (number_refusal a.size) numbers) a) c asked in
     let (inside, same) = ok_none (first_of (number_refusal a.size) numbers) a c few in
-    let (entries, read, text) = stepped (entries_under cut c file)
+    let (entries, read, text) = stepped (entries_under framing c file)
     (λ entries. Ok (entries_text (proof_over entries numbers))) proof printed in
     let text_is : entries_text (proof_over entries numbers) ≡ proof = cc in (
       c,
@@ -75,15 +75,15 @@ is_proved cut checkpoint file numbers proof is =
     )
 
 pub proofs_are_proved : ProofsAreProved
-proofs_are_proved cut origin checkpoint file first numbers said_is begins inside =
+proofs_are_proved framing origin checkpoint file first numbers said_is begins inside =
     let note = ((notes checkpoint (checkpoint_of origin first)).0 said_is).2 in
     let small = note.checkpoint.size in
     let next : List ℕ → Result (List ℕ) Error =
-    λ text. and_then (requested text numbers) (λ (c : CheckpointFields). prove_under cut c numbers file) in
+    λ text. and_then (requested text numbers) (λ (c : CheckpointFields). prove_under framing c numbers file) in
     let proof = entries_text (proof_over first numbers) in
-    let given : and_then (requested checkpoint numbers) (λ (c : CheckpointFields). prove_under cut c numbers file)
+    let given : and_then (requested checkpoint numbers) (λ (c : CheckpointFields). prove_under framing c numbers file)
     ≡ Ok proof =
-    rw (said_is, numbers_pass (length first) numbers inside, first_under cut origin file first begins small) refl in
+    rw (said_is, numbers_pass (length first) numbers inside, first_under framing origin file first begins small) refl in
     (proof, short_goes Checkpoint 1000000 checkpoint next proof note.short given)
 
 -- ---- what verify makes of it
@@ -212,10 +212,10 @@ module _ (all : List (List ℕ)) (size : ℕ) where
   }
 
 pub proofs_are_accepted : ProofsAreAccepted
-proofs_are_accepted cut print checkpoint file numbers asked proof is fits are can are_requested done =
-    let all = entries_in cut file in
-    let (c, read_entries, said_is, few, under_is, text_is) = is_proved cut checkpoint file numbers proof done in
-    let under = are_under cut c file read_entries under_is in
+proofs_are_accepted framing print checkpoint file numbers asked proof is fits are can are_requested done =
+    let all = entries_in framing file in
+    let (c, read_entries, said_is, few, under_is, text_is) = is_proved framing checkpoint file numbers proof done in
+    let under = are_under framing c file read_entries under_is in
     let size = c.size in
     let small = ((notes checkpoint c).0 said_is).2.checkpoint.size in
     let entries = take size all in
@@ -239,7 +239,7 @@ proofs_are_accepted cut print checkpoint file numbers asked proof is fits are ca
     let high = to k d within in
     let own : is_printable print size (entry_of entries n) ≡ true =
     ap (λ bytes. is_printable print size (record { number = n; bytes = bytes })) (same_entry all size n low high)
-    ∙ prints print cut file size n is fits low high under.inside in
+    ∙ prints print framing file size n is fits low high under.inside in
     rw own refl)) in
     let verdict = accepted entries numbers c are inside len root small in
     rw (said_is, read, same, printable, verdict)

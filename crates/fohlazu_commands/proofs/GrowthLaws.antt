@@ -21,7 +21,7 @@ use Rattle.tlog_text.specs.Reading.{checkpoint_in, consistency_in}
 use Rattle.tlog_text.specs.Texts.{consistency_text, CheckpointFields, ConsistencyFields, IsConsistencyProof, IsDigest}
 use Rattle.tlog_text.proofs.ProofLaws.{consistency_proofs}
 use Rattle.tlog_text.proofs.NoteLaws.{notes}
-use Rattle.tlog_files.specs.declared.cut.Cut.{Cut}
+use Rattle.tlog_files.specs.declared.framing.Framing.{Framing}
 use Rattle.fohlazu_commands.specs.Commands.{note_from}
 use Rattle.fohlazu_commands.specs.Laws.{GrowthIsAccepted, GrowthIsProved}
 use Rattle.fohlazu_commands.specs.Outcomes.{verify_consistency_outcome}
@@ -124,23 +124,23 @@ verified old proof o n p old_is proof_is size_is new_is follows accepted =
     rw (old_is, proof_is, eq-eqb p.old_size o.size size_is, new_is, follows, accepted) refl
 
 -- what follows the checkpoints as they are read
-module _ (cut : Cut) (new file : List ℕ) where
+module _ (framing : Framing) (new file : List ℕ) where
   abbrev with_new : List ℕ → List ℕ → Result (List ℕ) Error
   with_new old text =
       and_then (compared old text) (λ (pair : CheckpointFields × CheckpointFields).
-      prove_growth cut pair.0 pair.1 text file)
+      prove_growth framing pair.0 pair.1 text file)
 
   abbrev with_old : List ℕ → Result (List ℕ) Error
   with_old text = and_then (note_from New (Some new)) (with_new text)
 
 pub growth_is_accepted : GrowthIsAccepted
-growth_is_accepted cut old new file proof is =
-    let came = short_came New 1000000 new (with_new cut new file old) proof
-    (short_came Old 1000000 old (with_old cut new file) proof is) in
-    let ((o, n), pair, more) = stepped (compared old new) (λ (o, n). prove_growth cut o n new file) proof came in
+growth_is_accepted framing old new file proof is =
+    let came = short_came New 1000000 new (with_new framing new file old) proof
+    (short_came Old 1000000 old (with_old framing new file) proof is) in
+    let ((o, n), pair, more) = stepped (compared old new) (λ (o, n). prove_growth framing o n new file) proof came in
     let (old_is, new_is, follows) = are_compared old new o n pair in
-    let (entries, read, last) = stepped (entries_under cut n file) (growth_text o n new) proof more in
-    let under = are_under cut n file entries read in
+    let (entries, read, last) = stepped (entries_under framing n file) (growth_text o n new) proof more in
+    let under = are_under framing n file entries read in
     let digests = growth_digests o.size entries in
     let p : ConsistencyFields = record { old_size = o.size; digests = digests; checkpoint = new } in
     let refusal = consistency_refusal sha256 o.size n.size digests o.root n.root in
@@ -211,7 +211,7 @@ follows origin first more =
     rw (same_itself origin, inside, roots) refl
 
 pub growth_is_proved : GrowthIsProved
-growth_is_proved cut origin old new file first more old_is new_is begins =
+growth_is_proved framing origin old new file first more old_is new_is begins =
     let all = first ++ more in
     let o = checkpoint_of origin first in
     let n = checkpoint_of origin all in
@@ -220,9 +220,9 @@ growth_is_proved cut origin old new file first more old_is new_is begins =
     let proof = consistency_text (record { old_size = length first; digests = digests; checkpoint = new }) in
     let none = none_refused (length first) (length all) digests (root_of sha256 first) (root_of sha256 all) small
     (grown first more small) in
-    let given : with_new cut new file old new ≡ Ok proof =
-    rw (old_is, new_is, follows origin first more, first_under cut origin file all begins small, none) refl in (
+    let given : with_new framing new file old new ≡ Ok proof =
+    rw (old_is, new_is, follows origin first more, first_under framing origin file all begins small, none) refl in (
       proof,
-      short_goes Old 1000000 old (with_old cut new file) proof (short_of old o old_is)
-          (short_goes New 1000000 new (with_new cut new file old) proof (short_of new n new_is) given),
+      short_goes Old 1000000 old (with_old framing new file) proof (short_of old o old_is)
+          (short_goes New 1000000 new (with_new framing new file old) proof (short_of new n new_is) given),
     )

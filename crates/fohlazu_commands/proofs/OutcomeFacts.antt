@@ -17,12 +17,12 @@ use Rattle.tlog.proofs.Roots.{root_is as root_by}
 use Rattle.tlog.specs.Rfc9162.{root_of, leaf_hash, mth}
 use Rattle.tlog.specs.Verdicts.{size_limit, is_same}
 use Rattle.tlog_tree.specs.Trees.{all_there}
-use Rattle.tlog_files.proofs.CutFiles.{block_is, entries_grow, lines_lack, no_entries, no_rest, rest_grows}
+use Rattle.tlog_files.proofs.FramedFiles.{block_is, entries_grow, lines_lack, no_entries, no_rest, rest_grows}
 use Rattle.tlog_files.specs.Entries.{entries_in, first_entries, is_refused, read_refusal, HoldsOfFile}
-use Rattle.tlog_files.specs.Entries.{partial_of, refuses, rest_of, entry_at, IsCut}
+use Rattle.tlog_files.specs.Entries.{partial_of, refuses, rest_of, entry_at, IsFraming}
 use Rattle.tlog_files.specs.Inner.Splitting.{LacksFeed}
-use Rattle.tlog_files.specs.declared.cut.Cut.{Cut}
-use Rattle.tlog_files.specs.declared.cut.Cut.TheVariants.{Blocks as InBlocks, Lines as InLines}
+use Rattle.tlog_files.specs.declared.framing.Framing.{Framing}
+use Rattle.tlog_files.specs.declared.framing.Framing.TheVariants.{Blocks as InBlocks, Lines as InLines}
 use Rattle.tlog_files.specs.declared.error.ReadError.{ReadError}
 use Rattle.tlog_files.specs.declared.error.ReadError.TheVariants.{EndsInsideLine, TooManyEntries}
 use Rattle.tlog_files.specs.declared.reading.ReadLog.{ReadLog}
@@ -58,14 +58,14 @@ both_pass : (few refused : Bool) → few ≡ true → refused ≡ false →
 both_pass few refused is not_refused = rw (is, not_refused) refl
 
 -- a file that is not refused
-pub read_ok : (cut : Cut) (limit : Option ℕ) (bytes : List ℕ) →
-    length (first_entries limit (entries_in cut bytes)) ≤ size_limit → is_refused cut limit bytes ≡ false →
-    entries_read cut limit bytes ≡ Ok (first_entries limit (entries_in cut bytes))
-read_ok cut limit bytes few not_refused =
-    ap (λ r. ok_unless r (first_entries limit (entries_in cut bytes)))
-    (both_pass (nat_le (length (first_entries limit (entries_in cut bytes))) size_limit)
-    (is_refused cut limit bytes)
-    (le-leb (length (first_entries limit (entries_in cut bytes))) size_limit few) not_refused)
+pub read_ok : (framing : Framing) (limit : Option ℕ) (bytes : List ℕ) →
+    length (first_entries limit (entries_in framing bytes)) ≤ size_limit → is_refused framing limit bytes ≡ false →
+    entries_read framing limit bytes ≡ Ok (first_entries limit (entries_in framing bytes))
+read_ok framing limit bytes few not_refused =
+    ap (λ r. ok_unless r (first_entries limit (entries_in framing bytes)))
+    (both_pass (nat_le (length (first_entries limit (entries_in framing bytes))) size_limit)
+    (is_refused framing limit bytes)
+    (le-leb (length (first_entries limit (entries_in framing bytes))) size_limit few) not_refused)
 
 some_refused : (few refused : Bool) (e : ReadError) →
     (if few then (if refused then Some EndsInsideLine else None) else Some TooManyEntries) ≡ Some e →
@@ -76,12 +76,12 @@ some_refused true false e is = cc
 some_refused false refused e is = let same : TooManyEntries ≡ e = cc in ap (λ x. Some (read_error x)) same
 
 -- a file that is refused
-pub read_err : (cut : Cut) (limit : Option ℕ) (bytes : List ℕ) (e : ReadError) →
-    read_refusal cut limit bytes ≡ Some e → entries_read cut limit bytes ≡ Err (read_error e)
-read_err cut limit bytes e is =
-    ap (λ r. ok_unless r (first_entries limit (entries_in cut bytes)))
-    (some_refused (nat_le (length (first_entries limit (entries_in cut bytes))) size_limit)
-    (is_refused cut limit bytes) e is)
+pub read_err : (framing : Framing) (limit : Option ℕ) (bytes : List ℕ) (e : ReadError) →
+    read_refusal framing limit bytes ≡ Some e → entries_read framing limit bytes ≡ Err (read_error e)
+read_err framing limit bytes e is =
+    ap (λ r. ok_unless r (first_entries limit (entries_in framing bytes)))
+    (some_refused (nat_le (length (first_entries limit (entries_in framing bytes))) size_limit)
+    (is_refused framing limit bytes) e is)
 
 -- ---- a step after the entries are read
 
@@ -158,39 +158,39 @@ none_of h (x ∷ xs) each =
 
 -- ---- files that are read
 
-pub record IsRead (cut : Cut) (limit : Option ℕ) (file : List ℕ) (entries : List (List ℕ)) : Type 0 where
+pub record IsRead (framing : Framing) (limit : Option ℕ) (file : List ℕ) (entries : List (List ℕ)) : Type 0 where
   pub few : length entries ≤ size_limit
-  pub whole : is_refused cut limit file ≡ false
-  pub first : first_entries limit (entries_in cut file) ≡ entries
+  pub whole : is_refused framing limit file ≡ false
+  pub first : first_entries limit (entries_in framing file) ≡ entries
 
-pub is_read : (cut : Cut) (limit : Option ℕ) (file : List ℕ) (entries : List (List ℕ)) →
-    entries_read cut limit file ≡ Ok entries → IsRead cut limit file entries
-is_read cut limit file entries is =
-    let all = first_entries limit (entries_in cut file) in
-    let found = ok_none (cut_refusal cut limit file) all entries is in
+pub is_read : (framing : Framing) (limit : Option ℕ) (file : List ℕ) (entries : List (List ℕ)) →
+    entries_read framing limit file ≡ Ok entries → IsRead framing limit file entries
+is_read framing limit file entries is =
+    let all = first_entries limit (entries_in framing file) in
+    let found = ok_none (cut_refusal framing limit file) all entries is in
     let many = none_parts (unless (nat_le (length all) size_limit) _) _ found.0 in
-    let inside = none_parts (unless (not (is_refused cut limit file)) _) None many.1 in
+    let inside = none_parts (unless (not (is_refused framing limit file)) _) None many.1 in
     record {
       few = rw (← found.1) (leb-true (length all) size_limit (unless_none (nat_le (length all) size_limit) _ many.0));
-      whole = not-true (is_refused cut limit file) (unless_none (not (is_refused cut limit file)) _ inside.0);
+      whole = not-true (is_refused framing limit file) (unless_none (not (is_refused framing limit file)) _ inside.0);
       first = found.1;
     }
 
 -- ---- under a checkpoint
 
 -- the first entries of a file are those of a checkpoint
-pub record AreUnder (cut : Cut) (c : CheckpointFields) (file : List ℕ) (entries : List (List ℕ)) : Type 0 where
-  pub first : take c.size (entries_in cut file) ≡ entries
+pub record AreUnder (framing : Framing) (c : CheckpointFields) (file : List ℕ) (entries : List (List ℕ)) : Type 0 where
+  pub first : take c.size (entries_in framing file) ≡ entries
   pub size : length entries ≡ c.size
-  pub inside : c.size ≤ length (entries_in cut file)
+  pub inside : c.size ≤ length (entries_in framing file)
   pub root : root_of sha256 entries ≡ c.root
 
-pub are_under : (cut : Cut) (c : CheckpointFields) (file : List ℕ) (entries : List (List ℕ)) →
-    entries_under cut c file ≡ Ok entries → AreUnder cut c file entries
-are_under cut c file entries is =
-    let (first, read_is, last) = stepped (entries_read cut (Some c.size) file)
+pub are_under : (framing : Framing) (c : CheckpointFields) (file : List ℕ) (entries : List (List ℕ)) →
+    entries_under framing c file ≡ Ok entries → AreUnder framing c file entries
+are_under framing c file entries is =
+    let (first, read_is, last) = stepped (entries_read framing (Some c.size) file)
     (λ first. ok_unless (tree_refusal c (length first) (root_of sha256 first)) first) entries is in
-    let read = is_read cut (Some c.size) file first read_is in
+    let read = is_read framing (Some c.size) file first read_is in
     let (none, same) = ok_none (tree_refusal c (length first) (root_of sha256 first)) first entries last in
     let size = none_parts (unless (length first == c.size) _) _ none in
     let root = none_parts (unless (is_same (root_of sha256 first) c.root) _) None size.1 in
@@ -199,7 +199,7 @@ are_under cut c file entries is =
     record {
       first = read.first ∙ same;
       size = ap length (sym same) ∙ size_is;
-      inside = omega (arith, size_is, ap length read.first, length-take c.size (entries_in cut file));
+      inside = omega (arith, size_is, ap length read.first, length-take c.size (entries_in framing file));
       root = ap (root_of sha256) (sym same) ∙ (bytes_decides (root_of sha256 first) c.root).0 root_is;
     }
 
@@ -209,27 +209,27 @@ never true false = refl
 never false b = refl
 
 -- of a file with as many entries as a checkpoint, and the same root
-pub under_first : (cut : Cut) (c : CheckpointFields) (file : List ℕ) → c.size ≤ size_limit →
-    c.size ≤ length (entries_in cut file) → root_of sha256 (take c.size (entries_in cut file)) ≡ c.root →
-    entries_under cut c file ≡ Ok (take c.size (entries_in cut file))
-under_first cut c file small inside root =
-    let all = entries_in cut file in
+pub under_first : (framing : Framing) (c : CheckpointFields) (file : List ℕ) → c.size ≤ size_limit →
+    c.size ≤ length (entries_in framing file) → root_of sha256 (take c.size (entries_in framing file)) ≡ c.root →
+    entries_under framing c file ≡ Ok (take c.size (entries_in framing file))
+under_first framing c file small inside root =
+    let all = entries_in framing file in
     let first = take c.size all in
     let size : length first ≡ c.size = length-take-le c.size all inside in
     let long = le-ltb (length all) c.size inside in
-    let whole : is_refused cut (Some c.size) file ≡ false =
-    ap (λ short. refuses (partial_of cut) && (not (length (rest_of cut file) == 0) && short)) long
-    ∙ never (refuses (partial_of cut)) (not (length (rest_of cut file) == 0)) in
-    let read = read_ok cut (Some c.size) file (omega (arith, size)) whole in
+    let whole : is_refused framing (Some c.size) file ≡ false =
+    ap (λ short. refuses (partial_of framing) && (not (length (rest_of framing file) == 0) && short)) long
+    ∙ never (refuses (partial_of framing)) (not (length (rest_of framing file) == 0)) in
+    let read = read_ok framing (Some c.size) file (omega (arith, size)) whole in
     rw (read, eq-eqb (length first) c.size size, (bytes_decides (root_of sha256 first) c.root).1 root) refl
 
 -- of a file that begins with the entries of the checkpoint
-pub first_under : (cut : Cut) (origin file : List ℕ) (first : List (List ℕ)) → BeginsWith cut file first →
-    length first ≤ size_limit → entries_under cut (checkpoint_of origin first) file ≡ Ok first
-first_under cut origin file first begins small =
-    let front : take (length first) (entries_in cut file) ≡ first =
+pub first_under : (framing : Framing) (origin file : List ℕ) (first : List (List ℕ)) → BeginsWith framing file first →
+    length first ≤ size_limit → entries_under framing (checkpoint_of origin first) file ≡ Ok first
+first_under framing origin file first begins small =
+    let front : take (length first) (entries_in framing file) ≡ first =
     ap (take (length first)) begins.1 ∙ take_at first begins.0 (length first) refl in
-    under_first cut (checkpoint_of origin first) file small
+    under_first framing (checkpoint_of origin first) file small
     (omega (arith, ap length begins.1, length-append first begins.0)) (ap (root_of sha256) front)
     ∙ ap Ok front
 
@@ -269,38 +269,38 @@ pub entries_root : (entries : List (List ℕ)) → IsDigest (root_of sha256 entr
 entries_root entries = root_is (leaf_hash sha256) entries (λ k d within. digest_is (0 ∷ get_or entries k d))
 
 pub files_grow : FilesGrow
-files_grow cut file more is end = entries_grow cut is file more end
+files_grow framing file more is end = entries_grow framing is file more end
 
 -- files one after another
-pub entries_of_all : (cut : Cut) (files : List (List ℕ)) → IsCut cut → EndWithEntries cut files →
-    entries_in cut (concat files) ≡ flat_map (entries_in cut) files
-entries_of_all cut [] is end = no_entries cut is
-entries_of_all cut (file ∷ []) is end =
-    ap (entries_in cut) (append-nil file) ∙ sym (append-nil (entries_in cut file))
-entries_of_all cut (file ∷ next ∷ files) is end =
-    files_grow cut file (concat (next ∷ files)) is end.0
-    ∙ ap (λ xs. entries_in cut file ++ xs) (entries_of_all cut (next ∷ files) is end.1)
+pub entries_of_all : (framing : Framing) (files : List (List ℕ)) → IsFraming framing → EndWithEntries framing files →
+    entries_in framing (concat files) ≡ flat_map (entries_in framing) files
+entries_of_all framing [] is end = no_entries framing is
+entries_of_all framing (file ∷ []) is end =
+    ap (entries_in framing) (append-nil file) ∙ sym (append-nil (entries_in framing file))
+entries_of_all framing (file ∷ next ∷ files) is end =
+    files_grow framing file (concat (next ∷ files)) is end.0
+    ∙ ap (λ xs. entries_in framing file ++ xs) (entries_of_all framing (next ∷ files) is end.1)
 
 -- what follows the last entry of all is what follows that of the last file
-pub refused_as : (cut : Cut) (file more : List ℕ) → IsCut cut → EndsWithEntry cut file →
-    is_refused cut None (file ++ more) ≡ is_refused cut None more
-refused_as cut file more is end =
-    ap (λ rest. refuses (partial_of cut) && (not (length rest == 0) && true)) (rest_grows cut is file more end)
+pub refused_as : (framing : Framing) (file more : List ℕ) → IsFraming framing → EndsWithEntry framing file →
+    is_refused framing None (file ++ more) ≡ is_refused framing None more
+refused_as framing file more is end =
+    ap (λ rest. refuses (partial_of framing) && (not (length rest == 0) && true)) (rest_grows framing is file more end)
 
-pub none_refused : (cut : Cut) → IsCut cut → is_refused cut None [] ≡ false
-none_refused cut is =
-    ap (λ rest. refuses (partial_of cut) && (not (length rest == 0) && true)) (no_rest cut is)
-    ∙ by (refuses (partial_of cut))
+pub none_refused : (framing : Framing) → IsFraming framing → is_refused framing None [] ≡ false
+none_refused framing is =
+    ap (λ rest. refuses (partial_of framing) && (not (length rest == 0) && true)) (no_rest framing is)
+    ∙ by (refuses (partial_of framing))
   where
     by : (b : Bool) → (b && false) ≡ false
     by true = refl
     by false = refl
 
 -- an entry of a file by its number, under a checkpoint of so many entries
-pub prints : (print : Print) (cut : Cut) (file : List ℕ) (size n : ℕ) → IsCut cut → FitsCut print cut → 1 ≤ n →
-    n ≤ size → size ≤ length (entries_in cut file) →
-    is_printable print size (record { number = n; bytes = entry_at (entries_in cut file) (n - 1) }) ≡ true
-prints Raw cut file size n is fits from to inside = refl
+pub prints : (print : Print) (framing : Framing) (file : List ℕ) (size n : ℕ) → IsFraming framing → FitsCut print framing → 1 ≤ n →
+    n ≤ size → size ≤ length (entries_in framing file) →
+    is_printable print size (record { number = n; bytes = entry_at (entries_in framing file) (n - 1) }) ≡ true
+prints Raw framing file size n is fits from to inside = refl
 prints Lines (InBlocks len) file size n is fits from to inside = absurd fits
 prints (Blocks len) (InLines partial) file size n is fits from to inside = absurd fits
 prints Lines (InLines partial) file size n is fits from to inside =

@@ -20,7 +20,7 @@ use Rattle.tlog_multiproof.specs.Instance.{log_shape}
 use Rattle.tlog_text.specs.Texts.{CheckpointFields, EntryFields}
 use Rattle.tlog_text.specs.Reading.{checkpoint_in}
 use Rattle.tlog_files.specs.Entries.{entry_at, wanted_of}
-use Rattle.tlog_files.specs.declared.cut.Cut.{Cut}
+use Rattle.tlog_files.specs.declared.framing.Framing.{Framing}
 use Rattle.tlog_files.specs.declared.reading.ReadLog.{ReadLog}
 use Rattle.tlog_text.proofs.NoteLaws.{notes}
 use Rattle.fohlazu_commands.specs.Commands.{AreNumbers, HoldsOfInput}
@@ -34,11 +34,11 @@ use Rattle.fohlazu_commands.proofs.OutcomeFacts.{are_under, goes, said_ok, stepp
 
 -- ---- entries under a checkpoint are as many as it has
 
-pub under_size : (cut : Cut) (c : CheckpointFields) (input : Option (List ℕ)) (entries : List (List ℕ)) →
-    and_then (bytes_from File input) (entries_under cut c) ≡ Ok entries → length entries ≡ c.size
-under_size cut c input entries is =
-    let read = stepped (bytes_from File input) (entries_under cut c) entries is in
-    (are_under cut c read.0 entries read.2).size
+pub under_size : (framing : Framing) (c : CheckpointFields) (input : Option (List ℕ)) (entries : List (List ℕ)) →
+    and_then (bytes_from File input) (entries_under framing c) ≡ Ok entries → length entries ≡ c.size
+under_size framing c input entries is =
+    let read = stepped (bytes_from File input) (entries_under framing c) entries is in
+    (are_under framing c read.0 entries read.2).size
 
 -- numbers that are not refused
 pub numbers_inside : (size : ℕ) (numbers : List ℕ) → first_of (number_refusal size) numbers ≡ None →

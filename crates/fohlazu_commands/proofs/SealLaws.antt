@@ -27,8 +27,8 @@ use Rattle.tlog_text.proofs.NoteLaws.{parts, read_again}
 use Rattle.tlog_text.specs.Lines.{part_origin}
 use Rattle.tlog_text.specs.Reading.{part_in}
 use Rattle.tlog_text.specs.Texts.{checkpoint_text, IsDigest}
-use Rattle.tlog_files.specs.Entries.{entries_in, is_refused, IsCut}
-use Rattle.tlog_files.specs.declared.cut.Cut.{Cut}
+use Rattle.tlog_files.specs.Entries.{entries_in, is_refused, IsFraming}
+use Rattle.tlog_files.specs.declared.framing.Framing.{Framing}
 use Rattle.fohlazu_commands.specs.Laws.{AreSealed, EndWithEntries, JoinsAreReadAgain, PartsJoin, Says, SealsAreReadAgain}
 use Rattle.fohlazu_commands.specs.Outcomes.{and_then, checkpoint_of, entries_read, is_part_size, join_outcome, join_refusal}
 use Rattle.fohlazu_commands.specs.Outcomes.{joined, part_refusal, parts_in, said_by, seal_outcome, sizes_refusal}
@@ -39,17 +39,17 @@ use Rattle.fohlazu_commands.proofs.OutcomeFacts.{none_of, ok_none, root_is, said
 -- ---- seal
 
 -- a file that is sealed, and the text
-pub record IsSealed (origin : List ℕ) (cut : Cut) (file text : List ℕ) : Type 0 where
-  pub few : length (entries_in cut file) ≤ size_limit
-  pub whole : is_refused cut None file ≡ false
-  pub text_is : text ≡ checkpoint_text (checkpoint_of origin (entries_in cut file))
+pub record IsSealed (origin : List ℕ) (framing : Framing) (file text : List ℕ) : Type 0 where
+  pub few : length (entries_in framing file) ≤ size_limit
+  pub whole : is_refused framing None file ≡ false
+  pub text_is : text ≡ checkpoint_text (checkpoint_of origin (entries_in framing file))
 
-pub is_sealed : (origin : List ℕ) (cut : Cut) (file text : List ℕ) → seal_outcome origin cut file ≡ Ok text →
-    IsSealed origin cut file text
-is_sealed origin cut file text is =
-    let found = stepped (entries_read cut None file)
+pub is_sealed : (origin : List ℕ) (framing : Framing) (file text : List ℕ) → seal_outcome origin framing file ≡ Ok text →
+    IsSealed origin framing file text
+is_sealed origin framing file text is =
+    let found = stepped (entries_read framing None file)
     (λ entries. Ok (checkpoint_text (checkpoint_of origin entries))) text is in
-    let read = is_read cut None file found.0 found.1 in
+    let read = is_read framing None file found.0 found.1 in
     let same : checkpoint_text (checkpoint_of origin found.0) ≡ text = cc in
     record {
       few = rw read.first read.few;
@@ -58,11 +58,11 @@ is_sealed origin cut file text is =
     }
 
 pub seals_read : SealsAreReadAgain
-seals_read origin cut file text is sealed =
-    let c = checkpoint_of origin (entries_in cut file) in
-    let s = is_sealed origin cut file text sealed in
+seals_read origin framing file text is sealed =
+    let c = checkpoint_of origin (entries_in framing file) in
+    let s = is_sealed origin framing file text sealed in
     subst (λ t. Says t c) (sym s.text_is)
-    (read_again c (record { origin = is; size = s.few; root = entries_root (entries_in cut file) }))
+    (read_again c (record { origin = is; size = s.few; root = entries_root (entries_in framing file) }))
 
 -- ---- join
 
@@ -222,118 +222,118 @@ sizes_to power sizes have =
 -- ---- parts
 
 -- the size and the root of a file
-abbrev fields_of : Cut → List ℕ → ℕ × List ℕ
-fields_of cut file = (length (entries_in cut file), root_of sha256 (entries_in cut file))
+abbrev fields_of : Framing → List ℕ → ℕ × List ℕ
+fields_of framing file = (length (entries_in framing file), root_of sha256 (entries_in framing file))
 
-abbrev sizes_of : Cut → List (List ℕ) → List ℕ
-sizes_of cut files = map (λ file. length (entries_in cut file)) files
+abbrev sizes_of : Framing → List (List ℕ) → List ℕ
+sizes_of framing files = map (λ file. length (entries_in framing file)) files
 
 -- the leaf hashes of each file
-abbrev leaves_of : Cut → List (List ℕ) → List (List (List ℕ))
-leaves_of cut files = map (λ file. map (leaf_hash sha256) (entries_in cut file)) files
+abbrev leaves_of : Framing → List (List ℕ) → List (List (List ℕ))
+leaves_of framing files = map (λ file. map (leaf_hash sha256) (entries_in framing file)) files
 
-module _ (cut : Cut) (is : IsCut cut) where
+module _ (framing : Framing) (is : IsFraming framing) where
   -- what the parts say
-  parts_say : (k : ℕ) (files texts : List (List ℕ)) → AreSealed cut files texts →
-      parts_in k texts ≡ Ok (map (fields_of cut) files)
+  parts_say : (k : ℕ) (files texts : List (List ℕ)) → AreSealed framing files texts →
+      parts_in k texts ≡ Ok (map (fields_of framing) files)
   parts_say k [] [] are = refl
   parts_say k [] (text ∷ texts) are = absurd are
   parts_say k (file ∷ files) [] are = absurd are
   parts_say k (file ∷ files) (text ∷ texts) are =
-      let read : part_in text ≡ Ok (checkpoint_of part_origin (entries_in cut file)) =
-      (seals_read part_origin cut file text part_is_origin are.0).1 refl in
+      let read : part_in text ≡ Ok (checkpoint_of part_origin (entries_in framing file)) =
+      (seals_read part_origin framing file text part_is_origin are.0).1 refl in
       rw (read, parts_say (k + 1) files texts are.1) refl
 
   -- the whole file is read if its parts are
-  whole : (files texts : List (List ℕ)) → AreSealed cut files texts → EndWithEntries cut files →
-      is_refused cut None (concat files) ≡ false
-  whole [] texts are end = none_refused cut is
+  whole : (files texts : List (List ℕ)) → AreSealed framing files texts → EndWithEntries framing files →
+      is_refused framing None (concat files) ≡ false
+  whole [] texts are end = none_refused framing is
   whole (file ∷ files) [] are end = absurd are
   whole (file ∷ []) (text ∷ texts) are end =
-      ap (is_refused cut None) (append-nil file) ∙ (is_sealed part_origin cut file text are.0).whole
+      ap (is_refused framing None) (append-nil file) ∙ (is_sealed part_origin framing file text are.0).whole
   whole (file ∷ next ∷ files) (text ∷ texts) are end =
-      refused_as cut file (concat (next ∷ files)) is end.0 ∙ whole (next ∷ files) texts are.1 end.1
+      refused_as framing file (concat (next ∷ files)) is end.0 ∙ whole (next ∷ files) texts are.1 end.1
 
-  sizes_say : (files : List (List ℕ)) → map (λ (p : ℕ × List ℕ). p.0) (map (fields_of cut) files) ≡ sizes_of cut files
-  sizes_say files = map-map (λ (p : ℕ × List ℕ). p.0) (fields_of cut) files
+  sizes_say : (files : List (List ℕ)) → map (λ (p : ℕ × List ℕ). p.0) (map (fields_of framing) files) ≡ sizes_of framing files
+  sizes_say files = map-map (λ (p : ℕ × List ℕ). p.0) (fields_of framing) files
 
   roots_say : (files : List (List ℕ)) →
-      map (λ (p : ℕ × List ℕ). p.1) (map (fields_of cut) files)
-      ≡ map (leaves_root sha256) (leaves_of cut files)
+      map (λ (p : ℕ × List ℕ). p.1) (map (fields_of framing) files)
+      ≡ map (leaves_root sha256) (leaves_of framing files)
   roots_say files =
-      map-map (λ (p : ℕ × List ℕ). p.1) (fields_of cut) files
-      ∙ (λ i. map (λ file. sym (mth_map sha256 (leaf_hash sha256) (entries_in cut file)) i) files)
-      ∙ sym (map-map (leaves_root sha256) (λ file. map (leaf_hash sha256) (entries_in cut file)) files)
+      map-map (λ (p : ℕ × List ℕ). p.1) (fields_of framing) files
+      ∙ (λ i. map (λ file. sym (mth_map sha256 (leaf_hash sha256) (entries_in framing file)) i) files)
+      ∙ sym (map-map (leaves_root sha256) (λ file. map (leaf_hash sha256) (entries_in framing file)) files)
 
   lengths_are : (files : List (List ℕ)) →
-      map (λ (part : List (List ℕ)). length part) (leaves_of cut files) ≡ sizes_of cut files
+      map (λ (part : List (List ℕ)). length part) (leaves_of framing files) ≡ sizes_of framing files
   lengths_are files =
-      map-map (λ (part : List (List ℕ)). length part) (λ file. map (leaf_hash sha256) (entries_in cut file)) files
-      ∙ (λ i. map (λ file. length-map (entries_in cut file) (leaf_hash sha256) i) files)
+      map-map (λ (part : List (List ℕ)). length part) (λ file. map (leaf_hash sha256) (entries_in framing file)) files
+      ∙ (λ i. map (λ file. length-map (entries_in framing file) (leaf_hash sha256) i) files)
 
   leaves_are : (files : List (List ℕ)) →
-      flat_map (λ (part : List (List ℕ)). part) (leaves_of cut files)
-      ≡ map (leaf_hash sha256) (flat_map (entries_in cut) files)
+      flat_map (λ (part : List (List ℕ)). part) (leaves_of framing files)
+      ≡ map (leaf_hash sha256) (flat_map (entries_in framing) files)
   leaves_are [] = refl
   leaves_are (file ∷ files) =
-      ap (λ leaves. map (leaf_hash sha256) (entries_in cut file) ++ leaves) (leaves_are files)
-      ∙ sym (map-append (leaf_hash sha256) (entries_in cut file) (flat_map (entries_in cut) files))
+      ap (λ leaves. map (leaf_hash sha256) (entries_in framing file) ++ leaves) (leaves_are files)
+      ∙ sym (map-append (leaf_hash sha256) (entries_in framing file) (flat_map (entries_in framing) files))
 
-  total : (files : List (List ℕ)) → sum (sizes_of cut files) ≡ length (flat_map (entries_in cut) files)
+  total : (files : List (List ℕ)) → sum (sizes_of framing files) ≡ length (flat_map (entries_in framing) files)
   total files =
-      sum-map (λ file. length (entries_in cut file)) files ∙ sym (length-flat_map (entries_in cut) files)
+      sum-map (λ file. length (entries_in framing file)) files ∙ sym (length-flat_map (entries_in framing) files)
 
-  module _ (files : List (List ℕ)) (end : EndWithEntries cut files) where
+  module _ (files : List (List ℕ)) (end : EndWithEntries framing files) where
     abbrev entries : List (List ℕ)
-    entries = entries_in cut (concat files)
+    entries = entries_in framing (concat files)
 
-    all_are : entries ≡ flat_map (entries_in cut) files
-    all_are = entries_of_all cut files is end
+    all_are : entries ≡ flat_map (entries_in framing) files
+    all_are = entries_of_all framing files is end
 
-    size_is : sum (map (λ (p : ℕ × List ℕ). p.0) (map (fields_of cut) files)) ≡ length entries
+    size_is : sum (map (λ (p : ℕ × List ℕ). p.0) (map (fields_of framing) files)) ≡ length entries
     size_is = ap sum (sizes_say files) ∙ total files ∙ ap length (sym all_are)
 
-    whole_root : (power : ℕ) → HaveSize (2 ^ power) (sizes_of cut files) →
-        leaves_root sha256 (map (λ (p : ℕ × List ℕ). p.1) (map (fields_of cut) files)) ≡ root_of sha256 entries
+    whole_root : (power : ℕ) → HaveSize (2 ^ power) (sizes_of framing files) →
+        leaves_root sha256 (map (λ (p : ℕ × List ℕ). p.1) (map (fields_of framing) files)) ≡ root_of sha256 entries
     whole_root power have =
         ap (leaves_root sha256) (roots_say files)
-        ∙ root_is_of_parts sha256 power (leaves_of cut files)
+        ∙ root_is_of_parts sha256 power (leaves_of framing files)
         (subst (λ sizes. HaveSize (2 ^ power) sizes) (sym (lengths_are files)) have)
         ∙ ap (leaves_root sha256) (leaves_are files)
-        ∙ mth_map sha256 (leaf_hash sha256) (flat_map (entries_in cut) files)
+        ∙ mth_map sha256 (leaf_hash sha256) (flat_map (entries_in framing) files)
         ∙ ap (root_of sha256) (sym all_are)
 
     -- both texts are one
-    text_is : (origin : List ℕ) (power : ℕ) → HaveSize (2 ^ power) (sizes_of cut files) →
-        checkpoint_text (joined origin (map (fields_of cut) files)) ≡ checkpoint_text (checkpoint_of origin entries)
+    text_is : (origin : List ℕ) (power : ℕ) → HaveSize (2 ^ power) (sizes_of framing files) →
+        checkpoint_text (joined origin (map (fields_of framing) files)) ≡ checkpoint_text (checkpoint_of origin entries)
     text_is origin power have =
         let root = whole_root power have in
         (λ i. checkpoint_text (record { origin = origin; size = size_is i; root = root i }))
 
 pub parts_join : PartsJoin
-parts_join origin cut files texts text is are end = (
+parts_join origin framing files texts text is are end = (
   λ done.
       let (fields, j) = is_joined origin texts text done in
-      let same : fields ≡ map (fields_of cut) files =
-      let e = sym j.fields_are ∙ parts_say cut is 0 files texts are in cc in
+      let same : fields ≡ map (fields_of framing) files =
+      let e = sym j.fields_are ∙ parts_say framing is 0 files texts are in cc in
       let sizes_are = ap (λ fields. map (λ (p : ℕ × List ℕ). p.0) fields) same in
       let (power, fits) = sizes_from (map (λ (p : ℕ × List ℕ). p.0) fields) j.sizes_fit in
-      let have : HaveSize (2 ^ power) (sizes_of cut files) =
-      subst (λ ns. HaveSize (2 ^ power) ns) (sizes_are ∙ sizes_say cut is files) fits in
-      let few : length (entries_in cut (concat files)) ≤ size_limit =
-      subst (λ n. n ≤ size_limit) (ap sum sizes_are ∙ size_is cut is files end) j.few in (
+      let have : HaveSize (2 ^ power) (sizes_of framing files) =
+      subst (λ ns. HaveSize (2 ^ power) ns) (sizes_are ∙ sizes_say framing is files) fits in
+      let few : length (entries_in framing (concat files)) ≤ size_limit =
+      subst (λ n. n ≤ size_limit) (ap sum sizes_are ∙ size_is framing is files end) j.few in (
         (power, have),
-        rw (read_ok cut None (concat files) few (whole cut is files texts are end)) (ap Ok
-            (sym (text_is cut is files end origin power have)
+        rw (read_ok framing None (concat files) few (whole framing is files texts are end)) (ap Ok
+            (sym (text_is framing is files end origin power have)
             ∙ ap (λ fields. checkpoint_text (joined origin fields)) (sym same) ∙ sym j.text_is)),
       ),
   λ ((power, have), sealed).
-      let s = is_sealed origin cut (concat files) text sealed in
-      let sizes = map (λ (p : ℕ × List ℕ). p.0) (map (fields_of cut) files) in
+      let s = is_sealed origin framing (concat files) text sealed in
+      let sizes = map (λ (p : ℕ × List ℕ). p.0) (map (fields_of framing) files) in
       let fit : sizes_refusal sizes ≡ None =
-      sizes_to power sizes (subst (λ ns. HaveSize (2 ^ power) ns) (sym (sizes_say cut is files)) have) in
+      sizes_to power sizes (subst (λ ns. HaveSize (2 ^ power) ns) (sym (sizes_say framing is files)) have) in
       let few : nat_le (sum sizes) size_limit ≡ true =
-      le-leb (sum sizes) size_limit (omega (arith, size_is cut is files end, s.few)) in
-      rw (parts_say cut is 0 files texts are, fit, few)
-      (ap Ok (text_is cut is files end origin power have ∙ sym s.text_is)),
+      le-leb (sum sizes) size_limit (omega (arith, size_is framing is files end, s.few)) in
+      rw (parts_say framing is 0 files texts are, fit, few)
+      (ap Ok (text_is framing is files end origin power have ∙ sym s.text_is)),
 )

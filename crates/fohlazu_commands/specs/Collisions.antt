@@ -3,7 +3,7 @@ use Rattle.std.specs.Prelude.{◌≡◌, ℕ, ◌-◌, ◌≤◌, List, length, 
 use Rattle.tlog_text.specs.Reading.{checkpoint_in, entries_in as proof_in}
 use Rattle.tlog_text.specs.Texts.{EntriesFields, EntryFields}
 use Rattle.tlog_files.specs.Entries.{entries_in, entry_at}
-use Rattle.tlog_files.specs.declared.cut.Cut.{Cut}
+use Rattle.tlog_files.specs.declared.framing.Framing.{Framing}
 use Rattle.fohlazu_commands.specs.Outcomes.{checkpoint_of, printed, verify_consistency_outcome, verify_outcome}
 use Rattle.fohlazu_commands.specs.declared.verify.Print.{Print}
 
@@ -12,8 +12,8 @@ abbrev pub IsCheckpointOf : List (List ℕ) → List ℕ → Type 0
 IsCheckpointOf entries text = (origin : List ℕ) × (checkpoint_in text ≡ Ok (checkpoint_of origin entries))
 
 -- a text is a checkpoint of a file: of its first entries, or of all
-abbrev pub IsCheckpointOfFile : Cut → List ℕ → List ℕ → Type 0
-IsCheckpointOfFile cut file text = (n : ℕ) × IsCheckpointOf (take n (entries_in cut file)) text
+abbrev pub IsCheckpointOfFile : Framing → List ℕ → List ℕ → Type 0
+IsCheckpointOfFile framing file text = (n : ℕ) × IsCheckpointOf (take n (entries_in framing file)) text
 
 -- an entry is the one of its number, counted from 1
 pub record IsEntryOf (entries : List (List ℕ)) (e : EntryFields) : Type 0 where
@@ -23,20 +23,20 @@ pub record IsEntryOf (entries : List (List ℕ)) (e : EntryFields) : Type 0 wher
 
 -- what `verify` prints of a proof under a checkpoint of a file are entries of the file, whichever numbers are requested
 -- and however they are printed
-abbrev pub AreEntriesOfFile : Cut → (file checkpoint proof : List ℕ) → Type 0
-AreEntriesOfFile cut file checkpoint proof =
+abbrev pub AreEntriesOfFile : Framing → (file checkpoint proof : List ℕ) → Type 0
+AreEntriesOfFile framing file checkpoint proof =
     (n : ℕ) (p : EntriesFields) (print : Print) (numbers : Option (List ℕ)) (text : List ℕ) →
-    let entries = take n (entries_in cut file) in
+    let entries = take n (entries_in framing file) in
     IsCheckpointOf entries checkpoint → proof_in proof ≡ Ok p →
     verify_outcome print checkpoint proof numbers ≡ Ok text →
     (text ≡ flat_map (printed print (is_some numbers)) p.entries) × All (IsEntryOf entries) p.entries
 
 -- where `verify-consistency` prints a checkpoint of a new file, the file begins with the entries of the old checkpoint,
 -- which is of an old file
-abbrev pub BeginsWithOldFile : Cut → (old_file new_file old proof : List ℕ) → Type 0
-BeginsWithOldFile cut old_file new_file old proof =
+abbrev pub BeginsWithOldFile : Framing → (old_file new_file old proof : List ℕ) → Type 0
+BeginsWithOldFile framing old_file new_file old proof =
     (m n : ℕ) (new : List ℕ) →
-    let old_entries = take m (entries_in cut old_file) in
-    let new_entries = take n (entries_in cut new_file) in
+    let old_entries = take m (entries_in framing old_file) in
+    let new_entries = take n (entries_in framing new_file) in
     IsCheckpointOf old_entries old → verify_consistency_outcome old proof ≡ Ok new → IsCheckpointOf new_entries new →
     old_entries ≡ take (length old_entries) new_entries

@@ -4,8 +4,8 @@ use Rattle.std.specs.Prelude.{Some, IfSome, option_map, string_bytes, true, Resu
 use Rattle.std.specs.Io.KnownBytes.{Appends}
 use Rattle.p3_answers.specs.Answers.{ok_unless, unless}
 use Rattle.tlog_text.specs.Lines.{is_origin}
-use Rattle.tlog_files.specs.Entries.{IsCut}
-use Rattle.tlog_files.specs.declared.cut.Cut.{Cut}
+use Rattle.tlog_files.specs.Entries.{IsFraming}
+use Rattle.tlog_files.specs.declared.framing.Framing.{Framing}
 use Rattle.fohlazu_commands.specs.Outcomes.{and_then, bytes_from, compared, join_outcome, numbers_under, prove_growth}
 use Rattle.fohlazu_commands.specs.Outcomes.{prove_under, requested, seal_outcome, verify_consistency_outcome}
 use Rattle.fohlazu_commands.specs.Outcomes.{verify_requested}
@@ -38,13 +38,13 @@ IsPrint Raw (Numbers numbers) = AreNumbers numbers.items × (length numbers.item
 IsPrint print requested = ⊥
 
 -- a lawful origin, blocks of 1 to 2 ^ 30 bytes, and numbers from 1 on where there are any
-abbrev pub IsLawful : {Src : Type 0} → Command Src → Type 0
-IsLawful (Seal origin cut file) = (is_origin (string_bytes origin) ≡ true) × IsCut cut
-IsLawful (Prove cut checkpoint file numbers) = IsCut cut × IfSome (option_map (λ ns. ns.items) numbers) AreNumbers
-IsLawful (Verify print checkpoint proof requested) = IsPrint print requested
-IsLawful (ProveConsistency cut old new file) = IsCut cut
-IsLawful (VerifyConsistency old proof) = Unit {0}
-IsLawful (Join origin parts) = is_origin (string_bytes origin) ≡ true
+abbrev pub IsWellFormed : {Src : Type 0} → Command Src → Type 0
+IsWellFormed (Seal origin framing file) = (is_origin (string_bytes origin) ≡ true) × IsFraming framing
+IsWellFormed (Prove framing checkpoint file numbers) = IsFraming framing × IfSome (option_map (λ ns. ns.items) numbers) AreNumbers
+IsWellFormed (Verify print checkpoint proof requested) = IsPrint print requested
+IsWellFormed (ProveConsistency framing old new file) = IsFraming framing
+IsWellFormed (VerifyConsistency old proof) = Unit {0}
+IsWellFormed (Join origin parts) = is_origin (string_bytes origin) ≡ true
 
 -- ---- inputs
 
@@ -90,29 +90,29 @@ bytes_of_parts k (input ∷ inputs) =
 -- ---- the outcome
 
 -- the outcomes by definition, from what the inputs are read as, in this order: a text to print, or an error
-abbrev pub seal_file : List ℕ → Cut → Option (List ℕ) → Result (List ℕ) Error
-seal_file origin cut file = and_then (bytes_from File file) (seal_outcome origin cut)
+abbrev pub seal_file : List ℕ → Framing → Option (List ℕ) → Result (List ℕ) Error
+seal_file origin framing file = and_then (bytes_from File file) (seal_outcome origin framing)
 
-abbrev pub prove_file : Cut → (checkpoint file : Option (List ℕ)) → List ℕ → Result (List ℕ) Error
-prove_file cut checkpoint file numbers =
+abbrev pub prove_file : Framing → (checkpoint file : Option (List ℕ)) → List ℕ → Result (List ℕ) Error
+prove_file framing checkpoint file numbers =
     and_then (note_from Checkpoint checkpoint) (λ text. and_then (requested text numbers) (λ c.
-    and_then (bytes_from File file) (prove_under cut c numbers)))
+    and_then (bytes_from File file) (prove_under framing c numbers)))
 
 -- of the requested entries, or of all of the checkpoint
-abbrev pub prove_entries : Cut → (checkpoint file : Option (List ℕ)) → Option (List ℕ) → Result (List ℕ) Error
-prove_entries cut checkpoint file numbers =
+abbrev pub prove_entries : Framing → (checkpoint file : Option (List ℕ)) → Option (List ℕ) → Result (List ℕ) Error
+prove_entries framing checkpoint file numbers =
     and_then (note_from Checkpoint checkpoint) (λ text. and_then (numbers_under numbers text)
-    (prove_file cut (Some text) file))
+    (prove_file framing (Some text) file))
 
 abbrev pub verify_proof : Print → (checkpoint proof : Option (List ℕ)) → Requested → Result (List ℕ) Error
 verify_proof print checkpoint proof requested =
     and_then (note_from Checkpoint checkpoint) (λ text. and_then (bytes_from Proof proof) (λ shown.
     verify_requested print text shown requested))
 
-abbrev pub prove_file_growth : Cut → (old new file : Option (List ℕ)) → Result (List ℕ) Error
-prove_file_growth cut old new file =
+abbrev pub prove_file_growth : Framing → (old new file : Option (List ℕ)) → Result (List ℕ) Error
+prove_file_growth framing old new file =
     and_then (note_from Old old) (λ one. and_then (note_from New new) (λ other.
-    and_then (compared one other) (λ (o, n). and_then (bytes_from File file) (prove_growth cut o n other))))
+    and_then (compared one other) (λ (o, n). and_then (bytes_from File file) (prove_growth framing o n other))))
 
 abbrev pub verify_growth : (old proof : Option (List ℕ)) → Result (List ℕ) Error
 verify_growth old proof =
@@ -124,17 +124,17 @@ join_parts origin parts = and_then (bytes_of_parts 0 parts) (join_outcome origin
 
 -- a command has this outcome
 abbrev pub HasOutcome : {Src : Type 0} → (Src → Option (List ℕ)) → Command Src → Result (List ℕ) Error → Type 0
-HasOutcome remaining (Seal origin cut file) outcome =
-    HoldsOfInput (remaining file) (λ bytes. outcome ≡ seal_file (string_bytes origin) cut bytes)
-HasOutcome remaining (Prove cut checkpoint file numbers) outcome =
+HasOutcome remaining (Seal origin framing file) outcome =
+    HoldsOfInput (remaining file) (λ bytes. outcome ≡ seal_file (string_bytes origin) framing bytes)
+HasOutcome remaining (Prove framing checkpoint file numbers) outcome =
     HoldsOfInput (remaining checkpoint) (λ text. HoldsOfInput (remaining file) (λ bytes.
-    outcome ≡ prove_entries cut text bytes (option_map (λ ns. ns.items) numbers)))
+    outcome ≡ prove_entries framing text bytes (option_map (λ ns. ns.items) numbers)))
 HasOutcome remaining (Verify print checkpoint proof requested) outcome =
     HoldsOfInput (remaining checkpoint) (λ text. HoldsOfInput (remaining proof) (λ shown.
     outcome ≡ verify_proof print text shown requested))
-HasOutcome remaining (ProveConsistency cut old new file) outcome =
+HasOutcome remaining (ProveConsistency framing old new file) outcome =
     HoldsOfInput (remaining old) (λ one. HoldsOfInput (remaining new) (λ other. HoldsOfInput (remaining file) (λ bytes.
-    outcome ≡ prove_file_growth cut one other bytes)))
+    outcome ≡ prove_file_growth framing one other bytes)))
 HasOutcome remaining (VerifyConsistency old proof) outcome =
     HoldsOfInput (remaining old) (λ one. HoldsOfInput (remaining proof) (λ shown. outcome ≡ verify_growth one shown))
 HasOutcome remaining (Join origin parts) outcome =

@@ -8,7 +8,7 @@ use Rattle.tlog_multiproof.specs.Entries.{entries_refusal}
 use Rattle.tlog_text.specs.Reading.{checkpoint_in}
 use Rattle.tlog_text.specs.Texts.{EntriesFields, EntryFields}
 use Rattle.tlog_files.specs.Entries.{entry_at, wanted_of}
-use Rattle.tlog_files.specs.declared.cut.Cut.{Cut}
+use Rattle.tlog_files.specs.declared.framing.Framing.{Framing}
 use Rattle.tlog_files.specs.declared.reading.ReadLog.{ReadLog}
 use Rattle.fohlazu_commands.specs.Outcomes.{and_then, bytes_in, entries_under, said_by}
 use Rattle.fohlazu_commands.specs.declared.error.Error.{Error}
@@ -55,6 +55,6 @@ pub record HasLeafIn (entries : List (List ℕ)) (e : EntryFields) : Type 0 wher
   pub leaf : leaf_hash sha256 e.bytes ≡ leaf_hash sha256 (entry_at entries (e.number - 1))
 
 -- the entries of a file under its checkpoint, by their texts
-abbrev pub entries_by : Source → Cut → (checkpoint file : List ℕ) → Result (List (List ℕ)) Error
-entries_by source cut checkpoint file =
-    and_then (said_by source (checkpoint_in checkpoint)) (λ c. entries_under cut c file)
+abbrev pub entries_by : Source → Framing → (checkpoint file : List ℕ) → Result (List (List ℕ)) Error
+entries_by source framing checkpoint file =
+    and_then (said_by source (checkpoint_in checkpoint)) (λ c. entries_under framing c file)

@@ -16,7 +16,7 @@ use Rattle.tlog_text.specs.Texts.{CheckpointFields, ConsistencyFields, EntriesFi
 use Rattle.tlog_text.specs.Texts.{consistency_text, entries_text}
 use Rattle.tlog_text.specs.declared.error.TextError.{TextError}
 use Rattle.tlog_files.specs.Entries.{entries_in, entry_at, first_entries, is_refused}
-use Rattle.tlog_files.specs.declared.cut.Cut.{Cut}
+use Rattle.tlog_files.specs.declared.framing.Framing.{Framing}
 use Rattle.fohlazu_commands.specs.Errors.{checkpoint_error, entries_error, text_error}
 use Rattle.fohlazu_commands.specs.declared.error.Error.{Error}
 use Rattle.fohlazu_commands.specs.declared.error.Error.TheVariants.{OutOfMemory, Read, Refused}
@@ -67,17 +67,17 @@ said_inside (Err error) = Err (checkpoint_error error)
 -- ---- entries of a file
 
 -- why a file is refused when so many of its entries are read, or all: it has too many, or it ends inside a line
-abbrev pub cut_refusal : Cut → Option ℕ → List ℕ → Option Error
-cut_refusal cut limit bytes =
+abbrev pub cut_refusal : Framing → Option ℕ → List ℕ → Option Error
+cut_refusal framing limit bytes =
     first_some (
-    unless (nat_le (length (first_entries limit (entries_in cut bytes))) size_limit) (Refused File TooManyEntries)
-    ∷ unless (not (is_refused cut limit bytes)) (Refused File EndsInsideLine)
+    unless (nat_le (length (first_entries limit (entries_in framing bytes))) size_limit) (Refused File TooManyEntries)
+    ∷ unless (not (is_refused framing limit bytes)) (Refused File EndsInsideLine)
     ∷ [])
 
 -- the first entries of a file, up to a limit, or all
-abbrev pub entries_read : Cut → Option ℕ → List ℕ → Result (List (List ℕ)) Error
-entries_read cut limit bytes =
-    ok_unless (cut_refusal cut limit bytes) (first_entries limit (entries_in cut bytes))
+abbrev pub entries_read : Framing → Option ℕ → List ℕ → Result (List (List ℕ)) Error
+entries_read framing limit bytes =
+    ok_unless (cut_refusal framing limit bytes) (first_entries limit (entries_in framing bytes))
 
 -- why so many entries with this root are not those of a checkpoint: they are fewer, or they have another root
 abbrev pub tree_refusal : CheckpointFields → ℕ → List ℕ → Option Error
@@ -88,9 +88,9 @@ tree_refusal c size root =
     ∷ [])
 
 -- the first entries of a file, as many as a checkpoint has, if they are those of the checkpoint
-abbrev pub entries_under : Cut → CheckpointFields → List ℕ → Result (List (List ℕ)) Error
-entries_under cut c bytes =
-    and_then (entries_read cut (Some c.size) bytes)
+abbrev pub entries_under : Framing → CheckpointFields → List ℕ → Result (List (List ℕ)) Error
+entries_under framing c bytes =
+    and_then (entries_read framing (Some c.size) bytes)
     (λ first. ok_unless (tree_refusal c (length first) (root_of sha256 first)) first)
 
 -- ---- seal
@@ -101,9 +101,9 @@ checkpoint_of origin entries =
     record { origin = origin; size = length entries; root = root_of sha256 entries }
 
 -- seal: the checkpoint of a file
-abbrev pub seal_outcome : List ℕ → Cut → List ℕ → Result (List ℕ) Error
-seal_outcome origin cut file =
-    and_then (entries_read cut None file) (λ entries. Ok (checkpoint_text (checkpoint_of origin entries)))
+abbrev pub seal_outcome : List ℕ → Framing → List ℕ → Result (List ℕ) Error
+seal_outcome origin framing file =
+    and_then (entries_read framing None file) (λ entries. Ok (checkpoint_text (checkpoint_of origin entries)))
 
 -- ---- prove
 
@@ -142,9 +142,9 @@ proof_over entries numbers =
     }
 
 -- prove under a checkpoint: the proof of entries of a file
-abbrev pub prove_under : Cut → CheckpointFields → List ℕ → List ℕ → Result (List ℕ) Error
-prove_under cut c numbers file =
-    and_then (entries_under cut c file) (λ entries. Ok (entries_text (proof_over entries numbers)))
+abbrev pub prove_under : Framing → CheckpointFields → List ℕ → List ℕ → Result (List ℕ) Error
+prove_under framing c numbers file =
+    and_then (entries_under framing c file) (λ entries. Ok (entries_text (proof_over entries numbers)))
 
 -- ---- verify
 
@@ -245,8 +245,8 @@ growth_text old new text entries =
     (consistency_text (record { old_size = old.size; digests = digests; checkpoint = text }))
 
 -- prove-consistency between two checkpoints: the proof over the entries of the new one
-abbrev pub prove_growth : Cut → CheckpointFields → CheckpointFields → List ℕ → List ℕ → Result (List ℕ) Error
-prove_growth cut old new text file = and_then (entries_under cut new file) (growth_text old new text)
+abbrev pub prove_growth : Framing → CheckpointFields → CheckpointFields → List ℕ → List ℕ → Result (List ℕ) Error
+prove_growth framing old new text file = and_then (entries_under framing new file) (growth_text old new text)
 
 -- why a proof is not between two checkpoints: it begins with another size than the old one's
 abbrev pub old_size_refusal : CheckpointFields → ConsistencyFields → Option Error

@@ -4,7 +4,7 @@ ghost use Rattle.std.specs.Prelude.{◌≡◌, ◌⊎◌, ◌↔◌, ℕ, List, 
 ghost use Rattle.sha2.specs.Sha256.{sha256};
 ghost use Rattle.tlog.specs.Collisions.{IsCollision, entries_of};
 ghost use Rattle.tlog.specs.Rfc9162.{leaf_hash};
-ghost use Rattle.tlog_files.specs.Entries.{IsCut};
+ghost use Rattle.tlog_files.specs.Entries.{IsFraming};
 ghost use Rattle.tlog_text.specs.Texts.{checkpoint_fields, entries_fields, entry_fields};
 ghost use Rattle.fohlazu_commands.specs.Collisions.{AreEntriesOfFile, BeginsWithOldFile, IsCheckpointOfFile, IsEntryOf};
 ghost use Rattle.fohlazu_commands.specs.Inner.{AreProved, HasLeafIn, ReadsAs, entries_by};
@@ -20,7 +20,7 @@ use sha2::Sha256;
 use std::alloc::{AllocError, Global};
 use tlog::collision::{Collision, leaf_input};
 use tlog::prefix_collision;
-use tlog_files::{Cut, ReadLog};
+use tlog_files::{Framing, ReadLog};
 use tlog_multiproof::entries_collision;
 use tlog_text::{Checkpoint, EntriesProof, Entry};
 
@@ -35,20 +35,20 @@ use tlog_text::{Checkpoint, EntriesProof, Entry};
 /// - `EndsInsideLine`, `TooFewEntries` or `OtherEntries` if the checkpoint is not of the file.
 pub fn file_entries_collision(
     alloc: Global,
-    cut: Cut,
+    framing: Framing,
     file: &[u8],
     checkpoint: &[u8],
     proof: &[u8],
 ) -> Result<Option<Collision>, Error>
-    requires { IsCut cut }
-    ensures none { IfOk result (λ found. IsNone found ↔ AreEntriesOfFile cut file.now checkpoint.now proof.now) }
+    requires { IsFraming framing }
+    ensures none { IfOk result (λ found. IsNone found ↔ AreEntriesOfFile framing file.now checkpoint.now proof.now) }
     ensures collision { IfOk result (λ found. IfSome found (IsCollision sha256)) }
     ensures refused { IfErr result (λ error. (error ≡ OutOfMemory)
         ⊎ ((verify_outcome Raw checkpoint.now proof.now None ≡ Err error)
-        ⊎ (IsCheckpointOfFile cut file.now checkpoint.now → ⊥))) }
+        ⊎ (IsCheckpointOfFile framing file.now checkpoint.now → ⊥))) }
 {
     verify(alloc, Print::Raw, checkpoint, proof, &Requested::Any)?;
-    let entries = read_entries_under(alloc, Source::Checkpoint, cut, checkpoint, file)?;
+    let entries = read_entries_under(alloc, Source::Checkpoint, framing, checkpoint, file)?;
     let proof = parse_entries_proof(alloc, proof)?;
     Ok(proved_collision(alloc, &entries, &proof)?)
 }
@@ -66,24 +66,24 @@ pub fn file_entries_collision(
 /// - the same if the new checkpoint is not of the new file.
 pub fn file_prefix_collision(
     alloc: Global,
-    cut: Cut,
+    framing: Framing,
     old_file: &[u8],
     new_file: &[u8],
     old: &[u8],
     proof: &[u8],
 ) -> Result<Option<Collision>, Error>
-    requires { IsCut cut }
+    requires { IsFraming framing }
     ensures none { IfOk result (λ found. IsNone found
-        ↔ BeginsWithOldFile cut old_file.now new_file.now old.now proof.now) }
+        ↔ BeginsWithOldFile framing old_file.now new_file.now old.now proof.now) }
     ensures collision { IfOk result (λ found. IfSome found (IsCollision sha256)) }
     ensures refused { IfErr result (λ error. (error ≡ OutOfMemory)
         ⊎ ((verify_consistency_outcome old.now proof.now ≡ Err error)
         ⊎ ((new : List ℕ) → verify_consistency_outcome old.now proof.now ≡ Ok new →
-        IsCheckpointOfFile cut old_file.now old.now → IsCheckpointOfFile cut new_file.now new → ⊥))) }
+        IsCheckpointOfFile framing old_file.now old.now → IsCheckpointOfFile framing new_file.now new → ⊥))) }
 {
     let new = verify_consistency(alloc, old, proof)?;
-    let old_entries = read_entries_under(alloc, Source::Old, cut, old, old_file)?;
-    let new_entries = read_entries_under(alloc, Source::Proof, cut, &new, new_file)?;
+    let old_entries = read_entries_under(alloc, Source::Old, framing, old, old_file)?;
+    let new_entries = read_entries_under(alloc, Source::Proof, framing, &new, new_file)?;
     let proof = parse_consistency_proof(alloc, proof)?;
     Ok(prefix_collision::<Sha256, 32>(alloc, &old_entries, &new_entries, &proof.digests)?)
 }
@@ -92,34 +92,34 @@ pub fn file_prefix_collision(
 fn read_entries_under(
     alloc: Global,
     source: Source,
-    cut: Cut,
+    framing: Framing,
     checkpoint: &[u8],
     file: &[u8],
 ) -> Result<Vec<Vec<u8>>, Error>
-    requires { IsCut cut }
-    ensures { Gives (λ entries. entries_of entries.items) result (entries_by source cut checkpoint.now file.now) }
+    requires { IsFraming framing }
+    ensures { Gives (λ entries. entries_of entries.items) result (entries_by source framing checkpoint.now file.now) }
 {
     let checkpoint = parse_checkpoint(source, checkpoint)?;
     // The first pass shows that the file has so many entries, before memory is taken for them.
-    read_bytes(alloc, cut, &checkpoint, &[], file)?;
+    read_bytes(alloc, framing, &checkpoint, &[], file)?;
     let indices: Vec<usize> = (0..checkpoint.size).collect(alloc)?;
-    let log = read_bytes(alloc, cut, &checkpoint, &indices, file)?;
+    let log = read_bytes(alloc, framing, &checkpoint, &indices, file)?;
     Ok(log.entries)
 }
 
 /// Reads the entries of a checkpoint from the bytes of its file.
 fn read_bytes(
     alloc: Global,
-    cut: Cut,
+    framing: Framing,
     checkpoint: &Checkpoint,
     wanted: &[usize],
     file: &[u8],
 ) -> Result<ReadLog, Error>
-    requires { IsCut cut }
-    ensures { ReadsAs [] wanted.now result (entries_under cut (checkpoint_fields checkpoint.now) file.now) }
+    requires { IsFraming framing }
+    ensures { ReadsAs [] wanted.now result (entries_under framing (checkpoint_fields checkpoint.now) file.now) }
 {
     let mut rest = file;
-    match read_under(alloc, cut, checkpoint, &[], wanted, &mut rest) {
+    match read_under(alloc, framing, checkpoint, &[], wanted, &mut rest) {
         // Bytes in memory are always read.
         Err(Error::Read(_)) => Err(Error::OutOfMemory),
         result => result,

@@ -1,8 +1,8 @@
 //! Runs commands.
 
 ghost use Rattle.std.specs.Prelude.{◌≡◌, ◌⊎◌, Decides, Err, IfErr, List, Ok, OnErr, Result, map, option_map, ℕ};
-ghost use Rattle.tlog_files.specs.Entries.{IsCut};
-ghost use Rattle.fohlazu_commands.specs.Commands.{AreNumbers, EndsIn, HasOutcome, HoldsOfInputs, IsLawful, IsPrint};
+ghost use Rattle.tlog_files.specs.Entries.{IsFraming};
+ghost use Rattle.fohlazu_commands.specs.Commands.{AreNumbers, EndsIn, HasOutcome, HoldsOfInputs, IsWellFormed, IsPrint};
 ghost use Rattle.fohlazu_commands.specs.Commands.{bytes_of_parts};
 ghost use Rattle.fohlazu_commands.specs.Outcomes.{bytes_in, Gives};
 ghost use Rattle.fohlazu_commands.specs.declared.error.Error.{Error};
@@ -18,7 +18,7 @@ use crate::verify::{Print, Requested, verify};
 use crate::verify_consistency::verify_consistency;
 use std::alloc::Global;
 use std::io::{ErrorKind, Read, Write};
-use tlog_files::Cut;
+use tlog_files::Framing;
 use tlog_text::is_origin;
 
 /// A command, with the inputs that it reads.
@@ -27,12 +27,12 @@ pub enum Command<R> {
     /// Prints the checkpoint of a file, or with the origin `PART_ORIGIN` of a part of a file.
     Seal {
         origin: String,
-        cut: Cut,
+        framing: Framing,
         file: R,
     },
     /// Prints a proof of entries of a file.
     Prove {
-        cut: Cut,
+        framing: Framing,
         /// The checkpoint of the file, which may have grown since.
         checkpoint: R,
         file: R,
@@ -48,7 +48,7 @@ pub enum Command<R> {
     },
     /// Prints a proof that the file of a new checkpoint begins with the entries of an old one.
     ProveConsistency {
-        cut: Cut,
+        framing: Framing,
         old: R,
         new: R,
         file: R,
@@ -68,16 +68,22 @@ pub enum Command<R> {
 impl<R> Command<R> {
     /// Whether it can be run: the origin passes [`is_origin`], a block has 1 to 2^30 bytes, and given numbers are one
     /// or more, each from 1 on. `Requested::Any` goes with `Print::Lines` alone, `Print::Raw` with exactly one number.
-    pub fn is_lawful(&self) -> bool
-        ensures { Decides result (IsLawful self.now) }
+    pub fn is_well_formed(&self) -> bool
+        ensures { Decides result (IsWellFormed self.now) }
     {
         match self {
-            Command::Seal { origin, cut, .. } => is_origin(origin) && is_cut(*cut),
-            Command::Prove { cut, numbers, .. } => {
-                is_cut(*cut) && numbers.as_deref().is_none_or(are_numbers)
-            }
+            Command::Seal {
+                origin,
+                framing,
+                ..
+            } => is_origin(origin) && is_framing(*framing),
+            Command::Prove {
+                framing,
+                numbers,
+                ..
+            } => { is_framing(*framing) && numbers.as_deref().is_none_or(are_numbers) }
             Command::Verify { print, entries, .. } => is_print(*print, entries),
-            Command::ProveConsistency { cut, .. } => is_cut(*cut),
+            Command::ProveConsistency { framing, .. } => is_framing(*framing),
             Command::VerifyConsistency { .. } => true,
             Command::Join { origin, .. } => is_origin(origin),
         }
@@ -85,12 +91,12 @@ impl<R> Command<R> {
 }
 
 /// Whether a file may be cut so.
-fn is_cut(cut: Cut) -> bool
-    ensures { Decides result (IsCut cut) }
+fn is_framing(framing: Framing) -> bool
+    ensures { Decides result (IsFraming framing) }
 {
-    match cut {
-        Cut::Lines(_) => true,
-        Cut::Blocks(size) => 1 <= size && size <= 1 << 30,
+    match framing {
+        Framing::Lines(_) => true,
+        Framing::Blocks(size) => 1 <= size && size <= 1 << 30,
     }
 }
 
@@ -109,9 +115,9 @@ fn is_print(print: Print, requested: &Requested) -> bool
         (Print::Lines, Requested::Numbers(numbers)) => are_numbers(numbers),
         (Print::Lines, _) => true,
         (Print::Blocks(size), Requested::Numbers(numbers)) => {
-            are_numbers(numbers) && is_cut(Cut::Blocks(size))
+            are_numbers(numbers) && is_framing(Framing::Blocks(size))
         }
-        (Print::Blocks(size), Requested::All) => is_cut(Cut::Blocks(size)),
+        (Print::Blocks(size), Requested::All) => is_framing(Framing::Blocks(size)),
         (Print::Raw, Requested::Numbers(numbers)) => are_numbers(numbers) && numbers.len() == 1,
         _ => false,
     }
@@ -127,7 +133,7 @@ fn is_print(print: Print, requested: &Requested) -> bool
 /// - for the first checkpoint, proof or part that cannot be read, `Read`. A checkpoint or part of more than 1000000
 ///   bytes, or a consistency proof of more than 1002860, gives `TooLong`: it is read up to its first byte above;
 /// - where all entries of a checkpoint are proved, `Line` for its first wrong line, or `TooManyNumbers` if it has more
-///   than `MOST_NUMBERS` entries;
+///   than `MAX_ENTRIES_PER_PROOF` entries;
 /// - those of the command's own call, as [`prove`] for `Command::Prove`;
 /// - `Write` if the output cannot be written. After any other error nothing is written.
 pub fn run<R: Read + Drop, W: Write>(
@@ -135,7 +141,7 @@ pub fn run<R: Read + Drop, W: Write>(
     command: Command<R>,
     output: &mut W,
 ) -> Result<(), Error>
-    requires { IsLawful command }
+    requires { IsWellFormed command }
     ensures silent { OnErr result ((result ≡ Err FailedWrite) ⊎ (output.new ≡ output.old)) }
     ensures outcome { (outcome : Result (List ℕ) Error) × HasOutcome R.remaining command outcome
         × EndsIn (W.contents output.old) (W.contents output.new) outcome result }
@@ -146,25 +152,25 @@ pub fn run<R: Read + Drop, W: Write>(
 
 /// What a command prints.
 fn answer<R: Read + Drop>(alloc: Global, command: Command<R>) -> Result<Vec<u8>, Error>
-    requires { IsLawful command }
+    requires { IsWellFormed command }
     ensures { (outcome : Result (List ℕ) Error) × HasOutcome R.remaining command outcome
         × Gives bytes_in result outcome }
 {
     match command {
         Command::Seal {
             origin,
-            cut,
+            framing,
             mut file,
-        } => seal(alloc, &origin, cut, &mut file),
+        } => seal(alloc, &origin, framing, &mut file),
         Command::Prove {
-            cut,
+            framing,
             mut checkpoint,
             mut file,
             numbers,
         } => {
             let checkpoint = read_note(alloc, Source::Checkpoint, &mut checkpoint)?;
             let numbers = numbers_of(alloc, numbers, &checkpoint)?;
-            prove(alloc, cut, &checkpoint, &numbers, &mut file)
+            prove(alloc, framing, &checkpoint, &numbers, &mut file)
         }
         Command::Verify {
             print,
@@ -177,14 +183,14 @@ fn answer<R: Read + Drop>(alloc: Global, command: Command<R>) -> Result<Vec<u8>,
             verify(alloc, print, &checkpoint, &proof, &entries)
         }
         Command::ProveConsistency {
-            cut,
+            framing,
             mut old,
             mut new,
             mut file,
         } => {
             let old = read_note(alloc, Source::Old, &mut old)?;
             let new = read_note(alloc, Source::New, &mut new)?;
-            prove_consistency(alloc, cut, &old, &new, &mut file)
+            prove_consistency(alloc, framing, &old, &new, &mut file)
         }
         Command::VerifyConsistency { mut old, mut proof } => {
             let old = read_note(alloc, Source::Old, &mut old)?;

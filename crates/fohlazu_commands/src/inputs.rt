@@ -5,7 +5,7 @@ ghost use Rattle.std.specs.Prelude.{◌≡◌, ◌⊎◌, ℕ, ◌≤◌, ◌<�
 ghost use Rattle.sha2.specs.Sha256.{sha256};
 ghost use Rattle.tlog.specs.Rfc9162.{root_of};
 ghost use Rattle.tlog.specs.Verdicts.{size_limit};
-ghost use Rattle.tlog_files.specs.Entries.{IsCut};
+ghost use Rattle.tlog_files.specs.Entries.{IsFraming};
 ghost use Rattle.tlog_text.specs.Reading.{checkpoint_in, consistency_in, entries_in};
 ghost use Rattle.tlog_text.specs.Texts.{checkpoint_fields, consistency_fields, entries_fields};
 ghost use Rattle.tlog_tree.specs.Builders.{IsBuilderOf};
@@ -20,7 +20,7 @@ ghost use Rattle.fohlazu_commands.specs.declared.error.Source.TheVariants.{File,
 use crate::error::{Error, Refusal, Source, text_error};
 use std::alloc::{AllocError, Global};
 use std::io::{ErrorKind, Read};
-use tlog_files::{Cut, ReadError, ReadLog, read_log, read_up_to};
+use tlog_files::{Framing, ReadError, ReadLog, read_log, read_up_to};
 use tlog_text::{Checkpoint, ConsistencyProof, EntriesProof};
 use tlog_tree::TreeBuilder;
 
@@ -35,34 +35,34 @@ const MAX_GROWTH_BYTES: usize = 1_002_860;
 /// entries. The errors are those of [`read_log`], with the file as their source.
 pub(crate) fn read_file<R: Read>(
     alloc: Global,
-    cut: Cut,
+    framing: Framing,
     limit: Option<usize>,
     nodes: &[(usize, usize)],
     wanted: &[usize],
     file: &mut R,
 ) -> Result<ReadLog, Error>
-    requires { IsCut cut }
+    requires { IsFraming framing }
     ensures { HoldsOfInput (R.remaining file.old) (λ input.
-        ReadsAs nodes.now wanted.now result (and_then (bytes_from File input) (entries_read cut limit))) }
+        ReadsAs nodes.now wanted.now result (and_then (bytes_from File input) (entries_read framing limit))) }
 {
-    Ok(read_log(alloc, cut, limit, nodes, wanted, file)?)
+    Ok(read_log(alloc, framing, limit, nodes, wanted, file)?)
 }
 
 /// Reads the entries of a checkpoint from its file, as [`read_file`] does, up to as many as the checkpoint has.
 /// `TooFewEntries` if the file has fewer, else `OtherEntries` if they have another root.
 pub(crate) fn read_under<R: Read>(
     alloc: Global,
-    cut: Cut,
+    framing: Framing,
     checkpoint: &Checkpoint,
     nodes: &[(usize, usize)],
     wanted: &[usize],
     file: &mut R,
 ) -> Result<ReadLog, Error>
-    requires { IsCut cut }
+    requires { IsFraming framing }
     ensures { HoldsOfInput (R.remaining file.old) (λ input. ReadsAs nodes.now wanted.now result
-        (and_then (bytes_from File input) (entries_under cut (checkpoint_fields checkpoint.now)))) }
+        (and_then (bytes_from File input) (entries_under framing (checkpoint_fields checkpoint.now)))) }
 {
-    let log = read_file(alloc, cut, Some(checkpoint.size), nodes, wanted, file)?;
+    let log = read_file(alloc, framing, Some(checkpoint.size), nodes, wanted, file)?;
     let (size, root) = size_and_root(&log);
     check_tree(checkpoint, size, &root)?;
     Ok(log)

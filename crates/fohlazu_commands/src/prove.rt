@@ -4,7 +4,7 @@ ghost use Rattle.std.specs.Prelude.{◌≡◌, ℕ, ◌-◌, ◌≤◌, List, le
 ghost use Rattle.p3_answers.specs.Answers.{first_of};
 ghost use Rattle.tlog.specs.Verdicts.{size_limit};
 ghost use Rattle.tlog_multiproof.specs.Entries.{proof_nodes};
-ghost use Rattle.tlog_files.specs.Entries.{IsCut, entry_at, wanted_of};
+ghost use Rattle.tlog_files.specs.Entries.{IsFraming, entry_at, wanted_of};
 ghost use Rattle.tlog_text.specs.Texts.{checkpoint_fields, entries_text, entry_fields};
 ghost use Rattle.fohlazu_commands.specs.{Commands.AreNumbers, Commands.HoldsOfInput};
 ghost use Rattle.fohlazu_commands.specs.Inner.{Checks, entry_of, HasEntries};
@@ -17,12 +17,12 @@ use crate::error::{Error, Refusal, Source};
 use crate::inputs::{digests_of, parse_checkpoint, read_under};
 use std::alloc::{AllocError, Global};
 use std::io::Read;
-use tlog_files::{Cut, ReadLog};
+use tlog_files::{Framing, ReadLog};
 use tlog_multiproof::entry_places;
 use tlog_text::{Checkpoint, EntriesProof, Entry};
 
 /// The most entries that `run` proves where no numbers are given, and the most numbers that `fohlazu` takes.
-pub const MOST_NUMBERS: usize = 100_000_000;
+pub const MAX_ENTRIES_PER_PROOF: usize = 100_000_000;
 
 /// The proof of entries of a file under its checkpoint, by one or more numbers, counted from 1, in the order of these,
 /// also repeated. The file may have grown: of it as many entries are read as the checkpoint has, in one pass.
@@ -41,20 +41,20 @@ pub const MOST_NUMBERS: usize = 100_000_000;
 /// - `OtherEntries` if its first entries, as many as the checkpoint has, have another root.
 pub fn prove<R: Read>(
     alloc: Global,
-    cut: Cut,
+    framing: Framing,
     checkpoint: &[u8],
     numbers: &[usize],
     file: &mut R,
 ) -> Result<Vec<u8>, Error>
-    requires cut { IsCut cut }
+    requires framing { IsFraming framing }
     requires numbers { AreNumbers numbers.now }
     ensures answer { HoldsOfInput (R.remaining file.old) (λ input. Gives bytes_in result
         (and_then (requested checkpoint.now numbers.now) (λ c.
-        and_then (bytes_from File input) (prove_under cut c numbers.now)))) }
+        and_then (bytes_from File input) (prove_under framing c numbers.now)))) }
     ensures unread { (error : Error) → requested checkpoint.now numbers.now ≡ Err error → file.new ≡ file.old }
 {
     let checkpoint = requested(checkpoint, numbers)?;
-    prove_under(alloc, cut, &checkpoint, numbers, file)
+    prove_under(alloc, framing, &checkpoint, numbers, file)
 }
 
 /// The given numbers, or those of all entries of a checkpoint.
@@ -62,7 +62,7 @@ pub fn prove<R: Read>(
 /// # Errors
 ///
 /// Where no numbers are given: `Line` for the first wrong line of the checkpoint, else `TooManyNumbers` if it has more
-/// than `MOST_NUMBERS` entries. `OutOfMemory` may come at any time.
+/// than `MAX_ENTRIES_PER_PROOF` entries. `OutOfMemory` may come at any time.
 pub(crate) fn numbers_of(
     alloc: Global,
     numbers: Option<Vec<usize>>,
@@ -77,7 +77,7 @@ pub(crate) fn numbers_of(
         return Ok(numbers);
     }
     let checkpoint = parse_checkpoint(Source::Checkpoint, checkpoint)?;
-    if checkpoint.size > MOST_NUMBERS {
+    if checkpoint.size > MAX_ENTRIES_PER_PROOF {
         return Err(Error::Refused(Source::Checkpoint, Refusal::TooManyNumbers));
     }
     Ok(all_numbers(alloc, checkpoint.size)?)
@@ -117,21 +117,21 @@ fn check_numbers(size: usize, numbers: &[usize]) -> Result<(), Error>
 /// The proof of entries under a checkpoint that has them.
 fn prove_under<R: Read>(
     alloc: Global,
-    cut: Cut,
+    framing: Framing,
     checkpoint: &Checkpoint,
     numbers: &[usize],
     file: &mut R,
 ) -> Result<Vec<u8>, Error>
-    requires cut { IsCut cut }
+    requires framing { IsFraming framing }
     requires numbers { AreNumbers numbers.now }
     requires inside { All (λ number. number ≤ checkpoint.now.size) numbers.now }
     requires limit { checkpoint.now.size ≤ size_limit }
     ensures { HoldsOfInput (R.remaining file.old) (λ input. Gives bytes_in result
-        (and_then (bytes_from File input) (prove_under cut (checkpoint_fields checkpoint.now) numbers.now))) }
+        (and_then (bytes_from File input) (prove_under framing (checkpoint_fields checkpoint.now) numbers.now))) }
 {
     let indices: Vec<usize> = numbers.iter().map(|n| n.saturating_sub(1)).collect(alloc)?;
     let places = entry_places(alloc, &indices, checkpoint.size)?;
-    let log = read_under(alloc, cut, checkpoint, &places, &indices, file)?;
+    let log = read_under(alloc, framing, checkpoint, &places, &indices, file)?;
     drop(places);
     Ok(text_of(alloc, numbers, log)?)
 }

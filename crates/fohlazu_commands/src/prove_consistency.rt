@@ -4,7 +4,7 @@ ghost use Rattle.std.specs.Prelude.{◌≡◌, ℕ, ◌≤◌, List, [], Err, If
 ghost use Rattle.sha2.specs.Sha256.{sha256};
 ghost use Rattle.tlog.specs.Rfc9162.{leaf_hash};
 ghost use Rattle.tlog_tree.specs.Trees.{all_there, values_at};
-ghost use Rattle.tlog_files.specs.Entries.{IsCut};
+ghost use Rattle.tlog_files.specs.Entries.{IsFraming};
 ghost use Rattle.tlog_text.specs.Texts.{checkpoint_fields};
 ghost use Rattle.fohlazu_commands.specs.Commands.{HoldsOfInput};
 ghost use Rattle.fohlazu_commands.specs.Inner.{HasEntries};
@@ -18,7 +18,7 @@ use crate::inputs::{check_growth, digests_of, parse_checkpoint, read_under};
 use std::alloc::{AllocError, Global};
 use std::io::Read;
 use tlog::verify_consistency;
-use tlog_files::{Cut, ReadLog};
+use tlog_files::{Framing, ReadLog};
 use tlog_text::{Checkpoint, ConsistencyProof};
 use tlog_tree::consistency_places;
 
@@ -42,19 +42,19 @@ use tlog_tree::consistency_places;
 /// - `OtherOldEntries` if the file does not begin with the entries of the old checkpoint.
 pub fn prove_consistency<R: Read>(
     alloc: Global,
-    cut: Cut,
+    framing: Framing,
     old: &[u8],
     new: &[u8],
     file: &mut R,
 ) -> Result<Vec<u8>, Error>
-    requires { IsCut cut }
+    requires { IsFraming framing }
     ensures answer { HoldsOfInput (R.remaining file.old) (λ input. Gives bytes_in result
         (and_then (compared old.now new.now) (λ (o, n).
-        and_then (bytes_from File input) (prove_growth cut o n new.now)))) }
+        and_then (bytes_from File input) (prove_growth framing o n new.now)))) }
     ensures unread { (error : Error) → compared old.now new.now ≡ Err error → file.new ≡ file.old }
 {
     let (old, checkpoint) = compared(old, new)?;
-    prove_growth(alloc, cut, &old, &checkpoint, new, file)
+    prove_growth(alloc, framing, &old, &checkpoint, new, file)
 }
 
 /// The old checkpoint and the new one that texts say, if the new one may follow the old one.
@@ -71,20 +71,20 @@ fn compared<'a, 'b>(old: &'a [u8], new: &'b [u8]) -> Result<(Checkpoint<'a>, Che
 /// The proof between two checkpoints, the new one with its text.
 fn prove_growth<R: Read>(
     alloc: Global,
-    cut: Cut,
+    framing: Framing,
     old: &Checkpoint,
     new: &Checkpoint,
     checkpoint: &[u8],
     file: &mut R,
 ) -> Result<Vec<u8>, Error>
-    requires cut { IsCut cut }
+    requires framing { IsFraming framing }
     requires ordered { old.now.size ≤ new.now.size }
     ensures { HoldsOfInput (R.remaining file.old) (λ input. Gives bytes_in result
         (and_then (bytes_from File input)
-        (prove_growth cut (checkpoint_fields old.now) (checkpoint_fields new.now) checkpoint.now))) }
+        (prove_growth framing (checkpoint_fields old.now) (checkpoint_fields new.now) checkpoint.now))) }
 {
     let places = growth_places(alloc, old.size, new.size)?;
-    let log = read_under(alloc, cut, new, &places, &[], file)?;
+    let log = read_under(alloc, framing, new, &places, &[], file)?;
     text_of(alloc, old, new, checkpoint, log)
 }
 

@@ -1,6 +1,6 @@
 //! Seals a file.
 
-ghost use Rattle.tlog_files.specs.Entries.{IsCut};
+ghost use Rattle.tlog_files.specs.Entries.{IsFraming};
 ghost use Rattle.fohlazu_commands.specs.Commands.{HoldsOfInput, seal_file};
 ghost use Rattle.fohlazu_commands.specs.Outcomes.{bytes_in, Gives};
 
@@ -8,7 +8,7 @@ use crate::error::Error;
 use crate::inputs::{read_file, size_and_root};
 use std::alloc::Global;
 use std::io::Read;
-use tlog_files::Cut;
+use tlog_files::Framing;
 use tlog_text::Checkpoint;
 
 /// The checkpoint of a file under this origin, in one pass over the file: how many entries it has, and the root of
@@ -23,12 +23,17 @@ use tlog_text::Checkpoint;
 /// - `Read` if the file cannot be read;
 /// - `TooManyEntries` if it has more than 2^62 entries;
 /// - `EndsInsideLine` if it ends inside a line, and `cut` refuses that.
-pub fn seal<R: Read>(alloc: Global, origin: &str, cut: Cut, file: &mut R) -> Result<Vec<u8>, Error>
-    requires { IsCut cut }
+pub fn seal<R: Read>(
+    alloc: Global,
+    origin: &str,
+    framing: Framing,
+    file: &mut R,
+) -> Result<Vec<u8>, Error>
+    requires { IsFraming framing }
     ensures { HoldsOfInput (R.remaining file.old)
-        (λ input. Gives bytes_in result (seal_file origin.now cut input)) }
+        (λ input. Gives bytes_in result (seal_file origin.now framing input)) }
 {
-    let log = read_file(alloc, cut, None, &[], &[], file)?;
+    let log = read_file(alloc, framing, None, &[], &[], file)?;
     let (size, root) = size_and_root(&log);
     Ok(Checkpoint { origin, size, root }.to_text(alloc)?)
 }

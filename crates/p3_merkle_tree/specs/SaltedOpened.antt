@@ -29,7 +29,7 @@ pub record Draws {P PW H C R X G V W A F : Type 0} {N D E : ℕ} {p : packed.Gho
     {h : hasher.Ghosts H P PW D V W} {c : compressor.Ghosts C PW N D W} (stream : R → Stream)
     (matrices : List (Matrix V)) (old new : HidingScheme P PW H C R X G N D E V W p pd pe q qd qe h c)
     (result : Result A F) : Type 0 where
-  pub rest : OnOk result (stream (generator_of new) ≡ after_salts E matrices (stream (generator_of old)))
+  pub generator_after : OnOk result (stream (generator_of new) ≡ after_salts E matrices (stream (generator_of old)))
   pub further : IsAfterSome E matrices (stream (generator_of old)) (stream (generator_of new))
   pub scheme : plain_of new ≡ plain_of old
 

@@ -132,7 +132,7 @@ impl<
         ensures generator { let seed = (fill_bytes R.Seed.len (R.stream (generator_of self.old))).0 in
             IfOk result (λ scheme. generator_of scheme ≡ R.of_seed seed) }
         ensures unchanged { plain_of self.new ≡ plain_of self.old }
-        ensures rest { let rest = (fill_bytes R.Seed.len (R.stream (generator_of self.old))).1 in
+        ensures generator_after { let rest = (fill_bytes R.Seed.len (R.stream (generator_of self.old))).1 in
             R.stream (generator_of self.new) ≡ rest }
     {
         let generator = R::from_rng(&mut self.generator);
@@ -301,7 +301,7 @@ fn salted_pairs<T: SaltWord, M: Matrix<T> + Drop, R: Rng>(
     ensures salted { let ms = map (matrix_of M.height_of M.width_of M.row_of) matrices.items in
         IfOk result (λ pairs. map pair_matrix pairs.matrices.items ≡ salted_matrices T.of_salt_word salt_elems ms
         (R.stream rng.old)) }
-    ensures rest { let ms = map (matrix_of M.height_of M.width_of M.row_of) matrices.items in
+    ensures generator_after { let ms = map (matrix_of M.height_of M.width_of M.row_of) matrices.items in
         OnOk result (R.stream rng.new ≡ after_salts salt_elems ms (R.stream rng.old)) }
     ensures further { let ms = map (matrix_of M.height_of M.width_of M.row_of) matrices.items in
         IsAfterSome salt_elems ms (R.stream rng.old) (R.stream rng.new) }

@@ -106,7 +106,7 @@ where
         matrices: Vec<M>,
     ) -> Result<(Self::Commitment, Self::ProverData), Self::Error>
         ensures agrees { IsSameScheme (plain_of self.old) (plain_of self.new) }
-        ensures taken { IfOk result
+        ensures matrices_accepted { IfOk result
             (λ made. CanCommitSalted M.height_of M.width_of M.row_of SALT_ELEMS matrices.items) }
         ensures matrices { IfOk result (λ made. map left_of (matrices_of made.1) ≡ matrices.items) }
         ensures commitment { IfOk result (λ made. CommitsSalted self.new (roots_of made.0) made.1) }

@@ -92,7 +92,7 @@ impl<
         matrices: Vec<M>,
     ) -> Result<(Self::Commitment, Self::ProverData), Self::Error>
         ensures agrees { IsSameScheme self.old self.new }
-        ensures taken { IfOk result (λ made. IsLawful (heights_in M.height_of M.width_of M.row_of matrices.items)) }
+        ensures matrices_accepted { IfOk result (λ made. IsLawful (heights_in M.height_of M.width_of M.row_of matrices.items)) }
         ensures matrices { IfOk result (λ made. matrices_of made.1 ≡ matrices.items) }
         ensures commitment { IfOk result (λ made. Commits self.new (roots_of made.0) made.1) }
         ensures answer { AnswersUnlessMemory result

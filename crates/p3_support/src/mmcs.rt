@@ -84,7 +84,7 @@ pub trait Mmcs<T, M: Matrix<T>> {
         matrices: Vec<M>,
     ) -> Result<(Self::Commitment, Self::ProverData), Self::Error>
         ensures agrees { agrees self.old self.new }
-        ensures taken { IfOk result (λ made. can_commit matrices.items) }
+        ensures matrices_accepted { IfOk result (λ made. can_commit matrices.items) }
         ensures matrices { IfOk result (λ made. matrices_in made.1 ≡ matrices.items) }
         ensures commitment { IfOk result (λ made. commits_to self.new made.0 made.1) }
         ensures answer { AnswersUnless is_out_of_memory result (commit_refusal matrices.items) }

@@ -185,7 +185,7 @@ pub fn unpack_at<PW: PackedValue, const D: usize>(
 fn set_lane<PW: PackedValue, const D: usize>(packed: &mut [PW; D], k: usize, column: &[PW::Value])
     requires lane { k < PW.WIDTH }
     requires long { length column.now ≡ D }
-    ensures same { lane_of PW.lanes PW.default_value k packed.new ≡ column.now }
+    ensures lane_set { lane_of PW.lanes PW.default_value k packed.new ≡ column.now }
     ensures other { (j : ℕ) → j ≢ k → lane_of PW.lanes PW.default_value j packed.new
         ≡ lane_of PW.lanes PW.default_value j packed.old }
 {

@@ -40,7 +40,7 @@ impl SaltWord for u8 {
 // If each were stored before the next is drawn, the generator's state would go through memory.
 fn next_eight<R: Rng>(rng: &mut R) -> [u64; 8]
     ensures words { result ≡ salts (λ w. w) 8 (R.stream rng.old) }
-    ensures rest { R.stream rng.new ≡ after_words 8 (R.stream rng.old) }
+    ensures generator_after { R.stream rng.new ≡ after_words 8 (R.stream rng.old) }
 {
     [
         rng.next_u64(),
@@ -107,7 +107,7 @@ impl<T: SaltWord> RowMajorMatrix<T> {
         ensures width { IfOk result (λ m. row_width m ≡ cols) }
         ensures height { 1 ≤ cols → IfOk result (λ m. row_count m ≡ rows) }
         ensures no_width { cols ≡ 0 → IfOk result (λ m. row_count m ≡ 0) }
-        ensures rest { OnOk result (R.stream rng.new ≡ after_words (rows * cols) (R.stream rng.old)) }
+        ensures generator_after { OnOk result (R.stream rng.new ≡ after_words (rows * cols) (R.stream rng.old)) }
         ensures too_large { 2 ^ 64 ≤ rows * cols → IsErr result }
         ensures untouched { OnErr result (rng.new ≡ rng.old) }
     {

@@ -1,12 +1,12 @@
 //! A case: the words of its question, read one by one, and its answer.
 ghost use Rattle.std.specs.Prelude.{IfOk};
-ghost use Rattle.tlog_files.specs.Entries.{IsCut};
+ghost use Rattle.tlog_files.specs.Entries.{IsFraming};
 
 use anyhow::{Result, bail, ensure};
 use percent_encoding::percent_decode_str;
 use std::alloc::Global;
 use std::fmt::{Display, Write};
-use tlog_files::{Cut, PartialLine};
+use tlog_files::{Framing, PartialLine};
 
 /// A case.
 #[derive(Drop)]
@@ -88,17 +88,17 @@ impl<'a> Case<'a> {
     }
 
     /// The next word as a cut: what becomes of a partial line, or the size of a block.
-    pub fn cut(&mut self) -> Result<Cut>
-        ensures { IfOk result (λ cut. IsCut cut) }
+    pub fn framing(&mut self) -> Result<Framing>
+        ensures { IfOk result (λ framing. IsFraming framing) }
     {
         let word = self.word();
         let size: usize = word.parse().unwrap_or(1);
         ensure!(0 < size && size <= 1 << 30, "no block: {word}");
         Ok(match word {
-            "refuse" => Cut::Lines(PartialLine::Refuse),
-            "leave-out" => Cut::Lines(PartialLine::LeaveOut),
-            "include" => Cut::Lines(PartialLine::Include),
-            _ => Cut::Blocks(size),
+            "refuse" => Framing::Lines(PartialLine::Refuse),
+            "leave-out" => Framing::Lines(PartialLine::LeaveOut),
+            "include" => Framing::Lines(PartialLine::Include),
+            _ => Framing::Blocks(size),
         })
     }
 

@@ -18,15 +18,20 @@ fn push_outcome(case: &mut Case<'_>, found: &Result<Option<Collision>, Error>) -
 
 /// `file_entries CUT FILE CHECKPOINT PROOF`.
 pub fn file_entries(case: &mut Case<'_>) -> Result<()> {
-    let (cut, file, checkpoint, proof) = (case.cut()?, case.bytes()?, case.bytes()?, case.bytes()?);
-    let found = file_entries_collision(case.alloc, cut, &file, &checkpoint, &proof);
+    let (framing, file, checkpoint, proof) = (
+        case.framing()?,
+        case.bytes()?,
+        case.bytes()?,
+        case.bytes()?,
+    );
+    let found = file_entries_collision(case.alloc, framing, &file, &checkpoint, &proof);
     push_outcome(case, &found)
 }
 
 /// `file_prefix CUT OLD-FILE NEW-FILE CHECKPOINT PROOF`.
 pub fn file_prefix(case: &mut Case<'_>) -> Result<()> {
-    let (cut, old, new) = (case.cut()?, case.bytes()?, case.bytes()?);
+    let (framing, old, new) = (case.framing()?, case.bytes()?, case.bytes()?);
     let (checkpoint, proof) = (case.bytes()?, case.bytes()?);
-    let found = file_prefix_collision(case.alloc, cut, &old, &new, &checkpoint, &proof);
+    let found = file_prefix_collision(case.alloc, framing, &old, &new, &checkpoint, &proof);
     push_outcome(case, &found)
 }

@@ -51,12 +51,12 @@ impl Read for Pieces<'_> {
 /// `-`. It has the size, the first four bytes of the root and of each node, and the length of each entry with the first
 /// four bytes of its SHA-256. A read gives READS bytes at most; with `!` after it reads fail where the bytes end.
 pub fn file(case: &mut Case<'_>) -> Result<()> {
-    let (cut, limit) = (case.cut()?, case.word().parse().ok());
+    let (framing, limit) = (case.framing()?, case.word().parse().ok());
     let (nodes, entries) = (case.nodes()?, case.numbers()?);
     let reads = case.word();
     let bytes = case.bytes()?;
     let mut pieces = Pieces::new(reads, &bytes)?;
-    match read_log(case.alloc, cut, limit, &nodes, &entries, &mut pieces) {
+    match read_log(case.alloc, framing, limit, &nodes, &entries, &mut pieces) {
         Ok(log) => {
             write!(case.answer, "{} ", log.tree.frontier().size())?;
             case.push_short(Some(log.tree.frontier().root()))?;

@@ -3,20 +3,20 @@
 //! Indices are counted from 0, sizes go up to 2^62.
 #![tactic(auto)]
 
+mod binding;
 pub mod collision;
+mod compose;
 pub mod consistency;
 mod error;
-mod fixed;
-mod growth;
 mod hash;
 pub mod inclusion;
 pub mod laws;
 
-pub use consistency::verify_consistency;
-pub use error::{ComposeError, ProofError};
-pub use fixed::{
+pub use binding::{
     consistency_collision, entry_collision, leaf_collision, prefix_collision, proof_collision,
 };
-pub use growth::{compose, growth_collision};
+pub use compose::{compose, growth_collision};
+pub use consistency::verify_consistency;
+pub use error::{ComposeError, ProofError};
 pub use hash::{EMPTY_ROOT, LogHash, leaf_hash, node_hash};
 pub use inclusion::{SIZE_LIMIT, verify_inclusion};

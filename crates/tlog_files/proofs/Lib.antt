@@ -1,5 +1,5 @@
-mod CutFacts
-pub mod CutFiles
+mod FramingFacts
+pub mod FramedFiles
 mod LimitedFacts
 mod ReaderFacts
 mod SplitterFacts

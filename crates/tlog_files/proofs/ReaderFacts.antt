@@ -19,7 +19,7 @@ use Rattle.tlog_files.specs.Entries.{refuses, rest_of, HoldsOfFile}
 use Rattle.tlog_files.specs.Errors.{read_error_of}
 use Rattle.tlog_files.specs.Inner.Wanted.{HoldsWanted}
 use Rattle.tlog_files.specs.Logs.{IsLogOf}
-use Rattle.tlog_files.specs.declared.cut.Cut.{Cut}
+use Rattle.tlog_files.specs.declared.framing.Framing.{Framing}
 use Rattle.tlog_files.specs.declared.error.ReadError.{ReadError}
 use Rattle.tlog_files.specs.declared.error.ReadError.TheVariants.{EndsInsideLine, OutOfMemory, TooManyEntries}
 use Rattle.tlog_files.specs.declared.error.ReadError.TheVariants.{Read as FailedRead}
@@ -58,13 +58,13 @@ grown_on nodes wanted s t tree grown bytes more room g step =
       all_read = step.all_read;
     }
 
-pub log_of : (log : ReadLog) (cut : Cut) (limit : ℕ) (nodes : List (ℕ × ℕ)) (wanted bytes : List ℕ) (w : WantedEntries)
-    (ended hashes : List (List ℕ)) → AreAll wanted w cut limit ended bytes hashes →
+pub log_of : (log : ReadLog) (framing : Framing) (limit : ℕ) (nodes : List (ℕ × ℕ)) (wanted bytes : List ℕ) (w : WantedEntries)
+    (ended hashes : List (List ℕ)) → AreAll wanted w framing limit ended bytes hashes →
     IsBuilderOf (leaves ended ++ hashes) nodes log.tree →
     ((all : List (List ℕ)) (open_bytes : List ℕ) → HoldsWanted w wanted all open_bytes →
     map (λ entry. entry.items) log.entries.items ≡ wanted_of all wanted) →
-    IsLogOf log cut (Some limit) nodes wanted bytes
-log_of log cut limit nodes wanted bytes w ended hashes all built kept =
+    IsLogOf log framing (Some limit) nodes wanted bytes
+log_of log framing limit nodes wanted bytes w ended hashes all built kept =
     record {
       not_refused = all.not_refused;
       tree = subst (λ xs. IsBuilderOf xs nodes log.tree)
@@ -89,46 +89,46 @@ size_of entries nodes tree built = built.frontier.size ∙ length-map entries (l
 
 -- ---- why a file is not read
 
-pub refused_many : (cut : Cut) (limit : Option ℕ) (n : ℕ) (bytes : List ℕ) → n ≡ unwrap_or limit (2 ^ 64 - 1) →
-    AreTooMany cut n bytes → read_refusal cut limit bytes ≡ Some TooManyEntries
-refused_many cut (Some m) n bytes is many =
-    let far : 2 ^ 62 < length (take m (entries_in cut bytes)) = subst (λ k. AreTooMany cut k bytes) is many in
-    ap (λ few. refusal_of few (is_refused cut (Some m) bytes))
-    (lt-leb (length (take m (entries_in cut bytes))) (2 ^ 62) far)
-refused_many cut None n bytes is many =
-    let entries = entries_in cut bytes in
-    ap (λ few. refusal_of few (is_refused cut None bytes))
+pub refused_many : (framing : Framing) (limit : Option ℕ) (n : ℕ) (bytes : List ℕ) → n ≡ unwrap_or limit (2 ^ 64 - 1) →
+    AreTooMany framing n bytes → read_refusal framing limit bytes ≡ Some TooManyEntries
+refused_many framing (Some m) n bytes is many =
+    let far : 2 ^ 62 < length (take m (entries_in framing bytes)) = subst (λ k. AreTooMany framing k bytes) is many in
+    ap (λ few. refusal_of few (is_refused framing (Some m) bytes))
+    (lt-leb (length (take m (entries_in framing bytes))) (2 ^ 62) far)
+refused_many framing None n bytes is many =
+    let entries = entries_in framing bytes in
+    ap (λ few. refusal_of few (is_refused framing None bytes))
     (lt-leb (length entries) (2 ^ 62) (omega (arith, many, length-take n entries)))
 
 -- the file ends inside a line
 pub refused_inside : (nodes : List (ℕ × ℕ)) (wanted : List ℕ) (s : Splitter) (tree : TreeBuilder)
     (front bytes : List ℕ) → (b : HasBuilt nodes wanted s tree front) → (e : ReadError) →
-    (e ≡ OutOfMemory) ⊎ ((e ≡ EndsInsideLine) × (is_refused s.cut (Some s.limit) bytes ≡ true)
-    × (take s.limit (entries_in s.cut bytes) ≡ b.ended)) →
-    (e ≡ OutOfMemory) ⊎ (read_refusal s.cut (Some s.limit) bytes ≡ Some e)
+    (e ≡ OutOfMemory) ⊎ ((e ≡ EndsInsideLine) × (is_refused s.framing (Some s.limit) bytes ≡ true)
+    × (take s.limit (entries_in s.framing bytes) ≡ b.ended)) →
+    (e ≡ OutOfMemory) ⊎ (read_refusal s.framing (Some s.limit) bytes ≡ Some e)
 refused_inside nodes wanted s tree front bytes b e (inl none) = inl none
 refused_inside nodes wanted s tree front bytes b e (inr (is, refused, all)) =
-    let read = take s.limit (entries_in s.cut bytes) in
+    let read = take s.limit (entries_in s.framing bytes) in
     let few : length read ≤ 2 ^ 62 =
     omega (arith, ap length all, size_of b.ended nodes tree b.built, tree.frontier.limit) in
     inr ((λ i. refusal_of (le-leb (length read) (2 ^ 62) few i) (refused i)) ∙ ap Some (sym is))
 
 pub many_at_end : (nodes : List (ℕ × ℕ)) (wanted : List ℕ) (s : Splitter) (tree : TreeBuilder) (front bytes : List ℕ) →
     (b : HasBuilt nodes wanted s tree front) → (w : WantedEntries) (hashes : List (List ℕ)) →
-    AreAll wanted w s.cut s.limit b.ended bytes hashes →
-    nat_lt size_limit (tree.frontier.size + length hashes) ≡ true → AreTooMany s.cut s.limit bytes
+    AreAll wanted w s.framing s.limit b.ended bytes hashes →
+    nat_lt size_limit (tree.frontier.size + length hashes) ≡ true → AreTooMany s.framing s.limit bytes
 many_at_end nodes wanted s tree front bytes b w hashes all many =
     let more = ap length all.hashed ∙ length-map all.more (leaf_hash sha256) in
     let far = ltb-true size_limit (tree.frontier.size + length hashes) many in
     let size = size_of b.ended nodes tree b.built in
     omega (arith, far, size, more, ap length all.all, length-append b.ended all.more)
 
-pub refused_far : (e : ReadError) (cut : Cut) (limit : ℕ) (bytes : List ℕ) →
-    (e ≡ OutOfMemory) ⊎ ((e ≡ TooManyEntries) × AreTooMany cut limit bytes) →
-    (e ≡ OutOfMemory) ⊎ (read_refusal cut (Some limit) bytes ≡ Some e)
-refused_far e cut limit bytes (inl none) = inl none
-refused_far e cut limit bytes (inr (is, many)) =
-    inr (refused_many cut (Some limit) limit bytes refl many ∙ ap Some (sym is))
+pub refused_far : (e : ReadError) (framing : Framing) (limit : ℕ) (bytes : List ℕ) →
+    (e ≡ OutOfMemory) ⊎ ((e ≡ TooManyEntries) × AreTooMany framing limit bytes) →
+    (e ≡ OutOfMemory) ⊎ (read_refusal framing (Some limit) bytes ≡ Some e)
+refused_far e framing limit bytes (inl none) = inl none
+refused_far e framing limit bytes (inr (is, many)) =
+    inr (refused_many framing (Some limit) limit bytes refl many ∙ ap Some (sym is))
 
 -- what holds of a file that was read to its end, or far enough for whatever follows, where some that was read is left
 pub of_file : (before after : Option (List ℕ)) (front left : List ℕ) (Enough : Type 0) →
@@ -154,11 +154,11 @@ only e Many is (inl none) = absurd (cc)
 only e Many is (inr far) = far.1
 
 -- as a file is read
-pub refused_reading : (e : ReadError) (cut : Cut) (limit : ℕ) (before after : Option (List ℕ)) (front more : List ℕ) →
+pub refused_reading : (e : ReadError) (framing : Framing) (limit : ℕ) (before after : Option (List ℕ)) (front more : List ℕ) →
     Consumes before after (front ++ more) →
-    ((rest : List ℕ) → (e ≡ OutOfMemory) ⊎ ((e ≡ TooManyEntries) × AreTooMany cut limit (front ++ (more ++ rest)))) →
-    (e ≡ OutOfMemory) ⊎ ((e ≡ FailedRead) ⊎ ((e ≡ TooManyEntries) × ReadsTooMany cut limit before after))
-refused_reading e cut limit before after front more consumed each =
+    ((rest : List ℕ) → (e ≡ OutOfMemory) ⊎ ((e ≡ TooManyEntries) × AreTooMany framing limit (front ++ (more ++ rest)))) →
+    (e ≡ OutOfMemory) ⊎ ((e ≡ FailedRead) ⊎ ((e ≡ TooManyEntries) × ReadsTooMany framing limit before after))
+refused_reading e framing limit before after front more consumed each =
     elim (each []) [
       | inl none ↦ inl none
       | inr far ↦
@@ -167,23 +167,23 @@ refused_reading e cut limit before after front more consumed each =
             record {
               front = front ++ more;
               consumed = consumed;
-              many = λ rest. subst (λ bytes. AreTooMany cut limit bytes) (sym (append_assoc front more rest))
-                  (only e (AreTooMany cut limit (front ++ (more ++ rest))) far.0 (each rest));
+              many = λ rest. subst (λ bytes. AreTooMany framing limit bytes) (sym (append_assoc front more rest))
+                  (only e (AreTooMany framing limit (front ++ (more ++ rest))) far.0 (each rest));
             },
           ))
     ]
 
 -- and once it was
-pub refused_file : (e : ReadError) (cut : Cut) (limit : Option ℕ) (n : ℕ) (before after : Option (List ℕ)) →
+pub refused_file : (e : ReadError) (framing : Framing) (limit : Option ℕ) (n : ℕ) (before after : Option (List ℕ)) →
     n ≡ unwrap_or limit (2 ^ 64 - 1) →
-    (e ≡ OutOfMemory) ⊎ ((e ≡ FailedRead) ⊎ ((e ≡ TooManyEntries) × ReadsTooMany cut n before after)) →
-    (e ≡ OutOfMemory) ⊎ ((e ≡ FailedRead) ⊎ HoldsOfFile before (λ bytes. read_refusal cut limit bytes ≡ Some e))
-refused_file e cut limit n before after is (inl none) = inl none
-refused_file e cut limit n before after is (inr (inl failed)) = inr (inl failed)
-refused_file e cut limit n before after is (inr (inr (why, far))) =
+    (e ≡ OutOfMemory) ⊎ ((e ≡ FailedRead) ⊎ ((e ≡ TooManyEntries) × ReadsTooMany framing n before after)) →
+    (e ≡ OutOfMemory) ⊎ ((e ≡ FailedRead) ⊎ HoldsOfFile before (λ bytes. read_refusal framing limit bytes ≡ Some e))
+refused_file e framing limit n before after is (inl none) = inl none
+refused_file e framing limit n before after is (inr (inl failed)) = inr (inl failed)
+refused_file e framing limit n before after is (inr (inr (why, far))) =
     let (more, _, holds) = of_file before after [] far.front (Unit {0}) far.consumed (inr tt) (inr tt) in
-    inr (inr (holds (λ bytes. read_refusal cut limit bytes ≡ Some e)
-    (refused_many cut limit n (far.front ++ more) is (far.many more) ∙ ap Some (sym why))))
+    inr (inr (holds (λ bytes. read_refusal framing limit bytes ≡ Some e)
+    (refused_many framing limit n (far.front ++ more) is (far.many more) ∙ ap Some (sym why))))
 
 -- ---- without a limit
 
@@ -199,37 +199,37 @@ same_read None n entries is few =
       sym (lt-ltb (length entries) n (omega (arith, few, count, is))),
     )
 
-pub log_with : (log : ReadLog) (cut : Cut) (limit : Option ℕ) (n : ℕ) (nodes : List (ℕ × ℕ)) (wanted bytes : List ℕ) →
-    n ≡ unwrap_or limit (2 ^ 64 - 1) → IsLogOf log cut (Some n) nodes wanted bytes →
-    IsLogOf log cut limit nodes wanted bytes
-log_with log cut limit n nodes wanted bytes is log_is =
-    let entries = entries_in cut bytes in
+pub log_with : (log : ReadLog) (framing : Framing) (limit : Option ℕ) (n : ℕ) (nodes : List (ℕ × ℕ)) (wanted bytes : List ℕ) →
+    n ≡ unwrap_or limit (2 ^ 64 - 1) → IsLogOf log framing (Some n) nodes wanted bytes →
+    IsLogOf log framing limit nodes wanted bytes
+log_with log framing limit n nodes wanted bytes is log_is =
+    let entries = entries_in framing bytes in
     let count = log_is.tree.frontier.size ∙ length-map (take n entries) (leaf_hash sha256) in
     let (first, short) = same_read limit n entries is (omega (arith, count, log.tree.frontier.limit)) in
     record {
-      not_refused = ap (λ t. refuses (partial_of cut) && (not (length (rest_of cut bytes) == 0) && t)) short
+      not_refused = ap (λ t. refuses (partial_of framing) && (not (length (rest_of framing bytes) == 0) && t)) short
           ∙ log_is.not_refused;
       tree = rw first log_is.tree;
       entries = log_is.entries ∙ ap (λ xs. wanted_of xs wanted) (sym first);
     }
 
-same_refusal : (cut : Cut) (limit : Option ℕ) (n : ℕ) (bytes : List ℕ) → n ≡ unwrap_or limit (2 ^ 64 - 1) →
-    read_refusal cut limit bytes ≡ read_refusal cut (Some n) bytes
-same_refusal cut limit n bytes is =
-    elim (cases_lt (2 ^ 62) (length (take n (entries_in cut bytes)))) [
-      | inl many ↦ refused_many cut limit n bytes is many ∙ sym (refused_many cut (Some n) n bytes refl many)
+same_refusal : (framing : Framing) (limit : Option ℕ) (n : ℕ) (bytes : List ℕ) → n ≡ unwrap_or limit (2 ^ 64 - 1) →
+    read_refusal framing limit bytes ≡ read_refusal framing (Some n) bytes
+same_refusal framing limit n bytes is =
+    elim (cases_lt (2 ^ 62) (length (take n (entries_in framing bytes)))) [
+      | inl many ↦ refused_many framing limit n bytes is many ∙ sym (refused_many framing (Some n) n bytes refl many)
       | inr few ↦
-          let (first, short) = same_read limit n (entries_in cut bytes) is few in
+          let (first, short) = same_read limit n (entries_in framing bytes) is few in
           λ i. refusal_of (nat_le (length (first i)) (2 ^ 62))
-          (refuses (partial_of cut) && (not (length (rest_of cut bytes) == 0) && short i))
+          (refuses (partial_of framing) && (not (length (rest_of framing bytes) == 0) && short i))
     ]
 
-pub refused_either : (e : ReadError) (was cut : Cut) (limit : Option ℕ) (n : ℕ) (bytes : List ℕ)
-    (before : Option (List ℕ)) → was ≡ cut → n ≡ unwrap_or limit (2 ^ 64 - 1) →
+pub refused_either : (e : ReadError) (was framing : Framing) (limit : Option ℕ) (n : ℕ) (bytes : List ℕ)
+    (before : Option (List ℕ)) → was ≡ framing → n ≡ unwrap_or limit (2 ^ 64 - 1) →
     ((Holds : List ℕ → Type 0) → Holds bytes → HoldsOfFile before Holds) →
     (e ≡ OutOfMemory) ⊎ (read_refusal was (Some n) bytes ≡ Some e) →
-    (e ≡ OutOfMemory) ⊎ ((e ≡ FailedRead) ⊎ HoldsOfFile before (λ bs. read_refusal cut limit bs ≡ Some e))
-refused_either e was cut limit n bytes before same is holds (inl none) = inl none
-refused_either e was cut limit n bytes before same is holds (inr refusal) =
-    inr (inr (holds (λ bs. read_refusal cut limit bs ≡ Some e)
-    (same_refusal cut limit n bytes is ∙ ap (λ k. read_refusal k (Some n) bytes) (sym same) ∙ refusal)))
+    (e ≡ OutOfMemory) ⊎ ((e ≡ FailedRead) ⊎ HoldsOfFile before (λ bs. read_refusal framing limit bs ≡ Some e))
+refused_either e was framing limit n bytes before same is holds (inl none) = inl none
+refused_either e was framing limit n bytes before same is holds (inr refusal) =
+    inr (inr (holds (λ bs. read_refusal framing limit bs ≡ Some e)
+    (same_refusal framing limit n bytes is ∙ ap (λ k. read_refusal k (Some n) bytes) (sym same) ∙ refusal)))

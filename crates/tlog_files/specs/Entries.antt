@@ -2,17 +2,17 @@
 use Rattle.std.specs.Prelude.{ℕ, ◌*◌, ◌/◌, ◌^◌, ◌≤◌, ◌==◌, ◌&&◌, nat_le, nat_lt, not, Bool, true, false, if◌then◌else◌}
 use Rattle.std.specs.Prelude.{List, [], ◌∷◌, ◌++◌, length, take, drop, map, slice_index_or, Option, None, Some}
 use Rattle.std.specs.List.{list_all, range_with_len, slice_split}
-use Rattle.tlog_files.specs.declared.cut.Cut.{Cut}
-use Rattle.tlog_files.specs.declared.cut.Cut.TheVariants.{Lines, Blocks}
-use Rattle.tlog_files.specs.declared.cut.PartialLine.{PartialLine}
-use Rattle.tlog_files.specs.declared.cut.PartialLine.TheVariants.{Refuse, LeaveOut, Include}
+use Rattle.tlog_files.specs.declared.framing.Framing.{Framing}
+use Rattle.tlog_files.specs.declared.framing.Framing.TheVariants.{Lines, Blocks}
+use Rattle.tlog_files.specs.declared.framing.PartialLine.{PartialLine}
+use Rattle.tlog_files.specs.declared.framing.PartialLine.TheVariants.{Refuse, LeaveOut, Include}
 use Rattle.tlog_files.specs.declared.error.ReadError.{ReadError}
 use Rattle.tlog_files.specs.declared.error.ReadError.TheVariants.{EndsInsideLine, TooManyEntries}
 
 -- the size of a block, from 1 byte to 2^30
-abbrev pub IsCut : Cut → Type 0
-IsCut (Lines partial) = Unit {0}
-IsCut (Blocks size) = (1 ≤ size) × (size ≤ 2 ^ 30)
+abbrev pub IsFraming : Framing → Type 0
+IsFraming (Lines partial) = Unit {0}
+IsFraming (Blocks size) = (1 ≤ size) × (size ≤ 2 ^ 30)
 
 -- ---- whole entries
 
@@ -36,19 +36,19 @@ abbrev pub block_of : ℕ → List ℕ → ℕ → List ℕ
 block_of size bytes i = take size (drop (i * size) bytes)
 
 -- the whole entries of a file: each piece ahead of an LF, or each block that has its size
-abbrev pub whole_entries : Cut → List ℕ → List (List ℕ)
+abbrev pub whole_entries : Framing → List ℕ → List (List ℕ)
 whole_entries (Lines partial) bytes = all_but_last (pieces_of bytes)
 whole_entries (Blocks size) bytes = map (block_of size bytes) (range_with_len 0 (length bytes / size))
 
 -- the bytes that follow them
-abbrev pub rest_of : Cut → List ℕ → List ℕ
+abbrev pub rest_of : Framing → List ℕ → List ℕ
 rest_of (Lines partial) bytes = last_of (pieces_of bytes)
 rest_of (Blocks size) bytes = drop (length bytes / size * size) bytes
 
 -- ---- all entries
 
 -- what becomes of the bytes that follow the whole entries: of blocks, they are the last one
-abbrev pub partial_of : Cut → PartialLine
+abbrev pub partial_of : Framing → PartialLine
 partial_of (Lines partial) = partial
 partial_of (Blocks size) = Include
 
@@ -59,8 +59,8 @@ last_entry LeaveOut bytes = []
 last_entry Include bytes = if length bytes == 0 then [] else bytes ∷ []
 
 -- the entries of a file
-abbrev pub entries_in : Cut → List ℕ → List (List ℕ)
-entries_in cut bytes = whole_entries cut bytes ++ last_entry (partial_of cut) (rest_of cut bytes)
+abbrev pub entries_in : Framing → List ℕ → List (List ℕ)
+entries_in framing bytes = whole_entries framing bytes ++ last_entry (partial_of framing) (rest_of framing bytes)
 
 -- ---- what is read of them
 
@@ -81,15 +81,15 @@ refuses LeaveOut = false
 refuses Include = false
 
 -- whether a reader refuses a file: it comes to the end, inside a line, and refuses partial lines
-abbrev pub is_refused : Cut → Option ℕ → List ℕ → Bool
-is_refused cut limit bytes =
-    refuses (partial_of cut) && (not (length (rest_of cut bytes) == 0) && is_short limit (entries_in cut bytes))
+abbrev pub is_refused : Framing → Option ℕ → List ℕ → Bool
+is_refused framing limit bytes =
+    refuses (partial_of framing) && (not (length (rest_of framing bytes) == 0) && is_short limit (entries_in framing bytes))
 
 -- why the first entries of a file are not read: there are more than a log may have, or the file is refused
-abbrev pub read_refusal : Cut → Option ℕ → List ℕ → Option ReadError
-read_refusal cut limit bytes =
-    if nat_le (length (first_entries limit (entries_in cut bytes))) (2 ^ 62)
-    then (if is_refused cut limit bytes then Some EndsInsideLine else None) else Some TooManyEntries
+abbrev pub read_refusal : Framing → Option ℕ → List ℕ → Option ReadError
+read_refusal framing limit bytes =
+    if nat_le (length (first_entries limit (entries_in framing bytes))) (2 ^ 62)
+    then (if is_refused framing limit bytes then Some EndsInsideLine else None) else Some TooManyEntries
 
 -- the entry of this index, counted from 0
 abbrev pub entry_at : List (List ℕ) → ℕ → List ℕ

@@ -1,7 +1,7 @@
 -- Files and their entries, which the checker computes.
 use Rattle.std.specs.Prelude.{◌≡◌, true, false, [], ◌∷◌, None, Some, refl}
-use Rattle.tlog_files.specs.declared.cut.Cut.TheVariants.{Lines, Blocks}
-use Rattle.tlog_files.specs.declared.cut.PartialLine.TheVariants.{Refuse, LeaveOut, Include}
+use Rattle.tlog_files.specs.declared.framing.Framing.TheVariants.{Lines, Blocks}
+use Rattle.tlog_files.specs.declared.framing.PartialLine.TheVariants.{Refuse, LeaveOut, Include}
 use Rattle.tlog_files.specs.declared.error.ReadError.TheVariants.{EndsInsideLine}
 use Rattle.tlog_files.specs.Entries.{entries_in, is_refused, read_refusal, wanted_of}
 

@@ -2,14 +2,14 @@
 //! reader, in bounded memory; and texts that are read up to a limit.
 #![tactic(auto)]
 
-mod cut;
 mod error;
+mod framing;
 mod limited;
 mod reading;
 mod splitter;
 mod wanted;
 
-pub use cut::{Cut, PartialLine};
 pub use error::ReadError;
+pub use framing::{Framing, PartialLine};
 pub use limited::read_up_to;
 pub use reading::{ReadLog, read_log};

@@ -25,7 +25,7 @@ pub fn read_up_to<R: Read>(alloc: Global, limit: usize, input: &mut R) -> Result
     requires { limit < 2 ^ 62 }
     ensures read { IfOk result
         (λ bytes. HoldsOfFile (R.remaining input.old) (λ all. bytes.items ≡ take (limit + 1) all)) }
-    ensures rest { IfOk result (λ bytes. (length bytes.items ≤ limit + 1)
+    ensures reader_after { IfOk result (λ bytes. (length bytes.items ≤ limit + 1)
         × Consumes (R.remaining input.old) (R.remaining input.new) bytes.items) }
     ensures failed { IfErr result (λ e. (e ≡ OutOfMemory) ⊎ ((e ≡ FailedRead)
         × ((front : List ℕ) × Consumes (R.remaining input.old) (R.remaining input.new) front

@@ -2,13 +2,13 @@
 
 ghost use Rattle.std.specs.Prelude.{◌≡◌, ◌⊎◌, ◌≤◌, ◌++◌, ℕ, List, [], IfErr, IfOk, OnOk, Some};
 ghost use Rattle.std.specs.Io.KnownBytes.{Consumes, IsAtEnd};
-ghost use Rattle.tlog_files.specs.Entries.{read_refusal, HoldsOfFile, IsCut};
+ghost use Rattle.tlog_files.specs.Entries.{read_refusal, HoldsOfFile, IsFraming};
 ghost use Rattle.tlog_files.specs.Logs.{IsLogOf};
 ghost use Rattle.tlog_files.specs.Inner.Splitting.{AreTooMany, HasBuilt, HasGrown, IsReady, ReadsTooMany};
 ghost use Rattle.tlog_files.specs.declared.error.ReadError.TheVariants.{OutOfMemory, Read as FailedRead, TooManyEntries};
 
-use crate::cut::Cut;
 use crate::error::ReadError;
+use crate::framing::Framing;
 use crate::splitter::Splitter;
 use crate::wanted::{WantedEntries, places_in_order};
 use std::alloc::Global;
@@ -44,21 +44,21 @@ pub struct ReadLog {
 /// - `EndsInsideLine` if the file ends inside a line, ahead of the limit, and a partial line is refused.
 pub fn read_log<R: Read>(
     alloc: Global,
-    cut: Cut,
+    framing: Framing,
     limit: Option<usize>,
     wanted_nodes: &[(usize, usize)],
     wanted_entries: &[usize],
     file: &mut R,
 ) -> Result<ReadLog, ReadError>
-    requires { IsCut cut }
+    requires { IsFraming framing }
     ensures read { IfOk result (λ log. HoldsOfFile (R.remaining file.old)
-        (IsLogOf log cut limit wanted_nodes.now wanted_entries.now)) }
+        (IsLogOf log framing limit wanted_nodes.now wanted_entries.now)) }
     ensures refused { IfErr result (λ e. (e ≡ OutOfMemory) ⊎ ((e ≡ FailedRead)
-        ⊎ HoldsOfFile (R.remaining file.old) (λ bytes. read_refusal cut limit bytes ≡ Some e))) }
+        ⊎ HoldsOfFile (R.remaining file.old) (λ bytes. read_refusal framing limit bytes ≡ Some e))) }
 {
     let places = places_in_order(alloc, wanted_entries)?;
     let wanted = WantedEntries::new(alloc, &places)?;
-    let mut splitter = Splitter::new(cut, limit.unwrap_or(usize::MAX), wanted);
+    let mut splitter = Splitter::new(framing, limit.unwrap_or(usize::MAX), wanted);
     let tree = TreeBuilder::new(alloc, wanted_nodes)?;
     let tree = read_through(alloc, &mut splitter, tree, file)?;
     let hashes = splitter.end_file(alloc)?;
@@ -76,14 +76,14 @@ fn read_through<R: Read>(
 ) -> Result<TreeBuilder, ReadError>
     requires { IsReady splitter.old }
     ensures ready { OnOk result (IsReady splitter.new) }
-    ensures same { OnOk result ((splitter.new.cut ≡ splitter.old.cut) × (splitter.new.limit ≡ splitter.old.limit)) }
+    ensures unchanged { OnOk result ((splitter.new.framing ≡ splitter.old.framing) × (splitter.new.limit ≡ splitter.old.limit)) }
     ensures built { (nodes : List (ℕ × ℕ)) (wanted : List ℕ) → HasBuilt nodes wanted splitter.old tree [] →
         IfOk result (λ read. (bytes : List ℕ) × Consumes (R.remaining file.old) (R.remaining file.new) bytes
         × HasGrown nodes wanted splitter.new read [] bytes
         × (IsAtEnd (R.remaining file.new) ⊎ (splitter.new.limit ≤ splitter.new.count))) }
     ensures refused { (nodes : List (ℕ × ℕ)) (wanted : List ℕ) → HasBuilt nodes wanted splitter.old tree [] →
         IfErr result (λ e. (e ≡ OutOfMemory) ⊎ ((e ≡ FailedRead) ⊎ ((e ≡ TooManyEntries)
-        × ReadsTooMany splitter.old.cut splitter.old.limit (R.remaining file.old) (R.remaining file.new)))) }
+        × ReadsTooMany splitter.old.framing splitter.old.limit (R.remaining file.old) (R.remaining file.new)))) }
 {
     let mut buffer = vec![in alloc; 0; BUFFER]?;
     let window = buffer.as_mut_slice();
@@ -113,12 +113,12 @@ fn push(
 ) -> Result<TreeBuilder, ReadError>
     requires { IsReady splitter.old }
     ensures ready { OnOk result (IsReady splitter.new) }
-    ensures same { OnOk result ((splitter.new.cut ≡ splitter.old.cut) × (splitter.new.limit ≡ splitter.old.limit)) }
+    ensures unchanged { OnOk result ((splitter.new.framing ≡ splitter.old.framing) × (splitter.new.limit ≡ splitter.old.limit)) }
     ensures built { (nodes : List (ℕ × ℕ)) (wanted front : List ℕ) → HasBuilt nodes wanted splitter.old tree front →
         IfOk result (λ grown. HasGrown nodes wanted splitter.new grown front bytes.now) }
     ensures refused { (nodes : List (ℕ × ℕ)) (wanted front rest : List ℕ) →
         HasBuilt nodes wanted splitter.old tree front → IfErr result (λ e. (e ≡ OutOfMemory) ⊎ ((e ≡ TooManyEntries)
-        × AreTooMany splitter.old.cut splitter.old.limit (front ++ (bytes.now ++ rest)))) }
+        × AreTooMany splitter.old.framing splitter.old.limit (front ++ (bytes.now ++ rest)))) }
 {
     let mut left = bytes;
     'entries: while !left.is_empty() && !splitter.is_full() {

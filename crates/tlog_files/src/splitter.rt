@@ -4,13 +4,13 @@ ghost use Rattle.std.specs.Prelude.{◌≡◌, ◌⊎◌, ◌+◌, ◌<◌, ◌�
 ghost use Rattle.std.specs.Prelude.{nat_le, take, true, Some};
 ghost use Rattle.sha2.specs.Sha256.{sha256};
 ghost use Rattle.tlog.specs.Rfc9162.{leaf_hash};
-ghost use Rattle.tlog_files.specs.Entries.{entries_in, is_refused, IsCut};
+ghost use Rattle.tlog_files.specs.Entries.{entries_in, is_refused, IsFraming};
 ghost use Rattle.tlog_files.specs.Inner.Splitting.{AreAll, HasRead, Holds, HoldsOpen, IsAt, IsReady};
 ghost use Rattle.tlog_files.specs.Inner.Wanted.{HasPlaces, HoldsWanted};
 ghost use Rattle.tlog_files.specs.declared.error.ReadError.TheVariants.{EndsInsideLine, OutOfMemory};
 
-use crate::cut::{Cut, PartialLine};
 use crate::error::ReadError;
+use crate::framing::{Framing, PartialLine};
 use crate::wanted::WantedEntries;
 use sha2::{Digest, Sha256};
 use std::alloc::{AllocError, Global};
@@ -48,7 +48,7 @@ impl OpenEntry {
 /// The entries of a file, as far as its bytes have come.
 #[derive(Drop)]
 pub(crate) struct Splitter<'a> {
-    cut: Cut,
+    framing: Framing,
     /// How many entries are read at most. What follows them is left out.
     limit: usize,
     /// How many have ended.
@@ -61,15 +61,15 @@ pub(crate) struct Splitter<'a> {
 
 impl<'a> Splitter<'a> {
     /// Nothing of the file has come. At most `limit` entries of it are read. A block has from 1 to 2^30 bytes.
-    pub(crate) fn new(cut: Cut, limit: usize, wanted: WantedEntries<'a>) -> Splitter<'a>
-        requires { IsCut cut }
-        ensures same { (result.cut ≡ cut) × (result.limit ≡ limit) }
+    pub(crate) fn new(framing: Framing, limit: usize, wanted: WantedEntries<'a>) -> Splitter<'a>
+        requires { IsFraming framing }
+        ensures unchanged { (result.framing ≡ framing) × (result.limit ≡ limit) }
         ensures ready { (indices : List ℕ) → HasPlaces wanted.entry → HoldsWanted wanted.entry indices [] [] →
             IsReady result }
         ensures at { (indices : List ℕ) → HoldsWanted wanted.entry indices [] [] → IsAt indices result [] [] }
     {
         Splitter {
-            cut,
+            framing,
             limit,
             count: 0,
             open_entry: OpenEntry::new(),
@@ -96,21 +96,21 @@ impl<'a> Splitter<'a> {
         requires some { 0 < length bytes.now }
         requires room { self.old.count < self.old.limit }
         ensures ready { OnOk result (IsReady self.new) }
-        ensures same { OnOk result ((self.new.cut ≡ self.old.cut) × (self.new.limit ≡ self.old.limit)) }
+        ensures unchanged { OnOk result ((self.new.framing ≡ self.old.framing) × (self.new.limit ≡ self.old.limit)) }
         ensures fewer { IfOk result (λ (hashes, rest). length rest.now < length bytes.now) }
         ensures read { (wanted front : List ℕ) (ended : List (List ℕ)) → IsAt wanted self.old front ended →
             IfOk result (λ (hashes, rest). HasRead wanted self.new front ended bytes.now rest.now hashes.items) }
     {
         if self.open_entry.len == 0 {
             let most = self.limit.saturating_sub(self.count);
-            let (entries, rest) = self.cut.entries_at_head(alloc, most, bytes)?;
+            let (entries, rest) = self.framing.entries_at_head(alloc, most, bytes)?;
             if !entries.is_empty() {
                 self.wanted.copy(alloc, self.count, &entries)?;
                 self.count += entries.len();
                 return Ok((leaf_hashes(alloc, &entries)?, rest));
             }
         }
-        match self.cut.split_at_end(self.open_entry.len, bytes) {
+        match self.framing.split_at_end(self.open_entry.len, bytes) {
             Some((more, rest)) => {
                 self.open_entry.push(more);
                 self.wanted.push(self.count, more)?;
@@ -129,7 +129,7 @@ impl<'a> Splitter<'a> {
         requires places { HasPlaces self.old.wanted }
         requires room { self.old.count < self.old.limit }
         ensures places { OnOk result (HasPlaces self.new.wanted) }
-        ensures same { OnOk result ((self.new.cut ≡ self.old.cut) × (self.new.limit ≡ self.old.limit)) }
+        ensures unchanged { OnOk result ((self.new.framing ≡ self.old.framing) × (self.new.limit ≡ self.old.limit)) }
         ensures holds { (wanted : List ℕ) (ended : List (List ℕ)) (bytes : List ℕ) →
             Holds wanted self.old ended bytes →
             IfOk result (λ hashes. Holds wanted self.new (ended ++ bytes ∷ []) []
@@ -148,17 +148,17 @@ impl<'a> Splitter<'a> {
         ensures all { (wanted front rest : List ℕ) (ended : List (List ℕ)) → IsAt wanted self.old front ended →
             (rest ≡ []) ⊎ (self.old.limit ≤ self.old.count) →
             IfOk result (λ hashes.
-            AreAll wanted self.new.wanted self.old.cut self.old.limit ended (front ++ rest) hashes.items) }
+            AreAll wanted self.new.wanted self.old.framing self.old.limit ended (front ++ rest) hashes.items) }
         ensures refused { (wanted front rest : List ℕ) (ended : List (List ℕ)) → IsAt wanted self.old front ended →
             (rest ≡ []) ⊎ (self.old.limit ≤ self.old.count) →
             IfErr result (λ e. (e ≡ OutOfMemory) ⊎ ((e ≡ EndsInsideLine)
-            × (is_refused self.old.cut (Some self.old.limit) (front ++ rest) ≡ true)
-            × (take self.old.limit (entries_in self.old.cut (front ++ rest)) ≡ ended))) }
+            × (is_refused self.old.framing (Some self.old.limit) (front ++ rest) ≡ true)
+            × (take self.old.limit (entries_in self.old.framing (front ++ rest)) ≡ ended))) }
     {
         if self.is_full() || self.open_entry.len == 0 {
             return Ok(Vec::new(alloc));
         }
-        match self.cut.partial() {
+        match self.framing.partial() {
             PartialLine::Refuse => Err(ReadError::EndsInsideLine),
             PartialLine::LeaveOut => Ok(Vec::new(alloc)),
             PartialLine::Include => Ok(self.end(alloc)?),

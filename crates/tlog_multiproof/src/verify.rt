@@ -81,7 +81,7 @@ pub(crate) fn verify<H: LogHash<32>>(
 {
     let opening = opening_of(alloc, size, indices, leaves, proof)?;
     let cap = MerkleCap::new(vec![in alloc; [Node::Hash(*root)]]?);
-    meaning_of(log_scheme::<H>().verify_batch_pruned(
+    from_opening_verdict(log_scheme::<H>().verify_batch_pruned(
         alloc,
         &cap,
         &dimensions_of(size),
@@ -92,7 +92,7 @@ pub(crate) fn verify<H: LogHash<32>>(
 }
 
 /// The verdict on entries whose form is right, by that on their opening.
-fn meaning_of(verdict: Result<(), MerkleTreeError>) -> Result<(), EntriesError>
+fn from_opening_verdict(verdict: Result<(), MerkleTreeError>) -> Result<(), EntriesError>
     ensures { IsMeaning verdict result }
 {
     match verdict {

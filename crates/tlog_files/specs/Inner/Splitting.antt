@@ -7,16 +7,16 @@ use Rattle.sha2.specs.Sha256.{sha256}
 use Rattle.tlog.specs.Rfc9162.{leaf_hash}
 use Rattle.tlog_tree.specs.Builders.{IsBuilderOf}
 use Rattle.tlog_tree.specs.declared.builder.TreeBuilder.{TreeBuilder}
-use Rattle.tlog_files.specs.Entries.{entries_in, is_refused, rest_of, whole_entries, IsCut}
+use Rattle.tlog_files.specs.Entries.{entries_in, is_refused, rest_of, whole_entries, IsFraming}
 use Rattle.tlog_files.specs.Inner.Wanted.{HasPlaces, HoldsWanted}
-use Rattle.tlog_files.specs.declared.cut.Cut.{Cut}
-use Rattle.tlog_files.specs.declared.{cut.Cut.TheVariants.Lines, cut.Cut.TheVariants.Blocks}
+use Rattle.tlog_files.specs.declared.framing.Framing.{Framing}
+use Rattle.tlog_files.specs.declared.{framing.Framing.TheVariants.Lines, framing.Framing.TheVariants.Blocks}
 use Rattle.tlog_files.specs.declared.splitter.OpenEntry.{OpenEntry}
 use Rattle.tlog_files.specs.declared.splitter.Splitter.{Splitter}
 use Rattle.tlog_files.specs.declared.wanted.WantedEntries.{WantedEntries}
 
 -- what follows an entry that has ended
-abbrev pub ending : Cut → List ℕ
+abbrev pub ending : Framing → List ℕ
 ending (Lines partial) = 10 ∷ []
 ending (Blocks size) = []
 
@@ -25,35 +25,35 @@ abbrev pub LacksFeed : List ℕ → Type 0
 LacksFeed bytes = All (λ b. (b == 10) ≡ false) bytes
 
 -- the bytes of an entry that has ended
-abbrev pub IsWhole : Cut → List ℕ → Type 0
+abbrev pub IsWhole : Framing → List ℕ → Type 0
 IsWhole (Lines partial) bytes = LacksFeed bytes
 IsWhole (Blocks size) bytes = length bytes ≡ size
 
 -- the bytes of an entry that has not ended
-abbrev pub IsOpen : Cut → List ℕ → Type 0
+abbrev pub IsOpen : Framing → List ℕ → Type 0
 IsOpen (Lines partial) bytes = LacksFeed bytes
 IsOpen (Blocks size) bytes = length bytes < size
 
 -- ---- whole entries at the head of bytes
 
 -- entries one after another, each with what follows it
-abbrev pub joined : Cut → List (List ℕ) → List ℕ
-joined cut [] = []
-joined cut (entry ∷ entries) = entry ++ (ending cut ++ joined cut entries)
+abbrev pub joined : Framing → List (List ℕ) → List ℕ
+joined framing [] = []
+joined framing (entry ∷ entries) = entry ++ (ending framing ++ joined framing entries)
 
 -- these entries stand at the head of the bytes, and after them the rest
-pub record AreAtHead (cut : Cut) (bytes rest : List ℕ) (entries : List (List ℕ)) : Type 0 where
-  pub parts : bytes ≡ joined cut entries ++ rest
-  pub whole : All (IsWhole cut) entries
+pub record AreAtHead (framing : Framing) (bytes rest : List ℕ) (entries : List (List ℕ)) : Type 0 where
+  pub parts : bytes ≡ joined framing entries ++ rest
+  pub whole : All (IsWhole framing) entries
 
 -- ---- a place in a file
 
 -- after these bytes of a file: the entries that have ended are its first, and what follows them is in the open one
-pub record IsCutAt (cut : Cut) (front : List ℕ) (ended : List (List ℕ)) (open_bytes : List ℕ) : Type 0 where
-  pub opens : IsOpen cut open_bytes
+pub record IsCutAt (framing : Framing) (front : List ℕ) (ended : List (List ℕ)) (open_bytes : List ℕ) : Type 0 where
+  pub opens : IsOpen framing open_bytes
   pub whole : (rest : List ℕ) →
-      whole_entries cut (front ++ rest) ≡ ended ++ whole_entries cut (open_bytes ++ rest)
-  pub rest : (rest : List ℕ) → rest_of cut (front ++ rest) ≡ rest_of cut (open_bytes ++ rest)
+      whole_entries framing (front ++ rest) ≡ ended ++ whole_entries framing (open_bytes ++ rest)
+  pub rest : (rest : List ℕ) → rest_of framing (front ++ rest) ≡ rest_of framing (open_bytes ++ rest)
 
 -- the open entry has these bytes
 pub record HoldsOpen (o : OpenEntry) (open_bytes : List ℕ) : Type 0 where
@@ -71,11 +71,11 @@ pub record Holds (wanted : List ℕ) (s : Splitter) (ended : List (List ℕ)) (o
 pub record IsAt (wanted : List ℕ) (s : Splitter) (front : List ℕ) (ended : List (List ℕ)) : Type 0 where
   pub open_bytes : List ℕ
   pub holds : Holds wanted s ended open_bytes
-  pub at : IsCutAt s.cut front ended open_bytes
+  pub at : IsCutAt s.framing front ended open_bytes
 
 -- a splitter can read on
 pub record IsReady (s : Splitter) : Type 0 where
-  pub cut : IsCut s.cut
+  pub framing : IsFraming s.framing
   pub places : HasPlaces s.wanted
   pub stands : (wanted front : List ℕ) × (ended : List (List ℕ)) × IsAt wanted s front ended
 
@@ -89,24 +89,24 @@ pub record HasRead (wanted : List ℕ) (s : Splitter) (front : List ℕ) (ended 
   pub hashed : hashes ≡ map (leaf_hash sha256) more
 
 -- with these leaf hashes it has all entries of a file that are read
-pub record AreAll (wanted : List ℕ) (w : WantedEntries) (cut : Cut) (limit : ℕ) (ended : List (List ℕ))
+pub record AreAll (wanted : List ℕ) (w : WantedEntries) (framing : Framing) (limit : ℕ) (ended : List (List ℕ))
     (bytes : List ℕ) (hashes : List (List ℕ)) : Type 0 where
   pub more : List (List ℕ)
   pub open_bytes : List ℕ
-  pub all : take limit (entries_in cut bytes) ≡ ended ++ more
+  pub all : take limit (entries_in framing bytes) ≡ ended ++ more
   pub hashed : hashes ≡ map (leaf_hash sha256) more
   pub kept : HoldsWanted w wanted (ended ++ more) open_bytes
-  pub not_refused : is_refused cut (Some limit) bytes ≡ false
+  pub not_refused : is_refused framing (Some limit) bytes ≡ false
 
 -- more of its entries are read than a log may have
-abbrev pub AreTooMany : Cut → ℕ → List ℕ → Type 0
-AreTooMany cut limit bytes = 2 ^ 62 < length (take limit (entries_in cut bytes))
+abbrev pub AreTooMany : Framing → ℕ → List ℕ → Type 0
+AreTooMany framing limit bytes = 2 ^ 62 < length (take limit (entries_in framing bytes))
 
 -- so it is, whatever follows what has been read
-pub record ReadsTooMany (cut : Cut) (limit : ℕ) (before after : Option (List ℕ)) : Type 0 where
+pub record ReadsTooMany (framing : Framing) (limit : ℕ) (before after : Option (List ℕ)) : Type 0 where
   pub front : List ℕ
   pub consumed : Consumes before after front
-  pub many : (rest : List ℕ) → AreTooMany cut limit (front ++ rest)
+  pub many : (rest : List ℕ) → AreTooMany framing limit (front ++ rest)
 
 -- ---- the tree
 

@@ -8,7 +8,7 @@ use Rattle.fohlazu_commands.proofs.collisions.read_entries_under.Goals as goal
 pub returns : goal.returns
 returns c =
     let size = c.in_ok-checkpoint.checkpoint.size in
-    read_all c.args.source c.args.cut c.args.checkpoint.now c.args.file.now
+    read_all c.args.source c.args.framing c.args.checkpoint.now c.args.file.now
     (checkpoint_fields c.in_ok-checkpoint.checkpoint) c.deref.result.now c.in_ok-log.log c.in_ok-checkpoint.ensures.said
     c.in_ok-log.ensures
     (c.deref.ensures.value

@@ -23,7 +23,7 @@ returns-in_ok-numbers-in-Prove g c =
     let h = rw (c.deref-in-Prove-2.ensures.value, c.deref-in-Prove-3.ensures.value) at c.prove.ensures.answer in
     let own = goes_first bytes_in c.prove.result _ bytes _ fits h.2 in
     let out = subst (λ (r : Result (List ℕ) Error). Gives bytes_in c.prove.result
-    (and_then r (prove_file c.in-Prove.cut (Some bytes) h.0))) (sym are) own in
+    (and_then r (prove_file c.in-Prove.framing (Some bytes) h.0))) (sym are) own in
     rw c.in-Prove.is
     (_, (Some bytes, text.ensures.bytes.0, (h.0, h.1, refl)), goes_first bytes_in c.prove.result _ bytes _ fits out)
 
@@ -45,12 +45,12 @@ returns-in_err-numbers-in-Prove g c =
     let why = rw c.deref-in-Prove.ensures.value at c.in_err-numbers-in-Prove.ensures.answer in
     let next : List ℕ → Result (List ℕ) Error =
     λ text. and_then (numbers_under (option_map (λ (ns : Vec ℕ Global). ns.items) c.in-Prove.numbers) text)
-    (prove_file c.in-Prove.cut (Some text) None) in
+    (prove_file c.in-Prove.framing (Some text) None) in
     rw (c.in-Prove.is, left.1, left.2) (
       _,
       (Some bytes, text.ensures.bytes.0, (None, tt, refl)),
       goes_first bytes_in (Err c.in_err-numbers-in-Prove.field-0.0) _ bytes next fits
-          (⊎_elim inl (λ is. inr (ap (λ r. and_then r (prove_file c.in-Prove.cut (Some bytes) None)) is)) why),
+          (⊎_elim inl (λ is. inr (ap (λ r. and_then r (prove_file c.in-Prove.framing (Some bytes) None)) is)) why),
     )
 
 -- ---- verify
@@ -126,7 +126,7 @@ returns-in_err-new-in-ProveConsistency g c =
     let e = c.in_err-new-in-ProveConsistency.field-0.0 in
     let with_new : List ℕ → List ℕ → Result (List ℕ) Error =
     λ one other. and_then (compared one other) (λ (pair : CheckpointFields × CheckpointFields).
-    and_then (bytes_from File None) (prove_growth c.in-ProveConsistency.cut pair.0 pair.1 other)) in
+    and_then (bytes_from File None) (prove_growth c.in-ProveConsistency.framing pair.0 pair.1 other)) in
     let with_old : Option (List ℕ) → List ℕ → Result (List ℕ) Error =
     λ new one. and_then (note_from New new) (with_new one) in
     rw (c.in-ProveConsistency.is, left.1, left.2)

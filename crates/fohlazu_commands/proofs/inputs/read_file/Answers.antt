@@ -14,13 +14,13 @@ pub returns : goal.returns
 returns g c =
     let log = c.in_ok-read_log.field-0 in
     let found = file_known (g.R.Read.remaining c.args.file.now)
-    (IsLogOf log c.args.cut c.args.limit c.args.nodes.now c.args.wanted.now) c.in_ok-read_log.ensures.read in
-    let entries = first_entries c.args.limit (entries_in c.args.cut found.0) in (
+    (IsLogOf log c.args.framing c.args.limit c.args.nodes.now c.args.wanted.now) c.in_ok-read_log.ensures.read in
+    let entries = first_entries c.args.limit (entries_in c.args.framing found.0) in (
       Some found.0,
       found.1,
       (
         entries,
-        read_ok c.args.cut c.args.limit found.0
+        read_ok c.args.framing c.args.limit found.0
             (omega (arith, log.tree.frontier.limit, found.2.tree.frontier.size, length-map entries (leaf_hash sha256)))
             found.2.not_refused,
         record { tree = found.2.tree; wanted_are = found.2.entries },
@@ -38,6 +38,6 @@ returns-in_err-read_log g c =
     (λ failed. (None, tt, inr (ap Err (sym (is ∙ ap read_error failed)))))
     (λ refused.
     let found = file_known (g.R.Read.remaining c.args.file.now)
-    (λ bytes. read_refusal c.args.cut c.args.limit bytes ≡ Some _) refused in
-    (Some found.0, found.1, inr (read_err c.args.cut c.args.limit found.0 _ found.2 ∙ ap Err (sym is))))
+    (λ bytes. read_refusal c.args.framing c.args.limit bytes ≡ Some _) refused in
+    (Some found.0, found.1, inr (read_err c.args.framing c.args.limit found.0 _ found.2 ∙ ap Err (sym is))))
     other) c.in_err-read_log.ensures.refused)

@@ -19,7 +19,7 @@ entry_places-requires-clause-within g c =
 pub returns-in_err-log : goal.returns-in_err-log
 returns-in_err-log g c =
     let left = err_from_is_err_and c.from_residual-in_err-log.result c.from_residual-in_err-log.ensures.1 in
-    whole_stops (entries_under c.args.cut (checkpoint_fields c.args.checkpoint.now))
+    whole_stops (entries_under c.args.framing (checkpoint_fields c.args.checkpoint.now))
     (λ entries. Ok (entries_text (proof_over entries c.args.numbers.now))) bytes_in
     (g.R.Read.remaining c.args.file.now) c.deref-2.result.now c.deref-3.result.now c.from_residual-in_err-log.result _
     (left.1 ∙ ap Err left.2) c.in_err-log.ensures
@@ -39,12 +39,12 @@ returns g c =
       c.iter.ensures.rest,
       c.iter.ensures.runs,
     ) in
-    whole_goes (entries_under c.args.cut (checkpoint_fields c.args.checkpoint.now))
+    whole_goes (entries_under c.args.framing (checkpoint_fields c.args.checkpoint.now))
     (λ entries. Ok (entries_text (proof_over entries numbers))) bytes_in
     (g.R.Read.remaining c.args.file.now) c.deref-2.result.now c.deref-3.result.now c.in_ok-log.log
     (Ok c.in_ok-text_of.field-0) c.in_ok-log.ensures
     (λ input entries is has.
-    let len = under_size c.args.cut (checkpoint_fields c.args.checkpoint.now) input entries is in
+    let len = under_size c.args.framing (checkpoint_fields c.args.checkpoint.now) input entries is in
     let indices_are : c.deref-3.result.now ≡ indices = c.deref-3.ensures.value ∙ are in
     let nodes_are : c.deref-2.result.now ≡ proof_nodes (length entries) indices =
     c.deref-2.ensures.value ∙ c.in_ok-places.ensures.places

@@ -12,17 +12,17 @@ use Rattle.fohlazu_commands.proofs.prove_consistency.prove_growth.Goals as goal
 pub returns-in_err-log : goal.returns-in_err-log
 returns-in_err-log g c =
     let left = err_from_is_err_and c.from_residual-in_err-log.result c.from_residual-in_err-log.ensures.1 in
-    whole_stops (entries_under c.args.cut (checkpoint_fields c.args.new.now))
+    whole_stops (entries_under c.args.framing (checkpoint_fields c.args.new.now))
     (growth_text (checkpoint_fields c.args.old.now) (checkpoint_fields c.args.new.now) c.args.checkpoint.now) bytes_in
     (g.R.Read.remaining c.args.file.now) c.deref.result.now [] c.from_residual-in_err-log.result _
     (left.1 ∙ ap Err left.2) c.in_err-log.ensures
 
 pub returns : goal.returns
 returns g c =
-    whole_goes (entries_under c.args.cut (checkpoint_fields c.args.new.now))
+    whole_goes (entries_under c.args.framing (checkpoint_fields c.args.new.now))
     (growth_text (checkpoint_fields c.args.old.now) (checkpoint_fields c.args.new.now) c.args.checkpoint.now) bytes_in
     (g.R.Read.remaining c.args.file.now) c.deref.result.now [] c.in_ok-log.log c.text_of.result c.in_ok-log.ensures
     (λ input entries is has. c.text_of.ensures c.deref.result.now entries has
     (ap (values_at sha256 (map (leaf_hash sha256) entries)) c.deref.ensures.value
     ∙ c.in_ok-places.ensures entries
-    (under_size c.args.cut (checkpoint_fields c.args.new.now) input entries is)))
+    (under_size c.args.framing (checkpoint_fields c.args.new.now) input entries is)))

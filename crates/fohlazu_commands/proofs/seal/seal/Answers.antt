@@ -9,14 +9,14 @@ use Rattle.fohlazu_commands.proofs.seal.seal.Goals as goal
 pub returns-in_err-log : goal.returns-in_err-log
 returns-in_err-log g c =
     let left = err_from_is_err_and c.from_residual.result c.from_residual.ensures.1 in
-    whole_stops (entries_read c.args.cut None)
+    whole_stops (entries_read c.args.framing None)
     (λ entries. Ok (checkpoint_text (checkpoint_of c.args.origin.now entries))) bytes_in
     (g.R.Read.remaining c.args.file.now) [] [] c.from_residual.result _ (left.1 ∙ ap Err left.2)
     c.in_err-log.ensures
 
 pub returns : goal.returns
 returns g c =
-    whole_goes (entries_read c.args.cut None)
+    whole_goes (entries_read c.args.framing None)
     (λ entries. Ok (checkpoint_text (checkpoint_of c.args.origin.now entries))) bytes_in
     (g.R.Read.remaining c.args.file.now) [] [] c.in_ok-log.log
     (Ok c.in_ok-to_text.field-0) c.in_ok-log.ensures

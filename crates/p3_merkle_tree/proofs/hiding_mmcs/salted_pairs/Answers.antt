@@ -58,7 +58,7 @@ loop-matrix-preserved g c =
     let before = g.R.Rng.stream c.loop-matrix.rng in
     let start = g.R.Rng.stream c.args.rng.now in
     let all = map shown c.args.matrices.items in
-    let after = c.in_ok-salts.ensures.rest ∙ ap (λ h. after_words (h * e) before) c.height.ensures in
+    let after = c.in_ok-salts.ensures.generator_after ∙ ap (λ h. after_words (h * e) before) c.height.ensures in
     let width = ap row_width c.new.ensures.right ∙ c.in_ok-salts.ensures.width in
     let values = ap values_of c.new.ensures.right ∙ c.in_ok-salts.ensures.values
     ∙ ap (λ h. salts of_word (h * e) before) c.height.ensures in
@@ -114,7 +114,7 @@ returns-in_err-push-clause-further g c =
     let rest = into_iter_items c.next.new.self in
     let start = g.R.Rng.stream c.args.rng.now in
     let before = g.R.Rng.stream c.loop-matrix.rng in
-    let after = c.in_ok-salts.ensures.rest ∙ ap (λ h. after_words (h * e) before) c.height.ensures in
+    let after = c.in_ok-salts.ensures.generator_after ∙ ap (λ h. after_words (h * e) before) c.height.ensures in
     after_next e shown done left c.args.matrices.items c.in-Some.matrix rest start before
     (g.R.Rng.stream c.rand.new.rng) c.in-Some.ensures.steps.0 c.loop-matrix.invariant.same after
     c.loop-matrix.invariant.drawn
@@ -159,8 +159,8 @@ returns-clause-salted g c =
     let left = nil_from_length (into_iter_items it) (omega (arith, it.rest.ok.0, c.in-None.ensures.steps.0)) in
     rw (left, append-nil) at c.loop-matrix.invariant.salted
 
-pub returns-clause-rest : goal.returns-clause-rest
-returns-clause-rest g c =
+pub returns-clause-generator_after : goal.returns-clause-generator_after
+returns-clause-generator_after g c =
     let it = c.loop-matrix.matrix-iterator in
     let left = nil_from_length (into_iter_items it) (omega (arith, it.rest.ok.0, c.in-None.ensures.steps.0)) in
     let same = rw (left, append-nil) at c.loop-matrix.invariant.same in

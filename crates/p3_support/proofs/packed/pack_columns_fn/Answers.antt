@@ -6,7 +6,7 @@ use Rattle.p3_support.proofs.packed.pack_columns_fn.Goals as goal
 pub loop-k-preserved : goal.loop-k-preserved
 loop-k-preserved g c = λ j below.
     elim (cases_eq j c.loop-k.k) [
-      | inl same ↦ rw same (c.f-column.result, c.f-column.ensures, c.set_lane.ensures.same ∙ c.as_slice.ensures)
+      | inl same ↦ rw same (c.f-column.result, c.f-column.ensures, c.set_lane.ensures.lane_set ∙ c.as_slice.ensures)
       | inr other ↦
           let low : j < c.loop-k.k = omega (arith, below, other) in
           let before = c.loop-k.invariant j low in

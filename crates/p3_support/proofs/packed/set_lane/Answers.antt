@@ -37,8 +37,8 @@ loop-e-preserved g c =
           ∙ set-get_or (lane_of lanes zero j ps) e zero ∙ c.loop-e.invariant.2 j other,
     )
 
-pub returns-clause-same : goal.returns-clause-same
-returns-clause-same g c =
+pub returns-clause-lane_set : goal.returns-clause-lane_set
+returns-clause-lane_set g c =
     let zero = g.PW.PackedValue.default_value in
     let pick = λ (q : g.row.PW.Denot). slice_index_or (g.PW.PackedValue.lanes q) c.args.k zero in
     let long : length c.loop-e.packed ≡ g.row.D = search rules in

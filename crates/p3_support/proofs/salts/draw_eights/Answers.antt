@@ -11,5 +11,5 @@ loop-preserved g c =
           ∙ ap (λ l. xs ++ l) (salts_mapped of_word 8 (g.R.Rng.stream c.loop.rng));
       len = c.push_eight.ensures.len;
       capacity = c.push_eight.ensures.capacity;
-      rest = c.next_eight-words.ensures.rest;
+      rest = c.next_eight-words.ensures.generator_after;
     } (omega arith)

@@ -43,8 +43,8 @@ returns-in-Ok-eq0-clause-read g c =
     (subst (Consumes begun after) (append-nil bytes)
     (Consumes-trans begun before after bytes [] c.loop-turn.invariant.consumed none)) at_end c.loop-turn.invariant.few
 
-pub returns-in-Ok-eq0-clause-rest : goal.returns-in-Ok-eq0-clause-rest
-returns-in-Ok-eq0-clause-rest g c =
+pub returns-in-Ok-eq0-clause-reader_after : goal.returns-in-Ok-eq0-clause-reader_after
+returns-in-Ok-eq0-clause-reader_after g c =
     let begun = g.R.Read.remaining c.args.input.now in
     let before = g.R.Read.remaining c.loop-turn.input in
     let after = g.R.Read.remaining c.read.new.self in

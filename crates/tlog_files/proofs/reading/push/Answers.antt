@@ -17,7 +17,7 @@ pub entries-preserved : goal.entries-preserved
 entries-preserved c =
     let s = c.entries.splitter in
     let t = c.read.new.self in
-    let same = c.in_ok-hashes.ensures.same in
+    let same = c.in_ok-hashes.ensures.unchanged in
     let left = c.entries.left.now in
     let rest = c.in_ok-hashes.rest.now in
     record {
@@ -62,7 +62,7 @@ pub returns-in_err-tree-clause-refused : goal.returns-in_err-tree-clause-refused
 returns-in_err-tree-clause-refused c =
     let s = c.entries.splitter in
     let t = c.read.new.self in
-    let same = c.in_ok-hashes.ensures.same in
+    let same = c.in_ok-hashes.ensures.unchanged in
     let begun = c.entries.invariant.same in
     let p = err_from_is_err_and c.from_residual-in_err-tree.result c.from_residual-in_err-tree.ensures.1 in
     λ nodes wanted front more b.
@@ -73,7 +73,7 @@ returns-in_err-tree-clause-refused c =
     let bytes = front ++ (c.args.bytes.now ++ more) in
     let moved : ((front ++ taken) ++ step.read) ++ (rest ++ more) ≡ bytes =
     rw (parts, step.parts) (simp append_assoc) in
-    let Many = AreTooMany c.args.splitter.now.cut c.args.splitter.now.limit bytes in
+    let Many = AreTooMany c.args.splitter.now.framing c.args.splitter.now.limit bytes in
     let many : nat_lt size_limit (tree.frontier.size + length c.deref.result.now) ≡ true → Many = λ test.
     let count = ap length (c.deref.ensures.value ∙ step.hashed) ∙ length-map step.more (leaf_hash sha256) in
     let far = ltb-true size_limit _ test in

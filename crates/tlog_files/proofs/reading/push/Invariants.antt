@@ -5,7 +5,7 @@ use Rattle.tlog_files.proofs.reading.push.Given as goal
 abbrev pub invariant-entries : goal.invariant-entries
 invariant-entries l = record {
   ready : IsReady l.splitter;
-  same : (l.splitter.cut ≡ l.fn.splitter.cut) × (l.splitter.limit ≡ l.fn.splitter.limit);
+  same : (l.splitter.framing ≡ l.fn.splitter.framing) × (l.splitter.limit ≡ l.fn.splitter.limit);
   built : (nodes : List (ℕ × ℕ)) (wanted front : List ℕ) → HasBuilt nodes wanted l.fn.splitter l.fn.tree front →
       (taken : List ℕ) × (l.bytes ≡ taken ++ l.left) × HasBuilt nodes wanted l.splitter l.tree (front ++ taken);
 }

@@ -70,12 +70,12 @@ returns-clause-read g c =
     let built = subst (λ xs. IsBuilderOf (leaves b.ended ++ xs) nodes c.in_ok-tree-3.tree) c.deref-2.ensures.value
     (c.in_ok-tree-3.ensures.built (leaves b.ended) nodes b.built) in
     let log : ReadLog = record { tree = c.in_ok-tree-3.tree; entries = c.into_entries-entries.result } in
-    holds (IsLogOf log c.args.cut c.args.limit nodes wanted)
-    (log_with log c.args.cut c.args.limit s.limit nodes wanted (front ++ rest)
-    (c.in_ok-tree-2.ensures.same.1 ∙ c.new-splitter.ensures.same.1 ∙ c.unwrap_or.ensures)
+    holds (IsLogOf log c.args.framing c.args.limit nodes wanted)
+    (log_with log c.args.framing c.args.limit s.limit nodes wanted (front ++ rest)
+    (c.in_ok-tree-2.ensures.unchanged.1 ∙ c.new-splitter.ensures.unchanged.1 ∙ c.unwrap_or.ensures)
     (subst (λ k. IsLogOf log k (Some s.limit) nodes wanted (front ++ rest))
-    (c.in_ok-tree-2.ensures.same.0 ∙ c.new-splitter.ensures.same.0)
-    (log_of log s.cut s.limit nodes wanted (front ++ rest) c.end_file.new.self.wanted b.ended _ all built
+    (c.in_ok-tree-2.ensures.unchanged.0 ∙ c.new-splitter.ensures.unchanged.0)
+    (log_of log s.framing s.limit nodes wanted (front ++ rest) c.end_file.new.self.wanted b.ended _ all built
     (c.into_entries-entries.ensures wanted))))
 
 pub returns-in_err-hashes-clause-refused : goal.returns-in_err-hashes-clause-refused
@@ -86,9 +86,9 @@ returns-in_err-hashes-clause-refused g c =
     let (front, rest, b, far, holds) = told g at.In_ok-tree-2 (start g at.In_ok-tree (places g at.After-deref)) in
     let p = err_from_is_err_and c.from_residual-in_err-hashes.result c.from_residual-in_err-hashes.ensures.1 in
     let e = c.in_err-hashes.field-0.0 in
-    rw (p.1, p.2) (refused_either e s.cut c.args.cut c.args.limit s.limit (front ++ rest) _
-    (c.in_ok-tree-2.ensures.same.0 ∙ c.new-splitter.ensures.same.0)
-    (c.in_ok-tree-2.ensures.same.1 ∙ c.new-splitter.ensures.same.1 ∙ c.unwrap_or.ensures) holds
+    rw (p.1, p.2) (refused_either e s.framing c.args.framing c.args.limit s.limit (front ++ rest) _
+    (c.in_ok-tree-2.ensures.unchanged.0 ∙ c.new-splitter.ensures.unchanged.0)
+    (c.in_ok-tree-2.ensures.unchanged.1 ∙ c.new-splitter.ensures.unchanged.1 ∙ c.unwrap_or.ensures) holds
     (refused_inside c.args.wanted_nodes.now wanted s c.in_ok-tree-2.tree front (front ++ rest) b e
     (c.in_err-hashes.ensures.refused wanted front rest b.ended b.at far)))
 
@@ -107,11 +107,11 @@ returns-in_err-tree-3-clause-refused g c =
     (c.in_ok-hashes.ensures.all wanted front rest b.ended b.at far)
     (subst (λ (xs : List (List ℕ)). nat_lt size_limit (tree.frontier.size + length xs) ≡ true) c.deref-2.ensures.value
     test) in
-    rw p.1 (refused_either p.0 s.cut c.args.cut c.args.limit s.limit (front ++ rest) _
-    (c.in_ok-tree-2.ensures.same.0 ∙ c.new-splitter.ensures.same.0)
-    (c.in_ok-tree-2.ensures.same.1 ∙ c.new-splitter.ensures.same.1 ∙ c.unwrap_or.ensures) holds
-    (refused_far p.0 s.cut s.limit (front ++ rest) (refused_by p.0 c.in_err-tree-3.field-0.0 _
-    (AreTooMany s.cut s.limit (front ++ rest)) p.2 c.in_err-tree-3.ensures.refused many)))
+    rw p.1 (refused_either p.0 s.framing c.args.framing c.args.limit s.limit (front ++ rest) _
+    (c.in_ok-tree-2.ensures.unchanged.0 ∙ c.new-splitter.ensures.unchanged.0)
+    (c.in_ok-tree-2.ensures.unchanged.1 ∙ c.new-splitter.ensures.unchanged.1 ∙ c.unwrap_or.ensures) holds
+    (refused_far p.0 s.framing s.limit (front ++ rest) (refused_by p.0 c.in_err-tree-3.field-0.0 _
+    (AreTooMany s.framing s.limit (front ++ rest)) p.2 c.in_err-tree-3.ensures.refused many)))
 
 pub returns-in_err-tree-2-clause-refused : goal.returns-in_err-tree-2-clause-refused
 returns-in_err-tree-2-clause-refused g c =
@@ -121,8 +121,8 @@ returns-in_err-tree-2-clause-refused g c =
     let s = c.new-splitter.result in
     let p = err_from_is_err_and c.from_residual-in_err-tree-2.result c.from_residual-in_err-tree-2.ensures.1 in
     let e = c.in_err-tree-2.field-0.0 in
-    rw (p.1, p.2) (refused_file e c.args.cut c.args.limit s.limit before after
-    (c.new-splitter.ensures.same.1 ∙ c.unwrap_or.ensures)
+    rw (p.1, p.2) (refused_file e c.args.framing c.args.limit s.limit before after
+    (c.new-splitter.ensures.unchanged.1 ∙ c.unwrap_or.ensures)
     (subst (λ k. (e ≡ OutOfMemory) ⊎ ((e ≡ FailedRead) ⊎ ((e ≡ TooManyEntries) × ReadsTooMany k s.limit before after)))
-    c.new-splitter.ensures.same.0 (c.in_err-tree-2.ensures.refused c.args.wanted_nodes.now c.args.wanted_entries.now
+    c.new-splitter.ensures.unchanged.0 (c.in_err-tree-2.ensures.refused c.args.wanted_nodes.now c.args.wanted_entries.now
     (start g at.In_ok-tree (places g at.After-deref)))))

@@ -4,7 +4,7 @@ use Rattle.std.proofs.Common.{take}
 use Rattle.std.proofs.lemmas.Result.{err_from_is_err_and}
 use Rattle.std.specs.Io.KnownBytes.{Consumes, ReadConsumes}
 use Rattle.tlog_files.specs.Inner.Splitting.{AreTooMany, IsReady}
-use Rattle.tlog_files.specs.declared.cut.Cut.{Cut}
+use Rattle.tlog_files.specs.declared.framing.Framing.{Framing}
 use Rattle.tlog_files.specs.declared.error.ReadError.{ReadError}
 use Rattle.tlog_files.specs.declared.error.ReadError.TheVariants.{OutOfMemory, TooManyEntries}
 use Rattle.tlog_files.proofs.{ReaderFacts.grown_on, ReaderFacts.whole_read, ReaderFacts.refused_reading}
@@ -71,7 +71,7 @@ loop-turn-preserved g c =
           record {
             wide = omega (arith, c.read.auto.buf, c.loop-turn.invariant.wide);
             ready = subst IsReady (sym w.splitter-is) pushed.ready;
-            same = subst (λ s. (s.cut ≡ first.cut) × (s.limit ≡ first.limit)) (sym w.splitter-is)
+            same = subst (λ s. (s.framing ≡ first.framing) × (s.limit ≡ first.limit)) (sym w.splitter-is)
                 (pushed.same.0 ∙ before_same.0, pushed.same.1 ∙ before_same.1);
             built = λ nodes wanted b.
                 let (bytes, consumed, now) = c.loop-turn.invariant.built nodes wanted b in
@@ -87,7 +87,7 @@ loop-turn-preserved g c =
           record {
             wide = omega (arith, c.read.auto.buf, c.loop-turn.invariant.wide);
             ready = subst IsReady (sym w.splitter-is) c.loop-turn.invariant.ready;
-            same = subst (λ s. (s.cut ≡ first.cut) × (s.limit ≡ first.limit)) (sym w.splitter-is) before_same;
+            same = subst (λ s. (s.framing ≡ first.framing) × (s.limit ≡ first.limit)) (sym w.splitter-is) before_same;
             built = λ nodes wanted b.
                 let (bytes, consumed, now) = c.loop-turn.invariant.built nodes wanted b in (
                   bytes,
@@ -97,8 +97,8 @@ loop-turn-preserved g c =
           }
     ]
 
-abbrev IsRefused : ReadError → Cut → ℕ → List ℕ → Type 0
-IsRefused e cut limit bytes = (e ≡ OutOfMemory) ⊎ ((e ≡ TooManyEntries) × AreTooMany cut limit bytes)
+abbrev IsRefused : ReadError → Framing → ℕ → List ℕ → Type 0
+IsRefused e framing limit bytes = (e ≡ OutOfMemory) ⊎ ((e ≡ TooManyEntries) × AreTooMany framing limit bytes)
 
 pub returns-in_err-tree-in-Ok-clause-refused : goal.returns-in_err-tree-in-Ok-clause-refused
 returns-in_err-tree-in-Ok-clause-refused g c =
@@ -113,9 +113,9 @@ returns-in_err-tree-in-Ok-clause-refused g c =
     λ nodes wanted b.
     let (bytes, consumed, now) = c.loop-turn.invariant.built nodes wanted b in
     let whole = whole_read nodes wanted s c.loop-turn.tree [] bytes (sym c.is_full.ensures ∙ c.if-is_full.false) now in
-    rw (p.1, p.2) (refused_reading c.in_err-tree-in-Ok.field-0.0 first.cut first.limit begun after now.read more
+    rw (p.1, p.2) (refused_reading c.in_err-tree-in-Ok.field-0.0 first.framing first.limit begun after now.read more
     (subst (λ xs. Consumes begun after (xs ++ more)) whole
     (Consumes-trans begun before after bytes more consumed c.in-Ok.ensures.bytes.0))
     (λ rest. subst (λ k. IsRefused c.in_err-tree-in-Ok.field-0.0 k first.limit (now.read ++ (more ++ rest))) same.0
-    (subst (λ n. IsRefused c.in_err-tree-in-Ok.field-0.0 s.cut n (now.read ++ (more ++ rest))) same.1
+    (subst (λ n. IsRefused c.in_err-tree-in-Ok.field-0.0 s.framing n (now.read ++ (more ++ rest))) same.1
     (c.in_err-tree-in-Ok.ensures.refused nodes wanted now.read rest now.built))))

@@ -7,7 +7,7 @@ abbrev pub invariant-loop-turn : goal.invariant-loop-turn
 invariant-loop-turn g l = record {
   wide : length l.window ≡ 1048576;
   ready : IsReady l.splitter;
-  same : (l.splitter.cut ≡ l.fn.splitter.cut) × (l.splitter.limit ≡ l.fn.splitter.limit);
+  same : (l.splitter.framing ≡ l.fn.splitter.framing) × (l.splitter.limit ≡ l.fn.splitter.limit);
   built : (nodes : List (ℕ × ℕ)) (wanted : List ℕ) → HasBuilt nodes wanted l.fn.splitter l.fn.tree [] →
       (bytes : List ℕ) × Consumes (g.R.Read.remaining l.fn.file) (g.R.Read.remaining l.file) bytes
       × HasGrown nodes wanted l.splitter l.tree [] bytes;

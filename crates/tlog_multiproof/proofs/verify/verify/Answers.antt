@@ -40,7 +40,7 @@ returns g c =
     c.in_ok-opening.opening.pruned_proof.sibling_hashes.items) ∙ c.in_ok-opening.ensures.made)
     c.verify_batch_pruned.ensures in
     let k = meaning_kept g.H.LogHash.hash size indices leaves proof c.args.root.now form node.eq node.eq decides
-    c.verify_batch_pruned.result c.meaning_of.result verdict c.meaning_of.ensures in
+    c.verify_batch_pruned.result c.from_opening_verdict.result verdict c.from_opening_verdict.ensures in
     let unrefused = none_parts (indices_refusal size indices (length leaves))
     (digests_refusal (length (proof_nodes size indices)) (length proof)) c.in_ok-opening.ensures.answer in
     record { accepted = k.accepted; complete = k.complete; checked = rw (unrefused.0) tt; refused = k.refused }

@@ -4,17 +4,17 @@
 //! allocate nothing. Under any hash function: what accepted proofs fix, or else two byte strings with one hash.
 //! Indices are counted from 0, sizes go up to 2^62.
 
+pub(crate) mod binding;
 pub(crate) mod collision;
+pub(crate) mod compose;
 pub(crate) mod consistency;
 pub(crate) mod error;
-pub(crate) mod fixed;
-pub(crate) mod growth;
 pub(crate) mod hash;
 pub(crate) mod inclusion;
 
+pub use binding::{consistency_collision, entry_collision, leaf_collision, prefix_collision, proof_collision};
+pub use compose::{compose, growth_collision};
 pub use consistency::verify_consistency;
 pub use error::{ComposeError, ProofError};
-pub use fixed::{consistency_collision, entry_collision, leaf_collision, prefix_collision, proof_collision};
-pub use growth::{compose, growth_collision};
 pub use hash::{EMPTY_ROOT, LogHash, leaf_hash, node_hash};
 pub use inclusion::{SIZE_LIMIT, verify_inclusion};

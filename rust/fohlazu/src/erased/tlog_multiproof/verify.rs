@@ -54,7 +54,7 @@ pub(crate) fn verify<H: LogHash<32>>(
 ) -> Result<(), EntriesError> {
     let opening = opening_of(size, indices, leaves, proof)?;
     let cap = MerkleCap::new(try_list([[Node::Hash(*root)]])?);
-    meaning_of(log_scheme::<H>().verify_batch_pruned(
+    from_opening_verdict(log_scheme::<H>().verify_batch_pruned(
         &cap,
         &dimensions_of(size),
         indices,
@@ -64,7 +64,7 @@ pub(crate) fn verify<H: LogHash<32>>(
 }
 
 /// The verdict on entries whose form is right, by that on their opening.
-fn meaning_of(verdict: Result<(), MerkleTreeError>) -> Result<(), EntriesError> {
+fn from_opening_verdict(verdict: Result<(), MerkleTreeError>) -> Result<(), EntriesError> {
     match verdict {
         Ok(()) => Ok(()),
         Err(MerkleTreeError::OutOfMemory) => Err(EntriesError::OutOfMemory),

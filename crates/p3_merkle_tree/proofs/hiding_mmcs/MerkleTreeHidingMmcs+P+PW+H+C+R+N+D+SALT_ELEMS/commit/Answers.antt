@@ -33,7 +33,7 @@ returns-in_err-pairs g c =
       matrices = IfOk-from_err r _ err;
       batch = IfOk-from_err r _ err;
       committed = IfOk-from_err r _ err;
-      drawn = record { rest = nothing_drawn _ r err; further = c.salted_pairs.ensures.further; scheme = refl };
+      drawn = record { generator_after = nothing_drawn _ r err; further = c.salted_pairs.ensures.further; scheme = refl };
       untouched = search rules;
     }
 
@@ -61,7 +61,7 @@ returns g c =
         columns = subst (λ (z : List _). HaveSaltColumns e z) (sym is) c.in_ok-pairs.ensures.columns;
       }) c.commit_checked.ensures.matrices c.commit_checked.ensures.committed;
       drawn = record {
-        rest = on_ok _ r c.in_ok-pairs.ensures.rest;
+        generator_after = on_ok _ r c.in_ok-pairs.ensures.generator_after;
         further = c.in_ok-pairs.ensures.further;
         scheme = refl;
       };

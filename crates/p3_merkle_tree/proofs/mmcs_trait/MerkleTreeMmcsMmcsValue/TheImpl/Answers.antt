@@ -9,7 +9,7 @@ use Rattle.p3_merkle_tree.proofs.mmcs_trait.MerkleTreeMmcsMmcsValue.TheImpl.Goal
 pub commit-tells : goal.commit-tells
 commit-tells g _ _ _ _ _ c = record {
   agrees = c.ensures.agrees;
-  taken = c.ensures.taken;
+  matrices_accepted = c.ensures.matrices_accepted;
   matrices = c.ensures.matrices;
   commitment = c.ensures.commitment;
   answer = c.ensures.answer;

@@ -31,7 +31,7 @@ returns g c =
       width = c.new.ensures.width;
       height = λ some. same_rows _ _ c.args.cols some (sym c.new.ensures.height ∙ long);
       no_width = c.new.ensures.no_width;
-      rest = all.rest;
+      generator_after = all.rest;
       too_large = λ large. absurd (omega (arith, large, made.0));
       untouched = tt;
     }

@@ -9,7 +9,7 @@ use Rattle.tlog.specs.Rfc9162.{leaf_hash}
 use Rattle.tlog_files.specs.Inner.Splitting.{HoldsOpen}
 use Rattle.tlog_files.specs.Inner.Wanted.{HoldsWanted}
 use Rattle.tlog_files.specs.declared.splitter.Splitter.{Splitter}
-use Rattle.tlog_files.proofs.{CutFacts.bytes_of, CutFacts.fewer_left}
+use Rattle.tlog_files.proofs.{FramingFacts.bytes_of, FramingFacts.fewer_left}
 use Rattle.tlog_files.proofs.SplitterFacts.{fewer_after_whole, open_ended, open_grown, ready_after, whole_read}
 use Rattle.tlog_files.proofs.splitter.Splitter.read.Goals as goal
 
@@ -27,7 +27,7 @@ returns-then-not-is_empty-clause-read c =
     λ wanted front ended b.
     let none = nil_from_length b.open_bytes (omega (arith, c.if-self-eq0.true, b.holds.opened.counted)) in
     let t : Splitter = record s { count = s.count + c.len.result; wanted = c.copy.new.self } in
-    whole_read wanted s t front c.args.bytes.now c.in_ok-entries.rest.now ended entries _ c.requires.ready.cut refl b
+    whole_read wanted s t front c.args.bytes.now c.in_ok-entries.rest.now ended entries _ c.requires.ready.framing refl b
     none
     head hashed (record {
       counted = omega (arith, b.holds.counted, many, length-append ended entries);
@@ -48,8 +48,8 @@ pub returns-then-not-is_empty-clause-fewer : goal.returns-then-not-is_empty-clau
 returns-then-not-is_empty-clause-fewer c =
     let found = c.in_ok-entries.entries in
     let some = eqb-false found.len 0 (sym c.is_empty.ensures ∙ c.if-not-is_empty.true) in
-    fewer_after_whole c.args.self.now.cut c.args.bytes.now c.in_ok-entries.rest.now (map bytes_of found.items)
-    c.requires.ready.cut c.in_ok-entries.ensures.1
+    fewer_after_whole c.args.self.now.framing c.args.bytes.now c.in_ok-entries.rest.now (map bytes_of found.items)
+    c.requires.ready.framing c.in_ok-entries.ensures.1
     (omega (arith, some, found.ok.0, length-map found.items bytes_of))
 
 pub returns-in_ok-end-in-Some-clause-read : goal.returns-in_ok-end-in-Some-clause-read
@@ -68,19 +68,19 @@ returns-in_ok-end-in-Some-clause-read c =
       kept = c.in_ok-push-in-Some.ensures.holds wanted ended b.open_bytes b.holds.counted b.holds.kept;
     }) in
     rw with_end.1
-    (open_ended wanted s t front bytes more rest ended c.requires.ready.cut c.in_ok-end-in-Some.ensures.same.0 b parts.0
+    (open_ended wanted s t front bytes more rest ended c.requires.ready.framing c.in_ok-end-in-Some.ensures.unchanged.0 b parts.0
     parts.1 with_end.0)
 
 pub returns-in_ok-end-in-Some-clause-ready : goal.returns-in_ok-end-in-Some-clause-ready
 returns-in_ok-end-in-Some-clause-ready c =
     ready_after c.args.self.now c.end.new.self c.args.bytes.now c.in-Some.rest.now _ c.requires.ready
-    c.in_ok-end-in-Some.ensures.same.0 c.in_ok-end-in-Some.ensures.places (returns-in_ok-end-in-Some-clause-read c)
+    c.in_ok-end-in-Some.ensures.unchanged.0 c.in_ok-end-in-Some.ensures.places (returns-in_ok-end-in-Some-clause-read c)
 
 pub returns-in_ok-end-in-Some-clause-fewer : goal.returns-in_ok-end-in-Some-clause-fewer
 returns-in_ok-end-in-Some-clause-fewer c =
     let (wanted, front, ended, b) = c.requires.ready.stands in
     let parts = c.in-Some.ensures b.open_bytes b.holds.opened.counted b.at.opens in
-    fewer_left c.args.self.now.cut b.open_bytes c.in-Some.more.now c.in-Some.rest.now c.args.bytes.now b.at.opens
+    fewer_left c.args.self.now.framing b.open_bytes c.in-Some.more.now c.in-Some.rest.now c.args.bytes.now b.at.opens
     parts.1 parts.0
 
 nothing_left : (bytes : List ℕ) → take (length bytes - length bytes) (drop (length bytes) bytes) ≡ []

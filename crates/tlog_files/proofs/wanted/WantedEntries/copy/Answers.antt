@@ -4,7 +4,7 @@ use Rattle.std.proofs.Common.{length-drop, set, subst, sym, take, take_all}
 use Rattle.std.proofs.lemmas.List.{get_or-append_right, get_or-map, length-map, length-set, map-set}
 use Rattle.std.proofs.lemmas.List.Elements.{All-drop, All-weaker}
 use Rattle.tlog_files.specs.Inner.Wanted.{IsAscending, IsKept}
-use Rattle.tlog_files.proofs.CutFacts.{bytes_of}
+use Rattle.tlog_files.proofs.FramingFacts.{bytes_of}
 use Rattle.tlog_files.proofs.WantedFacts.{ascends_lower, kept_copy, next_left}
 use Rattle.tlog_files.proofs.wanted.WantedEntries.copy.Goals as goal
 

@@ -1,4 +1,0 @@
-use Rattle.tlog.proofs.growth.+lift.Given as goal
-
-abbrev pub decreases-lift : goal.decreases-lift
-decreases-lift g l = l.new_size

@@ -1,6 +1,0 @@
-use Rattle.tlog.proofs.Lifts.{refused_end}
-use Rattle.tlog.proofs.growth.lift_beside.Goals as goal
-
-pub returns-in_default-clause-lifted : goal.returns-in_default-clause-lifted
-returns-in_default-clause-lifted g c = λ first left is.
-    refused_end _ _ first left c.in_default.ensures.refused is
