@@ -5,7 +5,7 @@
 
 mod binding;
 pub mod collision;
-mod compose;
+mod composition;
 pub mod consistency;
 mod error;
 mod hash;
@@ -15,7 +15,7 @@ pub mod laws;
 pub use binding::{
     consistency_collision, entry_collision, leaf_collision, prefix_collision, proof_collision,
 };
-pub use compose::{compose, growth_collision};
+pub use composition::{compose, growth_collision};
 pub use consistency::verify_consistency;
 pub use error::{ComposeError, ProofError};
 pub use hash::{EMPTY_ROOT, LogHash, leaf_hash, node_hash};

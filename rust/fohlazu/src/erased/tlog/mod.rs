@@ -6,14 +6,14 @@
 
 pub(crate) mod binding;
 pub(crate) mod collision;
-pub(crate) mod compose;
+pub(crate) mod composition;
 pub(crate) mod consistency;
 pub(crate) mod error;
 pub(crate) mod hash;
 pub(crate) mod inclusion;
 
 pub use binding::{consistency_collision, entry_collision, leaf_collision, prefix_collision, proof_collision};
-pub use compose::{compose, growth_collision};
+pub use composition::{compose, growth_collision};
 pub use consistency::verify_consistency;
 pub use error::{ComposeError, ProofError};
 pub use hash::{EMPTY_ROOT, LogHash, leaf_hash, node_hash};

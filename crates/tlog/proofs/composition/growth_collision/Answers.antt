@@ -3,7 +3,7 @@ use Rattle.std.specs.Cmp.Lexicographic.{bytes_decides}
 use Rattle.tlog.proofs.Composed.{lifted_included, not_kept, same_included}
 use Rattle.tlog.proofs.Consistencies.{begins_layer, begins_whole, begun_end}
 use Rattle.tlog.proofs.TwoWalks.{accepted_by, refused_by, same_none, unequal}
-use Rattle.tlog.proofs.compose.growth_collision.Goals as goal
+use Rattle.tlog.proofs.composition.growth_collision.Goals as goal
 
 pub returns-then-is_err-clause-none : goal.returns-then-is_err-clause-none
 returns-then-is_err-clause-none g c = (

@@ -1,5 +1,5 @@
 use Rattle.tlog.proofs.Lifts.{refused_end}
-use Rattle.tlog.proofs.compose.check_right.Goals as goal
+use Rattle.tlog.proofs.composition.check_right.Goals as goal
 
 pub returns-in_default-clause-same_root : goal.returns-in_default-clause-same_root
 returns-in_default-clause-same_root g c = λ first right is.

@@ -1,4 +1,4 @@
-use Rattle.tlog.proofs.compose.+lift.Given as goal
+use Rattle.tlog.proofs.composition.+lift.Given as goal
 
 abbrev pub decreases-lift : goal.decreases-lift
 decreases-lift g l = l.new_size

@@ -1,7 +1,7 @@
 use Rattle.std.proofs.Common.{◌<◌, ◌∙◌, refl, sym, arith}
 use Rattle.tlog.proofs.Composed.{composed_all, composed_part, first_alone, from_nothing, if_err, reason, second_alone}
 use Rattle.tlog.proofs.Consistencies.{begins_layer, begins_whole, begun_end, digests_grow}
-use Rattle.tlog.proofs.compose.compose.Goals as goal
+use Rattle.tlog.proofs.composition.compose.Goals as goal
 
 pub returns-in-Err-clause-refused : goal.returns-in-Err-clause-refused
 returns-in-Err-clause-refused g c = sym c.in-Err.ensures.refused

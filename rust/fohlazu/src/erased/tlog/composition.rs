@@ -1,4 +1,4 @@
-// Made from crates/tlog/src/compose.rt by tools/erase.
+// Made from crates/tlog/src/composition.rt by tools/erase.
 
 //! Accepted proofs across the growth of a log.
 

@@ -2,7 +2,7 @@ use Rattle.std.proofs.Common.{rules, arith}
 use Rattle.std.proofs.lemmas.Result.{IfOk-weaker}
 use Rattle.tlog.proofs.Lifts.{across, lift_beside_left, lift_growth_refused, lift_left}
 use Rattle.tlog.proofs.Lifts.{lift_no_digests, lift_no_growth, lift_right, lift_same}
-use Rattle.tlog.proofs.compose.+lift.Goals as goal
+use Rattle.tlog.proofs.composition.+lift.Goals as goal
 
 pub returns-then-size-new_size-clause-lifted : goal.returns-then-size-new_size-clause-lifted
 returns-then-size-new_size-clause-lifted g t c =

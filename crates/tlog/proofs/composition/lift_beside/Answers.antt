@@ -1,5 +1,5 @@
 use Rattle.tlog.proofs.Lifts.{refused_end}
-use Rattle.tlog.proofs.compose.lift_beside.Goals as goal
+use Rattle.tlog.proofs.composition.lift_beside.Goals as goal
 
 pub returns-in_default-clause-lifted : goal.returns-in_default-clause-lifted
 returns-in_default-clause-lifted g c = λ first left is.
