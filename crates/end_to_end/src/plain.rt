@@ -27,6 +27,29 @@ use p3_support::matrix::{Dimensions, Matrix, dimensions_of};
 use p3_support::packed::PackedValue;
 use std::alloc::Global;
 
+/// A commitment to matrices: the cap, the tree, and the dimensions of the matrices.
+type Committed<T, W, M, const N: usize, const D: usize> = (
+    MerkleCap<T, [W; D]>,
+    MerkleTree<T, W, M, N, D>,
+    Vec<Dimensions>,
+);
+
+/// What an opening of one index comes to.
+pub type ComparedOpening<T, W, M, const N: usize, const D: usize> = Compared<
+    MerkleCap<T, [W; D]>,
+    MerkleTree<T, W, M, N, D>,
+    BatchOpening<T, Vec<[W; D]>>,
+    Collision<T, W, D>,
+>;
+
+/// What a pruned opening of several indices comes to. A collision stands beside the places of its two queries.
+pub type ComparedPruned<T, W, M, const N: usize, const D: usize> = Compared<
+    MerkleCap<T, [W; D]>,
+    MerkleTree<T, W, M, N, D>,
+    PrunedBatchOpening<T, W, D>,
+    (usize, usize, Collision<T, W, D>),
+>;
+
 /// Commits to matrices, and checks that they have all the indices. Returns the cap, the tree, and the dimensions of the
 /// matrices.
 fn committed<
@@ -42,14 +65,7 @@ fn committed<
     scheme: &MerkleTreeMmcs<P, PW, H, C, N, D>,
     matrices: Vec<M>,
     indices: &[usize],
-) -> Result<
-    (
-        MerkleCap<P::Value, [PW::Value; D]>,
-        MerkleTree<P::Value, PW::Value, M, N, D>,
-        Vec<Dimensions>,
-    ),
-    MerkleTreeError,
->
+) -> Result<Committed<P::Value, PW::Value, M, N, D>, MerkleTreeError>
     ensures answer { let heights = heights_in M.height_of M.width_of M.row_of matrices.items in
         AnswersUnlessMemory result (open_refusal heights indices.now) }
     ensures matrices { IfOk result (λ (cap, tree, dimensions). matrices_of tree ≡ matrices.items) }
@@ -91,15 +107,7 @@ pub fn commit_compare<
     matrices: Vec<M>,
     index: usize,
     claimed: BatchOpeningRef<'_, P::Value, Vec<[PW::Value; D]>>,
-) -> Result<
-    Compared<
-        MerkleCap<P::Value, [PW::Value; D]>,
-        MerkleTree<P::Value, PW::Value, M, N, D>,
-        BatchOpening<P::Value, Vec<[PW::Value; D]>>,
-        Collision<P::Value, PW::Value, D>,
-    >,
-    MerkleTreeError,
->
+) -> Result<ComparedOpening<P::Value, PW::Value, M, N, D>, MerkleTreeError>
     ensures answer { let heights = heights_in M.height_of M.width_of M.row_of matrices.items in
         AnswersUnlessMemory result (open_refusal heights (index ∷ [])) }
     ensures matrices { IfOk result (λ v. matrices_of v.tree ≡ matrices.items) }
@@ -154,15 +162,7 @@ pub fn commit_compare_pruned<
     indices: &[usize],
     rows: &[Vec<Vec<P::Value>>],
     proof: &PrunedMerklePaths<PW::Value, D>,
-) -> Result<
-    Compared<
-        MerkleCap<P::Value, [PW::Value; D]>,
-        MerkleTree<P::Value, PW::Value, M, N, D>,
-        PrunedBatchOpening<P::Value, PW::Value, D>,
-        (usize, usize, Collision<P::Value, PW::Value, D>),
-    >,
-    MerkleTreeError,
->
+) -> Result<ComparedPruned<P::Value, PW::Value, M, N, D>, MerkleTreeError>
     ensures answer { let heights = heights_in M.height_of M.width_of M.row_of matrices.items in
         AnswersUnlessMemory result (open_refusal heights indices.now) }
     ensures matrices { IfOk result (λ v. matrices_of v.tree ≡ matrices.items) }

@@ -38,6 +38,29 @@ use std::alloc::Global;
 /// The rows of several indices, and their proof.
 pub type SaltedRows<T, W, const D: usize> = (Vec<Vec<Vec<T>>>, SaltedMultiProof<T, W, D>);
 
+/// A salted commitment to matrices: the cap, the tree, and the dimensions of the matrices without salts.
+type SaltedCommitted<T, W, M, const N: usize, const D: usize> = (
+    MerkleCap<T, [W; D]>,
+    SaltedTree<T, W, M, N, D>,
+    Vec<Dimensions>,
+);
+
+/// What an opening of one index comes to.
+pub type SaltedComparedOpening<T, W, M, const N: usize, const D: usize> = Compared<
+    MerkleCap<T, [W; D]>,
+    SaltedTree<T, W, M, N, D>,
+    BatchOpening<T, SaltedProof<T, W, D>>,
+    Collision<T, W, D>,
+>;
+
+/// What a pruned opening of several indices comes to. A collision stands beside the places of its two queries.
+pub type SaltedComparedPruned<T, W, M, const N: usize, const D: usize> = Compared<
+    MerkleCap<T, [W; D]>,
+    SaltedTree<T, W, M, N, D>,
+    SaltedRows<T, W, D>,
+    (usize, usize, Collision<T, W, D>),
+>;
+
 /// Commits to matrices, with salts for each row, and then checks that they have all the indices: where they have not,
 /// the salts are drawn already. Returns the cap, the tree, and the dimensions of the matrices without salts.
 fn salted_committed<
@@ -55,14 +78,7 @@ fn salted_committed<
     scheme: &mut MerkleTreeHidingMmcs<P, PW, H, C, R, N, D, SALT_ELEMS>,
     matrices: Vec<M>,
     indices: &[usize],
-) -> Result<
-    (
-        MerkleCap<P::Value, [PW::Value; D]>,
-        SaltedTree<P::Value, PW::Value, M, N, D>,
-        Vec<Dimensions>,
-    ),
-    MerkleTreeError,
->
+) -> Result<SaltedCommitted<P::Value, PW::Value, M, N, D>, MerkleTreeError>
 where
     P::Value: SaltWord,
     ensures answer { let b = batch_of M.height_of M.width_of M.row_of N matrices.items in
@@ -121,15 +137,7 @@ pub fn salted_commit_compare<
     matrices: Vec<M>,
     index: usize,
     claimed: BatchOpeningRef<'_, P::Value, SaltedProof<P::Value, PW::Value, D>>,
-) -> Result<
-    Compared<
-        MerkleCap<P::Value, [PW::Value; D]>,
-        SaltedTree<P::Value, PW::Value, M, N, D>,
-        BatchOpening<P::Value, SaltedProof<P::Value, PW::Value, D>>,
-        Collision<P::Value, PW::Value, D>,
-    >,
-    MerkleTreeError,
->
+) -> Result<SaltedComparedOpening<P::Value, PW::Value, M, N, D>, MerkleTreeError>
 where
     P::Value: SaltWord,
     ensures answer { let b = batch_of M.height_of M.width_of M.row_of N matrices.items in
@@ -201,15 +209,7 @@ pub fn salted_commit_compare_pruned<
     indices: &[usize],
     rows: &[Vec<Vec<P::Value>>],
     proof: &SaltedMultiProof<P::Value, PW::Value, D>,
-) -> Result<
-    Compared<
-        MerkleCap<P::Value, [PW::Value; D]>,
-        SaltedTree<P::Value, PW::Value, M, N, D>,
-        SaltedRows<P::Value, PW::Value, D>,
-        (usize, usize, Collision<P::Value, PW::Value, D>),
-    >,
-    MerkleTreeError,
->
+) -> Result<SaltedComparedPruned<P::Value, PW::Value, M, N, D>, MerkleTreeError>
 where
     P::Value: SaltWord,
     ensures answer { let b = batch_of M.height_of M.width_of M.row_of N matrices.items in
