@@ -9,7 +9,7 @@ use Rattle.p3_merkle_prover.proofs.layers.pick_matrices.Goals as goal
 
 pub returns : goal.returns
 returns g c =
-    fact_from_extend {schedule = filter_steps iter_steps _} (λ m. m.now) c.extend.result c.extend.ensures.ran
+    fact_from_extend {steps = filter_steps iter_steps _} (λ m. m.now) c.extend.result c.extend.ensures.ran
     (λ it b. YieldsList-at b (YieldsList-from_filter _ (λ m. g.M.Matrix.height_of m == c.args.height)
     (YieldsList-at c.filter.ensures.source (YieldsList-from_slice c.args.matrices.now c.iter.ensures.rest))
     c.filter.ensures.closure (λ x r q k. search (rules, tests))))

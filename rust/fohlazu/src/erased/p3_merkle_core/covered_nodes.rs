@@ -29,6 +29,7 @@ pub(crate) struct Covered<'a> {
 impl<'a> Covered<'a> {
     /// The covered leaves: `nodes` must be the distinct `indices`, ascending. The indices must be below the tallest
     /// height, the arity a power of two from 2 to 2^62, and no height above [`MAX_HEIGHT`].
+    #[inline]
     pub(crate) fn new(schedule: &'a Schedule<'a>, indices: &'a [usize], nodes: Vec<usize>) -> Covered<'a> {
         Covered { schedule, indices, layer: 0, exponent: schedule.exponent, nodes, boundary_below: 0 }
     }
@@ -38,6 +39,7 @@ impl<'a> Covered<'a> {
     /// # Errors
     ///
     /// `AllocError` if memory runs out.
+    #[inline]
     pub(crate) fn try_clone(&self) -> Result<Covered<'a>, AllocError> {
         Ok(Covered {
             schedule: self.schedule,
@@ -67,6 +69,7 @@ impl<'a> Covered<'a> {
     /// How many digests a pruned proof of the indices has, where the cap is layer `layer`: on each level below it, one
     /// for each child of a covered node that is not covered itself. `layer` must be at most the number of levels, and
     /// not below the layer of these nodes. It does not allocate, and takes one step for each node and level.
+    #[inline]
     pub(crate) fn boundary_len(mut self, layer: usize) -> usize {
         for _ in self.layer..layer {
             self.climb();
@@ -76,6 +79,7 @@ impl<'a> Covered<'a> {
 }
 
 /// Replaces ascending nodes of a layer by their parents, each once, ascending. A parent has `step` children.
+#[inline]
 fn replace_by_parents(covered: &mut Vec<usize>, step: usize) {
     if covered.is_empty() {
         return;

@@ -33,11 +33,13 @@ impl TryClone for ArityAndPositions {
 }
 
 /// The exponent of a height: the least `k` with `2^k >= height` (`log2_ceil_usize` in Plonky3).
+#[inline]
 pub(crate) fn exponent_of(height: usize) -> usize {
     (usize::BITS - height.saturating_sub(1).leading_zeros()) as usize
 }
 
 /// The greatest and the least height of the matrices, in rows; both are 0 if there are none. It reads each matrix once.
+#[inline]
 pub(crate) fn extremes_of(dimensions: &[Dimensions]) -> (usize, usize) {
     let Some((first, others)) = dimensions.split_first() else {
         return (0, 0);
@@ -53,6 +55,7 @@ pub(crate) fn extremes_of(dimensions: &[Dimensions]) -> (usize, usize) {
 
 /// How many halvings, each rounded up, lead from the tallest height down to this one, if both are lawful. It is the
 /// exponent of `max_height` less that of `height`, or 0 if that of `height` is greater.
+#[inline]
 pub(crate) fn bits_reduced_of(max_height: usize, height: usize) -> usize {
     exponent_of(max_height).saturating_sub(exponent_of(height))
 }
@@ -60,6 +63,7 @@ pub(crate) fn bits_reduced_of(max_height: usize, height: usize) -> usize {
 /// The lawful height with this exponent, where `max_height` is the tallest: `max_height` halved, and each time rounded
 /// up, until it has the exponent. Where the exponent of `max_height` is not above `exponent`, it is `max_height`
 /// itself, or 1 if that is 0. `max_height` must be at most [`MAX_HEIGHT`].
+#[inline]
 pub(crate) fn height_of_exponent(max_height: usize, exponent: usize) -> usize {
     // Halving and rounding up `k` times gives (max_height - 1) / 2^k, rounded down, plus 1.
     (max_height.saturating_sub(1) >> exponent_of(max_height).saturating_sub(exponent)) + 1
@@ -67,6 +71,7 @@ pub(crate) fn height_of_exponent(max_height: usize, exponent: usize) -> usize {
 
 /// The position of the first matrix whose height is above [`MAX_HEIGHT`], if there is one. `max_height` must be the
 /// tallest height: where it is within the limit, no other height is read.
+#[inline]
 pub(crate) fn first_too_large_of(dimensions: &[Dimensions], max_height: usize) -> Option<usize> {
     if max_height <= MAX_HEIGHT {
         return None;
@@ -82,6 +87,7 @@ pub(crate) fn first_too_large_of(dimensions: &[Dimensions], max_height: usize) -
 ///
 /// - `WrongBatchSize` if the number of rows is not that of the matrices;
 /// - `WrongWidth` for the first row whose length is not the width of its matrix.
+#[inline]
 pub(crate) fn check_widths<T>(dimensions: &[Dimensions], rows: &[Vec<T>]) -> Result<(), MerkleTreeError> {
     let (expected, got) = (dimensions.len(), rows.len());
     if got != expected {
@@ -98,6 +104,7 @@ pub(crate) fn check_widths<T>(dimensions: &[Dimensions], rows: &[Vec<T>]) -> Res
 
 /// How many slots a layer of `len` nodes has: `len` if that is at most 1, else the least multiple of `arity` that is
 /// not below it. The arity must be above 0, and the result must fit `usize`.
+#[inline]
 pub(crate) fn padded_len(len: usize, arity: usize) -> usize {
     if len <= 1 {
         len
@@ -109,6 +116,7 @@ pub(crate) fn padded_len(len: usize, arity: usize) -> usize {
 }
 
 /// The parent of a node, both by their numbers in their layers. `step` is how many children a parent has, at least 1.
+#[inline]
 pub(crate) fn parent_of(node: usize, step: usize) -> usize {
     // A shift takes less time than a division.
     let bits = step.trailing_zeros();
@@ -117,6 +125,7 @@ pub(crate) fn parent_of(node: usize, step: usize) -> usize {
 
 /// The position of a node among its parent's children, from 0. `node` is its number in its layer, and `step` how many
 /// children a parent has, at least 1.
+#[inline]
 pub(crate) fn position_of(node: usize, step: usize) -> usize {
     node - step * parent_of(node, step)
 }

@@ -4,6 +4,7 @@
 
 /// The group of a node on a path: its siblings with its own `digest` inserted at `position`, then default digests.
 /// There must be fewer siblings than `N`, and `position` must be at most their number.
+#[inline]
 pub(crate) fn group_with<W: Copy, const N: usize, const D: usize>(
     default_digest: [W; D],
     digest: [W; D],
@@ -21,6 +22,7 @@ pub(crate) fn group_with<W: Copy, const N: usize, const D: usize>(
 }
 
 /// The group of a node's children: their digests, then default digests. There must be at most `N` children.
+#[inline]
 pub(crate) fn padded_group<W: Copy, const N: usize, const D: usize>(
     default_digest: [W; D],
     children: &[[W; D]],
@@ -33,6 +35,7 @@ pub(crate) fn padded_group<W: Copy, const N: usize, const D: usize>(
 
 /// The group of two digests, `left` and `right`, then default digests. A node to which rows belong compresses the
 /// digest of its children and that of its rows in this way. `N` must be at least 2.
+#[inline]
 pub(crate) fn pair_group<W: Copy, const N: usize, const D: usize>(
     default_digest: [W; D],
     left: [W; D],

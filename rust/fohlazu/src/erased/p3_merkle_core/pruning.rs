@@ -101,6 +101,7 @@ pub(crate) struct DistinctQueries {
 ///
 /// `IndexOutOfBounds` with the highest index if that is not below `max_height`, or with 0 if `max_height` is 0 and
 /// there is no index.
+#[inline]
 pub fn check_indices(max_height: usize, indices: &[usize]) -> Result<(), MerkleTreeError> {
     let mut highest = 0;
     for index in indices {
@@ -111,6 +112,7 @@ pub fn check_indices(max_height: usize, indices: &[usize]) -> Result<(), MerkleT
 
 /// The distinct indices, ascending, and the slot of each query, in query order. `indices` has the index of each query,
 /// and `sorted` has each query as its index and its position, ascending.
+#[inline]
 fn distinct_slots(sorted: &[(usize, usize)], indices: &[usize]) -> Result<(Vec<usize>, Vec<usize>), AllocError> {
     let mut distinct = Vec::with_room(sorted.len())?;
     let mut slots = try_vec(0, indices.len())?;
@@ -127,6 +129,7 @@ fn distinct_slots(sorted: &[(usize, usize)], indices: &[usize]) -> Result<(Vec<u
 }
 
 /// The distinct indices of some queries, with the first query of each, and the slot of each query.
+#[inline]
 fn distinct_queries_of(queries: &[usize]) -> Result<DistinctQueries, AllocError> {
     let mut sorted = Vec::with_room(queries.len())?;
     for query in 0..queries.len() {
@@ -144,6 +147,7 @@ fn distinct_queries_of(queries: &[usize]) -> Result<DistinctQueries, AllocError>
 
 /// Checks that each query has the row set of the first query of its index, else `InconsistentDuplicateOpenings`. `rows`
 /// has the row set of each of `indices`, and `queried` their slots.
+#[inline]
 fn check_repeats<T: Eq>(
     indices: &[usize],
     rows: &[Vec<Vec<T>>],
@@ -163,6 +167,7 @@ fn check_repeats<T: Eq>(
 /// Checks that `rows` and `first_rows` have the same row of each of `matrices`, which are positions in both: else
 /// `InconsistentGroupOpening` for the first that differs. `rows` is the row set of `slot`, and `first_rows` that of the
 /// first slot under the same node. `slot` is only reported.
+#[inline]
 fn check_same_rows<T: Eq>(
     matrices: &[usize],
     slot: usize,
@@ -187,6 +192,7 @@ fn check_same_rows<T: Eq>(
 /// else `InconsistentGroupOpening`. Each slot is compared with the first one under its node. `indices` are distinct and
 /// ascending; `first_queries` has the first query of each, whose row set in `rows` is compared. A node's number is an
 /// index without its lowest `bits` bits.
+#[inline]
 fn check_rows_under_nodes<T: Eq>(
     matrices: &[usize],
     indices: &[usize],
@@ -208,6 +214,7 @@ fn check_rows_under_nodes<T: Eq>(
 }
 
 /// Replaces the contents of `matrices` by the positions, in input order, of the matrices of this exponent.
+#[inline]
 fn list_matrices(matrices: &mut Vec<usize>, dimensions: &[Dimensions], exponent: usize) -> Result<(), AllocError> {
     matrices.clear();
     for matrix in 0..dimensions.len() {
@@ -220,6 +227,7 @@ fn list_matrices(matrices: &mut Vec<usize>, dimensions: &[Dimensions], exponent:
 
 /// Checks that slots under one node have the same rows of the matrices of its layer, layer by layer up to layer
 /// `cap_layer`, else `InconsistentGroupOpening`. `rows` has the row set of each query, with a row for each matrix.
+#[inline]
 fn check_shared_rows<T: Eq>(
     schedule: &Schedule<'_>,
     cap_layer: usize,
@@ -262,6 +270,7 @@ fn check_shared_rows<T: Eq>(
 /// - `WrongBatchSize`, `WrongWidth`: by ascending indices, the error of [`check_widths`] for the first query of each;
 /// - `InconsistentGroupOpening`: layer by layer up to `cap_layer`, by ascending indices and in input order of the
 ///   layer's matrices, a row is not that of the lowest index under the same node.
+#[inline]
 pub(crate) fn check_pruned<T: Eq>(
     schedule: &Schedule<'_>,
     cap_layer: usize,
@@ -284,6 +293,7 @@ pub(crate) fn check_pruned<T: Eq>(
 
 /// Checks, in this order: the heights; that there is a row set for each index; that there is no digest where there is
 /// no index; and that each index is below the tallest height. It does not allocate.
+#[inline]
 fn check_queries(
     schedule: &Schedule<'_>,
     indices: &[usize],
@@ -302,6 +312,7 @@ fn check_queries(
 }
 
 /// Checks that a proof has `expected` digests, where it has `got`, else `SiblingCountMismatch`.
+#[inline]
 fn check_digest_count(expected: usize, got: usize) -> Result<(), MerkleTreeError> {
     if expected == got { Ok(()) } else { Err(PrunedProofError::SiblingCountMismatch { expected, got }.into()) }
 }
@@ -311,6 +322,7 @@ fn check_digest_count(expected: usize, got: usize) -> Result<(), MerkleTreeError
 /// # Errors
 ///
 /// `AllocError` if memory runs out.
+#[inline]
 pub(crate) fn distinct_indices(indices: &[usize]) -> Result<Vec<usize>, AllocError> {
     let mut leaves = Vec::try_from_slice(indices)?;
     leaves.sort_unstable();
@@ -326,6 +338,7 @@ pub(crate) fn distinct_indices(indices: &[usize]) -> Result<Vec<usize>, AllocErr
 /// # Errors
 ///
 /// `AllocError` if memory runs out.
+#[inline]
 pub(crate) fn children_of<X: Copy>(
     covered: &[usize],
     digests: &[X],
@@ -351,6 +364,7 @@ pub(crate) fn children_of<X: Copy>(
 
 /// The place of `node` among ascending nodes. It must be one of them. The search begins at the place `start`, or at 0
 /// if the node is ahead of it, and takes a step for each node that it passes.
+#[inline]
 fn place_of(nodes: &[usize], start: usize, node: usize) -> usize {
     let mut place = 0;
     if start < nodes.len() && nodes[start] <= node {
@@ -373,6 +387,7 @@ fn place_of(nodes: &[usize], start: usize, node: usize) -> usize {
 /// # Errors
 ///
 /// `AllocError` if memory runs out.
+#[inline]
 pub(crate) fn siblings_on_path<X: Copy>(
     layers: &[CoveredLayer<'_, X>],
     places: &mut [usize],
@@ -399,6 +414,7 @@ pub(crate) fn siblings_on_path<X: Copy>(
 /// # Errors
 ///
 /// `AllocError` if memory runs out.
+#[inline]
 pub(crate) fn extend_except<X: Copy>(digests: &mut Vec<X>, group: &[X], position: usize) -> Result<(), AllocError> {
     // Each read computes its index without a branch: the position is as good as random.
     for place in 1..group.len() {

@@ -38,6 +38,7 @@ struct MatrixExponents<'a> {
 impl<'a> MatrixExponents<'a> {
     /// The exponents on which the steps above a layer depend: the layer's own, `layer`, which must be at most 64, and
     /// the end of the matrices' lower ones.
+    #[inline]
     fn exponents_at(&self, layer: usize) -> Exponents {
         let below = if layer < usize::BITS as usize { self.bits % (1 << layer) } else { self.bits };
         Exponents { layer, lower_end: (usize::BITS - below.leading_zeros()) as usize }
@@ -55,6 +56,7 @@ struct LevelKind {
 
 /// The step above a layer, with whether matrices belong to the layer that it leads to, and the exponents there. The
 /// layer is below the root, and has these `exponents`, of at most 64. The arity must be at least 2.
+#[inline]
 fn next_step(matrices: &MatrixExponents<'_>, arity: usize, exponents: Exponents) -> (LevelKind, Exponents) {
     let target = exponents.layer.saturating_sub(exponent_of(arity));
     // A matrix's exponent lies strictly between the layer's and what a step of the whole arity leaves of it.
@@ -98,6 +100,7 @@ pub(crate) struct Schedule<'a> {
 
 /// The steps of the tree over matrices of these dimensions, where a node has at most `arity` children. The heights need
 /// not be lawful. The arity must be at least 2. It reads each matrix twice: for its height, and for its exponent.
+#[inline]
 pub(crate) fn schedule_of(dimensions: &[Dimensions], arity: usize) -> Schedule<'_> {
     let (max_height, min_height) = extremes_of(dimensions);
     let exponent = exponent_of(max_height);
@@ -141,6 +144,7 @@ pub(crate) struct OwnedSchedule {
 
 impl OwnedSchedule {
     /// Computes the steps of the tree over matrices of these dimensions by [`schedule_of`]. The arity must be at least 2.
+    #[inline]
     pub(crate) fn new(dimensions: Vec<Dimensions>, arity: usize) -> OwnedSchedule {
         let schedule = schedule_of(&dimensions, arity);
         OwnedSchedule {
@@ -155,6 +159,7 @@ impl OwnedSchedule {
     }
 
     /// The steps, with the dimensions borrowed.
+    #[inline]
     pub(crate) fn schedule(&self) -> Schedule<'_> {
         Schedule {
             dimensions: &self.dimensions,
@@ -172,6 +177,7 @@ impl OwnedSchedule {
     /// # Errors
     ///
     /// `AllocError` if memory runs out.
+    #[inline]
     pub(crate) fn try_clone(&self) -> Result<OwnedSchedule, AllocError> {
         Ok(OwnedSchedule::new(self.dimensions.try_clone()?, self.arity))
     }
@@ -180,6 +186,7 @@ impl OwnedSchedule {
 impl<'a> Schedule<'a> {
     /// The layer, counted from the leaves, that is the cap of this height by this rule (see [`CapRule`]). `cap_height`
     /// counts levels below the root. The arity must be a power of two from 2 to 2^62. It does not allocate.
+    #[inline]
     pub(crate) fn cap_layer(&self, rule: CapRule, cap_height: usize) -> usize {
         // No step above the layer of the shortest matrix is a bridge step.
         let max_cap_height = match rule {
@@ -190,6 +197,7 @@ impl<'a> Schedule<'a> {
     }
 
     /// The step of a level, in children per node. The level must be below the root.
+    #[inline]
     pub(crate) fn step(&self, level: usize) -> usize {
         if self.of_level[level].is_bridge { 2 } else { self.arity }
     }
@@ -197,6 +205,7 @@ impl<'a> Schedule<'a> {
     /// The step of a level, the exponent of the layer above it, and whether matrices belong to that layer. The level
     /// must be below the root. `exponent` must be that of the layer below: a caller that goes up level by level has it.
     /// `arity` must be that of the steps: a caller that has it as a constant divides by a constant.
+    #[inline]
     pub(crate) fn step_up(&self, arity: usize, level: usize, exponent: usize) -> LevelStep {
         let kept = self.of_level[level];
         let step = if kept.is_bridge { 2 } else { arity };
@@ -205,6 +214,7 @@ impl<'a> Schedule<'a> {
 
     /// The shape of the layer above the layer `below`, which must be below the root, and have `len` nodes and this
     /// exponent. The arity must be a power of two from 2 to 2^62, and [`check_heights`] must accept the heights.
+    #[inline]
     pub(crate) fn level_from(&self, below: usize, exponent: usize, len: usize) -> LayerShape {
         let arity = self.arity;
         let up = self.step_up(arity, below, exponent);
@@ -225,6 +235,7 @@ impl<'a> Schedule<'a> {
     }
 
     /// The exponent of a layer, counted from the leaves. The layer must be at most the number of levels.
+    #[inline]
     pub(crate) fn layer_exponent(&self, layer: usize) -> usize {
         let mut exponent = self.exponent;
         for level in 0..layer {
@@ -236,6 +247,7 @@ impl<'a> Schedule<'a> {
     /// How many siblings the levels below a layer have, in digests: one less than the step of each
     /// (`total_siblings_for_levels` in Plonky3). The layer must be at most the number of levels, the arity a power of
     /// two from 2 to 2^62, and no height above `MAX_HEIGHT`.
+    #[inline]
     pub(crate) fn siblings_below(&self, layer: usize) -> usize {
         // At arity 2 each level has one sibling.
         if self.arity == 2 {
@@ -254,6 +266,7 @@ impl<'a> Schedule<'a> {
     /// # Errors
     ///
     /// `AllocError` if memory runs out.
+    #[inline]
     pub(crate) fn schedule_below(&self, layer: usize) -> Result<Vec<usize>, AllocError> {
         let mut schedule = Vec::with_room(layer)?;
         for level in 0..layer {
@@ -269,6 +282,7 @@ impl<'a> Schedule<'a> {
     /// # Errors
     ///
     /// `AllocError` if memory runs out.
+    #[inline]
     pub(crate) fn positions_below(&self, layer: usize, index: usize) -> Result<Vec<usize>, AllocError> {
         let mut positions = Vec::with_room(layer)?;
         let mut ancestor = index;

@@ -50,6 +50,7 @@ pub trait Matrix<T> {
     ///
     /// - By `row_in` unless `row < self.height()`.
     /// - By `column_in` unless `column <= self.width()`.
+    #[inline]
     fn piece(&self, row: usize, column: usize) -> &[T] {
         assert!(row < self.height(), "row_in");
         assert!(column <= self.width(), "column_in");
@@ -57,6 +58,7 @@ pub trait Matrix<T> {
     }
 
     /// Width and height.
+    #[inline]
     fn dimensions(&self) -> Dimensions {
         Dimensions { width: self.width(), height: self.height() }
     }
@@ -66,6 +68,7 @@ pub trait Matrix<T> {
     /// # Panics
     ///
     /// - By `row_in` unless `row < self.height()`.
+    #[inline]
     fn row(&self, row: usize) -> Row<'_, T, Self>
     where
         Self: Sized,
@@ -112,6 +115,7 @@ pub trait Matrix<T> {
     /// # Panics
     ///
     /// - By `rows_in` unless `row <= self.height() && P::WIDTH <= self.height() - row`.
+    #[inline]
     fn vertically_packed_row<P: PackedValue<Value = T>>(&self, row: usize) -> PackedRow<'_, T, P, Self>
     where
         Self: Sized,
@@ -123,18 +127,22 @@ pub trait Matrix<T> {
 
 // So that a call that takes a slice of matrices also takes a slice of references.
 impl<T, M: ?Sized + Matrix<T>> Matrix<T> for &M {
+    #[inline]
     fn height(&self) -> usize {
         (**self).height()
     }
 
+    #[inline]
     fn width(&self) -> usize {
         (**self).width()
     }
 
+    #[inline]
     fn get(&self, row: usize, column: usize) -> T {
         (**self).get(row, column)
     }
 
+    #[inline]
     fn piece(&self, row: usize, column: usize) -> &[T] {
         (**self).piece(row, column)
     }
@@ -151,6 +159,7 @@ pub struct Row<'a, T, M: Matrix<T>> {
 impl<'a, T, M: Matrix<T>> Iterator for Row<'a, T, M> {
     type Item = T;
 
+    #[inline]
     fn next(&mut self) -> Option<T> {
         if self.next == self.matrix.width() {
             return None;
@@ -172,6 +181,7 @@ pub struct PackedRow<'a, T, P: PackedValue<Value = T>, M: Matrix<T>> {
 impl<'a, T, P: PackedValue<Value = T>, M: Matrix<T>> Iterator for PackedRow<'a, T, P, M> {
     type Item = P;
 
+    #[inline]
     fn next(&mut self) -> Option<P> {
         if self.next == self.matrix.width() {
             return None;
@@ -184,6 +194,7 @@ impl<'a, T, P: PackedValue<Value = T>, M: Matrix<T>> Iterator for PackedRow<'a, 
 
 /// Packs one column of `P::WIDTH` rows from `row` on: lane `k` is the element of row `row + k`. `row + P::WIDTH` must
 /// be at most the height, and the column below the width.
+#[inline]
 pub(crate) fn packed_column<P: PackedValue, M: Matrix<P::Value>>(matrix: &M, row: usize, column: usize) -> P {
     P::from_fn(|k| -> P::Value { matrix.get(row + k, column) })
 }
@@ -227,6 +238,7 @@ impl<T> RowMajorMatrix<T> {
     /// # Panics
     ///
     /// - By `divides` unless `values.len().is_multiple_of(width)`.
+    #[inline]
     pub fn new(values: Vec<T>, width: usize) -> RowMajorMatrix<T> {
         assert!(values.len().is_multiple_of(width), "divides");
         let height = if width == 0 { 0 } else { values.len() / width };
@@ -239,6 +251,7 @@ impl<T> RowMajorMatrix<T> {
     /// # Errors
     ///
     /// `ShapeError` if the width does not divide the number of values. A width of 0 divides 0 alone.
+    #[inline]
     pub fn try_new(values: Vec<T>, width: usize) -> Result<RowMajorMatrix<T>, ShapeError> {
         let len = values.len();
         if !len.is_multiple_of(width) {
@@ -248,6 +261,7 @@ impl<T> RowMajorMatrix<T> {
     }
 
     /// All elements, row after row.
+    #[inline]
     pub fn values(&self) -> &[T] {
         self.values.as_slice()
     }
@@ -255,6 +269,7 @@ impl<T> RowMajorMatrix<T> {
 
 /// Clones the elements. The clone has the same height and width.
 impl<T: TryClone> TryClone for RowMajorMatrix<T> {
+    #[inline]
     fn try_clone(&self) -> Result<RowMajorMatrix<T>, AllocError> {
         Ok(RowMajorMatrix { values: self.values.try_clone()?, width: self.width, height: self.height })
     }
@@ -267,20 +282,24 @@ impl<T: Clone> Clone for RowMajorMatrix<T> {
 }
 
 impl<T: Copy> Matrix<T> for RowMajorMatrix<T> {
+    #[inline]
     fn height(&self) -> usize {
         self.height
     }
 
+    #[inline]
     fn width(&self) -> usize {
         self.width
     }
 
+    #[inline]
     fn get(&self, row: usize, column: usize) -> T {
         assert!(row < self.height(), "row_in");
         assert!(column < self.width(), "column_in");
         self.values[row * self.width + column]
     }
 
+    #[inline]
     fn piece(&self, row: usize, column: usize) -> &[T] {
         assert!(row < self.height(), "row_in");
         assert!(column <= self.width(), "column_in");
@@ -293,6 +312,7 @@ impl<T: Copy> Matrix<T> for RowMajorMatrix<T> {
 /// # Errors
 ///
 /// `AllocError` if memory runs out.
+#[inline]
 pub fn dimensions_of<T, M: Matrix<T>>(matrices: &[M]) -> Result<Vec<Dimensions>, AllocError> {
     let mut dimensions = Vec::with_room(matrices.len())?;
     for matrix in matrices {

@@ -45,6 +45,7 @@ impl<'a, F, X: Eq> Eq for DigestRef<'a, F, X> {}
 pub type Hash<'a, F, W, const D: usize> = DigestRef<'a, F, [W; D]>;
 
 impl<'a, F, X> From<&'a X> for DigestRef<'a, F, X> {
+    #[inline]
     fn from(value: &'a X) -> DigestRef<'a, F, X> {
         DigestRef { value, of: PhantomData }
     }
@@ -52,6 +53,7 @@ impl<'a, F, X> From<&'a X> for DigestRef<'a, F, X> {
 
 impl<'a, F, X> DigestRef<'a, F, X> {
     /// The borrowed digest.
+    #[inline]
     pub fn value(&self) -> &'a X {
         self.value
     }
@@ -91,16 +93,19 @@ impl<F, X: TryClone> TryClone for MerkleCap<F, X> {
 
 impl<F, X> MerkleCap<F, X> {
     /// The cap with these digests, in order.
+    #[inline]
     pub fn new(roots: Vec<X>) -> MerkleCap<F, X> {
         MerkleCap { roots, of: PhantomData }
     }
 
     /// The number of digests.
+    #[inline]
     pub fn num_roots(&self) -> usize {
         self.roots.len()
     }
 
     /// The digests, in order.
+    #[inline]
     pub fn roots(&self) -> &[X] {
         self.roots.as_slice()
     }
@@ -110,6 +115,7 @@ impl<F, X> MerkleCap<F, X> {
 impl<F, X> Index<usize> for MerkleCap<F, X> {
     type Output = X;
 
+    #[inline]
     fn index(&self, i: usize) -> &X {
         assert!(i < self.roots.len(), "can_index");
         &self.roots[i]
@@ -133,11 +139,13 @@ impl<T: TryClone, Proof: TryClone> TryClone for BatchOpening<T, Proof> {
 
 impl<T, Proof> BatchOpening<T, Proof> {
     /// The opening of these rows by this proof.
+    #[inline]
     pub fn new(opened_values: Vec<Vec<T>>, opening_proof: Proof) -> BatchOpening<T, Proof> {
         BatchOpening { opened_values, opening_proof }
     }
 
     /// The rows and the proof.
+    #[inline]
     pub fn unpack(self) -> (Vec<Vec<T>>, Proof) {
         (self.opened_values, self.opening_proof)
     }
@@ -176,17 +184,20 @@ impl<'a, T: core::fmt::Debug, Proof: core::fmt::Debug> core::fmt::Debug for Batc
 
 impl<'a, T, Proof> BatchOpeningRef<'a, T, Proof> {
     /// The opening of these rows by this proof.
+    #[inline]
     pub fn new(opened_values: &'a [Vec<T>], opening_proof: &'a Proof) -> BatchOpeningRef<'a, T, Proof> {
         BatchOpeningRef { opened_values, opening_proof }
     }
 
     /// The rows and the proof.
+    #[inline]
     pub fn unpack(&self) -> (&'a [Vec<T>], &'a Proof) {
         (self.opened_values, self.opening_proof)
     }
 }
 
 impl<'a, T, Proof> From<&'a BatchOpening<T, Proof>> for BatchOpeningRef<'a, T, Proof> {
+    #[inline]
     fn from(opening: &'a BatchOpening<T, Proof>) -> BatchOpeningRef<'a, T, Proof> {
         BatchOpeningRef { opened_values: opening.opened_values.as_slice(), opening_proof: &opening.opening_proof }
     }
