@@ -41,7 +41,8 @@ INSTALLED_LIBRARY := $(LIBRARY_FOR_C:%=lib/%) lib/pkgconfig/fohlazu.pc include/f
 LIBRARY := $(foreach folder,$(filter-out build/quick,$(FROM)),$(LIBRARY_FOR_C:%=$(folder)/%))
 
 # What crates are built from, with those that they stand on: a folder is newer where a file went.
-sources_of = crates.txt $(shell find $(patsubst %,crates/%,$(shell sh tests/crates $(1))) -name out -prune -o $(2) -print)
+sources_of = crates.txt $(shell find $(patsubst %,crates/%,$(shell sh tools/crates.sh $(1))) \
+  -name out -prune -o $(2) -print)
 CODE := -regex 'crates/[^/]*/src.*'
 ALL := -regex 'crates/[^/]*/\(src\|specs\|proofs\).*'
 
@@ -98,13 +99,13 @@ toolchain:
 	$(kit)
 
 documents:
-	@python3 tests/audit
-	@python3 tests/strength --check
-	@python3 tests/documents
-	@python3 tests/package
-	@python3 tests/refusals
-	@python3 tests/rows
-	@python3 tests/scripts
+	@python3 tools/audit
+	@python3 tools/strength.py --check
+	@python3 tools/documents.py
+	@python3 tools/package.py
+	@python3 tools/refusals
+	@python3 tools/rows.py
+	@python3 tools/scripts.py
 	@python3 tools/erase --check
 	@python3 tests/erase
 
@@ -166,7 +167,8 @@ help:
 #: make dist         archives of the programs and of the libraries, if cargo is installed also the package for Cargo,
 #:                   with their checksums, in build/dist/
 #: make documents    compares docs/ with the sources, and checks the form of shell scripts, by shellcheck if it is
-#:                   installed: seconds. `tests/audit write` and `tests/strength` write what of docs/ is generated
+#:                   installed: seconds. `python3 tools/audit write` and `python3 tools/strength.py` write what of docs/
+#:                   is generated
 #: make install      the programs, scripts, manual pages, completions and the libraries for C, below $DESTDIR$PREFIX;
 #:                   PREFIX is /usr/local if it is not given. FROM=build/quick installs what has no proof
 #: make uninstall    removes what was installed there

@@ -1,5 +1,4 @@
-#!/usr/bin/env python3
-"""tests/refusals    compares docs/REFUSALS.md with the stored cases, and with the docstrings of the calls
+"""python3 tools/refusals    compares docs/REFUSALS.md with the stored cases, and with the docstrings of the calls
 
 Each case of the page is stored, the numbers ahead of it are the rows that apply to it, and its answer is the text of an
 error of the first. What the page calls accepted is accepted, and each test that it names is there. The section
@@ -7,9 +6,12 @@ error of the first. What the page calls accepted is accepted, and each test that
 condition, and its docstring names no error but want of memory. What differs ends with status 1.
 """
 
+import sys
 from itertools import chain
+from pathlib import Path
 
-from script import TOP, fail
+sys.path.insert(0, str(Path(__file__).resolve().parents[1]))
+from script import TOP, fail  # first: it makes the model known
 
 from applying import rows_of
 from docstrings import ALLOC_ERROR, errors_of, has_condition, is_text_of, source

@@ -1,5 +1,5 @@
 #!/usr/bin/env python3
-"""tests/times CRATE    which functions a check of a crate from nothing spends its time on, the longest 30
+"""python3 tools/times.py CRATE    which functions a check of a crate from nothing spends its time on, the longest 30
 
 First remove crates/CRATE/out, and run `rt check --jobs 1` in the crate, with nothing beside it. A check begins with
 what other checkouts on this machine kept of the crate: remove it there, too. The checker writes a file for each part
@@ -14,7 +14,7 @@ from itertools import pairwise
 from script import TOP, fail
 
 if len(sys.argv) != 2:
-    fail("usage: tests/times CRATE", 2)
+    fail("usage: python3 tools/times.py CRATE", 2)
 files = (TOP / "crates" / sys.argv[1] / "out/incremental").rglob("*.oantt")
 times = sorted((path.stat().st_mtime, path.name) for path in files)
 if not times:

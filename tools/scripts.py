@@ -1,5 +1,5 @@
 #!/usr/bin/env python3
-"""tests/scripts    checks the form of shell scripts; `make documents` calls it
+"""python3 tools/scripts.py    checks the form of shell scripts; `make documents` calls it
 
 Lines of share/ have at most 100 columns. shellcheck finds nothing in any shell script; where it is not installed, this
 says that it was skipped. A directive that disables one of its checks says why:

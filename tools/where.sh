@@ -1,11 +1,11 @@
 #!/usr/bin/env bash
-# tests/where NAME..  prints where functions of these names stand, and the folders of their proofs: one without a folder
-#                     is proved by search. Where no function has a name, the status is 1.
+# bash tools/where.sh NAME..  prints where functions of these names stand, and the folders of their proofs: one without
+#                             a folder is proved by search. Where no function has a name, the status is 1.
 set -eu
 unset CDPATH
 cd -P -- "$(dirname -- "$(readlink -f -- "$0")")/.."
 [ "$#" -gt 0 ] || {
-  echo 'usage: tests/where NAME..' >&2
+  echo 'usage: bash tools/where.sh NAME..' >&2
   exit 2
 }
 

@@ -1,11 +1,12 @@
-#!/usr/bin/env python3
 """Reads the public contracts and the definitions, as a reader of docs/AUDIT.md would.
 
-    tests/audit             sees that public contracts need only public definitions, that all of these are needed and
-                            are definitions, that the headline of docs/AUDIT.md is there, that docs/DEFINITIONS.md
-                            lists all that is read, and that names in PROVED.md, AUDIT.md and MAP.md are there
-    tests/audit headline    prints the contracts of the headline and the definitions that they need, in reading order
-    tests/audit write       writes docs/DEFINITIONS.md
+    python3 tools/audit             sees that public contracts need only public definitions, that all of these are
+                                    needed and are definitions, that the headline of docs/AUDIT.md is there, that
+                                    docs/DEFINITIONS.md lists all that is read, and that names in PROVED.md, AUDIT.md
+                                    and MAP.md are there
+    python3 tools/audit headline    prints the contracts of the headline and the definitions that they need, in reading
+                                    order
+    python3 tools/audit write       writes docs/DEFINITIONS.md
 
 What is wrong ends with status 1, wrong arguments with 2; where the script cannot run it ends with status 3.
 """
@@ -15,14 +16,14 @@ import signal
 import sys
 from collections import defaultdict
 from itertools import takewhile
-
-from script import TOP  # first: it makes those below known
+from pathlib import Path
 
 from named import unknown_names
 from definitions import Needed, module_of, read_modules
 from headline import calls_in, headline_of
 from sources import TESTS, Sources
 
+TOP = Path(__file__).resolve().parents[2]
 TABLES, PAGE = TOP / "docs/AUDIT.md", TOP / "docs/DEFINITIONS.md"
 # The modules that are read.
 READ = re.compile(r"Rattle\.(\w+)\.specs\.(?!Lib$|Inner\b)\w+(?<!Examples)")
@@ -145,7 +146,7 @@ def main(words):
     if words == ["write"]:
         PAGE.write_text(page, encoding="utf-8")
     elif page != written:
-        audit.wrong.add(f"{PAGE.name} is not what `tests/audit write` writes")
+        audit.wrong.add(f"{PAGE.name} is not what `python3 tools/audit write` writes")
     print("".join(f"audit: {what}\n" for what in sorted(audit.wrong)), end="", file=sys.stderr)
     return 1 if audit.wrong else 0
 

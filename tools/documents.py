@@ -1,5 +1,5 @@
 #!/usr/bin/env python3
-"""tests/documents    compares docs/CALLING.md with crates/callers, which the gate proves and runs
+"""python3 tools/documents.py    compares docs/CALLING.md with crates/callers, which the gate proves and runs
 
 It names each caller and the proof files of its program, and what it has of them is as it is. Other lines of code are
 lines of some caller. What differs ends with status 1.

@@ -1,5 +1,5 @@
 #!/usr/bin/env python3
-"""tests/rows [NAME]    sees that all that docs/ROWS.md names is there: cases, tests, stored runs, examples, scripts
+"""python3 tools/rows.py [NAME]    sees that all that docs/ROWS.md names is there: cases, tests, runs, examples, scripts
 
 A NAME prints the cases of each row whose name contains it, for `rt try` in crates/test_merkle, and on standard error
 what else runs it. The page says how its lines are read. What is missing, and a row that nothing runs, end with status

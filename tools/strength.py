@@ -1,6 +1,6 @@
 #!/usr/bin/env python3
-"""tests/strength            writes what docs/STRENGTH.md has of the edits
-tests/strength --check    sees that it has this, and that an edit names the function that it changes
+"""python3 tools/strength.py            writes what docs/STRENGTH.md has of the edits
+python3 tools/strength.py --check    sees that it has this, and that an edit names the function that it changes
 
 An edit begins with `# A body that WRONG` and `# is refused at WHERE.`, or the status is 1. A row of the page's first
 table names a body and its edits, and gets where these are refused and what tries them; a row without an edit stays. The
@@ -50,7 +50,7 @@ def row_of(row, edits, wrong):
 
 def main(words):
     if words not in ([], ["--check"]):
-        fail("usage: tests/strength [--check]", 2)
+        fail("usage: python3 tools/strength.py [--check]", 2)
     page, wrong = PAGE.read_text(encoding="utf-8"), []
     edits = edits_in(wrong)
     front, _, rest = page.partition(BODIES)
@@ -63,7 +63,7 @@ def main(words):
     if not words:
         PAGE.write_text(written, encoding="utf-8")
     elif page != written:
-        wrong.append("docs/STRENGTH.md has other rows than `tests/strength` writes")
+        wrong.append("docs/STRENGTH.md has other rows than `python3 tools/strength.py` writes")
     if wrong:
         fail("\nstrength: ".join(wrong))
 

@@ -1,4 +1,5 @@
-"""What scripts of tests/ share: the folders of their modules, their words, how they end, and programs that are built.
+"""What scripts of tools/ and tests/ share: the folders of modules that several use, the words of a script, how it ends,
+and programs that are built.
 
 `make` builds a program where it is not built, after the word `quick` with no proof; FOHLAZU names another fohlazu. A
 script ends with status 1 where something is wrong, 2 where its words are, 3 where something is missing.
@@ -11,10 +12,12 @@ from pathlib import Path
 
 import __main__
 
-TOP = Path(__file__).resolve().parent.parent
-NAME = Path(sys.argv[0]).name
-sys.dont_write_bytecode = True
+TOP = Path(__file__).resolve().parents[1]
+# The script, which may be a folder with its parts. Python knows the modules in it.
+SCRIPT = Path(__main__.__file__).resolve()
+NAME = SCRIPT.parent.name if SCRIPT.stem == "__main__" else SCRIPT.stem
 FOLDERS = "tests/model", "tests/bindings.d", "tests/peers.d", f"tests/{NAME}.d", "python"
+sys.dont_write_bytecode = True
 sys.path[:0] = [str(TOP / folder) for folder in FOLDERS]
 
 
