@@ -69,26 +69,26 @@ quick: $(QUICK)
 libraries: $(LIBRARIES)
 	@:
 dist: $(LIBRARIES) $(foreach cpu,$(CPUS),$(FILES:%=build/$(cpu)/%))
-	@$(ALONE) bash tools/build dist $(VERSION) $(LOGIC)
+	@$(ALONE) bash tools/build.sh dist $(VERSION) $(LOGIC)
 
-$(QUICK) &: tools/quick $(call sources_of,$(PROGRAMS),$(CODE))
+$(QUICK) &: tools/quick.sh $(call sources_of,$(PROGRAMS),$(CODE))
 	$(kit)
-	@bash tools/quick build/quick $(PROGRAMS)
+	@bash tools/quick.sh build/quick $(PROGRAMS)
 
-$(addprefix build/x86-64-%/,$(PROGRAMS)): tools/build $(call sources_of,$(PROGRAMS),$(ALL))
+$(addprefix build/x86-64-%/,$(PROGRAMS)): tools/build.sh $(call sources_of,$(PROGRAMS),$(ALL))
 	$(kit)
-	@bash tools/build programs x86-64-$*
+	@bash tools/build.sh programs x86-64-$*
 
-$(addprefix build/x86-64-%/,$(LIBRARY_FOR_C)): tools/build $(call sources_of,fohlazu_c,$(ALL))
+$(addprefix build/x86-64-%/,$(LIBRARY_FOR_C)): tools/build.sh $(call sources_of,fohlazu_c,$(ALL))
 	$(kit)
-	@bash tools/build library x86-64-$*
+	@bash tools/build.sh library x86-64-$*
 
 $(FILES:%=build/%): build/%: build/$(CPU)/% build/cpu
 	@cp $< build/partial && mv -f build/partial $@
 
-$(LIBRARIES): tools/build share/rattle-with $(call sources_of,callers,$(ALL))
+$(LIBRARIES): tools/build.sh share/rattle-with $(call sources_of,callers,$(ALL))
 	$(kit)
-	@bash tools/build libraries
+	@bash tools/build.sh libraries
 
 # It changes where the processor is another.
 build/cpu: FORCE
@@ -142,9 +142,9 @@ clean:
 
 # How a program of cases is built is in its out/make.log.
 .SECONDEXPANSION:
-$(CASES:%=build/quick/%): build/quick/%: tools/quick $$(call sources_of,$$*,$$(CODE))
+$(CASES:%=build/quick/%): build/quick/%: tools/quick.sh $$(call sources_of,$$*,$$(CODE))
 	$(kit)
-	@bash tools/quick build/quick $*
+	@bash tools/quick.sh build/quick $*
 $(CASES:%=build/%): build/%: $$(call sources_of,$$*,$$(ALL))
 	$(kit)
 	@mkdir -p build crates/$*/out && (cd crates/$* && $(ALONE) rt run) < /dev/null > crates/$*/out/make.log 2>&1 || \

@@ -45,8 +45,9 @@ def built(folder, cpus):
     name = f"bench/{sys.argv[0].rpartition('/')[2]}"
     print(f"{name}: building, which takes minutes, and an hour where nothing is proved yet", file=sys.stderr)
     if not cpus:
-        shutil.copytree(TOP / "tools", folder / "tools")
-        run(["bash", folder / "tools/quick", folder / "quick", "bench"], bench)
+        (folder / "tools").mkdir()
+        quick = shutil.copy(TOP / "tools/quick.sh", folder / "tools")
+        run(["bash", quick, folder / "quick", "bench"], bench)
         return [folder / "quick/bench"]
     programs = []
     for cpu in cpus:

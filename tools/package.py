@@ -1,10 +1,10 @@
 #!/usr/bin/env python3
 """python3 tools/package.py    compares rust/fohlazu/README.md with tools/erase; `make documents` calls it
 
-Its table of what the eraser adds has a line for each kind that `tools/erase --added` prints, with the count and with an
-example that is printed there. Its tables of conditions name each condition of tools/erase.d/package.toml, and no other,
-and its table of laws is the one that `tools/erase --listed` prints. `python3 tools/package.py write` writes the counts
-and the laws. What differs ends with status 1.
+Its table of what the eraser adds has a line for each kind that `python3 tools/erase --added` prints, with the count and
+with an example that is printed there. Its tables of conditions name each condition of tools/erase/package.toml, and no
+other, and its table of laws is the one that `python3 tools/erase --listed` prints. `python3 tools/package.py write`
+writes the counts and the laws. What differs ends with status 1.
 """
 
 import re
@@ -77,7 +77,7 @@ def main() -> None:
         PAGE.write_text(text)
     elif sys.argv[1:]:
         fail("usage: python3 tools/package.py [write]", 2)
-    settings = tomllib.loads((TOP / "tools/erase.d/package.toml").read_text())
+    settings = tomllib.loads((TOP / "tools/erase/package.toml").read_text())
     faults = table_faults(text, kinds) + condition_faults(text, settings)
     if law_table(text) != laws():
         faults.append("has other laws than tools/erase --listed")

@@ -2,7 +2,7 @@
 form than Rust's is replaced.
 
 Every token of the result either stands in the source or was put there by `Sheet.put` or `Sheet.swap`, each under a
-kind: `tools/erase --added` prints these. Whatever is not known here is refused, here or by rustc.
+kind: `python3 tools/erase --added` prints these. Whatever is not known here is refused, here or by rustc.
 """
 
 from __future__ import annotations

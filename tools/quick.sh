@@ -1,5 +1,5 @@
 #!/usr/bin/env bash
-# tools/quick FOLDER PROGRAM..    compiles programs with no proof, optimized, side by side, into FOLDER
+# bash tools/quick.sh FOLDER PROGRAM..    compiles programs with no proof, optimized, side by side, into FOLDER
 # `rt try` compiles a crate and those below it at -O0 under a sanitizer, runs the program and deletes it. Here it runs
 # from a folder of links to the kit, whose clang compiles at -O2 with no sanitizer, and whose linker leaves out the
 # sanitizer's archive and copies what it links. Tests of indices, overflow and `prove!` stay in.

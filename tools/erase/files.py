@@ -10,8 +10,8 @@ from package import Package
 from rewrite import Eraser
 from source import Unknown
 
-TOP = Path(__file__).resolve().parent.parent.parent
-SETTINGS = TOP / "tools" / "erase.d" / "package.toml"
+TOP = Path(__file__).resolve().parents[2]
+SETTINGS = TOP / "tools" / "erase" / "package.toml"
 FACADE = TOP / "rust" / "fohlazu" / "src" / "lib.rs"
 
 

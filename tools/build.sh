@@ -1,10 +1,10 @@
 #!/usr/bin/env bash
-# tools/build programs CPU     proves the programs, and builds them for this processor, in build/CPU
-# tools/build library CPU      the same of the library for C, libfohlazu.a and libfohlazu.so
-# tools/build libraries        proves the crates of the library from nothing, and packs what proofs over them read, with
-#                              rattle-with, in build
-# tools/build package VERSION FOLDER    packs the package for Cargo into a folder, where cargo is there
-# tools/build dist VERSION LOGIC    packs a release of programs, libraries and package, in build/dist
+# bash tools/build.sh programs CPU     proves the programs, and builds them for this processor, in build/CPU
+# bash tools/build.sh library CPU      the same of the library for C, libfohlazu.a and libfohlazu.so
+# bash tools/build.sh libraries        proves the crates of the library from nothing, and packs what proofs over them
+#                                      read, with rattle-with, in build
+# bash tools/build.sh package VERSION FOLDER    packs the package for Cargo into a folder, where cargo is there
+# bash tools/build.sh dist VERSION LOGIC    packs a release of programs, libraries and package, in build/dist
 # What is proved stays in crates/*/out: a build of programs that was stopped goes on where it was, and one for another
 # processor proves no library again.
 set -eu -o pipefail

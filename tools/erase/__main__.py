@@ -1,14 +1,13 @@
-#!/usr/bin/env python3
-"""tools/erase [--check | --added | --listed] [--crates DIR] [--out DIR]    the proved sources as a Cargo package
+"""python3 tools/erase [--check | --added | --listed] [--crates DIR] [--out DIR]    the proved sources as a Cargo package
 
 Makes rust/fohlazu/src/erased from crates/*/src: contracts and ghost code are cut, and what the toolchain's library has
-in another form than Rust's is replaced, as tools/erase.d/rewrite.py says. rustfmt lays it out.
+in another form than Rust's is replaced, as rewrite.py says. rustfmt lays it out.
 
 `--check` compares the result with what is there and writes nothing; where there is no rustfmt, it says that it was
 skipped. `--added` prints what the result has and the sources have not, by kind, and then what was cut from them beside
 contracts and ghost code. `--listed` prints the conditions of public calls and the laws of public traits, in Markdown,
-as tools/erase.d/package.toml has them. A form that isn't known, and a condition or a trait that is not listed there,
-end it with exit code 1.
+as package.toml has them. A form that isn't known, and a condition or a trait that is not listed there, end it with exit
+code 1.
 """
 
 from __future__ import annotations
@@ -22,8 +21,7 @@ import tempfile
 from collections import Counter
 from pathlib import Path
 
-TOP = Path(__file__).resolve().parent.parent
-sys.path.insert(0, str(TOP / "tools" / "erase.d"))
+TOP = Path(__file__).resolve().parents[2]
 sys.dont_write_bytecode = True
 
 import source  # noqa: E402
@@ -83,7 +81,7 @@ def check(files: dict[str, str], out: Path) -> None:
         name for name, text in files.items() if name not in there or (out / name).read_text(encoding="utf-8") != text
     ]
     if wrong:
-        raise source.Unknown(f"not what the sources give, run tools/erase: {', '.join(wrong)}")
+        raise source.Unknown(f"not what the sources give, run `python3 tools/erase`: {', '.join(wrong)}")
 
 
 def size(text: str) -> int:
@@ -142,7 +140,7 @@ def run(args: argparse.Namespace) -> None:
 
 def main() -> None:
     """Reads the arguments."""
-    parser = argparse.ArgumentParser(prog="tools/erase", description=__doc__.split("\n\n")[1])
+    parser = argparse.ArgumentParser(prog="python3 tools/erase", description=__doc__.split("\n\n")[1])
     parser.add_argument("--check", action="store_true", help="compare, and write nothing")
     parser.add_argument("--added", action="store_true", help="print what the result has and the sources have not")
     parser.add_argument("--listed", action="store_true", help="print the conditions and the laws of what is public")
