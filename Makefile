@@ -20,7 +20,7 @@ LIBRARY_FOR_C := libfohlazu.a libfohlazu.so
 FILES := $(PROGRAMS) $(LIBRARY_FOR_C)
 CPUS := x86-64-v2 x86-64-v3
 QUICK := $(PROGRAMS:%=build/quick/%)
-# What answers the cases of tests/fuzz, tests/memory, tests/peers and tests/rust/compare.
+# What answers the cases of tests/fuzz.py, tests/memory, tests/peers and tests/rust/compare.py.
 CASES := test_merkle test_log test_rust test_memory
 LIBRARIES := build/libraries.tar.zst
 
@@ -110,10 +110,10 @@ documents:
 	@python3 tests/erase
 
 check-quick: toolchain documents quick
-	@$(ALONE) python3 tests/check-quick
+	@$(ALONE) python3 tests/check_quick.py
 
 check: toolchain documents
-	@$(ALONE) bash tests/gate
+	@$(ALONE) bash tests/gate.sh
 
 install: $(PROGRAMS:%=$(FROM)/%) $(LIBRARY)
 	@for name in $(PROGRAMS); do \

@@ -11,7 +11,7 @@ from pathlib import Path
 from script import TOP, fail
 
 CRATE, TEXT = TOP / "crates/callers", (TOP / "docs/CALLING.md").read_text()
-# The caller of README.md, which tests/readme compares, and the proofs of the other callers.
+# The caller of README.md, which tests/readme.py compares, and the proofs of the other callers.
 LEFT_OUT = re.compile(r"src/readme\.rt|(.*/)?out/.*|.*/Lib\.antt|proofs/(Collisions\.antt|(coins|messages)/.*)")
 
 

@@ -82,11 +82,11 @@ def is_stored(program: str, words: list[str], printed: str) -> bool:
 
 
 def is_run_by_check(script: str) -> bool:
-    """Whether `make check` runs a script: `tests/gate` does, or `documents`, on which the target depends."""
+    """Whether `make check` runs a script: `tests/gate.sh` does, or `documents`, on which the target depends."""
     makefile = (TOP / "Makefile").read_text(encoding="utf-8")
     callers = re.findall(r"^documents:.*\n((?:\t.*\n)*)", makefile, re.M)
-    if re.search(r"^check:.*\n(?:\t.*\n)*\t.*tests/gate$", makefile, re.M):
-        callers.append((TOP / "tests/gate").read_text(encoding="utf-8"))
+    if re.search(r"^check:.*\n(?:\t.*\n)*\t.*tests/gate\.sh$", makefile, re.M):
+        callers.append((TOP / "tests/gate.sh").read_text(encoding="utf-8"))
     return (TOP / script).exists() and any(script in caller for caller in callers)
 
 

@@ -13,10 +13,10 @@ from pathlib import Path
 import __main__
 
 TOP = Path(__file__).resolve().parents[1]
-# The script, which may be a folder with its parts. Python knows the modules in it.
+# The script, or the file that runs a folder. Python knows the other modules of the folder.
 SCRIPT = Path(__main__.__file__).resolve()
 NAME = SCRIPT.parent.name if SCRIPT.stem == "__main__" else SCRIPT.stem
-FOLDERS = "tests/model", "tests/bindings.d", "tests/peers.d", f"tests/{NAME}.d", "python"
+FOLDERS = "tests/model", "tests/bindings", "tests/follow", "tests/peers", "python"
 sys.dont_write_bytecode = True
 sys.path[:0] = [str(TOP / folder) for folder in FOLDERS]
 

@@ -21,7 +21,7 @@ NAMED = re.compile(r"(\w+): `(\w+)`")
 def edits_in(wrong):
     """What each edit says, by the name that the page has for it: its body, where it is refused, and what tries it."""
     edits = {}
-    for edit in sorted([*TOP.glob("crates/*/must-fail/*.edit"), *TOP.glob("tests/edits.d/*/*.edit")]):
+    for edit in sorted([*TOP.glob("crates/*/must-fail/*.edit"), *TOP.glob("tests/edits/*/*.edit")]):
         path, said = edit.relative_to(TOP), EDIT.match(edit.read_text(encoding="utf-8"))
         if not said:
             wrong.append(f"{path} does not begin with what it breaks and where it is refused")

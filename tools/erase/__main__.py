@@ -1,7 +1,7 @@
-"""python3 tools/erase [--check | --added | --listed] [--crates DIR] [--out DIR]    the proved sources as a Cargo package
+"""python3 tools/erase [--check | --added | --listed] [--crates DIR] [--out DIR]    makes the Cargo package
 
-Makes rust/fohlazu/src/erased from crates/*/src: contracts and ghost code are cut, and what the toolchain's library has
-in another form than Rust's is replaced, as rewrite.py says. rustfmt lays it out.
+Makes rust/fohlazu/src/erased from the proved sources, crates/*/src: contracts and ghost code are cut, and what the
+toolchain's library has in another form than Rust's is replaced, as rewrite.py says. rustfmt lays it out.
 
 `--check` compares the result with what is there and writes nothing; where there is no rustfmt, it says that it was
 skipped. `--added` prints what the result has and the sources have not, by kind, and then what was cut from them beside
