@@ -135,7 +135,7 @@ uninstall:
 
 # `make bench PARTS='short openings'` measures these parts alone.
 bench: toolchain
-	@python3 bench/run $(PARTS)
+	@python3 bench/run.py $(PARTS)
 
 clean:
 	@rm -rf build bench/out

@@ -1,5 +1,5 @@
 #!/usr/bin/env python3
-"""bench/run [quick] [PART ..]: measures the library, and prints a table. docs/PERFORMANCE.md says what it shows.
+"""python3 bench/run.py [quick] [PART ..]: measures the library, and prints a table
 
 sizes     commits to one matrix of 2^10 to 2^20 rows and of width 1, 8, 64 or 1000
 short     the same up to 2^14 rows
@@ -11,8 +11,8 @@ logs      roots of 10^6 entries, beside `openssl dgst -sha256`, and of 10^7 leaf
 With no part named it measures all but `short`. It proves and builds bench/src for x86-64-v3, as a crate of a copy of
 the repository; with `quick` it builds alone. Pinned to one processor, each form of a scheme is timed: scalar (row by
 row and node by node), packed (in lanes), batched (eight messages a call), salted. The last column is the ratio to the
-first form on the same batch. It writes bench/out/times.csv. It ends with status 2 where its words are wrong, with 3
-where it can't run.
+first form on the same batch. docs/PERFORMANCE.md says what the table shows. It writes bench/out/times.csv. It ends with
+status 2 where its words are wrong, with 3 where it can't run.
 """
 
 import csv
@@ -87,12 +87,12 @@ def main():
     is_proved = words[:1] != ["quick"]
     parts = words if is_proved else words[1:]
     if not set(parts) <= {"short", *PARTS}:
-        fail(f"usage: bench/run [quick] [short|{'|'.join(PARTS)} ..]", 2)
+        fail(f"usage: python3 bench/run.py [quick] [short|{'|'.join(PARTS)} ..]", 2)
     shutil.which("rt") or fail("the Rattle toolchain is needed: its command rt is not on the PATH", 3)
     OUT.mkdir(exist_ok=True)
     with tempfile.TemporaryDirectory() as folder:
         program, = built(Path(folder), ["x86-64-v3"] if is_proved else [])
-        print(f"bench/run: measuring {' '.join(parts or PARTS)}", file=sys.stderr)
+        print(f"bench/run.py: measuring {' '.join(parts or PARTS)}", file=sys.stderr)
         os.sched_setaffinity(0, {max(os.sched_getaffinity(0))})
         ran = subprocess.run([program, *(parts or PARTS)], stdout=subprocess.PIPE, text=True, check=True,
                              env={**os.environ, "GLIBC_TUNABLES": TUNABLES})

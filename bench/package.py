@@ -1,5 +1,5 @@
 #!/usr/bin/env python3
-"""bench/package [quick | again] [TURNS] [PART ..]    times the calls of the Cargo package beside the proved build
+"""python3 bench/package.py [quick | again] [TURNS] [PART ..]    times the Cargo package beside the proved build
 
 Both programs do the same work in parts of one name (bench/src, rust/fohlazu/benches/times): `short`, `batches`,
 `openings`, `logs`; with no part named, all four. Each is built for x86-64-v3, and for the processor that its compiler
@@ -122,7 +122,7 @@ def main():
     how = words.pop(0) if words[:1] in (["quick"], ["again"]) else "proved"
     turns = int(words.pop(0)) if words and words[0].isdecimal() else 3
     if not set(words) <= set(PARTS):
-        fail(f"usage: bench/package [quick | again] [TURNS] [{'|'.join(PARTS)} ..]", 2)
+        fail(f"usage: python3 bench/package.py [quick | again] [TURNS] [{'|'.join(PARTS)} ..]", 2)
     if how != "again":
         for tool in "rt", "cargo":
             shutil.which(tool) or fail(f"{tool} is not on the PATH", 3)
@@ -130,7 +130,7 @@ def main():
     os.sched_setaffinity(0, {max(os.sched_getaffinity(0))})
     times = {name: ({}, {}) for name in CPUS}
     for turn in range(turns):
-        print(f"bench/package: turn {turn + 1} of {turns}", file=sys.stderr)
+        print(f"bench/package.py: turn {turn + 1} of {turns}", file=sys.stderr)
         for name, sides in times.items():
             for side, program in zip(sides, ("proved", "package")):
                 least(KEPT / f"{program}-{name}", words or PARTS, side)

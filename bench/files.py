@@ -1,13 +1,13 @@
 #!/usr/bin/env python3
-"""bench/files [quick] [BYTES LINES]: the time and memory of `fohlazu`, beside `openssl dgst -sha256` and `sha256sum`.
+"""python3 bench/files.py [quick] [BYTES LINES]: the time and memory of `fohlazu`, beside other tools
 
 In bench/out it makes a file of BYTES random bytes (1 GiB), one of LINES lines of 64 bytes with their ends (10^7), one
 of a tenth as many lines of 20 bytes, and one of a fifth as many of mixed lengths from 60 to 250 bytes, as logs have
-them. Pinned to one processor, with the files in memory, it seals each, the first in blocks of 4096, beside the other
-tools, and takes the least processor time of some rounds. Then it seals four times BYTES of zeros in blocks, and runs
-`prove` and `verify` of 20000, 64 and one of the lines, and last the verifiers with the start of their process. Memory
-is that which is held at most, and shows from 8 MiB on. With the word `quick` the program has no proof. FOHLAZU names
-another program. It ends with status 2 where its words are wrong, with 3 where it can't run.
+them. Pinned to one processor, with the files in memory, it seals each, the first in blocks of 4096, beside `openssl
+dgst -sha256` and `sha256sum`, and takes the least processor time of some rounds. Then it seals four times BYTES of
+zeros in blocks, and runs `prove` and `verify` of 20000, 64 and one of the lines, and last the verifiers with the start
+of their process. Memory is that which is held at most, and shows from 8 MiB on. With the word `quick` the program has
+no proof. FOHLAZU names another program. It ends with status 2 where its words are wrong, with 3 where it can't run.
 """
 
 import os
@@ -78,7 +78,7 @@ def main():
     is_quick = words[:1] == ["quick"]
     words = words[1:] if is_quick else words
     if len(words) not in (0, 2) or not all(word.isascii() and word.isdecimal() and int(word) for word in words):
-        fail("usage: bench/files [quick] [BYTES LINES]", 2)
+        fail("usage: python3 bench/files.py [quick] [BYTES LINES]", 2)
     size, count = map(int, words or (1 << 30, 10**7))
     program = built(is_quick)
     OUT.mkdir(exist_ok=True)
