@@ -17,15 +17,16 @@ trap 'rm -rf -- "$work"' EXIT
 count=0
 skipped=0
 status=0
-for example in examples/*/run; do
-  stored="${example%/run}/printed"
+for example in examples/*/run.sh; do
+  folder="${example%/run.sh}"
+  stored="$folder/printed"
   ended=0
   sh "$example" > "$work/printed" 2>&1 < /dev/null || ended=$?
   count=$((count + 1))
 
   if [ "$ended" -eq 77 ]; then
     skipped=$((skipped + 1))
-    echo "examples: ${example%/run} is skipped: $(tail -n 1 "$work/printed")"
+    echo "examples: $folder is skipped: $(tail -n 1 "$work/printed")"
   elif [ "${1-}" = --write ]; then
     cp -- "$work/printed" "$stored"
   elif [ "$ended" -ne 0 ] || ! diff -I '^time: ' "$stored" "$work/printed"; then

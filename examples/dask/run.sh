@@ -1,10 +1,10 @@
 #!/bin/sh
-# A file that two workers of Dask, a cluster engine, seal in 16 parts, beside one process: examples/dask/run [MIB]
+# A file that two workers of Dask, a cluster engine, seal in 16 parts, beside one process: sh examples/dask/run.sh [MIB]
 #
 # The file has 64 MiB, less 64000 bytes; MIB, a power of two from 16, makes another. Scheduler and workers run on
 # loopback. On a cluster each worker has fohlazu, and reads the file by one name. In a second run a worker is killed by
 # SIGKILL in the middle of a part; Dask gives this part to the other, and those whose results are lost.
-. "$(dirname -- "$0")/../parties"
+. "$(dirname -- "$0")/../parties.sh"
 needs openssl
 
 mib="${1-64}"

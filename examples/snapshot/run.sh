@@ -3,7 +3,7 @@
 # to whoever has the signed checkpoint, without the table.
 #
 # The table is a CSV file with a row on each line, as most are; a row may be any bytes without a line feed.
-. "$(dirname -- "$0")/../parties"
+. "$(dirname -- "$0")/../parties.sh"
 needs ssh-keygen
 cp -- "$here/prices-1.csv" "$here/prices-2.csv" .
 

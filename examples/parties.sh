@@ -37,7 +37,7 @@ fail() {
   exit 1
 }
 
-# Ends with status 77 where a tool is not here. tests/examples then says that the example is skipped.
+# Ends with status 77 where a tool is not here. tests/examples.sh then says that the example is skipped.
 needs() {
   for tool; do
     command -v "$tool" > /dev/null || {

@@ -6,7 +6,7 @@
 # anyone can draw them again. Where a sixteenth of the image is lost, 100 blocks miss it with a chance of (15/16)^100,
 # less than 0.002.
 # shellcheck disable=SC2086 # the numbers that are drawn are separate arguments
-. "$(dirname -- "$0")/../parties"
+. "$(dirname -- "$0")/../parties.sh"
 PATH="$PATH:/usr/sbin:/sbin"
 needs mke2fs e2fsck openssl
 

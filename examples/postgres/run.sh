@@ -5,7 +5,7 @@
 # In COPY's text format a row is one line: a line feed in a value is printed as \n. The text is the same each time if
 # the order, the encoding, the time zone and the style of dates are fixed. The server is the script's own: it listens on
 # a socket in the script's folder, and nowhere else.
-. "$(dirname -- "$0")/../parties"
+. "$(dirname -- "$0")/../parties.sh"
 for folder in /usr/lib/postgresql/*/bin; do
   PATH="$PATH:$folder"
 done

@@ -4,7 +4,7 @@
 # With --pipe -N one process reads the file and counts lines, and --block is more than a part has. Blocks need no
 # counting: by --pipepart each process reads its own part. {#} is the number of a part.
 # shellcheck disable=SC2016 # parallel's shells expand these commands
-. "$(dirname -- "$0")/../parties"
+. "$(dirname -- "$0")/../parties.sh"
 needs parallel openssl
 export PARALLEL_HOME="$work"
 

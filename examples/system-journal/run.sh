@@ -5,7 +5,7 @@
 # The journal is a stored one, and grows by the entries of a day. On a machine leave out --file. journalctl prints the
 # fields in a random order, hence jq. It isn't called with --cursor-file: where the last entry that was taken is gone,
 # that of systemd 252 skips a new one. What is deleted before it is taken is not in the log, and no proof says so.
-. "$(dirname -- "$0")/../parties"
+. "$(dirname -- "$0")/../parties.sh"
 PATH="$PATH:/usr/lib/systemd:/lib/systemd"
 needs journalctl systemd-journal-remote jq
 

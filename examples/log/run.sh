@@ -1,7 +1,7 @@
 #!/bin/sh
 # A log of three days. Its operator publishes the checkpoint of the whole log each evening, with a proof of consistency:
 # the lines of the checkpoint before still stand at the head of the log. Later a dishonest operator tampers with a line.
-. "$(dirname -- "$0")/../parties"
+. "$(dirname -- "$0")/../parties.sh"
 
 # The checkpoint of a log.
 seal() {
