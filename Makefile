@@ -125,7 +125,7 @@ install: $(PROGRAMS:%=$(FROM)/%) $(LIBRARY)
 	@install -t "$(TO)/bin" $(SCRIPTS:%=share/%)
 ifdef LIBRARY
 	@install -Dm 644 -t "$(TO)/lib" $(LIBRARY)
-	@install -Dm 644 -t "$(TO)/include" examples/c/fohlazu.h
+	@install -Dm 644 -t "$(TO)/include" include/fohlazu.h
 	@install -Dm 644 <(sed 's/@VERSION@/$(VERSION)/' share/fohlazu.pc) "$(TO)/lib/pkgconfig/fohlazu.pc"
 endif
 	@printf '%s\n' $(patsubst %,"$(TO)/%",$(INSTALLED) $(if $(LIBRARY),$(INSTALLED_LIBRARY)))

@@ -27,7 +27,7 @@ import logs  # noqa: E402
 import openings  # noqa: E402
 
 LIBRARIES = [TOP / "build" / name for name in ("libfohlazu.a", "libfohlazu.so")]
-EXAMPLES = TOP / "examples" / "c"
+INCLUDE = f"-I{TOP / 'include'}"
 CALLS = ["fohlazu_leaf_hash", "fohlazu_verify_consistency", "fohlazu_verify_inclusion", "fohlazu_verify_opening"]
 NEEDED = {"memmove", "malloc", "realloc", "free"}
 # The toolchain's layer over malloc, with a local constant.
@@ -89,13 +89,13 @@ def questions():
 def try_c(work):
     """Calls the library from C."""
     compiler = shutil.which(os.environ.get("CC", "cc")) or fail("a C compiler is needed", 3)
-    flags = [compiler, "-std=c11", "-Wall", "-Wextra", "-Werror", "-pedantic", "-O2"]
+    flags = [compiler, "-std=c11", "-Wall", "-Wextra", "-Werror", "-pedantic", "-O2", INCLUDE]
     archive, shared = LIBRARIES
     answers = 0
     for name, asked in {"log": questions(), "opening": openings.questions()}.items():
         plain = work / name
         refused = work / f"{name}-refused"
-        source = EXAMPLES / f"{name}.c"
+        source = TOP / f"examples/c/{name}.c"
         run(*flags, "-o", plain, source, shared, f"-Wl,-rpath,{shared.parent}")
         run(*flags, "-o", refused, source, TOP / "tests/bindings/refuse_all.c", archive)
         for question, verdict in asked:
@@ -112,8 +112,8 @@ def try_cpp(work):
     compiler = shutil.which(os.environ.get("CXX", "c++"))
     if not compiler:
         return "skipped, there is no compiler"
-    (work / "log.cpp").write_text('#include "fohlazu.h"\nint main() { return FOHLAZU_ACCEPTED; }\n')
-    run(compiler, "-Wall", "-Wextra", "-Werror", "-pedantic", "-fsyntax-only", f"-I{EXAMPLES}", work / "log.cpp")
+    (work / "log.cpp").write_text("#include <fohlazu.h>\nint main() { return FOHLAZU_ACCEPTED; }\n")
+    run(compiler, "-Wall", "-Wextra", "-Werror", "-pedantic", "-fsyntax-only", INCLUDE, work / "log.cpp")
     return "the header compiles"
 
 
