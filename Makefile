@@ -20,7 +20,7 @@ LIBRARY_FOR_C := libfohlazu.a libfohlazu.so
 FILES := $(PROGRAMS) $(LIBRARY_FOR_C)
 CPUS := x86-64-v2 x86-64-v3
 QUICK := $(PROGRAMS:%=build/quick/%)
-# What answers the cases of tests/fuzz, tests/memory, tests/peers and tests/rust/compare.
+# What answers the cases of tests/fuzz.py, tests/memory, tests/peers and tests/rust/compare.py.
 CASES := test_merkle test_log test_rust test_memory
 LIBRARIES := build/libraries.tar.zst
 
@@ -41,7 +41,8 @@ INSTALLED_LIBRARY := $(LIBRARY_FOR_C:%=lib/%) lib/pkgconfig/fohlazu.pc include/f
 LIBRARY := $(foreach folder,$(filter-out build/quick,$(FROM)),$(LIBRARY_FOR_C:%=$(folder)/%))
 
 # What crates are built from, with those that they stand on: a folder is newer where a file went.
-sources_of = crates.txt $(shell find $(patsubst %,crates/%,$(shell sh tests/crates $(1))) -name out -prune -o $(2) -print)
+sources_of = crates.txt $(shell find $(patsubst %,crates/%,$(shell sh tools/crates.sh $(1))) \
+  -name out -prune -o $(2) -print)
 CODE := -regex 'crates/[^/]*/src.*'
 ALL := -regex 'crates/[^/]*/\(src\|specs\|proofs\).*'
 
@@ -68,26 +69,26 @@ quick: $(QUICK)
 libraries: $(LIBRARIES)
 	@:
 dist: $(LIBRARIES) $(foreach cpu,$(CPUS),$(FILES:%=build/$(cpu)/%))
-	@$(ALONE) bash tools/build dist $(VERSION) $(LOGIC)
+	@$(ALONE) bash tools/build.sh dist $(VERSION) $(LOGIC)
 
-$(QUICK) &: tools/quick $(call sources_of,$(PROGRAMS),$(CODE))
+$(QUICK) &: tools/quick.sh $(call sources_of,$(PROGRAMS),$(CODE))
 	$(kit)
-	@bash tools/quick build/quick $(PROGRAMS)
+	@bash tools/quick.sh build/quick $(PROGRAMS)
 
-$(addprefix build/x86-64-%/,$(PROGRAMS)): tools/build $(call sources_of,$(PROGRAMS),$(ALL))
+$(addprefix build/x86-64-%/,$(PROGRAMS)): tools/build.sh $(call sources_of,$(PROGRAMS),$(ALL))
 	$(kit)
-	@bash tools/build programs x86-64-$*
+	@bash tools/build.sh programs x86-64-$*
 
-$(addprefix build/x86-64-%/,$(LIBRARY_FOR_C)): tools/build $(call sources_of,fohlazu_c,$(ALL))
+$(addprefix build/x86-64-%/,$(LIBRARY_FOR_C)): tools/build.sh $(call sources_of,fohlazu_c,$(ALL))
 	$(kit)
-	@bash tools/build library x86-64-$*
+	@bash tools/build.sh library x86-64-$*
 
 $(FILES:%=build/%): build/%: build/$(CPU)/% build/cpu
 	@cp $< build/partial && mv -f build/partial $@
 
-$(LIBRARIES): tools/build share/rattle-with $(call sources_of,callers,$(ALL))
+$(LIBRARIES): tools/build.sh share/rattle-with $(call sources_of,callers,$(ALL))
 	$(kit)
-	@bash tools/build libraries
+	@bash tools/build.sh libraries
 
 # It changes where the processor is another.
 build/cpu: FORCE
@@ -98,21 +99,21 @@ toolchain:
 	$(kit)
 
 documents:
-	@python3 tests/audit
-	@python3 tests/strength --check
-	@python3 tests/documents
-	@python3 tests/package
-	@python3 tests/refusals
-	@python3 tests/rows
-	@python3 tests/scripts
+	@python3 tools/audit
+	@python3 tools/strength.py --check
+	@python3 tools/documents.py
+	@python3 tools/package.py
+	@python3 tools/refusals
+	@python3 tools/rows.py
+	@python3 tools/scripts.py
 	@python3 tools/erase --check
 	@python3 tests/erase
 
 check-quick: toolchain documents quick
-	@$(ALONE) python3 tests/check-quick
+	@$(ALONE) python3 tests/check_quick.py
 
 check: toolchain documents
-	@$(ALONE) bash tests/gate
+	@$(ALONE) bash tests/gate.sh
 
 install: $(PROGRAMS:%=$(FROM)/%) $(LIBRARY)
 	@for name in $(PROGRAMS); do \
@@ -124,7 +125,7 @@ install: $(PROGRAMS:%=$(FROM)/%) $(LIBRARY)
 	@install -t "$(TO)/bin" $(SCRIPTS:%=share/%)
 ifdef LIBRARY
 	@install -Dm 644 -t "$(TO)/lib" $(LIBRARY)
-	@install -Dm 644 -t "$(TO)/include" examples/c/fohlazu.h
+	@install -Dm 644 -t "$(TO)/include" include/fohlazu.h
 	@install -Dm 644 <(sed 's/@VERSION@/$(VERSION)/' share/fohlazu.pc) "$(TO)/lib/pkgconfig/fohlazu.pc"
 endif
 	@printf '%s\n' $(patsubst %,"$(TO)/%",$(INSTALLED) $(if $(LIBRARY),$(INSTALLED_LIBRARY)))
@@ -134,16 +135,16 @@ uninstall:
 
 # `make bench PARTS='short openings'` measures these parts alone.
 bench: toolchain
-	@python3 bench/run $(PARTS)
+	@python3 bench/run.py $(PARTS)
 
 clean:
 	@rm -rf build bench/out
 
 # How a program of cases is built is in its out/make.log.
 .SECONDEXPANSION:
-$(CASES:%=build/quick/%): build/quick/%: tools/quick $$(call sources_of,$$*,$$(CODE))
+$(CASES:%=build/quick/%): build/quick/%: tools/quick.sh $$(call sources_of,$$*,$$(CODE))
 	$(kit)
-	@bash tools/quick build/quick $*
+	@bash tools/quick.sh build/quick $*
 $(CASES:%=build/%): build/%: $$(call sources_of,$$*,$$(ALL))
 	$(kit)
 	@mkdir -p build crates/$*/out && (cd crates/$* && $(ALONE) rt run) < /dev/null > crates/$*/out/make.log 2>&1 || \
@@ -166,7 +167,8 @@ help:
 #: make dist         archives of the programs and of the libraries, if cargo is installed also the package for Cargo,
 #:                   with their checksums, in build/dist/
 #: make documents    compares docs/ with the sources, and checks the form of shell scripts, by shellcheck if it is
-#:                   installed: seconds. `tests/audit write` and `tests/strength` write what of docs/ is generated
+#:                   installed: seconds. `python3 tools/audit write` and `python3 tools/strength.py` write what of docs/
+#:                   is generated
 #: make install      the programs, scripts, manual pages, completions and the libraries for C, below $DESTDIR$PREFIX;
 #:                   PREFIX is /usr/local if it is not given. FROM=build/quick installs what has no proof
 #: make uninstall    removes what was installed there

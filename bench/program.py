@@ -13,7 +13,7 @@ TUNABLES = "glibc.malloc.trim_threshold=1073741824:glibc.malloc.mmap_threshold=3
 
 def lay_out(folder):
     """The program as a crate of a copy of the crates that it stands on, with what earlier checks kept in their out/."""
-    words = ["sh", TOP / "tests/crates", *LIBRARIES]
+    words = ["sh", TOP / "tools/crates.sh", *LIBRARIES]
     crates = subprocess.run(words, capture_output=True, text=True, check=True).stdout.split()
     for crate in crates:
         shutil.copytree(TOP / "crates" / crate, folder / "crates" / crate, ignore=shutil.ignore_patterns("must-fail"))
@@ -45,8 +45,9 @@ def built(folder, cpus):
     name = f"bench/{sys.argv[0].rpartition('/')[2]}"
     print(f"{name}: building, which takes minutes, and an hour where nothing is proved yet", file=sys.stderr)
     if not cpus:
-        shutil.copytree(TOP / "tools", folder / "tools")
-        run(["bash", folder / "tools/quick", folder / "quick", "bench"], bench)
+        (folder / "tools").mkdir()
+        quick = shutil.copy(TOP / "tools/quick.sh", folder / "tools")
+        run(["bash", quick, folder / "quick", "bench"], bench)
         return [folder / "quick/bench"]
     programs = []
     for cpu in cpus:

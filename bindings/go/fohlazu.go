@@ -3,7 +3,7 @@
 // holds of a log only if the root is of one.
 package fohlazu
 
-// #cgo CFLAGS: -I${SRCDIR}/../../examples/c
+// #cgo CFLAGS: -I${SRCDIR}/../../include
 // #cgo LDFLAGS: -L${SRCDIR}/../../build -l:libfohlazu.a
 // #include <fohlazu.h>
 import "C"

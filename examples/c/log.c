@@ -4,7 +4,7 @@
  *     log consistency OLD-SIZE NEW-SIZE OLD-ROOT NEW-ROOT DIGEST..
  *
  * Roots and digests are hexadecimal, and indices count from 0. The status is that of the call, 100 for other words. */
-#include "fohlazu.h"
+#include <fohlazu.h>
 
 #include <stdio.h>
 #include <stdlib.h>

@@ -4,7 +4,7 @@
  *
  * ROWS are the rows of all matrices, one after another. Rows and digests are hexadecimal, and an f after the cap height is
  * the fixed rule. The status is that of the call, 100 for other words. */
-#include "fohlazu.h"
+#include <fohlazu.h>
 
 #include <stdio.h>
 #include <stdlib.h>

@@ -1,5 +1,5 @@
 //! The verifiers of logs (RFC 9162), and of openings of matrices, as a library for C, on plain bytes:
-//! `examples/c/fohlazu.h` declares its calls. They keep nothing, and those of logs take no memory.
+//! `include/fohlazu.h` declares its calls. They keep nothing, and those of logs take no memory.
 #![tactic(auto)]
 
 pub mod opening;

@@ -1,7 +1,7 @@
 //! Public calls with random arguments, most of which break a condition of the call: each of these ends in a panic whose
 //! message is the name of the first condition that is broken, and a call whose conditions hold does not panic.
 //!
-//! tools/erase.d/package.toml lists the conditions. Each one that is asserted there is broken here, and no other. What
+//! tools/erase/package.toml lists the conditions. Each one that is asserted there is broken here, and no other. What
 //! a condition says is written here once more, as the documentation of its call has it.
 
 use fohlazu::hashes::{Batched3, FoldCompress, FoldHash, Lanes, U32x8};
@@ -496,7 +496,7 @@ fn broken_conditions_panic_with_their_names() {
     assert!(in_all >= LEAST_BROKEN_IN_ALL, "{in_all} calls with a broken condition only");
 
     // The package as it is published has no list.
-    let path = concat!(env!("CARGO_MANIFEST_DIR"), "/../../tools/erase.d/package.toml");
+    let path = concat!(env!("CARGO_MANIFEST_DIR"), "/../../tools/erase/package.toml");
     if let Ok(list) = fs::read_to_string(path) {
         let mut listed = asserted(&list);
         if cfg!(not(feature = "sha2")) {

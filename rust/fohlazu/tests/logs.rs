@@ -492,7 +492,7 @@ fn the_log_of_certificate_transparency() {
     assert_eq!(verify_consistency(6, 8, &growth, &root_of(&entries[..6]), &root), Ok(()));
 }
 
-/// What `tests/cargo quick` leaves out.
+/// What `python3 tests/cargo.py quick` leaves out.
 mod long {
     #[test]
     fn roots() {

@@ -1,7 +1,7 @@
 //! Programs that break a condition which the compiler sees: rustc refuses each, and names the condition. A program that
 //! differs in a number or a type alone, so that the conditions hold, is compiled.
 //!
-//! tools/erase.d/package.toml lists these conditions as `const`. Each one is broken here, and no other.
+//! tools/erase/package.toml lists these conditions as `const`. Each one is broken here, and no other.
 
 use std::collections::BTreeSet;
 use std::env;
@@ -157,7 +157,7 @@ fn calls_that_break_a_condition_are_refused_by_its_name_and_others_compiled() {
 #[test]
 fn every_condition_that_the_compiler_sees_is_broken() {
     // The package as it is published has no list.
-    let path = concat!(env!("CARGO_MANIFEST_DIR"), "/../../tools/erase.d/package.toml");
+    let path = concat!(env!("CARGO_MANIFEST_DIR"), "/../../tools/erase/package.toml");
     if let Ok(list) = fs::read_to_string(path) {
         let broken: BTreeSet<_> = BROKEN.iter().map(|(function, name, _)| (*function, *name)).collect();
         assert_eq!(broken, seen_by_compiler(&list));

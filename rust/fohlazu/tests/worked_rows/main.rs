@@ -216,7 +216,7 @@ fn every_kind_is_tried() {
     }
 }
 
-/// What `tests/cargo quick` leaves out.
+/// What `python3 tests/cargo.py quick` leaves out.
 mod long {
     use super::check;
 
