@@ -16,7 +16,7 @@ use Rattle.p3_merkle_tree.specs.Parts.{matrices_of, tree_batch}
 use Rattle.p3_merkle_tree.specs.Pruning.{IsPrunedAccepted, PrunedOpening, honest_query}
 use Rattle.p3_merkle_tree.specs.SaltedOpenings.{IsSaltedAccepted, IsSaltedPrunedAccepted, SaltedOpening, SaltedPruned}
 use Rattle.p3_merkle_tree.specs.SaltedTrees.{left_batch, right_batch, unsalted_dimensions}
-use Rattle.p3_merkle_tree.specs.Scheme.{Scheme}
+use Rattle.p3_merkle_tree.specs.declared.mmcs.Scheme.{Scheme}
 use Rattle.p3_merkle_tree.specs.Schemes.{params_of}
 use Rattle.p3_merkle_tree.specs.Tree.{Tree}
 

@@ -29,7 +29,7 @@ returns-then-is_full g c =
     let s = c.loop-turn.splitter in
     record {
       ready = c.loop-turn.invariant.ready;
-      same = c.loop-turn.invariant.same;
+      unchanged = c.loop-turn.invariant.same;
       built = λ nodes wanted b.
           let (bytes, consumed, now) = c.loop-turn.invariant.built nodes wanted b in
           (bytes, consumed, now, inr (leb-true s.limit s.count (sym c.is_full.ensures ∙ c.if-is_full.true)));
@@ -46,7 +46,7 @@ returns-in-Ok-eq0 g c =
     let at_end = read.1 c.in-Ok-eq0.field-0-test (omega (arith, c.loop-turn.invariant.wide, c.read.auto.buf)) in
     record {
       ready = c.loop-turn.invariant.ready;
-      same = c.loop-turn.invariant.same;
+      unchanged = c.loop-turn.invariant.same;
       built = λ nodes wanted b.
           let (bytes, consumed, now) = c.loop-turn.invariant.built nodes wanted b in (
             bytes,
@@ -72,7 +72,7 @@ loop-turn-preserved g c =
             wide = omega (arith, c.read.auto.buf, c.loop-turn.invariant.wide);
             ready = subst IsReady (sym w.splitter-is) pushed.ready;
             same = subst (λ s. (s.framing ≡ first.framing) × (s.limit ≡ first.limit)) (sym w.splitter-is)
-                (pushed.same.0 ∙ before_same.0, pushed.same.1 ∙ before_same.1);
+                (pushed.unchanged.0 ∙ before_same.0, pushed.unchanged.1 ∙ before_same.1);
             built = λ nodes wanted b.
                 let (bytes, consumed, now) = c.loop-turn.invariant.built nodes wanted b in
                 let more = take w.in-Ok.count c.read.new.buf in (
