@@ -32,7 +32,7 @@ SHORT = ["--", "--skip", "long::"]
 EDITS = [
     "p3_hashes/fold_hash_forgets_words",
     "p3_merkle_core/group_digest_at_the_front_of_its_group",
-    "p3_merkle_core/steps_lowered_cap_one_layer_too_high",
+    "p3_merkle_core/schedule_lowered_cap_one_layer_too_high",
     "p3_merkle_hashing/rows_short_last_batch_dropped",
     "p3_merkle_prover/pruned_boundary_without_the_last_padding_slot",
     "p3_merkle_tree/open_gives_salts_for_rows",

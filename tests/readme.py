@@ -41,7 +41,7 @@ def faults():
     """What in the README is not so."""
     text = (TOP / "README.md").read_text()
     commands, rust = blocks(text)
-    for line in re.findall(r"^    (?:\./|build/|make |tests/).*", text, re.M):
+    for line in re.findall(r"^    (?:\./|build/|make |bash |python3 |sh ).*", text, re.M):
         yield f"a command stands outside a block of commands: {line.strip()}"
     if len(rust) != len(SOURCES):
         yield f"there are {len(rust)} blocks of Rust, and not {len(SOURCES)}"
