@@ -28,13 +28,13 @@ ALLOCATING = {
 # words are of crate::sha256, of rand_core and of crate::simd.
 SAME_METHODS = {
     "all", "as_array", "as_chunks", "as_flattened", "as_mut_slice", "as_slice", "binary_search", "checked_add",
-    "checked_mul", "clear", "copied", "copy_from_slice", "count_ones", "dedup", "div_ceil", "enumerate", "eq", "err",
-    "filter", "finalize", "first", "fold", "ilog2", "interleave", "into", "into_iter", "is_empty", "is_err",
-    "is_multiple_of", "is_none", "is_power_of_two", "is_some", "is_some_and", "iter", "iter_mut", "leading_zeros",
-    "len", "map", "max", "min", "next", "next_multiple_of", "next_u64", "ok_or", "or", "partition_point", "position",
-    "push_reserved", "rev", "saturating_add", "saturating_mul", "saturating_sub", "sort_unstable",
-    "sort_unstable_by_key", "split_at", "split_first", "split_last", "to_array", "to_be_bytes", "trailing_ones",
-    "trailing_zeros", "truncate", "unwrap_or", "update", "wrapping_add", "wrapping_mul", "zip",
+    "checked_ilog2", "checked_mul", "clear", "copied", "copy_from_slice", "count_ones", "dedup", "div_ceil",
+    "enumerate", "eq", "err", "filter", "finalize", "first", "fold", "ilog2", "interleave", "into", "into_iter",
+    "is_empty", "is_err", "is_multiple_of", "is_none", "is_power_of_two", "is_some", "is_some_and", "iter",
+    "iter_mut", "leading_zeros", "len", "map", "max", "min", "next", "next_multiple_of", "next_u64", "ok_or", "or",
+    "partition_point", "position", "push_reserved", "rev", "saturating_add", "saturating_mul", "saturating_sub",
+    "sort_unstable", "sort_unstable_by_key", "split_at", "split_first", "split_last", "to_array", "to_be_bytes",
+    "trailing_ones", "trailing_zeros", "truncate", "unwrap_or", "update", "wrapping_add", "wrapping_mul", "zip",
 }
 
 # Types and modules of the library whose functions are called by a path, and these functions. `Vec::with_capacity` and

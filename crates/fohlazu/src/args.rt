@@ -8,7 +8,9 @@ use crate::many::{MANY, Many, Range, count_of, numbers_in};
 use crate::output::is_same_file;
 use clap::{Arg, ArgMatches, Command as Syntax, arg, value_parser};
 use fohlazu_commands::prove::MAX_ENTRIES_PER_PROOF;
-use fohlazu_commands::{Command, Framing, PART_ORIGIN, PartialLine, Print, Requested, Source};
+use fohlazu_commands::{
+    Command, Framing, PART_ORIGIN, PartialLine, Print, Requested, SIZE_LIMIT, Source,
+};
 use std::alloc::{AllocError, Global};
 use std::fmt;
 use std::fmt::{Display, Formatter, Write};
@@ -396,7 +398,7 @@ fn number_of(word: &str) -> Result<usize, &'static str> {
     }
     match word.parse() {
         Ok(0) => Err("entries are numbered from 1"),
-        Ok(number) if number <= 1 << 62 => Ok(number),
+        Ok(number) if number <= SIZE_LIMIT => Ok(number),
         _ => Err("a log has at most 4611686018427387904 entries"),
     }
 }

@@ -15,6 +15,7 @@ pub mod verify_consistency;
 
 pub use command::{Command, run};
 pub use error::{Error, Refusal, Source};
+pub use tlog::SIZE_LIMIT;
 pub use tlog_files::{Framing, PartialLine};
 pub use tlog_text::{PART_ORIGIN, is_key_name, is_origin};
 pub use verify::{Print, Requested};

@@ -9,7 +9,6 @@ ghost use Rattle.fohlazu_commands.specs.Outcomes.{verify_consistency_outcome};
 use crate::error::{Error, Refusal, Source};
 use crate::inputs::{check_growth, parse_checkpoint, parse_consistency_proof};
 use std::alloc::Global;
-use tlog::verify_consistency as verify;
 use tlog_text::{Checkpoint, ConsistencyProof, TextError};
 
 /// The new checkpoint that a consistency proof contains, as it stands there with its signatures, if the proof shows
@@ -57,6 +56,6 @@ fn check_digests(old: &Checkpoint, new: &Checkpoint, digests: &[[u8; 32]]) -> Re
     ensures { Checks result
         (consistency_refused (checkpoint_fields old.now) (checkpoint_fields new.now) digests.now) }
 {
-    let verdict = verify(old.size, new.size, digests, &old.root, &new.root);
+    let verdict = tlog::verify_consistency(old.size, new.size, digests, &old.root, &new.root);
     verdict.map_err(|error| Error::Refused(Source::Proof, Refusal::Consistency(error)))
 }

@@ -1,7 +1,9 @@
-//! Groups of `N` digests, the inputs of a compression. Where there are fewer digests, default digests follow.
+//! Groups of digests. A compression takes a group of `N`: where there are fewer digests, default digests follow.
 
-ghost use Rattle.std.specs.Prelude.{◌≡◌, ◌+◌, ◌<◌, ◌≤◌, ◌∷◌, [], length, insert, slice_index_or};
+ghost use Rattle.std.specs.Prelude.{◌≡◌, ◌+◌, ◌++◌, ◌<◌, ◌≤◌, ◌∷◌, [], IfOk, length, insert, remove, slice_index_or};
 ghost use Rattle.p3_merkle_core.specs.Nodes.{padded};
+
+use std::alloc::AllocError;
 
 /// The group of a node on a path: its siblings with its own `digest` inserted at `position`, then default digests.
 /// There must be fewer siblings than `N`, and `position` must be at most their number.
@@ -61,4 +63,25 @@ pub fn pair_group<W: Copy, const N: usize, const D: usize>(
     group[0] = left;
     group[1] = right;
     group
+}
+
+/// Appends the siblings of the digest at `position`: the other digests of its group, or of a part of its group. The
+/// group must have a digest at that position.
+///
+/// # Errors
+///
+/// `AllocError` if memory runs out.
+pub fn append_siblings<X: Copy>(
+    digests: &mut Vec<X>,
+    group: &[X],
+    position: usize,
+) -> Result<(), AllocError>
+    requires { position < length group.now }
+    ensures { IfOk result (λ done. digests.new.items ≡ digests.old.items ++ remove group.now position) }
+{
+    // Each read computes its index without a branch: the position is as good as random.
+    for place in 1..group.len() {
+        digests.push(group[place - usize::from(place <= position)])?;
+    }
+    Ok(())
 }

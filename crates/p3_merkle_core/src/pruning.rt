@@ -8,8 +8,8 @@
 //! - The exponent of a height is its log2, rounded up. A matrix belongs to the layer of its exponent.
 //! - Rows agree if queries of one index have one row set, and queries under a node one row of each matrix of its layer.
 
-ghost use Rattle.std.specs.Prelude.{◌≡◌, ℕ, ◌+◌, ◌-◌, ◌*◌, ◌/◌, ◌%◌, ◌^◌, ◌<◌, ◌≤◌, ◌⊎◌, ◌++◌, Some, None, List, []};
-ghost use Rattle.std.specs.Prelude.{All, IfOk, MatchResult, length, map, remove, slice_index, slice_index_or, true};
+ghost use Rattle.std.specs.Prelude.{◌≡◌, ℕ, ◌+◌, ◌-◌, ◌*◌, ◌/◌, ◌%◌, ◌^◌, ◌<◌, ◌≤◌, ◌⊎◌, Some, None, List, []};
+ghost use Rattle.std.specs.Prelude.{All, IfOk, MatchResult, length, map, slice_index, slice_index_or, true};
 ghost use Rattle.std.specs.Cmp.Lexicographic.{pointwise};
 ghost use Rattle.std.specs.List.Sorted.{IsStrictlyIncreasing};
 ghost use Rattle.p3_support.specs.Batches.{heights_of, greatest};
@@ -29,6 +29,7 @@ use crate::covered_nodes::Covered;
 use crate::error::{MerkleTreeError, PrunedProofError};
 use crate::gate::check_heights;
 use crate::geometry::{check_widths, exponent_of, parent_of, position_of};
+use crate::group::append_siblings;
 use crate::schedule::Schedule;
 use p3_support::matrix::Dimensions;
 use std::alloc::{AllocError, Global};
@@ -497,28 +498,8 @@ pub fn siblings_on_path<X: Copy>(
         places[level] = place;
         let first = above.step * place;
         let own = node - above.step * parent;
-        extend_except(&mut path, &above.children[first..first + above.step], own)?;
+        append_siblings(&mut path, &above.children[first..first + above.step], own)?;
         node = parent;
     }
     Ok(path)
-}
-
-/// Appends the digests of a group, or of a part of one, without the one at `position`, which it must have.
-///
-/// # Errors
-///
-/// `AllocError` if memory runs out.
-pub fn extend_except<X: Copy>(
-    digests: &mut Vec<X>,
-    group: &[X],
-    position: usize,
-) -> Result<(), AllocError>
-    requires { position < length group.now }
-    ensures { IfOk result (λ done. digests.new.items ≡ digests.old.items ++ remove group.now position) }
-{
-    // Each read computes its index without a branch: the position is as good as random.
-    for place in 1..group.len() {
-        digests.push(group[place - usize::from(place <= position)])?;
-    }
-    Ok(())
 }

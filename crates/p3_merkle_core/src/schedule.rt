@@ -27,13 +27,13 @@ use std::alloc::{AllocError, Global};
 /// How many levels a tree has at most: each halves the heights, which are below 2^64, at least.
 const MAX_LEVELS: usize = 64;
 
-/// What the steps above a layer depend on: its exponent, and the end of the matrices' exponents that are lower.
+/// What the steps above a layer depend on: its exponent, and the next lower one that a matrix has.
 #[derive(Clone, Copy)]
 struct Exponents {
     /// The exponent of the layer.
     pub layer: usize,
-    /// The end of the lower exponents that matrices have: one more than the greatest of them, or 0 if there is none.
-    pub lower_end: usize,
+    /// The greatest exponent below the layer's that a matrix has, if there is one.
+    pub next_lower_exponent: Option<usize>,
 }
 
 /// Which exponents the matrices have, as a bit mask, so that the matrices are read once for all layers.
@@ -47,7 +47,7 @@ struct MatrixExponents<'a> {
 
 impl<'a> MatrixExponents<'a> {
     /// The exponents on which the steps above a layer depend: the layer's own, `layer`, which must be at most 64, and
-    /// the end of the matrices' lower ones.
+    /// the next lower one that a matrix has.
     fn exponents_at(&self, layer: usize) -> Exponents
         requires { layer ≤ 64 }
         ensures layer { result.layer ≡ layer }
@@ -60,7 +60,7 @@ impl<'a> MatrixExponents<'a> {
         };
         Exponents {
             layer,
-            lower_end: (usize::BITS - below.leading_zeros()) as usize,
+            next_lower_exponent: below.checked_ilog2().map(|exponent| exponent as usize),
         }
     }
 }
@@ -95,14 +95,16 @@ fn next_step(
 {
     let target = exponents.layer.saturating_sub(exponent_of(arity));
     // A matrix's exponent lies strictly between the layer's and what a step of the whole arity leaves of it.
-    let is_bridge = exponents.lower_end.saturating_sub(target) > 1;
+    let is_bridge = exponents
+        .next_lower_exponent
+        .is_some_and(|exponent| exponent > target);
     let layer = if is_bridge {
         exponents.layer - 1
     } else {
         target
     };
-    // No matrix's exponent lies between those of the two layers, so all lower ones are at most the upper layer's.
-    let has_rows = exponents.lower_end > layer;
+    // No matrix's exponent lies between those of the two layers: the next lower one is the upper layer's, or below it.
+    let has_rows = exponents.next_lower_exponent == Some(layer);
     let above = if has_rows {
         matrices.exponents_at(layer)
     } else {
@@ -169,7 +171,7 @@ pub fn schedule_of(dimensions: &[Dimensions], arity: usize) -> Schedule<'_>
     };
     let mut of_level = [none; MAX_LEVELS];
     let mut num_levels = 0;
-    while exponents.lower_end > 0 {
+    while exponents.next_lower_exponent.is_some() {
         let (step, above) = next_step(&matrices, arity, exponents);
         of_level[num_levels] = step;
         num_levels += 1;

@@ -15,7 +15,7 @@ ghost use Rattle.p3_merkle_prover.specs.Parts.{layers_of, matrices_of, tree_batc
 use crate::tree::{MerkleTree, Tree};
 use p3_merkle_core::error::MerkleTreeError;
 use p3_merkle_core::geometry::{bits_reduced_of, parent_of, position_of};
-use p3_merkle_core::pruning::extend_except;
+use p3_merkle_core::group::append_siblings;
 use p3_merkle_core::schedule::Schedule;
 use p3_support::matrix::Matrix;
 use p3_support::opening::MerkleCap;
@@ -126,7 +126,7 @@ pub fn siblings_of_index<F, X: Copy, G, M: Matrix<F>, const N: usize>(
         let position = position_of(node, step);
         let first = node - position;
         let group = &tree.layers[level][first..first + step];
-        extend_except(&mut siblings, group, position)?;
+        append_siblings(&mut siblings, group, position)?;
         node = parent_of(node, step);
     }
     Ok(siblings)

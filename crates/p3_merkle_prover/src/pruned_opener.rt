@@ -20,7 +20,8 @@ use crate::tree::Tree;
 use p3_merkle_core::covered_nodes::Covered;
 use p3_merkle_core::error::MerkleTreeError;
 use p3_merkle_core::geometry::position_of;
-use p3_merkle_core::pruning::{distinct_indices, extend_except};
+use p3_merkle_core::group::append_siblings;
+use p3_merkle_core::pruning::distinct_indices;
 use p3_support::matrix::Matrix;
 use std::alloc::Global;
 
@@ -104,7 +105,7 @@ fn extend_with_boundary<X: Copy>(
             end = end.min(covered[place + 1]);
         }
         let start = first.max(next);
-        extend_except(digests, &layer[start..end], node - start)?;
+        append_siblings(digests, &layer[start..end], node - start)?;
         next = end;
     }
     Ok(())

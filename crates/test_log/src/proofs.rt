@@ -6,7 +6,7 @@ use sha2::Sha256;
 use std::alloc::Global;
 use std::fmt::Write;
 use tlog::collision::{consistency_proof, inclusion_proof, root};
-use tlog::{compose, leaf_hash, verify_consistency, verify_inclusion};
+use tlog::{SIZE_LIMIT, compose, leaf_hash, verify_consistency, verify_inclusion};
 use tlog_multiproof::{entry_places, verify_entries};
 use tlog_tree::{
     Frontier, TreeBuilder, TreeError, consistency_places, inclusion_places, leaf_hashes,
@@ -134,7 +134,7 @@ pub fn consistency(case: &mut Case<'_>) -> Result<()> {
 
 /// The nodes of the proof of some entries of a log.
 fn places_of(case: &Case<'_>, size: usize, indices: &[usize]) -> Result<Vec<(usize, usize)>> {
-    if size == 0 || size > 1 << 62 || indices.iter().any(|index| *index >= size) {
+    if size == 0 || size > SIZE_LIMIT || indices.iter().any(|index| *index >= size) {
         bail!("there is no such proof");
     }
     Ok(entry_places(case.alloc, indices, size)?)

@@ -19,6 +19,10 @@ use crate::error::{Expected, Stop, missing};
 use base64::engine::general_purpose::STANDARD;
 use std::alloc::{AllocError, Global};
 
+/// The greatest number that is read.
+// It is `SIZE_LIMIT` of tlog, the greatest size of a log. This crate computes no tree, so it does not stand on tlog.
+const MAX_NUMBER: usize = 1 << 62;
+
 /// The bytes ahead of the first `mark`, and those after it.
 pub(crate) fn cut_at(mark: u8, bytes: &[u8]) -> Option<(&[u8], &[u8])>
     ensures { option_map (λ (front, back). (front.now, back.now)) result ≡ cut_at mark bytes.now }
@@ -47,7 +51,7 @@ pub(crate) fn number_of(digits: &[u8]) -> Option<usize>
         return None;
     }
     let number = parse_number(digits)?;
-    (number <= 1 << 62).then_some(number)
+    (number <= MAX_NUMBER).then_some(number)
 }
 
 /// Decodes base64 to the front of `bytes`, and returns how many bytes that is.

@@ -1,23 +1,23 @@
--- Exponents of layers, each with the end of the lower ones that matrices have.
-use Rattle.std.specs.Prelude.{◌≡◌, ◌+◌, ◌-◌, ◌%◌, ◌^◌, ◌≤◌, ℕ, List, [], ◌∷◌, max, nat_lt, if◌then◌else◌}
-use Rattle.std.specs.Int.{leading_zeros, w64}
+-- Exponents of layers, each with the next lower one that a matrix has.
+use Rattle.std.specs.Prelude.{◌≡◌, ◌<◌, ◌==◌, if◌then◌else◌, ℕ, zero, suc, Bool, List, Option, None, Some}
+use Rattle.std.specs.Int.{bit_at}
+use Rattle.std.specs.List.{list_any}
 use Rattle.p3_merkle_core.specs.Geometry.{exponent}
 use Rattle.p3_merkle_core.specs.declared.schedule.Exponents.{Exponents}
 
--- one more than the greatest exponent below x that a height has, and 0 where none has one
-abbrev pub next_below : ℕ → List ℕ → ℕ
-next_below x [] = 0
-next_below x (h ∷ hs) = max (if nat_lt (exponent h) x then exponent h + 1 else 0) (next_below x hs)
+-- whether a height has the exponent e
+abbrev pub has_exponent : List ℕ → ℕ → Bool
+has_exponent hs e = list_any (λ h. exponent h == e) hs
 
--- they are a layer's, and the end of the lower ones that these heights have
+-- the greatest exponent below x that a height has, if there is one
+abbrev pub next_lower_exponent : ℕ → List ℕ → Option ℕ
+next_lower_exponent zero hs = None
+next_lower_exponent (suc e) hs = if has_exponent hs e then Some e else next_lower_exponent e hs
+
+-- they are a layer's, and the greatest one below it that one of these heights has, if there is one
 pub record AreExponents (hs : List ℕ) (exponents : Exponents) : Type 0 where
-  pub next_is : exponents.lower_end ≡ next_below exponents.layer hs
+  pub next_is : exponents.next_lower_exponent ≡ next_lower_exponent exponents.layer hs
 
--- how many binary digits a number below 2 ^ 64 has, and 0 of 0
-abbrev pub digits : ℕ → ℕ
-digits n = 64 - leading_zeros w64 n
-
--- bits tell the exponents that these heights have: of the bits below any x, the highest is that of the greatest
--- exponent below x
+-- bit e of bits is set exactly if a height has the exponent e, for each e below 64
 pub record AreMarked (hs : List ℕ) (bits : ℕ) : Type 0 where
-  pub next_is : (x : ℕ) → x ≤ 64 → digits (bits % 2 ^ x) ≡ next_below x hs
+  pub marked : (e : ℕ) → e < 64 → (bit_at bits e == 1) ≡ has_exponent hs e

@@ -18,8 +18,8 @@ overflow_add-first g c =
     (length above.children.items) (rw c.deref.ensures.value at c.place_of-place.ensures.inside) link.full in
     omega (arith, fits, above.children.ok)
 
-pub slice_bounds-extend_except-end : goal.slice_bounds-extend_except-end
-slice_bounds-extend_except-end g c =
+pub slice_bounds-append_siblings-end : goal.slice_bounds-append_siblings-end
+slice_bounds-append_siblings-end g c =
     let above = c.index-layers-level.result in
     let link = link_at c.args.layers.now c.loop-level.level above c.loop-level.invariant.some c.loop-level-test.true
     c.requires.linked c.index-layers-level.is in
@@ -45,9 +45,9 @@ loop-level-preserved g c =
       some = omega arith;
       places = length-set c.loop-level.places level c.place_of-place.result ∙ so_far.places;
       walked = rw (here, parent) (path_turn layers level c.place_of-place.result c.loop-level.node c.args.index above
-          c.loop-level.path.items c.extend_except.new.digests.items so_far.some c.loop-level-test.true
+          c.loop-level.path.items c.append_siblings.new.digests.items so_far.some c.loop-level-test.true
           c.requires.linked c.index-layers-level.is so_far.walked (so_far.covered above) place
-          (rw (count, c.deref-in-loop-level.ensures.value, own) at c.in_ok-extend_except.ensures));
+          (rw (count, c.deref-in-loop-level.ensures.value, own) at c.in_ok-append_siblings.ensures));
       covered = λ x.
           rw (
             here,

@@ -75,8 +75,8 @@ loop-level-preserved g c =
     let count = layers_count (λ nodes. length nodes.items) tree.layers.items s tree.layer_lengths in (
       λ d. group_next d (λ nodes. nodes.items) tree.layers.items s c.args.index c.loop-level.level c.step-step.result
           c.loop-level.node c.index.result.now c.index.result.now.items c.loop-level.siblings.items
-          c.extend_except.new.digests.items w (omega arith) c.index.ensures refl (c.loop-level.invariant.0 d)
-          (rw (c.position_of-position.ensures, c.deref.ensures.value) at c.in_ok-extend_except.ensures),
+          c.append_siblings.new.digests.items w (omega arith) c.index.ensures refl (c.loop-level.invariant.0 d)
+          (rw (c.position_of-position.ensures, c.deref.ensures.value) at c.in_ok-append_siblings.ensures),
       c.parent_of-node.ensures ∙ node_next s c.args.index c.loop-level.level c.step-step.result c.loop-level.node
           (length c.index.result.now.items) w,
     )

@@ -39,8 +39,8 @@ loop-place-preserved g c =
       inside = inside;
       so_far = λ d.
           others_without layer covered n place next c.max-start.result node end c.args.digests.now.items
-          c.loop-place.digests.items c.extend_except.new.digests.items d w inside
-          (c.loop-place.invariant.so_far d) c.in_ok-extend_except.ensures;
+          c.loop-place.digests.items c.append_siblings.new.digests.items d w inside
+          (c.loop-place.invariant.so_far d) c.in_ok-append_siblings.ensures;
     }
 
 pub returns-clause-digests : goal.returns-clause-digests

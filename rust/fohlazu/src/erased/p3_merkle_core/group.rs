@@ -1,6 +1,9 @@
 // Made from crates/p3_merkle_core/src/group.rt by tools/erase.
 
-//! Groups of `N` digests, the inputs of a compression. Where there are fewer digests, default digests follow.
+//! Groups of digests. A compression takes a group of `N`: where there are fewer digests, default digests follow.
+
+use crate::fallible::{AllocError, VecExt};
+use alloc::vec::Vec;
 
 /// The group of a node on a path: its siblings with its own `digest` inserted at `position`, then default digests.
 /// There must be fewer siblings than `N`, and `position` must be at most their number.
@@ -45,4 +48,19 @@ pub(crate) fn pair_group<W: Copy, const N: usize, const D: usize>(
     group[0] = left;
     group[1] = right;
     group
+}
+
+/// Appends the siblings of the digest at `position`: the other digests of its group, or of a part of its group. The
+/// group must have a digest at that position.
+///
+/// # Errors
+///
+/// `AllocError` if memory runs out.
+#[inline]
+pub(crate) fn append_siblings<X: Copy>(digests: &mut Vec<X>, group: &[X], position: usize) -> Result<(), AllocError> {
+    // Each read computes its index without a branch: the position is as good as random.
+    for place in 1..group.len() {
+        digests.try_push(group[place - usize::from(place <= position)])?;
+    }
+    Ok(())
 }

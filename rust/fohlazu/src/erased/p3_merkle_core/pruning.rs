@@ -14,6 +14,7 @@ use crate::erased::p3_merkle_core::covered_nodes::Covered;
 use crate::erased::p3_merkle_core::error::{MerkleTreeError, PrunedProofError};
 use crate::erased::p3_merkle_core::gate::check_heights;
 use crate::erased::p3_merkle_core::geometry::{check_widths, exponent_of, parent_of};
+use crate::erased::p3_merkle_core::group::append_siblings;
 use crate::erased::p3_merkle_core::schedule::Schedule;
 use crate::erased::p3_support::matrix::Dimensions;
 use crate::fallible::{AllocError, TryClone, VecExt, try_vec};
@@ -403,22 +404,8 @@ pub(crate) fn siblings_on_path<X: Copy>(
         places[level] = place;
         let first = above.step * place;
         let own = node - above.step * parent;
-        extend_except(&mut path, &above.children[first..first + above.step], own)?;
+        append_siblings(&mut path, &above.children[first..first + above.step], own)?;
         node = parent;
     }
     Ok(path)
-}
-
-/// Appends the digests of a group, or of a part of one, without the one at `position`, which it must have.
-///
-/// # Errors
-///
-/// `AllocError` if memory runs out.
-#[inline]
-pub(crate) fn extend_except<X: Copy>(digests: &mut Vec<X>, group: &[X], position: usize) -> Result<(), AllocError> {
-    // Each read computes its index without a branch: the position is as good as random.
-    for place in 1..group.len() {
-        digests.try_push(group[place - usize::from(place <= position)])?;
-    }
-    Ok(())
 }

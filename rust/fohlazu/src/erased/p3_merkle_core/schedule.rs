@@ -18,13 +18,13 @@ use alloc::vec::Vec;
 /// How many levels a tree has at most: each halves the heights, which are below 2^64, at least.
 const MAX_LEVELS: usize = 64;
 
-/// What the steps above a layer depend on: its exponent, and the end of the matrices' exponents that are lower.
+/// What the steps above a layer depend on: its exponent, and the next lower one that a matrix has.
 #[derive(Clone, Copy)]
 struct Exponents {
     /// The exponent of the layer.
     pub layer: usize,
-    /// The end of the lower exponents that matrices have: one more than the greatest of them, or 0 if there is none.
-    pub lower_end: usize,
+    /// The greatest exponent below the layer's that a matrix has, if there is one.
+    pub next_lower_exponent: Option<usize>,
 }
 
 /// Which exponents the matrices have, as a bit mask, so that the matrices are read once for all layers.
@@ -37,11 +37,11 @@ struct MatrixExponents<'a> {
 
 impl<'a> MatrixExponents<'a> {
     /// The exponents on which the steps above a layer depend: the layer's own, `layer`, which must be at most 64, and
-    /// the end of the matrices' lower ones.
+    /// the next lower one that a matrix has.
     #[inline]
     fn exponents_at(&self, layer: usize) -> Exponents {
         let below = if layer < usize::BITS as usize { self.bits % (1 << layer) } else { self.bits };
-        Exponents { layer, lower_end: (usize::BITS - below.leading_zeros()) as usize }
+        Exponents { layer, next_lower_exponent: below.checked_ilog2().map(|exponent| exponent as usize) }
     }
 }
 
@@ -60,10 +60,10 @@ struct LevelKind {
 fn next_step(matrices: &MatrixExponents<'_>, arity: usize, exponents: Exponents) -> (LevelKind, Exponents) {
     let target = exponents.layer.saturating_sub(exponent_of(arity));
     // A matrix's exponent lies strictly between the layer's and what a step of the whole arity leaves of it.
-    let is_bridge = exponents.lower_end.saturating_sub(target) > 1;
+    let is_bridge = exponents.next_lower_exponent.is_some_and(|exponent| exponent > target);
     let layer = if is_bridge { exponents.layer - 1 } else { target };
-    // No matrix's exponent lies between those of the two layers, so all lower ones are at most the upper layer's.
-    let has_rows = exponents.lower_end > layer;
+    // No matrix's exponent lies between those of the two layers: the next lower one is the upper layer's, or below it.
+    let has_rows = exponents.next_lower_exponent == Some(layer);
     let above = if has_rows { matrices.exponents_at(layer) } else { Exponents { layer, ..exponents } };
     let level = LevelKind { is_bridge, has_rows };
     (level, above)
@@ -116,7 +116,7 @@ pub(crate) fn schedule_of(dimensions: &[Dimensions], arity: usize) -> Schedule<'
     let none = LevelKind { is_bridge: false, has_rows: false };
     let mut of_level = [none; MAX_LEVELS];
     let mut num_levels = 0;
-    while exponents.lower_end > 0 {
+    while exponents.next_lower_exponent.is_some() {
         let (step, above) = next_step(&matrices, arity, exponents);
         of_level[num_levels] = step;
         num_levels += 1;

@@ -5,7 +5,7 @@
 
 use crate::erased::p3_merkle_core::error::MerkleTreeError;
 use crate::erased::p3_merkle_core::geometry::{bits_reduced_of, parent_of, position_of};
-use crate::erased::p3_merkle_core::pruning::extend_except;
+use crate::erased::p3_merkle_core::group::append_siblings;
 use crate::erased::p3_merkle_core::schedule::Schedule;
 use crate::erased::p3_merkle_prover::tree::{MerkleTree, Tree};
 use crate::erased::p3_support::matrix::Matrix;
@@ -89,7 +89,7 @@ pub(crate) fn siblings_of_index<F, X: Copy, G, M: Matrix<F>, const N: usize>(
         let position = position_of(node, step);
         let first = node - position;
         let group = &tree.layers[level][first..first + step];
-        extend_except(&mut siblings, group, position)?;
+        append_siblings(&mut siblings, group, position)?;
         node = parent_of(node, step);
     }
     Ok(siblings)

@@ -7,7 +7,8 @@
 use crate::erased::p3_merkle_core::covered_nodes::Covered;
 use crate::erased::p3_merkle_core::error::MerkleTreeError;
 use crate::erased::p3_merkle_core::geometry::position_of;
-use crate::erased::p3_merkle_core::pruning::{distinct_indices, extend_except};
+use crate::erased::p3_merkle_core::group::append_siblings;
+use crate::erased::p3_merkle_core::pruning::distinct_indices;
 use crate::erased::p3_merkle_prover::opener::{rows_of_index, tree_schedule};
 use crate::erased::p3_merkle_prover::tree::Tree;
 use crate::erased::p3_support::matrix::Matrix;
@@ -72,7 +73,7 @@ fn extend_with_boundary<X: Copy>(
             end = end.min(covered[place + 1]);
         }
         let start = first.max(next);
-        extend_except(digests, &layer[start..end], node - start)?;
+        append_siblings(digests, &layer[start..end], node - start)?;
         next = end;
     }
     Ok(())

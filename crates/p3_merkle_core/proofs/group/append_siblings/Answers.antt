@@ -2,7 +2,7 @@
 use Rattle.std.proofs.Common.{arith}
 use Rattle.std.proofs.lemmas.Bool.{le-leb, lt-leb}
 use Rattle.p3_merkle_core.proofs.Covered.KeptFacts.{other_more}
-use Rattle.p3_merkle_core.proofs.pruning.extend_except.Goals as goal
+use Rattle.p3_merkle_core.proofs.group.append_siblings.Goals as goal
 
 pub loop-place-preserved : goal.loop-place-preserved
 loop-place-preserved g c =

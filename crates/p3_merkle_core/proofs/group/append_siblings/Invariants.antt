@@ -1,6 +1,6 @@
 use Rattle.std.proofs.Common.{◌≡◌, ◌≤◌, ◌-◌, ◌++◌, take}
 use Rattle.std.specs.List.{remove}
-use Rattle.p3_merkle_core.proofs.pruning.extend_except.Given as goal
+use Rattle.p3_merkle_core.proofs.group.append_siblings.Given as goal
 
 -- the others so far: below `place`, one less than all
 abbrev pub invariant-loop-place : goal.invariant-loop-place
