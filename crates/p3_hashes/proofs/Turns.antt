@@ -1,7 +1,7 @@
 -- Rows and columns that are exchanged, by their places.
 use Rattle.std.proofs.Common.{◌≡◌, ℕ, zero, suc, ◌<◌, List, [], ◌∷◌, length, get_or, slice_index, refl, arith}
 use Rattle.p3_hashes.specs.Inner.Turned.{turned}
-use Rattle.p3_hashes.proofs.Lanewise.{each_lane}
+use Rattle.sha256_eights.proofs.Lanewise.{each_lane}
 
 -- a list of four, by its elements
 pub four_of : (xs : List ℕ) → length xs ≡ 4 → slice_index xs 0 ∷ slice_index xs 1 ∷ slice_index xs 2 ∷ slice_index xs 3

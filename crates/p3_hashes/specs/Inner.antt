@@ -1,6 +1,3 @@
 -- Definitions that only proofs, and calls that no public contract mentions, use.
 pub mod Eights
 pub mod Turned
-pub mod Lanes
-pub mod Written
-pub mod Inputs

@@ -6,7 +6,7 @@ ghost use Rattle.std.specs.List.{fold as folded};
 ghost use Rattle.p3_support.specs.Lists.{lane_of, message as message_of};
 ghost use Rattle.p3_hashes.specs.Inner.Eights.{lanes_of};
 ghost use Rattle.p3_hashes.specs.Inner.Turned.{turned};
-ghost use Rattle.p3_hashes.specs.Inner.Written.{AreWritten};
+ghost use Rattle.sha256_eights.specs.Inner.Written.{AreWritten};
 ghost use Rattle.p3_hashes.specs.Fold.{fold_hash, fold_compress, take_in};
 
 use crate::fold::{FoldLane, absorb, compress_group, compress_lanes, hash_words, initial_state};

@@ -3,19 +3,14 @@
 //! sets `LANES` to 3.
 //!
 //! Eight messages of one length are hashed together, one in each lane of the processor's vectors; those after the last
-//! whole eight are hashed one by one. The digests are those of the crate `sha2`.
+//! whole eight are hashed one by one. The digests of SHA-256 are those of the crate `sha2`; `sha256_eights` has the code
+//! for eight messages.
 #![tactic(auto)]
 
 pub mod batched;
-mod block;
-mod consts;
-pub mod digest_size;
 mod eights;
 pub mod fold;
 pub mod lanes;
 pub mod laws;
-mod messages;
-pub mod padded;
 pub mod sha;
 pub mod sha_eights;
-mod words;

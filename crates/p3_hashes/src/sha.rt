@@ -8,10 +8,10 @@ ghost use Rattle.p3_support.specs.Lists.{lane_of};
 ghost use Rattle.p3_hashes.specs.Laws.{AreDigests};
 ghost use Rattle.p3_hashes.specs.Sha.{sha256_rows, sha256_nodes};
 
-pub use crate::digest_size::DigestSize;
 use p3_support::compress::PseudoCompressionFunction;
 use p3_support::hasher::CryptographicHasher;
 use sha2::{Digest, Sha256};
+pub use sha256_eights::DigestSize;
 use std::alloc::{AllocError, Global};
 use std::convert::AsSlice;
 

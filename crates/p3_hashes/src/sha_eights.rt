@@ -4,12 +4,12 @@ ghost use Rattle.std.specs.Prelude.{◌≡◌, ℕ, ◌<◌, ◌∷◌, [], leng
 ghost use Rattle.p3_support.specs.Lists.{lane_of};
 ghost use Rattle.p3_hashes.specs.Sha.{sha256_rows, sha256_nodes};
 
-use crate::messages::hash_all;
 use crate::sha::{DigestSize, Sha256Nodes, Sha256Rows};
 use p3_support::compress::PseudoCompressionFunction;
 use p3_support::hasher::CryptographicHasher;
 use p3_support::packed::lemma_rows;
 use sha2::Sha256;
+use sha256_eights::hash_many;
 use std::convert::AsSlice;
 
 /// SHA-256 of a row's bytes, with the digests of [`Sha256Rows`]. `hash_many` hashes eight rows at a time, each in a
@@ -37,12 +37,7 @@ impl CryptographicHasher<u8, u8, 32> for Sha256RowsInEights {
     }
 
     fn hash_many(&self, messages: &[u8], out: &mut [[u8; 32]]) {
-        // With no messages their width is unknown.
-        if out.is_empty() {
-            return;
-        }
-        let width = messages.len() / out.len();
-        hash_all(messages, width, out);
+        hash_many(messages, out);
     }
 
     // A byte is packed alone, so that there is but one message.
@@ -86,7 +81,7 @@ where
         lemma_digests(groups);
         // The digests of a group lie one after another already, so that nothing is copied.
         let bytes = groups.as_flattened().as_flattened();
-        hash_all(bytes, N * D, out);
+        hash_many(bytes, out);
     }
 
     fn compress_packed(&self, input: [[u8; D]; N]) -> [u8; D]

@@ -8,7 +8,7 @@ use Rattle.std.proofs.lemmas.List.FromFn.{fill_by_all}
 use Rattle.std.proofs.lemmas.Simd.{map-map}
 use Rattle.std.specs.List.{flat_map, range_with_len}
 use Rattle.tlog.specs.Rfc9162.{Hash}
-use Rattle.p3_support.specs.Lists.{message, messages}
+use Rattle.sha256_eights.specs.Messages.{message, messages}
 use Rattle.tlog_tree.specs.Inner.Layers.{parents_of}
 use Rattle.tlog_tree.proofs.Whole.{length-single, single, single_is}
 

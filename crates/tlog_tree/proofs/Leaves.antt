@@ -10,8 +10,8 @@ use Rattle.std.specs.List.{flat_map, range_with_len}
 use Rattle.std.specs.List.Sorted.{IsPermutation}
 use Rattle.sha2.specs.Sha256.{padded_message, sha256}
 use Rattle.tlog.specs.Rfc9162.{leaf_hash}
-use Rattle.p3_hashes.proofs.Padding.{length-padded_message}
-use Rattle.p3_support.specs.Lists.{message, messages}
+use Rattle.sha256_eights.proofs.Padding.{length-padded_message}
+use Rattle.sha256_eights.specs.Messages.{message, messages}
 use Rattle.tlog_tree.specs.Inner.Leaves.{AreHashes, Fills, IsHashed, IsOfLength, IsPlaceOf}
 use Rattle.tlog_tree.proofs.Inputs.{hashed_pieces, length-pieces, message_is}
 

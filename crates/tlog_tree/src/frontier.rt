@@ -11,8 +11,7 @@ ghost use Rattle.tlog_tree.specs.Trees.{leaves_root, whole_nodes};
 
 use crate::error::TreeError;
 use crate::wanted::{WantedNode, keep};
-use p3_hashes::sha_eights::Sha256RowsInEights;
-use p3_support::hasher::CryptographicHasher;
+use sha256_eights::hash_many;
 use std::alloc::{AllocError, Global};
 use tlog::{EMPTY_ROOT, SIZE_LIMIT, node_hash};
 
@@ -230,6 +229,6 @@ fn parents(alloc: Global, layer: &[[u8; 32]]) -> Result<Vec<[u8; 32]>, AllocErro
         inputs.push(node_input(&layer[2 * i], &layer[2 * i + 1]))?;
     }
     let mut parents = vec![in alloc; [0; 32]; count]?;
-    Sha256RowsInEights.hash_many(inputs.as_flattened(), &mut parents);
+    hash_many(inputs.as_flattened(), &mut parents);
     Ok(parents)
 }

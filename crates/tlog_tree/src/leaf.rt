@@ -5,9 +5,7 @@ ghost use Rattle.sha2.specs.Sha256.{sha256};
 ghost use Rattle.tlog.specs.Rfc9162.{leaf_hash};
 ghost use Rattle.tlog_tree.specs.Inner.Leaves.{block_count, AreHashes, Fills, IsHashed, IsOfLength, IsPlaceOf};
 
-use p3_hashes::padded::{hash_padded_eight, push_padded};
-use p3_hashes::sha_eights::Sha256RowsInEights;
-use p3_support::hasher::CryptographicHasher;
+use sha256_eights::{hash_many, hash_padded_eight, push_padded};
 use std::alloc::{AllocError, Global};
 
 /// The most bytes of inputs of one length that are hashed together, unless eight inputs have more.
@@ -127,7 +125,7 @@ fn hash_alike(
         inputs.extend_from_slice(entries[*index])?;
     }
     let mut values = vec![in alloc; [0; 32]; places.len()]?;
-    Sha256RowsInEights.hash_many(&inputs, &mut values);
+    hash_many(&inputs, &mut values);
     Ok(values)
 }
 

@@ -30,6 +30,8 @@ mod erased {
     pub(crate) mod p3_merkle_verifier;
     pub(crate) mod p3_support;
     #[cfg(feature = "sha2")]
+    pub(crate) mod sha256_eights;
+    #[cfg(feature = "sha2")]
     pub(crate) mod tlog;
     #[cfg(feature = "sha2")]
     pub(crate) mod tlog_multiproof;
@@ -135,14 +137,14 @@ pub mod support {
 /// ```
 pub mod hashes {
     pub use crate::erased::p3_hashes::batched::Batched3;
-    #[cfg(feature = "sha2")]
-    pub use crate::erased::p3_hashes::digest_size::DigestSize;
     pub use crate::erased::p3_hashes::fold::{FoldCompress, FoldHash, FoldLane};
     pub use crate::erased::p3_hashes::lanes::{Lanes, U32x8};
     #[cfg(feature = "sha2")]
     pub use crate::erased::p3_hashes::sha::{Sha256Nodes, Sha256Rows, group_message};
     #[cfg(feature = "sha2")]
     pub use crate::erased::p3_hashes::sha_eights::{Sha256NodesInEights, Sha256RowsInEights};
+    #[cfg(feature = "sha2")]
+    pub use crate::erased::sha256_eights::DigestSize;
     #[cfg(feature = "sha2")]
     pub use crate::sha256::Sha256;
 }

@@ -1,7 +1,7 @@
 use Rattle.std.proofs.Common.{arith, ℕ, ◌≡◌, ◌+◌, ◌++◌, ◌∙◌, ap, refl, List, [], ◌∷◌, slice_range, get_or}
 use Rattle.p3_support.specs.Lists.{message}
 use Rattle.p3_hashes.specs.Inner.Turned.{turned}
-use Rattle.p3_hashes.proofs.Lanewise.{each_lane}
+use Rattle.sha256_eights.proofs.Lanewise.{each_lane}
 use Rattle.p3_hashes.proofs.Turns.{turned_lanes}
 use Rattle.p3_hashes.proofs.eights.columns_of_eight.Goals as goal
 

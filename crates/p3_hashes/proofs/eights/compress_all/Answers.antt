@@ -1,5 +1,5 @@
 use Rattle.std.proofs.Common.{arith}
-use Rattle.p3_hashes.proofs.Written.{more_written}
+use Rattle.sha256_eights.proofs.Written.{more_written}
 use Rattle.p3_hashes.proofs.eights.compress_all.Goals as goal
 
 pub returns : goal.returns

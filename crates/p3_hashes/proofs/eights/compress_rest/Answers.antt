@@ -1,7 +1,7 @@
 use Rattle.std.proofs.Common.{[], ◌<◌, ◌∙◌, ap, arith, length, refl}
 use Rattle.std.proofs.lemmas.List.{get_or_read}
 use Rattle.p3_hashes.specs.Fold.{fold_compress}
-use Rattle.p3_hashes.proofs.Written.{one_written}
+use Rattle.sha256_eights.proofs.Written.{one_written}
 use Rattle.p3_hashes.proofs.eights.compress_rest.Goals as goal
 
 pub loop-i-preserved : goal.loop-i-preserved

@@ -1,6 +1,6 @@
 use Rattle.std.proofs.Common.{◌≡◌, slice_index_or, []}
 use Rattle.p3_hashes.specs.Fold.{fold_compress}
-use Rattle.p3_hashes.specs.Inner.Written.{AreWritten}
+use Rattle.sha256_eights.specs.Inner.Written.{AreWritten}
 use Rattle.p3_hashes.proofs.eights.compress_rest.Given as goal
 
 abbrev pub invariant-loop-i : goal.invariant-loop-i

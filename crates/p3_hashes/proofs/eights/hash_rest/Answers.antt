@@ -1,5 +1,5 @@
 use Rattle.std.proofs.Common.{arith, refl}
-use Rattle.p3_hashes.proofs.Written.{one_written}
+use Rattle.sha256_eights.proofs.Written.{one_written}
 use Rattle.p3_hashes.proofs.eights.hash_rest.Goals as goal
 
 pub loop-i-preserved : goal.loop-i-preserved

@@ -1,6 +1,6 @@
 use Rattle.std.proofs.Common.{◌≡◌}
 use Rattle.p3_hashes.specs.Fold.{fold_hash}
-use Rattle.p3_hashes.specs.Inner.Written.{AreWritten}
+use Rattle.sha256_eights.specs.Inner.Written.{AreWritten}
 use Rattle.p3_support.specs.Lists.{message}
 use Rattle.p3_hashes.proofs.eights.hash_rest.Given as goal
 

@@ -16,16 +16,6 @@ all : (L inputs lent : List (List ℕ)) (i : ℕ) (flat : List ℕ) → i ≡ le
 all L inputs lent i flat end so_far lent_is is =
     is ∙ ap (λ (ys : List (List ℕ)). flat_map (λ x. x) ys) (lent_is ∙ inputs_end L i inputs end so_far)
 
-pub hash_many-requires : goal.hash_many-requires
-hash_many-requires c =
-    let L = c.args.layer.now in
-    let half : length c.deref_mut.result.now ≡ length L / 2 =
-    ap length c.deref_mut.ensures.value ∙ omega (arith, c.in_ok-parents.ensures.len, c.in_ok-parents.parents.ok) in
-    let end = all L c.loop-i.inputs.items c.deref.result.now c.loop-i.i c.as_flattened.result.now
-    (omega (arith, c.loop-i.auto.i-end, c.loop-i-test.false)) c.loop-i.invariant c.deref.ensures.value
-    c.as_flattened.ensures.value in
-    (65, ap length end ∙ length-flat 32 L c.told-layer ∙ ap (λ (n : ℕ). 65 * n) (sym half))
-
 pub returns : goal.returns
 returns c =
     let L = c.args.layer.now in

@@ -4,18 +4,6 @@ use Rattle.std.proofs.lemmas.List.{take_all, take_at}
 use Rattle.tlog_tree.proofs.Leaves.{hashed_batch, leaf_input, length-batch}
 use Rattle.tlog_tree.proofs.leaf.hash_alike.Goals as goal
 
-pub hash_many-requires : goal.hash_many-requires
-hash_many-requires c =
-    let E = map (λ (entry : Bor (List ℕ)). entry.now) c.args.entries.now in
-    let batch = c.args.places.now in
-    let (len, alike) = c.requires in
-    let many : length c.deref_mut.result.now ≡ length batch =
-    ap length c.deref_mut.ensures.value ∙ omega (arith, c.in_ok-values.ensures.len, c.in_ok-values.values.ok) in
-    let all = c.deref.ensures.value ∙ c.loop-index.invariant
-    ∙ ap (λ (places : List (ℕ × ℕ)). flat_map (λ x. x) (map (leaf_input E) places))
-    (take_all c.loop-index.index-index batch (omega (arith, c.loop-index-test.false))) in
-    (suc len, length-batch E len (length c.deref_mut.result.now) batch c.deref.result.now alike all many)
-
 pub returns-clause-hashes : goal.returns-clause-hashes
 returns-clause-hashes c = λ k d h.
     let E = map (λ (entry : Bor (List ℕ)). entry.now) c.args.entries.now in

@@ -5,25 +5,14 @@
 //! sets `LANES` to 3.
 //!
 //! Eight messages of one length are hashed together, one in each lane of the processor's vectors; those after the last
-//! whole eight are hashed one by one. The digests are those of the crate `sha2`.
+//! whole eight are hashed one by one. The digests of SHA-256 are those of the crate `sha2`; `sha256_eights` has the code
+//! for eight messages.
 
 pub(crate) mod batched;
-#[cfg(feature = "sha2")]
-pub(crate) mod block;
-#[cfg(feature = "sha2")]
-pub(crate) mod consts;
-#[cfg(feature = "sha2")]
-pub(crate) mod digest_size;
 pub(crate) mod eights;
 pub(crate) mod fold;
 pub(crate) mod lanes;
 #[cfg(feature = "sha2")]
-pub(crate) mod messages;
-#[cfg(feature = "sha2")]
-pub(crate) mod padded;
-#[cfg(feature = "sha2")]
 pub(crate) mod sha;
 #[cfg(feature = "sha2")]
 pub(crate) mod sha_eights;
-#[cfg(feature = "sha2")]
-pub(crate) mod words;

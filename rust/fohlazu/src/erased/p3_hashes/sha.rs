@@ -3,9 +3,9 @@
 //! SHA-256 (FIPS 180-4, by the crate `sha2`) of rows of bytes, and of digests one after another. Words are bytes, each
 //! packed alone, and a digest has 32 of them.
 
-pub use crate::erased::p3_hashes::digest_size::DigestSize;
 use crate::erased::p3_support::compress::PseudoCompressionFunction;
 use crate::erased::p3_support::hasher::CryptographicHasher;
+pub(crate) use crate::erased::sha256_eights::DigestSize;
 use crate::fallible::{AllocError, TryClone, VecExt};
 use crate::sha256::Sha256;
 use alloc::vec::Vec;

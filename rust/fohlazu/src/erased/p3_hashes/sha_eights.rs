@@ -3,10 +3,10 @@
 //! SHA-256 (FIPS 180-4) of rows of bytes, and of digests one after another, by calls that take eight messages at a
 //! time. The functions are those of `sha`, so that a tree built with these is the tree built with those.
 
-use crate::erased::p3_hashes::messages::hash_all;
 use crate::erased::p3_hashes::sha::{DigestSize, Sha256Nodes, Sha256Rows};
 use crate::erased::p3_support::compress::PseudoCompressionFunction;
 use crate::erased::p3_support::hasher::CryptographicHasher;
+use crate::erased::sha256_eights::hash_many;
 use crate::fallible::{AllocError, TryClone};
 use crate::sha256::Sha256;
 
@@ -40,12 +40,7 @@ impl CryptographicHasher<u8, u8, 32> for Sha256RowsInEights {
 
     fn hash_many(&self, messages: &[u8], out: &mut [[u8; 32]]) {
         assert!(messages.len().is_multiple_of(out.len()), "one_length");
-        // With no messages their width is unknown.
-        if out.is_empty() {
-            return;
-        }
-        let width = messages.len() / out.len();
-        hash_all(messages, width, out);
+        hash_many(messages, out);
     }
 
     // A byte is packed alone, so that there is but one message.
@@ -80,7 +75,7 @@ where
         assert!(groups.len() == out.len(), "equal_lengths");
         // The digests of a group lie one after another already, so that nothing is copied.
         let bytes = groups.as_flattened().as_flattened();
-        hash_all(bytes, N * D, out);
+        hash_many(bytes, out);
     }
 
     fn compress_packed(&self, input: [[u8; D]; N]) -> [u8; D] {

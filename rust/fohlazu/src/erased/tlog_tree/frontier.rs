@@ -2,8 +2,7 @@
 
 //! The tree of a log that only grows, by its whole nodes.
 
-use crate::erased::p3_hashes::sha_eights::Sha256RowsInEights;
-use crate::erased::p3_support::hasher::CryptographicHasher;
+use crate::erased::sha256_eights::hash_many;
 use crate::erased::tlog::{EMPTY_ROOT, SIZE_LIMIT, node_hash};
 use crate::erased::tlog_tree::error::TreeError;
 use crate::erased::tlog_tree::wanted::{WantedNode, keep};
@@ -157,6 +156,6 @@ fn parents(layer: &[[u8; 32]]) -> Result<Vec<[u8; 32]>, AllocError> {
         inputs.try_push(node_input(&layer[2 * i], &layer[2 * i + 1]))?;
     }
     let mut parents = try_vec([0; 32], count)?;
-    Sha256RowsInEights.hash_many(inputs.as_flattened(), &mut parents);
+    hash_many(inputs.as_flattened(), &mut parents);
     Ok(parents)
 }

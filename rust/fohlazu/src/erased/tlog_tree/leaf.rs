@@ -2,9 +2,7 @@
 
 //! The leaf hashes of entries, eight at a time.
 
-use crate::erased::p3_hashes::padded::{hash_padded_eight, push_padded};
-use crate::erased::p3_hashes::sha_eights::Sha256RowsInEights;
-use crate::erased::p3_support::hasher::CryptographicHasher;
+use crate::erased::sha256_eights::{hash_many, hash_padded_eight, push_padded};
 use crate::fallible::{AllocError, VecExt, try_vec};
 use alloc::vec::Vec;
 
@@ -86,7 +84,7 @@ fn hash_alike(entries: &[&[u8]], places: &[(usize, usize)]) -> Result<Vec<[u8; 3
         inputs.try_extend_from_slice(entries[*index])?;
     }
     let mut values = try_vec([0; 32], places.len())?;
-    Sha256RowsInEights.hash_many(&inputs, &mut values);
+    hash_many(&inputs, &mut values);
     Ok(values)
 }
 

@@ -1,5 +1,5 @@
 use Rattle.std.proofs.Common.{ℕ, ◌+◌, ◌%◌, ◌^◌}
-use Rattle.p3_hashes.proofs.Lanewise.{itself, splatted, zipped}
+use Rattle.sha256_eights.proofs.Lanewise.{itself, splatted, zipped}
 use Rattle.p3_hashes.proofs.lanes.U32x8FoldLane.add_to_each.Goals as goal
 
 pub invariant_of-result : goal.invariant_of-result

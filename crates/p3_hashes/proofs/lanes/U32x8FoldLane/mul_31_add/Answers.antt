@@ -1,7 +1,7 @@
 use Rattle.std.proofs.Common.{◌≡◌, ℕ, ◌+◌, ◌*◌, ◌%◌, ◌^◌, ◌∙◌, List, length, replicate, slice_index}
 use Rattle.std.specs.Simd.Lanes.{zip2}
 use Rattle.p3_hashes.proofs.FoldSteps.{taken_in}
-use Rattle.p3_hashes.proofs.Lanewise.{Eight, itself, splatted, zipped}
+use Rattle.sha256_eights.proofs.Lanewise.{Eight, itself, splatted, zipped}
 use Rattle.p3_hashes.proofs.lanes.U32x8FoldLane.mul_31_add.Goals as goal
 
 sums : (s w : List ℕ) → length s ≡ 8 → length w ≡ 8

@@ -1,8 +1,0 @@
-use Rattle.std.proofs.Common.{arith}
-use Rattle.p3_hashes.proofs.Written.{more_written}
-use Rattle.p3_hashes.proofs.messages.hash_all.Goals as goal
-
-pub returns : goal.returns
-returns g c =
-    more_written c.hash_eights.ensures c.hash_rest.ensures (omega arith) (omega (arith, c.hash_eights.ensures.long))
-    c.hash_eights.ensures.long

@@ -1,9 +1,0 @@
-use Rattle.std.proofs.Common.{◌≡◌, ◌+◌}
-use Rattle.sha2.specs.Sha256.{sha256}
-use Rattle.p3_support.specs.Lists.{message}
-use Rattle.p3_hashes.specs.Inner.Written.{AreWritten}
-use Rattle.p3_hashes.proofs.messages.hash_eight.Given as goal
-
-abbrev pub invariant-loop-j : goal.invariant-loop-j
-invariant-loop-j g l =
-    AreWritten (λ i d. d ≡ sha256 (message l.width l.messages i)) l.first (l.first + l.j) l.initial.out l.out

@@ -1,7 +1,0 @@
-use Rattle.std.proofs.Common.{arith, refl}
-use Rattle.p3_hashes.proofs.Written.{more_written}
-use Rattle.p3_hashes.proofs.messages.hash_eights.Goals as goal
-
-pub loop-group-preserved : goal.loop-group-preserved
-loop-group-preserved g c =
-    more_written c.loop-group.invariant c.hash_eight.ensures (omega arith) refl (omega arith)

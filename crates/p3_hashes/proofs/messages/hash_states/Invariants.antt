@@ -1,9 +1,0 @@
-use Rattle.std.proofs.Common.{◌≡◌, ℕ, ◌<◌}
-use Rattle.sha2.specs.Sha256.{hash_after, initial_hash_256, padded_message}
-use Rattle.p3_support.specs.Lists.{message}
-use Rattle.p3_hashes.specs.Inner.Lanes.{lane}
-use Rattle.p3_hashes.proofs.messages.hash_states.Given as goal
-
-abbrev pub invariant-loop-t : goal.invariant-loop-t
-invariant-loop-t l = (j : ℕ) → j < 8 → lane j l.state ≡ hash_after initial_hash_256
-    (padded_message (message l.width l.messages j)) l.t

@@ -1,7 +1,0 @@
-use Rattle.std.proofs.Common.{bit_xor}
-use Rattle.p3_hashes.proofs.Lanewise.{itself, zipped}
-use Rattle.p3_hashes.proofs.words.xor3.Goals as goal
-
-pub returns : goal.returns
-returns c = (zipped bit_xor (zipped bit_xor (itself c.args.x c.fits-x.0) (itself c.args.y c.fits-y.0))
-    (itself c.args.z c.fits-z.0)).each

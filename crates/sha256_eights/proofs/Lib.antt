@@ -1,0 +1,4 @@
+pub mod Lanewise
+pub mod Written
+pub mod Majority
+pub mod Padding

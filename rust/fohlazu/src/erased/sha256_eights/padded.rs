@@ -1,0 +1,55 @@
+// Made from crates/sha256_eights/src/padded.rt by tools/erase.
+
+//! SHA-256 of eight messages of any lengths, each followed by its padding (FIPS 180-4, 5.1.1), that fill one number of
+//! blocks: one message a lane.
+
+use crate::erased::sha256_eights::block::{compress_eight, initial_state};
+use crate::erased::sha256_eights::messages::{digest_of, lane_words, words};
+use crate::fallible::{AllocError, VecExt};
+use crate::simd::*;
+use alloc::vec::Vec;
+
+/// Loads block `t` of each of eight messages of `width` bytes into `block`, one message a lane. The messages must have
+/// the whole block.
+fn load_block(block: &mut [u32x8; 16], messages: &[u8], width: usize, t: usize) {
+    for i in 0..16 {
+        block[i] = words(messages, width, 64 * t + 4 * i);
+    }
+}
+
+/// The hash values of eight messages of `count` blocks, one message a lane.
+fn whole_states(messages: &[u8], count: usize) -> [u32x8; 8] {
+    let mut state = initial_state();
+    let mut block = [u32x8::splat(0); 16];
+    for t in 0..count {
+        load_block(&mut block, messages, 64 * count, t);
+        compress_eight(&mut state, &block);
+    }
+    state
+}
+
+/// The digests of eight messages of any lengths that fill `count` blocks of 64 bytes each with their padding. `blocks`
+/// has the padded messages one after another, `8 * 64 * count` bytes, as [`push_padded`] appends them.
+pub(crate) fn hash_padded_eight(blocks: &[u8], count: usize) -> [[u8; 32]; 8] {
+    let state = whole_states(blocks, count);
+    let mut digests = [[0u8; 32]; 8];
+    for j in 0..8 {
+        digests[j] = digest_of(lane_words(&state, j));
+    }
+    digests
+}
+
+/// Appends a message and its padding to `blocks`. The message is the byte `first`, then the bytes of `rest`.
+///
+/// # Errors
+///
+/// `AllocError` if memory runs out.
+pub(crate) fn push_padded(blocks: &mut Vec<u8>, first: u8, rest: &[u8]) -> Result<(), AllocError> {
+    let len = rest.len() + 1;
+    blocks.try_push(first)?;
+    blocks.try_extend_from_slice(rest)?;
+    blocks.try_push(0x80)?;
+    blocks.try_extend_from_slice(&[0; 64][..(119 - len % 64) % 64])?;
+    blocks.try_extend_from_slice(&len.wrapping_mul(8).to_be_bytes())?;
+    Ok(())
+}
