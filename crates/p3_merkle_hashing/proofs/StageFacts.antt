@@ -159,49 +159,24 @@ leaves_part hash rows first words xs ys a k n len same inside s hashed before =
     fill_part (λ j. hash (rows (first + j))) made xs ys a k n len same inside all
     (λ j small. let at : first + a + j ≡ first + (a + j) = omega arith in ap (λ i. hash (rows i)) at) before
 
--- the first slots are written, and those from the n-th on have a default digest
-pub record IsWritten {W : Type 0} (f : ℕ → List W) (d : List W) (a n len : ℕ) (slots : List (List W)) : Type 0 where
-  pub filled : IsFilled f a len slots
-  pub blank : (j : ℕ) → n ≤ j → j < len → get_or slots j [] ≡ d
-
--- so it is before the first is written
-pub none_written : {W : Type 0} (f : ℕ → List W) (d : List W) (n : ℕ) (xs : List (List W)) →
-    All (λ x. x ≡ d) xs → IsWritten f d 0 n (length xs) xs
-none_written f d n xs all = record {
-  filled = record { long = refl; filled = λ j none. absurd (omega (arith, none)) };
-  blank = λ j past below. all j [] below;
-}
-
--- and when some of the first n are
-pub some_written : {W : Type 0} (f : ℕ → List W) (d : List W) (a n : ℕ) (xs ys : List (List W)) →
-    All (λ x. x ≡ d) xs → n ≤ length xs → a ≤ n → IsFilled f a n ys →
-    IsWritten f d a n (length xs) (ys ++ drop n xs)
-some_written f d a n xs ys all room few s = record {
-  filled = record {
-    long = omega (arith, length-append ys (drop n xs), length-drop n xs, s.long);
-    filled = λ j below. get_or_append_left ys (drop n xs) [] j (omega (arith, s.long, below)) ∙ s.filled j below;
-  };
-  blank = λ j past below.
-      get_or-append_right ys (drop n xs) n j [] s.long past ∙ get_or-drop n xs (j - n) []
-      ∙ ap (λ i. get_or xs i []) (omega arith) ∙ all j [] below;
-}
-
--- the others of them are written, too, and all slots have what they should
-pub all_written : {W : Type 0} (f made : ℕ → List W) (d : List W) (xs ys : List (List W)) (a k n len : ℕ) →
-    k ≡ n - a → a ≤ n → n ≤ len → ys ≡ map made (range_with_len 0 (length (take k (drop a xs)))) →
-    ((j : ℕ) → a + j < n → made j ≡ f (a + j)) → ((j : ℕ) → n ≤ j → j < len → f j ≡ d) → IsWritten f d a n len xs →
-    put_mid a k xs ys ≡ map f (range_with_len 0 len)
-all_written f made d xs ys a k n len same few room is each past s =
-    let inside : a + (n - a) ≤ length xs = omega (arith, s.filled.long) in
-    let part : length (take k (drop a xs)) ≡ k = length-take-le k (drop a xs)
-    (omega (arith, length-drop a xs, s.filled.long)) in
-    let long : length ys ≡ k = ap length is ∙ length-map-range_with_len made 0 (length (take k (drop a xs))) ∙ part in
-    let front = fill_part f made xs ys a k (n - a) len same inside is (λ j h. each j (omega (arith, h))) s.filled in
-    fill_by_all f (put_mid a k xs ys) len [] front.long
+-- The first n of some slots, which have the default digest d, are lent. The first a of these are written, then the rest.
+-- The others should keep what they have, so all slots have what they should.
+pub all_filled : {W : Type 0} (f made : ℕ → List W) (d : List W) (xs front ys : List (List W)) (a k n : ℕ) →
+    All (λ x. x ≡ d) xs → n ≤ length xs → k ≡ n - a → a ≤ n →
+    ys ≡ map made (range_with_len 0 (length (take k (drop a front)))) →
+    ((j : ℕ) → a + j < n → made j ≡ f (a + j)) → ((j : ℕ) → n ≤ j → j < length xs → f j ≡ d) →
+    IsFilled f a n front → put_mid a k front ys ++ drop n xs ≡ map f (range_with_len 0 (length xs))
+all_filled f made d xs front ys a k n blank room same few is each past s =
+    let lent = put_mid a k front ys in
+    let all = fill_part f made front ys a k (n - a) n same (omega (arith, s.long)) is
+    (λ j h. each j (omega (arith, h))) s in
+    fill_by_all f (lent ++ drop n xs) (length xs) []
+    (omega (arith, length-append lent (drop n xs), length-drop n xs, all.long))
     (λ j below. elim (cases_lt j n) [
-      | inl low ↦ front.filled j (omega (arith, low))
-      | inr high ↦ part_after xs ys a k j [] long (omega (arith, s.filled.long)) (omega arith)
-          ∙ s.blank j high below ∙ sym (past j high below)
+      | inl low ↦ get_or_append_left lent (drop n xs) [] j (omega (arith, all.long, low))
+          ∙ all.filled j (omega (arith, low))
+      | inr high ↦ get_or-append_right lent (drop n xs) n j [] all.long high ∙ get_or-drop n xs (j - n) []
+          ∙ ap (λ i. get_or xs i []) (omega arith) ∙ blank j [] below ∙ sym (past j high below)
     ])
 
 -- all slots hold what was made of the first of a list

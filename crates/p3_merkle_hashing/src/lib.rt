@@ -1,5 +1,6 @@
-//! The digests of many rows or nodes of a layer, lane by lane or many messages a call.
+//! How the layers of a tree are hashed: the rows of matrices, and groups of children.
 #![tactic(auto)]
 
-pub mod batched;
-pub mod packed;
+pub mod calls;
+pub mod nodes;
+pub mod rows;

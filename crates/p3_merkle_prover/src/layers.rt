@@ -15,7 +15,7 @@ use crate::layer::{Buffers, LayerBuilder};
 use p3_merkle_core::geometry::padded_len;
 use p3_merkle_core::layer_shape::LayerShape;
 use p3_merkle_core::schedule::Schedule;
-use p3_merkle_hashing::batched::LayerRows;
+use p3_merkle_hashing::rows::LayerRows;
 use p3_support::compress::PseudoCompressionFunction;
 use p3_support::hasher::CryptographicHasher;
 use p3_support::matrix::Matrix;
@@ -132,7 +132,7 @@ impl<
             item: PhantomData,
         };
         let mut leaves = default_digests::<PW, D>(alloc, padded_len(height, N))?;
-        rows.write(&mut buffers.staged, 0, &mut leaves)?;
+        rows.fill(&mut buffers.staged, 0, &mut leaves)?;
         Ok(leaves)
     }
 
@@ -163,7 +163,7 @@ impl<
             item: PhantomData,
         };
         let mut slots = default_digests::<PW, D>(alloc, level.layer_len)?;
-        builder.write(buffers, &mut slots)?;
+        builder.fill(buffers, &mut slots)?;
         Ok(slots)
     }
 

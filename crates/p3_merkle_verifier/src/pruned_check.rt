@@ -35,7 +35,8 @@ use p3_merkle_core::pruning::{
     AuthPath, CoveredLayer, PrunedMerklePaths, check_pruned, children_of, siblings_on_path,
 };
 use p3_merkle_core::schedule::LevelStep;
-use p3_merkle_hashing::batched::{LayerRows, compress_children, inject_row_digests};
+use p3_merkle_hashing::nodes::{compress_children, inject_row_digests};
+use p3_merkle_hashing::rows::LayerRows;
 use p3_support::compress::PseudoCompressionFunction;
 use p3_support::hasher::CryptographicHasher;
 use p3_support::packed::PackedValue;
@@ -281,7 +282,7 @@ impl<
             item: PhantomData,
         };
         let mut digests = vec![in alloc; [PW::Value::default(); D]; height]?;
-        rows.write_batched(&mut Vec::new(alloc), 0, &mut digests)?;
+        rows.fill_batched(&mut Vec::new(alloc), 0, &mut digests)?;
         Ok(digests)
     }
 

@@ -1,6 +1,6 @@
 //! How many messages one call takes that are copied side by side.
 
-use p3_merkle_hashing::batched::messages_per_call;
+use p3_merkle_hashing::calls::messages_per_call;
 
 #[test]
 fn a_call_takes_whole_groups_of_lanes_in_16384_bytes(rt: HostRuntime) {

@@ -13,8 +13,8 @@ overflow_shr-row g c =
     let few = few_halvings (heights (shape (tree_batch c.args.tree.now))) c.height.result c.args.tree.now.lawful in
     rw (c.bits_reduced_of.ensures, c.max_height-max_height.ensures) few
 
-pub words_of_row-requires : goal.words_of_row-requires
-words_of_row-requires g c =
+pub append_row-requires : goal.append_row-requires
+append_row-requires g c =
     rw (c.bits_reduced_of.ensures, c.max_height-max_height.ensures, c.height.ensures)
     (row_inside g.M.Matrix.height_of g.M.Matrix.width_of g.M.Matrix.row_of g.row.N c.args.tree.now.matrices.items
     c.loop-matrix.matrix-index c.args.index c.matrix-item.result
@@ -38,13 +38,13 @@ loop-matrix-preserved g c =
     record {
       read = row_next g.M.Matrix.height_of g.M.Matrix.width_of g.M.Matrix.row_of g.row.N (λ row. row.items)
           c.args.tree.now.matrices.items c.loop-matrix.matrix-index c.args.index c.matrix-item.result
-          c.loop-matrix.rows.items c.push_reserved.new.self.items c.in_ok-words_of_row.field-0 inside read
+          c.loop-matrix.rows.items c.push_reserved.new.self.items c.append_row.new.words inside read
           (row_inside g.M.Matrix.height_of g.M.Matrix.width_of g.M.Matrix.row_of g.row.N c.args.tree.now.matrices.items
           c.loop-matrix.matrix-index c.args.index c.matrix-item.result
           c.args.tree.now.lawful c.requires inside read)
           c.loop-matrix.invariant.read c.push_reserved.ensures.items
-          (c.in_ok-words_of_row.ensures
-          ∙ rw (c.bits_reduced_of.ensures, c.max_height-max_height.ensures, c.height.ensures) refl);
+          (c.in_ok-append_row.ensures
+          ∙ ap (λ l. l ++ _) c.in_ok-words.ensures.items ∙ rw (c.bits_reduced_of.ensures, c.max_height-max_height.ensures, c.height.ensures) refl);
       count = omega (arith, c.push_reserved.ensures.len, c.loop-matrix.invariant.count);
       capacity = omega (arith, c.push_reserved.ensures.capacity, c.loop-matrix.invariant.capacity);
     }

@@ -39,17 +39,17 @@ returns g c =
     (λ j. rows_of_height g.M.Matrix.height_of g.M.Matrix.row_of h j all) h in
     let rows = λ (j : ℕ). rows_picked g.M.Matrix.height_of g.M.Matrix.row_of (λ m. m.now) h j picked all
     (ap (map (λ m. m.now)) c.as_slice.ensures.value ∙ c.in_ok-pick_matrices.ensures) in
-    let slots = c.write.new.slots in
+    let slots = c.fill.new.slots in
     let long : length c.deref_mut.result.now ≡ padded_len h g.row.N = omega (
       arith,
       c.deref_mut.ensures.len,
       c.in_ok-leaves.ensures.len,
       c.padded_len.ensures,
     ) in
-    let size : length slots ≡ c.in_ok-leaves.leaves.len = ap length c.in_ok-write.ensures
+    let size : length slots ≡ c.in_ok-leaves.leaves.len = ap length c.in_ok-fill.ensures
     ∙ length-map-range_with_len made 0 (length c.deref_mut.result.now) ∙ c.deref_mut.ensures.len in
     take_at slots (drop (length slots) c.in_ok-leaves.leaves.items) c.in_ok-leaves.leaves.len size
-    ∙ c.in_ok-write.ensures
+    ∙ c.in_ok-fill.ensures
     ∙ ap (λ n. map made (range_with_len 0 n)) long
     ∙ same_made made wanted (padded_len h g.row.N)
     (λ j below. let same : 0 + j ≡ j = omega arith in rw (same, rows j) refl)

@@ -34,12 +34,12 @@ returns g c =
     (λ j. rows_of_height g.M.Matrix.height_of g.M.Matrix.row_of level.height j all) level.height) level below in
     let rows = λ (j : ℕ). rows_picked g.M.Matrix.height_of g.M.Matrix.row_of (λ m. m.now) level.height j picked all
     (ap (map (λ m. m.now)) c.as_slice.ensures.value ∙ c.in_ok-pick_matrices.ensures) in
-    let slots = c.write.new.slots in
+    let slots = c.fill.new.slots in
     let long : length c.deref_mut.result.now
     ≡ level.layer_len = omega (arith, c.deref_mut.ensures.len, c.in_ok-slots.ensures.len) in
-    let size : length slots ≡ c.in_ok-slots.slots.len = ap length c.in_ok-write.ensures
+    let size : length slots ≡ c.in_ok-slots.slots.len = ap length c.in_ok-fill.ensures
     ∙ length-map-range_with_len made 0 (length c.deref_mut.result.now) ∙ c.deref_mut.ensures.len in
     take_at slots (drop (length slots) c.in_ok-slots.slots.items) c.in_ok-slots.slots.len size
-    ∙ c.in_ok-write.ensures
+    ∙ c.in_ok-fill.ensures
     ∙ ap (λ n. map made (range_with_len 0 n)) long
     ∙ same_made made wanted level.layer_len (λ j low. rw (rows j) refl)

@@ -1,0 +1,41 @@
+//! How many messages one call takes: many, one after another, or one in each lane.
+
+ghost use Rattle.std.specs.Mem.{FitsInMemory};
+ghost use denote.Param.{ArrayAt};
+ghost use Rattle.std.specs.Prelude.{◌≡◌, ◌+◌, ◌*◌, ◌%◌, ◌<◌, ◌≤◌, max};
+
+use p3_support::packed::PackedValue;
+
+/// How many messages of `bytes` bytes one call takes: the greatest multiple of `lanes` with at most 16384 bytes in all,
+/// but at least `lanes`. Where `bytes` or `lanes` is 0, it counts as 1.
+pub fn messages_per_call(bytes: usize, lanes: usize) -> usize
+    ensures whole { result % max lanes 1 ≡ 0 }
+    ensures some { max lanes 1 ≤ result }
+    ensures fits { result * max bytes 1 ≤ max 16384 (max lanes 1 * max bytes 1) }
+    ensures most { max 16384 (max lanes 1 * max bytes 1) < (result + max lanes 1) * max bytes 1 }
+{
+    let bytes = bytes.max(1);
+    let lanes = lanes.max(1);
+    (16384 / bytes / lanes).max(1) * lanes
+}
+
+/// How many whole blocks of `PW::WIDTH` slots can be filled lane by lane, if there are `count` slots. It is 0 if there
+/// is only one lane, or if a packed group of `N` digests would reach 2^63 bytes, more than a value can have. `N` must
+/// be above 0.
+pub fn packed_block_count<PW: PackedValue, const N: usize, const D: usize>(count: usize) -> usize
+    requires { 0 < N }
+    ensures count { result * PW.WIDTH ≤ count }
+    ensures whole { 1 < PW.WIDTH → FitsInMemory (ArrayAt (ArrayAt PW.row D.row) N.row) →
+        count < result * PW.WIDTH + PW.WIDTH }
+    ensures lanes { 0 < result → 1 < PW.WIDTH }
+    ensures digest { 0 < result → FitsInMemory (ArrayAt PW.row D.row) }
+    ensures group { 0 < result → FitsInMemory (ArrayAt (ArrayAt PW.row D.row) N.row) }
+{
+    let value = PW::broadcast(PW::Value::default());
+    let bytes = N.saturating_mul(D.saturating_mul(std::mem::size_of_val(&value)));
+    if PW::WIDTH > 1 && bytes < 0x8000_0000_0000_0000 {
+        count / PW::WIDTH
+    } else {
+        0
+    }
+}
