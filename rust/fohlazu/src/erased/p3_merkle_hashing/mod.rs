@@ -1,6 +1,7 @@
 // Made from crates/p3_merkle_hashing/src/lib.rt by tools/erase.
 
-//! The digests of many rows or nodes of a layer, lane by lane or many messages a call.
+//! How the layers of a tree are hashed: the rows of matrices, and groups of children.
 
-pub(crate) mod batched;
-pub(crate) mod packed;
+pub(crate) mod calls;
+pub(crate) mod nodes;
+pub(crate) mod rows;

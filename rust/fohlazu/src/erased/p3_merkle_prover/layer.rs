@@ -6,8 +6,11 @@
 //! take many messages fill the others.
 
 use crate::erased::p3_merkle_core::layer_shape::LayerShape;
-use crate::erased::p3_merkle_hashing::batched::{LayerRows, compress_children, inject_row_digests};
-use crate::erased::p3_merkle_hashing::packed::{compress_children_packed, compress_pairs_packed, packed_block_count};
+use crate::erased::p3_merkle_hashing::calls::packed_block_count;
+use crate::erased::p3_merkle_hashing::nodes::{
+    compress_children, compress_children_packed, compress_pairs_packed, inject_row_digests,
+};
+use crate::erased::p3_merkle_hashing::rows::LayerRows;
 use crate::erased::p3_support::compress::PseudoCompressionFunction;
 use crate::erased::p3_support::hasher::CryptographicHasher;
 use crate::erased::p3_support::matrix::Matrix;
@@ -95,59 +98,46 @@ impl<
         compress_pairs_packed::<PW, C, N, D>(self.compress, folded, rows)
     }
 
-    /// Writes nodes into the first slots, one in each lane of a packed call, as long as a call fills all lanes. Returns
-    /// how many nodes it wrote. There are at most as many slots as nodes.
-    fn write_packed(&self, slots: &mut [[PW::Value; D]]) -> usize {
-        let mut count = slots.len();
-        if self.level.has_rows {
-            count = count.min(self.rows.height);
+    /// Fills `slots` with the layer's nodes. All slots must have default digests before; those past the nodes keep them.
+    ///
+    /// The constants of the functions that this layer calls choose how: the compression, and where matrices belong to
+    /// the layer, the hasher of their rows.
+    ///
+    /// - If the `LANES` of each are above 1, many nodes are compressed a call, and many rows hashed.
+    /// - Else, if `WIDTH` is above 1, the first nodes are made one in each lane, as far as they fill all lanes.
+    /// - Where neither is, or too few nodes are left to fill all lanes, the functions take node after node and row after
+    ///   row.
+    pub(crate) fn fill(
+        &self,
+        buffers: &mut Buffers<P::Value, [PW::Value; D], [[PW::Value; D]; N]>,
+        slots: &mut [[PW::Value; D]],
+    ) -> Result<(), AllocError> {
+        let has_rows = self.level.has_rows;
+        let step = self.level.step;
+        let end = self.level.raw_len.min(slots.len());
+        let nodes = &mut slots[..end];
+        let in_batches = C::LANES > 1 && (!has_rows || H::LANES > 1);
+        let mut in_lanes = if in_batches { 0 } else { end };
+        if has_rows {
+            in_lanes = in_lanes.min(self.rows.height);
         }
-        let blocks = packed_block_count::<PW, N, D>(count);
+        let blocks = packed_block_count::<PW, N, D>(in_lanes);
         for block in 0..blocks {
             let first = block * PW::WIDTH;
-            let digests = self.packed_digest(first);
-            unpack_at(&digests, slots, first);
+            let packed = self.packed_digest(first);
+            unpack_at(&packed, nodes, first);
         }
-        blocks * PW::WIDTH
-    }
-
-    /// Writes the nodes from `first` on into the slots: first the compressions of their children; then, where matrices
-    /// belong to the layer, the digests of their rows, and the compressions of both. There are at most as many slots as
-    /// nodes from `first` on.
-    fn write_batched(
-        &self,
-        buffers: &mut Buffers<P::Value, [PW::Value; D], [[PW::Value; D]; N]>,
-        first: usize,
-        slots: &mut [[PW::Value; D]],
-    ) -> Result<(), AllocError> {
+        let done = blocks * PW::WIDTH;
+        let rest = &mut nodes[done..];
         let Buffers { staged, digests, groups } = buffers;
-        let step = self.level.step;
-        let below = &self.below[step * first..];
-        compress_children::<PW, C, N, D>(self.compress, groups, below, step, slots)?;
-        if !self.level.has_rows {
-            return Ok(());
+        let below = &self.below[step * done..];
+        compress_children::<PW, C, N, D>(self.compress, groups, below, step, rest)?;
+        if has_rows {
+            digests.clear();
+            digests.try_resize(rest.len(), [PW::Value::default(); D])?;
+            self.rows.fill(staged, done, digests)?;
+            inject_row_digests::<PW, C, N, D>(self.compress, groups, digests, rest)?;
         }
-        digests.clear();
-        digests.try_resize(slots.len(), [PW::Value::default(); D])?;
-        self.rows.write(staged, first, digests)?;
-        inject_row_digests::<PW, C, N, D>(self.compress, groups, digests, slots)
-    }
-
-    /// Writes the layer's nodes into `slots`. All slots must have default digests before; those past the nodes keep
-    /// them.
-    pub(crate) fn write(
-        &self,
-        buffers: &mut Buffers<P::Value, [PW::Value; D], [[PW::Value; D]; N]>,
-        slots: &mut [[PW::Value; D]],
-    ) -> Result<(), AllocError> {
-        // In batches if each function that this layer calls takes several messages at a time. Else lane by lane, as far
-        // as the nodes fill all lanes, and the rest in batches.
-        let end = self.level.raw_len.min(slots.len());
-        let done = if C::LANES > 1 && (!self.level.has_rows || H::LANES > 1) {
-            0
-        } else {
-            self.write_packed(&mut slots[..end])
-        };
-        self.write_batched(buffers, done, &mut slots[done..end])
+        Ok(())
     }
 }

@@ -8,7 +8,7 @@
 use crate::erased::p3_merkle_core::geometry::padded_len;
 use crate::erased::p3_merkle_core::layer_shape::LayerShape;
 use crate::erased::p3_merkle_core::schedule::Schedule;
-use crate::erased::p3_merkle_hashing::batched::LayerRows;
+use crate::erased::p3_merkle_hashing::rows::LayerRows;
 use crate::erased::p3_merkle_prover::layer::{Buffers, LayerBuilder};
 use crate::erased::p3_support::compress::PseudoCompressionFunction;
 use crate::erased::p3_support::hasher::CryptographicHasher;
@@ -97,7 +97,7 @@ impl<
         pick_matrices(picked, self.matrices, height)?;
         let rows = LayerRows { hash: self.hash, matrices: picked.as_slice(), height, item: PhantomData };
         let mut leaves = default_digests::<PW, D>(padded_len(height, N))?;
-        rows.write(&mut buffers.staged, 0, &mut leaves)?;
+        rows.fill(&mut buffers.staged, 0, &mut leaves)?;
         Ok(leaves)
     }
 
@@ -114,7 +114,7 @@ impl<
         let builder =
             LayerBuilder::<P, PW, H, C, &M, N, D> { rows, compress: self.compress, level, below, item: PhantomData };
         let mut slots = default_digests::<PW, D>(level.layer_len)?;
-        builder.write(buffers, &mut slots)?;
+        builder.fill(buffers, &mut slots)?;
         Ok(slots)
     }
 

@@ -49,7 +49,9 @@ pub(crate) fn rows_of_index<F: Copy, X, G, M: Matrix<F>, const N: usize>(
     let mut rows = Vec::with_room(tree.matrices.len())?;
     for matrix in &tree.matrices {
         let row = index >> bits_reduced_of(max_height, matrix.height());
-        rows.push_reserved(words_of_row(matrix, row)?);
+        let mut words = Vec::with_room(matrix.width())?;
+        matrix.append_row(row, &mut words)?;
+        rows.push_reserved(words);
     }
     Ok(rows)
 }
@@ -93,26 +95,4 @@ pub(crate) fn siblings_of_index<F, X: Copy, G, M: Matrix<F>, const N: usize>(
         node = parent_of(node, step);
     }
     Ok(siblings)
-}
-
-/// The words of row `row` of a matrix. The row must be below the height.
-// Inlined: for a row of few words the call takes as long as the copy.
-#[inline(always)]
-fn words_of_row<F: Copy, M: Matrix<F>>(matrix: &M, row: usize) -> Result<Vec<F>, AllocError> {
-    let width = matrix.width();
-    let piece = matrix.piece(row, 0);
-    if piece.len() < width {
-        let mut words = Vec::with_room(width)?;
-        matrix.append_row(row, &mut words)?;
-        return Ok(words);
-    }
-    // For so few words a loop takes less time than a call that copies a slice.
-    if width > 4 {
-        return Vec::try_from_slice(&piece[..width]);
-    }
-    let mut words = Vec::with_room(width)?;
-    for column in 0..width {
-        words.push_reserved(matrix.get(row, column));
-    }
-    Ok(words)
 }

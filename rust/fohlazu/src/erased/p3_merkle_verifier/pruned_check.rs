@@ -14,7 +14,8 @@ use crate::erased::p3_merkle_core::pruning::{
     AuthPath, CoveredLayer, PrunedMerklePaths, check_pruned, children_of, siblings_on_path,
 };
 use crate::erased::p3_merkle_core::schedule::LevelStep;
-use crate::erased::p3_merkle_hashing::batched::{LayerRows, compress_children, inject_row_digests};
+use crate::erased::p3_merkle_hashing::nodes::{compress_children, inject_row_digests};
+use crate::erased::p3_merkle_hashing::rows::LayerRows;
 use crate::erased::p3_merkle_verifier::checker::Checker;
 use crate::erased::p3_merkle_verifier::openings::{CheckedPrunedOpening, OpenedMatrix, PrunedOpeningRef};
 use crate::erased::p3_merkle_verifier::path::is_entry;
@@ -179,7 +180,7 @@ impl<
             item: PhantomData,
         };
         let mut digests = try_vec([PW::Value::default(); D], height)?;
-        rows.write_batched(&mut Vec::new(), 0, &mut digests)?;
+        rows.fill_batched(&mut Vec::new(), 0, &mut digests)?;
         Ok(digests)
     }
 

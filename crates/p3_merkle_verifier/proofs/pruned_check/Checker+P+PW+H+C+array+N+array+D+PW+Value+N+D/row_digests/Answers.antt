@@ -29,14 +29,14 @@ returns g c = λ l le at.
     let opened = rw (← c.deref-2.ensures.value, c.deref.ensures.value) at c.in_ok-matrices.ensures.rows in
     let n = length queries in
     let made = c.in_ok-digests in
-    let slots = c.write_batched.new.slots in
+    let slots = c.fill_batched.new.slots in
     let long : length c.deref_mut.result.now ≡ n = omega (arith, c.deref_mut.ensures.len, made.ensures.len) in
-    let size : length slots ≡ made.digests.len = ap length c.in_ok-write_batched.ensures
+    let size : length slots ≡ made.digests.len = ap length c.in_ok-fill_batched.ensures
     ∙ length-map-range_with_len row 0 (length c.deref_mut.result.now) ∙ c.deref_mut.ensures.len in
     let each : (j : ℕ) → j < n → row j ≡ digest (get_or queries j 0) =
     λ j h. let at : 0 + j ≡ j = omega arith in rw at (ap f.hash (opened j h)) in
     take_at slots (drop (length slots) made.digests.items) made.digests.len size
-    ∙ c.in_ok-write_batched.ensures ∙ ap (λ k. map row (range_with_len 0 k)) long ∙ by_places row digest queries each
+    ∙ c.in_ok-fill_batched.ensures ∙ ap (λ k. map row (range_with_len 0 k)) long ∙ by_places row digest queries each
     ∙ ap (λ x. map (query_digest f.hash x (heights s) p.rows) queries) at
     ∙ rows_of_queries f s restorable.cap_layer p
     (agreed_with s restorable.cap_layer p.indices p.rows [] p.digests restorable.agreed) l le queries

@@ -1,0 +1,167 @@
+// Made from crates/p3_merkle_hashing/src/rows.rt by tools/erase.
+
+//! How the rows of one layer's matrices are hashed: one row a call, one row in each lane of a call, or many rows a call.
+
+use crate::erased::p3_merkle_hashing::calls::{messages_per_call, packed_block_count};
+use crate::erased::p3_support::hasher::CryptographicHasher;
+use crate::erased::p3_support::matrix::Matrix;
+use crate::erased::p3_support::packed::{PackedValue, unpack_at};
+use crate::erased::p3_support::rows::packed_rows_of;
+use crate::fallible::{AllocError, VecExt};
+use alloc::vec::Vec;
+use core::marker::PhantomData;
+
+/// The rows of one layer, and the hasher that digests them. Row `j` of the layer is row `j` of each of its matrices,
+/// one matrix after another. `X` is the type of a digest.
+pub(crate) struct LayerRows<'a, P: PackedValue, PW, H, M: Matrix<P::Value>, X> {
+    /// The hasher of rows.
+    pub hash: &'a H,
+    /// The matrices of the layer, in input order.
+    pub matrices: &'a [M],
+    /// The height of each of these matrices.
+    pub height: usize,
+    /// The types of packed words and of digests.
+    pub item: PhantomData<(P, PW, X)>,
+}
+
+/// The words of `count` rows from `first` on, one row after another, where a row is the row of each matrix, in order.
+/// They are borrowed from the matrix if there is only one and it stores them in one piece, else copied into `staged`.
+/// All matrices have this height, a row has `len` words in all, and `first + count` is at most the height.
+fn contiguous_rows<'b, T: Copy, M: Matrix<T>>(
+    staged: &'b mut Vec<T>,
+    matrices: &'b [M],
+    height: usize,
+    len: usize,
+    first: usize,
+    count: usize,
+) -> Result<&'b [T], AllocError> {
+    let words = count.checked_mul(len).ok_or(AllocError)?;
+    if let [matrix] = matrices {
+        let piece = matrix.piece(first, 0);
+        if words <= piece.len() {
+            return Ok(&piece[..words]);
+        }
+    }
+    staged.clear();
+    staged.try_room(words)?;
+    for j in 0..count {
+        for matrix in matrices {
+            matrix.append_row(first + j, staged)?;
+        }
+    }
+    Ok(staged.as_slice())
+}
+
+/// Both slices, with one lifetime, as an array of them needs.
+fn both<'b, T>(first: &'b [T], second: &'b [T]) -> [&'b [T]; 2] {
+    [first, second]
+}
+
+impl<'a, P: PackedValue, PW: PackedValue, H: CryptographicHasher<P, PW, D>, M: Matrix<P::Value>, const D: usize>
+    LayerRows<'a, P, PW, H, M, [PW::Value; D]>
+{
+    /// Fills slot `j` with the digest of row `first + j`, for each of these rows that the layer has. All slots must have
+    /// default digests before; those without a row keep them. Both packings must have equally many lanes. `staged` is a
+    /// buffer for rows: a caller that reuses it for all layers seldom allocates.
+    ///
+    /// The constants choose how:
+    ///
+    /// - If the hasher's `LANES` are above 1, [`fill_batched`](Self::fill_batched) hashes many rows a call.
+    /// - Else, if `WIDTH` is above 1, the first rows are hashed one in each lane, as far as they fill all lanes.
+    /// - Where neither is, or too few rows are left to fill all lanes, `fill_batched` hands the hasher rows that it
+    ///   takes one by one.
+    ///
+    /// # Errors
+    ///
+    /// `AllocError` if memory runs out, or if the rows of one call have 2^64 words or more.
+    pub(crate) fn fill(
+        &self,
+        staged: &mut Vec<P::Value>,
+        first: usize,
+        slots: &mut [[PW::Value; D]],
+    ) -> Result<(), AllocError> {
+        let count = self.height.saturating_sub(first).min(slots.len());
+        let digests = &mut slots[..count];
+        let in_lanes = if H::LANES > 1 { 0 } else { count };
+        let blocks = packed_block_count::<PW, 1, D>(in_lanes);
+        for block in 0..blocks {
+            let start = block * PW::WIDTH;
+            let packed = self.packed_digest(first + start);
+            unpack_at(&packed, digests, start);
+        }
+        let done = blocks * PW::WIDTH;
+        self.fill_batched(staged, first + done, &mut digests[done..])
+    }
+
+    /// The digest of a row, which has `len` words and is below the height. One that a lone matrix stores in two pieces
+    /// is hashed where it lies, others as [`contiguous_rows`] gives them. `staged` is a buffer for a row.
+    fn row_digest(&self, staged: &mut Vec<P::Value>, len: usize, row: usize) -> Result<[PW::Value; D], AllocError> {
+        if let [matrix] = self.matrices {
+            let left = matrix.piece(row, 0);
+            if left.len() < len {
+                let right = matrix.piece(row, left.len());
+                let rest = len - left.len();
+                if rest <= right.len() {
+                    let pieces = both(left, &right[..rest]);
+                    return Ok(self.hash.hash_iter_slices(pieces.iter().copied()));
+                }
+            }
+        }
+        let words = contiguous_rows(staged, self.matrices, self.height, len, row, 1)?;
+        Ok(self.hash.hash_slice(words))
+    }
+
+    /// The digests of `P::WIDTH` rows from `row` on: lane `k` is that of row `row + k`, for each lane that both
+    /// packings have. `row + P::WIDTH` must be at most the height.
+    pub(crate) fn packed_digest(&self, row: usize) -> [PW; D] {
+        // The iterator over one matrix doesn't look for a next matrix at each column.
+        if let [matrix] = self.matrices {
+            return self.hash.hash_packed(matrix.vertically_packed_row::<P>(row));
+        }
+        self.hash.hash_packed(packed_rows_of::<_, P, _>(self.matrices, row))
+    }
+
+    /// Writes the digest of row `first + j` into each slot `j`, at most as many rows per call as [`messages_per_call`]
+    /// says. There must be at most as many slots as rows from `first` on. `staged` is a buffer for rows.
+    ///
+    /// # Errors
+    ///
+    /// `AllocError` if memory runs out, or if the rows of one call have 2^64 words or more.
+    pub(crate) fn fill_batched(
+        &self,
+        staged: &mut Vec<P::Value>,
+        first: usize,
+        slots: &mut [[PW::Value; D]],
+    ) -> Result<(), AllocError> {
+        // With no slots no row is read, however wide the matrices are.
+        if slots.is_empty() {
+            return Ok(());
+        }
+        let mut len = 0usize;
+        for matrix in self.matrices {
+            len = len.checked_add(matrix.width()).ok_or(AllocError)?;
+        }
+        let bytes = len.saturating_mul(core::mem::size_of_val(&P::Value::default()));
+        // Rows that lie apart are hashed one by one where they lie, if the hasher takes one message at a time.
+        let rows = match self.matrices {
+            [matrix] if H::LANES == 1 && matrix.piece(first, 0).len() / 2 < len => 1,
+            _ => messages_per_call(bytes, H::LANES),
+        };
+        // Only the proof in Rattle needs that it is read first: the height bounds the sum in the loop.
+        let height = self.height;
+        let mut done = 0;
+        while done < slots.len() {
+            let count = rows.min(slots.len() - done);
+            let row = first + done;
+            if count == 1 {
+                let digest = self.row_digest(staged, len, row)?;
+                slots[done] = digest;
+            } else {
+                let words = contiguous_rows(staged, self.matrices, height, len, row, count)?;
+                self.hash.hash_many(words, &mut slots[done..done + count]);
+            }
+            done += count;
+        }
+        Ok(())
+    }
+}
