@@ -11,12 +11,9 @@ use Rattle.tlog.specs.Rfc9162.{leaf_hash}
 use Rattle.tlog.specs.Verdicts.{size_limit}
 use Rattle.tlog_tree.specs.Builders.{IsBuilderOf}
 use Rattle.tlog_tree.specs.declared.builder.TreeBuilder.{TreeBuilder}
-use Rattle.tlog_tree.specs.declared.error.TreeError.{TreeError}
-use Rattle.tlog_tree.specs.declared.error.TreeError.TheVariants.{SizeTooLarge, OutOfMemory as NoTreeMemory}
 use Rattle.tlog_files.specs.Entries.{entries_in, is_refused, read_refusal, wanted_of, first_entries, is_short, partial_of}
 use Rattle.tlog_files.specs.Inner.Splitting.{AreAll, AreTooMany, HasBuilt, HasGrown, ReadsTooMany}
 use Rattle.tlog_files.specs.Entries.{refuses, rest_of, HoldsOfFile}
-use Rattle.tlog_files.specs.Errors.{read_error_of}
 use Rattle.tlog_files.specs.Inner.Wanted.{HoldsWanted}
 use Rattle.tlog_files.specs.Logs.{IsLogOf}
 use Rattle.tlog_files.specs.declared.framing.Framing.{Framing}
@@ -76,11 +73,10 @@ log_of log framing limit nodes wanted bytes w ended hashes all built kept =
 -- ---- too many entries
 
 -- why a tree does not grow
-pub refused_by : (e : ReadError) (why : TreeError) (test : Bool) (Many : Type 0) → e ≡ read_error_of why →
-    why ≡ (if test then SizeTooLarge else NoTreeMemory) → (test ≡ true → Many) →
-    (e ≡ OutOfMemory) ⊎ ((e ≡ TooManyEntries) × Many)
-refused_by e why true Many is said many = inr (is ∙ ap read_error_of said, many refl)
-refused_by e why false Many is said many = inl (is ∙ ap read_error_of said)
+pub refused_by : (e : ReadError) (test : Bool) (Many : Type 0) → e ≡ (if test then TooManyEntries else OutOfMemory) →
+    (test ≡ true → Many) → (e ≡ OutOfMemory) ⊎ ((e ≡ TooManyEntries) × Many)
+refused_by e true Many is many = inr (is, many refl)
+refused_by e false Many is many = inl is
 
 -- the size of a tree
 pub size_of : (entries : List (List ℕ)) (nodes : List (ℕ × ℕ)) (tree : TreeBuilder) →

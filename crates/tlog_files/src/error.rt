@@ -1,12 +1,10 @@
 //! Why a file is not read.
 
 ghost use Rattle.std.specs.Prelude.{◌≡◌};
-ghost use Rattle.tlog_files.specs.Errors.{read_error_of};
 ghost use Rattle.tlog_files.specs.declared.error.ReadError.TheVariants.{OutOfMemory};
 
 use std::alloc::AllocError;
 use thiserror::Error;
-use tlog_tree::TreeError;
 
 /// Why the entries of a file are not read. It prints as one line.
 #[derive(Clone, Copy, Debug, PartialEq, Eq, Error)]
@@ -30,17 +28,5 @@ impl From<AllocError> for ReadError {
 
     fn from(_error: AllocError) -> ReadError {
         ReadError::OutOfMemory
-    }
-}
-
-impl From<TreeError> for ReadError {
-    ghost from_gives = { λ error e. e ≡ read_error_of error };
-
-    fn from(error: TreeError) -> ReadError {
-        match error {
-            TreeError::SizeTooLarge => ReadError::TooManyEntries,
-            // Nothing here hands nodes to a tree, so their number is never wrong.
-            TreeError::NodeCountMismatch | TreeError::OutOfMemory => ReadError::OutOfMemory,
-        }
     }
 }

@@ -1,7 +1,10 @@
 //! The tree of a log that stands in a file, and single entries of it, in one pass over a reader.
 
-ghost use Rattle.std.specs.Prelude.{◌≡◌, ◌⊎◌, ◌≤◌, ◌++◌, ℕ, List, [], IfErr, IfOk, OnOk, Some};
+ghost use Rattle.std.specs.Prelude.{◌≡◌, ◌⊎◌, ◌+◌, ◌≤◌, ◌++◌, ℕ, List, [], IfErr, IfOk, OnOk, Some, length, nat_lt};
+ghost use Rattle.std.specs.Prelude.{if◌then◌else◌};
 ghost use Rattle.std.specs.Io.KnownBytes.{Consumes, IsAtEnd};
+ghost use Rattle.tlog.specs.Verdicts.{size_limit};
+ghost use Rattle.tlog_tree.specs.Builders.{IsBuilderOf};
 ghost use Rattle.tlog_files.specs.Entries.{read_refusal, HoldsOfFile, IsFraming};
 ghost use Rattle.tlog_files.specs.Logs.{IsLogOf};
 ghost use Rattle.tlog_files.specs.Inner.Splitting.{AreTooMany, HasBuilt, HasGrown, IsReady, ReadsTooMany};
@@ -13,7 +16,7 @@ use crate::splitter::Splitter;
 use crate::wanted::{WantedEntries, places_in_order};
 use std::alloc::Global;
 use std::io::{ErrorKind, Read};
-use tlog_tree::TreeBuilder;
+use tlog_tree::{TreeBuilder, TreeError};
 
 /// How many bytes are read at a time.
 const BUFFER: usize = 1 << 20;
@@ -62,7 +65,7 @@ pub fn read_log<R: Read>(
     let tree = TreeBuilder::new(alloc, wanted_nodes)?;
     let tree = read_through(alloc, &mut splitter, tree, file)?;
     let hashes = splitter.end_file(alloc)?;
-    let tree = tree.push_many(alloc, &hashes)?;
+    let tree = grown(alloc, tree, &hashes)?;
     let entries = splitter.wanted.into_entries(alloc);
     Ok(ReadLog { tree, entries })
 }
@@ -123,8 +126,24 @@ fn push(
     let mut left = bytes;
     'entries: while !left.is_empty() && !splitter.is_full() {
         let (hashes, rest) = splitter.read(alloc, left)?;
-        tree = tree.push_many(alloc, &hashes)?;
+        tree = grown(alloc, tree, &hashes)?;
         left = rest;
     }
     Ok(tree)
+}
+
+/// The tree with the leaf hashes of more entries.
+fn grown(alloc: Global, tree: TreeBuilder, hashes: &[[u8; 32]]) -> Result<TreeBuilder, ReadError>
+    ensures built { IfOk result (λ grown. (leaves : List (List ℕ)) (nodes : List (ℕ × ℕ)) →
+        IsBuilderOf leaves nodes tree → IsBuilderOf (leaves ++ hashes.now) nodes grown) }
+    ensures refused { IfErr result (λ e. e
+        ≡ (if nat_lt size_limit (tree.frontier.size + length hashes.now) then TooManyEntries else OutOfMemory)) }
+{
+    match tree.push_many(alloc, hashes) {
+        Ok(grown) => Ok(grown),
+        Err(TreeError::SizeTooLarge) => Err(ReadError::TooManyEntries),
+        Err(TreeError::OutOfMemory) => Err(ReadError::OutOfMemory),
+        // Only a tree that is begun by its nodes has their number refused.
+        Err(TreeError::NodeCountMismatch) => unreachable!(),
+    }
 }

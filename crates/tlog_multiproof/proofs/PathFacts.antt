@@ -11,7 +11,7 @@ use Rattle.tlog.specs.Verdicts.{size_limit}
 use Rattle.tlog.specs.Fixed.{RootFixesLeaf}
 use Rattle.tlog_multiproof.specs.Entries.{AreIncluded, entries_opening}
 use Rattle.tlog_multiproof.specs.Fixed.{RootFixesLeaves}
-use Rattle.tlog_multiproof.specs.Inner.Paths.{siblings_of}
+use Rattle.tlog_multiproof.specs.Inner.Paths.{paths_of, siblings_of}
 use Rattle.tlog_multiproof.specs.Instance.{log_params, present}
 use Rattle.tlog_multiproof.specs.declared.tree.Node.{Node}
 
@@ -26,8 +26,7 @@ siblings_are {X} paths path indices is =
 pub fixed_by_paths : (hash : HashFunction) (D : List (List ℕ)) (size : ℕ) (indices : List ℕ)
     (leaves proof : List (List ℕ))
     (root : List ℕ) (paths : List (List (List Node))) → size ≡ length D → root ≡ root_of hash D → size ≤ size_limit →
-    AreIncluded hash size indices leaves proof root →
-    paths ≡ map (restored_path (log_params hash size) (entries_opening size indices leaves proof)) indices →
+    AreIncluded hash size indices leaves proof root → paths ≡ paths_of hash size indices leaves proof →
     RootFixesLeaves hash D indices leaves proof ↔ ((k : ℕ) → k < length indices →
     RootFixesLeaf hash D (get_or indices k 0) (get_or leaves k []) (present (get_or paths k [])))
 fixed_by_paths hash D size indices leaves proof root paths size_is root_is low accepted paths_are =

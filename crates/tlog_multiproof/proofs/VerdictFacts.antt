@@ -1,8 +1,7 @@
--- What the port's verdict on the opening of entries says of them.
+-- What the answer of a check of the opening of entries says of them.
 use Rattle.std.proofs.Common.{◌≡◌, ℕ, zero, suc, ◌<◌, ◌≤◌, Bool, true, false, List, [], ◌∷◌, refl, ap}
-use Rattle.std.proofs.Common.{sym, subst, ◌∙◌, arith, eqb, inl, inr, length, get_or, nat_lt, zip, Option, Some, None}
+use Rattle.std.proofs.Common.{sym, ◌∙◌, arith, eqb, inl, inr, length, get_or, nat_lt, zip, Option, Some, None}
 use Rattle.std.specs.Prelude.{Result, Ok, Err, ◌⊎◌, ◌≢◌, ◌||◌}
-use Rattle.std.specs.Bool.{Decides}
 use Rattle.std.specs.Option.{option_map, option_or}
 use Rattle.std.specs.Cmp.Lexicographic.{pointwise, pointwise_decides}
 use Rattle.std.proofs.lemmas.Bool.{cases_Bool, cond-false, lt-ltb, ne_eqb, true≢false}
@@ -11,17 +10,18 @@ use Rattle.p3_support.specs.Batches.{greatest}
 use Rattle.p3_merkle_core.specs.Checks.{Params, layer_rows}
 use Rattle.p3_merkle_core.specs.Geometry.{Shape, ancestor, exponent, heights, layer_exponent, levels}
 use Rattle.p3_merkle_core.specs.Gate.{gate_refusal}
-use Rattle.p3_merkle_core.specs.Presented.{IsVerdict, Presented, presented_pruned}
 use Rattle.p3_merkle_core.specs.Pruning.{IsPrunedAccepted, IsRestorable, PrunedOpening, boundary}
-use Rattle.p3_merkle_core.specs.Refusals.{cap_refusal, digest_count_refusal, duplicate_refusal}
-use Rattle.p3_answers.specs.Answers.{first_of, first_some, unless}
-use Rattle.p3_merkle_core.specs.Refusals.{group_refusal, idle_refusal, pruned_refusal, queries_refusal, rows_of}
-use Rattle.p3_merkle_core.specs.Refusals.{size_refusal, slot_of, slots_below, width_refusal}
+use Rattle.p3_merkle_core.specs.Refusals.{AnswersUnlessMemory, IsEquality, cap_refusal, digest_count_refusal}
+use Rattle.p3_merkle_core.specs.Refusals.{duplicate_refusal, group_refusal, idle_refusal, pruned_refusal}
+use Rattle.p3_merkle_core.specs.Refusals.{pruned_refusal_under, queries_refusal, rows_of, size_refusal, slot_of}
+use Rattle.p3_merkle_core.specs.Refusals.{slots_below, width_refusal}
+use Rattle.p3_answers.specs.Answers.{first_of, first_some, ok_unless, unless}
 use Rattle.p3_merkle_core.specs.declared.error.MerkleTreeError.{MerkleTreeError}
 use Rattle.p3_merkle_core.specs.declared.error.MerkleTreeError.TheVariants.{CapMismatch, IndexOutOfBounds}
-use Rattle.p3_merkle_core.specs.declared.error.MerkleTreeError.TheVariants.{MalformedPrunedProof, OutOfMemory}
+use Rattle.p3_merkle_core.specs.declared.error.MerkleTreeError.TheVariants.{MalformedPrunedProof}
 use Rattle.p3_merkle_core.specs.declared.error.PrunedProofError.TheVariants.{InconsistentDuplicateOpenings}
 use Rattle.p3_answers.proofs.AnswerFacts.{none_unless, paired_none, unless_none, verdict_ok}
+use Rattle.p3_merkle_core.proofs.Checks.Verdicts.{pruned_accepted}
 use Rattle.p3_merkle_core.proofs.Pruned.SlotFacts.{all_below}
 use Rattle.p3_merkle_core.proofs.Pruned.Unrefused.{size_none, unrefused as port_unrefused}
 use Rattle.p3_merkle_core.proofs.Shapes.GateFacts.{gate_lawful}
@@ -30,7 +30,7 @@ use Rattle.tlog.specs.Rfc9162.{Hash as HashFunction}
 use Rattle.tlog.specs.Verdicts.{inclusion_refusal}
 use Rattle.tlog_multiproof.specs.Entries.{AreIncluded, entries_opening, entries_refusal, entry_path, form_refusal}
 use Rattle.tlog_multiproof.specs.Entries.{is_one_leaf_each}
-use Rattle.tlog_multiproof.specs.Instance.{AreFilled, leaf_row, log_params, log_shape, root_cap}
+use Rattle.tlog_multiproof.specs.Instance.{AreFilled, leaf_row, log_functions, log_params, log_shape, root_cap}
 use Rattle.tlog_multiproof.specs.Inner.Meanings.{IsMeaning}
 use Rattle.tlog_multiproof.specs.declared.error.EntriesError.{EntriesError}
 use Rattle.tlog_multiproof.specs.declared.error.EntriesError.TheVariants.{TwoLeafHashes, RootMismatch}
@@ -46,6 +46,12 @@ use Rattle.tlog_multiproof.proofs.Shapes.{ancestor_of_two, lawful, one_column, t
 skip : {E : Type 0} (x y a : Option E) → x ≡ None → y ≡ a → option_or x y ≡ a
 skip None y a none is = is
 skip (Some x) y a none is = absurd cc
+
+-- where nothing is refused, an error says that memory ran out
+pub not_refused : {E : Type 0} {refusal : Option E} {e memory : E} → e ≢ memory →
+    (e ≡ memory) ⊎ (refusal ≡ Some e) → refusal ≡ None → ⊥
+not_refused other (inl is) none = other is
+not_refused other (inr is) none = absurd cc
 
 -- none answers, or one does
 found : {X E : Type 0} (h : X → Option E) (xs : List X) →
@@ -74,15 +80,6 @@ mapped y (Some x) = inr refl
 or_nothing : (b : Bool) → (b || false) ≡ false → b ≡ false
 or_nothing true e = e
 or_nothing false e = refl
-
--- the port's verdict is on what was handed to it
-pub verdict_is : {V : Type 0} (result : Result V MerkleTreeError) (row_eq digest_eq : Node → Node → Bool)
-    {c d : Params Node Node} {roots cap : List (List Node)} {lent shown : PrunedOpening Node Node} → c ≡ d →
-    roots ≡ cap → lent ≡ shown → IsVerdict (presented_pruned row_eq digest_eq c roots lent) result →
-    IsVerdict (presented_pruned row_eq digest_eq d cap shown) result
-verdict_is result row_eq digest_eq c_is roots_are lent_is verdict =
-    subst (λ (x : Presented Node Node). IsVerdict x result)
-    (λ i. presented_pruned row_eq digest_eq (c_is i) (roots_are i) (lent_is i)) verdict
 
 -- ---- the opening
 
@@ -172,7 +169,7 @@ module _ (hash : HashFunction) (size : ℕ) (indices : List ℕ) (leaves proof :
   no_form_refusal : form_refusal size indices (length leaves) (length proof) ≡ None
   no_form_refusal = form_to size indices (length leaves) (length proof) form
 
-  module _ (row_eq digest_eq : Node → Node → Bool) (dec : (x y : Node) → Decides (row_eq x y) (x ≡ y)) where
+  module _ (row_eq digest_eq : Node → Node → Bool) (dec : IsEquality row_eq) where
     -- two leaf hashes of one index are refused as two openings of it
     refused_twice : (HaveOneLeaf indices leaves → ⊥) → (slot : ℕ) × (pruned_refusal row_eq s (levels s) p
         ≡ Some (MalformedPrunedProof (InconsistentDuplicateOpenings slot)))
@@ -211,23 +208,33 @@ module _ (hash : HashFunction) (size : ℕ) (indices : List ℕ) (leaves proof :
               )
         ]
 
-    abbrev port : Presented Node Node
-    port = presented_pruned row_eq digest_eq c (root_cap root) p
+    -- why the opening is refused under the root
+    abbrev refusal : Option MerkleTreeError
+    refusal = pruned_refusal_under row_eq digest_eq c (root_cap root) p
 
-    pub ok_unrefused : {V : Type 0} (v : V) → IsVerdict port (Ok v) →
-        entries_refusal hash size indices leaves proof root ≡ None
-    ok_unrefused v w = (unrefused hash size indices leaves proof root).1
-        (form.small, each_included (w.ok_is_accepted refl))
+    pub restored_unrefused : AreIncluded hash size indices leaves proof root →
+        pruned_refusal row_eq s (levels s) p ≡ None
+    restored_unrefused is =
+        verdict_ok (pruned_refusal row_eq s (levels s) p)
+        (port_unrefused row_eq s (levels s) p dec (restorable is.one_leaf))
 
-    pub other_root : {V : Type 0} → IsVerdict {V = V} port (Err CapMismatch) →
-        entries_refusal hash size indices leaves proof root ≡ Some RootMismatch
-    other_root w =
-        let pairs = zip indices leaves in
-        let one = is_one_leaf_each pairs in
-        let paths = paths_refusal hash size indices leaves proof root in
-        elim w.answer [
-          | inl e ↦ absurd cc
-          | inr is ↦ elim (cases_Bool one) [
+    module _ (dec_digests : IsEquality digest_eq) where
+      pub unrefused_included : refusal ≡ None → AreIncluded hash size indices leaves proof root
+      unrefused_included none =
+          each_included ((pruned_accepted row_eq digest_eq (log_functions hash) s (levels s) (root_cap root) p dec
+          dec_digests two_is_arity).0 (ap (λ o. ok_unless o (tt {0})) none))
+
+      pub included_unrefused : AreIncluded hash size indices leaves proof root → refusal ≡ None
+      included_unrefused is =
+          verdict_ok refusal ((pruned_accepted row_eq digest_eq (log_functions hash) s (levels s) (root_cap root) p dec
+          dec_digests two_is_arity).1 (each_accepted is))
+
+      other_root : refusal ≡ Some CapMismatch →
+          entries_refusal hash size indices leaves proof root ≡ Some RootMismatch
+      other_root is =
+          let pairs = zip indices leaves in
+          let one = is_one_leaf_each pairs in
+          elim (cases_Bool one) [
             | inr f ↦
                 let twice = refused_twice (λ h. true≢false (sym (one_leaf_to indices leaves form.in_pairs h) ∙ f)) in
                 let no = sym (ap (λ o. option_or o (cap_refusal digest_eq c (root_cap root) p)) twice.1) ∙ is in
@@ -235,24 +242,22 @@ module _ (hash : HashFunction) (size : ℕ) (indices : List ℕ) (leaves proof :
             | inl t ↦ elim (mapped RootMismatch (first_of (λ (x : ℕ × List ℕ). inclusion_refusal hash x.0 size x.1
                 (entry_path hash size indices leaves proof x.0) root) pairs)) [
                   | inl none ↦
-                      let accepted = each_accepted (accepted_from hash size indices leaves proof root form t none) in
-                      elim (w.accepted_is_ok accepted) [ inl e ↦ absurd cc | inr e ↦ absurd cc ]
+                      let no = sym is ∙ included_unrefused
+                      (accepted_from hash size indices leaves proof root form t none) in
+                      absurd cc
                   | inr e ↦ skip (form_refusal size indices (length leaves) (length proof)) _ _ no_form_refusal
                       (skip (unless one TwoLeafHashes) _ _ (none_unless one TwoLeafHashes t)
                       (ap (λ o. option_or o None) e))
                 ]
           ]
-        ]
 
-    pub other_error : {V : Type 0} (e : MerkleTreeError) → e ≢ OutOfMemory → e ≢ CapMismatch →
-        IsVerdict {V = V} port (Err e) → entries_refusal hash size indices leaves proof root ≡ Some TwoLeafHashes
-    other_error e no_memory no_mismatch w =
-        let pairs = zip indices leaves in
-        let one = is_one_leaf_each pairs in
-        let paths = paths_refusal hash size indices leaves proof root in
-        elim w.answer [
-          | inl out ↦ absurd (no_memory out)
-          | inr is ↦ elim (cases_Bool one) [
+      other_error : (e : MerkleTreeError) → e ≢ CapMismatch → refusal ≡ Some e →
+          entries_refusal hash size indices leaves proof root ≡ Some TwoLeafHashes
+      other_error e no_mismatch is =
+          let pairs = zip indices leaves in
+          let one = is_one_leaf_each pairs in
+          let paths = paths_refusal hash size indices leaves proof root in
+          elim (cases_Bool one) [
             | inr f ↦ skip (form_refusal size indices (length leaves) (length proof)) _ _ no_form_refusal
                 (ap (λ b. option_or (unless b TwoLeafHashes) (first_some (paths ∷ []))) f)
             | inl t ↦
@@ -264,20 +269,25 @@ module _ (hash : HashFunction) (size : ℕ) (indices : List ℕ) (leaves proof :
                 none refl) ∙ is in
                 absurd (no_mismatch (unless_some _ CapMismatch e capped))
           ]
-        ]
 
-    -- what the port answers is answered of entries
-    pub meaning_kept : (verdict : Result (Unit {0}) MerkleTreeError) (result : Result (Unit {0}) EntriesError) →
-        IsVerdict port verdict → IsMeaning verdict result → Keeps hash size indices leaves proof root result
-    meaning_kept (Ok v) result w is =
-        rw is (keeps hash size indices leaves proof root (Ok v) (ok_unrefused v w))
-    meaning_kept (Err e) result w means = rw means.1 (keeps hash size indices leaves proof root (Err means.0)
-        (elim means.2 [
-          | inl memory ↦ inl memory.1
-          | inr rest ↦ elim rest [
-            | inl other ↦
-                let verdict = subst (λ (x : MerkleTreeError). IsVerdict {V = Unit {0}} port (Err x)) other.0 w in
-                inr (other_root verdict ∙ ap Some (sym other.1))
-            | inr two ↦ inr (other_error e two.0 two.1 w ∙ ap Some (sym two.2))
-          ]
-        ]))
+      -- what the check answers is answered of entries
+      pub meaning_kept : (verdict : Result (Unit {0}) MerkleTreeError) (result : Result (Unit {0}) EntriesError) →
+          AnswersUnlessMemory verdict refusal → IsMeaning verdict result →
+          Keeps hash size indices leaves proof root result
+      meaning_kept (Ok v) result none is =
+          rw is (keeps hash size indices leaves proof root (Ok v)
+          ((unrefused hash size indices leaves proof root).1 (form.small, unrefused_included none)))
+      meaning_kept (Err e) result why means = rw means.1 (keeps hash size indices leaves proof root (Err means.0)
+          (elim means.2 [
+            | inl memory ↦ inl memory.1
+            | inr rest ↦ elim why [
+              | inl out ↦ elim rest [
+                | inl other ↦ absurd cc
+                | inr two ↦ absurd (two.0 out)
+              ]
+              | inr is ↦ elim rest [
+                | inl other ↦ inr (other_root (is ∙ ap Some other.0) ∙ ap Some (sym other.1))
+                | inr two ↦ inr (other_error e two.1 is ∙ ap Some (sym two.2))
+              ]
+            ]
+          ]))

@@ -1,16 +1,20 @@
 //! What an accepted proof of several entries shows of them, or else a collision of the hash function.
-ghost use Rattle.std.specs.Prelude.{◌≡◌, ◌↔◌, ◌<◌, ℕ, [], IfOk, IfSome, IsNone, length, slice_index, slice_index_or};
+ghost use Rattle.std.specs.Prelude.{◌≡◌, ◌↔◌, ◌<◌, ◌≤◌, ℕ, [], IfOk, IfSome, IsNone, length, slice_index};
+ghost use Rattle.std.specs.Prelude.{slice_index_or};
 ghost use Rattle.tlog.specs.Collisions.{IsCollision, entries_of};
 ghost use Rattle.tlog.specs.Fixed.{RootFixesLeaf};
+ghost use Rattle.tlog.specs.Verdicts.{size_limit};
+ghost use Rattle.tlog_multiproof.specs.Entries.{AreIncluded};
 ghost use Rattle.tlog_multiproof.specs.Fixed.{RootFixesLeaves};
-ghost use Rattle.tlog_multiproof.specs.Inner.Paths.{siblings_of};
+ghost use Rattle.tlog_multiproof.specs.Inner.Paths.{paths_of, siblings_of};
 ghost use Rattle.tlog_multiproof.specs.Instance.{present as present_in};
 
 use crate::error::EntriesError;
 use crate::opening::opening_of;
-use crate::tree::{Node, dimensions_of, log_scheme};
-use crate::verify::verify;
+use crate::tree::{LogTree, Node};
+use p3_merkle_core::error::MerkleTreeError;
 use p3_merkle_core::pruning::MerkleAuthPath;
+use p3_merkle_verifier::openings::PrunedOpeningRef;
 use std::alloc::{AllocError, Global};
 use tlog::collision::{Collision, root};
 use tlog::{LogHash, leaf_collision};
@@ -33,27 +37,47 @@ pub fn entries_collision<H: LogHash<32>>(
         ↔ RootFixesLeaves H.hash (entries_of entries.now) indices.now leaves.now proof.now) }
     ensures collision { IfOk result (λ found. IfSome found (IsCollision H.hash)) }
 {
-    let size = entries.len();
     let root = root::<H, 32>(entries);
-    match verify::<H>(alloc, size, indices, leaves, proof, &root) {
-        Ok(()) => {}
-        Err(EntriesError::OutOfMemory) => return Err(AllocError),
-        Err(_) => return Ok(None),
-    }
-    let Ok(opening) = opening_of(alloc, size, indices, leaves, proof) else {
-        return Err(AllocError);
-    };
-    // An accepted proof restores, so that only memory is left to fail.
-    let Ok(paths) = log_scheme::<H>().restore_and_recompute_paths(
-        alloc,
-        &dimensions_of(size),
-        indices,
-        &opening.opened_values,
-        &opening.pruned_proof,
-    ) else {
-        return Err(AllocError);
+    let accepted = accepted_paths::<H>(alloc, entries.len(), indices, leaves, proof, &root)?;
+    let Some(paths) = accepted else {
+        return Ok(None);
     };
     path_collision::<H>(alloc, entries, indices, leaves, &paths)
+}
+
+/// The path of each leaf hash, as the leaf hashes and the proof give it, if they are accepted under the root.
+fn accepted_paths<H: LogHash<32>>(
+    alloc: Global,
+    size: usize,
+    indices: &[usize],
+    leaves: &[[u8; 32]],
+    proof: &[[u8; 32]],
+    root: &[u8; 32],
+) -> Result<Option<Vec<MerkleAuthPath<Node, 1>>>, AllocError>
+    ensures refused { IfOk result (λ found. IsNone found → size ≤ size_limit →
+        AreIncluded H.hash size indices.now leaves.now proof.now root.now → ⊥) }
+    ensures accepted { IfOk result (λ found. IfSome found (λ paths. (size ≤ size_limit)
+        × AreIncluded H.hash size indices.now leaves.now proof.now root.now
+        × (siblings_of paths.items ≡ paths_of H.hash size indices.now leaves.now proof.now))) }
+{
+    let opening = match opening_of(alloc, size, indices, leaves, proof) {
+        Ok(opening) => opening,
+        Err(EntriesError::OutOfMemory) => return Err(AllocError),
+        Err(_) => return Ok(None),
+    };
+    let tree = LogTree::<H>::new(size);
+    let checker = tree.checker();
+    let opening = PrunedOpeningRef::new(indices, &opening.opened_values, &opening.pruned_proof);
+    let paths = match checker.restored_paths(alloc, opening) {
+        Ok(paths) => paths,
+        Err(MerkleTreeError::OutOfMemory) => return Err(AllocError),
+        Err(_) => return Ok(None),
+    };
+    match checker.check_pruned_opening(alloc, &[[Node::Hash(*root)]], opening) {
+        Ok(()) => Ok(Some(paths)),
+        Err(MerkleTreeError::OutOfMemory) => Err(AllocError),
+        Err(_) => Ok(None),
+    }
 }
 
 /// A collision, if one of some leaf hashes is accepted with its path under the root of the entries, and it is not that

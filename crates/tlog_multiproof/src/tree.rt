@@ -1,13 +1,14 @@
 //! The nodes of a log's tree, and its hash and compression (RFC 9162, 2.1.1).
 ghost use Rattle.std.specs.Prelude.{◌≡◌, ℕ, ◌<◌, ◌∷◌, [], map, refl};
 ghost use Rattle.std.proofs.Common.{rules};
-ghost use Rattle.p3_merkle_tree.specs.Schemes.{params_of};
 ghost use Rattle.p3_support.specs.Lists.{lane_of};
+ghost use Rattle.p3_merkle_verifier.specs.Inner.Checks.{params_in};
 ghost use Rattle.tlog_multiproof.specs.Instance.{log_dimensions, log_params, log_shape};
 ghost use Rattle.tlog_multiproof.specs.Nodes.{last_word, parent_digest, parent};
 ghost use Rattle.tlog_multiproof.specs.declared.tree.Node.TheVariants.{Absent};
 
-use p3_merkle_tree::mmcs::MerkleTreeMmcs;
+use p3_merkle_core::schedule::schedule_of;
+use p3_merkle_verifier::checker::Checker;
 use p3_support::compress::PseudoCompressionFunction;
 use p3_support::hasher::CryptographicHasher;
 use p3_support::matrix::Dimensions;
@@ -132,20 +133,6 @@ impl<H: LogHash<32>> PseudoCompressionFunction<Node, 2, 1> for NodeHashes<H> {
     }
 }
 
-/// The scheme of a log's tree, whose cap is the root.
-pub(crate) fn log_scheme<H: LogHash<32>>() -> MerkleTreeMmcs<
-    Node,
-    Node,
-    LeafHashes,
-    NodeHashes<H>,
-    2,
-    1,
->
-    ensures { (size : ℕ) → params_of result (log_shape size) ≡ log_params H.hash size }
-{
-    MerkleTreeMmcs::new(LeafHashes, NodeHashes { hash: PhantomData }, 0)
-}
-
 /// The dimensions of the column of a log's leaf hashes.
 pub(crate) fn dimensions_of(size: usize) -> [Dimensions; 1]
     ensures { result ≡ log_dimensions size }
@@ -154,4 +141,43 @@ pub(crate) fn dimensions_of(size: usize) -> [Dimensions; 1]
         width: 1,
         height: size,
     }]
+}
+
+/// The tree of a log under a hash function, as openings of it are checked.
+#[derive(Drop)]
+pub(crate) struct LogTree<H> {
+    hash: LeafHashes,
+    compress: NodeHashes<H>,
+    dimensions: [Dimensions; 1],
+}
+
+impl<H: LogHash<32>> LogTree<H> {
+    /// The tree of a log of `size` entries.
+    pub(crate) fn new(size: usize) -> LogTree<H>
+        ensures { result.dimensions ≡ log_dimensions size }
+    {
+        LogTree {
+            hash: LeafHashes,
+            compress: NodeHashes { hash: PhantomData },
+            dimensions: dimensions_of(size),
+        }
+    }
+
+    /// The checker of openings of the tree, whose cap is the root.
+    pub(crate) fn checker(
+        &self,
+    ) -> Checker<'_, Node, Node, LeafHashes, NodeHashes<H>, [[Node; 1]; 2], 2, 1>
+        ensures { (size : ℕ) → self.now.dimensions ≡ log_dimensions size →
+            params_in result ≡ log_params H.hash size }
+    {
+        let schedule = schedule_of(&self.dimensions, 2);
+        let cap_layer = schedule.num_levels;
+        Checker {
+            hash: &self.hash,
+            compress: &self.compress,
+            schedule,
+            cap_layer,
+            item: PhantomData,
+        }
+    }
 }

@@ -11,9 +11,9 @@ ghost use Rattle.tlog_multiproof.specs.declared.error.EntriesError.TheVariants.{
 
 use crate::error::EntriesError;
 use crate::opening::opening_of;
-use crate::tree::{Node, dimensions_of, log_scheme};
+use crate::tree::{LogTree, Node};
 use p3_merkle_core::error::MerkleTreeError;
-use p3_support::opening::MerkleCap;
+use p3_merkle_verifier::openings::PrunedOpeningRef;
 use sha2::Sha256;
 use std::alloc::Global;
 use tlog::LogHash;
@@ -80,15 +80,14 @@ pub(crate) fn verify<H: LogHash<32>>(
         (entries_refusal H.hash size indices.now leaves.now proof.now root.now) }
 {
     let opening = opening_of(alloc, size, indices, leaves, proof)?;
-    let cap = MerkleCap::new(vec![in alloc; [Node::Hash(*root)]]?);
-    from_opening_verdict(log_scheme::<H>().verify_batch_pruned(
-        alloc,
-        &cap,
-        &dimensions_of(size),
-        indices,
-        &opening.opened_values,
-        &opening.pruned_proof,
-    ))
+    let tree = LogTree::<H>::new(size);
+    from_opening_verdict(
+        tree.checker().check_pruned_opening(
+            alloc,
+            &[[Node::Hash(*root)]],
+            PrunedOpeningRef::new(indices, &opening.opened_values, &opening.pruned_proof),
+        ),
+    )
 }
 
 /// The verdict on entries whose form is right, by that on their opening.

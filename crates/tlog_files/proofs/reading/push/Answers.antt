@@ -81,4 +81,4 @@ returns-in_err-tree-clause-refused c =
     let all : 2 ^ 62 < length (now.ended ++ step.more) = omega (arith, far, count, size, length-append {A = List ℕ}) in
     rw (← begun.0, ← begun.1, ← same.0, ← same.1, ← moved)
     (many_at wanted t ((front ++ taken) ++ step.read) (rest ++ more) (now.ended ++ step.more) step.at all) in
-    rw p.1 (refused_by p.0 c.in_err-tree.field-0.0 _ Many p.2 c.in_err-tree.ensures.refused many)
+    rw (p.1, p.2) (refused_by c.in_err-tree.field-0.0 _ Many c.in_err-tree.ensures.refused many)

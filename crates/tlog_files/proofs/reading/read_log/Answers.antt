@@ -107,11 +107,12 @@ returns-in_err-tree-3-clause-refused g c =
     (c.in_ok-hashes.ensures.all wanted front rest b.ended b.at far)
     (subst (λ (xs : List (List ℕ)). nat_lt size_limit (tree.frontier.size + length xs) ≡ true) c.deref-2.ensures.value
     test) in
-    rw p.1 (refused_either p.0 s.framing c.args.framing c.args.limit s.limit (front ++ rest) _
+    let e = c.in_err-tree-3.field-0.0 in
+    rw (p.1, p.2) (refused_either e s.framing c.args.framing c.args.limit s.limit (front ++ rest) _
     (c.in_ok-tree-2.ensures.unchanged.0 ∙ c.new-splitter.ensures.unchanged.0)
     (c.in_ok-tree-2.ensures.unchanged.1 ∙ c.new-splitter.ensures.unchanged.1 ∙ c.unwrap_or.ensures) holds
-    (refused_far p.0 s.framing s.limit (front ++ rest) (refused_by p.0 c.in_err-tree-3.field-0.0 _
-    (AreTooMany s.framing s.limit (front ++ rest)) p.2 c.in_err-tree-3.ensures.refused many)))
+    (refused_far e s.framing s.limit (front ++ rest) (refused_by e _
+    (AreTooMany s.framing s.limit (front ++ rest)) c.in_err-tree-3.ensures.refused many)))
 
 pub returns-in_err-tree-2-clause-refused : goal.returns-in_err-tree-2-clause-refused
 returns-in_err-tree-2-clause-refused g c =
