@@ -2,13 +2,14 @@
 
 //! What an accepted proof of several entries shows of them, or else a collision of the hash function.
 
+use crate::erased::p3_merkle_core::error::MerkleTreeError;
 use crate::erased::p3_merkle_core::pruning::MerkleAuthPath;
+use crate::erased::p3_merkle_verifier::openings::PrunedOpeningRef;
 use crate::erased::tlog::collision::{Collision, root};
 use crate::erased::tlog::{LogHash, leaf_collision};
 use crate::erased::tlog_multiproof::error::EntriesError;
 use crate::erased::tlog_multiproof::opening::opening_of;
-use crate::erased::tlog_multiproof::tree::{Node, dimensions_of, log_scheme};
-use crate::erased::tlog_multiproof::verify::verify;
+use crate::erased::tlog_multiproof::tree::{LogTree, Node};
 use crate::fallible::{AllocError, VecExt};
 use alloc::vec::Vec;
 
@@ -25,26 +26,40 @@ pub fn entries_collision<H: LogHash<32>>(
     leaves: &[[u8; 32]],
     proof: &[[u8; 32]],
 ) -> Result<Option<Collision>, AllocError> {
-    let size = entries.len();
     let root = root::<H, 32>(entries);
-    match verify::<H>(size, indices, leaves, proof, &root) {
-        Ok(()) => {}
-        Err(EntriesError::OutOfMemory) => return Err(AllocError),
-        Err(_) => return Ok(None),
-    }
-    let Ok(opening) = opening_of(size, indices, leaves, proof) else {
-        return Err(AllocError);
-    };
-    // An accepted proof restores, so that only memory is left to fail.
-    let Ok(paths) = log_scheme::<H>().restore_and_recompute_paths(
-        &dimensions_of(size),
-        indices,
-        &opening.opened_values,
-        &opening.pruned_proof,
-    ) else {
-        return Err(AllocError);
+    let accepted = accepted_paths::<H>(entries.len(), indices, leaves, proof, &root)?;
+    let Some(paths) = accepted else {
+        return Ok(None);
     };
     path_collision::<H>(entries, indices, leaves, &paths)
+}
+
+/// The path of each leaf hash, as the leaf hashes and the proof give it, if they are accepted under the root.
+fn accepted_paths<H: LogHash<32>>(
+    size: usize,
+    indices: &[usize],
+    leaves: &[[u8; 32]],
+    proof: &[[u8; 32]],
+    root: &[u8; 32],
+) -> Result<Option<Vec<MerkleAuthPath<Node, 1>>>, AllocError> {
+    let opening = match opening_of(size, indices, leaves, proof) {
+        Ok(opening) => opening,
+        Err(EntriesError::OutOfMemory) => return Err(AllocError),
+        Err(_) => return Ok(None),
+    };
+    let tree = LogTree::<H>::new(size);
+    let checker = tree.checker();
+    let opening = PrunedOpeningRef::new(indices, &opening.opened_values, &opening.pruned_proof);
+    let paths = match checker.restored_paths(opening) {
+        Ok(paths) => paths,
+        Err(MerkleTreeError::OutOfMemory) => return Err(AllocError),
+        Err(_) => return Ok(None),
+    };
+    match checker.check_pruned_opening(&[[Node::Hash(*root)]], opening) {
+        Ok(()) => Ok(Some(paths)),
+        Err(MerkleTreeError::OutOfMemory) => Err(AllocError),
+        Err(_) => Ok(None),
+    }
 }
 
 /// A collision, if one of some leaf hashes is accepted with its path under the root of the entries, and it is not that

@@ -2,7 +2,8 @@
 
 //! The nodes of a log's tree, and its hash and compression (RFC 9162, 2.1.1).
 
-use crate::erased::p3_merkle_tree::mmcs::MerkleTreeMmcs;
+use crate::erased::p3_merkle_core::schedule::schedule_of;
+use crate::erased::p3_merkle_verifier::checker::Checker;
 use crate::erased::p3_support::compress::PseudoCompressionFunction;
 use crate::erased::p3_support::hasher::CryptographicHasher;
 use crate::erased::p3_support::matrix::Dimensions;
@@ -94,12 +95,28 @@ impl<H: LogHash<32>> PseudoCompressionFunction<Node, 2, 1> for NodeHashes<H> {
     }
 }
 
-/// The scheme of a log's tree, whose cap is the root.
-pub(crate) fn log_scheme<H: LogHash<32>>() -> MerkleTreeMmcs<Node, Node, LeafHashes, NodeHashes<H>, 2, 1> {
-    MerkleTreeMmcs::new(LeafHashes, NodeHashes { hash: PhantomData }, 0)
-}
-
 /// The dimensions of the column of a log's leaf hashes.
 pub(crate) fn dimensions_of(size: usize) -> [Dimensions; 1] {
     [Dimensions { width: 1, height: size }]
+}
+
+/// The tree of a log under a hash function, as openings of it are checked.
+pub(crate) struct LogTree<H> {
+    hash: LeafHashes,
+    compress: NodeHashes<H>,
+    dimensions: [Dimensions; 1],
+}
+
+impl<H: LogHash<32>> LogTree<H> {
+    /// The tree of a log of `size` entries.
+    pub(crate) fn new(size: usize) -> LogTree<H> {
+        LogTree { hash: LeafHashes, compress: NodeHashes { hash: PhantomData }, dimensions: dimensions_of(size) }
+    }
+
+    /// The checker of openings of the tree, whose cap is the root.
+    pub(crate) fn checker(&self) -> Checker<'_, Node, Node, LeafHashes, NodeHashes<H>, [[Node; 1]; 2], 2, 1> {
+        let schedule = schedule_of(&self.dimensions, 2);
+        let cap_layer = schedule.num_levels;
+        Checker { hash: &self.hash, compress: &self.compress, schedule, cap_layer, item: PhantomData }
+    }
 }

@@ -3,12 +3,11 @@
 //! The verifier of several entries by one proof.
 
 use crate::erased::p3_merkle_core::error::MerkleTreeError;
-use crate::erased::p3_support::opening::MerkleCap;
+use crate::erased::p3_merkle_verifier::openings::PrunedOpeningRef;
 use crate::erased::tlog::LogHash;
 use crate::erased::tlog_multiproof::error::EntriesError;
 use crate::erased::tlog_multiproof::opening::opening_of;
-use crate::erased::tlog_multiproof::tree::{Node, dimensions_of, log_scheme};
-use crate::fallible::try_list;
+use crate::erased::tlog_multiproof::tree::{LogTree, Node};
 use crate::sha256::Sha256;
 
 /// Checks that one proof shows that the log of `size` entries under `root` has these leaf hashes as those of the
@@ -53,13 +52,10 @@ pub(crate) fn verify<H: LogHash<32>>(
     root: &[u8; 32],
 ) -> Result<(), EntriesError> {
     let opening = opening_of(size, indices, leaves, proof)?;
-    let cap = MerkleCap::new(try_list([[Node::Hash(*root)]])?);
-    from_opening_verdict(log_scheme::<H>().verify_batch_pruned(
-        &cap,
-        &dimensions_of(size),
-        indices,
-        &opening.opened_values,
-        &opening.pruned_proof,
+    let tree = LogTree::<H>::new(size);
+    from_opening_verdict(tree.checker().check_pruned_opening(
+        &[[Node::Hash(*root)]],
+        PrunedOpeningRef::new(indices, &opening.opened_values, &opening.pruned_proof),
     ))
 }
 
