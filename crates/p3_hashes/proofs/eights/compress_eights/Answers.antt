@@ -1,6 +1,7 @@
 use Rattle.std.proofs.Common.{arith, ◌*◌, ◌∙◌, ap, refl}
 use Rattle.p3_hashes.specs.Fold.{fold_compress}
-use Rattle.sha256_eights.proofs.Written.{lanes_written, more_written}
+use Rattle.sha256_eights.proofs.Written.{more_written}
+use Rattle.p3_hashes.proofs.Written.{lanes_written}
 use Rattle.p3_hashes.proofs.eights.compress_eights.Goals as goal
 
 pub loop-eight-preserved : goal.loop-eight-preserved

@@ -1,5 +1,6 @@
 use Rattle.std.proofs.Common.{arith, ◌*◌, ◌∙◌, refl}
-use Rattle.sha256_eights.proofs.Written.{lanes_written, more_written}
+use Rattle.sha256_eights.proofs.Written.{more_written}
+use Rattle.p3_hashes.proofs.Written.{lanes_written}
 use Rattle.p3_hashes.proofs.eights.hash_eights.Goals as goal
 
 pub loop-group-preserved : goal.loop-group-preserved

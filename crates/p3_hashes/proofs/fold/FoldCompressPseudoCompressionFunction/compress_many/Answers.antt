@@ -1,6 +1,6 @@
 use Rattle.std.proofs.Common.{[]}
 use Rattle.p3_hashes.specs.Fold.{fold_compress}
-use Rattle.sha256_eights.proofs.Written.{map_written}
+use Rattle.p3_hashes.proofs.Written.{map_written}
 use Rattle.p3_hashes.proofs.fold.FoldCompressPseudoCompressionFunction.compress_many.Goals as goal
 
 pub returns : goal.returns
