@@ -1,6 +1,6 @@
 // Made from crates/p3_merkle_hashing/src/rows.rt by tools/erase.
 
-//! How the rows of one layer's matrices are hashed: one row a call, one row in each lane of a call, or many rows a call.
+//! How the rows of one layer's matrices are hashed: one row a call, one in each lane of a call, or many a call.
 
 use crate::erased::p3_merkle_hashing::calls::{messages_per_call, packed_block_count};
 use crate::erased::p3_support::hasher::CryptographicHasher;
@@ -24,52 +24,19 @@ pub(crate) struct LayerRows<'a, P: PackedValue, PW, H, M: Matrix<P::Value>, X> {
     pub item: PhantomData<(P, PW, X)>,
 }
 
-/// The words of `count` rows from `first` on, one row after another, where a row is the row of each matrix, in order.
-/// They are borrowed from the matrix if there is only one and it stores them in one piece, else copied into `staged`.
-/// All matrices have this height, a row has `len` words in all, and `first + count` is at most the height.
-fn contiguous_rows<'b, T: Copy, M: Matrix<T>>(
-    staged: &'b mut Vec<T>,
-    matrices: &'b [M],
-    height: usize,
-    len: usize,
-    first: usize,
-    count: usize,
-) -> Result<&'b [T], AllocError> {
-    let words = count.checked_mul(len).ok_or(AllocError)?;
-    if let [matrix] = matrices {
-        let piece = matrix.piece(first, 0);
-        if words <= piece.len() {
-            return Ok(&piece[..words]);
-        }
-    }
-    staged.clear();
-    staged.try_room(words)?;
-    for j in 0..count {
-        for matrix in matrices {
-            matrix.append_row(first + j, staged)?;
-        }
-    }
-    Ok(staged.as_slice())
-}
-
-/// Both slices, with one lifetime, as an array of them needs.
-fn both<'b, T>(first: &'b [T], second: &'b [T]) -> [&'b [T]; 2] {
-    [first, second]
-}
-
 impl<'a, P: PackedValue, PW: PackedValue, H: CryptographicHasher<P, PW, D>, M: Matrix<P::Value>, const D: usize>
     LayerRows<'a, P, PW, H, M, [PW::Value; D]>
 {
-    /// Fills slot `j` with the digest of row `first + j`, for each of these rows that the layer has. All slots must have
-    /// default digests before; those without a row keep them. Both packings must have equally many lanes. `staged` is a
-    /// buffer for rows: a caller that reuses it for all layers seldom allocates.
+    /// Fills slot `j` with the digest of row `first + j`, for each of these rows that the layer has. All slots must
+    /// have default digests before; those without a row keep them. Both packings must have equally many lanes. `staged`
+    /// is a buffer for rows: a caller that reuses it for all layers seldom allocates.
     ///
-    /// The constants choose how:
+    /// Constants choose how:
     ///
-    /// - If the hasher's `LANES` are above 1, [`fill_batched`](Self::fill_batched) hashes many rows a call.
-    /// - Else, if `WIDTH` is above 1, the first rows are hashed one in each lane, as far as they fill all lanes.
-    /// - Where neither is, or too few rows are left to fill all lanes, `fill_batched` hands the hasher rows that it
-    ///   takes one by one.
+    /// - If the hasher has `LANES` above 1, it takes many rows a call ([`fill_batched`](Self::fill_batched)).
+    /// - Else it takes one row in each lane of a call ([`packed_digest`](Self::packed_digest)), as far as the rows fill
+    ///   all lanes. With a `WIDTH` of 1 this is none.
+    /// - Rows that are left over go to `fill_batched`, where a hasher with `LANES` 1 takes one after another.
     ///
     /// # Errors
     ///
@@ -93,8 +60,9 @@ impl<'a, P: PackedValue, PW: PackedValue, H: CryptographicHasher<P, PW, D>, M: M
         self.fill_batched(staged, first + done, &mut digests[done..])
     }
 
-    /// The digest of a row, which has `len` words and is below the height. One that a lone matrix stores in two pieces
-    /// is hashed where it lies, others as [`contiguous_rows`] gives them. `staged` is a buffer for a row.
+    /// The digest of one row, by a call for it alone. The row has `len` words, and is below the height. One that a lone
+    /// matrix stores in two pieces is hashed where it lies, others as [`contiguous_rows`] gives them. `staged` is a
+    /// buffer for a row.
     fn row_digest(&self, staged: &mut Vec<P::Value>, len: usize, row: usize) -> Result<[PW::Value; D], AllocError> {
         if let [matrix] = self.matrices {
             let left = matrix.piece(row, 0);
@@ -111,8 +79,8 @@ impl<'a, P: PackedValue, PW: PackedValue, H: CryptographicHasher<P, PW, D>, M: M
         Ok(self.hash.hash_slice(words))
     }
 
-    /// The digests of `P::WIDTH` rows from `row` on: lane `k` is that of row `row + k`, for each lane that both
-    /// packings have. `row + P::WIDTH` must be at most the height.
+    /// The digests of `P::WIDTH` rows from `row` on, by one call: lane `k` is that of row `row + k`, for each lane that
+    /// both packings have. `row + P::WIDTH` must be at most the height.
     pub(crate) fn packed_digest(&self, row: usize) -> [PW; D] {
         // The iterator over one matrix doesn't look for a next matrix at each column.
         if let [matrix] = self.matrices {
@@ -121,8 +89,9 @@ impl<'a, P: PackedValue, PW: PackedValue, H: CryptographicHasher<P, PW, D>, M: M
         self.hash.hash_packed(packed_rows_of::<_, P, _>(self.matrices, row))
     }
 
-    /// Writes the digest of row `first + j` into each slot `j`, at most as many rows per call as [`messages_per_call`]
-    /// says. There must be at most as many slots as rows from `first` on. `staged` is a buffer for rows.
+    /// Fills each slot `j` with the digest of row `first + j`, many rows a call: at most as many as
+    /// [`messages_per_call`] says. There must be at most as many slots as rows from `first` on. `staged` is a buffer
+    /// for rows.
     ///
     /// # Errors
     ///
@@ -164,4 +133,37 @@ impl<'a, P: PackedValue, PW: PackedValue, H: CryptographicHasher<P, PW, D>, M: M
         }
         Ok(())
     }
+}
+
+/// The words of `count` rows from `first` on, one row after another, where a row is the row of each matrix, in order.
+/// They are borrowed from the matrix if there is only one and it stores them in one piece, else copied into `staged`.
+/// All matrices have this height, a row has `len` words in all, and `first + count` is at most the height.
+fn contiguous_rows<'b, T: Copy, M: Matrix<T>>(
+    staged: &'b mut Vec<T>,
+    matrices: &'b [M],
+    height: usize,
+    len: usize,
+    first: usize,
+    count: usize,
+) -> Result<&'b [T], AllocError> {
+    let words = count.checked_mul(len).ok_or(AllocError)?;
+    if let [matrix] = matrices {
+        let piece = matrix.piece(first, 0);
+        if words <= piece.len() {
+            return Ok(&piece[..words]);
+        }
+    }
+    staged.clear();
+    staged.try_room(words)?;
+    for j in 0..count {
+        for matrix in matrices {
+            matrix.append_row(first + j, staged)?;
+        }
+    }
+    Ok(staged.as_slice())
+}
+
+/// Both slices, with one lifetime, as an array of them needs.
+fn both<'b, T>(first: &'b [T], second: &'b [T]) -> [&'b [T]; 2] {
+    [first, second]
 }

@@ -98,15 +98,16 @@ impl<
         compress_pairs_packed::<PW, C, N, D>(self.compress, folded, rows)
     }
 
-    /// Fills `slots` with the layer's nodes. All slots must have default digests before; those past the nodes keep them.
+    /// Fills `slots` with the layer's nodes. All slots must have default digests before; those past the nodes keep
+    /// them.
     ///
-    /// The constants of the functions that this layer calls choose how: the compression, and where matrices belong to
-    /// the layer, the hasher of their rows.
+    /// Constants choose how:
     ///
-    /// - If the `LANES` of each are above 1, many nodes are compressed a call, and many rows hashed.
-    /// - Else, if `WIDTH` is above 1, the first nodes are made one in each lane, as far as they fill all lanes.
-    /// - Where neither is, or too few nodes are left to fill all lanes, the functions take node after node and row after
-    ///   row.
+    /// - If the functions that this layer calls have `LANES` above 1, all nodes are made many a call. These functions
+    ///   are the compression, and the hasher if matrices belong to the layer.
+    /// - Else the first nodes are made one in each lane of a call ([`packed_digest`](Self::packed_digest)), as far as
+    ///   they, and the rows of these matrices, fill all lanes. With a `WIDTH` of 1 this is none.
+    /// - Nodes that are left over are made many a call, where a function with `LANES` 1 takes one after another.
     pub(crate) fn fill(
         &self,
         buffers: &mut Buffers<P::Value, [PW::Value; D], [[PW::Value; D]; N]>,
