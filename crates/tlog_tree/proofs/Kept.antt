@@ -173,7 +173,8 @@ updated_step hash layer size L X w long =
       | inl (t, h) ↦ elim (eqb_tells w.id.layer layer) [
         | inl (e, same) ↦
             let stays : (kept_in layer size X w).id.layer ≡ w.id.layer = layer_stays _ _ w in
-            let g : nat_le (layer + 1) (kept_in layer size X w).id.layer ≡ false = rw stays (grind (arith, nat_tests)) in
+            let g : nat_le (layer + 1) (kept_in layer size X w).id.layer ≡ false =
+            rw stays (grind (arith, nat_tests)) in
             step_here hash layer size L X w long same
             ∙ sym (updated_away hash (layer + 1) (size / 2) (parents_of hash M) (kept_in layer size X w) g)
         | inr (o, differ) ↦
@@ -305,7 +306,8 @@ values_grow hash L X ws all =
 pub none_has_value : (hash : Hash) (w : WantedNode) → HasValue hash [] w
 none_has_value hash w = λ h.
     let pos = pow_pos w.id.layer in
-    let end : (w.id.slot + 1) * 2 ^ w.id.layer ≡ w.id.slot * 2 ^ w.id.layer + 2 ^ w.id.layer = omega arith in absurd (omega arith)
+    let end : (w.id.slot + 1) * 2 ^ w.id.layer ≡ w.id.slot * 2 ^ w.id.layer + 2 ^ w.id.layer = omega arith in
+    absurd (omega arith)
 
 -- ---- the value of a node, by how many nodes of its layer have all their leaves
 
@@ -341,7 +343,8 @@ value_of_rest hash L node whole is_whole same =
       | inr (f, h) ↦
           let t : nat_lt (node.slot * m) (length L) ≡ true = grind (arith, nat_tests) in
           rw (at_whole, t) (some_rest hash (drop (node.slot * m) L) (omega arith)
-          ∙ ap (λ (M : List (List ℕ)). Some (leaves_root hash M)) (sym (take_all m (drop (node.slot * m) L) (omega arith))))
+          ∙ ap (λ (M : List (List ℕ)). Some (leaves_root hash M))
+          (sym (take_all m (drop (node.slot * m) L) (omega arith))))
     ]
 
 pub value_of_none : (hash : Hash) (L : List (List ℕ)) (node : NodeId) (whole : ℕ) → whole ≡ length L / 2 ^ node.layer →

@@ -18,8 +18,8 @@ indexed_of node = (node.index, node.id)
 abbrev pub indexed : List NodeId → List (ℕ × NodeId)
 indexed nodes = map (λ k. (k, slice_index_or nodes k (id_of 0 0))) (range_with_len 0 (length nodes))
 
--- the tree of these leaf hashes, and these nodes, in the order of their ends, with the values of those whose leaves have
--- all come
+-- the tree of these leaf hashes, and these nodes, in the order of their ends, with the values of those whose leaves
+-- have all come
 pub record IsBuilderOf (leaves : List (List ℕ)) (nodes : List NodeId) (builder : TreeBuilder) : Type 0 where
   pub frontier : IsFrontierOf leaves builder.frontier
   pub at : IsPermutation (indexed nodes) (map indexed_of builder.wanted.items)

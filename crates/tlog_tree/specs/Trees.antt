@@ -20,7 +20,7 @@ whole_within (suc depth) hash (d ∷ rest) =
 abbrev pub whole_nodes : Hash → List (List ℕ) → List (List ℕ)
 whole_nodes hash leaves = whole_within (length leaves) hash leaves
 
--- ---- nodes by their layers and slots: layer 0 has the leaf hashes, and each node 2^layer leaves, from slot · 2^layer on
+-- ---- nodes by layer and slot: layer 0 has the leaf hashes, and each node 2^layer leaves, from slot · 2^layer on
 
 -- the node of this layer and slot
 abbrev pub id_of : ℕ → ℕ → NodeId
@@ -33,7 +33,8 @@ node_at hash leaves layer slot = leaves_root hash (take (2 ^ layer) (drop (slot 
 -- the value of a node, if it has leaves. One that the end cuts off has the value that is passed on.
 abbrev pub value_at : Hash → List (List ℕ) → NodeId → Option (List ℕ)
 value_at hash leaves node =
-    if nat_lt (node.slot * 2 ^ node.layer) (length leaves) then Some (node_at hash leaves node.layer node.slot) else None
+    if nat_lt (node.slot * 2 ^ node.layer) (length leaves) then Some (node_at hash leaves node.layer node.slot)
+    else None
 
 -- the values of nodes
 abbrev pub values_at : Hash → List (List ℕ) → List NodeId → List (Option (List ℕ))

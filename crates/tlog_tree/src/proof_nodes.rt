@@ -25,8 +25,8 @@ pub fn inclusion_nodes(alloc: Global, index: usize, size: usize) -> Result<Vec<N
     Ok(nodes)
 }
 
-/// The nodes whose values are the proof of consistency from `old_size` to `new_size` entries, in the order of the proof
-/// (RFC 9162, 2.1.4.1): nodes of the new tree, as a [`TreeBuilder`](crate::TreeBuilder) takes them. The old size must be
+/// The nodes of the new tree whose values are the proof of consistency from `old_size` to `new_size` entries, in the
+/// order of the proof (RFC 9162, 2.1.4.1), as a [`TreeBuilder`](crate::TreeBuilder) takes them. The old size must be
 /// above 0, and below the new one.
 ///
 /// # Errors
