@@ -1,90 +1,77 @@
 -- Each turn is one layer.
-use Rattle.std.proofs.Common.{◌≡◌, ◌<◌, ◌∙◌, add-one, ap, arith, refl}
+use Rattle.std.proofs.Common.{◌≡◌, ℕ, ◌<◌, ◌≤◌, ◌-◌, ◌/◌, ◌^◌, ◌∙◌, ap, arith, filter, map, not, sym}
+use Rattle.p3_support.specs.Lists.{is_among}
 use Rattle.p3_merkle_core.specs.Geometry.{levels}
 use Rattle.p3_merkle_core.specs.Pruning.{boundary}
-use Rattle.p3_merkle_core.proofs.Covered.ClimbFacts.{covered_here}
-use Rattle.tlog_multiproof.specs.Instance.{log_shape}
-use Rattle.tlog_multiproof.proofs.ShapeFacts.{boundary_more, covered_ascend, layers_small, log_query, nodes_fit}
-use Rattle.tlog_multiproof.proofs.Shapes.{tallest, two_is_arity}
-use Rattle.tlog_multiproof.proofs.opening.boundary_slots.Goals as goal
+use Rattle.p3_merkle_core.proofs.Pruned.SlotFacts.{distinct_from}
+use Rattle.tlog_multiproof.specs.Inner.Siblings.{sibling}
+use Rattle.tlog_multiproof.specs.Instance.{log_shape, slots_of}
+use Rattle.tlog_multiproof.proofs.NodeSlots.{all_slots, slots_more}
+use Rattle.tlog_multiproof.proofs.ShapeFacts.{at_root, below_root, boundary_more, covered_ascend, covered_next, last_above}
+use Rattle.tlog_multiproof.proofs.ShapeFacts.{layers_small, levels_small, log_query, nodes_fit}
+use Rattle.tlog_multiproof.proofs.opening.boundary_nodes.Goals as goal
 
-pub new-covered-requires : goal.new-covered-requires
-new-covered-requires c = let size = c.args.size in
-    let schedule = c.schedule_of-schedule in
-    rw (schedule.ensures.arity, schedule.ensures.dimensions ∙ c.dimensions_of-dimensions.ensures) (record {
-      arity = two_is_arity;
-      low = rw (tallest size) c.requires.limit;
-      below = (log_query size c.args.indices.now c.requires.within).below;
-      nodes = c.in_ok-distinct_indices.ensures;
-    })
+pub loop-last-init : goal.loop-last-init
+loop-last-init c =
+    let s = log_shape c.args.size in
+    let indices = c.args.indices.now in
+    record {
+      covered = c.in_ok-covered.ensures
+          ∙ sym (distinct_from s indices (log_query c.args.size indices c.requires.within).below);
+      so_far = ap slots_of c.new-nodes.ensures.items;
+      low = omega arith;
+      last_is = omega arith;
+    }
 
-pub loop-layer-init : goal.loop-layer-init
-loop-layer-init c = record {
-  shape_is = rw (
-    c.new-covered.ensures.schedule,
-    c.schedule_of-schedule.ensures.arity,
-    c.schedule_of-schedule.ensures.dimensions ∙ c.dimensions_of-dimensions.ensures,
-  ) refl;
-  indices = c.new-covered.ensures.indices;
-  layer = c.new-covered.ensures.layer;
-  so_far = c.new-slots.ensures.items;
-}
+pub overflow_add-layer : goal.overflow_add-layer
+overflow_add-layer c =
+    let at = c.loop-last.invariant in
+    let below = below_root c.args.size c.loop-last.layer c.requires.some at.low
+    (omega (arith, at.last_is, c.loop-last-test.true)) in
+    omega (arith, below, levels_small c.args.size c.requires.limit)
 
 pub push_uncovered-requires-clause-ascending : goal.push_uncovered-requires-clause-ascending
 push_uncovered-requires-clause-ascending c =
-    let at = c.loop-layer.invariant in
-    let s = log_shape c.args.size in
-    let here = covered_here c.loop-layer.covered s c.args.indices.now c.loop-layer.layer at.shape_is at.indices
-    at.layer in
-    covered_ascend s c.args.indices.now c.loop-layer.layer c.deref.result.now
-    (c.deref.ensures.value ∙ here.nodes_are)
+    covered_ascend (log_shape c.args.size) c.args.indices.now c.loop-last.layer c.deref.result.now
+    (c.deref.ensures.value ∙ c.loop-last.invariant.covered)
 
 pub push_uncovered-requires-clause-fits : goal.push_uncovered-requires-clause-fits
 push_uncovered-requires-clause-fits c =
-    let at = c.loop-layer.invariant in
-    let l = c.loop-layer.layer in
-    let here = covered_here c.loop-layer.covered (log_shape c.args.size) c.args.indices.now l at.shape_is at.indices
-    at.layer in
-    nodes_fit c.args.size c.args.indices.now l c.deref.result.now c.requires.limit
-    c.requires.within (c.deref.ensures.value ∙ here.nodes_are)
+    nodes_fit c.args.size c.args.indices.now c.loop-last.layer c.deref.result.now c.requires.limit c.requires.within
+    (c.deref.ensures.value ∙ c.loop-last.invariant.covered)
 
-pub climb-requires : goal.climb-requires
-climb-requires c =
-    let at = c.loop-layer.invariant in
-    let schedule = c.schedule_of-schedule in
-    let whole : schedule.result.num_levels ≡ levels (log_shape c.args.size) =
-    rw (schedule.ensures.arity, schedule.ensures.dimensions ∙ c.dimensions_of-dimensions.ensures) at
-    schedule.result.walked.whole in
-    omega (arith, at.layer, c.loop-layer.covered.schedule.now.walked.whole, ap levels at.shape_is)
-
-pub loop-layer-preserved : goal.loop-layer-preserved
-loop-layer-preserved c =
+pub loop-last-preserved : goal.loop-last-preserved
+loop-last-preserved c =
     let size = c.args.size in
     let indices = c.args.indices.now in
-    let l = c.loop-layer.layer in
-    let at = c.loop-layer.invariant in
-    let schedule = c.schedule_of-schedule in
-    let whole : schedule.result.num_levels ≡ levels (log_shape size) =
-    rw (schedule.ensures.arity, schedule.ensures.dimensions ∙ c.dimensions_of-dimensions.ensures) at
-    schedule.result.walked.whole in
-    let below : l < levels (log_shape size) = omega arith in
-    let here = covered_here c.loop-layer.covered (log_shape size) indices l at.shape_is at.indices at.layer in
+    let l = c.loop-last.layer in
+    let at = c.loop-last.invariant in
+    let here = c.deref.result.now in
+    let is_here = c.deref.ensures.value ∙ at.covered in
+    let below = below_root size l c.requires.some at.low (omega (arith, at.last_is, c.loop-last-test.true)) in
     record {
-      shape_is = rw c.climb.ensures.schedule at.shape_is;
-      indices = c.climb.ensures.indices ∙ at.indices;
-      layer = rw add-one (rw at.layer at c.climb.ensures.layer);
-      so_far = boundary_more size indices l c.deref.result.now c.loop-layer.slots.items
-          c.push_uncovered.new.slots.items c.requires.within below
-          (c.deref.ensures.value ∙ here.nodes_are) at.so_far c.in_ok-push_uncovered.ensures;
+      covered = covered_next size indices l c.loop-last.covered.items c.climb.new.covered.items c.requires.within below
+          at.covered c.climb.ensures;
+      so_far = boundary_more size indices l here (slots_of c.loop-last.nodes.items)
+          (slots_of c.push_uncovered.new.nodes.items) c.requires.within below is_here at.so_far
+          (slots_more l c.loop-last.nodes.items c.push_uncovered.new.nodes.items
+          (filter (λ j. not (is_among here j)) (map sibling here)) c.in_ok-push_uncovered.ensures);
+      low = omega (arith, below);
+      last_is = ap (λ (n : ℕ). n / 2) at.last_is ∙ last_above size l;
     }
+
+top : (size l last : ℕ) → 0 < size → l ≤ levels (log_shape size) → last ≡ (size - 1) / 2 ^ l → last ≤ 0 →
+    l ≡ levels (log_shape size)
+top size l last some low is none = at_root size l some low (sym is ∙ omega (arith, none))
+
+pub returns-clause-boundary : goal.returns-clause-boundary
+returns-clause-boundary c =
+    let at = c.loop-last.invariant in
+    at.so_far ∙ ap (boundary (log_shape c.args.size) c.args.indices.now)
+    (top c.args.size c.loop-last.layer c.loop-last.last c.requires.some at.low at.last_is c.loop-last-test.false)
 
 pub returns-clause-layers : goal.returns-clause-layers
 returns-clause-layers c =
-    let size = c.args.size in
-    let schedule = c.schedule_of-schedule in
-    let whole : schedule.result.num_levels ≡ levels (log_shape size) =
-    rw (schedule.ensures.arity, schedule.ensures.dimensions ∙ c.dimensions_of-dimensions.ensures) at
-    schedule.result.walked.whole in
-    let top : c.loop-layer.layer ≡ levels (log_shape size) = omega arith in
-    layers_small size c.args.indices.now c.loop-layer.slots.items c.requires.limit
-    (c.loop-layer.invariant.so_far ∙ ap (boundary (log_shape size) c.args.indices.now) top)
+    all_slots (λ slot. slot.0 < 64) c.loop-last.nodes.items
+    (layers_small c.args.size c.args.indices.now (slots_of c.loop-last.nodes.items) c.requires.limit
+    (returns-clause-boundary c))

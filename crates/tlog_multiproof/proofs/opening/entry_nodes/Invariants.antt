@@ -1,7 +1,8 @@
 use Rattle.std.proofs.Common.{◌≡◌, filter, take}
 use Rattle.tlog_multiproof.specs.Entries.{is_node}
-use Rattle.tlog_multiproof.proofs.opening.entry_places.Given as goal
+use Rattle.tlog_multiproof.specs.Instance.{slot_of}
+use Rattle.tlog_multiproof.proofs.opening.entry_nodes.Given as goal
 
--- the nodes among the slots so far
-abbrev pub invariant-loop-slot : goal.invariant-loop-slot
-invariant-loop-slot l = l.places.items ≡ filter (is_node l.size) (take l.slot-index l.slot-items)
+-- those so far of which the log has entries
+abbrev pub invariant-loop-node : goal.invariant-loop-node
+invariant-loop-node l = l.nodes.items ≡ filter (λ node. is_node l.size (slot_of node)) (take l.node-index l.node-items)
