@@ -32,8 +32,8 @@ pub struct ReadLog {
 }
 
 /// Reads a log that stands in a file, in one pass from where the reader stands: its tree (RFC 9162, 2.1.1), with the
-/// values of wanted nodes, and the bytes of wanted entries, each by its index, counted from 0, in any order and as often
-/// as it is named. Blocks of `framing` must have from 1 to 2^30 bytes.
+/// values of wanted nodes, and the bytes of wanted entries, each by its index, counted from 0, in any order and as
+/// often as it is named. Blocks of `framing` must have from 1 to 2^30 bytes.
 ///
 /// With a limit it reads so many entries, and of the file at most 1 MiB more, which decides nothing. Without one it
 /// reads to the end of the file. Beside wanted nodes and entries it holds less than 8 MiB, whatever the file has; of

@@ -46,8 +46,10 @@ module _ (hash : HashFunction) (leaves : List (List ℕ)) (some : 0 < length lea
 
   -- the digest of one more slot
   padded_more : (l j : ℕ) (slots : List (ℕ × ℕ)) → l ≤ levels (log_shape (length leaves)) →
-      with_padding (length leaves) slots (values_at (nodes_at (filter (is_node (length leaves)) slots))) ≡ map value slots →
-      with_padding (length leaves) ((l, j) ∷ slots) (values_at (nodes_at (filter (is_node (length leaves)) ((l, j) ∷ slots))))
+      with_padding (length leaves) slots (values_at (nodes_at (filter (is_node (length leaves)) slots)))
+      ≡ map value slots →
+      with_padding (length leaves) ((l, j) ∷ slots)
+      (values_at (nodes_at (filter (is_node (length leaves)) ((l, j) ∷ slots))))
       ≡ map value ((l, j) ∷ slots)
   padded_more l j slots low rest =
       elim (cases_Bool (nat_lt (j * 2 ^ l) (length leaves))) [
@@ -60,7 +62,8 @@ module _ (hash : HashFunction) (leaves : List (List ℕ)) (some : 0 < length lea
       ]
 
   layer_padded : (l : ℕ) (js : List ℕ) (slots : List (ℕ × ℕ)) → l ≤ levels (log_shape (length leaves)) →
-      with_padding (length leaves) slots (values_at (nodes_at (filter (is_node (length leaves)) slots))) ≡ map value slots →
+      with_padding (length leaves) slots (values_at (nodes_at (filter (is_node (length leaves)) slots)))
+      ≡ map value slots →
       let all = map (λ j. (l, j)) js ++ slots in
       with_padding (length leaves) all (values_at (nodes_at (filter (is_node (length leaves)) all))) ≡ map value all
   layer_padded l [] slots low rest = rest
@@ -69,7 +72,8 @@ module _ (hash : HashFunction) (leaves : List (List ℕ)) (some : 0 < length lea
 
   layers_padded : (indices : List ℕ) (l n : ℕ) → l + n ≤ levels (log_shape (length leaves)) →
       let slots = flat_map (boundary_at (log_shape (length leaves)) indices) (range_with_len l n) in
-      with_padding (length leaves) slots (values_at (nodes_at (filter (is_node (length leaves)) slots))) ≡ map value slots
+      with_padding (length leaves) slots (values_at (nodes_at (filter (is_node (length leaves)) slots)))
+      ≡ map value slots
   layers_padded indices l zero low = refl
   layers_padded indices l (suc n) low =
       let s = log_shape (length leaves) in

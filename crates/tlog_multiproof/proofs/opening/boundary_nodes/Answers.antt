@@ -7,8 +7,8 @@ use Rattle.p3_merkle_core.proofs.Pruned.SlotFacts.{distinct_from}
 use Rattle.tlog_multiproof.specs.Inner.Siblings.{sibling}
 use Rattle.tlog_multiproof.specs.Instance.{log_shape, slots_of}
 use Rattle.tlog_multiproof.proofs.NodeSlots.{all_slots, slots_more}
-use Rattle.tlog_multiproof.proofs.ShapeFacts.{at_root, below_root, boundary_more, covered_ascend, covered_next, last_above}
-use Rattle.tlog_multiproof.proofs.ShapeFacts.{layers_small, levels_small, log_query, nodes_fit}
+use Rattle.tlog_multiproof.proofs.ShapeFacts.{at_root, below_root, boundary_more, covered_ascend, covered_next}
+use Rattle.tlog_multiproof.proofs.ShapeFacts.{last_above, layers_small, levels_small, log_query, nodes_fit}
 use Rattle.tlog_multiproof.proofs.opening.boundary_nodes.Goals as goal
 
 pub loop-last-init : goal.loop-last-init

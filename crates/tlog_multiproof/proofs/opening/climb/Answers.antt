@@ -1,5 +1,6 @@
 -- Each turn is one slot. Then repeats are dropped.
-use Rattle.std.proofs.Common.{◌≡◌, ◌<◌, ◌≤◌, ℕ, List, ◌∙◌, ◌/◌, ◌++◌, ap, append-nil, arith, drop, eqb, get_or, length, map}
+use Rattle.std.proofs.Common.{◌≡◌, ◌<◌, ◌≤◌, ℕ, List, ◌∙◌, ◌/◌, ◌++◌, ap, append-nil, arith, drop, eqb}
+use Rattle.std.proofs.Common.{get_or, length, map}
 use Rattle.std.proofs.lemmas.List.{drop_all, get_or_default, take_all, with_items_is}
 use Rattle.std.proofs.lemmas.List.Edits.{map_over_more}
 use Rattle.std.proofs.lemmas.List.Filters.{dedup_is}
