@@ -94,7 +94,7 @@ def consistency(log, old):
     return listed(log.consistency(old, len(log.leaves)))
 
 
-def places(size, indices):
+def proof_nodes(size, indices):
     return " ".join(f"{layer}.{slot}" for layer, slot, _, _ in sorted(logs.entry_nodes(indices, 0, size)))
 
 
@@ -322,7 +322,7 @@ KINDS = {
     "root": ("l", lambda log: root_of(log).hex()),
     "inclusion": ("ln", inclusion),
     "consistency": ("ln", consistency),
-    "places": ("ni", places),
+    "proof_nodes": ("ni", proof_nodes),
     "digests": ("li", digests_of),
     "frontier": ("nll", frontier),
     "included": ("nlnns", included),

@@ -14,6 +14,7 @@ use Rattle.sha2.specs.Sha256.{sha256}
 use Rattle.tlog.specs.Rfc9162.{leaf_hash, root_of}
 use Rattle.tlog.specs.Verdicts.{size_limit}
 use Rattle.tlog_tree.specs.Trees.{leaves_root, node_at}
+use Rattle.tlog_tree.specs.declared.node_id.NodeId.{NodeId}
 use Rattle.tlog_multiproof.proofs.EntriesFacts.{unrefused as included_only}
 use Rattle.tlog_multiproof.proofs.HonestEntries.{honest_included}
 use Rattle.tlog_multiproof.proofs.Leaves.{mth_map}
@@ -156,7 +157,8 @@ module _ (entries : List (List ℕ)) (numbers : List ℕ) where
       within (omega (arith, len, size_is, small)) in
       let none = (included_only sha256 (length leaves) indices
       (map (λ i. get_or leaves i []) indices)
-      (map (λ (l, j). node_at sha256 leaves l j) (proof_nodes (length leaves) indices)) (leaves_root sha256 leaves)).1
+      (map (λ (node : NodeId). node_at sha256 leaves node.layer node.slot) (proof_nodes (length leaves) indices))
+      (leaves_root sha256 leaves)).1
       (omega (arith, len, size_is, small), included) in
       let size = len ∙ size_is in
       let ids = sym (map-map (λ (e : EntryFields). e.number - 1) (entry_of entries) numbers) in
@@ -164,7 +166,8 @@ module _ (entries : List (List ℕ)) (numbers : List ℕ) where
       let root = mth_map sha256 (leaf_hash sha256) entries ∙ root_is in
       ap (option_map entries_error)
       (sym (λ i. entries_refusal sha256 (size i) (ids i) (hashes i)
-      (map (λ (l, j). node_at sha256 leaves l j) (proof_nodes (len i) indices)) (root i)) ∙ none)
+      (map (λ (node : NodeId). node_at sha256 leaves node.layer node.slot) (proof_nodes (len i) indices)) (root i))
+      ∙ none)
 
   -- it is the text of a proof
   is_text : AreNumbers numbers → All (λ n. n ≤ length entries) numbers → length entries ≤ size_limit →
@@ -172,7 +175,7 @@ module _ (entries : List (List ℕ)) (numbers : List ℕ) where
   is_text are inside small can =
       let indices = map (λ n. n - 1) numbers in
       let nodes = proof_nodes (length entries) indices in
-      let value = λ (slot : ℕ × ℕ). node_at sha256 leaves slot.0 slot.1 in
+      let value = λ (node : NodeId). node_at sha256 leaves node.layer node.slot in
       let count = nodes_within (length entries) indices (within_size (length entries) numbers are.1 inside) in
       record {
         entries = All-map IsEntry (entry_of entries) numbers (λ k d within. record {

@@ -35,6 +35,7 @@ use Rattle.fohlazu_commands.specs.declared.error.Source.TheVariants.{File, New, 
 use Rattle.fohlazu_commands.proofs.OutcomeFacts.{are_under, entries_root, first_under, ok_none, said_ok, stepped}
 use Rattle.fohlazu_commands.proofs.RunFacts.{short_came, short_goes}
 use Rattle.tlog_tree.specs.Trees.{all_there, values_at}
+use Rattle.tlog_tree.specs.declared.node_id.NodeId.{NodeId}
 use Rattle.tlog_multiproof.proofs.Subproofs.{subproof_map}
 
 -- from a size above 0 the digests are PROOF
@@ -43,10 +44,10 @@ some_are old entries some =
     let other : old ≡ 0 → ⊥ = λ is. absurd (omega arith) in rw (ne_eqb old 0 other) refl
 
 -- between equal sizes there are none
-pub equal_places : (old new : ℕ) (entries : List (List ℕ)) (places : List (ℕ × ℕ)) → 0 < old → old ≡ new →
-    length entries ≡ new → places ≡ [] →
-    values_at sha256 (map (leaf_hash sha256) entries) places ≡ all_there (growth_digests old entries)
-equal_places old new entries places some same len none =
+pub equal_nodes : (old new : ℕ) (entries : List (List ℕ)) (nodes : List NodeId) → 0 < old → old ≡ new →
+    length entries ≡ new → nodes ≡ [] →
+    values_at sha256 (map (leaf_hash sha256) entries) nodes ≡ all_there (growth_digests old entries)
+equal_nodes old new entries nodes some same len none =
     let at : old ≡ length entries = same ∙ sym len in
     let known : proof_of sha256 old entries ≡ [] =
     ap (λ m. proof_of sha256 m entries) at ∙ sub_whole sha256 (leaf_hash sha256) entries true (omega arith) in
@@ -54,12 +55,12 @@ equal_places old new entries places some same len none =
     ∙ sym (ap all_there (some_are old entries some ∙ known))
 
 -- between others they are the values of nodes
-pub other_places : (old new : ℕ) (entries : List (List ℕ)) (places : List (ℕ × ℕ)) → 0 < old →
+pub other_nodes : (old new : ℕ) (entries : List (List ℕ)) (nodes : List NodeId) → 0 < old →
     length entries ≡ new →
     ((hash : Hash) (leaves : List (List ℕ)) → length leaves ≡ new →
-    values_at hash leaves places ≡ all_there (consistency_proof hash itself old leaves)) →
-    values_at sha256 (map (leaf_hash sha256) entries) places ≡ all_there (growth_digests old entries)
-other_places old new entries places some len each =
+    values_at hash leaves nodes ≡ all_there (consistency_proof hash itself old leaves)) →
+    values_at sha256 (map (leaf_hash sha256) entries) nodes ≡ all_there (growth_digests old entries)
+other_nodes old new entries nodes some len each =
     each sha256 (map (leaf_hash sha256) entries) (length-map entries (leaf_hash sha256) ∙ len)
     ∙ ap all_there
     (ap (λ n. subproof_within n sha256 itself old (map (leaf_hash sha256) entries) true)

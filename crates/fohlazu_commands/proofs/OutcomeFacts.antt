@@ -17,6 +17,7 @@ use Rattle.tlog.proofs.Roots.{root_is as root_by}
 use Rattle.tlog.specs.Rfc9162.{root_of, leaf_hash, mth}
 use Rattle.tlog.specs.Verdicts.{size_limit, is_same}
 use Rattle.tlog_tree.specs.Trees.{all_there}
+use Rattle.tlog_tree.specs.declared.node_id.NodeId.{NodeId}
 use Rattle.tlog_files.proofs.FramedFiles.{block_is, entries_grow, lines_lack, no_entries, no_rest, rest_grows}
 use Rattle.tlog_files.specs.Entries.{entries_in, first_entries, is_refused, read_refusal, HoldsOfFile}
 use Rattle.tlog_files.specs.Entries.{partial_of, refuses, rest_of, entry_at, IsFraming}
@@ -98,7 +99,7 @@ module _ {W : Type 0} (read : List ℕ → Result (List (List ℕ)) Error) (next
       (Some bytes, is, ⊎_elim inl (λ failed. inr (ap (λ r. and_then r next) failed)) why)
 
   -- they are read
-  pub goes : (known : Option (List ℕ)) (nodes : List (ℕ × ℕ)) (wanted : List ℕ) (log : ReadLog)
+  pub goes : (known : Option (List ℕ)) (nodes : List NodeId) (wanted : List ℕ) (log : ReadLog)
       (Good : Result W Error → Type 0) →
       HoldsOfInput known (λ input. ReadsAs nodes wanted (Ok log) (and_then (bytes_from File input) read)) →
       ((bytes : List ℕ) (entries : List (List ℕ)) → read bytes ≡ Ok entries → HasEntries nodes wanted entries log →

@@ -15,8 +15,9 @@ use Rattle.sha2.specs.Sha256.{sha256}
 use Rattle.tlog.specs.Rfc9162.{Hash, leaf_hash}
 use Rattle.tlog.specs.Verdicts.{size_limit}
 use Rattle.tlog_tree.specs.Trees.{all_there, node_at, values_at}
+use Rattle.tlog_tree.specs.declared.node_id.NodeId.{NodeId}
 use Rattle.tlog_multiproof.specs.Entries.{is_node, proof_nodes}
-use Rattle.tlog_multiproof.specs.Instance.{log_shape}
+use Rattle.tlog_multiproof.specs.Instance.{log_shape, nodes_at}
 use Rattle.tlog_text.specs.Texts.{CheckpointFields, EntryFields}
 use Rattle.tlog_text.specs.Reading.{checkpoint_in}
 use Rattle.tlog_files.specs.Entries.{entry_at, wanted_of}
@@ -59,9 +60,9 @@ all_are_numbers size =
 -- ---- digests
 
 -- nodes with entries below them have values
-pub nodes_there : (hash : Hash) (L : List (List ℕ)) (places : List (ℕ × ℕ)) →
-    values_at hash L (filter (is_node (length L)) places)
-    ≡ all_there (map (λ (layer, slot). node_at hash L layer slot) (filter (is_node (length L)) places))
+pub nodes_there : (hash : Hash) (L : List (List ℕ)) (slots : List (ℕ × ℕ)) →
+    let nodes = nodes_at (filter (is_node (length L)) slots) in
+    values_at hash L nodes ≡ all_there (map (λ (node : NodeId). node_at hash L node.layer node.slot) nodes)
 nodes_there hash L [] = refl
 nodes_there hash L (p ∷ ps) =
     ⊎_elim
@@ -102,7 +103,7 @@ wanted_is entries numbers size is from to =
 -- ---- the outcome under a checkpoint, by what is read
 
 module _ {W V : Type 0} (read : List ℕ → Result (List (List ℕ)) Error) (next : List (List ℕ) → Result W Error)
-    (view : V → W) (known : Option (List ℕ)) (nodes : List (ℕ × ℕ)) (wanted : List ℕ) where
+    (view : V → W) (known : Option (List ℕ)) (nodes : List NodeId) (wanted : List ℕ) where
   pub whole_stops : (result : Result V Error) (e : Error) → result ≡ Err e →
       HoldsOfInput known (λ input. ReadsAs nodes wanted (Err e) (and_then (bytes_from File input) read)) →
       HoldsOfInput known (λ input. Gives view result (whole read next input))
@@ -130,12 +131,12 @@ limit_of source text c is =
 -- the values of the nodes of a proof are there
 pub values_there : (entries : List (List ℕ)) (indices : List ℕ) →
     values_at sha256 (map (leaf_hash sha256) entries) (proof_nodes (length entries) indices)
-    ≡ all_there (map (λ (layer, slot). node_at sha256 (map (leaf_hash sha256) entries) layer slot)
+    ≡ all_there (map (λ (node : NodeId). node_at sha256 (map (leaf_hash sha256) entries) node.layer node.slot)
     (proof_nodes (length entries) indices))
 values_there entries indices =
     let s = log_shape (length entries) in
     let slots = boundary s indices (levels s) in
-    subst (λ (n : ℕ). values_at sha256 (map (leaf_hash sha256) entries) (filter (is_node n) slots)
-    ≡ all_there (map (λ (layer, slot). node_at sha256 (map (leaf_hash sha256) entries) layer slot)
-    (filter (is_node n) slots))) (length-map entries (leaf_hash sha256))
+    subst (λ (n : ℕ). values_at sha256 (map (leaf_hash sha256) entries) (nodes_at (filter (is_node n) slots))
+    ≡ all_there (map (λ (node : NodeId). node_at sha256 (map (leaf_hash sha256) entries) node.layer node.slot)
+    (nodes_at (filter (is_node n) slots)))) (length-map entries (leaf_hash sha256))
     (nodes_there sha256 (map (leaf_hash sha256) entries) slots)

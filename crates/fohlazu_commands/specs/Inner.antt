@@ -4,6 +4,7 @@ use Rattle.std.specs.Prelude.{Ok, Err}
 use Rattle.sha2.specs.Sha256.{sha256}
 use Rattle.tlog.specs.Rfc9162.{leaf_hash, root_of}
 use Rattle.tlog_tree.specs.Builders.{IsBuilderOf}
+use Rattle.tlog_tree.specs.declared.node_id.NodeId.{NodeId}
 use Rattle.tlog_multiproof.specs.Entries.{entries_refusal}
 use Rattle.tlog_text.specs.Reading.{checkpoint_in}
 use Rattle.tlog_text.specs.Texts.{EntriesFields, EntryFields}
@@ -32,12 +33,12 @@ abbrev pub entry_of : ℕ × List ℕ → EntryFields
 entry_of (number, bytes) = record { number = number; bytes = bytes }
 
 -- what is read of a file with these entries: their tree, with wanted nodes, and wanted entries
-pub record HasEntries (nodes : List (ℕ × ℕ)) (wanted : List ℕ) (entries : List (List ℕ)) (log : ReadLog) : Type 0 where
+pub record HasEntries (nodes : List NodeId) (wanted : List ℕ) (entries : List (List ℕ)) (log : ReadLog) : Type 0 where
   pub tree : IsBuilderOf (map (leaf_hash sha256) entries) nodes log.tree
   pub wanted_are : map bytes_in log.entries.items ≡ wanted_of entries wanted
 
 -- what is read is of the entries of this outcome, unless memory ran out
-abbrev pub ReadsAs : List (ℕ × ℕ) → List ℕ → Result ReadLog Error → Result (List (List ℕ)) Error → Type 0
+abbrev pub ReadsAs : List NodeId → List ℕ → Result ReadLog Error → Result (List (List ℕ)) Error → Type 0
 ReadsAs nodes wanted result outcome =
     MatchResult result (λ log. (entries : List (List ℕ)) × (outcome ≡ Ok entries) × HasEntries nodes wanted entries log)
     (λ error. (error ≡ OutOfMemory) ⊎ (outcome ≡ Err error))

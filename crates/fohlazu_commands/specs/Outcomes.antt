@@ -10,6 +10,7 @@ use Rattle.p3_answers.specs.Answers.{first_of, first_some, ok_unless, unless}
 use Rattle.tlog.specs.Rfc9162.{leaf_hash, proof_of, root_of}
 use Rattle.tlog.specs.Verdicts.{consistency_refusal, is_same, size_limit}
 use Rattle.tlog_tree.specs.Trees.{leaves_root, node_at}
+use Rattle.tlog_tree.specs.declared.node_id.NodeId.{NodeId}
 use Rattle.tlog_multiproof.specs.Entries.{entries_refusal, proof_nodes}
 use Rattle.tlog_text.specs.Reading.{checkpoint_in, consistency_in, entries_in as proof_in, part_in}
 use Rattle.tlog_text.specs.Texts.{CheckpointFields, ConsistencyFields, EntriesFields, EntryFields, checkpoint_text}
@@ -137,7 +138,7 @@ abbrev pub proof_over : List (List ℕ) → List ℕ → EntriesFields
 proof_over entries numbers =
     record {
       entries = map (λ n. record { number = n; bytes = entry_at entries (n - 1) }) numbers;
-      digests = map (λ (layer, slot). node_at sha256 (map (leaf_hash sha256) entries) layer slot)
+      digests = map (λ (node : NodeId). node_at sha256 (map (leaf_hash sha256) entries) node.layer node.slot)
           (proof_nodes (length entries) (map (λ n. n - 1) numbers));
     }
 

@@ -10,6 +10,7 @@ ghost use Rattle.tlog_text.specs.Reading.{checkpoint_in, consistency_in, entries
 ghost use Rattle.tlog_text.specs.Texts.{checkpoint_fields, consistency_fields, entries_fields};
 ghost use Rattle.tlog_tree.specs.Builders.{IsBuilderOf};
 ghost use Rattle.tlog_tree.specs.Trees.{all_there, values_at};
+ghost use Rattle.tlog_tree.specs.declared.node_id.NodeId.{NodeId};
 ghost use Rattle.fohlazu_commands.specs.Commands.{growth_from, note_from, limited_from, HoldsOfInput, IsReadAs};
 ghost use Rattle.fohlazu_commands.specs.Inner.{Checks, HasEntries, ReadsAs};
 ghost use Rattle.fohlazu_commands.specs.Outcomes.{and_then, bytes_from, entries_read, entries_under, Gives, growth_refusal};
@@ -22,7 +23,7 @@ use std::alloc::{AllocError, Global};
 use std::io::{ErrorKind, Read};
 use tlog_files::{Framing, ReadError, ReadLog, read_log, read_up_to};
 use tlog_text::{Checkpoint, ConsistencyProof, EntriesProof};
-use tlog_tree::TreeBuilder;
+use tlog_tree::{NodeId, TreeBuilder};
 
 /// The most bytes that a checkpoint or a part has.
 const MAX_NOTE_BYTES: usize = 1_000_000;
@@ -37,7 +38,7 @@ pub(crate) fn read_file<R: Read>(
     alloc: Global,
     framing: Framing,
     limit: Option<usize>,
-    nodes: &[(usize, usize)],
+    nodes: &[NodeId],
     wanted: &[usize],
     file: &mut R,
 ) -> Result<ReadLog, Error>
@@ -54,7 +55,7 @@ pub(crate) fn read_under<R: Read>(
     alloc: Global,
     framing: Framing,
     checkpoint: &Checkpoint,
-    nodes: &[(usize, usize)],
+    nodes: &[NodeId],
     wanted: &[usize],
     file: &mut R,
 ) -> Result<ReadLog, Error>
@@ -70,7 +71,7 @@ pub(crate) fn read_under<R: Read>(
 
 /// How many entries were read, and their root.
 pub(crate) fn size_and_root(log: &ReadLog) -> (usize, [u8; 32])
-    ensures { (nodes : List (ℕ × ℕ)) (wanted : List ℕ) (entries : List (List ℕ)) →
+    ensures { (nodes : List NodeId) (wanted : List ℕ) (entries : List (List ℕ)) →
         HasEntries nodes wanted entries log.now → result ≡ (length entries, root_of sha256 entries) }
 {
     let frontier = log.tree.frontier();
@@ -93,7 +94,7 @@ fn check_tree(checkpoint: &Checkpoint, size: usize, root: &[u8; 32]) -> Result<(
 
 /// The values of the wanted nodes of a tree that are there, in order. `AllocError` if memory runs out.
 pub(crate) fn digests_of(alloc: Global, tree: TreeBuilder) -> Result<Vec<[u8; 32]>, AllocError>
-    ensures { IfOk result (λ digests. (leaves : List (List ℕ)) (nodes : List (ℕ × ℕ)) (all : List (List ℕ)) →
+    ensures { IfOk result (λ digests. (leaves : List (List ℕ)) (nodes : List NodeId) (all : List (List ℕ)) →
         IsBuilderOf leaves nodes tree → values_at sha256 leaves nodes ≡ all_there all → digests.items ≡ all) }
 {
     let values = tree.values(alloc)?;

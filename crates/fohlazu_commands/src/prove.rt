@@ -18,7 +18,7 @@ use crate::inputs::{digests_of, parse_checkpoint, read_under};
 use std::alloc::{AllocError, Global};
 use std::io::Read;
 use tlog_files::{Framing, ReadLog};
-use tlog_multiproof::entry_places;
+use tlog_multiproof::entry_nodes;
 use tlog_text::{Checkpoint, EntriesProof, Entry};
 
 /// The most entries that `run` proves where no numbers are given, and the most numbers that `fohlazu` takes.
@@ -35,7 +35,7 @@ pub const MAX_ENTRIES_PER_PROOF: usize = 100_000_000;
 /// - `Line` for the first wrong line of the checkpoint;
 /// - `NumberPastEnd` for the first number that the checkpoint does not have. The file is then not read.
 /// - `Read` if the file cannot be read;
-/// - `EndsInsideLine` if the file ends inside a line, ahead of the last entry of the checkpoint, and `cut` refuses
+/// - `EndsInsideLine` if the file ends inside a line, ahead of the last entry of the checkpoint, and `framing` refuses
 ///   that;
 /// - `TooFewEntries` if the file has fewer entries than the checkpoint;
 /// - `OtherEntries` if its first entries, as many as the checkpoint has, have another root.
@@ -130,9 +130,9 @@ fn prove_under<R: Read>(
         (and_then (bytes_from File input) (prove_under framing (checkpoint_fields checkpoint.now) numbers.now))) }
 {
     let indices: Vec<usize> = numbers.iter().map(|n| n.saturating_sub(1)).collect(alloc)?;
-    let places = entry_places(alloc, &indices, checkpoint.size)?;
-    let log = read_under(alloc, framing, checkpoint, &places, &indices, file)?;
-    drop(places);
+    let nodes = entry_nodes(alloc, &indices, checkpoint.size)?;
+    let log = read_under(alloc, framing, checkpoint, &nodes, &indices, file)?;
+    drop(nodes);
     Ok(text_of(alloc, numbers, log)?)
 }
 

@@ -4,6 +4,7 @@ ghost use Rattle.std.specs.Prelude.{◌≡◌, ℕ, ◌≤◌, List, [], Err, If
 ghost use Rattle.sha2.specs.Sha256.{sha256};
 ghost use Rattle.tlog.specs.Rfc9162.{leaf_hash};
 ghost use Rattle.tlog_tree.specs.Trees.{all_there, values_at};
+ghost use Rattle.tlog_tree.specs.declared.node_id.NodeId.{NodeId};
 ghost use Rattle.tlog_files.specs.Entries.{IsFraming};
 ghost use Rattle.tlog_text.specs.Texts.{checkpoint_fields};
 ghost use Rattle.fohlazu_commands.specs.Commands.{HoldsOfInput};
@@ -20,7 +21,7 @@ use std::io::Read;
 use tlog::verify_consistency;
 use tlog_files::{Framing, ReadLog};
 use tlog_text::{Checkpoint, ConsistencyProof};
-use tlog_tree::consistency_places;
+use tlog_tree::{NodeId, consistency_nodes};
 
 /// The proof that the file of a new checkpoint begins with the entries of an old one (RFC 9162, 2.1.4), with the new
 /// checkpoint as it stands, with its signatures: what a witness is sent (C2SP tlog-witness, add-checkpoint). The file
@@ -35,8 +36,8 @@ use tlog_tree::consistency_places;
 /// - `OtherOrigin`, `SmallerSize` or `TwoHistories` if the new checkpoint does not follow the old one. The file is then
 ///   not read.
 /// - `Read` if the file cannot be read;
-/// - `EndsInsideLine` if the file ends inside a line, ahead of the last entry of the new checkpoint, and `cut` refuses
-///   that;
+/// - `EndsInsideLine` if the file ends inside a line, ahead of the last entry of the new checkpoint, and `framing`
+///   refuses that;
 /// - `TooFewEntries` if the file has fewer entries than the new checkpoint;
 /// - `OtherEntries` if its first entries, as many as the new checkpoint has, have another root;
 /// - `OtherOldEntries` if the file does not begin with the entries of the old checkpoint.
@@ -83,8 +84,8 @@ fn prove_growth<R: Read>(
         (and_then (bytes_from File input)
         (prove_growth framing (checkpoint_fields old.now) (checkpoint_fields new.now) checkpoint.now))) }
 {
-    let places = growth_places(alloc, old.size, new.size)?;
-    let log = read_under(alloc, framing, new, &places, &[], file)?;
+    let nodes = growth_nodes(alloc, old.size, new.size)?;
+    let log = read_under(alloc, framing, new, &nodes, &[], file)?;
     text_of(alloc, old, new, checkpoint, log)
 }
 
@@ -96,8 +97,8 @@ fn text_of(
     checkpoint: &[u8],
     log: ReadLog,
 ) -> Result<Vec<u8>, Error>
-    ensures { (places : List (ℕ × ℕ)) (entries : List (List ℕ)) → HasEntries places [] entries log →
-        values_at sha256 (map (leaf_hash sha256) entries) places ≡ all_there (growth_digests old.now.size entries) →
+    ensures { (nodes : List NodeId) (entries : List (List ℕ)) → HasEntries nodes [] entries log →
+        values_at sha256 (map (leaf_hash sha256) entries) nodes ≡ all_there (growth_digests old.now.size entries) →
         Gives bytes_in result
         (growth_text (checkpoint_fields old.now) (checkpoint_fields new.now) checkpoint.now entries) }
 {
@@ -116,13 +117,13 @@ fn text_of(
 }
 
 /// The nodes whose values are the digests of a proof between two sizes.
-fn growth_places(alloc: Global, old: usize, new: usize) -> Result<Vec<(usize, usize)>, AllocError>
+fn growth_nodes(alloc: Global, old: usize, new: usize) -> Result<Vec<NodeId>, AllocError>
     requires { old ≤ new }
-    ensures { IfOk result (λ places. (entries : List (List ℕ)) → length entries ≡ new →
-        values_at sha256 (map (leaf_hash sha256) entries) places.items ≡ all_there (growth_digests old entries)) }
+    ensures { IfOk result (λ nodes. (entries : List (List ℕ)) → length entries ≡ new →
+        values_at sha256 (map (leaf_hash sha256) entries) nodes.items ≡ all_there (growth_digests old entries)) }
 {
     if old == 0 || old == new {
         return Ok(Vec::new(alloc));
     }
-    consistency_places(alloc, old, new)
+    consistency_nodes(alloc, old, new)
 }

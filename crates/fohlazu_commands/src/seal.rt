@@ -22,7 +22,7 @@ use tlog_text::Checkpoint;
 ///
 /// - `Read` if the file cannot be read;
 /// - `TooManyEntries` if it has more than 2^62 entries;
-/// - `EndsInsideLine` if it ends inside a line, and `cut` refuses that.
+/// - `EndsInsideLine` if it ends inside a line, and `framing` refuses that.
 pub fn seal<R: Read>(
     alloc: Global,
     origin: &str,

@@ -7,6 +7,7 @@ use percent_encoding::percent_decode_str;
 use std::alloc::Global;
 use std::fmt::{Display, Write};
 use tlog_files::{Framing, PartialLine};
+use tlog_tree::NodeId;
 
 /// A case.
 #[derive(Drop)]
@@ -61,13 +62,16 @@ impl<'a> Case<'a> {
     }
 
     /// The next word as a list of nodes.
-    pub fn nodes(&mut self) -> Result<Vec<(usize, usize)>> {
+    pub fn nodes(&mut self) -> Result<Vec<NodeId>> {
         let mut nodes = Vec::new(self.alloc);
         for item in &items(self.alloc, self.word())? {
             let Some((layer, slot)) = item.split_once('.') else {
                 bail!("no node: {item}");
             };
-            nodes.push((layer.parse()?, slot.parse()?))?;
+            nodes.push(NodeId {
+                layer: layer.parse()?,
+                slot: slot.parse()?,
+            })?;
         }
         Ok(nodes)
     }

@@ -27,7 +27,7 @@ fn answer(case: &mut Case<'_>) -> Result<()> {
         "root" => proofs::root_by_size(case),
         "inclusion" => proofs::inclusion(case),
         "consistency" => proofs::consistency(case),
-        "places" => proofs::places(case),
+        "proof_nodes" => proofs::proof_nodes(case),
         "digests" => proofs::digests(case),
         "frontier" => proofs::frontier(case),
         "included" => verdicts::included(case),

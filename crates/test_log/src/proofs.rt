@@ -7,9 +7,9 @@ use std::alloc::Global;
 use std::fmt::Write;
 use tlog::collision::{consistency_proof, inclusion_proof, root};
 use tlog::{SIZE_LIMIT, compose, leaf_hash, verify_consistency, verify_inclusion};
-use tlog_multiproof::{entry_places, verify_entries};
+use tlog_multiproof::{entry_nodes, verify_entries};
 use tlog_tree::{
-    Frontier, TreeBuilder, TreeError, consistency_places, inclusion_places, leaf_hashes,
+    Frontier, NodeId, TreeBuilder, TreeError, consistency_nodes, inclusion_nodes, leaf_hashes,
 };
 
 /// The leaf hashes of entries.
@@ -19,8 +19,8 @@ fn hashes(alloc: Global, entries: &[Vec<u8>]) -> Result<Vec<[u8; 32]>> {
 }
 
 /// The tree of entries, which come in longer and longer pieces, where these nodes are wanted.
-fn tree(alloc: Global, entries: &[Vec<u8>], places: &[(usize, usize)]) -> Result<TreeBuilder> {
-    let mut tree = TreeBuilder::new(alloc, places)?;
+fn tree(alloc: Global, entries: &[Vec<u8>], nodes: &[NodeId]) -> Result<TreeBuilder> {
+    let mut tree = TreeBuilder::new(alloc, nodes)?;
     let mut rest = entries;
     for len in 0..=entries.len() {
         let (piece, behind) = rest.split_at(rest.len().min(len));
@@ -37,10 +37,10 @@ fn tree(alloc: Global, entries: &[Vec<u8>], places: &[(usize, usize)]) -> Result
 fn check_digests(
     alloc: Global,
     entries: &[Vec<u8>],
-    places: &[(usize, usize)],
+    nodes: &[NodeId],
     proof: &[[u8; 32]],
 ) -> Result<()> {
-    let values = tree(alloc, entries, places)?.values(alloc)?;
+    let values = tree(alloc, entries, nodes)?.values(alloc)?;
     let digests: Vec<Option<[u8; 32]>> = proof.iter().map(|digest| Some(*digest)).collect(alloc)?;
     ensure!(values == digests, "the tree has another proof");
     Ok(())
@@ -66,11 +66,11 @@ pub fn inclusion(case: &mut Case<'_>) -> Result<()> {
     let size = entries.len();
     ensure!(index < size, "there is no such entry");
     let proof = inclusion_proof::<Sha256, 32>(alloc, &entries, index)?;
-    let places = inclusion_places(alloc, index, size)?;
-    check_digests(alloc, &entries, &places, &proof)?;
+    let nodes = inclusion_nodes(alloc, index, size)?;
+    check_digests(alloc, &entries, &nodes, &proof)?;
     ensure!(
-        entry_places(alloc, &[index], size)? == places,
-        "there are other places"
+        entry_nodes(alloc, &[index], size)? == nodes,
+        "there are other nodes"
     );
     let leaf = leaf_hash(&entries[index]);
     let root = root::<Sha256, 32>(&entries);
@@ -117,8 +117,8 @@ pub fn consistency(case: &mut Case<'_>) -> Result<()> {
     ensure!(0 < old_size && old_size <= size, "there is no such proof");
     let proof = consistency_proof::<Sha256, 32>(alloc, &entries, old_size)?;
     if old_size < size {
-        let places = consistency_places(alloc, old_size, size)?;
-        check_digests(alloc, &entries, &places, &proof)?;
+        let nodes = consistency_nodes(alloc, old_size, size)?;
+        check_digests(alloc, &entries, &nodes, &proof)?;
     }
     let (old_root, root) = (
         root::<Sha256, 32>(&entries[..old_size]),
@@ -133,18 +133,18 @@ pub fn consistency(case: &mut Case<'_>) -> Result<()> {
 }
 
 /// The nodes of the proof of some entries of a log.
-fn places_of(case: &Case<'_>, size: usize, indices: &[usize]) -> Result<Vec<(usize, usize)>> {
+fn nodes_of(case: &Case<'_>, size: usize, indices: &[usize]) -> Result<Vec<NodeId>> {
     if size == 0 || size > SIZE_LIMIT || indices.iter().any(|index| *index >= size) {
         bail!("there is no such proof");
     }
-    Ok(entry_places(case.alloc, indices, size)?)
+    Ok(entry_nodes(case.alloc, indices, size)?)
 }
 
-/// `places SIZE INDICES`: the nodes of the proof of several entries.
-pub fn places(case: &mut Case<'_>) -> Result<()> {
+/// `proof_nodes SIZE INDICES`: the nodes of the proof of several entries.
+pub fn proof_nodes(case: &mut Case<'_>) -> Result<()> {
     let (size, indices) = (case.number()?, case.numbers()?);
-    for (layer, slot) in &places_of(case, size, &indices)? {
-        write!(case.answer, "{layer}.{slot} ")?;
+    for node in &nodes_of(case, size, &indices)? {
+        write!(case.answer, "{}.{} ", node.layer, node.slot)?;
     }
     Ok(())
 }
@@ -152,8 +152,8 @@ pub fn places(case: &mut Case<'_>) -> Result<()> {
 /// `digests SIZE INDICES`: the first four bytes of each digest of this proof, as a tree has them.
 pub fn digests(case: &mut Case<'_>) -> Result<()> {
     let (entries, indices) = (case.log()?, case.numbers()?);
-    let places = places_of(case, entries.len(), &indices)?;
-    for value in tree(case.alloc, &entries, &places)?.values(case.alloc)? {
+    let nodes = nodes_of(case, entries.len(), &indices)?;
+    for value in tree(case.alloc, &entries, &nodes)?.values(case.alloc)? {
         case.push_short(value)?;
     }
     Ok(())

@@ -7,17 +7,18 @@ use std::alloc::Global;
 use tlog::collision::root;
 use tlog::{leaf_hash, verify_consistency, verify_inclusion};
 use tlog_multiproof::{entries_collision, verify_entries};
+use tlog_tree::NodeId;
 
 /// The values of nodes in the tree of these entries.
-fn values(alloc: Global, entries: &[Vec<u8>], nodes: &[(usize, usize)]) -> Result<Vec<[u8; 32]>> {
+fn values(alloc: Global, entries: &[Vec<u8>], nodes: &[NodeId]) -> Result<Vec<[u8; 32]>> {
     let mut values = Vec::new(alloc);
-    for (layer, slot) in nodes {
-        ensure!(*layer < 64, "there is no such node");
-        let first = slot.checked_shl(*layer as u32).unwrap_or(entries.len());
+    for &NodeId { layer, slot } in nodes {
+        ensure!(layer < 64, "there is no such node");
+        let first = slot.checked_shl(layer as u32).unwrap_or(entries.len());
         let Some(rest) = entries.get(first..) else {
             bail!("there is no such node");
         };
-        values.push(root::<Sha256, 32>(rest.get(..1 << *layer).unwrap_or(rest)))?;
+        values.push(root::<Sha256, 32>(rest.get(..1 << layer).unwrap_or(rest)))?;
     }
     Ok(values)
 }

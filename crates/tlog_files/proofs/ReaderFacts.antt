@@ -11,6 +11,7 @@ use Rattle.tlog.specs.Rfc9162.{leaf_hash}
 use Rattle.tlog.specs.Verdicts.{size_limit}
 use Rattle.tlog_tree.specs.Builders.{IsBuilderOf}
 use Rattle.tlog_tree.specs.declared.builder.TreeBuilder.{TreeBuilder}
+use Rattle.tlog_tree.specs.declared.node_id.NodeId.{NodeId}
 use Rattle.tlog_files.specs.Entries.{entries_in, is_refused, read_refusal, wanted_of, first_entries, is_short, partial_of}
 use Rattle.tlog_files.specs.Inner.Splitting.{AreAll, AreTooMany, HasBuilt, HasGrown, ReadsTooMany}
 use Rattle.tlog_files.specs.Entries.{refuses, rest_of, HoldsOfFile}
@@ -34,7 +35,7 @@ leaves entries = map (leaf_hash sha256) entries
 -- ---- all that is read
 
 -- where not as many entries have ended as are read, all of the bytes have been read
-pub whole_read : (nodes : List (ℕ × ℕ)) (wanted : List ℕ) (s : Splitter) (tree : TreeBuilder) (front bytes : List ℕ) →
+pub whole_read : (nodes : List NodeId) (wanted : List ℕ) (s : Splitter) (tree : TreeBuilder) (front bytes : List ℕ) →
     nat_le s.limit s.count ≡ false → (g : HasGrown nodes wanted s tree front bytes) → bytes ≡ g.read
 whole_read nodes wanted s tree front bytes room g =
     elim g.all_read [
@@ -42,7 +43,7 @@ whole_read nodes wanted s tree front bytes room g =
       | inr full ↦ absurd (omega (arith, leb-false s.limit s.count room, full))
     ]
 
-pub grown_on : (nodes : List (ℕ × ℕ)) (wanted : List ℕ) (s t : Splitter) (tree grown : TreeBuilder)
+pub grown_on : (nodes : List NodeId) (wanted : List ℕ) (s t : Splitter) (tree grown : TreeBuilder)
     (bytes more : List ℕ) → nat_le s.limit s.count ≡ false → (g : HasGrown nodes wanted s tree [] bytes) →
     HasGrown nodes wanted t grown g.read more → HasGrown nodes wanted t grown [] (bytes ++ more)
 grown_on nodes wanted s t tree grown bytes more room g step =
@@ -55,7 +56,7 @@ grown_on nodes wanted s t tree grown bytes more room g step =
       all_read = step.all_read;
     }
 
-pub log_of : (log : ReadLog) (framing : Framing) (limit : ℕ) (nodes : List (ℕ × ℕ)) (wanted bytes : List ℕ) (w : WantedEntries)
+pub log_of : (log : ReadLog) (framing : Framing) (limit : ℕ) (nodes : List NodeId) (wanted bytes : List ℕ) (w : WantedEntries)
     (ended hashes : List (List ℕ)) → AreAll wanted w framing limit ended bytes hashes →
     IsBuilderOf (leaves ended ++ hashes) nodes log.tree →
     ((all : List (List ℕ)) (open_bytes : List ℕ) → HoldsWanted w wanted all open_bytes →
@@ -79,7 +80,7 @@ refused_by e true Many is many = inr (is, many refl)
 refused_by e false Many is many = inl is
 
 -- the size of a tree
-pub size_of : (entries : List (List ℕ)) (nodes : List (ℕ × ℕ)) (tree : TreeBuilder) →
+pub size_of : (entries : List (List ℕ)) (nodes : List NodeId) (tree : TreeBuilder) →
     IsBuilderOf (leaves entries) nodes tree → tree.frontier.size ≡ length entries
 size_of entries nodes tree built = built.frontier.size ∙ length-map entries (leaf_hash sha256)
 
@@ -97,7 +98,7 @@ refused_many framing None n bytes is many =
     (lt-leb (length entries) (2 ^ 62) (omega (arith, many, length-take n entries)))
 
 -- the file ends inside a line
-pub refused_inside : (nodes : List (ℕ × ℕ)) (wanted : List ℕ) (s : Splitter) (tree : TreeBuilder)
+pub refused_inside : (nodes : List NodeId) (wanted : List ℕ) (s : Splitter) (tree : TreeBuilder)
     (front bytes : List ℕ) → (b : HasBuilt nodes wanted s tree front) → (e : ReadError) →
     (e ≡ OutOfMemory) ⊎ ((e ≡ EndsInsideLine) × (is_refused s.framing (Some s.limit) bytes ≡ true)
     × (take s.limit (entries_in s.framing bytes) ≡ b.ended)) →
@@ -109,7 +110,7 @@ refused_inside nodes wanted s tree front bytes b e (inr (is, refused, all)) =
     omega (arith, ap length all, size_of b.ended nodes tree b.built, tree.frontier.limit) in
     inr ((λ i. refusal_of (le-leb (length read) (2 ^ 62) few i) (refused i)) ∙ ap Some (sym is))
 
-pub many_at_end : (nodes : List (ℕ × ℕ)) (wanted : List ℕ) (s : Splitter) (tree : TreeBuilder) (front bytes : List ℕ) →
+pub many_at_end : (nodes : List NodeId) (wanted : List ℕ) (s : Splitter) (tree : TreeBuilder) (front bytes : List ℕ) →
     (b : HasBuilt nodes wanted s tree front) → (w : WantedEntries) (hashes : List (List ℕ)) →
     AreAll wanted w s.framing s.limit b.ended bytes hashes →
     nat_lt size_limit (tree.frontier.size + length hashes) ≡ true → AreTooMany s.framing s.limit bytes
@@ -195,7 +196,7 @@ same_read None n entries is few =
       sym (lt-ltb (length entries) n (omega (arith, few, count, is))),
     )
 
-pub log_with : (log : ReadLog) (framing : Framing) (limit : Option ℕ) (n : ℕ) (nodes : List (ℕ × ℕ)) (wanted bytes : List ℕ) →
+pub log_with : (log : ReadLog) (framing : Framing) (limit : Option ℕ) (n : ℕ) (nodes : List NodeId) (wanted bytes : List ℕ) →
     n ≡ unwrap_or limit (2 ^ 64 - 1) → IsLogOf log framing (Some n) nodes wanted bytes →
     IsLogOf log framing limit nodes wanted bytes
 log_with log framing limit n nodes wanted bytes is log_is =

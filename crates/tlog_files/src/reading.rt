@@ -5,6 +5,7 @@ ghost use Rattle.std.specs.Prelude.{if◌then◌else◌};
 ghost use Rattle.std.specs.Io.KnownBytes.{Consumes, IsAtEnd};
 ghost use Rattle.tlog.specs.Verdicts.{size_limit};
 ghost use Rattle.tlog_tree.specs.Builders.{IsBuilderOf};
+ghost use Rattle.tlog_tree.specs.declared.node_id.NodeId.{NodeId};
 ghost use Rattle.tlog_files.specs.Entries.{read_refusal, HoldsOfFile, IsFraming};
 ghost use Rattle.tlog_files.specs.Logs.{IsLogOf};
 ghost use Rattle.tlog_files.specs.Inner.Splitting.{AreTooMany, HasBuilt, HasGrown, IsReady, ReadsTooMany};
@@ -16,7 +17,7 @@ use crate::splitter::Splitter;
 use crate::wanted::{WantedEntries, places_in_order};
 use std::alloc::Global;
 use std::io::{ErrorKind, Read};
-use tlog_tree::{TreeBuilder, TreeError};
+use tlog_tree::{NodeId, TreeBuilder, TreeError};
 
 /// How many bytes are read at a time.
 const BUFFER: usize = 1 << 20;
@@ -31,8 +32,8 @@ pub struct ReadLog {
 }
 
 /// Reads a log that stands in a file, in one pass from where the reader stands: its tree (RFC 9162, 2.1.1), with the
-/// values of wanted nodes, each by its layer and its slot, and the bytes of wanted entries, each by its index, counted
-/// from 0, in any order and as often as it is named. Blocks of `cut` must have from 1 to 2^30 bytes.
+/// values of wanted nodes, and the bytes of wanted entries, each by its index, counted from 0, in any order and as
+/// often as it is named. Blocks of `framing` must have from 1 to 2^30 bytes.
 ///
 /// With a limit it reads so many entries, and of the file at most 1 MiB more, which decides nothing. Without one it
 /// reads to the end of the file. Beside wanted nodes and entries it holds less than 8 MiB, whatever the file has; of
@@ -49,7 +50,7 @@ pub fn read_log<R: Read>(
     alloc: Global,
     framing: Framing,
     limit: Option<usize>,
-    wanted_nodes: &[(usize, usize)],
+    wanted_nodes: &[NodeId],
     wanted_entries: &[usize],
     file: &mut R,
 ) -> Result<ReadLog, ReadError>
@@ -80,11 +81,11 @@ fn read_through<R: Read>(
     requires { IsReady splitter.old }
     ensures ready { OnOk result (IsReady splitter.new) }
     ensures unchanged { OnOk result ((splitter.new.framing ≡ splitter.old.framing) × (splitter.new.limit ≡ splitter.old.limit)) }
-    ensures built { (nodes : List (ℕ × ℕ)) (wanted : List ℕ) → HasBuilt nodes wanted splitter.old tree [] →
+    ensures built { (nodes : List NodeId) (wanted : List ℕ) → HasBuilt nodes wanted splitter.old tree [] →
         IfOk result (λ read. (bytes : List ℕ) × Consumes (R.remaining file.old) (R.remaining file.new) bytes
         × HasGrown nodes wanted splitter.new read [] bytes
         × (IsAtEnd (R.remaining file.new) ⊎ (splitter.new.limit ≤ splitter.new.count))) }
-    ensures refused { (nodes : List (ℕ × ℕ)) (wanted : List ℕ) → HasBuilt nodes wanted splitter.old tree [] →
+    ensures refused { (nodes : List NodeId) (wanted : List ℕ) → HasBuilt nodes wanted splitter.old tree [] →
         IfErr result (λ e. (e ≡ OutOfMemory) ⊎ ((e ≡ FailedRead) ⊎ ((e ≡ TooManyEntries)
         × ReadsTooMany splitter.old.framing splitter.old.limit (R.remaining file.old) (R.remaining file.new)))) }
 {
@@ -117,9 +118,9 @@ fn push(
     requires { IsReady splitter.old }
     ensures ready { OnOk result (IsReady splitter.new) }
     ensures unchanged { OnOk result ((splitter.new.framing ≡ splitter.old.framing) × (splitter.new.limit ≡ splitter.old.limit)) }
-    ensures built { (nodes : List (ℕ × ℕ)) (wanted front : List ℕ) → HasBuilt nodes wanted splitter.old tree front →
+    ensures built { (nodes : List NodeId) (wanted front : List ℕ) → HasBuilt nodes wanted splitter.old tree front →
         IfOk result (λ grown. HasGrown nodes wanted splitter.new grown front bytes.now) }
-    ensures refused { (nodes : List (ℕ × ℕ)) (wanted front rest : List ℕ) →
+    ensures refused { (nodes : List NodeId) (wanted front rest : List ℕ) →
         HasBuilt nodes wanted splitter.old tree front → IfErr result (λ e. (e ≡ OutOfMemory) ⊎ ((e ≡ TooManyEntries)
         × AreTooMany splitter.old.framing splitter.old.limit (front ++ (bytes.now ++ rest)))) }
 {
@@ -134,7 +135,7 @@ fn push(
 
 /// The tree with the leaf hashes of more entries.
 fn grown(alloc: Global, tree: TreeBuilder, hashes: &[[u8; 32]]) -> Result<TreeBuilder, ReadError>
-    ensures built { IfOk result (λ grown. (leaves : List (List ℕ)) (nodes : List (ℕ × ℕ)) →
+    ensures built { IfOk result (λ grown. (leaves : List (List ℕ)) (nodes : List NodeId) →
         IsBuilderOf leaves nodes tree → IsBuilderOf (leaves ++ hashes.now) nodes grown) }
     ensures refused { IfErr result (λ e. e
         ≡ (if nat_lt size_limit (tree.frontier.size + length hashes.now) then TooManyEntries else OutOfMemory)) }

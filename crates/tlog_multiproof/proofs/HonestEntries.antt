@@ -15,8 +15,10 @@ use Rattle.tlog.specs.Verdicts.{size_limit}
 use Rattle.tlog.proofs.Honest.{included}
 use Rattle.tlog.proofs.Layers.{itself}
 use Rattle.tlog_tree.specs.Trees.{all_there, leaves_root, node_at, values_at as tree_values}
+use Rattle.tlog_tree.specs.declared.node_id.NodeId.{NodeId}
 use Rattle.tlog_multiproof.specs.Entries.{AreIncluded, entries_opening, is_node, proof_nodes, with_padding}
-use Rattle.tlog_multiproof.specs.Instance.{leaf_row, log_batch, log_functions, log_params, log_shape, present}
+use Rattle.tlog_multiproof.specs.Instance.{leaf_row, log_batch, log_functions, log_params, log_shape, nodes_at}
+use Rattle.tlog_multiproof.specs.Instance.{present}
 use Rattle.tlog_multiproof.specs.declared.tree.Node.{Node}
 use Rattle.tlog_multiproof.proofs.Honest.{restored_is_path}
 use Rattle.tlog_multiproof.proofs.Nodes.{node_is_mth, padding_is_absent}
@@ -27,9 +29,9 @@ module _ (hash : HashFunction) (leaves : List (List ℕ)) (some : 0 < length lea
   abbrev pub leaves_at : List ℕ → List (List ℕ)
   leaves_at indices = map (λ i. get_or leaves i []) indices
 
-  -- the values of nodes, by their layers and slots
-  abbrev pub values_at : List (ℕ × ℕ) → List (List ℕ)
-  values_at slots = map (λ (l, j). node_at hash leaves l j) slots
+  -- the values of nodes
+  abbrev pub values_at : List NodeId → List (List ℕ)
+  values_at nodes = map (λ (node : NodeId). node_at hash leaves node.layer node.slot) nodes
 
   rows_at : (indices : List ℕ) → map (honest_rows (log_batch leaves)) indices ≡ map leaf_row (leaves_at indices)
   rows_at [] = refl
@@ -44,8 +46,10 @@ module _ (hash : HashFunction) (leaves : List (List ℕ)) (some : 0 < length lea
 
   -- the digest of one more slot
   padded_more : (l j : ℕ) (slots : List (ℕ × ℕ)) → l ≤ levels (log_shape (length leaves)) →
-      with_padding (length leaves) slots (values_at (filter (is_node (length leaves)) slots)) ≡ map value slots →
-      with_padding (length leaves) ((l, j) ∷ slots) (values_at (filter (is_node (length leaves)) ((l, j) ∷ slots)))
+      with_padding (length leaves) slots (values_at (nodes_at (filter (is_node (length leaves)) slots)))
+      ≡ map value slots →
+      with_padding (length leaves) ((l, j) ∷ slots)
+      (values_at (nodes_at (filter (is_node (length leaves)) ((l, j) ∷ slots))))
       ≡ map value ((l, j) ∷ slots)
   padded_more l j slots low rest =
       elim (cases_Bool (nat_lt (j * 2 ^ l) (length leaves))) [
@@ -58,16 +62,18 @@ module _ (hash : HashFunction) (leaves : List (List ℕ)) (some : 0 < length lea
       ]
 
   layer_padded : (l : ℕ) (js : List ℕ) (slots : List (ℕ × ℕ)) → l ≤ levels (log_shape (length leaves)) →
-      with_padding (length leaves) slots (values_at (filter (is_node (length leaves)) slots)) ≡ map value slots →
+      with_padding (length leaves) slots (values_at (nodes_at (filter (is_node (length leaves)) slots)))
+      ≡ map value slots →
       let all = map (λ j. (l, j)) js ++ slots in
-      with_padding (length leaves) all (values_at (filter (is_node (length leaves)) all)) ≡ map value all
+      with_padding (length leaves) all (values_at (nodes_at (filter (is_node (length leaves)) all))) ≡ map value all
   layer_padded l [] slots low rest = rest
   layer_padded l (j ∷ js) slots low rest =
       padded_more l j (map (λ j. (l, j)) js ++ slots) low (layer_padded l js slots low rest)
 
   layers_padded : (indices : List ℕ) (l n : ℕ) → l + n ≤ levels (log_shape (length leaves)) →
       let slots = flat_map (boundary_at (log_shape (length leaves)) indices) (range_with_len l n) in
-      with_padding (length leaves) slots (values_at (filter (is_node (length leaves)) slots)) ≡ map value slots
+      with_padding (length leaves) slots (values_at (nodes_at (filter (is_node (length leaves)) slots)))
+      ≡ map value slots
   layers_padded indices l zero low = refl
   layers_padded indices l (suc n) low =
       let s = log_shape (length leaves) in
@@ -92,7 +98,8 @@ module _ (hash : HashFunction) (leaves : List (List ℕ)) (some : 0 < length lea
     some = any;
     in_pairs = length-map indices (λ i. get_or leaves i []);
     within = within;
-    count = length-map (proof_nodes (length leaves) indices) (λ (l, j). node_at hash leaves l j);
+    count = length-map (proof_nodes (length leaves) indices)
+        (λ (node : NodeId). node_at hash leaves node.layer node.slot);
     one_leaf = λ a b h g same.
         let at = λ (k : ℕ) (h : k < length indices). get_or-map (λ i. get_or leaves i []) indices k 0 [] h in
         at a h ∙ ap (λ i. get_or leaves i []) same ∙ sym (at b g);
@@ -107,7 +114,7 @@ module _ (hash : HashFunction) (leaves : List (List ℕ)) (some : 0 < length lea
   }
 
   -- they are all there in the tree
-  pub values_there : (slots : List (ℕ × ℕ)) → let nodes = filter (is_node (length leaves)) slots in
+  pub values_there : (slots : List (ℕ × ℕ)) → let nodes = nodes_at (filter (is_node (length leaves)) slots) in
       tree_values hash leaves nodes ≡ all_there (values_at nodes)
   values_there [] = refl
   values_there ((l, j) ∷ slots) =

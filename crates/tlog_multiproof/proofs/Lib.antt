@@ -6,6 +6,7 @@ pub mod Nodes
 pub mod Leaves
 pub mod Subproofs
 pub mod Honest
+pub mod NodeSlots
 pub mod ShapeFacts
 pub mod BoundaryFacts
 pub mod PaddingFacts

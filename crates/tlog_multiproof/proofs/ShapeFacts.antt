@@ -1,21 +1,23 @@
 -- The boundary of some entries in the tree of a log.
-use Rattle.std.proofs.Common.{◌≡◌, ℕ, zero, suc, ◌+◌, ◌^◌, ◌<◌, ◌≤◌, Bool, true, not, List, ◌++◌, map, filter, ap, sym}
-use Rattle.std.proofs.Common.{◌∙◌, arith, add-one, eqb, length, get_or, All}
-use Rattle.std.proofs.lemmas.Bool.{and_from, and_parts, both_ways, eqb-true, false_from_ne_true, not-true}
+use Rattle.std.proofs.Common.{◌≡◌, ℕ, zero, suc, ◌+◌, ◌-◌, ◌*◌, ◌^◌, ◌<◌, ◌≤◌, Bool, true, not, List, ◌++◌, map, filter}
+use Rattle.std.proofs.Common.{◌∙◌, ap, sym, subst, inl, inr, arith, add-one, eqb, length, get_or, All}
+use Rattle.std.proofs.lemmas.Bool.{and_from, and_parts, both_ways, cases_lt, eqb-true, false_from_ne_true, not-true}
 use Rattle.std.proofs.lemmas.Bool.{not_from_false, true≢false}
 use Rattle.std.proofs.lemmas.List.{get_or_default, get_or-map, length-map}
 use Rattle.std.proofs.lemmas.List.Elements.{All-append}
 use Rattle.std.proofs.lemmas.List.Folds.{Any-from_list_any}
 use Rattle.std.proofs.lemmas.Map.Views.{any-filter_same}
-use Rattle.std.proofs.Math.Nat.{div-le_self}
+use Rattle.std.proofs.lemmas.Nat.{pow_pos}
+use Rattle.std.proofs.Math.Nat.{div-div-eq-div-mul, div-eq_of_lt, div-le_self, le-div_iff_mul-le, pow-succ'}
 use Rattle.std.specs.Prelude.{◌/◌, ◌&&◌, ◌≢◌}
-use Rattle.std.specs.List.{range_with_len}
+use Rattle.std.specs.List.{dedup, range_with_len}
 use Rattle.p3_support.specs.Lists.{is_among}
 use Rattle.p3_merkle_core.specs.Geometry.{Shape, ancestor, exponent, layer_len, leaves_under, levels, step}
 use Rattle.p3_merkle_core.specs.Inner.Agreement.{IsAscending}
 use Rattle.p3_merkle_core.specs.Inner.Covered.{covered_at}
 use Rattle.p3_merkle_core.specs.Pruning.{CanQuery, boundary, boundary_at, is_boundary, is_covered}
-use Rattle.p3_merkle_core.proofs.Covered.CoveredFacts.{covered_child, covered_listed, group_fits, listed_covered}
+use Rattle.p3_merkle_core.proofs.Covered.CoveredFacts.{covered_above, covered_child, covered_listed, group_fits}
+use Rattle.p3_merkle_core.proofs.Covered.CoveredFacts.{listed_covered}
 use Rattle.p3_merkle_core.proofs.Covered.Under.{covered_up}
 use Rattle.p3_merkle_core.proofs.Lists.ListFacts.{joined_more}
 use Rattle.p3_merkle_core.proofs.Lists.RisingFacts.{filter_is, listed_at, listed_map, map_lists, rising_filter}
@@ -26,7 +28,7 @@ use Rattle.tlog.specs.Verdicts.{size_limit}
 use Rattle.tlog_multiproof.specs.Instance.{log_shape}
 use Rattle.tlog_multiproof.specs.Inner.Siblings.{sibling}
 use Rattle.tlog_multiproof.proofs.BoundaryFacts.{siblings_rise}
-use Rattle.tlog_multiproof.proofs.Shapes.{step_of_two, tallest, two_is_arity}
+use Rattle.tlog_multiproof.proofs.Shapes.{more_below, root_covers, step_of_two, tallest, two_is_arity}
 
 -- indices below the size can be queried
 pub log_query : (size : ℕ) (indices : List ℕ) → All (λ i. i < size) indices →
@@ -118,6 +120,45 @@ boundary_more size indices l here old new below h is_here is_old is_new =
     is_new ∙ rw (is_old, is_here, siblings_are size indices l below h, add-one)
     (sym (joined_more (boundary_at (log_shape size) indices) l))
 
+-- ---- from layer to layer
+
+-- the covered nodes of the layer above
+pub covered_next : (size : ℕ) (indices : List ℕ) (l : ℕ) (here above : List ℕ) → All (λ i. i < size) indices →
+    l < levels (log_shape size) → here ≡ covered_at (log_shape size) indices l →
+    above ≡ dedup eqb (map (λ j. j / 2) here) → above ≡ covered_at (log_shape size) indices (l + 1)
+covered_next size indices l here above below h is_here is_above =
+    let s = log_shape size in
+    let up = subst (λ (n : ℕ). dedup eqb (map (λ j. j / n) (covered_at s indices l)) ≡ covered_at s indices (suc l))
+    (step_of_two size l) (covered_above s indices (levels s) (log_query size indices below) l h) in
+    rw add-one (is_above ∙ ap (λ (xs : List ℕ). dedup eqb (map (λ j. j / 2) xs)) is_here ∙ up)
+
+-- a layer below the root has a last node after its first, the root is alone
+pub below_root : (size l : ℕ) → 0 < size → l ≤ levels (log_shape size) → 0 < (size - 1) / 2 ^ l →
+    l < levels (log_shape size)
+below_root size l some low more = elim (cases_lt l (levels (log_shape size))) [
+  | inl below ↦ below
+  | inr above ↦
+      let top : l ≡ levels (log_shape size) = omega arith in
+      let covers = root_covers size in
+      let none : (size - 1) / 2 ^ l ≡ 0 = div-eq_of_lt (rw top (omega arith)) in absurd (omega arith)
+]
+
+pub at_root : (size l : ℕ) → 0 < size → l ≤ levels (log_shape size) → (size - 1) / 2 ^ l ≡ 0 →
+    l ≡ levels (log_shape size)
+at_root size l some low none = elim (cases_lt l (levels (log_shape size))) [
+  | inl below ↦
+      let more = more_below size l below in
+      let one : 1 ≤ (size - 1) / 2 ^ l =
+      (le-div_iff_mul-le {k = 2 ^ l} {x = 1} {y = size - 1} (pow_pos l)).1 (omega arith) in
+      absurd (omega arith)
+  | inr above ↦ omega arith
+]
+
+pub last_above : (size l : ℕ) → (size - 1) / 2 ^ l / 2 ≡ (size - 1) / 2 ^ (l + 1)
+last_above size l =
+    let twice : 2 ^ l * 2 ≡ 2 ^ (l + 1) = rw add-one (omega (arith, pow-succ' 2 l)) in
+    div-div-eq-div-mul (size - 1) (2 ^ l) 2 ∙ ap (λ (n : ℕ). (size - 1) / n) twice
+
 -- ---- the layers of the boundary
 
 layers_below : (s : Shape) (indices : List ℕ) (m t : ℕ) → t ≤ m → All (λ slot. slot.0 < m) (boundary s indices t)
@@ -132,9 +173,13 @@ layers_below s indices m (suc t) h =
     (All-append (λ (slot : ℕ × ℕ). slot.0 < m) (boundary s indices t) (boundary_at s indices t)
     (layers_below s indices m t (omega arith)) last)
 
+-- how many layers there are
+pub levels_small : (size : ℕ) → size ≤ size_limit → levels (log_shape size) ≤ 62
+levels_small size small =
+    omega (arith, levels_le (log_shape size), exponent_le size 62 small, ap exponent (tallest size))
+
 pub layers_small : (size : ℕ) (indices : List ℕ) (slots : List (ℕ × ℕ)) → size ≤ size_limit →
     slots ≡ boundary (log_shape size) indices (levels (log_shape size)) → All (λ slot. slot.0 < 64) slots
 layers_small size indices slots small is =
-    let few : levels (log_shape size) ≤ 62 =
-    omega (arith, levels_le (log_shape size), exponent_le size 62 small, ap exponent (tallest size)) in
+    let few = levels_small size small in
     rw is (layers_below (log_shape size) indices 64 (levels (log_shape size)) (omega arith))

@@ -15,8 +15,9 @@ use Rattle.p3_merkle_core.proofs.Covered.Sufficient.{boundary_suffices}
 use Rattle.p3_merkle_core.proofs.Covered.Under.{child_parent, covered_up, member_counts, under_parent}
 use Rattle.p3_merkle_core.proofs.Lists.ListFacts.{tally}
 use Rattle.tlog_multiproof.specs.Entries.{is_node, proof_nodes}
-use Rattle.tlog_multiproof.specs.Instance.{log_shape}
+use Rattle.tlog_multiproof.specs.Instance.{log_shape, slots_of}
 use Rattle.tlog_multiproof.specs.Laws.{ArePadding}
+use Rattle.tlog_multiproof.proofs.NodeSlots.{as_many, slots_back}
 use Rattle.tlog_multiproof.proofs.ShapeFacts.{log_query}
 use Rattle.tlog_multiproof.proofs.Shapes.{covered_inside, double_slot, step_of_two, two_is_arity}
 
@@ -128,6 +129,10 @@ module _ (size : ℕ) (indices : List ℕ) (below : All (λ i. i < size) indices
   abbrev slots : List (ℕ × ℕ)
   slots = boundary s indices (levels s)
 
+  -- the slots of the proof's nodes
+  abbrev kept : List (ℕ × ℕ)
+  kept = filter (is_node size) slots
+
   rest_is_padding : (nodes : List (ℕ × ℕ)) → ArePadding size (filter (λ slot. not (is_node size slot)) nodes)
   rest_is_padding [] l j e = absurd (true≢false (sym e))
   rest_is_padding ((m, k) ∷ nodes) l j e =
@@ -145,17 +150,18 @@ module _ (size : ℕ) (indices : List ℕ) (below : All (λ i. i < size) indices
       ]
 
   pub nodes_suffice : (padding : List (ℕ × ℕ)) × ArePadding size padding ×
-      Suffices s indices (levels s) (proof_nodes size indices ++ padding)
+      Suffices s indices (levels s) (slots_of (proof_nodes size indices) ++ padding)
   nodes_suffice = (
     filter (λ slot. not (is_node size slot)) slots,
     rest_is_padding slots,
-    λ j c. known_more s indices slots (proof_nodes size indices ++ filter (λ slot. not (is_node size slot)) slots)
+    rw (slots_back kept)
+        (λ j c. known_more s indices slots (kept ++ filter (λ slot. not (is_node size slot)) slots)
         (in_parts (is_node size) slots) (levels s) j
-        (boundary_suffices s indices (levels s) (log_query size indices below) j c),
+        (boundary_suffices s indices (levels s) (log_query size indices below) j c)),
   )
 
   -- a slot is under one node of the proof at most
-  one_above : (x : ℕ × ℕ) → tally (above s x) (proof_nodes size indices) ≤ 1
+  one_above : (x : ℕ × ℕ) → tally (above s x) kept ≤ 1
   one_above (m, k) =
       let one : tally (above s (m, k)) slots ≤ 1 = elim (boundary_one s indices m k (levels s)) [
         | inl none ↦ omega arith
@@ -194,13 +200,13 @@ module _ (size : ℕ) (indices : List ℕ) (below : All (λ i. i < size) indices
 
   pub nodes_within : length (proof_nodes size indices) ≤ size
   nodes_within =
-      let least : length (proof_nodes size indices) ≤ under_all s (proof_nodes size indices) (leaves_from 0 size) =
+      let least : length kept ≤ under_all s kept (leaves_from 0 size) =
       at_least s (is_node size) slots (leaves_from 0 size)
       (λ l j h node. leaf_under l j (ltb-true (j * 2 ^ l) size node)) in
-      let most : under_all s (proof_nodes size indices) (leaves_from 0 size) ≤ length (leaves_from 0 size) =
-      at_most s (proof_nodes size indices) (leaves_from 0 size) one_above in
+      let most : under_all s kept (leaves_from 0 size) ≤ length (leaves_from 0 size) =
+      at_most s kept (leaves_from 0 size) one_above in
       let count : length (leaves_from 0 size) ≡ size = length-map-range_with_len (λ k. (0, k)) 0 size in
-      omega arith
+      omega (arith, as_many kept)
 
   module _ (given padding : List (ℕ × ℕ)) (absent : ArePadding size padding)
       (bare : IsUncovered s indices (levels s) given)
@@ -253,5 +259,5 @@ module _ (size : ℕ) (indices : List ℕ) (below : All (λ i. i < size) indices
     pub fewest_nodes : length (proof_nodes size indices) ≤ length given
     fewest_nodes =
         let least = at_least s (is_node size) slots given boundary_holds in
-        let most = at_most s (proof_nodes size indices) given one_above in
-        omega arith
+        let most = at_most s kept given one_above in
+        omega (arith, as_many kept)

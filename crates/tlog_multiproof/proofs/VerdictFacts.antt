@@ -1,5 +1,5 @@
 -- What the answer of a check of the opening of entries says of them.
-use Rattle.std.proofs.Common.{◌≡◌, ℕ, zero, suc, ◌<◌, ◌≤◌, Bool, true, false, List, [], ◌∷◌, refl, ap}
+use Rattle.std.proofs.Common.{◌≡◌, ℕ, zero, suc, ◌<◌, ◌≤◌, Bool, true, false, List, [], ◌∷◌, refl, ap, filter}
 use Rattle.std.proofs.Common.{sym, ◌∙◌, arith, eqb, inl, inr, length, get_or, nat_lt, zip, Option, Some, None}
 use Rattle.std.specs.Prelude.{Result, Ok, Err, ◌⊎◌, ◌≢◌, ◌||◌}
 use Rattle.std.specs.Option.{option_map, option_or}
@@ -29,7 +29,7 @@ use Rattle.p3_merkle_core.proofs.Shapes.OneHeight.{no_rows_above}
 use Rattle.tlog.specs.Rfc9162.{Hash as HashFunction}
 use Rattle.tlog.specs.Verdicts.{inclusion_refusal}
 use Rattle.tlog_multiproof.specs.Entries.{AreIncluded, entries_opening, entries_refusal, entry_path, form_refusal}
-use Rattle.tlog_multiproof.specs.Entries.{is_one_leaf_each}
+use Rattle.tlog_multiproof.specs.Entries.{is_node, is_one_leaf_each}
 use Rattle.tlog_multiproof.specs.Instance.{AreFilled, leaf_row, log_functions, log_params, log_shape, root_cap}
 use Rattle.tlog_multiproof.specs.Inner.Meanings.{IsMeaning}
 use Rattle.tlog_multiproof.specs.declared.error.EntriesError.{EntriesError}
@@ -37,6 +37,7 @@ use Rattle.tlog_multiproof.specs.declared.error.EntriesError.TheVariants.{TwoLea
 use Rattle.tlog_multiproof.specs.declared.tree.Node.{Node}
 use Rattle.tlog_multiproof.proofs.EntriesFacts.{HaveForm, HaveOneLeaf, accepted_from, form_to, one_leaf_from, Keeps, keeps}
 use Rattle.tlog_multiproof.proofs.EntriesFacts.{one_leaf_to, paths_refusal, unrefused}
+use Rattle.tlog_multiproof.proofs.NodeSlots.{as_many}
 use Rattle.tlog_multiproof.proofs.PaddingFacts.{filled_length, padded_filled}
 use Rattle.tlog_multiproof.proofs.Restored.{query_accepted}
 use Rattle.tlog_multiproof.proofs.Shapes.{ancestor_of_two, lawful, one_column, tallest, two_is_arity}
@@ -98,7 +99,9 @@ module _ (hash : HashFunction) (size : ℕ) (indices : List ℕ) (leaves proof :
   some = omega (arith, form.highest)
 
   filled : AreFilled size (boundary s indices (levels s)) p.digests
-  filled = padded_filled size (boundary s indices (levels s)) proof form.count
+  filled =
+      let slots = boundary s indices (levels s) in
+      padded_filled size slots proof (form.count ∙ as_many (filter (is_node size) slots))
 
   row : (a : ℕ) → a < length indices → get_or p.rows a [] ≡ leaf_row (get_or leaves a [])
   row a h = let inside : a < length leaves = omega (arith, form.in_pairs) in get_or-map leaf_row leaves a [] [] inside

@@ -10,7 +10,8 @@ use Rattle.p3_merkle_core.specs.Pruning.{PrunedOpening, boundary, pruned_of, res
 use Rattle.p3_answers.specs.Answers.{first_of, first_some, unless}
 use Rattle.tlog.specs.Rfc9162.{Hash as HashFunction}
 use Rattle.tlog.specs.Verdicts.{IsIncluded, inclusion_refusal, is_same, size_limit}
-use Rattle.tlog_multiproof.specs.Instance.{leaf_row, log_params, log_shape, present}
+use Rattle.tlog_tree.specs.declared.node_id.NodeId.{NodeId}
+use Rattle.tlog_multiproof.specs.Instance.{leaf_row, log_params, log_shape, nodes_at, present}
 use Rattle.tlog_multiproof.specs.declared.tree.Node.{Node}
 use Rattle.tlog_multiproof.specs.declared.tree.Node.TheVariants.{Absent, Hash}
 use Rattle.tlog_multiproof.specs.declared.error.EntriesError.{EntriesError}
@@ -26,8 +27,8 @@ is_node size (layer, slot) = nat_lt (slot * 2 ^ layer) size
 
 -- the nodes whose digests a proof of these entries has, in order: the children of nodes above the entries that are
 -- neither entries themselves nor above any
-abbrev pub proof_nodes : ℕ → List ℕ → List (ℕ × ℕ)
-proof_nodes size indices = let s = log_shape size in filter (is_node size) (boundary s indices (levels s))
+abbrev pub proof_nodes : ℕ → List ℕ → List NodeId
+proof_nodes size indices = let s = log_shape size in nodes_at (filter (is_node size) (boundary s indices (levels s)))
 
 -- a digest for each of these slots: for a node the next of the proof, and none for padding
 abbrev pub with_padding : ℕ → List (ℕ × ℕ) → List (List ℕ) → List (List Node)

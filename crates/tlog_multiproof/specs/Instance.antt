@@ -1,11 +1,13 @@
 -- A log's tree as a tree of arity 2: over one column of leaf hashes, under any hash function.
-use Rattle.std.specs.Prelude.{◌≡◌, ℕ, suc, ◌+◌, ◌-◌, ◌*◌, ◌/◌, ◌%◌, ◌^◌, ◌<◌, ◌≤◌, List, [], ◌∷◌, length, flat_map}
+use Rattle.std.specs.Prelude.{◌≡◌, ℕ, suc, ◌+◌, ◌-◌, ◌*◌, ◌/◌, ◌%◌, ◌^◌, ◌<◌, ◌≤◌, List, [], ◌∷◌, length, map, flat_map}
 use Rattle.std.specs.Prelude.{slice_index_or}
 use Rattle.p3_support.specs.declared.matrix.Dimensions.{Dimensions}
 use Rattle.p3_merkle_core.specs.Geometry.{Shape, levels, shape_of}
 use Rattle.p3_merkle_core.specs.Nodes.{Batch, Functions, functions_of}
 use Rattle.p3_merkle_core.specs.Checks.{Params, params}
 use Rattle.tlog.specs.Rfc9162.{Hash as HashFunction}
+use Rattle.tlog_tree.specs.Trees.{id_of}
+use Rattle.tlog_tree.specs.declared.node_id.NodeId.{NodeId}
 use Rattle.tlog_multiproof.specs.Nodes.{last_word, parent_digest}
 use Rattle.tlog_multiproof.specs.declared.tree.Node.{Node}
 use Rattle.tlog_multiproof.specs.declared.tree.Node.TheVariants.{Absent, Hash}
@@ -21,6 +23,17 @@ log_dimensions size = record { width = 1; height = size } ∷ []
 -- the tree of so many entries: of arity 2, over this column
 abbrev pub log_shape : ℕ → Shape
 log_shape size = shape_of 2 (log_dimensions size)
+
+-- a node of the log's tree as a slot of this one: its layer, and its slot there
+abbrev pub slot_of : NodeId → ℕ × ℕ
+slot_of node = (node.layer, node.slot)
+
+abbrev pub slots_of : List NodeId → List (ℕ × ℕ)
+slots_of nodes = map slot_of nodes
+
+-- slots of this tree as nodes of the log's
+abbrev pub nodes_at : List (ℕ × ℕ) → List NodeId
+nodes_at slots = map (λ (layer, slot). id_of layer slot) slots
 
 -- what openings of a log of so many entries are checked against: the cap is the root
 abbrev pub log_params : HashFunction → ℕ → Params Node Node

@@ -12,7 +12,7 @@ use Rattle.p3_merkle_core.specs.Pruning.{Suffices, is_in, boundary, honest_query
 use Rattle.tlog.specs.Rfc9162.{Hash as HashFunction, leaf_hash, path_of, root_of}
 use Rattle.tlog.specs.Verdicts.{IsIncluded, size_limit}
 use Rattle.tlog_multiproof.specs.Entries.{proof_nodes}
-use Rattle.tlog_multiproof.specs.Instance.{AreFilled, IsPathFilled}
+use Rattle.tlog_multiproof.specs.Instance.{AreFilled, IsPathFilled, slots_of}
 use Rattle.tlog_multiproof.specs.Instance.{leaf_row, log_batch, log_functions, log_params, log_shape, present, root_cap}
 use Rattle.tlog_multiproof.specs.declared.tree.Node.{Node}
 use Rattle.tlog_multiproof.specs.declared.tree.Node.TheVariants.{Absent, Hash}
@@ -89,7 +89,7 @@ ArePadding size slots = (l j : ℕ) → IsTrue (is_in slots l j) → size ≤ j 
 pub record ProofIsSmallest : Type 0 where
   pub suffices : (size : ℕ) (indices : List ℕ) → All (λ i. i < size) indices → let s = log_shape size in
       (padding : List (ℕ × ℕ)) × ArePadding size padding
-      × Suffices s indices (levels s) (proof_nodes size indices ++ padding)
+      × Suffices s indices (levels s) (slots_of (proof_nodes size indices) ++ padding)
   pub fewest : (size : ℕ) (indices : List ℕ) (given padding : List (ℕ × ℕ)) → All (λ i. i < size) indices →
       ArePadding size padding → let s = log_shape size in IsUncovered s indices (levels s) given →
       Suffices s indices (levels s) (given ++ padding) → length (proof_nodes size indices) ≤ length given

@@ -1,7 +1,8 @@
 //! The digests of a proof of several entries, and the pruned opening of a log's tree that they give.
 ghost use Rattle.std.specs.Prelude.{◌≡◌, ℕ, List, [], length, slice_index_or, ◌+◌, ◌*◌, ◌^◌, ◌<◌, ◌≤◌, ◌++◌, All, IfOk};
 ghost use Rattle.std.specs.{Prelude.filter, Prelude.map, Prelude.not, Prelude.IfSome, Prelude.MatchResult};
-ghost use Rattle.std.specs.Prelude.{None, Some};
+ghost use Rattle.std.specs.Prelude.{None, Some, nat_eq, ◌/◌};
+ghost use Rattle.std.specs.List.{dedup};
 ghost use Rattle.std.specs.Result.{result_err};
 ghost use Rattle.p3_merkle_core.specs.Geometry.{levels};
 ghost use Rattle.p3_merkle_core.specs.Inner.Agreement.{IsAscending};
@@ -12,108 +13,115 @@ ghost use Rattle.p3_support.specs.Lists.{is_among};
 ghost use Rattle.p3_support.specs.Shown.{row_sets};
 ghost use Rattle.tlog.specs.Rfc9162.{Hash};
 ghost use Rattle.tlog.specs.Verdicts.{size_limit};
-ghost use Rattle.tlog_tree.specs.Trees.{all_there, leaves_root, values_at};
+ghost use Rattle.tlog_tree.specs.Trees.{all_there, id_of, leaves_root, values_at};
 ghost use Rattle.tlog_multiproof.specs.Entries.{AreIncluded, digests_refusal, entries_opening, form_refusal};
 ghost use Rattle.tlog_multiproof.specs.Entries.{indices_refusal, is_node as is_node_by, proof_nodes};
 ghost use Rattle.tlog_multiproof.specs.Entries.{with_padding as with_padding_of};
 ghost use Rattle.tlog_multiproof.specs.Inner.Siblings.{sibling};
-ghost use Rattle.tlog_multiproof.specs.Instance.{leaf_row, log_shape};
+ghost use Rattle.tlog_multiproof.specs.Instance.{leaf_row, log_shape, slot_of, slots_of};
 ghost use Rattle.tlog_multiproof.specs.declared.error.EntriesError.TheVariants.{OutOfMemory};
 
 use crate::error::EntriesError;
-use crate::tree::{Node, dimensions_of};
-use p3_merkle_core::covered_nodes::Covered;
-use p3_merkle_core::geometry::MAX_HEIGHT;
+use crate::tree::Node;
 use p3_merkle_core::pruning::{
     PrunedBatchOpening, PrunedProof, PrunedRows, check_indices, distinct_indices,
 };
-use p3_merkle_core::schedule::schedule_of;
 use std::alloc::{AllocError, Global};
+use tlog::SIZE_LIMIT;
+use tlog_tree::NodeId;
 
 /// The nodes whose values are the proof of the entries at these indices, counted from 0, in a log of `size` entries, in
-/// the order of the proof: their layers and slots, as a `TreeBuilder` takes them. The size must be from 1 to 2^62, and
-/// each index below it.
+/// the order of the proof, as a `TreeBuilder` takes them. The size must be from 1 to 2^62, and each index below it.
 ///
 /// # Errors
 ///
 /// `AllocError` if memory runs out.
-pub fn entry_places(
-    alloc: Global,
-    indices: &[usize],
-    size: usize,
-) -> Result<Vec<(usize, usize)>, AllocError>
+pub fn entry_nodes(alloc: Global, indices: &[usize], size: usize) -> Result<Vec<NodeId>, AllocError>
     requires some { 0 < size }
     requires limit { size ≤ size_limit }
     requires within { All (λ index. index < size) indices.now }
-    ensures places { IfOk result (λ places. places.items ≡ proof_nodes size indices.now) }
+    ensures nodes { IfOk result (λ nodes. nodes.items ≡ proof_nodes size indices.now) }
 
     // The values of these nodes in any log of the size are there, and prove its entries.
-    ensures accepted { IfOk result (λ places. (hash : Hash) (leaves : List (List ℕ)) → length leaves ≡ size →
-        0 < length indices.now → (proof : List (List ℕ)) × (values_at hash leaves places.items ≡ all_there proof)
+    ensures accepted { IfOk result (λ nodes. (hash : Hash) (leaves : List (List ℕ)) → length leaves ≡ size →
+        0 < length indices.now → (proof : List (List ℕ)) × (values_at hash leaves nodes.items ≡ all_there proof)
         × AreIncluded hash size indices.now (map (λ i. slice_index_or leaves i []) indices.now) proof
         (leaves_root hash leaves)) }
 {
-    let slots = boundary_slots(alloc, size, indices)?;
-    let mut places = Vec::new(alloc);
-    for slot in &slots {
-        if is_node(size, *slot) {
-            places.push(*slot)?;
+    let boundary = boundary_nodes(alloc, size, indices)?;
+    let mut nodes = Vec::new(alloc);
+    for node in &boundary {
+        if is_node(size, *node) {
+            nodes.push(*node)?;
         }
     }
-    Ok(places)
+    Ok(nodes)
 }
 
-/// Whether a slot, given by its layer and its place there, is a node: whether it has entries below it.
-fn is_node(size: usize, slot: (usize, usize)) -> bool
+/// Whether a node has entries below it; in the slot of any other is padding.
+fn is_node(size: usize, node: NodeId) -> bool
     requires some { 0 < size }
-    requires layer { slot.0 < 64 }
-    ensures { result ≡ is_node_by size slot }
+    requires layer { node.layer < 64 }
+    ensures { result ≡ is_node_by size (slot_of node) }
 {
-    slot.1 <= (size - 1) >> slot.0
+    node.slot <= (size - 1) >> node.layer
 }
 
-/// The slots whose digests a proof of some entries has, each by its layer and its place there: layer by layer from the
-/// leaves, ascending, padding included.
-fn boundary_slots(
-    alloc: Global,
-    size: usize,
-    indices: &[usize],
-) -> Result<Vec<(usize, usize)>, AllocError>
+/// The boundary of some entries, padding included: the siblings of entries and of nodes above entries that are neither
+/// themselves, layer by layer from the leaves, ascending.
+fn boundary_nodes(alloc: Global, size: usize, indices: &[usize]) -> Result<Vec<NodeId>, AllocError>
+    requires some { 0 < size }
     requires limit { size ≤ size_limit }
     requires within { All (λ index. index < size) indices.now }
     ensures boundary { let s = log_shape size in
-        IfOk result (λ slots. slots.items ≡ boundary s indices.now (levels s)) }
-    ensures layers { IfOk result (λ slots. All (λ slot. slot.0 < 64) slots.items) }
+        IfOk result (λ nodes. slots_of nodes.items ≡ boundary s indices.now (levels s)) }
+    ensures layers { IfOk result (λ nodes. All (λ node. node.layer < 64) nodes.items) }
 {
-    let dimensions = dimensions_of(size);
-    let schedule = schedule_of(&dimensions, 2);
-    let mut covered = Covered::new(&schedule, indices, distinct_indices(alloc, indices)?);
-    let mut slots = Vec::new(alloc);
-    for layer in 0..schedule.num_levels {
-        push_uncovered(&mut slots, layer, &covered.nodes)?;
-        covered.climb();
+    let mut covered = distinct_indices(alloc, indices)?;
+    let mut nodes = Vec::new(alloc);
+    let mut layer = 0;
+    // The slot of the layer's last node. The root is the only one of its layer.
+    let mut last = size - 1;
+    while last > 0 {
+        push_uncovered(&mut nodes, layer, &covered)?;
+        climb(&mut covered);
+        layer += 1;
+        last /= 2;
     }
-    Ok(slots)
+    Ok(nodes)
 }
 
-/// Adds the siblings of the covered nodes of a layer that are not covered, in order. The covered nodes ascend.
+/// Adds the siblings of the covered slots of a layer that are not covered, in order. The covered slots ascend.
 fn push_uncovered(
-    slots: &mut Vec<(usize, usize)>,
+    nodes: &mut Vec<NodeId>,
     layer: usize,
     covered: &[usize],
 ) -> Result<(), AllocError>
     requires ascending { IsAscending covered.now }
-    requires fits { All (λ node. node + 1 < 2 ^ 64) covered.now }
-    ensures { IfOk result (λ done. slots.new.items ≡ slots.old.items
-        ++ map (λ j. (layer, j)) (filter (λ j. not (is_among covered.now j)) (map sibling covered.now))) }
+    requires fits { All (λ slot. slot + 1 < 2 ^ 64) covered.now }
+    ensures { IfOk result (λ done. nodes.new.items ≡ nodes.old.items
+        ++ map (id_of layer) (filter (λ j. not (is_among covered.now j)) (map sibling covered.now))) }
 {
-    for node in covered {
-        let sibling = if *node % 2 == 0 { *node + 1 } else { *node - 1 };
+    for slot in covered {
+        let sibling = if *slot % 2 == 0 { *slot + 1 } else { *slot - 1 };
         if covered.binary_search(&sibling).is_err() {
-            slots.push((layer, sibling))?;
+            nodes.push(NodeId {
+                layer,
+                slot: sibling,
+            })?;
         }
     }
     Ok(())
+}
+
+/// Replaces the covered slots of a layer, which ascend, by those of the layer above: their parents, each once.
+fn climb(covered: &mut Vec<usize>)
+    ensures { covered.new.items ≡ dedup nat_eq (map (λ slot. slot / 2) covered.old.items) }
+{
+    for slot in covered.iter_mut() {
+        *slot /= 2;
+    }
+    covered.dedup();
 }
 
 /// The opening of some entries by their leaf hashes and the digests of a proof, where padding is absent.
@@ -132,8 +140,8 @@ pub(crate) fn opening_of(
         pruned_made indices.now opening ≡ entries_opening size indices.now leaves.now proof.now) }
 {
     check_form(size, indices, leaves.len())?;
-    let slots = boundary_slots(alloc, size, indices)?;
-    let sibling_hashes = with_padding(alloc, size, &slots, proof)?;
+    let nodes = boundary_nodes(alloc, size, indices)?;
+    let sibling_hashes = with_padding(alloc, size, &nodes, proof)?;
     Ok(PrunedRows {
         opened_values: rows_of(alloc, leaves)?,
         pruned_proof: PrunedProof { sibling_hashes },
@@ -146,7 +154,7 @@ fn check_form(size: usize, indices: &[usize], num_leaves: usize) -> Result<(), E
         MatchResult result (λ ok. refusal ≡ None) (λ e. refusal ≡ Some e) }
     ensures within { IfOk result (λ ok. All (λ index. index < size) indices.now) }
 {
-    if size > MAX_HEIGHT {
+    if size > SIZE_LIMIT {
         return Err(EntriesError::SizeTooLarge);
     }
     if indices.is_empty() {
@@ -161,24 +169,24 @@ fn check_form(size: usize, indices: &[usize], num_leaves: usize) -> Result<(), E
     Ok(())
 }
 
-/// The digests of these slots, each by its layer and its place there, where the proof has those of the nodes.
+/// The digests of these nodes, padding included, where the proof has those of the others.
 fn with_padding(
     alloc: Global,
     size: usize,
-    slots: &[(usize, usize)],
+    nodes: &[NodeId],
     proof: &[[u8; 32]],
 ) -> Result<Vec<[Node; 1]>, EntriesError>
     requires some { 0 < size }
-    requires layers { All (λ slot. slot.0 < 64) slots.now }
+    requires layers { All (λ node. node.layer < 64) nodes.now }
     ensures answer { AnswersUnless (λ e. e ≡ OutOfMemory) result
-        (digests_refusal (length (filter (is_node_by size) slots.now)) (length proof.now)) }
-    ensures digests { IfOk result (λ digests. digests.items ≡ with_padding_of size slots.now proof.now) }
+        (digests_refusal (length (filter (is_node_by size) (slots_of nodes.now))) (length proof.now)) }
+    ensures digests { IfOk result (λ digests. digests.items ≡ with_padding_of size (slots_of nodes.now) proof.now) }
 {
     let mut digests = Vec::new(alloc);
     let mut used = 0;
-    for slot in slots {
+    for node in nodes {
         let mut word = Node::Absent;
-        if is_node(size, *slot) {
+        if is_node(size, *node) {
             if used == proof.len() {
                 return Err(EntriesError::TooFewDigests);
             }

@@ -15,6 +15,7 @@ use Rattle.tlog_tree.specs.Inner.Layers.{parents_of, root_of_rest}
 use Rattle.tlog_tree.specs.Wanted.{HasValue}
 use Rattle.tlog_tree.specs.Inner.Wanted.{is_new, kept_in, updated, with_value}
 use Rattle.tlog_tree.specs.Trees.{leaves_root, node_at, value_at}
+use Rattle.tlog_tree.specs.declared.node_id.NodeId.{NodeId}
 use Rattle.tlog_tree.specs.declared.wanted.WantedNode.{WantedNode}
 use Rattle.tlog_tree.proofs.Whole.{length-parents, parents_parts, root_of_parents}
 
@@ -91,65 +92,65 @@ same_new size count end size' count' end' there back = elim (new_tells size coun
 pub updated_none : (hash : Hash) (layer size : ℕ) (L : List (List ℕ)) (w : WantedNode) → length L ≤ size →
     updated hash layer size L w ≡ w
 updated_none hash layer size L w h =
-    elim (new_tells size (length L) ((w.slot + 1) * 2 ^ (w.layer - layer))) [
+    elim (new_tells size (length L) ((w.id.slot + 1) * 2 ^ (w.id.layer - layer))) [
       | inl (t, i, j) ↦ absurd (omega arith)
-      | inr (f, not) ↦ elim (leb_tells layer w.layer) [
+      | inr (f, not) ↦ elim (leb_tells layer w.id.layer) [
         | inl (t, i) ↦ rw (t, f)
         | inr (g, i) ↦ rw g
       ]
     ]
 
-kept_away : (layer first : ℕ) (X : List (List ℕ)) (w : WantedNode) → (w.layer == layer) ≡ false →
+kept_away : (layer first : ℕ) (X : List (List ℕ)) (w : WantedNode) → (w.id.layer == layer) ≡ false →
     kept_in layer first X w ≡ w
 kept_away layer first X w o = rw o
 
-updated_away : (hash : Hash) (layer size : ℕ) (L : List (List ℕ)) (w : WantedNode) → nat_le layer w.layer ≡ false →
+updated_away : (hash : Hash) (layer size : ℕ) (L : List (List ℕ)) (w : WantedNode) → nat_le layer w.id.layer ≡ false →
     updated hash layer size L w ≡ w
 updated_away hash layer size L w f = rw f
 
-layer_stays : (b : Bool) (v : List ℕ) (w : WantedNode) → (with_value b v w).layer ≡ w.layer
+layer_stays : (b : Bool) (v : List ℕ) (w : WantedNode) → (with_value b v w).id.layer ≡ w.id.layer
 layer_stays true v w = refl
 layer_stays false v w = refl
 
 -- a new node of the layer itself
 step_here : (hash : Hash) (layer size : ℕ) (L X : List (List ℕ)) (w : WantedNode) → length L ≡ size →
-    w.layer ≡ layer → updated hash layer size (L ++ X) w ≡ kept_in layer size X w
+    w.id.layer ≡ layer → updated hash layer size (L ++ X) w ≡ kept_in layer size X w
 step_here hash layer size L X w long same =
     let count : size + length X ≡ length (L ++ X) = sym (length-append L X ∙ ap (λ (n : ℕ). n + length X) long) in
-    let t : nat_le layer w.layer ≡ true = grind (arith, nat_tests) in
-    let e : (w.layer == layer) ≡ true = grind (arith, nat_tests) in
-    let none : w.layer - layer ≡ 0 = omega arith in
-    let one : (w.slot + 1) * 2 ^ 0 ≡ w.slot + 1 = omega arith in
-    elim (new_tells size (length (L ++ X)) (w.slot + 1)) [
+    let t : nat_le layer w.id.layer ≡ true = grind (arith, nat_tests) in
+    let e : (w.id.layer == layer) ≡ true = grind (arith, nat_tests) in
+    let none : w.id.layer - layer ≡ 0 = omega arith in
+    let one : (w.id.slot + 1) * 2 ^ 0 ≡ w.id.slot + 1 = omega arith in
+    elim (new_tells size (length (L ++ X)) (w.id.slot + 1)) [
       | inl (u, i, j) ↦
-          let is : node_at hash (L ++ X) 0 w.slot ≡ get_or X (w.slot - size) [] =
-          node_here hash (L ++ X) w.slot (omega arith)
-          ∙ get_or-append_right L X size w.slot [] long (omega arith) in
+          let is : node_at hash (L ++ X) 0 w.id.slot ≡ get_or X (w.id.slot - size) [] =
+          node_here hash (L ++ X) w.id.slot (omega arith)
+          ∙ get_or-append_right L X size w.id.slot [] long (omega arith) in
           rw (t, e, none, one, count, u) (ap (λ (v : List ℕ). with_value true v w) is)
       | inr (f, not) ↦ rw (t, e, none, one, count, f)
     ]
 
 -- a node above
-step_above : (hash : Hash) (layer size i : ℕ) (M : List (List ℕ)) (w : WantedNode) → w.layer ≡ layer + 1 + i →
+step_above : (hash : Hash) (layer size i : ℕ) (M : List (List ℕ)) (w : WantedNode) → w.id.layer ≡ layer + 1 + i →
     updated hash layer size M w ≡ updated hash (layer + 1) (size / 2) (parents_of hash M) w
 step_above hash layer size i M w far =
     let up = length-parents hash M in
-    let t : nat_le layer w.layer ≡ true = grind (arith, nat_tests) in
-    let g : nat_le (layer + 1) w.layer ≡ true = grind (arith, nat_tests) in
-    let depth : w.layer - layer ≡ suc i = omega arith in
-    let depth_above : w.layer - (layer + 1) ≡ i = omega arith in
-    let x = (w.slot + 1) * 2 ^ i in
-    let twice : (w.slot + 1) * 2 ^ suc i ≡ x + x =
-    ap (λ (n : ℕ). (w.slot + 1) * n) (pow-succ' 2 i) ∙ omega arith in
-    let both : is_new size (length M) ((w.slot + 1) * 2 ^ suc i)
+    let t : nat_le layer w.id.layer ≡ true = grind (arith, nat_tests) in
+    let g : nat_le (layer + 1) w.id.layer ≡ true = grind (arith, nat_tests) in
+    let depth : w.id.layer - layer ≡ suc i = omega arith in
+    let depth_above : w.id.layer - (layer + 1) ≡ i = omega arith in
+    let x = (w.id.slot + 1) * 2 ^ i in
+    let twice : (w.id.slot + 1) * 2 ^ suc i ≡ x + x =
+    ap (λ (n : ℕ). (w.id.slot + 1) * n) (pow-succ' 2 i) ∙ omega arith in
+    let both : is_new size (length M) ((w.id.slot + 1) * 2 ^ suc i)
     ≡ is_new (size / 2) (length (parents_of hash M)) x =
-    same_new size (length M) ((w.slot + 1) * 2 ^ suc i) (size / 2) (length (parents_of hash M)) x
+    same_new size (length M) ((w.id.slot + 1) * 2 ^ suc i) (size / 2) (length (parents_of hash M)) x
     (λ a b. (omega arith, omega arith)) (λ a b. (omega arith, omega arith)) in
-    elim (new_tells size (length M) ((w.slot + 1) * 2 ^ suc i)) [
+    elim (new_tells size (length M) ((w.id.slot + 1) * 2 ^ suc i)) [
       | inl (u, j, k) ↦
           let v : is_new (size / 2) (length (parents_of hash M)) x ≡ true = sym both ∙ u in
           rw (t, g, depth, depth_above, u, v)
-          (ap (λ (v : List ℕ). with_value true v w) (node_above hash M i w.slot k))
+          (ap (λ (v : List ℕ). with_value true v w) (node_above hash M i w.id.slot k))
       | inr (f, not) ↦
           let v : is_new (size / 2) (length (parents_of hash M)) x ≡ false = sym both ∙ f in
           rw (t, g, depth, depth_above, f, v)
@@ -162,21 +163,22 @@ pub updated_step : (hash : Hash) (layer size : ℕ) (L X : List (List ℕ)) (w :
 updated_step hash layer size L X w long =
     let M = L ++ X in
     let next = updated hash (layer + 1) (size / 2) (parents_of hash M) in
-    elim (leb_tells layer w.layer) [
+    elim (leb_tells layer w.id.layer) [
       | inr (f, h) ↦
-          let g : nat_le (layer + 1) w.layer ≡ false = grind (arith, nat_tests) in
-          let o : (w.layer == layer) ≡ false = grind (arith, nat_tests) in
+          let g : nat_le (layer + 1) w.id.layer ≡ false = grind (arith, nat_tests) in
+          let o : (w.id.layer == layer) ≡ false = grind (arith, nat_tests) in
           updated_away hash layer size M w f
           ∙ sym (ap next (kept_away layer size X w o)
           ∙ updated_away hash (layer + 1) (size / 2) (parents_of hash M) w g)
-      | inl (t, h) ↦ elim (eqb_tells w.layer layer) [
+      | inl (t, h) ↦ elim (eqb_tells w.id.layer layer) [
         | inl (e, same) ↦
-            let stays : (kept_in layer size X w).layer ≡ w.layer = layer_stays _ _ w in
-            let g : nat_le (layer + 1) (kept_in layer size X w).layer ≡ false = rw stays (grind (arith, nat_tests)) in
+            let stays : (kept_in layer size X w).id.layer ≡ w.id.layer = layer_stays _ _ w in
+            let g : nat_le (layer + 1) (kept_in layer size X w).id.layer ≡ false =
+            rw stays (grind (arith, nat_tests)) in
             step_here hash layer size L X w long same
             ∙ sym (updated_away hash (layer + 1) (size / 2) (parents_of hash M) (kept_in layer size X w) g)
         | inr (o, differ) ↦
-            step_above hash layer size (w.layer - (layer + 1)) M w (omega arith)
+            step_above hash layer size (w.id.layer - (layer + 1)) M w (omega arith)
             ∙ sym (ap next (kept_away layer size X w o))
       ]
     ]
@@ -206,10 +208,10 @@ wanted_none hash layer size L (w ∷ ws) h =
 -- ---- from piece to piece
 
 pub at_leaves : (hash : Hash) (size : ℕ) (L : List (List ℕ)) (w : WantedNode) → updated hash 0 size L w
-    ≡ with_value (is_new size (length L) ((w.slot + 1) * 2 ^ w.layer)) (node_at hash L w.layer w.slot) w
+    ≡ with_value (is_new size (length L) ((w.id.slot + 1) * 2 ^ w.id.layer)) (node_at hash L w.id.layer w.id.slot) w
 at_leaves hash size L w =
-    let t : nat_le 0 w.layer ≡ true = grind (arith, nat_tests) in
-    let none : w.layer - 0 ≡ w.layer = omega arith in
+    let t : nat_le 0 w.id.layer ≡ true = grind (arith, nat_tests) in
+    let none : w.id.layer - 0 ≡ w.id.layer = omega arith in
     rw (t, none)
 
 new_at : (size count end : ℕ) → size < end → end ≤ count → is_new size count end ≡ true
@@ -227,29 +229,29 @@ old_at size count end h = elim (new_tells size count end) [
 updated_twice : (hash : Hash) (size : ℕ) (A N : List (List ℕ)) (w : WantedNode) → size ≤ length A →
     updated hash 0 (length A) (A ++ N) (updated hash 0 size A w) ≡ updated hash 0 size (A ++ N) w
 updated_twice hash size A N w h =
-    let end = (w.slot + 1) * 2 ^ w.layer in
+    let end = (w.id.slot + 1) * 2 ^ w.id.layer in
     let len = length-append A N in
     let next = updated hash 0 (length A) (A ++ N) in
     elim (new_tells size (length A) end) [
       | inl (u, i, j) ↦
-          let v = node_at hash A w.layer w.slot in
+          let v = node_at hash A w.id.layer w.id.slot in
           let inner : updated hash 0 size A w ≡ with_value true v w =
           at_leaves hash size A w ∙ ap (λ (b : Bool). with_value b v w) u in
           let f = old_at (length A) (length (A ++ N)) end j in
           let t = new_at size (length (A ++ N)) end i (omega arith) in
           ap next inner ∙ at_leaves hash (length A) (A ++ N) (with_value true v w)
-          ∙ ap (λ (b : Bool). with_value b (node_at hash (A ++ N) w.layer w.slot) (with_value true v w)) f
-          ∙ ap (λ (x : List ℕ). with_value true x w) (sym (node_stays hash A N w.layer w.slot j))
-          ∙ ap (λ (b : Bool). with_value b (node_at hash (A ++ N) w.layer w.slot) w) (sym t)
+          ∙ ap (λ (b : Bool). with_value b (node_at hash (A ++ N) w.id.layer w.id.slot) (with_value true v w)) f
+          ∙ ap (λ (x : List ℕ). with_value true x w) (sym (node_stays hash A N w.id.layer w.id.slot j))
+          ∙ ap (λ (b : Bool). with_value b (node_at hash (A ++ N) w.id.layer w.id.slot) w) (sym t)
           ∙ sym (at_leaves hash size (A ++ N) w)
       | inr (f, not) ↦
           let inner : updated hash 0 size A w ≡ w =
-          at_leaves hash size A w ∙ ap (λ (b : Bool). with_value b (node_at hash A w.layer w.slot) w) f in
+          at_leaves hash size A w ∙ ap (λ (b : Bool). with_value b (node_at hash A w.id.layer w.id.slot) w) f in
           let both : is_new (length A) (length (A ++ N)) end ≡ is_new size (length (A ++ N)) end =
           same_new (length A) (length (A ++ N)) end size (length (A ++ N)) end (λ a b. (omega arith, b))
           (λ a b. (elim (leb_tells end (length A)) [ inl (t, g) ↦ absurd (not a g) | inr (g, g') ↦ g' ], b)) in
           ap next inner ∙ at_leaves hash (length A) (A ++ N) w
-          ∙ ap (λ (b : Bool). with_value b (node_at hash (A ++ N) w.layer w.slot) w) both
+          ∙ ap (λ (b : Bool). with_value b (node_at hash (A ++ N) w.id.layer w.id.slot) w) both
           ∙ sym (at_leaves hash size (A ++ N) w)
     ]
 
@@ -268,12 +270,12 @@ wanted_more hash size count A N all before kept after h long is first then =
 
 -- ---- what a builder keeps
 
-pub places_stay : (hash : Hash) (size : ℕ) (L : List (List ℕ)) (ws : List WantedNode) →
+pub ids_stay : (hash : Hash) (size : ℕ) (L : List (List ℕ)) (ws : List WantedNode) →
     map indexed_of (map (updated hash 0 size L) ws) ≡ map indexed_of ws
-places_stay hash size L [] = refl
-places_stay hash size L (w ∷ ws) =
-    ap (λ (p : ℕ × (ℕ × ℕ)). p ∷ map indexed_of (map (updated hash 0 size L) ws)) (stays _ _ w)
-    ∙ ap (λ (ps : List (ℕ × (ℕ × ℕ))). indexed_of w ∷ ps) (places_stay hash size L ws)
+ids_stay hash size L [] = refl
+ids_stay hash size L (w ∷ ws) =
+    ap (λ (p : ℕ × NodeId). p ∷ map indexed_of (map (updated hash 0 size L) ws)) (stays _ _ w)
+    ∙ ap (λ (ps : List (ℕ × NodeId)). indexed_of w ∷ ps) (ids_stay hash size L ws)
   where
     stays : (b : Bool) (v : List ℕ) (u : WantedNode) → indexed_of (with_value b v u) ≡ indexed_of u
     stays true v u = refl
@@ -284,12 +286,12 @@ value_grows : (hash : Hash) (L X : List (List ℕ)) (w : WantedNode) → HasValu
 value_grows hash L X w has =
     let P : WantedNode → Type 0 = HasValue hash (L ++ X) in
     let at = at_leaves hash (length L) (L ++ X) w in
-    let v = node_at hash (L ++ X) w.layer w.slot in
-    elim (new_tells (length L) (length (L ++ X)) ((w.slot + 1) * 2 ^ w.layer)) [
+    let v = node_at hash (L ++ X) w.id.layer w.id.slot in
+    elim (new_tells (length L) (length (L ++ X)) ((w.id.slot + 1) * 2 ^ w.id.layer)) [
       | inl (t, i, j) ↦ subst P (sym (at ∙ ap (λ (b : Bool). with_value b v w) t)) (λ h. refl)
       | inr (f, not) ↦ subst P (sym (at ∙ ap (λ (b : Bool). with_value b v w) f))
-          (λ h. elim (leb_tells ((w.slot + 1) * 2 ^ w.layer) (length L)) [
-            | inl (t, g) ↦ has g ∙ sym (node_stays hash L X w.layer w.slot g)
+          (λ h. elim (leb_tells ((w.id.slot + 1) * 2 ^ w.id.layer) (length L)) [
+            | inl (t, g) ↦ has g ∙ sym (node_stays hash L X w.id.layer w.id.slot g)
             | inr (g, more) ↦ absurd (not more h)
           ])
     ]
@@ -303,8 +305,9 @@ values_grow hash L X ws all =
 
 pub none_has_value : (hash : Hash) (w : WantedNode) → HasValue hash [] w
 none_has_value hash w = λ h.
-    let pos = pow_pos w.layer in
-    let end : (w.slot + 1) * 2 ^ w.layer ≡ w.slot * 2 ^ w.layer + 2 ^ w.layer = omega arith in absurd (omega arith)
+    let pos = pow_pos w.id.layer in
+    let end : (w.id.slot + 1) * 2 ^ w.id.layer ≡ w.id.slot * 2 ^ w.id.layer + 2 ^ w.id.layer = omega arith in
+    absurd (omega arith)
 
 -- ---- the value of a node, by how many nodes of its layer have all their leaves
 
@@ -313,44 +316,45 @@ some_rest hash [] h = absurd (omega arith)
 some_rest hash (leaf ∷ rest) h = refl
 
 pub value_of_whole : (hash : Hash) (L : List (List ℕ)) (w : WantedNode) → HasValue hash L w →
-    w.slot < length L / 2 ^ w.layer → Some w.value ≡ value_at hash L w.layer w.slot
+    w.id.slot < length L / 2 ^ w.id.layer → Some w.value ≡ value_at hash L w.id
 value_of_whole hash L w has below =
-    let m = 2 ^ w.layer in
-    let pos = pow_pos w.layer in
-    let part : (w.slot + 1) * m ≤ length L / m * m = mul-le-mul_right m (omega arith) in
+    let m = 2 ^ w.id.layer in
+    let pos = pow_pos w.id.layer in
+    let part : (w.id.slot + 1) * m ≤ length L / m * m = mul-le-mul_right m (omega arith) in
     let all = div-mul-le_self (length L) m in
-    let end : (w.slot + 1) * m ≡ w.slot * m + m = omega arith in
-    let t : nat_lt (w.slot * m) (length L) ≡ true = grind (arith, nat_tests) in
+    let end : (w.id.slot + 1) * m ≡ w.id.slot * m + m = omega arith in
+    let t : nat_lt (w.id.slot * m) (length L) ≡ true = grind (arith, nat_tests) in
     rw t (ap (λ (v : List ℕ). Some v) (has (omega arith)))
 
-pub value_of_rest : (hash : Hash) (L : List (List ℕ)) (layer slot whole : ℕ) → whole ≡ length L / 2 ^ layer →
-    slot ≡ whole → root_of_rest hash (drop (whole * 2 ^ layer) L) ≡ value_at hash L layer slot
-value_of_rest hash L layer slot whole place same =
-    let m = 2 ^ layer in
-    let pos = pow_pos layer in
+pub value_of_rest : (hash : Hash) (L : List (List ℕ)) (node : NodeId) (whole : ℕ) → whole ≡ length L / 2 ^ node.layer →
+    node.slot ≡ whole → root_of_rest hash (drop (whole * 2 ^ node.layer) L) ≡ value_at hash L node
+value_of_rest hash L node whole is_whole same =
+    let m = 2 ^ node.layer in
+    let pos = pow_pos node.layer in
     let split = div-add-mod' (length L) m in
     let short = mod-lt (length L) pos in
-    let at : slot * m ≡ length L / m * m = ap (λ (n : ℕ). n * m) (same ∙ place) in
-    let at_whole : whole * m ≡ slot * m = ap (λ (n : ℕ). n * m) (sym same) in
-    let len = length-drop (slot * m) L in
-    elim (leb_tells (length L) (slot * m)) [
+    let at : node.slot * m ≡ length L / m * m = ap (λ (n : ℕ). n * m) (same ∙ is_whole) in
+    let at_whole : whole * m ≡ node.slot * m = ap (λ (n : ℕ). n * m) (sym same) in
+    let len = length-drop (node.slot * m) L in
+    elim (leb_tells (length L) (node.slot * m)) [
       | inl (t, h) ↦
-          let f : nat_lt (slot * m) (length L) ≡ false = grind (arith, nat_tests) in
-          rw (at_whole, f) (ap (root_of_rest hash) (drop_all (slot * m) L h))
+          let f : nat_lt (node.slot * m) (length L) ≡ false = grind (arith, nat_tests) in
+          rw (at_whole, f) (ap (root_of_rest hash) (drop_all (node.slot * m) L h))
       | inr (f, h) ↦
-          let t : nat_lt (slot * m) (length L) ≡ true = grind (arith, nat_tests) in
-          rw (at_whole, t) (some_rest hash (drop (slot * m) L) (omega arith)
-          ∙ ap (λ (M : List (List ℕ)). Some (leaves_root hash M)) (sym (take_all m (drop (slot * m) L) (omega arith))))
+          let t : nat_lt (node.slot * m) (length L) ≡ true = grind (arith, nat_tests) in
+          rw (at_whole, t) (some_rest hash (drop (node.slot * m) L) (omega arith)
+          ∙ ap (λ (M : List (List ℕ)). Some (leaves_root hash M))
+          (sym (take_all m (drop (node.slot * m) L) (omega arith))))
     ]
 
-pub value_of_none : (hash : Hash) (L : List (List ℕ)) (layer slot whole : ℕ) → whole ≡ length L / 2 ^ layer →
-    whole < slot → None ≡ value_at hash L layer slot
-value_of_none hash L layer slot whole place past =
-    let m = 2 ^ layer in
-    let pos = pow_pos layer in
+pub value_of_none : (hash : Hash) (L : List (List ℕ)) (node : NodeId) (whole : ℕ) → whole ≡ length L / 2 ^ node.layer →
+    whole < node.slot → None ≡ value_at hash L node
+value_of_none hash L node whole is_whole past =
+    let m = 2 ^ node.layer in
+    let pos = pow_pos node.layer in
     let split = div-add-mod' (length L) m in
     let short = mod-lt (length L) pos in
-    let at : whole * m ≡ length L / m * m = ap (λ (n : ℕ). n * m) place in
-    let part : (whole + 1) * m ≤ slot * m = mul-le-mul_right m (omega arith) in
-    let f : nat_lt (slot * m) (length L) ≡ false = grind (arith, nat_tests) in
+    let at : whole * m ≡ length L / m * m = ap (λ (n : ℕ). n * m) is_whole in
+    let part : (whole + 1) * m ≤ node.slot * m = mul-le-mul_right m (omega arith) in
+    let f : nat_lt (node.slot * m) (length L) ≡ false = grind (arith, nat_tests) in
     rw f

@@ -16,7 +16,8 @@ use Rattle.tlog.specs.Verdicts.{size_limit}
 use Rattle.tlog_tree.specs.Builders.{indexed, indexed_of}
 use Rattle.tlog_tree.specs.Wanted.{end_of}
 use Rattle.tlog_tree.specs.Inner.Wanted.{updated, with_value}
-use Rattle.tlog_tree.specs.Trees.{node_at, value_at, values_at}
+use Rattle.tlog_tree.specs.Trees.{id_of, node_at, value_at, values_at}
+use Rattle.tlog_tree.specs.declared.node_id.NodeId.{NodeId}
 use Rattle.tlog_tree.specs.declared.wanted.WantedNode.{WantedNode}
 use Rattle.tlog_tree.proofs.Kept.{at_leaves, new_tells}
 
@@ -73,9 +74,9 @@ unmoved : (hash : Hash) (size : ℕ) (L : List (List ℕ)) (w : WantedNode) → 
     (size < end_of w → end_of w ≤ length L → ⊥) → updated hash 0 size L w ≡ w
 unmoved hash size L w fits all not_new =
     at_leaves hash size L w
-    ∙ elim (new_tells size (length L) ((w.slot + 1) * 2 ^ w.layer)) [
+    ∙ elim (new_tells size (length L) ((w.id.slot + 1) * 2 ^ w.id.layer)) [
       | inl (t, i, j) ↦ absurd (not_new (omega (arith, fits, i)) (omega (arith, j)))
-      | inr (f, not) ↦ ap (λ b. with_value b (node_at hash L w.layer w.slot) w) f
+      | inr (f, not) ↦ ap (λ b. with_value b (node_at hash L w.id.layer w.id.slot) w) f
     ]
 
 pub due_alone : (hash : Hash) (size : ℕ) (L : List (List ℕ)) (ws after : List WantedNode) (start end : ℕ) →
@@ -97,54 +98,54 @@ due_alone hash size L ws after start end fits grown within inside first last is 
 -- ---- in the order of the call
 
 -- the value of a wanted node stands at its index
-abbrev pub IsAnswered : Hash → List (List ℕ) → List (ℕ × ℕ) → List (Option (List ℕ)) → ℕ → Type 0
-IsAnswered hash L places values k =
-    get_or values k None ≡ value_at hash L (get_or places k (0, 0)).0 (get_or places k (0, 0)).1
+abbrev pub IsAnswered : Hash → List (List ℕ) → List NodeId → List (Option (List ℕ)) → ℕ → Type 0
+IsAnswered hash L nodes values k =
+    get_or values k None ≡ value_at hash L (get_or nodes k (id_of 0 0))
 
-index_at : (places : List (ℕ × ℕ)) (k : ℕ) (d : ℕ × (ℕ × ℕ)) → k < length places →
-    get_or (indexed places) k d ≡ (k, get_or places k (0, 0))
-index_at places k d h =
-    get_or-map-range_with_len (λ k. (k, get_or places k (0, 0))) 0 (length places) k k d h (omega arith)
+index_at : (nodes : List NodeId) (k : ℕ) (d : ℕ × NodeId) → k < length nodes →
+    get_or (indexed nodes) k d ≡ (k, get_or nodes k (id_of 0 0))
+index_at nodes k d h =
+    get_or-map-range_with_len (λ k. (k, get_or nodes k (id_of 0 0))) 0 (length nodes) k k d h (omega arith)
 
-length-indexed : (places : List (ℕ × ℕ)) → length (indexed places) ≡ length places
-length-indexed places = length-map-range_with_len (λ k. (k, get_or places k (0, 0))) 0 (length places)
+length-indexed : (nodes : List NodeId) → length (indexed nodes) ≡ length nodes
+length-indexed nodes = length-map-range_with_len (λ k. (k, get_or nodes k (id_of 0 0))) 0 (length nodes)
 
-abbrev IsOwn : List (ℕ × ℕ) → ℕ × (ℕ × ℕ) → Type 0
-IsOwn places p = (p.0 < length places) × (p.1 ≡ get_or places p.0 (0, 0))
+abbrev IsOwn : List NodeId → ℕ × NodeId → Type 0
+IsOwn nodes p = (p.0 < length nodes) × (p.1 ≡ get_or nodes p.0 (id_of 0 0))
 
-own_index : (places : List (ℕ × ℕ)) (ws : List WantedNode) → IsPermutation (indexed places) (map indexed_of ws) →
-    All (λ w. IsOwn places (indexed_of w)) ws
-own_index places ws moved k d h =
-    let all = All-permutation (IsOwn places) (indexed places) (map indexed_of ws) moved (λ i e g.
-    let inside : i < length places = omega (arith, length-indexed places) in
-    subst (IsOwn places) (sym (index_at places i e inside)) (inside, refl)) in
-    subst (IsOwn places) (get_or-map indexed_of ws k d (indexed_of d) h)
+own_index : (nodes : List NodeId) (ws : List WantedNode) → IsPermutation (indexed nodes) (map indexed_of ws) →
+    All (λ w. IsOwn nodes (indexed_of w)) ws
+own_index nodes ws moved k d h =
+    let all = All-permutation (IsOwn nodes) (indexed nodes) (map indexed_of ws) moved (λ i e g.
+    let inside : i < length nodes = omega (arith, length-indexed nodes) in
+    subst (IsOwn nodes) (sym (index_at nodes i e inside)) (inside, refl)) in
+    subst (IsOwn nodes) (get_or-map indexed_of ws k d (indexed_of d) h)
     (all k (indexed_of d) (omega (arith, length-map ws indexed_of)))
 
-as_many : (places : List (ℕ × ℕ)) (ws : List WantedNode) → IsPermutation (indexed places) (map indexed_of ws) →
-    length ws ≡ length places
-as_many places ws moved =
-    sym (length-map ws indexed_of) ∙ length_permutation _ _ moved ∙ length-indexed places
+as_many : (nodes : List NodeId) (ws : List WantedNode) → IsPermutation (indexed nodes) (map indexed_of ws) →
+    length ws ≡ length nodes
+as_many nodes ws moved =
+    sym (length-map ws indexed_of) ∙ length_permutation _ _ moved ∙ length-indexed nodes
 
-pub index_within : (places : List (ℕ × ℕ)) (ws : List WantedNode) →
-    IsPermutation (indexed places) (map indexed_of ws) → All (λ w. w.index < length ws) ws
-index_within places ws moved k d h = omega (arith, (own_index places ws moved k d h).0, as_many places ws moved)
+pub index_within : (nodes : List NodeId) (ws : List WantedNode) →
+    IsPermutation (indexed nodes) (map indexed_of ws) → All (λ w. w.index < length ws) ws
+index_within nodes ws moved k d h = omega (arith, (own_index nodes ws moved k d h).0, as_many nodes ws moved)
 
 -- one more
-pub answered_more : (hash : Hash) (L : List (List ℕ)) (places : List (ℕ × ℕ)) (ws : List WantedNode)
+pub answered_more : (hash : Hash) (L : List (List ℕ)) (nodes : List NodeId) (ws : List WantedNode)
     (values : List (Option (List ℕ))) (i : ℕ) (e : WantedNode) (v : Option (List ℕ)) →
-    IsPermutation (indexed places) (map indexed_of ws) → i < length ws → length values ≡ length ws →
-    v ≡ value_at hash L (get_or ws i e).layer (get_or ws i e).slot →
-    ((k : ℕ) (d : WantedNode) → k < i → IsAnswered hash L places values (get_or ws k d).index) → (k : ℕ)
-    (d : WantedNode) → k < i + 1 → IsAnswered hash L places (set values (get_or ws i e).index v) (get_or ws k d).index
-answered_more hash L places ws values i e v moved inside room is so_far k d h =
+    IsPermutation (indexed nodes) (map indexed_of ws) → i < length ws → length values ≡ length ws →
+    v ≡ value_at hash L (get_or ws i e).id →
+    ((k : ℕ) (d : WantedNode) → k < i → IsAnswered hash L nodes values (get_or ws k d).index) → (k : ℕ)
+    (d : WantedNode) → k < i + 1 → IsAnswered hash L nodes (set values (get_or ws i e).index v) (get_or ws k d).index
+answered_more hash L nodes ws values i e v moved inside room is so_far k d h =
     let n = (get_or ws k d).index in
     let m = (get_or ws i e).index in
-    elim (cases_eq n m) as (λ _. IsAnswered hash L places (set values m v) n) [
+    elim (cases_eq n m) as (λ _. IsAnswered hash L nodes (set values m v) n) [
       | inl same ↦
-          subst (λ m'. IsAnswered hash L places (set values m v) m') (sym same)
-          (get_or-set_same values m v None (omega (arith, room, index_within places ws moved i e inside)) ∙ is
-          ∙ ap (λ p. value_at hash L p.0 p.1) (own_index places ws moved i e inside).1)
+          subst (λ m'. IsAnswered hash L nodes (set values m v) m') (sym same)
+          (get_or-set_same values m v None (omega (arith, room, index_within nodes ws moved i e inside)) ∙ is
+          ∙ ap (value_at hash L) (own_index nodes ws moved i e inside).1)
       | inr other ↦
           let before : k < i = elim (cases_eq k i) as (λ _. k < i) [
             | inl last ↦ absurd (other (ap (λ j. (get_or ws j d).index) last
@@ -154,19 +155,19 @@ answered_more hash L places ws values i e v moved inside room is so_far k d h =
           get_or-set_other values m n v None other ∙ so_far k d before
     ]
 
-pub all_answered : (hash : Hash) (L : List (List ℕ)) (places : List (ℕ × ℕ)) (ws : List WantedNode)
-    (values : List (Option (List ℕ))) → IsPermutation (indexed places) (map indexed_of ws) →
-    length values ≡ length ws → All (λ w. IsAnswered hash L places values w.index) ws →
-    values ≡ values_at hash L places
-all_answered hash L places ws values moved room done =
-    let many = as_many places ws moved in
-    let P : ℕ × (ℕ × ℕ) → Type 0 = λ p. IsAnswered hash L places values p.0 in
+pub all_answered : (hash : Hash) (L : List (List ℕ)) (nodes : List NodeId) (ws : List WantedNode)
+    (values : List (Option (List ℕ))) → IsPermutation (indexed nodes) (map indexed_of ws) →
+    length values ≡ length ws → All (λ w. IsAnswered hash L nodes values w.index) ws →
+    values ≡ values_at hash L nodes
+all_answered hash L nodes ws values moved room done =
+    let many = as_many nodes ws moved in
+    let P : ℕ × NodeId → Type 0 = λ p. IsAnswered hash L nodes values p.0 in
     let all : All P (map indexed_of ws) = All-map P indexed_of ws done in
-    ext_get_or None values (values_at hash L places)
-    (room ∙ many ∙ sym (length-map places (λ (p : ℕ × ℕ). value_at hash L p.0 p.1))) (λ i h.
-    let inside : i < length places = omega (arith, room, many) in
-    let x : ℕ × (ℕ × ℕ) = (i, get_or places i (0, 0)) in
-    let (k, within, at) = Contains-permutation (indexed places) (map indexed_of ws) x moved
-    (i, omega (arith, length-indexed places), index_at places i x inside) in
+    ext_get_or None values (values_at hash L nodes)
+    (room ∙ many ∙ sym (length-map nodes (value_at hash L))) (λ i h.
+    let inside : i < length nodes = omega (arith, room, many) in
+    let x : ℕ × NodeId = (i, get_or nodes i (id_of 0 0)) in
+    let (k, within, at) = Contains-permutation (indexed nodes) (map indexed_of ws) x moved
+    (i, omega (arith, length-indexed nodes), index_at nodes i x inside) in
     subst P at (all k x within)
-    ∙ sym (get_or-map (λ (p : ℕ × ℕ). value_at hash L p.0 p.1) places i (0, 0) None inside))
+    ∙ sym (get_or-map (value_at hash L) nodes i (id_of 0 0) None inside))

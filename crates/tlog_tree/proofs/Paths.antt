@@ -13,7 +13,8 @@ use Rattle.tlog.proofs.Honest.{sub-even, sub-odd, sub-one}
 use Rattle.tlog.proofs.Climbs.{path_above}
 use Rattle.tlog.proofs.Layers.{above, above_parts, itself, length-above, mth_above, only_at, pair_at, sibling}
 use Rattle.tlog_tree.specs.Inner.Layers.{above_of, layer_of}
-use Rattle.tlog_tree.specs.Trees.{all_there, leaves_root, value_at, values_at}
+use Rattle.tlog_tree.specs.Trees.{all_there, id_of, leaves_root, value_at, values_at}
+use Rattle.tlog_tree.specs.declared.node_id.NodeId.{NodeId}
 use Rattle.tlog_tree.proofs.Kept.{node_here}
 
 pub above_is : (hash : Hash) (L : List (List ℕ)) → above_of hash L ≡ above hash itself L
@@ -37,7 +38,7 @@ unfolding layer_of
 layer_none hash L = refl
 
 value_above : (hash : Hash) (L : List (List ℕ)) (layer slot : ℕ) →
-    value_at hash L (suc layer) slot ≡ value_at hash (above_of hash L) layer slot
+    value_at hash L (id_of (suc layer) slot) ≡ value_at hash (above_of hash L) (id_of layer slot)
 value_above hash L layer slot =
     let m = 2 ^ layer in
     let x = slot * m in
@@ -62,7 +63,7 @@ value_above hash L layer slot =
 
 -- a node of a layer
 pub layer_value : (hash : Hash) (layer : ℕ) (L : List (List ℕ)) (slot : ℕ) → slot < length (layer_of hash layer L) →
-    value_at hash L layer slot ≡ Some (get_or (layer_of hash layer L) slot [])
+    value_at hash L (id_of layer slot) ≡ Some (get_or (layer_of hash layer L) slot [])
 unfolding layer_of
 layer_value hash zero L slot h =
     let one : slot * 1 ≡ slot = omega arith in
@@ -108,18 +109,18 @@ sibling_gone hash M node last s long within is past = elim is [
   | inr (i, e, n) ↦ absurd (omega arith)
 ]
 
-values_push : (hash : Hash) (leaves : List (List ℕ)) (places : List (ℕ × ℕ)) (layer slot : ℕ) →
-    values_at hash leaves (places ++ (layer, slot) ∷ [])
-    ≡ values_at hash leaves places ++ value_at hash leaves layer slot ∷ []
-values_push hash leaves places layer slot =
-    map-append (λ (place : ℕ × ℕ). value_at hash leaves place.0 place.1) places ((layer, slot) ∷ [])
+values_push : (hash : Hash) (leaves : List (List ℕ)) (nodes : List NodeId) (layer slot : ℕ) →
+    values_at hash leaves (nodes ++ id_of layer slot ∷ [])
+    ≡ values_at hash leaves nodes ++ value_at hash leaves (id_of layer slot) ∷ []
+values_push hash leaves nodes layer slot =
+    map-append (value_at hash leaves) nodes (id_of layer slot ∷ [])
 
-pub path_taken : (hash : Hash) (leaves : List (List ℕ)) (layer node last s : ℕ) (places more : List (ℕ × ℕ)) →
-    more ≡ places ++ (layer, s) ∷ [] → length (layer_of hash layer leaves) ≡ last + 1 → node ≤ last →
+pub path_taken : (hash : Hash) (leaves : List (List ℕ)) (layer node last s : ℕ) (nodes more : List NodeId) →
+    more ≡ nodes ++ id_of layer s ∷ [] → length (layer_of hash layer leaves) ≡ last + 1 → node ≤ last →
     IsSibling node s → s ≤ last →
     values_at hash leaves more ++ all_there (path hash itself (node / 2) (layer_of hash (layer + 1) leaves))
-    ≡ values_at hash leaves places ++ all_there (path hash itself node (layer_of hash layer leaves))
-path_taken hash leaves layer node last s places more are long within is there =
+    ≡ values_at hash leaves nodes ++ all_there (path hash itself node (layer_of hash layer leaves))
+path_taken hash leaves layer node last s nodes more are long within is there =
     let M = layer_of hash layer leaves in
     let tail = path hash itself (node / 2) (above hash itself M) in
     let whole : path hash itself node M ≡ get_or M s [] ∷ tail =
@@ -127,14 +128,14 @@ path_taken hash leaves layer node last s places more are long within is there =
     ∙ ap (λ (ds : List (List ℕ)). ds ++ tail) (sibling_there hash M node last s long within is there) in
     let value = layer_value hash layer leaves s (omega arith) in
     let up = layer_more hash layer leaves in
-    rw (are, up, values_push hash leaves places layer s, value, whole)
-    (append_assoc (values_at hash leaves places) (Some (get_or M s []) ∷ []) (all_there tail))
+    rw (are, up, values_push hash leaves nodes layer s, value, whole)
+    (append_assoc (values_at hash leaves nodes) (Some (get_or M s []) ∷ []) (all_there tail))
 
-pub path_passed : (hash : Hash) (leaves : List (List ℕ)) (layer node last s : ℕ) (places : List (ℕ × ℕ)) →
+pub path_passed : (hash : Hash) (leaves : List (List ℕ)) (layer node last s : ℕ) (nodes : List NodeId) →
     length (layer_of hash layer leaves) ≡ last + 1 → node ≤ last → IsSibling node s → last < s →
-    values_at hash leaves places ++ all_there (path hash itself (node / 2) (layer_of hash (layer + 1) leaves))
-    ≡ values_at hash leaves places ++ all_there (path hash itself node (layer_of hash layer leaves))
-path_passed hash leaves layer node last s places long within is past =
+    values_at hash leaves nodes ++ all_there (path hash itself (node / 2) (layer_of hash (layer + 1) leaves))
+    ≡ values_at hash leaves nodes ++ all_there (path hash itself node (layer_of hash layer leaves))
+path_passed hash leaves layer node last s nodes long within is past =
     let M = layer_of hash layer leaves in
     let tail = path hash itself (node / 2) (above hash itself M) in
     let whole : path hash itself node M ≡ tail =
@@ -181,13 +182,13 @@ proof_one hash M old one some =
     ∙ ap (λ (n : ℕ). path hash itself n M) none
 
 -- the node, if the verifier does not have its value, and its path
-pub consistency_is : (hash : Hash) (leaves : List (List ℕ)) (layer old last : ℕ) (places : List (ℕ × ℕ))
+pub consistency_is : (hash : Hash) (leaves : List (List ℕ)) (layer old last : ℕ) (nodes : List NodeId)
     (proof : List (List ℕ)) → length (layer_of hash layer leaves) ≡ last + 1 → old ≤ last →
     subproof hash itself old (layer_of hash layer leaves) true ≡ proof → (old % 2 ≡ 0 → ⊥) →
-    ((1 < old) × (places ≡ [] ++ (layer, old - 1) ∷ [])) ⊎ ((old ≡ 1) × (places ≡ [])) →
-    values_at hash leaves places ++ all_there (path hash itself (old - 1) (layer_of hash layer leaves))
+    ((1 < old) × (nodes ≡ [] ++ id_of layer (old - 1) ∷ [])) ⊎ ((old ≡ 1) × (nodes ≡ [])) →
+    values_at hash leaves nodes ++ all_there (path hash itself (old - 1) (layer_of hash layer leaves))
     ≡ all_there proof
-consistency_is hash leaves layer old last places proof long below is odd first =
+consistency_is hash leaves layer old last nodes proof long below is odd first =
     let M = layer_of hash layer leaves in
     elim first [
       | inl (more, one) ↦

@@ -2,6 +2,7 @@
 use Rattle.std.specs.Prelude.{ℕ, zero, suc, ◌+◌, ◌*◌, ◌^◌, nat_lt, List, [], ◌∷◌, length, take, drop}
 use Rattle.std.specs.Prelude.{Option, Some, None, map, if◌then◌else◌}
 use Rattle.tlog.specs.Rfc9162.{Hash, mth, split}
+use Rattle.tlog_tree.specs.declared.node_id.NodeId.{NodeId}
 
 -- MTH of leaf hashes
 abbrev pub leaves_root : Hash → List (List ℕ) → List ℕ
@@ -19,20 +20,25 @@ whole_within (suc depth) hash (d ∷ rest) =
 abbrev pub whole_nodes : Hash → List (List ℕ) → List (List ℕ)
 whole_nodes hash leaves = whole_within (length leaves) hash leaves
 
--- ---- nodes by their places: layer 0 has the leaf hashes, and each node 2^layer leaves, from slot · 2^layer on
+-- ---- nodes by layer and slot: layer 0 has the leaf hashes, and each node 2^layer leaves, from slot · 2^layer on
+
+-- the node of this layer and slot
+abbrev pub id_of : ℕ → ℕ → NodeId
+id_of layer slot = record { layer = layer; slot = slot }
 
 -- MTH of the leaves below a node
 abbrev pub node_at : Hash → List (List ℕ) → ℕ → ℕ → List ℕ
 node_at hash leaves layer slot = leaves_root hash (take (2 ^ layer) (drop (slot * 2 ^ layer) leaves))
 
 -- the value of a node, if it has leaves. One that the end cuts off has the value that is passed on.
-abbrev pub value_at : Hash → List (List ℕ) → ℕ → ℕ → Option (List ℕ)
-value_at hash leaves layer slot =
-    if nat_lt (slot * 2 ^ layer) (length leaves) then Some (node_at hash leaves layer slot) else None
+abbrev pub value_at : Hash → List (List ℕ) → NodeId → Option (List ℕ)
+value_at hash leaves node =
+    if nat_lt (node.slot * 2 ^ node.layer) (length leaves) then Some (node_at hash leaves node.layer node.slot)
+    else None
 
--- the values of the nodes of these layers and slots
-abbrev pub values_at : Hash → List (List ℕ) → List (ℕ × ℕ) → List (Option (List ℕ))
-values_at hash leaves places = map (λ (place : ℕ × ℕ). value_at hash leaves place.0 place.1) places
+-- the values of nodes
+abbrev pub values_at : Hash → List (List ℕ) → List NodeId → List (Option (List ℕ))
+values_at hash leaves nodes = map (value_at hash leaves) nodes
 
 -- digests that are all there
 abbrev pub all_there : List (List ℕ) → List (Option (List ℕ))

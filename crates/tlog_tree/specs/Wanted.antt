@@ -7,9 +7,9 @@ use Rattle.tlog_tree.specs.declared.wanted.WantedNode.{WantedNode}
 
 -- how many leaves there are when the last one below it comes, or one more than a log has at most
 abbrev pub end_of : WantedNode → ℕ
-end_of node = min ((node.slot + 1) * 2 ^ node.layer) (size_limit + 1)
+end_of node = min ((node.id.slot + 1) * 2 ^ node.id.layer) (size_limit + 1)
 
 -- it has its value, if its leaves have all come
 abbrev pub HasValue : Hash → List (List ℕ) → WantedNode → Type 0
 HasValue hash leaves node =
-    (node.slot + 1) * 2 ^ node.layer ≤ length leaves → node.value ≡ node_at hash leaves node.layer node.slot
+    (node.id.slot + 1) * 2 ^ node.id.layer ≤ length leaves → node.value ≡ node_at hash leaves node.id.layer node.id.slot

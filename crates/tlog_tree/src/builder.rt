@@ -4,16 +4,17 @@ ghost use Rattle.std.specs.Prelude.{IfOk, IfErr, length, slice_index_or, vec_len
 ghost use Rattle.sha2.specs.Sha256.{sha256};
 ghost use Rattle.tlog.specs.Verdicts.{size_limit};
 ghost use Rattle.tlog_tree.specs.Trees.{value_at, values_at};
+ghost use Rattle.tlog_tree.specs.declared.node_id.NodeId.{NodeId};
 ghost use Rattle.tlog_tree.specs.declared.error.TreeError.TheVariants.{OutOfMemory, SizeTooLarge};
 
 use crate::error::TreeError;
 use crate::frontier::{Frontier, root_of_nodes};
+use crate::node_id::NodeId;
 use crate::wanted::{WantedNode, whole_count};
 use std::alloc::{AllocError, Global};
 
 /// The tree of a log that is read once, from its first entry on, with the values of the nodes that were wanted when it
-/// began, and nothing else: what proofs of inclusion and of consistency are computed from. A node has a layer, 0 for
-/// the leaf hashes, and a slot in the layer, counted from 0: below it are the 2^layer leaves from slot * 2^layer on.
+/// began, and nothing else: what proofs of inclusion and of consistency are computed from.
 #[derive(Debug, Drop)]
 pub struct TreeBuilder {
     frontier: Frontier,
@@ -26,20 +27,18 @@ impl TreeBuilder {
     ghost use Rattle.tlog_tree.specs.Frontiers.{IsFrontierOf};
     ghost use Rattle.tlog_tree.specs.Wanted.{HasValue};
 
-    /// The tree of no entries, where the nodes of these layers and slots are wanted.
+    /// The tree of no entries, where these nodes are wanted, in any order and as often as they are named.
     ///
     /// # Errors
     ///
     /// `AllocError` if memory runs out.
-    pub fn new(alloc: Global, places: &[(usize, usize)]) -> Result<TreeBuilder, AllocError>
-        ensures { IfOk result (IsBuilderOf [] places.now) }
+    pub fn new(alloc: Global, nodes: &[NodeId]) -> Result<TreeBuilder, AllocError>
+        ensures { IfOk result (IsBuilderOf [] nodes.now) }
     {
-        let mut wanted = Vec::with_capacity(alloc, places.len())?;
-        for index in 0..places.len() {
-            let (layer, slot) = places[index];
+        let mut wanted = Vec::with_capacity(alloc, nodes.len())?;
+        for index in 0..nodes.len() {
             wanted.push(WantedNode {
-                layer,
-                slot,
+                id: nodes[index],
                 index,
                 value: [0; 32],
             })?;
@@ -58,8 +57,8 @@ impl TreeBuilder {
     /// - `SizeTooLarge` if there would be more than 2^62;
     /// - `OutOfMemory` if memory runs out.
     pub fn push_many(mut self, alloc: Global, hashes: &[[u8; 32]]) -> Result<TreeBuilder, TreeError>
-        ensures built { IfOk result (λ builder. (leaves : List (List ℕ)) (places : List (ℕ × ℕ)) →
-            IsBuilderOf leaves places self → IsBuilderOf (leaves ++ hashes.now) places builder) }
+        ensures built { IfOk result (λ builder. (leaves : List (List ℕ)) (nodes : List NodeId) →
+            IsBuilderOf leaves nodes self → IsBuilderOf (leaves ++ hashes.now) nodes builder) }
         ensures refused { IfErr result (λ e. e
             ≡ (if nat_lt size_limit (self.frontier.size + length hashes.now) then SizeTooLarge else OutOfMemory)) }
     {
@@ -82,8 +81,8 @@ impl TreeBuilder {
     ///
     /// `AllocError` if memory runs out.
     pub fn values(&self, alloc: Global) -> Result<Vec<Option<[u8; 32]>>, AllocError>
-        ensures { IfOk result (λ values. (leaves : List (List ℕ)) (places : List (ℕ × ℕ)) →
-            IsBuilderOf leaves places self.now → values.items ≡ values_at sha256 leaves places) }
+        ensures { IfOk result (λ values. (leaves : List (List ℕ)) (nodes : List NodeId) →
+            IsBuilderOf leaves nodes self.now → values.items ≡ values_at sha256 leaves nodes) }
     {
         let mut values = vec![in alloc; None; self.wanted.len()]?;
         for node in &self.wanted {
@@ -98,13 +97,13 @@ impl TreeBuilder {
     /// The value of a wanted node.
     fn value(&self, node: &WantedNode) -> Option<[u8; 32]>
         ensures { (leaves : List (List ℕ)) → IsFrontierOf leaves self.now.frontier →
-            HasValue sha256 leaves node.now → result ≡ value_at sha256 leaves node.now.layer node.now.slot }
+            HasValue sha256 leaves node.now → result ≡ value_at sha256 leaves node.now.id }
     {
-        let whole = whole_count(self.frontier.size(), node.layer);
-        if node.slot < whole {
+        let whole = whole_count(self.frontier.size(), node.id.layer);
+        if node.id.slot < whole {
             return Some(node.value);
         }
-        if node.slot == whole {
+        if node.id.slot == whole {
             return self.frontier.root_behind(whole);
         }
         None

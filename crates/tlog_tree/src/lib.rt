@@ -6,12 +6,14 @@ mod error;
 mod frontier;
 pub mod laws;
 mod leaf;
-mod places;
+mod node_id;
+mod proof_nodes;
 mod wanted;
 
 pub use builder::TreeBuilder;
 pub use error::TreeError;
 pub use frontier::Frontier;
 pub use leaf::leaf_hashes;
-pub use places::{consistency_places, inclusion_places};
+pub use node_id::NodeId;
+pub use proof_nodes::{consistency_nodes, inclusion_nodes};
 pub use wanted::WantedNode;

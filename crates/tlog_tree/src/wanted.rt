@@ -4,15 +4,14 @@ ghost use Rattle.tlog.specs.Verdicts.{size_limit};
 ghost use Rattle.tlog_tree.specs.Wanted.{end_of};
 ghost use Rattle.tlog_tree.specs.Inner.Wanted.{kept_in};
 
+use crate::node_id::NodeId;
 use tlog::SIZE_LIMIT;
 
 /// A node that is wanted.
 #[derive(Clone, Copy, Debug, PartialEq, Eq)]
 pub struct WantedNode {
-    /// Its layer: 0 has the leaf hashes.
-    pub layer: usize,
-    /// Its place in the layer.
-    pub slot: usize,
+    /// Which node it is.
+    pub id: NodeId,
     /// Its index among the wanted nodes, in the order of the call.
     pub index: usize,
     /// Its value, once all leaves below it have come.
@@ -24,8 +23,8 @@ impl WantedNode {
     pub(crate) fn end(&self) -> usize
         ensures { result ≡ end_of self.now }
     {
-        if self.slot < whole_count(SIZE_LIMIT, self.layer) {
-            (self.slot + 1) << self.layer
+        if self.id.slot < whole_count(SIZE_LIMIT, self.id.layer) {
+            (self.id.slot + 1) << self.id.layer
         } else {
             SIZE_LIMIT + 1
         }
@@ -35,9 +34,10 @@ impl WantedNode {
     fn kept(self, layer: usize, first: usize, nodes: &[[u8; 32]]) -> WantedNode
         ensures { result ≡ kept_in layer first nodes.now self }
     {
-        if self.layer == layer && first <= self.slot && self.slot - first < nodes.len() {
+        let slot = self.id.slot;
+        if self.id.layer == layer && first <= slot && slot - first < nodes.len() {
             return WantedNode {
-                value: nodes[self.slot - first],
+                value: nodes[slot - first],
                 ..self
             };
         }

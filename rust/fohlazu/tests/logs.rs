@@ -10,9 +10,9 @@ mod common;
 
 use fohlazu::hashes::Sha256;
 use fohlazu::tlog::{
-    Collision, EMPTY_ROOT, Frontier, LogHash, TreeBuilder, TreeError, compose, consistency_collision,
-    consistency_places, consistency_proof, entries_collision, entry_collision, entry_places, growth_collision,
-    inclusion_places, inclusion_proof, leaf_collision, leaf_hash, leaf_hashes, node_hash, prefix_collision,
+    Collision, EMPTY_ROOT, Frontier, LogHash, NodeId, TreeBuilder, TreeError, compose, consistency_collision,
+    consistency_nodes, consistency_proof, entries_collision, entry_collision, entry_nodes, growth_collision,
+    inclusion_nodes, inclusion_proof, leaf_collision, leaf_hash, leaf_hashes, node_hash, prefix_collision,
     proof_collision, root, root_collision, verify_consistency, verify_entries, verify_inclusion,
 };
 use std::fmt::Display;
@@ -48,10 +48,13 @@ impl<'a> Words<'a> {
     }
 
     /// The next word as a list of nodes.
-    fn nodes(&mut self) -> Vec<(usize, usize)> {
+    fn nodes(&mut self) -> Vec<NodeId> {
         self.list(|item| {
             let (layer, slot) = item.split_once('.').expect("a node is LAYER.SLOT");
-            (layer.parse().expect("a layer is a number"), slot.parse().expect("a slot is a number"))
+            NodeId {
+                layer: layer.parse().expect("a layer is a number"),
+                slot: slot.parse().expect("a slot is a number"),
+            }
         })
     }
 
@@ -110,8 +113,8 @@ fn hashes(entries: &[Vec<u8>]) -> Vec<Digest> {
 }
 
 /// The values of nodes in the tree of these entries.
-fn values(entries: &[Vec<u8>], nodes: &[(usize, usize)]) -> Vec<Digest> {
-    let value = |&(layer, slot): &(usize, usize)| {
+fn values(entries: &[Vec<u8>], nodes: &[NodeId]) -> Vec<Digest> {
+    let value = |&NodeId { layer, slot }: &NodeId| {
         let rest = &entries[slot << layer..];
         root_of(&rest[..rest.len().min(1 << layer)])
     };
@@ -119,8 +122,8 @@ fn values(entries: &[Vec<u8>], nodes: &[(usize, usize)]) -> Vec<Digest> {
 }
 
 /// The tree of entries, which come in longer and longer pieces, where these nodes are wanted.
-fn tree(entries: &[Vec<u8>], places: &[(usize, usize)]) -> TreeBuilder {
-    let mut tree = TreeBuilder::new(places).unwrap();
+fn tree(entries: &[Vec<u8>], nodes: &[NodeId]) -> TreeBuilder {
+    let mut tree = TreeBuilder::new(nodes).unwrap();
     let (mut rest, mut len) = (entries, 0);
     while !rest.is_empty() {
         let (piece, behind) = rest.split_at(rest.len().min(len));
@@ -132,9 +135,9 @@ fn tree(entries: &[Vec<u8>], places: &[(usize, usize)]) -> TreeBuilder {
 }
 
 /// Checks that a tree has these values of nodes.
-fn check_values(entries: &[Vec<u8>], places: &[(usize, usize)], values: &[Digest]) {
+fn check_values(entries: &[Vec<u8>], nodes: &[NodeId], values: &[Digest]) {
     let expected: Vec<_> = values.iter().copied().map(Some).collect();
-    assert_eq!(tree(entries, places).values().unwrap(), expected, "the tree has other values");
+    assert_eq!(tree(entries, nodes).values().unwrap(), expected, "the tree has other values");
 }
 
 /// `root SIZE`: the root of the log of this size. A tree that grows in pieces has it, too.
@@ -153,9 +156,9 @@ fn inclusion(words: &mut Words<'_>) -> String {
     let (entries, index) = (words.log(), words.number());
     let (size, root) = (entries.len(), root_of(&entries));
     let proof = inclusion_proof::<Sha256, 32>(&entries, index).unwrap();
-    let places = inclusion_places(index, size).unwrap();
-    check_values(&entries, &places, &proof);
-    assert_eq!(entry_places(&[index], size).unwrap(), places);
+    let nodes = inclusion_nodes(index, size).unwrap();
+    check_values(&entries, &nodes, &proof);
+    assert_eq!(entry_nodes(&[index], size).unwrap(), nodes);
     let leaf = leaf_hash(&entries[index]);
     assert_eq!(verify_inclusion(index, size, &leaf, &proof, &root), Ok(()));
     assert_eq!(verify_entries(size, &[index], &[leaf], &proof, &root), Ok(()));
@@ -169,7 +172,7 @@ fn consistency(words: &mut Words<'_>) -> String {
     let size = entries.len();
     let proof = consistency_proof::<Sha256, 32>(&entries, old_size).unwrap();
     if old_size < size {
-        check_values(&entries, &consistency_places(old_size, size).unwrap(), &proof);
+        check_values(&entries, &consistency_nodes(old_size, size).unwrap(), &proof);
     }
     let (old, middle) = (&entries[..old_size], &entries[..old_size + (size - old_size) / 2]);
     let (old_root, middle_root, root) = (root_of(old), root_of(middle), root_of(&entries));
@@ -188,11 +191,11 @@ fn consistency(words: &mut Words<'_>) -> String {
     hexes(&proof)
 }
 
-/// `places SIZE INDICES`: the nodes of the proof of several entries.
-fn places(words: &mut Words<'_>) -> String {
+/// `proof_nodes SIZE INDICES`: the nodes of the proof of several entries.
+fn proof_nodes(words: &mut Words<'_>) -> String {
     let (size, indices) = (words.number(), words.numbers());
-    let places = entry_places(&indices, size).unwrap();
-    places.iter().map(|(layer, slot)| format!("{layer}.{slot}")).collect::<Vec<_>>().join(" ")
+    let nodes = entry_nodes(&indices, size).unwrap();
+    nodes.iter().map(|node| format!("{}.{}", node.layer, node.slot)).collect::<Vec<_>>().join(" ")
 }
 
 /// The first four bytes of a digest, or `-` where there is none.
@@ -203,8 +206,8 @@ fn short(digest: Option<Digest>) -> String {
 /// `digests SIZE INDICES`: the first four bytes of each digest of this proof, as a tree has them.
 fn digests(words: &mut Words<'_>) -> String {
     let (entries, indices) = (words.log(), words.numbers());
-    let places = entry_places(&indices, entries.len()).unwrap();
-    let values = tree(&entries, &places).values().unwrap();
+    let nodes = entry_nodes(&indices, entries.len()).unwrap();
+    let values = tree(&entries, &nodes).values().unwrap();
     values.into_iter().map(short).collect::<Vec<_>>().join(" ")
 }
 
@@ -387,7 +390,7 @@ fn check_some(kinds: &[&str], are_long: bool, count: usize) {
             "root" => root_by_size(&mut words),
             "inclusion" => inclusion(&mut words),
             "consistency" => consistency(&mut words),
-            "places" => places(&mut words),
+            "proof_nodes" => proof_nodes(&mut words),
             "digests" => digests(&mut words),
             "frontier" => frontier(&mut words),
             "included" => included(&mut words),
@@ -414,7 +417,7 @@ fn roots() {
 
 #[test]
 fn every_kind_is_tried() {
-    let tried = "root inclusion consistency places digests frontier included consistent verify root_collision \
+    let tried = "root inclusion consistency proof_nodes digests frontier included consistent verify root_collision \
                  leaf_collision entry_collision entries_collision prefix_collision proof_collision \
                  consistency_collision growth_collision compose";
     let left_out = "file read file_entries file_prefix checkpoint part entries_proof consistency_proof";
@@ -427,7 +430,7 @@ fn every_kind_is_tried() {
 
 #[test]
 fn proofs() {
-    check(&["inclusion", "consistency", "places", "digests", "frontier"], 210 + 210 + 87 + 29 + 19);
+    check(&["inclusion", "consistency", "proof_nodes", "digests", "frontier"], 210 + 210 + 87 + 29 + 19);
 }
 
 #[test]

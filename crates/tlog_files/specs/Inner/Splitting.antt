@@ -7,6 +7,7 @@ use Rattle.sha2.specs.Sha256.{sha256}
 use Rattle.tlog.specs.Rfc9162.{leaf_hash}
 use Rattle.tlog_tree.specs.Builders.{IsBuilderOf}
 use Rattle.tlog_tree.specs.declared.builder.TreeBuilder.{TreeBuilder}
+use Rattle.tlog_tree.specs.declared.node_id.NodeId.{NodeId}
 use Rattle.tlog_files.specs.Entries.{entries_in, is_refused, rest_of, whole_entries, IsFraming}
 use Rattle.tlog_files.specs.Inner.Wanted.{HasPlaces, HoldsWanted}
 use Rattle.tlog_files.specs.declared.framing.Framing.{Framing}
@@ -111,14 +112,14 @@ pub record ReadsTooMany (framing : Framing) (limit : ℕ) (before after : Option
 -- ---- the tree
 
 -- a splitter has read these bytes of a file, and this is the tree of the entries that have ended
-pub record HasBuilt (nodes : List (ℕ × ℕ)) (wanted : List ℕ) (s : Splitter) (tree : TreeBuilder) (front : List ℕ)
+pub record HasBuilt (nodes : List NodeId) (wanted : List ℕ) (s : Splitter) (tree : TreeBuilder) (front : List ℕ)
     : Type 0 where
   pub ended : List (List ℕ)
   pub at : IsAt wanted s front ended
   pub built : IsBuilderOf (map (leaf_hash sha256) ended) nodes tree
 
 -- it has read on into these bytes, and leaves some only where as many entries have ended as are read
-pub record HasGrown (nodes : List (ℕ × ℕ)) (wanted : List ℕ) (s : Splitter) (tree : TreeBuilder)
+pub record HasGrown (nodes : List NodeId) (wanted : List ℕ) (s : Splitter) (tree : TreeBuilder)
     (front bytes : List ℕ) : Type 0 where
   pub read : List ℕ
   pub left : List ℕ

@@ -17,12 +17,12 @@ is_new size count end = nat_lt size end && nat_le end count
 -- with its value, if it is among the nodes of a layer that stand from slot `first` on
 abbrev pub kept_in : ℕ → ℕ → List (List ℕ) → WantedNode → WantedNode
 kept_in layer first nodes w =
-    with_value ((w.layer == layer) && is_new first (first + length nodes) (w.slot + 1))
-    (slice_index_or nodes (w.slot - first) []) w
+    with_value ((w.id.layer == layer) && is_new first (first + length nodes) (w.id.slot + 1))
+    (slice_index_or nodes (w.id.slot - first) []) w
 
 -- with its value, if it is in this layer or above, and the last of its nodes of this layer has come after the first
 -- `size`
 abbrev pub updated : Hash → ℕ → ℕ → List (List ℕ) → WantedNode → WantedNode
 updated hash layer size nodes w =
-    with_value (nat_le layer w.layer && is_new size (length nodes) ((w.slot + 1) * 2 ^ (w.layer - layer)))
-    (node_at hash nodes (w.layer - layer) w.slot) w
+    with_value (nat_le layer w.id.layer && is_new size (length nodes) ((w.id.slot + 1) * 2 ^ (w.id.layer - layer)))
+    (node_at hash nodes (w.id.layer - layer) w.id.slot) w

@@ -24,5 +24,5 @@ returns g c =
     (g.R.Read.remaining c.args.file.now) c.deref.result.now [] c.in_ok-log.log c.text_of.result c.in_ok-log.ensures
     (λ input entries is has. c.text_of.ensures c.deref.result.now entries has
     (ap (values_at sha256 (map (leaf_hash sha256) entries)) c.deref.ensures.value
-    ∙ c.in_ok-places.ensures entries
+    ∙ c.in_ok-nodes.ensures entries
     (under_size c.args.framing (checkpoint_fields c.args.new.now) input entries is)))

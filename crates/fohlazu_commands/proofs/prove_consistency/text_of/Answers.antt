@@ -3,13 +3,13 @@ use Rattle.fohlazu_commands.specs.Outcomes.{growth_digests}
 use Rattle.fohlazu_commands.proofs.prove_consistency.text_of.Goals as goal
 
 pub returns-in-Ok : goal.returns-in-Ok
-returns-in-Ok c = λ places entries has are.
+returns-in-Ok c = λ nodes entries has are.
     let digests : c.in_ok-digests.digests.items ≡ growth_digests c.args.old.now.size entries =
-    c.in_ok-digests.ensures _ places _ has.tree are in
+    c.in_ok-digests.ensures _ nodes _ has.tree are in
     rw (← digests) (search rules)
 
 pub returns : goal.returns
-returns c = λ places entries has are.
+returns c = λ nodes entries has are.
     let digests : c.in_ok-digests.digests.items ≡ growth_digests c.args.old.now.size entries =
-    c.in_ok-digests.ensures _ places _ has.tree are in
+    c.in_ok-digests.ensures _ nodes _ has.tree are in
     inr (rw (← digests) (search rules))

@@ -11,5 +11,5 @@ pub(crate) mod verify;
 
 pub use collision::entries_collision;
 pub use error::EntriesError;
-pub use opening::entry_places;
+pub use opening::entry_nodes;
 pub use verify::verify_entries;

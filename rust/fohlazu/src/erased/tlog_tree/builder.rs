@@ -4,13 +4,13 @@
 
 use crate::erased::tlog_tree::error::TreeError;
 use crate::erased::tlog_tree::frontier::Frontier;
+use crate::erased::tlog_tree::node_id::NodeId;
 use crate::erased::tlog_tree::wanted::{WantedNode, whole_count};
 use crate::fallible::{AllocError, VecExt, try_vec};
 use alloc::vec::Vec;
 
 /// The tree of a log that is read once, from its first entry on, with the values of the nodes that were wanted when it
-/// began, and nothing else: what proofs of inclusion and of consistency are computed from. A node has a layer, 0 for
-/// the leaf hashes, and a slot in the layer, counted from 0: below it are the 2^layer leaves from slot * 2^layer on.
+/// began, and nothing else: what proofs of inclusion and of consistency are computed from.
 #[derive(Debug, Clone)]
 pub struct TreeBuilder {
     frontier: Frontier,
@@ -19,16 +19,15 @@ pub struct TreeBuilder {
 }
 
 impl TreeBuilder {
-    /// The tree of no entries, where the nodes of these layers and slots are wanted.
+    /// The tree of no entries, where these nodes are wanted, in any order and as often as they are named.
     ///
     /// # Errors
     ///
     /// `AllocError` if memory runs out.
-    pub fn new(places: &[(usize, usize)]) -> Result<TreeBuilder, AllocError> {
-        let mut wanted = Vec::with_room(places.len())?;
-        for index in 0..places.len() {
-            let (layer, slot) = places[index];
-            wanted.try_push(WantedNode { layer, slot, index, value: [0; 32] })?;
+    pub fn new(nodes: &[NodeId]) -> Result<TreeBuilder, AllocError> {
+        let mut wanted = Vec::with_room(nodes.len())?;
+        for index in 0..nodes.len() {
+            wanted.try_push(WantedNode { id: nodes[index], index, value: [0; 32] })?;
         }
         wanted.sort_unstable_by_key(|node| node.end());
         Ok(TreeBuilder { frontier: Frontier::new(), wanted })
@@ -70,11 +69,11 @@ impl TreeBuilder {
 
     /// The value of a wanted node.
     fn value(&self, node: &WantedNode) -> Option<[u8; 32]> {
-        let whole = whole_count(self.frontier.size(), node.layer);
-        if node.slot < whole {
+        let whole = whole_count(self.frontier.size(), node.id.layer);
+        if node.id.slot < whole {
             return Some(node.value);
         }
-        if node.slot == whole {
+        if node.id.slot == whole {
             return self.frontier.root_behind(whole);
         }
         None

@@ -6,11 +6,13 @@ pub(crate) mod builder;
 pub(crate) mod error;
 pub(crate) mod frontier;
 pub(crate) mod leaf;
-pub(crate) mod places;
+pub(crate) mod node_id;
+pub(crate) mod proof_nodes;
 pub(crate) mod wanted;
 
 pub use builder::TreeBuilder;
 pub use error::TreeError;
 pub use frontier::Frontier;
 pub use leaf::leaf_hashes;
-pub use places::{consistency_places, inclusion_places};
+pub use node_id::NodeId;
+pub use proof_nodes::{consistency_nodes, inclusion_nodes};

@@ -3,14 +3,13 @@
 //! Nodes that are wanted, and what becomes of them as a log grows.
 
 use crate::erased::tlog::SIZE_LIMIT;
+use crate::erased::tlog_tree::node_id::NodeId;
 
 /// A node that is wanted.
 #[derive(Clone, Copy, Debug, PartialEq, Eq)]
 pub(crate) struct WantedNode {
-    /// Its layer: 0 has the leaf hashes.
-    pub layer: usize,
-    /// Its place in the layer.
-    pub slot: usize,
+    /// Which node it is.
+    pub id: NodeId,
     /// Its index among the wanted nodes, in the order of the call.
     pub index: usize,
     /// Its value, once all leaves below it have come.
@@ -20,13 +19,18 @@ pub(crate) struct WantedNode {
 impl WantedNode {
     /// How many leaves there are when the last one below it comes, or one more than a log has at most.
     pub(crate) fn end(&self) -> usize {
-        if self.slot < whole_count(SIZE_LIMIT, self.layer) { (self.slot + 1) << self.layer } else { SIZE_LIMIT + 1 }
+        if self.id.slot < whole_count(SIZE_LIMIT, self.id.layer) {
+            (self.id.slot + 1) << self.id.layer
+        } else {
+            SIZE_LIMIT + 1
+        }
     }
 
     /// The node with its value, if it is among the nodes from slot `first` of a layer on.
     fn kept(self, layer: usize, first: usize, nodes: &[[u8; 32]]) -> WantedNode {
-        if self.layer == layer && first <= self.slot && self.slot - first < nodes.len() {
-            return WantedNode { value: nodes[self.slot - first], ..self };
+        let slot = self.id.slot;
+        if self.id.layer == layer && first <= slot && slot - first < nodes.len() {
+            return WantedNode { value: nodes[slot - first], ..self };
         }
         self
     }

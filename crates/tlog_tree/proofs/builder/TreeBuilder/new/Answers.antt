@@ -7,24 +7,26 @@ use Rattle.std.specs.List.Sorted.{IsPermutation}
 use Rattle.sha2.specs.Sha256.{sha256}
 use Rattle.tlog_tree.specs.Builders.{indexed_of}
 use Rattle.tlog_tree.specs.Wanted.{end_of}
+use Rattle.tlog_tree.specs.Trees.{id_of}
+use Rattle.tlog_tree.specs.declared.node_id.NodeId.{NodeId}
 use Rattle.tlog_tree.proofs.Kept.{none_has_value}
 use Rattle.tlog_tree.proofs.builder.TreeBuilder.new.Goals as goal
 
 pub loop-index-preserved : goal.loop-index-preserved
 loop-index-preserved c =
     let i = c.loop-index.index in
-    let number : ℕ → ℕ × (ℕ × ℕ) = λ k. (k, get_or c.args.places.now k (0, 0)) in
+    let number : ℕ → ℕ × NodeId = λ k. (k, get_or c.args.nodes.now k (id_of 0 0)) in
     ap (map indexed_of) c.in_ok-push.ensures.items
     ∙ map_push indexed_of c.loop-index.wanted.items _
-    ∙ ap (λ (ps : List (ℕ × (ℕ × ℕ))). ps ++ number i ∷ []) c.loop-index.invariant
+    ∙ ap (λ (ps : List (ℕ × NodeId)). ps ++ number i ∷ []) c.loop-index.invariant
     ∙ sym (map-range_with_len_more number 0 i i (omega arith))
 
 pub returns : goal.returns
 returns c =
     let ws = c.loop-index.wanted.items in
     let sorted = c.sort_unstable_by_key.new.self.items in
-    let number : ℕ → ℕ × (ℕ × ℕ) = λ k. (k, get_or c.args.places.now k (0, 0)) in
-    let end : c.loop-index.index ≡ length c.args.places.now = omega (arith, c.loop-index-test.false) in
+    let number : ℕ → ℕ × NodeId = λ k. (k, get_or c.args.nodes.now k (id_of 0 0)) in
+    let end : c.loop-index.index ≡ length c.args.nodes.now = omega (arith, c.loop-index-test.false) in
     record {
       frontier = c.new.ensures;
       at = subst (λ ps. IsPermutation ps (map indexed_of sorted))

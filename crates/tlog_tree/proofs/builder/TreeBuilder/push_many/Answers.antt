@@ -7,12 +7,12 @@ use Rattle.sha2.specs.Sha256.{sha256}
 use Rattle.tlog_tree.specs.Builders.{indexed, indexed_of}
 use Rattle.tlog_tree.specs.Wanted.{HasValue, end_of}
 use Rattle.tlog_tree.specs.Inner.Wanted.{updated}
-use Rattle.tlog_tree.proofs.Kept.{places_stay, values_grow}
+use Rattle.tlog_tree.proofs.Kept.{ids_stay, values_grow}
 use Rattle.tlog_tree.proofs.Ordered.{end_stays, order_stays}
 use Rattle.tlog_tree.proofs.builder.TreeBuilder.push_many.Goals as goal
 
 pub returns-clause-built : goal.returns-clause-built
-returns-clause-built c = λ leaves places is.
+returns-clause-built c = λ leaves nodes is.
     let ws = c.args.self.wanted.items in
     let next = updated sha256 0 (length leaves) (leaves ++ c.args.hashes.now) in
     let items : (with_items c.args.self.wanted c.push_kept.new.wanted).items ≡ map next ws =
@@ -23,9 +23,9 @@ returns-clause-built c = λ leaves places is.
     ∙ ap (map next) c.deref_mut.ensures.value in
     record {
       frontier = c.in_ok-push_kept.ensures.grown leaves is.frontier;
-      at = subst (IsPermutation (indexed places))
+      at = subst (IsPermutation (indexed nodes))
           (sym (ap (map indexed_of) items
-          ∙ places_stay sha256 (length leaves) (leaves ++ c.args.hashes.now) ws)) is.at;
+          ∙ ids_stay sha256 (length leaves) (leaves ++ c.args.hashes.now) ws)) is.at;
       in_order = order_stays end_of next ws _ (end_stays sha256 (length leaves) (leaves ++ c.args.hashes.now))
           is.in_order items;
       values = All-same (HasValue sha256 (leaves ++ c.args.hashes.now)) _ _ items

@@ -24,17 +24,17 @@ most x limit h = omega arith
 pub overflow_shl-result : goal.overflow_shl-result
 overflow_shl-result c =
     let below = c.if-self-whole_count.true in
-    low c.args.self.now.slot c.args.self.now.layer
-    ((le-div_iff_mul-le (pow_pos c.args.self.now.layer)).0 (omega (arith, c.whole_count.ensures, below)))
+    low c.args.self.now.id.slot c.args.self.now.id.layer
+    ((le-div_iff_mul-le (pow_pos c.args.self.now.id.layer)).0 (omega (arith, c.whole_count.ensures, below)))
 
 pub returns-then-self-whole_count : goal.returns-then-self-whole_count
 returns-then-self-whole_count c =
-    let all = (le-div_iff_mul-le (pow_pos c.args.self.now.layer)).0
+    let all = (le-div_iff_mul-le (pow_pos c.args.self.now.id.layer)).0
     (omega (arith, c.whole_count.ensures, c.if-self-whole_count.true)) in
-    let fits : (c.args.self.now.slot + 1) * 2 ^ c.args.self.now.layer < 2 ^ 64 = omega (arith, all) in
+    let fits : (c.args.self.now.id.slot + 1) * 2 ^ c.args.self.now.id.layer < 2 ^ 64 = omega (arith, all) in
     mod-eq_of_lt fits ∙ least _ size_limit all
 
 pub returns-else-self-whole_count : goal.returns-else-self-whole_count
 returns-else-self-whole_count c =
-    most _ size_limit ((div-lt_iff_lt-mul (pow_pos c.args.self.now.layer)).0
+    most _ size_limit ((div-lt_iff_lt-mul (pow_pos c.args.self.now.id.layer)).0
     (omega (arith, c.whole_count.ensures, c.if-self-whole_count.false)))

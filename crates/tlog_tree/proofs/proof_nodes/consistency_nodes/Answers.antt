@@ -2,9 +2,11 @@ use Rattle.std.proofs.Common.{arith, length, ap, ◌∙◌, ◌≡◌, ◌<◌, 
 use Rattle.std.specs.Prelude.{true, ◌⊎◌}
 use Rattle.tlog.specs.Rfc9162.{subproof}
 use Rattle.tlog_tree.specs.Inner.Layers.{layer_of}
+use Rattle.tlog_tree.specs.Trees.{id_of}
+use Rattle.tlog_tree.specs.declared.node_id.NodeId.{NodeId}
 use Rattle.tlog_tree.proofs.Paths.{consistency_is, layer_more, layer_none, length-layer, proof_half}
-use Rattle.tlog_tree.proofs.places.consistency_places.Goals as goal
-use Rattle.tlog_tree.proofs.places.consistency_places.Goals.{then-old-gt1+in_ok-push, else-old-gt1}
+use Rattle.tlog_tree.proofs.proof_nodes.consistency_nodes.Goals as goal
+use Rattle.tlog_tree.proofs.proof_nodes.consistency_nodes.Goals.{then-old-gt1+in_ok-push, else-old-gt1}
 
 pub loop-old-init : goal.loop-old-init
 loop-old-init c =
@@ -47,17 +49,17 @@ returns c = λ hash leaves long.
     let old = c.loop-old.old in
     let below = c.loop-old.invariant.below in
     let some = c.loop-old.invariant.some in
-    let places = c.if-old-gt1.places.items in
-    let first : ((1 < old) × (places ≡ [] ++ (layer, old - 1) ∷ [])) ⊎ ((old ≡ 1) × (places ≡ [])) =
+    let nodes = c.if-old-gt1.nodes.items in
+    let first : ((1 < old) × (nodes ≡ [] ++ id_of layer (old - 1) ∷ [])) ⊎ ((old ≡ 1) × (nodes ≡ [])) =
     elim c.if-old-gt1.branch [
       | then-old-gt1+in_ok-push w ↦ inl (
         w.if-old-gt1.true,
-        rw w.places-is (w.in_ok-push.ensures.items
-            ∙ ap (λ (ps : List (ℕ × ℕ)). ps ++ (layer, old - 1) ∷ []) c.new-places.ensures.items),
+        rw w.nodes-is (w.in_ok-push.ensures.items
+            ∙ ap (λ (ps : List NodeId). ps ++ id_of layer (old - 1) ∷ []) c.new-nodes.ensures.items),
       )
-      | else-old-gt1 w ↦ inr (omega (arith, w.if-old-gt1.false), rw w.places-is c.new-places.ensures.items)
+      | else-old-gt1 w ↦ inr (omega (arith, w.if-old-gt1.false), rw w.nodes-is c.new-nodes.ensures.items)
     ] in
     c.in_ok-add_path.ensures hash leaves kept.0
-    ∙ consistency_is hash leaves layer old c.loop-old.last places
+    ∙ consistency_is hash leaves layer old c.loop-old.last nodes
     (subproof hash (λ (leaf : List ℕ). leaf) c.args.old_size leaves true) kept.0 below kept.1
     c.loop-old-test.false first

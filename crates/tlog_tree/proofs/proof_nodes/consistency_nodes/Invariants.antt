@@ -2,7 +2,7 @@ use Rattle.std.proofs.Common.{◌≡◌, ℕ, ◌+◌, ◌^◌, ◌≤◌, ◌<�
 use Rattle.std.specs.Prelude.{true}
 use Rattle.tlog.specs.Rfc9162.{Hash, subproof}
 use Rattle.tlog_tree.specs.Inner.Layers.{layer_of}
-use Rattle.tlog_tree.proofs.places.consistency_places.Given as goal
+use Rattle.tlog_tree.proofs.proof_nodes.consistency_nodes.Given as goal
 
 abbrev pub invariant-loop-old : goal.invariant-loop-old
 invariant-loop-old l = record {
