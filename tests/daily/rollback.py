@@ -240,7 +240,7 @@ def rolled_back(folder, program: str, seed: int) -> Counter:
     folder.mkdir()
     try:
         counts = Rollback(folder, program, seed).play()
-    except Wrong as wrong:
+    except (Wrong, OSError, subprocess.SubprocessError) as wrong:
         raise Wrong(f"machine {seed} that rolls back: {wrong}") from wrong
     shutil.rmtree(folder)
     return counts
