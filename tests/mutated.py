@@ -4,8 +4,9 @@ COUNT times a checkpoint, a part, a consistency proof or a proof of entries, of 
 ways: a byte or a line is dropped, changed, put in, moved or repeated, a number becomes another one, the text is cut or
 joined to another one, or it is made as long as it may be, or longer. `fohlazu` has the model's answer each time.
 
-So do share/fohlazu-follow and share/fohlazu-open, for a 50th of COUNT: a log's proof is mutated, and half of these are
-signed again. What the model accepts, and the log signed, is stored, and nothing else; each refusal is one line.
+So do the scripts of share/, for a 50th of COUNT: a log's proof is mutated, and half of these are signed again. What the
+model accepts, and the log signed, is stored by fohlazu-follow, and nothing else; each refusal is one line. What
+fohlazu-sign signs, fohlazu-open opens, and fohlazu reads if it is a checkpoint.
 """
 
 import os
@@ -138,6 +139,7 @@ class Follower:
 
     def __init__(self, folder, program, source):
         self.folder, self.source = folder, source
+        self.program = Program(program, folder, ROOM)
         self.environment = {**os.environ, "FOHLAZU": str(program)}
         self.key = Key(folder / "key", "ledger.example", source.randbytes(32))
         log = logs.Log([b"%d" % number for number in range(40)])
@@ -166,9 +168,10 @@ class Follower:
         if is_signed_again:
             others = [self.old, self.head]
             more = b"".join(self.source.choice(MORE_LINES) for _ in range(self.source.randrange(4)))
-            text = text + b"\n" + more if self.source.randrange(3) == 0 else mutant(self.source, text + b"\n", others)
+            text = text + b"\n" + more if self.source.randrange(2) == 0 else mutant(self.source, text + b"\n", others)
             note = self.signed(text)
             proof = self.head + note
+            self.sign(text)
         else:
             proof = mutant(self.source, self.head + self.new, [self.old, self.head, self.new])
             note = proof.partition(b"\n\n")[2]
@@ -184,6 +187,24 @@ class Follower:
         check(followed.returncode == 0 or not is_true, "is not followed", proof[:2000], followed)
         check(kept == stored or kept == answer.printed and opened.returncode == 0, "is kept", kept[:2000])
         return "followed" if kept != stored else "not followed"
+
+
+    def sign(self, text):
+        """What fohlazu-sign signs is opened, and read by fohlazu if the model takes it for a checkpoint."""
+        ran = self.run("fohlazu-sign", self.key.path, data=text)
+        if ran.returncode:
+            return
+        name = text.partition(b"\n")[0].decode()
+        vkey = self.run("fohlazu-sign", "-p", self.key.path, name, data=b"").stdout.decode().strip()
+        opened = self.run("fohlazu-open", vkey, data=ran.stdout)
+        check(opened.returncode == 0, "is signed, and not opened", text[:2000], opened)
+        try:
+            _, size, _ = log_texts.checkpoint(text)
+        except log_texts.Wrong:
+            return
+        proof = log_texts.consistency_text(size, [], ran.stdout)
+        read = self.program.run(["verify-consistency", "note", "proof"], {"note": ran.stdout, "proof": proof})
+        check(read.status == 0 and read.printed == ran.stdout, "is signed, and not read", text[:2000], read)
 
 
 def try_scripts(folder, program, source, count):

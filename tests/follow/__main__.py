@@ -178,6 +178,9 @@ def try_inputs(operator, folder, days):
     """What never ends, what is too long, two proofs in one file, and what a first day says."""
     customer = Customer(folder / "inputs", operator.vkey)
     proofs = [growth for _, growth in days]
+    customer.path.write_bytes(days[-1][0])
+    customer.refuses("an older proof", 1, proofs[1], said=customer.begins(count_of(days[0][0])))
+    customer.path.unlink()
     customer.refuses("two proofs", 1, proofs[0] + proofs[1], said=b" has several growth proofs: follow each from a ")
     customer.refuses("an endless proof", 1, words=[customer.folder, customer.vkey, "/dev/zero"], said=b" has more than ")
     long = b"old 0\n\n" + b"x" * 2_000_000
@@ -207,6 +210,9 @@ def try_inputs(operator, folder, days):
     full = {**os.environ, "TMPDIR": "/dev/full"}
     printed(script("fohlazu-open", operator.vkey, data=days[0][0], env=full))
     printed(script("fohlazu-sign", "-p", operator.key.path, ORIGIN, env=full))
+    printed(script("fohlazu-follow", customer.folder, operator.vkey, "-", data=proofs[0], env=full))
+    words = [operator.folder / "log", operator.folder / "published", "-k", operator.key.path]
+    printed(script("fohlazu-daily", *words, env=full))
     try_older(operator, folder)
     if not shutil.which("curl"):
         return "but for missed days, which need Debian's curl"
