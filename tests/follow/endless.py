@@ -1,6 +1,6 @@
 """Inputs of the scripts that are longer than they may be: each is refused at its first byte above the limit, from a
-file, a pipe and a device without end. That takes at most 8 MiB and 0.1 s of the processor more than `--help`. So does
-what a server without end answers to fohlazu-daily."""
+file, a pipe and a device without end. That takes at most 8 MiB and 0.1 s of the processor more than `--help`. So is what
+a server without end answers to fohlazu-daily, beyond what a short answer takes."""
 
 import http.server
 import os
@@ -15,6 +15,8 @@ from script import TOP, check, counted
 
 NOTE, PROOF = 10**6, 1002860
 HELD, SECONDS = 8 << 20, 0.1
+# A busy machine may take longer, so the least time of a few runs counts.
+RUNS = 3
 REST = b"not read"
 
 
@@ -48,10 +50,13 @@ class Limited:
     def refuses(self, words, data, status, said):
         if words[0] not in self.least:
             self.least[words[0]] = self.measured([words[0], "--help"])
-        least, ran = self.least[words[0]], self.measured(words, data)
-        check((ran.status, ran.printed) == (status, b"") and said.encode() in ran.said, words, "should say", said, ran)
-        is_small = ran.held <= least.held + HELD and ran.seconds <= least.seconds + SECONDS
-        check(is_small, words, "takes", ran.held, "bytes and", ran.seconds, "s, --help", least.held, least.seconds)
+        least = self.least[words[0]]
+        for _ in range(RUNS):
+            ran = self.measured(words, data)
+            check((ran.status, ran.printed) == (status, b"") and said.encode() in ran.said, words, "says", ran, "not", said)
+            if ran.held <= least.held + HELD and ran.seconds <= least.seconds + SECONDS:
+                return
+        check(False, words, "takes", ran.held, "bytes and", ran.seconds, "s, --help", least.held, least.seconds)
 
 
 def try_without_end(limited, words, status, limit, said, counts):
@@ -90,11 +95,13 @@ def try_one_above(limited, words, status, limit, counts):
 
 
 class WithoutEnd(http.server.BaseHTTPRequestHandler):
-    """A server whose answer never ends."""
+    """A server whose answer never ends, but for what is below /short."""
 
     def answer(self):
-        self.send_response(200)
+        self.send_response(500 if self.path.startswith("/short/") else 200)
         self.end_headers()
+        if self.path.startswith("/short/"):
+            return
         try:
             while True:
                 self.wfile.write(b"x" * (1 << 16))
@@ -116,7 +123,9 @@ def try_servers(folder, operator, limited, counts):
     words = [operator.folder / "log", folder / "days", "-k", operator.key.path, "--origin", ORIGIN]
     words += ["--record", folder / "record"]
     try:
-        limited.refuses(["fohlazu-daily", *map(str, words), "-u", url], subprocess.DEVNULL, 2,
+        daily = ["fohlazu-daily", *map(str, words), "-u"]
+        limited.least[daily[0]] = limited.measured([*daily, f"{url}/short"])
+        limited.refuses([*daily, url], subprocess.DEVNULL, 2,
                         f"nothing is signed: {url}/checkpoint cannot be fetched: {long}")
         check(not (folder / "days").exists() and not (folder / "record").exists(), "something is signed")
         ran = script("fohlazu-daily", *words, "-w", url)

@@ -9,9 +9,10 @@ COUNT is 100000, and SEED 1, if they are not given.
   refuse the same damaged ones.
 - The lines of sh of docs/FILES.md on stored answers of a certificate log, certificates.txt, as they are and with a value
   changed, beside the model; Go accepts the proofs. It needs Debian's jq, and is skipped without it.
-- Signed notes: share/fohlazu-sign signs 200 texts as note.Sign does, and share/fohlazu-open opens 200 notes of Go's;
-  each byte of three notes and their keys is changed, and 600 notes are damaged; it opens 20 cosignatures. `notes` tries
-  this part alone, with COUNT further texts and notes, and COUNT / 10 damaged ones, in forks of this process.
+- Signed notes: share/fohlazu-sign signs 220 texts as note.Sign does, and share/fohlazu-open opens 220 notes of Go's;
+  each byte of three notes and their keys is changed, and 620 notes are damaged; it opens 20 cosignatures. `notes` tries
+  this part alone, with COUNT further texts and notes, and COUNT / 10 damaged ones. All but the first 20 of each run in
+  forks of this process.
 
 Go is Debian's golang-go and golang-golang-x-mod-dev; without these, a second writing of its packages in Python takes its
 place (reference.py), and the first line says so. Notes need openssl, and are skipped without it.
@@ -48,7 +49,8 @@ WHOLE = 300
 MOST = 10**6
 SMALL = 3000
 SIZES = 10
-# How many notes are signed and opened, are changed byte by byte, are damaged, and are cosigned.
+# How many notes are signed and opened, are changed byte by byte, are damaged, and are cosigned: these are tried by
+# scripts that begin anew, with as many of the others.
 SIGNED = 200
 BYTEWISE = 3
 DAMAGED = 600
@@ -271,13 +273,16 @@ def compare_notes(rng, go, folder, more):
     if not shutil.which("openssl"):
         return "skipped, it needs openssl"
     scripts = Scripts(rng, go, folder)
+    for _ in range(COSIGNATURES):
+        scripts.try_signing()
+        scripts.try_cosigned()
+    for case in scripts.notes.cases(COSIGNATURES, 0, COSIGNATURES):
+        scripts.compare(*case)
+    scripts.is_forked = True
     for _ in range(SIGNED):
         scripts.try_signing()
     for case in scripts.notes.cases(SIGNED, BYTEWISE, DAMAGED):
         scripts.compare(*case)
-    for _ in range(COSIGNATURES):
-        scripts.try_cosigned()
-    scripts.is_forked = True
     for _ in range(more):
         scripts.try_signing()
     for case in scripts.notes.cases(more, 0, more // 10):
