@@ -214,8 +214,11 @@ class Rollback:
             self.counts[f"the true lines came back{' by -u and -w' * (self.asks == 'both')}"] += 1
 
     def second_folder(self) -> None:
-        """Another log in a folder of its own, under the same key and name."""
+        """Another log in a folder of its own, under the same key and name. The key may be given by a link."""
         kept, other = self.lines, self.folder / "other"
+        if self.random.randrange(2):
+            (self.folder / "link").symlink_to(self.key)
+            self.key = self.folder / "link"
         self.lines = []
         self.grow()
         is_known = self.random.randrange(2)
