@@ -136,7 +136,7 @@ class Reference:
         return text + b"\n" + b"".join(DASH + name + b" " + raw + b"\n" for name, _, raw in [*old, *new])
 
     def open(self, vkey, note):
-        found = re.fullmatch(rb"([^+]+)\+([0-9a-f]{8})\+([^+]*(?:\+[^+]*)*)", vkey, re.S)
+        found = re.fullmatch(rb"([^+]+)\+([0-9a-f]{8})\+(.*)", vkey, re.S)
         need(found)
         name, identity, key = found[1], bytes.fromhex(found[2].decode()), decoded(found[3])
         need(is_valid_name(name) and identity == key_hash(name, key))
