@@ -87,8 +87,8 @@ def try_one_above(limited, words, status, limit, counts):
              for before, word in zip(["", *words], words)]
     ran = limited.measured(named, end)
     writer.join()
-    left = os.read(end, 1 << 16)
     os.close(start)
+    left = os.read(end, 1 << 16)
     os.close(end)
     check(ran.status == status and left == REST, words, "leaves", left[:100], ran)
     counts["leaves the rest in a pipe"] += 1

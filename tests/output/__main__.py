@@ -353,8 +353,8 @@ def one_byte_above(program):
     writer.start()
     ran = program.run("prove - file 1".split(), stdin=end, timeout=20)
     writer.join()
-    left = os.read(end, 1 << 16)
     os.close(start)
+    left = os.read(end, 1 << 16)
     os.close(end)
     line = b"fohlazu: -: it has more than 1000000 bytes\n"
     yield "a pipe that stays open", wrong(ran, 2, line) + ([] if left == rest else [f"leaves {left[:100]!r}"])
