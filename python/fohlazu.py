@@ -596,12 +596,20 @@ def read(name: str, status: int = 2, limit: int | None = None) -> bytes:
     """The bytes of a file, or of standard input. More than a limit end the command with this status."""
     with open(0 if name == "-" else name, "rb", closefd=name != "-") as file:
         size = os.fstat(file.fileno()).st_size
-        data = file.read() if limit is None else file.read(limit + 1)
+        data = file.read() if limit is None else read_limited(file.fileno(), limit)
     if limit is not None and len(data) > limit:
         raise Failure(status, f"{name}: it has more than {limit} bytes")
     if name != "-" and len(data) < size:
         raise Refused(f"{name}: it shrank while it was read")
     return data
+
+
+def read_limited(file: int, most: int) -> bytes:
+    """The bytes of a file, by its number, with the first one above a limit. Nothing after that one is read."""
+    data = bytearray()
+    while len(data) <= most and (piece := os.read(file, most + 1 - len(data))):
+        data += piece
+    return bytes(data)
 
 
 def write(file: int, data: bytes) -> None:

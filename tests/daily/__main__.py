@@ -1,4 +1,4 @@
-"""python3 tests/daily [quick] [SEED..]    plays 30 days of share/fohlazu-daily for each seed; 1 and 2 without words
+"""python3 tests/daily [quick] [rollback] [SEED..]    plays 30 days of share/fohlazu-daily for each seed, or 1 and 2
 
 Each day a log grows, perhaps ends inside a line, and is sealed and signed. The clock may go back. In between
 
@@ -6,7 +6,7 @@ Each day a log grows, perhaps ends inside a line, and is sealed and signed. The 
   After half of these the new lines are lost or replaced. The next run takes the log, or wants them back, or what it
   began is removed;
 - the log is cut, edited, restored from a backup, removed, or rotated by logrotate, with and without copytruncate;
-- the disk is full up to some blocks, another run holds the lock, the key is not given;
+- the disk changes what was synced; it is full up to some blocks, another run holds the lock, the key is not given;
 - files are planted in the folder, or an older one is copied over it; the record is lost, or on a disk that is not
   there; a log is read in two ways: planted.py.
 
@@ -15,8 +15,9 @@ leaves all as it was, and the next one goes on once the log is put right. In the
 is of the log, by tests/model, but for what was removed; all are opened, and each proof leads from one to the next. A
 customer who missed the last thirty catches up by the loop of docs/USES.md.
 
-Then machines roll back, by 200 seeds, or by 18 of `quick`: rollback.py. Runs with witnesses are killed ahead of each
-step, or of every ninth: witnessed.py.
+Then machines roll back, by the seeds 0 to 199, or 0 to 17 of `quick`: rollback.py. Runs with witnesses are killed ahead
+of each step, or of every ninth: witnessed.py. `rollback` plays machines that roll back alone, by the seeds that are
+given or those. Each seed that fails is named, and the status is 1 then.
 
 It needs openssl, and ends with status 3 without it; and curl where machines roll back, and with witnesses.
 """
@@ -29,17 +30,18 @@ import subprocess
 import sys
 import tempfile
 from collections import Counter
+from collections.abc import Sequence
 from concurrent.futures import ThreadPoolExecutor
 from datetime import date, timedelta
 from pathlib import Path
 
 sys.path.insert(0, str(Path(__file__).resolve().parents[2] / "tools"))
-from script import TOP, arguments, built, check, fail, run_script  # first: it makes those below known
+from script import TOP, Wrong, arguments, built, check, fail  # first: it makes those below known
 
 import log_texts
 import logs
 from catching_up import catch_up
-from planted import await_lock, forge, lock, lose, plant
+from planted import await_lock, change, forge, lock, lose, plant
 from rollback import rolled_back
 from witnessed import witnessed
 
@@ -266,6 +268,7 @@ class Play:
                 plant(self)
                 lose(self)
             self.day += timedelta(self.random.choice([1, 1, 1, 2, 0, -3]))
+        change(self)
         self.compare()
         forge(self)
         return +self.counts
@@ -282,39 +285,60 @@ def played(program: str, seed: int) -> Counter:
         return Play(Path(folder), program, seed).play()
 
 
-def roll_back(program: str, count: int) -> None:
-    """Plays so many machines that roll back, and prints what was counted."""
+def keep_days(program: str, seeds: list[int]) -> bool:
+    """Plays days of these seeds, and prints what was counted, or what is wrong. Whether all is right."""
+    with ThreadPoolExecutor() as pool:
+        plays = {seed: pool.submit(played, program, seed) for seed in seeds}
+    for seed, play in plays.items():
+        print(f"daily: seed {seed}:", play.exception() or ", ".join(f"{n} {name}" for name, n in play.result().items()))
+    return not any(play.exception() for play in plays.values())
+
+
+def roll_back(program: str, seeds: Sequence[int]) -> bool:
+    """Plays machines that roll back, and prints which seeds fail, and what was counted of the others. Whether none
+    fails."""
     if not shutil.which("curl"):
         print("daily: machines that roll back: skipped, they need Debian's curl")
-        return
+        return True
     with tempfile.TemporaryDirectory() as folder, ThreadPoolExecutor() as pool:
-        plays = [pool.submit(rolled_back, Path(folder, str(seed)), program, seed) for seed in range(count)]
-        counts = sum((play.result() for play in plays), Counter())
-    print("daily: machines that roll back:", ", ".join(f"{n} {name}" for name, n in sorted(counts.items())))
+        plays = [pool.submit(rolled_back, Path(folder, str(seed)), program, seed) for seed in seeds]
+    failed = [play.exception() for play in plays if play.exception()]
+    counts = sum((play.result() for play in plays if not play.exception()), Counter())
+    for why in failed:
+        print(f"daily: {why}")
+    print(f"daily: {len(plays)} machines that roll back, {len(failed)} wrong:",
+          ", ".join(f"{n} {name}" for name, n in sorted(counts.items())), flush=True)
+    return not failed
 
 
-def with_witnesses(program: str, every: int) -> None:
-    """Kills runs with witnesses, and prints what was counted."""
+def with_witnesses(program: str, every: int) -> bool:
+    """Kills runs with witnesses, and prints what was counted, or what is wrong. Whether all is right."""
     if not shutil.which("curl"):
         print("daily: runs with witnesses: skipped, they need Debian's curl")
-        return
+        return True
     with tempfile.TemporaryDirectory() as folder:
-        counts = witnessed(Path(folder, "operator"), program, 1, every)
+        try:
+            counts = witnessed(Path(folder, "operator"), program, 1, every)
+        except Wrong as wrong:
+            print(f"daily: {wrong}")
+            return False
     print("daily: runs with witnesses:", ", ".join(f"{n} {name}" for name, n in sorted(counts.items())))
+    return True
 
 
 def main() -> None:
+    is_alone = "rollback" in sys.argv[1:3]
+    sys.argv[1:] = [word for word in sys.argv[1:] if word != "rollback"]
     is_quick, seeds = arguments(lambda seeds: True)
     if not shutil.which("openssl"):
         fail("openssl is needed", 3)
     program = str(built(is_quick))
-    with ThreadPoolExecutor() as pool:
-        plays = {seed: pool.submit(played, program, seed) for seed in seeds or [1, 2]}
-    for seed, play in plays.items():
-        print(f"daily: seed {seed}:", play.exception() or ", ".join(f"{n} {name}" for name, n in play.result().items()))
-    run_script(lambda: roll_back(program, QUICK_ROLLBACKS if is_quick else ROLLBACKS))
-    run_script(lambda: with_witnesses(program, QUICK_STEP if is_quick else EACH_STEP))
-    sys.exit(any(play.exception() for play in plays.values()))
+    machines = range(QUICK_ROLLBACKS if is_quick else ROLLBACKS)
+    if is_alone:
+        sys.exit(not roll_back(program, seeds or machines))
+    done = [keep_days(program, seeds or [1, 2]), roll_back(program, machines),
+            with_witnesses(program, QUICK_STEP if is_quick else EACH_STEP)]
+    sys.exit(not all(done))
 
 
 main()

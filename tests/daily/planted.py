@@ -8,6 +8,9 @@ import sys
 
 from script import TOP, check
 
+# The log, its text, the record, the note, the proof and the checkpoint.
+LEAST_CHANGES = 6
+
 
 def await_lock(folder) -> None:
     """Waits until the processes of a killed run, which hold its lock, are gone."""
@@ -155,6 +158,30 @@ def lose(play) -> None:
     play.program = program
     play.counts["logs read in two ways"] += 2
     play.go_on("a log that was read in two ways")
+
+
+def change(play) -> None:
+    """The disk changes what was synced, each file in turn: the log that was sealed, what is begun, the record, and what
+    is published. Nothing false is signed or published, and the next run goes on."""
+    play.go_on("a day")
+    at = noticed = 0
+    while at == noticed:
+        at += 1
+        play.grow()
+        # A change after the last line feed would not matter.
+        play.tail = b""
+        play.write(play.lines)
+        log = play.log.read_bytes()
+        ran = play.script("fohlazu-daily", play.log, play.dir, "-k", play.key, at=at, how="change")
+        is_log, is_changed = play.log.read_bytes() != log, play.commands >= at
+        said = b"nothing is signed" if is_log else b"the disk changed what was written to "
+        check(ran.returncode == (0 if not is_changed else 1 if is_log else 2), "file", at, ran)
+        check(said in ran.stderr or not is_changed, "file", at, ran)
+        play.log.write_bytes(log)
+        play.go_on("the disk changed file", at)
+        noticed += is_changed
+    check(noticed >= LEAST_CHANGES, "the disk changes only", noticed, "files")
+    play.counts["files that the disk changed"] = noticed
 
 
 def lock(play) -> None:

@@ -103,6 +103,8 @@ class Rollback:
         before = self.signed_texts()
         ran = self.script("fohlazu-daily", self.log, directory, "-k", self.key, *words)
         check(ran.returncode == (0 if is_good else 1), self.order, self.asks, "not the right status", ran, known)
+        if ran.returncode:
+            self.check_said(ran.stderr.decode(), max([0, *counts]), cosigned[0])
         new = self.signed_texts()[len(before):]
         check(is_good or not new, self.order, self.asks, "signs", new)
         for text in new:
@@ -110,6 +112,17 @@ class Rollback:
             self.histories.setdefault(text, self.lines)
         self.counts["runs" if is_good else "refused"] += 1
         return ran.returncode
+
+    def check_said(self, said, known, cosigned) -> None:
+        """A refusal is a line that names what the log contradicts, and says what may have happened and what to do."""
+        sources = [f"of {self.record}, which", "/checkpoint, so", f"of {self.site.as_uri()}/checkpoint, which"]
+        if self.asks in ("witness", "both"):
+            sources.append(f"{self.url} knows " + ("other lines than" if cosigned <= known else f"{cosigned} entries"))
+        check(said.count("\n") == 1 and any(source in said for source in sources), self.order, self.asks, said)
+        check("nothing is signed: " in said and "put " in said and " old lines back" in said, said)
+        is_of_folder = "/checkpoint, so" in said
+        check(is_of_folder or "restored or rewritten, or another folder has this KEY" in said, said)
+        self.counts["refusals that say what to do"] += 1
 
     # ---- What is published, and the customers
 
@@ -201,8 +214,11 @@ class Rollback:
             self.counts[f"the true lines came back{' by -u and -w' * (self.asks == 'both')}"] += 1
 
     def second_folder(self) -> None:
-        """Another log in a folder of its own, under the same key and name."""
+        """Another log in a folder of its own, under the same key and name. The key may be given by a link."""
         kept, other = self.lines, self.folder / "other"
+        if self.random.randrange(2):
+            (self.folder / "link").symlink_to(self.key)
+            self.key = self.folder / "link"
         self.lines = []
         self.grow()
         is_known = self.random.randrange(2)
@@ -240,7 +256,7 @@ def rolled_back(folder, program: str, seed: int) -> Counter:
     folder.mkdir()
     try:
         counts = Rollback(folder, program, seed).play()
-    except Wrong as wrong:
+    except (Wrong, OSError, subprocess.SubprocessError) as wrong:
         raise Wrong(f"machine {seed} that rolls back: {wrong}") from wrong
     shutil.rmtree(folder)
     return counts

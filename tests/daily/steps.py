@@ -1,14 +1,16 @@
 """steps.py SCRIPT WORD..    runs a script of share/, and counts its steps: each file of the folder $DISK that it opens,
 links, renames, removes or syncs, and each program that it starts
 
-At step $AT it kills its process group ($HOW kill), or the step fails ($HOW fail). The number of steps is in the file
-$COUNT after it ended. Its date is $DAY.
+At step $AT it kills its process group ($HOW kill), or the step fails ($HOW fail). With $HOW change only files that are
+synced count, and the disk changes the one at step $AT. The number of steps is in the file $COUNT after it ended. Its
+date is $DAY.
 """
 
 import errno
 import os
 import runpy
 import signal
+import stat
 import sys
 import time
 
@@ -19,8 +21,10 @@ sync = os.fsync
 steps = 0
 
 
-def step():
+def step(is_sync=False):
     global steps
+    if HOW == "change" and not is_sync:
+        return
     steps += 1
     if steps != int(AT):
         return
@@ -42,8 +46,20 @@ def audit(event, words):
 
 
 def synced(file):
-    step()
+    if HOW == "change" and not stat.S_ISREG(os.fstat(file).st_mode):
+        return
+    step(is_sync=True)
     sync(file)
+    if HOW == "change" and steps == int(AT):
+        change(os.open(f"/proc/self/fd/{file}", os.O_RDWR))
+
+
+def change(file):
+    """Changes the last digit or letter of a file, but for its line feed."""
+    at = os.fstat(file).st_size - 2
+    byte = os.pread(file, 1, at)
+    os.pwrite(file, b"A" if byte != b"A" else b"B", at)
+    os.close(file)
 
 
 os.fsync = synced

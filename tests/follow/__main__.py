@@ -30,6 +30,7 @@ from script import TOP, arguments, built, check, counted, run_script  # first: i
 
 import log_texts
 from catching_up import catch_up
+from endless import try_endless
 from parties import ORIGIN, SHARE, Customer, Operator, contents, count_of, printed, run, script
 from policies import try_policies
 from served import Another, Served
@@ -177,10 +178,13 @@ def try_inputs(operator, folder, days):
     """What never ends, what is too long, two proofs in one file, and what a first day says."""
     customer = Customer(folder / "inputs", operator.vkey)
     proofs = [growth for _, growth in days]
+    customer.path.write_bytes(days[-1][0])
+    customer.refuses("an older proof", 1, proofs[1], said=customer.begins(count_of(days[0][0])))
+    customer.path.unlink()
     customer.refuses("two proofs", 1, proofs[0] + proofs[1], said=b" has several growth proofs: follow each from a ")
     customer.refuses("an endless proof", 1, words=[customer.folder, customer.vkey, "/dev/zero"], said=b" has more than ")
     long = b"old 0\n\n" + b"x" * 2_000_000
-    customer.refuses("a long proof", 1, long, said=b" has more than 1010000 bytes")
+    customer.refuses("a long proof", 1, long, said=b" has more than 1002860 bytes")
     with open("/dev/zero", "rb") as endless:
         words = [sys.executable, SHARE / "fohlazu-open", operator.vkey]
         ran = subprocess.run(words, stdin=endless, capture_output=True, timeout=60)
@@ -206,6 +210,9 @@ def try_inputs(operator, folder, days):
     full = {**os.environ, "TMPDIR": "/dev/full"}
     printed(script("fohlazu-open", operator.vkey, data=days[0][0], env=full))
     printed(script("fohlazu-sign", "-p", operator.key.path, ORIGIN, env=full))
+    printed(script("fohlazu-follow", customer.folder, operator.vkey, "-", data=proofs[0], env=full))
+    words = [operator.folder / "log", operator.folder / "published", "-k", operator.key.path]
+    printed(script("fohlazu-daily", *words, env=full))
     try_older(operator, folder)
     if not shutil.which("curl"):
         return "but for missed days, which need Debian's curl"
@@ -231,6 +238,8 @@ def main():
         (folder / "policies").mkdir()
         print(f"follow: policies: {try_policies(folder / 'policies', source)}", flush=True)
         print(f"follow: inputs: {try_inputs(operator, folder, days)}", flush=True)
+        (folder / "endless").mkdir()
+        print(f"follow: without end: {try_endless(folder / 'endless', operator, *days[-1])}", flush=True)
         (folder / "terminals").mkdir()
         print(f"follow: terminals: {try_terminals(folder / 'terminals', source)}")
 

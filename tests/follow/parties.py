@@ -177,8 +177,9 @@ class Customer:
     def begins(self, count):
         """What is said of a proof from another count."""
         have = count_of(self.last())
+        when = "first" if count > have else "next"
         return (f"fohlazu-follow: standard input begins at {count} entries, and {self.path} has {have}: "
-                f"take from-{have}.growth first, or ask for prove-consistency").encode()
+                f"take from-{have}.growth {when}, or ask for prove-consistency").encode()
 
     def has_other(self, count):
         """What is said of a checkpoint with another count."""

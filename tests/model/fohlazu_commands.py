@@ -33,6 +33,7 @@ ENTRIES |= {f"the proof has too {number} digests": f"it has too {number} digests
 ENTRIES |= {"one index has two leaf hashes": "it has two entries of one number"}
 ENTRIES |= {"the proof is of another root": "its entries or digests are not those of the checkpoint"}
 # What is said of entries that are verified without numbers.
+SECOND = "fohlazu: {}: it has more than one checkpoint: only the first is read\n"
 UNCOMPARED = "fohlazu: entry numbers were not compared: check that they are those you requested"
 
 
@@ -47,12 +48,14 @@ class Refused(Exception):
 
 
 class Answer(NamedTuple):
-    """The exit status, what is printed, why the command is refused, and what is said where it is not."""
+    """The exit status, what is printed, why the command is refused, what is said where it is not, and of which inputs
+    standard error warns before that."""
 
     status: int
     printed: bytes
     refused: Optional[Refused] = None
     said: str = ""
+    warned: tuple = ()
 
     def expected(self):
         """The exit status, what is printed, and the line of standard error: its beginning, or none for wrong words."""
@@ -140,11 +143,26 @@ class Inputs:
 
     def __init__(self, contents):
         self.contents = contents
+        # The inputs that have a second checkpoint, of which standard error warns.
+        self.warned = []
 
     def bytes(self, name):
         data = self.contents(name)
         if data is None:
             raise Refused(2, name, "")
+        return data
+
+    def checkpoint(self, name):
+        """The bytes of a checkpoint or a part, up to its limit."""
+        data = self.limited(name, log_texts.MOST_BYTES, 2)
+        self.warned += [name] * log_texts.has_second(data)
+        return data
+
+    def limited(self, name, limit, status):
+        """The bytes of an input, if they are not above a limit."""
+        data = self.bytes(name)
+        if len(data) > limit:
+            raise Refused(status, name, f"it has more than {limit} bytes")
         return data
 
     @staticmethod
@@ -197,7 +215,7 @@ def seal(told, inputs):
 
 
 def prove(told, inputs):
-    _, size, root = inputs.read(2, told.CHECKPOINT, inputs.bytes(told.CHECKPOINT), log_texts.checkpoint)
+    _, size, root = inputs.read(2, told.CHECKPOINT, inputs.checkpoint(told.CHECKPOINT), log_texts.checkpoint)
     refuse_if(not told.ranges and size > MAX_ENTRIES_PER_PROOF, told.CHECKPOINT, TOO_MANY)
     names = [*(told.ranges or [range(1, max(size, 1) + 1)])]
     for each in names:
@@ -226,7 +244,7 @@ def other_number(names, wanted):
 
 
 def verify(told, inputs):
-    text, proof = inputs.bytes(told.CHECKPOINT), inputs.bytes(told.PROOF)
+    text, proof = inputs.checkpoint(told.CHECKPOINT), inputs.bytes(told.PROOF)
     _, size, root = inputs.read(2, told.CHECKPOINT, text, log_texts.checkpoint)
     found, digests = inputs.read(1, told.PROOF, proof, log_texts.entries)
     names = [name for name, _ in found]
@@ -253,7 +271,7 @@ def compare(name, old, new):
 
 
 def prove_consistency(told, inputs):
-    texts = [inputs.bytes(name) for name in (told.OLD, told.NEW)]
+    texts = [inputs.checkpoint(name) for name in (told.OLD, told.NEW)]
     old, new = (inputs.read(2, name, text, log_texts.checkpoint) for name, text in zip((told.OLD, told.NEW), texts))
     compare(told.NEW, old, new)
     log, _ = tree_under(told, inputs.bytes(told.FILE), *new[1:])
@@ -263,7 +281,8 @@ def prove_consistency(told, inputs):
 
 
 def verify_consistency(told, inputs):
-    text, proof = inputs.bytes(told.OLD), inputs.bytes(told.PROOF)
+    text = inputs.checkpoint(told.OLD)
+    proof = inputs.limited(told.PROOF, log_texts.MOST_CONSISTENCY_BYTES, 1)
     old = inputs.read(2, told.OLD, text, log_texts.checkpoint)
     size, digests, next_text = inputs.read(1, told.PROOF, proof, log_texts.consistency)
     refuse_if(size != old[1], told.PROOF, f"it is a proof from {size} entries, and the old checkpoint has {old[1]}")
@@ -275,7 +294,7 @@ def verify_consistency(told, inputs):
 
 
 def join(told, inputs):
-    texts = [inputs.bytes(name) for name in told.PART]
+    texts = [inputs.checkpoint(name) for name in told.PART]
     parts = [inputs.read(2, name, text, lambda text: log_texts.checkpoint(text, True))
              for name, text in zip(told.PART, texts)]
     sizes = [size for _, size, _ in parts]
@@ -295,9 +314,10 @@ ANSWERS |= {"prove-consistency": prove_consistency, "verify-consistency": verify
 
 def answer(words, contents):
     """What a command answers; `contents` tells the bytes of a file by its name."""
+    inputs = Inputs(contents)
     try:
         command, told = command_of(words)
-        printed = ANSWERS[command](told, Inputs(contents))
-        return Answer(0, printed, None, UNCOMPARED if told.is_any else "")
+        printed = ANSWERS[command](told, inputs)
+        return Answer(0, printed, None, UNCOMPARED if told.is_any else "", tuple(inputs.warned))
     except Refused as refused:
-        return Answer(refused.status, b"", refused)
+        return Answer(refused.status, b"", refused, "", tuple(inputs.warned))

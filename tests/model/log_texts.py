@@ -2,10 +2,14 @@
 printed. A text is wrong at a line, numbered from 1, where it is read no further."""
 
 from base64 import b64decode, b64encode
+from itertools import takewhile
 
 MOST_BYTES = 10**6
 # With a size of 19 digits, a checkpoint of this origin has as many bytes as it may.
 MOST_ORIGIN_BYTES = MOST_BYTES - len(b"\n") - len(b"%d\n" % (1 << 62)) - len(b64encode(bytes(32)) + b"\n")
+# A consistency proof has its old size in at most 24 bytes, up to 63 digests, a blank line and a checkpoint.
+MOST_DIGESTS = 63
+MOST_CONSISTENCY_BYTES = len(b"old %d\n" % (1 << 62)) + MOST_DIGESTS * 45 + 1 + MOST_BYTES
 PART = b"fohlazu part 1"
 DASH = "—".encode()
 
@@ -31,7 +35,7 @@ def is_origin(line):
 
 def number(line):
     """The number that a line is, up to 2^62."""
-    is_number = line.isdigit() and str(int(line)).encode() == line and int(line) <= 1 << 62
+    is_number = line.isdigit() and len(line) < 20 and str(int(line)).encode() == line and int(line) <= 1 << 62
     return int(line) if is_number else None
 
 
@@ -115,6 +119,12 @@ def checkpoint(text, is_part=False):
     return origin, size, root
 
 
+def has_second(text):
+    """Whether a count and a root stand among the extension lines of a text, with a line ahead of them for an origin."""
+    lines = [*takewhile(bool, text.split(b"\n")[:-1])][4:]
+    return any(count.isdigit() and len(root) == 44 and root.endswith(b"=") for count, root in zip(lines, lines[1:]))
+
+
 def entries(text):
     """The entries of a proof, each with its number, and its digests."""
 
@@ -138,7 +148,7 @@ def consistency(text):
     lines = Lines(text)
     old, digests = lines.read(counted(b"old ")), []
     while True:
-        found = lines.read(lambda line: line if line == b"" else digest(line) if len(digests) < 63 else None)
+        found = lines.read(lambda line: line if line == b"" else digest(line) if len(digests) < MOST_DIGESTS else None)
         if found == b"":
             return old, digests, text[lines.start :]
         digests.append(found)

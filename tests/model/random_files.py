@@ -37,7 +37,11 @@ class Case(NamedTuple):
         lines."""
         if self.kind.endswith("whole") and "inside" not in self.kind and answer.status:
             return [f"the model refuses a whole text: {answer.refused.line}"]
-        return [*faults(program.run(self.words, self.contents), *answer.expected())]
+        ran = program.run(self.words, self.contents)
+        warned = "".join(map(fohlazu_commands.SECOND.format, answer.warned)).encode()
+        if not ran.said.startswith(warned):
+            return [f"says {ran.said[:400]!r}, expected {warned!r} first"]
+        return [*faults(ran._replace(said=ran.said[len(warned):]), *answer.expected())]
 
 
 def printed(words, contents):

@@ -337,6 +337,10 @@ def limits(program):
     for more, answer in (0, (0, b"", PROOF)), (1, (2, b"fohlazu: long: it has more than 1000000 bytes\n", b"")):
         program.write("long", NEW + b"x" * (10**6 - len(NEW) - 1 + more) + b"\n")
         yield f"{more} bytes above the limit", wrong(program.run("prove long file 2 4".split()), *answer)
+    origin = "the origin: 1 to 999934 bytes, no character below U+0020, and no space first or last"
+    for more, answer in (0, (0, b"", PROOF)), (1, (2, f"fohlazu: named: line 1: expected {origin}\n".encode(), b"")):
+        program.write("named", b"x" * (999934 + more) + NEW[NEW.index(b"\n"):])
+        yield f"an origin {more} bytes above the limit", wrong(program.run("prove named file 2 4".split()), *answer)
     yield from one_byte_above(program)
     yield from claimed(program)
 
@@ -349,8 +353,8 @@ def one_byte_above(program):
     writer.start()
     ran = program.run("prove - file 1".split(), stdin=end, timeout=20)
     writer.join()
-    left = os.read(end, 1 << 16)
     os.close(start)
+    left = os.read(end, 1 << 16)
     os.close(end)
     line = b"fohlazu: -: it has more than 1000000 bytes\n"
     yield "a pipe that stays open", wrong(ran, 2, line) + ([] if left == rest else [f"leaves {left[:100]!r}"])

@@ -9,11 +9,13 @@ COUNT is 100000, and SEED 1, if they are not given.
   refuse the same damaged ones.
 - The lines of sh of docs/FILES.md on stored answers of a certificate log, certificates.txt, as they are and with a value
   changed, beside the model; Go accepts the proofs. It needs Debian's jq, and is skipped without it.
-- Signed notes: share/fohlazu-sign signs 200 texts as note.Sign does, and share/fohlazu-open opens 200 notes of Go's;
-  each byte of three notes and their keys is changed, and 600 notes are damaged; it opens 20 cosignatures. `notes` tries
-  this part alone, with COUNT further texts and notes, and COUNT / 10 damaged ones, in forks of this process.
+- Signed notes: share/fohlazu-sign signs 220 texts as note.Sign does, and share/fohlazu-open opens 220 notes of Go's;
+  each byte of three notes and their keys is changed, and 620 notes are damaged; it opens 20 cosignatures. `notes` tries
+  this part alone, with COUNT further texts and notes, and COUNT / 10 damaged ones. All but the first 20 of each run in
+  forks of this process.
 
-Parts with Go need Debian's golang-go and golang-golang-x-mod-dev, notes also openssl; without these they are skipped.
+Go is Debian's golang-go and golang-golang-x-mod-dev; without these, a second writing of its packages in Python takes its
+place (reference.py), and the first line says so. Notes need openssl, and are skipped without it.
 """
 
 import json
@@ -38,6 +40,7 @@ import logs
 from forked import run_forked
 from keys import COSIGNED, Key
 from notes import Notes, Sumdb
+from reference import Reference
 from running import Program
 
 CERTIFICATES = TOP / "tests/peers/certificates.txt"
@@ -46,7 +49,8 @@ WHOLE = 300
 MOST = 10**6
 SMALL = 3000
 SIZES = 10
-# How many notes are signed and opened, are changed byte by byte, are damaged, and are cosigned.
+# How many notes are signed and opened, are changed byte by byte, are damaged, and are cosigned: these are tried by
+# scripts that begin anew, with as many of the others.
 SIGNED = 200
 BYTEWISE = 3
 DAMAGED = 600
@@ -86,14 +90,14 @@ def compare_answers(rng, program, go):
     def ask(*question):
         kind, number, size = question
         found = {by_model(log, *question)} if size <= SMALL else set()
-        found |= {go.ask("prove", *question)} if go and size else set()
+        found |= {go.ask("prove", *question)} if size else set()
         check(len(found) == 1, question, "the model and Go:", found)
         [digests] = found
         asked = [kind, size] if kind == "root" else [kind, size, number]
         parts = [digests[at:at + 32].hex() for at in range(0, len(digests), 32)]
         cases.append(" ".join(map(str, [*asked, "|", *parts])))
 
-    larger = [rng.randint(WHOLE, most) for most in ([SMALL, MOST] if go else [SMALL]) for _ in range(SIZES)]
+    larger = [rng.randint(WHOLE, most) for most in (SMALL, MOST) for _ in range(SIZES)]
     for size in [*range(WHOLE + 1), *larger]:
         ask("root", 0, size)
         for index in range(size) if size <= WHOLE else [rng.randrange(size), rng.randrange(size), size - 1]:
@@ -200,7 +204,7 @@ def compare_certificates(rng, go, path, work):
             is_accepted = all(is_accepted_by_model(*question) for question in questions)
             expected = (log_texts.checkpoint_text(b"log.example", sizes[1], roots[1]), entry) if is_accepted else None
             check(found == expected and ran.returncode < 2 and (is_accepted or case is not whole), case, ran, found)
-            if go and case is whole:
+            if case is whole:
                 check(None not in [go.ask(*question) for question in questions], "Go refuses", case)
             counts["accepted" if expected else "refused"] += 1
     return counts
@@ -269,13 +273,16 @@ def compare_notes(rng, go, folder, more):
     if not shutil.which("openssl"):
         return "skipped, it needs openssl"
     scripts = Scripts(rng, go, folder)
+    for _ in range(COSIGNATURES):
+        scripts.try_signing()
+        scripts.try_cosigned()
+    for case in scripts.notes.cases(COSIGNATURES, 0, COSIGNATURES):
+        scripts.compare(*case)
+    scripts.is_forked = True
     for _ in range(SIGNED):
         scripts.try_signing()
     for case in scripts.notes.cases(SIGNED, BYTEWISE, DAMAGED):
         scripts.compare(*case)
-    for _ in range(COSIGNATURES):
-        scripts.try_cosigned()
-    scripts.is_forked = True
     for _ in range(more):
         scripts.try_signing()
     for case in scripts.notes.cases(more, 0, more // 10):
@@ -291,19 +298,21 @@ def main():
     missing = golang.skipped()
     with tempfile.TemporaryDirectory() as folder:
         folder = Path(folder)
-        go = None if missing else Sumdb(folder)
+        go = Reference(folder) if missing else Sumdb(folder)
+        if missing:
+            print(f"peers: Go is {missing}: reference.py takes its place")
 
-        def part(name, call, *words, needs_go=False):
-            found = missing if needs_go and missing else call(Random(f"{seed} {name}"), *words)
+        def part(name, call, *words):
+            found = call(Random(f"{seed} {name}"), *words)
             print(f"peers: {name}: {found if isinstance(found, str) else counted(found)}", flush=True)
 
         if not is_alone:
             answers, path = built(is_quick, "test_log"), built(is_quick)
-            part("verdicts", compare_verdicts, go, count, needs_go=True)
+            part("verdicts", compare_verdicts, go, count)
             part("answers", compare_answers, answers, go)
-            part("fohlazu", compare_exchange, go, path, count // 50, folder, needs_go=True)
+            part("fohlazu", compare_exchange, go, path, count // 50, folder)
             part("certificates", compare_certificates, go, path, folder)
-        part("notes", compare_notes, go, folder, count if is_alone and numbers else 0, needs_go=True)
+        part("notes", compare_notes, go, folder, count if is_alone and numbers else 0)
 
 
 run_script(main)

@@ -7,8 +7,8 @@
   2^62 entries (tests/model/random_files.py). Exit status, standard output and reason are the program's. One in 100 is
   run as a command, the others in this process.
 - Signed notes, where Debian's python3-cryptography is there: those that Go's note.Sign makes and that are changed
-  somewhere are opened as by note.Open, where Go is there (tests/peers), others as by `openssl pkeyutl -verify`, by the
-  option `--key` of both commands, too. Without the package the option ends with an error.
+  somewhere are opened as by note.Open, or by its second writing where Go is not there (tests/peers), others as by
+  `openssl pkeyutl -verify`, by the option `--key` of both commands, too. Without the package the option ends with an error.
 - COUNT verdicts of its functions are the model's, and those of libfohlazu.so where `make` has built it or FOHLAZU_LIB
   names its folder.
 """

@@ -11,6 +11,7 @@ import fohlazu
 import golang
 from keys import Key, is_signature
 from notes import Notes, Sumdb
+from reference import Reference
 from script import check, counted
 
 BY_OPENSSL = 60
@@ -40,13 +41,13 @@ def compare_openssl(rng, work):
 
 
 def compare_go(rng, work):
-    if golang.skipped():
-        return golang.skipped()
-    go, counts = Sumdb(work), Counter()
+    """Notes, whole and damaged. Where Go is not installed, its second writing in Python takes its place."""
+    beside = "beside reference.py" if golang.skipped() else "beside Go"
+    go, counts = Reference(work) if golang.skipped() else Sumdb(work), Counter()
     for what, vkey, note in Notes(rng, go, work).cases(200, 2, 2000):
         expected, found = go.ask("open", vkey, note), opened(vkey.decode(errors="surrogateescape"), note)
         check(found == expected and (found or what != "whole"), what, vkey, note, found, "Go:", expected)
-        counts["beside Go", "refused" if found is None else "opened"] += 1
+        counts[beside, "refused" if found is None else "opened"] += 1
     return counted(counts)
 
 
