@@ -16,11 +16,11 @@ FACADE = TOP / "rust" / "fohlazu" / "src" / "lib.rs"
 
 
 def uses(text: str) -> list[tuple[str, str]]:
-    """The names that a file takes and gives on, each as its module, with dots, and itself."""
+    """The names that a file takes and gives on, maybe under another name, each as its module, with dots, and itself."""
     found = []
-    for path, one, many in re.findall(r"pub use ([\w:]+?)(?:::(\w+)|::\{([^}]*)\});", text):
+    for path, one, many in re.findall(r"pub use ([\w:]+?)(?:::(\w+)(?: as \w+)?|::\{([^}]*)\});", text):
         names = [one] if one else many.replace("\n", " ").split(",")
-        found += [(path.replace("::", "."), name.strip()) for name in names if name.strip()]
+        found += [(path.replace("::", "."), name.split()[0]) for name in names if name.strip()]
     return found
 
 

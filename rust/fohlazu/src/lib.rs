@@ -185,9 +185,12 @@ pub mod tlog {
         growth_collision, leaf_collision, leaf_hash, node_hash, prefix_collision, proof_collision, verify_consistency,
         verify_inclusion,
     };
-    pub use crate::erased::tlog_multiproof::{EntriesError, entries_collision, entry_nodes, verify_entries};
+    pub use crate::erased::tlog_multiproof::{
+        EntriesError, entries_collision, entry_nodes as entry_places, verify_entries,
+    };
     pub use crate::erased::tlog_tree::{
-        Frontier, NodeId, TreeBuilder, TreeError, consistency_nodes, inclusion_nodes, leaf_hashes,
+        Frontier, NodeId, TreeBuilder, TreeError, consistency_nodes as consistency_places,
+        inclusion_nodes as inclusion_places, leaf_hashes,
     };
 
     /// Verification of inclusion under any hash function.

@@ -359,7 +359,7 @@ mod sha2 {
     use super::{Batched3, CryptographicHasher, PseudoCompressionFunction, Trial};
     use fohlazu::hashes::{Sha256, Sha256Nodes, Sha256NodesInEights, Sha256Rows, Sha256RowsInEights};
     use fohlazu::tlog::{
-        SIZE_LIMIT, consistency_nodes, consistency_proof, entry_nodes, inclusion_nodes, inclusion_proof, split,
+        SIZE_LIMIT, consistency_places, consistency_proof, entry_places, inclusion_places, inclusion_proof, split,
     };
 
     fn compress_many<C: PseudoCompressionFunction<u8, 2, 32>>(trial: &mut Trial, compress: &C) {
@@ -411,10 +411,12 @@ mod sha2 {
         let size = if trial.random.below(2) == 0 { trial.random.below(9) } else { trial.random.about(1 << 62) };
         let index = trial.random.about(size);
         let conditions = [("index_in", index < size)];
-        trial.call("tlog_tree.proof_nodes.inclusion_nodes", &conditions, || inclusion_nodes(index, size).is_ok());
+        trial.call("tlog_tree.proof_nodes.inclusion_nodes", &conditions, || inclusion_places(index, size).is_ok());
         let old_size = if trial.random.below(3) == 0 { 0 } else { trial.random.about(size) };
         let conditions = [("some", old_size != 0), ("grown", old_size < size)];
-        trial.call("tlog_tree.proof_nodes.consistency_nodes", &conditions, || consistency_nodes(old_size, size).is_ok());
+        trial.call("tlog_tree.proof_nodes.consistency_nodes", &conditions, || {
+            consistency_places(old_size, size).is_ok()
+        });
     }
 
     pub fn entries(trial: &mut Trial) {
@@ -427,7 +429,7 @@ mod sha2 {
         let indices = trial.random.indices(3, size);
         let is_within = indices.iter().all(|index| *index < size);
         let conditions = [("some", size != 0), ("limit", size <= 1 << 62), ("within", is_within)];
-        trial.call("tlog_multiproof.opening.entry_nodes", &conditions, || entry_nodes(&indices, size).is_ok());
+        trial.call("tlog_multiproof.opening.entry_nodes", &conditions, || entry_places(&indices, size).is_ok());
     }
 }
 

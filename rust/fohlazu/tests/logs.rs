@@ -11,8 +11,8 @@ mod common;
 use fohlazu::hashes::Sha256;
 use fohlazu::tlog::{
     Collision, EMPTY_ROOT, Frontier, LogHash, NodeId, TreeBuilder, TreeError, compose, consistency_collision,
-    consistency_nodes, consistency_proof, entries_collision, entry_collision, entry_nodes, growth_collision,
-    inclusion_nodes, inclusion_proof, leaf_collision, leaf_hash, leaf_hashes, node_hash, prefix_collision,
+    consistency_places, consistency_proof, entries_collision, entry_collision, entry_places, growth_collision,
+    inclusion_places, inclusion_proof, leaf_collision, leaf_hash, leaf_hashes, node_hash, prefix_collision,
     proof_collision, root, root_collision, verify_consistency, verify_entries, verify_inclusion,
 };
 use std::fmt::Display;
@@ -156,9 +156,9 @@ fn inclusion(words: &mut Words<'_>) -> String {
     let (entries, index) = (words.log(), words.number());
     let (size, root) = (entries.len(), root_of(&entries));
     let proof = inclusion_proof::<Sha256, 32>(&entries, index).unwrap();
-    let nodes = inclusion_nodes(index, size).unwrap();
+    let nodes = inclusion_places(index, size).unwrap();
     check_values(&entries, &nodes, &proof);
-    assert_eq!(entry_nodes(&[index], size).unwrap(), nodes);
+    assert_eq!(entry_places(&[index], size).unwrap(), nodes);
     let leaf = leaf_hash(&entries[index]);
     assert_eq!(verify_inclusion(index, size, &leaf, &proof, &root), Ok(()));
     assert_eq!(verify_entries(size, &[index], &[leaf], &proof, &root), Ok(()));
@@ -172,7 +172,7 @@ fn consistency(words: &mut Words<'_>) -> String {
     let size = entries.len();
     let proof = consistency_proof::<Sha256, 32>(&entries, old_size).unwrap();
     if old_size < size {
-        check_values(&entries, &consistency_nodes(old_size, size).unwrap(), &proof);
+        check_values(&entries, &consistency_places(old_size, size).unwrap(), &proof);
     }
     let (old, middle) = (&entries[..old_size], &entries[..old_size + (size - old_size) / 2]);
     let (old_root, middle_root, root) = (root_of(old), root_of(middle), root_of(&entries));
@@ -194,7 +194,7 @@ fn consistency(words: &mut Words<'_>) -> String {
 /// `proof_nodes SIZE INDICES`: the nodes of the proof of several entries.
 fn proof_nodes(words: &mut Words<'_>) -> String {
     let (size, indices) = (words.number(), words.numbers());
-    let nodes = entry_nodes(&indices, size).unwrap();
+    let nodes = entry_places(&indices, size).unwrap();
     nodes.iter().map(|node| format!("{}.{}", node.layer, node.slot)).collect::<Vec<_>>().join(" ")
 }
 
@@ -206,7 +206,7 @@ fn short(digest: Option<Digest>) -> String {
 /// `digests SIZE INDICES`: the first four bytes of each digest of this proof, as a tree has them.
 fn digests(words: &mut Words<'_>) -> String {
     let (entries, indices) = (words.log(), words.numbers());
-    let nodes = entry_nodes(&indices, entries.len()).unwrap();
+    let nodes = entry_places(&indices, entries.len()).unwrap();
     let values = tree(&entries, &nodes).values().unwrap();
     values.into_iter().map(short).collect::<Vec<_>>().join(" ")
 }

@@ -20,8 +20,8 @@ use fohlazu::support::{
     dimensions_of,
 };
 use fohlazu::tlog::{
-    Frontier, TreeBuilder, compose, consistency_collision, consistency_nodes, consistency_proof, entries_collision,
-    entry_collision, entry_nodes, growth_collision, inclusion_nodes, inclusion_proof, leaf_collision, leaf_hash,
+    Frontier, TreeBuilder, compose, consistency_collision, consistency_places, consistency_proof, entries_collision,
+    entry_collision, entry_places, growth_collision, inclusion_places, inclusion_proof, leaf_collision, leaf_hash,
     leaf_hashes, leaf_input, node_input, prefix_collision, proof_collision, root, root_collision, verify_consistency,
     verify_entries, verify_inclusion,
 };
@@ -334,9 +334,9 @@ fn proofs_of_logs() {
     let verdict = without_memory("verify_consistency", || verify_consistency(7, 11, &growth, &old_root, &root));
     assert_eq!(verdict, Ok(()));
 
-    let nodes = each("entry_nodes", || entry_nodes(&[2, 9, 4], 11));
-    each("inclusion_nodes", || inclusion_nodes(4, 11));
-    each("consistency_nodes", || consistency_nodes(7, 11));
+    let nodes = each("entry_places", || entry_places(&[2, 9, 4], 11));
+    each("inclusion_places", || inclusion_places(4, 11));
+    each("consistency_places", || consistency_places(7, 11));
     let new_tree = || TreeBuilder::new(&nodes);
     let push = |tree: TreeBuilder| tree.push_many(&leaves);
     let values = |tree: TreeBuilder| tree.values().unwrap();
@@ -411,7 +411,7 @@ fn collisions_of_logs() {
         };
     }
     let zero = [0; 32];
-    let digests_from = |old_size| vec![zero; consistency_nodes(old_size, 7).unwrap().len()];
+    let digests_from = |old_size| vec![zero; consistency_places(old_size, 7).unwrap().len()];
     let (from_3, from_5) = (digests_from(3), digests_from(5));
     // An index has as many digests in its proof as it has siblings: entry 4 of 7 has three.
     check!("root_collision", root_collision::<OneValue, 32>(&entries, &others));
@@ -427,8 +427,8 @@ fn collisions_of_logs() {
         "consistency_collision",
         consistency_collision::<OneValue, 32>(3, 7, &zero, &from_3, &zero, &changed, &zero)
     );
-    let path = vec![zero; inclusion_nodes(1, 3).unwrap().len()];
-    let new_path = vec![zero; inclusion_nodes(1, 7).unwrap().len()];
+    let path = vec![zero; inclusion_places(1, 3).unwrap().len()];
+    let new_path = vec![zero; inclusion_places(1, 7).unwrap().len()];
     check!(
         "growth_collision",
         growth_collision::<OneValue, 32>(1, 3, 7, &zero, &path, &[1; 32], &new_path, &from_3, &zero, &zero)
