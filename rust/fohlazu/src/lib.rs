@@ -137,7 +137,7 @@ pub mod support {
 /// ```
 pub mod hashes {
     pub use crate::erased::p3_hashes::batched::Batched3;
-    pub use crate::erased::p3_hashes::fold::{FoldCompress, FoldHash, FoldLane};
+    pub use crate::erased::p3_hashes::fold::{FoldCompress, FoldHash, FoldPacked as FoldLane};
     pub use crate::erased::p3_hashes::lanes::{Lanes, U32x8};
     #[cfg(feature = "sha2")]
     pub use crate::erased::p3_hashes::sha::{Sha256Nodes, Sha256Rows, group_message};
