@@ -115,7 +115,7 @@ impl<'a> Covered<'a> {
     }
 }
 
-/// Replaces ascending nodes of a layer by their parents, each once, ascending. A parent has `step` children.
+/// Replaces ascending nodes of a layer by their parents, each once, ascending. A parent has `step` children, at least 1.
 fn replace_by_parents(covered: &mut Vec<usize>, step: usize)
     requires { 0 < step }
     ensures { IsAscending covered.old.items → covered.new.items ≡ distinct (map (λ j. j / step) covered.old.items) }
