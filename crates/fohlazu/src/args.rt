@@ -109,7 +109,7 @@ pub(crate) struct Args<'a> {
     pub(crate) state: &'a RunState,
 }
 
-/// Reads the arguments: the command, and what its inputs are called. The notes take what happens while they are read.
+/// Reads the arguments: the command, and what its inputs are called. `state` takes what happens while they are read.
 ///
 /// # Errors
 ///
@@ -143,7 +143,7 @@ pub(crate) fn parse_args<'a>(
         let why = if matches!(command, Command::Verify { .. }) {
             "--raw takes the number of one entry, and --blocks takes numbers or all"
         } else {
-            "an origin has 1 to 999934 bytes, no character below U+0020, no space first or last: --origin sets it"
+            "an origin has 1 to 999934 bytes, no byte order mark, no character below U+0020, no space first or last: --origin sets it"
         };
         return Err(ArgsError::Refused(why));
     }
@@ -180,7 +180,7 @@ fn is_option(word: &str, ids: &str) -> bool {
 }
 
 impl<'a> Args<'a> {
-    /// The name that the user gave to an input.
+    /// The name that the user gave to an input; none if the command has no such input.
     pub(crate) fn name_of(&self, source: Source) -> &'a str {
         let (id, k) = match source {
             Source::Checkpoint => ("CHECKPOINT", 0),
@@ -194,7 +194,8 @@ impl<'a> Args<'a> {
         names.and_then(|names| names.get(k).copied()).unwrap_or("")
     }
 
-    /// The command of this name, by the arguments that were found. It may be one that cannot be run.
+    /// The command of this name, which must be one of the table, by the arguments that were found. It may be one that
+    /// cannot be run.
     fn command(&self, alloc: Global, name: &str) -> Result<Command<Input<'a>>, ArgsError<'a>> {
         Ok(match name {
             "seal" => Command::Seal {
@@ -228,6 +229,7 @@ impl<'a> Args<'a> {
                 old: self.checkpoint("OLD"),
                 proof: self.input("PROOF"),
             },
+            // The table of commands has no other name than `join`.
             _ => Command::Join {
                 origin: self.origin(alloc)?,
                 parts: self.parts(alloc)?,
@@ -251,7 +253,8 @@ impl<'a> Args<'a> {
         }
         let output = self.output().unwrap_or("/dev/stdout");
         for name in names {
-            if is_same_file(self.rt, output, name) {
+            let input = if name == "-" { "/dev/stdin" } else { name };
+            if is_same_file(self.rt, output, input) {
                 let why = "it is the output too, which `>` empties: choose another output";
                 return Err(ArgsError::Word(Escaped(name), why));
             }
@@ -455,6 +458,7 @@ fn operand<'a>(alloc: Global, id: &str) -> Result<Arg<'a>, AllocError> {
             arg!(in alloc; <PART> ... "The parts, in order; all but the last have 2^k entries, with one k"),
         "NUMBER" =>
             arg!(in alloc; [NUMBER] ... "The entries, as 3, 3-7, 3,7 or all; else any, each after its number"),
+        // The table of commands has no other operand than `NUMBER!`.
         _ => arg!(in alloc; <NUMBER> ... "The entries, as 3, 3-7, 3,7 or all, counted from 1"),
     })
 }

@@ -449,8 +449,8 @@ pub fn children_of<X: Copy>(
     Ok(children)
 }
 
-/// The place of `node` among ascending nodes, of which it must be one. The search begins at the place `start`, or at 0 if
-/// there is no such place or `node` is ahead of it, and takes a step for each node that it passes.
+/// The place of `node` among ascending nodes, of which it must be one. The search begins at the place `start`, or at 0
+/// if there is no such place or `node` is ahead of it, and takes a step for each node that it passes.
 fn place_of(nodes: &[usize], start: usize, node: usize) -> usize
     requires ascending { IsStrictlyIncreasing nodes.now }
     requires among { is_among nodes.now node ≡ true }
@@ -467,9 +467,9 @@ fn place_of(nodes: &[usize], start: usize, node: usize) -> usize
     place
 }
 
-/// The siblings on the path of the leaf `index`, which must be covered, from the leaves up: on each layer above them the
-/// digests of the children of the path's node, without the path's own, ascending. `layers` must be those of a pruned
-/// opening, the leaves first, and `capacity` is the expected number of siblings.
+/// The siblings on the path of the leaf `index`, which must be covered, from the leaves up: on each layer above them
+/// the digests of the children of the path's node, without the path's own, ascending. `layers` must be those of a
+/// pruned opening, the leaves first, and `capacity` is the expected number of siblings.
 ///
 /// `places` must have a number for each layer. The search for the path's node begins at that place among the layer's
 /// covered nodes, and the number then becomes the node's own place. So the searches of ascending leaves pass each node

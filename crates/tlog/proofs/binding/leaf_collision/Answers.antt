@@ -1,3 +1,4 @@
+-- The honest proof of the entry there is a second accepted one, with another leaf hash.
 use Rattle.std.proofs.Common.{refl, sym, ap, ◌∙◌}
 use Rattle.std.specs.Cmp.Lexicographic.{bytes_decides}
 use Rattle.tlog.specs.Rfc9162.{leaf_hash}
