@@ -115,8 +115,8 @@ fn run_to_file(args: &Args<'_>, command: Command<Input<'_>>, name: &str) -> Exit
     }
 }
 
-/// Ends a run: prints why it failed and what the input is called, or that the caller has to compare numbers. Returns the
-/// exit code.
+/// Ends a run: prints why it failed and what the input is called, or that the caller has to compare numbers. Returns
+/// the exit code.
 fn finish(args: &Args<'_>, done: Result<(), Error>) -> ExitCode {
     let rt = args.rt;
     let state = args.state;
@@ -138,8 +138,8 @@ fn finish(args: &Args<'_>, done: Result<(), Error>) -> ExitCode {
     ExitCode::from(error.status())
 }
 
-/// Prints the help that is asked for, or what is wrong about the arguments. Returns exit code 0 if help was asked for and
-/// printed, else 2.
+/// Prints the help that is asked for, or what is wrong about the arguments. Returns exit code 0 if help was asked for
+/// and printed, else 2.
 fn print_help(rt: &HostRuntime, error: &clap::Error) -> ExitCode {
     if error.kind() == clap::error::ErrorKind::OutOfMemory {
         return refuse_memory(rt);

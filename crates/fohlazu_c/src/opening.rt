@@ -114,8 +114,8 @@ fn dimensions_of(alloc: Global, sizes: &[MatrixSize]) -> Result<Vec<Dimensions>,
     sizes.iter().map(to_dimensions).collect(alloc)
 }
 
-/// The rows of matrices of these sizes, which lie one after another in `rows`, cut by their widths: a row is short where
-/// the bytes end, and bytes that are left are a row too many. `AllocError` if memory runs out.
+/// The rows of matrices of these sizes, which lie one after another in `rows`, cut by their widths: a row is short
+/// where the bytes end, and bytes that are left are a row too many. `AllocError` if memory runs out.
 fn cut_by_widths(
     alloc: Global,
     sizes: &[MatrixSize],

@@ -141,8 +141,8 @@ fn reply<const N: usize>(alloc: Global, args: &Args, input: Vec<u8>) -> Result<S
     }
 }
 
-/// The text that a command prints for an input. `scheme` must be that of the command's hash, arity and cap. The input is
-/// dropped once its matrices are read.
+/// The text that a command prints for an input. `scheme` must be that of the command's hash, arity and cap. The input
+/// is dropped once its matrices are read.
 fn reply_with_scheme<
     W: Word + PackedValue<Value = W>,
     H: CryptographicHasher<W, W, D>,

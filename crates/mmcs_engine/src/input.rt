@@ -154,8 +154,8 @@ impl<W: Word> Block<W> {
         Ok(())
     }
 
-    /// Takes the rows, if there are any, as a matrix, and leaves none. The values must be those of rows of `width` values
-    /// each.
+    /// Takes the rows, if there are any, as a matrix, and leaves none. The values must be those of rows of `width`
+    /// values each.
     fn take_matrix(&mut self, alloc: Global) -> Option<RowMajorMatrix<W>>
         requires { (limit : ℕ) × (lines : List (List ℕ)) ×
             IsBlock limit lines (map W.value self.old.values.items) self.old.width }

@@ -9,7 +9,8 @@ use Rattle.sha2.specs.Sha256.{compress, digest_bytes, first_words, hash_after, r
 use Rattle.tlog.specs.declared.hash.TheConstants.{EMPTY_ROOT}
 use Rattle.tlog.specs.Rfc9162.{Hash, consistency_end}
 use Rattle.tlog.specs.{Rfc9162.inclusion_end}
-use Rattle.tlog.specs.Verdicts.{IsConsistent, IsIncluded, end_of_no_digests, consistency_end_refusal, consistency_refusal}
+use Rattle.tlog.specs.Verdicts.{IsConsistent, IsIncluded, end_of_no_digests, consistency_end_refusal}
+use Rattle.tlog.specs.Verdicts.{consistency_refusal}
 use Rattle.tlog.specs.Verdicts.{growth_end, inclusion_end_refusal, inclusion_refusal, is_same, size_limit}
 use Rattle.tlog.specs.declared.error.ProofError.{ProofError}
 

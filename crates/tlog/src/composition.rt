@@ -212,9 +212,9 @@ pub fn compose<H: LogHash<D>, const D: usize>(
     Ok(proof)
 }
 
-/// A collision, if the proofs of inclusion of one index, `old_path` under the old root and `new_path` under the new one,
-/// are accepted, and so is `growth`, the proof of consistency between both, and the leaf hashes differ; else `None`. It
-/// needs no entries.
+/// A collision, if the proofs of inclusion of one index, `old_path` under the old root and `new_path` under the new
+/// one, are accepted, and so is `growth`, the proof of consistency between both, and the leaf hashes differ; else
+/// `None`. It needs no entries.
 ///
 /// # Errors
 ///

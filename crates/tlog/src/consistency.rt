@@ -127,9 +127,9 @@ pub struct Climb<'a, const D: usize> {
 }
 
 impl<'a, const D: usize> Climb<'a, D> {
-    /// The climb of a proof of consistency: from the node where the proof begins, the last whole one of the old tree (RFC
-    /// 9162, 2.1.4.2, 1 to 5), by the digests that lead on from it. `None` if the proof has no digests. The old size must
-    /// be above 0.
+    /// The climb of a proof of consistency: from the node where the proof begins, the last whole one of the old tree
+    /// (RFC 9162, 2.1.4.2, 1 to 5), by the digests that lead on from it. `None` if the proof has no digests. The old
+    /// size must be above 0.
     pub fn of_proof(old_size: usize, proof: &'a [[u8; D]], old_root: &'a [u8; D]) -> Option<Self>
         requires { 0 < old_size }
         ensures { MatchOption result (proof.now ≡ []) (λ climb.

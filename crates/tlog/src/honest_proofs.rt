@@ -78,9 +78,9 @@ pub fn consistency_proof<H: LogHash<D>, const D: usize>(
     subproof::<H, D>(alloc, entries, old_size, true)
 }
 
-/// SUBPROOF of RFC 9162 (2.1.4.1): the digests by which the root of the entries, and that of the first `old_size`, can be
-/// computed. `is_known`, the flag `b` there, says whether the verifier may know the root of the entries. `old_size` must
-/// be at least 1 and at most their number. `AllocError` if memory runs out.
+/// SUBPROOF of RFC 9162 (2.1.4.1): the digests by which the root of the entries, and that of the first `old_size`, can
+/// be computed. `is_known`, the flag `b` there, says whether the verifier may know the root of the entries. `old_size`
+/// must be at least 1 and at most their number. `AllocError` if memory runs out.
 fn subproof<H: LogHash<D>, const D: usize>(
     alloc: Global,
     entries: &[Vec<u8>],

@@ -55,8 +55,8 @@ pub(crate) fn number_of(digits: &[u8]) -> Option<usize>
     (number <= MAX_NUMBER).then_some(number)
 }
 
-/// Decodes base64 to the front of `bytes`, and returns how many bytes that is; `None` if `text` is no base64. `bytes` must
-/// have room for three bytes for each four characters that are begun.
+/// Decodes base64 to the front of `bytes`, and returns how many bytes that is; `None` if `text` is no base64. `bytes`
+/// must have room for three bytes for each four characters that are begun.
 fn decode(text: &[u8], bytes: &mut [u8]) -> Option<usize>
     requires { decoded_estimate (length text.now) ≤ length bytes.old }
     ensures len { result ≡ option_map length (base64_bytes text.now) }

@@ -14,7 +14,8 @@ returns-then-ne-2-clause-collision g c =
       differ = λ same. let yes = (bytes_decides c.in_ok-first.first.items c.in_ok-second.second.items).1 same in absurd
           cc;
       same_hash =
-          ap g.H.LogHash.hash c.in_ok-first.ensures ∙ root_is_hashed g.H.LogHash.hash (entries_of c.loop-first.part.now)
+          ap g.H.LogHash.hash c.in_ok-first.ensures
+          ∙ root_is_hashed g.H.LogHash.hash (entries_of c.loop-first.part.now)
           ∙ c.loop-first.invariant.roots ∙ sym (root_is_hashed g.H.LogHash.hash (entries_of c.loop-first.other_part.now))
           ∙ sym (ap g.H.LogHash.hash c.in_ok-second.ensures);
     }
@@ -47,7 +48,8 @@ loop-first-preserved g c =
     let i = c.split-in-loop-first.ensures.value in
     let left = left_entries c.loop-first.part.now c.split_at.result.0.now c.split.result k c.split_at.ensures.front in
     let right = right_entries c.loop-first.part.now c.split_at.result.1.now c.split.result k c.split_at.ensures.back in
-    let other_left = left_entries c.loop-first.other_part.now c.split_at-in-loop-first.result.0.now c.split-in-loop-first.result
+    let other_left = left_entries c.loop-first.other_part.now c.split_at-in-loop-first.result.0.now
+    c.split-in-loop-first.result
     i
     c.split_at-in-loop-first.ensures.front in
     let other_right = right_entries c.loop-first.other_part.now c.split_at-in-loop-first.result.1.now
@@ -58,7 +60,8 @@ loop-first-preserved g c =
         roots = rw (w.part-is, w.other_part-is, ← right, ← other_right) h.right;
         differ = λ s. let rest = rw (w.part-is, w.other_part-is) at s in
             let lefts = c.are_equal-in-loop-first.ensures.0 w.if-are_equal-2.true in
-            c.loop-first.invariant.differ (same_list (entries_of c.loop-first.part.now) (entries_of c.loop-first.other_part.now)
+            c.loop-first.invariant.differ (same_list (entries_of c.loop-first.part.now)
+            (entries_of c.loop-first.other_part.now)
             (left ∙ lefts ∙ sym other_left) (right ∙ rest ∙ sym other_right));
       }
       | else-are_equal-2 w ↦ record {
