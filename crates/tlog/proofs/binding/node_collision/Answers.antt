@@ -2,8 +2,7 @@
 use Rattle.std.proofs.Common.{◌≡◌, length, ap, sym, ◌∙◌, arith}
 use Rattle.std.specs.Cmp.Lexicographic.{bytes_decides}
 use Rattle.tlog.proofs.Accepted.{equal}
-use Rattle.tlog.proofs.TwoWalks.{unequal}
-use Rattle.tlog.proofs.TwoWalks.{children}
+use Rattle.tlog.proofs.TwoWalks.{children, unequal}
 use Rattle.tlog.proofs.binding.node_collision.Goals.{else-eq-via-then-eq+else-eq-2, else-eq-via-else-eq}
 use Rattle.tlog.proofs.binding.node_collision.Goals as goal
 
