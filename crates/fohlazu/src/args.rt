@@ -150,7 +150,8 @@ pub(crate) fn parse_args<'a>(
     Ok((command, args))
 }
 
-/// Checks that each argument that begins with `-` is an option of the command. What clap says of others misleads.
+/// Checks that each argument that begins with `-` is an option of the command, else `Word` for the first that is none.
+/// What clap says of others misleads.
 fn check_options(words: &[String]) -> Result<(), ArgsError<'_>> {
     let command = words.get(1).map_or("", |word| word.as_str());
     let row = COMMANDS.into_iter().find(|row| row.0 == command);
@@ -242,7 +243,7 @@ impl<'a> Args<'a> {
         self.found.get_str("output").filter(|name| *name != "-")
     }
 
-    /// Checks that no input is the output, and at most one is standard input.
+    /// Checks that at most one input is standard input, else `Refused`; and that no input is the output, else `Word`.
     fn check_inputs(&self, alloc: Global) -> Result<(), ArgsError<'a>> {
         let mut names = Vec::new(alloc);
         for id in ["CHECKPOINT", "OLD", "NEW", "FILE", "PROOF", "PART"] {
@@ -317,7 +318,7 @@ impl<'a> Args<'a> {
         }
     }
 
-    /// The entries that are requested of a proof.
+    /// The entries that are requested of a proof, or why they can't be: `Word` for a number or range that is none.
     fn requested(&self, alloc: Global) -> Result<Requested, ArgsError<'a>> {
         if self.found.get_strs("NUMBER").is_none() {
             self.state.lacks_numbers.set(true);
@@ -363,7 +364,7 @@ impl<'a> Args<'a> {
 }
 
 /// Appends the ranges that a word names, numbers and ranges with commas between, to ranges that have `count` numbers.
-/// Returns how many they have then.
+/// Returns how many they have then; `Word` if the word names none, or there are too many.
 fn add_ranges<'a>(
     ranges: &mut Vec<Range>,
     count: usize,
@@ -382,7 +383,7 @@ fn add_ranges<'a>(
     Ok(count)
 }
 
-/// The first and the last number of a range, as `3-7`, or of one number.
+/// The first and the last number of a range, as `3-7`, or of one number; or why a text is none.
 fn range_of(range: &str) -> Result<(usize, usize), &'static str>
     ensures { IfOk result (λ (first, last). first ≤ last) }
 {

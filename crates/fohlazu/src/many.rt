@@ -40,7 +40,7 @@ pub(crate) fn count_of(ranges: &[Range]) -> usize {
     count
 }
 
-/// The numbers of ranges, one range after another.
+/// The numbers of ranges, one range after another. `AllocError` if memory runs out.
 pub(crate) fn numbers_in(alloc: Global, ranges: &[Range]) -> Result<Vec<usize>, AllocError> {
     let mut numbers = Vec::with_capacity(alloc, count_of(ranges))?;
     for (first, last) in ranges {

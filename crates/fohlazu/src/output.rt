@@ -77,7 +77,7 @@ impl<'a> Replacement<'a> {
         self.failure.map_or(Ok(()), Err)
     }
 
-    /// Renames the file that is written, once the disk has it.
+    /// Renames the file that is written, once the disk has it. The error is that of the system call that failed.
     fn put(&self) -> io::Result<()> {
         let Some((name, file)) = &self.written else {
             return Ok(());
@@ -99,7 +99,7 @@ impl<'a> Replacement<'a> {
         }
     }
 
-    /// The file that is written, which the first call creates.
+    /// The file that is written, which the first call creates. The error is that of the system call that failed.
     fn file(&mut self) -> io::Result<&mut File> {
         let rt = self.rt;
         let place = self.place.as_path();

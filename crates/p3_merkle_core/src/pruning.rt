@@ -119,7 +119,7 @@ pub fn check_indices(max_height: usize, indices: &[usize]) -> Result<(), MerkleT
 }
 
 /// The distinct indices, ascending, and the slot of each query, in query order. `indices` has the index of each query.
-/// `sorted` must have each query once, as its index and its position, ascending.
+/// `sorted` must have each query once, as its index and its position, ascending. `AllocError` if memory runs out.
 fn distinct_slots(
     alloc: Global,
     sorted: &[(usize, usize)],
@@ -143,7 +143,8 @@ fn distinct_slots(
     Ok((distinct, slots))
 }
 
-/// The distinct indices of some queries, with the first query of each, and the slot of each query.
+/// The distinct indices of some queries, with the first query of each, and the slot of each query. `AllocError` if
+/// memory runs out.
 fn distinct_queries_of(alloc: Global, queries: &[usize]) -> Result<DistinctQueries, AllocError>
     ensures { IfOk result (λ queried. AreDistinctOf queried queries.now) }
 {
@@ -363,8 +364,9 @@ pub fn check_pruned<T: Eq>(
     Ok(queried)
 }
 
-/// Checks, in this order: the heights; that there is a row set for each index; that there is no digest where there is
-/// no index; and that each index is below the tallest height. It does not allocate.
+/// Checks, in this order: the heights; that there is a row set for each index; that there is no digest if there is no
+/// index; and that each index is below the tallest height. Returns the first error that [`check_pruned`] lists for
+/// these. It does not allocate.
 fn check_queries(
     schedule: &Schedule<'_>,
     indices: &[usize],

@@ -82,7 +82,7 @@ fn pick_matrices<'a, T, M: Matrix<T>>(
     picked.extend(matrices.iter().filter(|matrix| matrix.height() == height))
 }
 
-/// A list of `count` default digests.
+/// A list of `count` default digests. `AllocError` if memory runs out.
 fn default_digests<PW: PackedValue, const D: usize>(
     alloc: Global,
     count: usize,
@@ -117,7 +117,7 @@ impl<
     ghost use Rattle.p3_merkle_prover.specs.Inner.Slots.{batch_for, functions_for, layer_above};
 
     /// The leaves: the digests of the rows of the tallest matrices, then default digests. `picked` and `buffers` are
-    /// scratch memory that all layers share.
+    /// scratch memory that all layers share. `AllocError` if memory runs out.
     fn leaf_layer(
         &self,
         alloc: Global,
@@ -140,7 +140,7 @@ impl<
     }
 
     /// The layer above `below`, of the shape `level`. `below` must have the children of each of its nodes. `picked` and
-    /// `buffers` are scratch memory that all layers share.
+    /// `buffers` are scratch memory that all layers share. `AllocError` if memory runs out.
     fn next_layer(
         &self,
         alloc: Global,

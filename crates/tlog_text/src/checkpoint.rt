@@ -105,7 +105,8 @@ fn origin_of(line: &[u8]) -> Option<&str>
     is_origin(text).then_some(text)
 }
 
-/// Reads past a blank line and 1 to 100 signatures, if anything is left, and returns what follows them.
+/// Reads past a blank line and 1 to 100 signatures, if anything is left, and returns what follows them. Else the error
+/// says what is missing.
 #[tactic(auto, unfolding(crate::specs::Reading::signatures_by))]
 fn skip_signatures(left: &[u8]) -> Result<&[u8], Stop>
     ensures { result_map_both (λ rest. rest.now) (λ stop. stop) result ≡ rest_of (signatures_by left.now) }
@@ -119,7 +120,8 @@ fn skip_signatures(left: &[u8]) -> Result<&[u8], Stop>
     skip_lines(left, Expected::Signature, 99)
 }
 
-/// Reads what stands after an origin: the size, the root, and what may follow them.
+/// Reads what stands after an origin: the size, the root, and what may follow them. Where these do not stand, the error
+/// says what is missing.
 #[tactic(auto, unfolding(crate::specs::Reading::after_origin, crate::specs::Reading::extensions_by))]
 fn after_origin<'a>(origin: &'a str, left: &[u8]) -> Result<Checkpoint<'a>, Stop>
     ensures { result_map_both checkpoint_fields (λ stop. stop) result ≡ after_origin origin.entry.now left.now }

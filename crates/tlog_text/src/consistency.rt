@@ -54,7 +54,7 @@ impl<'a> ConsistencyProof<'a> {
     }
 }
 
-/// Reads a consistency proof.
+/// Reads a consistency proof. Where it is none, the error says what is missing.
 #[tactic(auto, unfolding(crate::specs::Reading::consistency_by))]
 fn consistency_by(alloc: Global, text: &[u8]) -> Result<ConsistencyProof<'_>, Stop>
     ensures read { IfOk result (λ proof. consistency_by text.now ≡ Ok (consistency_fields proof)) }

@@ -112,7 +112,7 @@ pub fn check_indices(max_height: usize, indices: &[usize]) -> Result<(), MerkleT
 }
 
 /// The distinct indices, ascending, and the slot of each query, in query order. `indices` has the index of each query.
-/// `sorted` must have each query once, as its index and its position, ascending.
+/// `sorted` must have each query once, as its index and its position, ascending. `AllocError` if memory runs out.
 #[inline]
 fn distinct_slots(sorted: &[(usize, usize)], indices: &[usize]) -> Result<(Vec<usize>, Vec<usize>), AllocError> {
     let mut distinct = Vec::with_room(sorted.len())?;
@@ -129,7 +129,8 @@ fn distinct_slots(sorted: &[(usize, usize)], indices: &[usize]) -> Result<(Vec<u
     Ok((distinct, slots))
 }
 
-/// The distinct indices of some queries, with the first query of each, and the slot of each query.
+/// The distinct indices of some queries, with the first query of each, and the slot of each query. `AllocError` if
+/// memory runs out.
 #[inline]
 fn distinct_queries_of(queries: &[usize]) -> Result<DistinctQueries, AllocError> {
     let mut sorted = Vec::with_room(queries.len())?;
@@ -295,8 +296,9 @@ pub(crate) fn check_pruned<T: Eq>(
     Ok(queried)
 }
 
-/// Checks, in this order: the heights; that there is a row set for each index; that there is no digest where there is
-/// no index; and that each index is below the tallest height. It does not allocate.
+/// Checks, in this order: the heights; that there is a row set for each index; that there is no digest if there is no
+/// index; and that each index is below the tallest height. Returns the first error that [`check_pruned`] lists for
+/// these. It does not allocate.
 #[inline]
 fn check_queries(
     schedule: &Schedule<'_>,

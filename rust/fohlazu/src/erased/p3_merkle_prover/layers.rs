@@ -69,7 +69,7 @@ fn pick_matrices<'a, T, M: Matrix<T>>(
     picked.try_extend(matrices.iter().filter(|matrix| matrix.height() == height))
 }
 
-/// A list of `count` default digests.
+/// A list of `count` default digests. `AllocError` if memory runs out.
 fn default_digests<PW: PackedValue, const D: usize>(count: usize) -> Result<Vec<[PW::Value; D]>, AllocError> {
     let mut digests = Vec::new();
     digests.try_resize(count, [PW::Value::default(); D])?;
@@ -88,7 +88,7 @@ impl<
 > MerkleTreeBuilder<'a, P, PW, H, C, M, N, D>
 {
     /// The leaves: the digests of the rows of the tallest matrices, then default digests. `picked` and `buffers` are
-    /// scratch memory that all layers share.
+    /// scratch memory that all layers share. `AllocError` if memory runs out.
     fn leaf_layer(
         &self,
         picked: &mut Vec<&'a M>,
@@ -103,7 +103,7 @@ impl<
     }
 
     /// The layer above `below`, of the shape `level`. `below` must have the children of each of its nodes. `picked` and
-    /// `buffers` are scratch memory that all layers share.
+    /// `buffers` are scratch memory that all layers share. `AllocError` if memory runs out.
     fn next_layer(
         &self,
         picked: &mut Vec<&'a M>,
