@@ -127,6 +127,7 @@ fn padding_word(width: usize, n: usize) -> u32
     }
     // The padding ends with the message's length in bits, here modulo 2^64: the standard leaves out longer messages.
     let bits = width.wrapping_mul(8);
+    // Its higher 32 bits are the last word but one, and its lower 32 bits the last.
     if at + 4 < end {
         return (bits / 4_294_967_296) as u32;
     }
