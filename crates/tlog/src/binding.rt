@@ -164,7 +164,7 @@ pub fn leaf_collision<H: LogHash<D>, const D: usize>(
         return Ok(None);
     }
     let honest = inclusion_proof::<H, D>(alloc, entries, index)?;
-    let root = root::<H, D>(entries);
+    let own_root = root::<H, D>(entries);
     proof_collision::<H, D>(
         alloc,
         index,
@@ -173,7 +173,7 @@ pub fn leaf_collision<H: LogHash<D>, const D: usize>(
         proof,
         &expected,
         &honest,
-        &root,
+        &own_root,
     )
 }
 

@@ -136,8 +136,8 @@ pub fn leaf_collision<H: LogHash<D>, const D: usize>(
         return Ok(None);
     }
     let honest = inclusion_proof::<H, D>(entries, index)?;
-    let root = root::<H, D>(entries);
-    proof_collision::<H, D>(index, entries.len(), leaf, proof, &expected, &honest, &root)
+    let own_root = root::<H, D>(entries);
+    proof_collision::<H, D>(index, entries.len(), leaf, proof, &expected, &honest, &own_root)
 }
 
 /// A collision, if a proof of inclusion of `entry` at `index`, counted from 0, is accepted under the root of the
