@@ -24,6 +24,11 @@ def uses(text: str) -> list[tuple[str, str]]:
     return found
 
 
+def renamed(text: str) -> dict[str, str]:
+    """The names that a file gives on under another name, by that which they have in its sources."""
+    return dict(re.findall(r"(\w+) as (\w+)", "".join(re.findall(r"pub use [^;]*;", text))))
+
+
 def exported(facade: Path, crates: Path, names: list[str]) -> set[str]:
     """The names that the package exports, each where it is defined: lib.rs may take them from a crate's root."""
     given_on = {}
@@ -52,6 +57,7 @@ def package_of(crates: Path) -> Package:
         defaults=settings["defaults"],
         known=settings["known"],
         exported=exported(FACADE, crates, settings["crates"]),
+        renamed=renamed(FACADE.read_text(encoding="utf-8")),
         internal=set(settings["internal"]),
         conditions=settings["conditions"],
         laws=settings["laws"],

@@ -1,10 +1,12 @@
 -- Steps of the fold functions.
 use Rattle.std.proofs.Common.{◌≡◌, ℕ, ◌+◌, ◌*◌, ◌%◌, ◌^◌, ◌<◌, List, [], ◌∷◌, ◌++◌, length, map, take, get_or, ap, ◌∙◌}
-use Rattle.std.proofs.Common.{arith}
+use Rattle.std.proofs.Common.{arith, sym}
 use Rattle.std.proofs.lemmas.List.{take_more, map-append, length-map, length-take-le}
 use Rattle.std.proofs.lemmas.List.Sums.{fold-append}
 use Rattle.std.proofs.lemmas.Simd.{map-map}
 use Rattle.std.specs.List.{fold, enumerate_from}
+use Rattle.p3_support.specs.Lists.{lane_of}
+use Rattle.p3_support.proofs.LaneReads.{single_lane}
 use Rattle.p3_hashes.specs.Fold.{take_in, fold_hash, mix_in, placed_elements}
 
 -- a digest that takes in more words is that of all of them
@@ -42,6 +44,16 @@ placed_more e i children d below =
     ∙ ap (fold mix_in 0) (enumerate_from-append 0 (map of so_far) (of (get_or children i d)))
     ∙ fold-append mix_in 0 (placed_elements e so_far) ((0 + length (map of so_far), of (get_or children i d)) ∷ [])
     ∙ ap (λ j. mix_in (fold mix_in 0 (placed_elements e so_far)) (j, of (get_or children i d))) count
+
+-- what a value alone in its lane absorbs
+pub absorbed_alone : (new old words : List ℕ)
+    → lane_of (λ x. x ∷ []) 0 0 new
+    ≡ map (λ s. fold take_in s (lane_of (λ x. x ∷ []) 0 0 words)) (lane_of (λ x. x ∷ []) 0 0 old)
+    → new ≡ map (λ s. fold take_in s words) old
+absorbed_alone new old words absorbed =
+    sym (single_lane 0 new) ∙ absorbed
+    ∙ ap (λ l. map (λ s. fold take_in s l) (lane_of (λ x. x ∷ []) 0 0 old)) (single_lane 0 words)
+    ∙ ap (map (λ s. fold take_in s words)) (single_lane 0 old)
 
 -- elements that take in one more word of a slice
 pub absorbed_more : (words state : List ℕ) (i : ℕ) → i < length words

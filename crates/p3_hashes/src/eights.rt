@@ -1,17 +1,20 @@
 //! The fold functions of many messages and of many groups, eight at a time, each in a lane of its own. `messages` has
 //! messages of `width` words, one after another; column `c` is word `c` of each. A group is `N` digests, its children.
+//! The number after the last of a call's eight messages must fit `usize`: so it does in each call, since memory has all
+//! of them, or `out` has a place for each.
 ghost use Rattle.std.specs.Prelude.{◌≡◌, ℕ, ◌+◌, ◌*◌, ◌/◌, ◌^◌, ◌<◌, ◌≤◌, [], length, map, slice_index_or, slice_range};
 ghost use Rattle.std.specs.Prelude.{take};
-ghost use Rattle.std.specs.List.{fold as folded};
 ghost use Rattle.p3_support.specs.Lists.{lane_of, message as message_of};
 ghost use Rattle.p3_hashes.specs.Inner.Eights.{lanes_of};
 ghost use Rattle.p3_hashes.specs.Inner.Turned.{turned};
 ghost use Rattle.sha256_eights.specs.Inner.Written.{AreWritten};
-ghost use Rattle.p3_hashes.specs.Fold.{fold_hash, fold_compress, take_in};
+ghost use Rattle.p3_hashes.specs.Fold.{fold_hash, fold_compress};
 
-use crate::fold::{FoldLane, absorb, compress_group, compress_lanes, hash_words, initial_state};
+use crate::fold::{
+    FoldPacked, absorb, absorb_words, compress_group, compress_lanes, hash_words, initial_state,
+};
 use crate::lanes::{U32x8, transpose};
-use p3_support::packed::{lemma_rows, pack_columns_fn, unpack_at};
+use p3_support::packed::{PackedValue, lemma_rows, pack_columns_fn, unpack_at};
 use std::simd::prelude::*;
 
 /// The longest digest, in words, for which eight messages are hashed together. A longer one leaves no registers for the
@@ -21,15 +24,16 @@ const MOST_HASHED: usize = 4;
 /// The longest digest, in words, for which eight groups are compressed together. A longer one fills vectors by itself.
 const MOST_COMPRESSED: usize = 1;
 
-/// Packs word `column` of `P::WIDTH` messages: lane `k` is from message `first + k`.
-fn column_of<P: FoldLane>(messages: &[u32], width: usize, first: usize, column: usize) -> P
-    requires full { (n : ℕ) × (first + P.WIDTH ≤ n) × (length messages.now ≡ n * width) }
-    requires fits { first + P.WIDTH < 2 ^ 64 }
+/// Packs word `column` of eight messages: lane `k` is from message `first + k`. `messages` must have all eight, and
+/// each must have the word.
+fn column_of(messages: &[u32], width: usize, first: usize, column: usize) -> U32x8
+    requires full { (n : ℕ) × (first + 8 ≤ n) × (length messages.now ≡ n * width) }
+    requires fits { first + 8 < 2 ^ 64 }
     requires inside { column < width }
-    ensures { (k : ℕ) → k < P.WIDTH → slice_index_or (P.lanes result) k P.default_value
+    ensures { (k : ℕ) → k < 8 → slice_index_or (lanes_of result) k 0
         ≡ slice_index_or (message_of width messages.now (first + k)) column 0 }
 {
-    P::from_fn(
+    U32x8::from_fn(
         |k| -> u32
             requires full { (n : ℕ) × (first + k < n) × (length messages.now ≡ n * width) }
             requires fits { first + k < 2 ^ 64 }
@@ -39,21 +43,21 @@ fn column_of<P: FoldLane>(messages: &[u32], width: usize, first: usize, column: 
     )
 }
 
-/// Absorbs the columns from `from` on of `P::WIDTH` messages, one a lane, from message `first` on. The state has
-/// absorbed the columns ahead of them.
-fn absorb_columns<P: FoldLane, const D: usize>(
-    state: &mut [P; D],
+/// Absorbs the columns `from..width` of the eight messages from `first` on, one message a lane. The state must have
+/// absorbed the columns before `from`.
+fn absorb_columns<const D: usize>(
+    state: &mut [U32x8; D],
     messages: &[u32],
     width: usize,
     first: usize,
     from: usize,
 )
-    requires full { (n : ℕ) × (first + P.WIDTH ≤ n) × (length messages.now ≡ n * width) }
-    requires fits { first + P.WIDTH < 2 ^ 64 }
+    requires full { (n : ℕ) × (first + 8 ≤ n) × (length messages.now ≡ n * width) }
+    requires fits { first + 8 < 2 ^ 64 }
     requires inside { from ≤ width }
-    requires before { (k : ℕ) → k < P.WIDTH → lane_of P.lanes P.default_value k state.old
+    requires before { (k : ℕ) → k < 8 → lane_of lanes_of 0 k state.old
         ≡ fold_hash D (take from (message_of width messages.now (first + k))) }
-    ensures { (k : ℕ) → k < P.WIDTH → lane_of P.lanes P.default_value k state.new
+    ensures { (k : ℕ) → k < 8 → lane_of lanes_of 0 k state.new
         ≡ fold_hash D (message_of width messages.now (first + k)) }
 {
     for column in from..width {
@@ -61,19 +65,7 @@ fn absorb_columns<P: FoldLane, const D: usize>(
     }
 }
 
-/// Absorbs packed words into the state, one after another.
-fn absorb_words<P: FoldLane, const D: usize>(state: &mut [P; D], words: &[P])
-    ensures { (k : ℕ) → k < P.WIDTH →
-        lane_of P.lanes P.default_value k state.new
-        ≡ map (λ s. folded take_in s (lane_of P.lanes P.default_value k words.now))
-        (lane_of P.lanes P.default_value k state.old) }
-{
-    for word in words {
-        absorb(state, *word);
-    }
-}
-
-/// Words `column` to `column + 3` of message `message`, which must have them.
+/// Words `column` to `column + 3` of message `message`. `messages` must have the message, and the message these words.
 fn words_at(messages: &[u32], width: usize, message: usize, column: usize) -> &[u32]
     requires full { (n : ℕ) × (message < n) × (length messages.now ≡ n * width) }
     requires inside { column + 4 ≤ width }
@@ -85,7 +77,7 @@ fn words_at(messages: &[u32], width: usize, message: usize, column: usize) -> &[
 }
 
 /// The columns `column` to `column + 3` of the messages `first` to `first + 3`: vector `i` is column `column + i`, and
-/// its lane `k` is from message `first + k`.
+/// its lane `k` is from message `first + k`. `messages` must have these messages, and each must have these columns.
 fn columns_of_four(messages: &[u32], width: usize, first: usize, column: usize) -> [u32x4; 4]
     requires full { (n : ℕ) × (first + 4 ≤ n) × (length messages.now ≡ n * width) }
     requires fits { first + 4 < 2 ^ 64 }
@@ -105,7 +97,7 @@ fn columns_of_four(messages: &[u32], width: usize, first: usize, column: usize) 
 }
 
 /// The columns `column` to `column + 3` of the messages `first` to `first + 7`: vector `i` is column `column + i`, and
-/// its lane `k` is from message `first + k`.
+/// its lane `k` is from message `first + k`. `messages` must have these messages, and each must have these columns.
 fn columns_of_eight(messages: &[u32], width: usize, first: usize, column: usize) -> [U32x8; 4]
     requires full { (n : ℕ) × (first + 8 ≤ n) × (length messages.now ≡ n * width) }
     requires fits { first + 8 < 2 ^ 64 }
@@ -123,8 +115,8 @@ fn columns_of_eight(messages: &[u32], width: usize, first: usize, column: usize)
     ]
 }
 
-/// Absorbs eight messages into the state, one a lane, from message `first` on, four columns at a time. The columns
-/// after the last whole four are left out.
+/// Absorbs the eight messages from `first` on, one a lane, four columns at a time. The columns after the last whole
+/// four are left out. The state must be the initial one.
 fn absorb_fours<const D: usize>(
     state: &mut [U32x8; D],
     messages: &[u32],
@@ -142,7 +134,8 @@ fn absorb_fours<const D: usize>(
     }
 }
 
-/// The digests of eight messages of `width` words each: lane `k` is that of message `first + k`.
+/// The digests of eight messages of `width` words each: lane `k` is that of message `first + k`. `messages` must have
+/// all eight.
 fn hash_eight<const D: usize>(messages: &[u32], width: usize, first: usize) -> [U32x8; D]
     requires full { (n : ℕ) × (first + 8 ≤ n) × (length messages.now ≡ n * width) }
     requires fits { first + 8 < 2 ^ 64 }
@@ -154,19 +147,21 @@ fn hash_eight<const D: usize>(messages: &[u32], width: usize, first: usize) -> [
     state
 }
 
-/// Writes the digest of message `i` into `out[i]`, eight at a time, up to the last whole eight.
+/// Writes the digest of message `i` into `out[i]`, eight at a time, up to the last whole eight. `messages` must have as
+/// many messages as `out` has places.
 fn hash_eights<const D: usize>(messages: &[u32], width: usize, out: &mut [[u32; D]])
     requires { length messages.now ≡ length out.old * width }
     ensures { let eights = 8 * (length out.old / 8) in
         AreWritten (λ j d. d ≡ fold_hash D (message_of width messages.now j)) 0 eights out.old out.new }
 {
-    for group in 0..out.len() / 8 {
-        let digests: [U32x8; D] = hash_eight(messages, width, 8 * group);
-        unpack_at(&digests, out, 8 * group);
+    for eight in 0..out.len() / 8 {
+        let digests: [U32x8; D] = hash_eight(messages, width, 8 * eight);
+        unpack_at(&digests, out, 8 * eight);
     }
 }
 
-/// Writes the digest of message `i` into `out[i]`, one by one, from message `from` on.
+/// Writes the digest of message `i` into `out[i]`, one by one, from message `from` on. `messages` must have as many
+/// messages as `out` has places, and `from` must be at most their number.
 fn hash_rest<const D: usize>(messages: &[u32], width: usize, from: usize, out: &mut [[u32; D]])
     requires full { length messages.now ≡ length out.old * width }
     requires inside { from ≤ length out.old }
@@ -178,7 +173,7 @@ fn hash_rest<const D: usize>(messages: &[u32], width: usize, from: usize, out: &
     }
 }
 
-/// Writes the digest of message `i` into `out[i]`, for as many messages as `out` has places.
+/// Writes the digest of message `i` into `out[i]`. `messages` must have as many messages as `out` has places.
 pub(crate) fn hash_all<const D: usize>(messages: &[u32], width: usize, out: &mut [[u32; D]])
     requires { length messages.now ≡ length out.old * width }
     ensures { AreWritten (λ j d. d ≡ fold_hash D (message_of width messages.now j)) 0 (length out.old) out.old out.new }
@@ -191,8 +186,8 @@ pub(crate) fn hash_all<const D: usize>(messages: &[u32], width: usize, out: &mut
     hash_rest(messages, width, 8 * (out.len() / 8), out);
 }
 
-/// Packs child `place` of `P::WIDTH` groups: lane `k` is from group `first + k`.
-fn pack_child<P: FoldLane, const N: usize, const D: usize>(
+/// Packs child `place`, below `N`, of `P::WIDTH` groups: lane `k` is from group `first + k`. `groups` must have these.
+fn pack_child<P: FoldPacked, const N: usize, const D: usize>(
     groups: &[[[u32; D]; N]],
     first: usize,
     place: usize,
@@ -212,8 +207,8 @@ fn pack_child<P: FoldLane, const N: usize, const D: usize>(
     )
 }
 
-/// Packs `P::WIDTH` groups: lane `k` is group `first + k`.
-fn pack_groups<P: FoldLane, const N: usize, const D: usize>(
+/// Packs `P::WIDTH` groups: lane `k` is group `first + k`. `groups` must have these.
+fn pack_groups<P: FoldPacked, const N: usize, const D: usize>(
     groups: &[[[u32; D]; N]],
     first: usize,
 ) -> [[P; D]; N]
@@ -232,7 +227,8 @@ fn pack_groups<P: FoldLane, const N: usize, const D: usize>(
     )
 }
 
-/// Writes the digest of group `i` into `out[i]`, eight at a time, up to the last whole eight.
+/// Writes the digest of group `i` into `out[i]`, eight at a time, up to the last whole eight. `out` must have as many
+/// places as there are groups.
 fn compress_eights<const N: usize, const D: usize>(groups: &[[[u32; D]; N]], out: &mut [[u32; D]])
     requires { length groups.now ≡ length out.old }
     ensures { let eights = 8 * (length out.old / 8) in
@@ -244,7 +240,8 @@ fn compress_eights<const N: usize, const D: usize>(groups: &[[[u32; D]; N]], out
     }
 }
 
-/// Writes the digest of group `i` into `out[i]`, one by one, from group `from` on.
+/// Writes the digest of group `i` into `out[i]`, one by one, from group `from` on. `out` must have as many places as
+/// there are groups, and `from` must be at most their number.
 fn compress_rest<const N: usize, const D: usize>(
     groups: &[[[u32; D]; N]],
     from: usize,
@@ -260,7 +257,7 @@ fn compress_rest<const N: usize, const D: usize>(
     }
 }
 
-/// Writes the digest of group `i` into `out[i]`, for as many groups as `out` has places.
+/// Writes the digest of group `i` into `out[i]`. `out` must have as many places as there are groups.
 pub(crate) fn compress_all<const N: usize, const D: usize>(
     groups: &[[[u32; D]; N]],
     out: &mut [[u32; D]],

@@ -13,7 +13,7 @@ use p3_support::packed::PackedValue;
 use std::convert::AsSlice;
 
 /// A packed value with lanes of 32 bits, and the arithmetic of the fold functions on all lanes together.
-pub trait FoldLane: PackedValue<Value = u32> {
+pub trait FoldPacked: PackedValue<Value = u32> {
     /// Lane by lane, `31 * self + word`, modulo 2^32.
     fn mul_31_add(self, word: Self) -> Self
         ensures { (k : ℕ) → k < Self.WIDTH →
@@ -27,7 +27,7 @@ pub trait FoldLane: PackedValue<Value = u32> {
             ≡ (slice_index_or (Self.lanes self) k Self.default_value + number) % 2 ^ 32 };
 }
 
-impl FoldLane for u32 {
+impl FoldPacked for u32 {
     fn mul_31_add(self, word: u32) -> u32 {
         self.wrapping_mul(31).wrapping_add(word)
     }
@@ -45,7 +45,7 @@ fn low_bits(index: usize) -> u32
 }
 
 /// The state before the first word, in each lane: element `e` is `1 + e`, modulo 2^32.
-pub(crate) fn initial_state<P: FoldLane, const D: usize>() -> [P; D]
+pub(crate) fn initial_state<P: FoldPacked, const D: usize>() -> [P; D]
     ensures { (k : ℕ) → k < P.WIDTH → lane_of P.lanes P.default_value k result ≡ fold_hash D [] }
 {
     std::array::from_fn(
@@ -56,7 +56,7 @@ pub(crate) fn initial_state<P: FoldLane, const D: usize>() -> [P; D]
 }
 
 /// Absorbs a word into the state, lane by lane: each element becomes `31 * element + word`, modulo 2^32.
-pub(crate) fn absorb<P: FoldLane, const D: usize>(state: &mut [P; D], word: P)
+pub(crate) fn absorb<P: FoldPacked, const D: usize>(state: &mut [P; D], word: P)
     ensures { (k : ℕ) → k < P.WIDTH →
         lane_of P.lanes P.default_value k state.new
         ≡ map (λ s. take_in s (slice_index_or (P.lanes word) k P.default_value))
@@ -67,17 +67,21 @@ pub(crate) fn absorb<P: FoldLane, const D: usize>(state: &mut [P; D], word: P)
     }
 }
 
-/// Absorbs the words of a slice into the state, one after another.
-fn absorb_slice<const D: usize>(state: &mut [u32; D], words: &[u32])
-    ensures { state.new ≡ map (λ s. folded take_in s words.now) state.old }
+/// Absorbs the words of a slice into the state, one after another, lane by lane.
+pub(crate) fn absorb_words<P: FoldPacked, const D: usize>(state: &mut [P; D], words: &[P])
+    ensures { (k : ℕ) → k < P.WIDTH →
+        lane_of P.lanes P.default_value k state.new
+        ≡ map (λ s. folded take_in s (lane_of P.lanes P.default_value k words.now))
+        (lane_of P.lanes P.default_value k state.old) }
 {
     for word in words {
         absorb(state, *word);
     }
 }
 
-/// The digests of `P::WIDTH` messages: lane `k` of the items is message `k`, and lane `k` of the result its digest.
-fn hash_lanes<P: FoldLane, I: Iterator<Item = P>, const D: usize>(input: I) -> [P; D]
+/// The digests of `P::WIDTH` messages: lane `k` of the items is message `k`, and lane `k` of the result its digest. The
+/// items must end, and `next` must be callable until then.
+fn hash_lanes<P: FoldPacked, I: Iterator<Item = P>, const D: usize>(input: I) -> [P; D]
     requires can { I.can_next input }
     requires ends { IsFinite (I.remaining input) }
     ensures { WholeRun I.next_gives input (λ p. (k : ℕ) → k < P.WIDTH → lane_of P.lanes P.default_value k result
@@ -95,7 +99,7 @@ pub(crate) fn hash_words<const D: usize>(words: &[u32]) -> [u32; D]
     ensures { result ≡ fold_hash D words.now }
 {
     let mut state = initial_state();
-    absorb_slice(&mut state, words);
+    absorb_words(&mut state, words);
     state
 }
 
@@ -104,7 +108,7 @@ pub(crate) fn hash_words<const D: usize>(words: &[u32]) -> [u32; D]
 #[derive(Clone, Copy, Debug)]
 pub struct FoldHash<const L: usize>;
 
-impl<P: FoldLane, const L: usize, const D: usize> CryptographicHasher<P, P, D> for FoldHash<L> {
+impl<P: FoldPacked, const L: usize, const D: usize> CryptographicHasher<P, P, D> for FoldHash<L> {
     const LANES: usize = L;
 
     const PREFER_CONTIGUOUS_INPUT: bool = false;
@@ -125,7 +129,7 @@ impl<P: FoldLane, const L: usize, const D: usize> CryptographicHasher<P, P, D> f
     ) -> [u32; D] {
         let mut state = initial_state();
         for words in input {
-            absorb_slice(&mut state, words.as_slice());
+            absorb_words(&mut state, words.as_slice());
         }
         state
     }
@@ -145,7 +149,7 @@ impl<P: FoldLane, const L: usize, const D: usize> CryptographicHasher<P, P, D> f
 
 /// Mixes the child at `place` into the digest, lane by lane: each element becomes `31 * element + child[e] + place`,
 /// modulo 2^32.
-fn mix<P: FoldLane, const D: usize>(digest: &mut [P; D], child: &[P; D], place: usize)
+fn mix<P: FoldPacked, const D: usize>(digest: &mut [P; D], child: &[P; D], place: usize)
     ensures long { length digest.new ≡ length digest.old }
     ensures each { (k e : ℕ) → k < P.WIDTH → e < D →
         slice_index_or (lane_of P.lanes P.default_value k digest.new) e 0
@@ -159,7 +163,7 @@ fn mix<P: FoldLane, const D: usize>(digest: &mut [P; D], child: &[P; D], place: 
 }
 
 /// The digests of `P::WIDTH` groups: lane `k` of `children` is group `k`, and lane `k` of the result its digest.
-pub(crate) fn compress_lanes<P: FoldLane, const N: usize, const D: usize>(
+pub(crate) fn compress_lanes<P: FoldPacked, const N: usize, const D: usize>(
     children: &[[P; D]; N],
 ) -> [P; D]
     ensures { (k : ℕ) → k < P.WIDTH → lane_of P.lanes P.default_value k result
@@ -184,8 +188,11 @@ pub(crate) fn compress_group<const N: usize, const D: usize>(children: &[[u32; D
 #[derive(Clone, Copy, Debug)]
 pub struct FoldCompress<const N: usize, const L: usize>;
 
-impl<P: FoldLane, const N: usize, const L: usize, const D: usize> PseudoCompressionFunction<P, N, D>
-    for FoldCompress<N, L> {
+impl<P: FoldPacked, const N: usize, const L: usize, const D: usize> PseudoCompressionFunction<
+    P,
+    N,
+    D,
+> for FoldCompress<N, L> {
     const LANES: usize = L;
 
     ghost compression = { λ c xs. fold_compress D xs };

@@ -4,7 +4,7 @@ ghost use Rattle.std.specs.Cmp.{unsigned_Decides};
 ghost use Rattle.p3_hashes.specs.Fold.{take_in};
 ghost use Rattle.p3_hashes.specs.Inner.Turned.{turned};
 
-use crate::fold::FoldLane;
+use crate::fold::FoldPacked;
 use p3_support::packed::PackedValue;
 use std::cmp::Eq;
 use std::simd::prelude::*;
@@ -56,7 +56,7 @@ impl<T: PackedValue<Value = T> + Default + Eq> PackedValue for Lanes<T> {
     ghost default_is_unique = { T.default_is_unique };
 }
 
-impl FoldLane for Lanes<u32> {
+impl FoldPacked for Lanes<u32> {
     fn mul_31_add(self, word: Lanes<u32>) -> Lanes<u32> {
         Lanes {
             first: self.first.wrapping_mul(31).wrapping_add(word.first),
@@ -136,7 +136,7 @@ impl PackedValue for U32x8 {
     ghost default_is_unique = { λ a h. h };
 }
 
-impl FoldLane for U32x8 {
+impl FoldPacked for U32x8 {
     fn mul_31_add(self, word: U32x8) -> U32x8 {
         U32x8 {
             lanes: self.lanes * u32x8::splat(31) + word.lanes,

@@ -1,8 +1,9 @@
--- Pruned openings, their refusals and collisions, worked out by the functions of `Examples`.
-use Rattle.std.specs.Prelude.{◌≡◌, ℕ, [], ◌∷◌, map, length, refl, Some, None, Ok, nat_eq}
+-- Pruned openings, worked out by the functions of `Examples`: the boundary, what is restored, the children of covered
+-- nodes and their values, refusals and collisions.
+use Rattle.std.specs.Prelude.{◌≡◌, ℕ, List, [], ◌∷◌, map, length, refl, Some, None, Ok, nat_eq}
 use Rattle.p3_support.specs.Lists.{is_among}
-use Rattle.p3_merkle_core.specs.Geometry.{exponent, layer_exponent, raw_len, leaves_under}
-use Rattle.p3_merkle_core.specs.Nodes.{node}
+use Rattle.p3_merkle_core.specs.Geometry.{Shape, exponent, layer_exponent, raw_len, leaves_under}
+use Rattle.p3_merkle_core.specs.Nodes.{Batch, node}
 use Rattle.p3_merkle_core.specs.Pruning.{boundary, honest_query, restored_node, restored_path}
 use Rattle.p3_merkle_core.specs.Inner.Covered.{covered_at}
 use Rattle.p3_merkle_core.specs.Inner.Children.{beside, children_under, siblings_on_path}
@@ -17,16 +18,36 @@ use Rattle.p3_merkle_core.specs.declared.error.MerkleTreeError.TheVariants.{Inco
 use Rattle.p3_merkle_core.specs.declared.error.MerkleTreeError.TheVariants.{MalformedPrunedProof, WrongBatchSize}
 use Rattle.p3_merkle_core.specs.declared.error.MerkleTreeError.TheVariants.{WrongWidth}
 
-leaves_of_four_queries : covered_at (narrow 2 (8 ∷ [])) (5 ∷ 1 ∷ 2 ∷ 1 ∷ []) 0 ≡ 1 ∷ 2 ∷ 5 ∷ []
+-- one matrix of eight rows
+abbrev eight_rows : Shape
+eight_rows = narrow 2 (8 ∷ [])
+
+-- and its rows
+abbrev one_to_eight : Batch ℕ
+one_to_eight = batch 2 (column (1 ∷ 2 ∷ 3 ∷ 4 ∷ 5 ∷ 6 ∷ 7 ∷ 8 ∷ []) ∷ [])
+
+-- four queries of it, two of them of one index, with their row sets and the digests of their boundary
+abbrev four_queries : List ℕ
+four_queries = 5 ∷ 1 ∷ 2 ∷ 1 ∷ []
+
+abbrev four_row_sets : List (List (List ℕ))
+four_row_sets = ((6 ∷ []) ∷ []) ∷ ((2 ∷ []) ∷ []) ∷ ((3 ∷ []) ∷ []) ∷ ((2 ∷ []) ∷ []) ∷ []
+
+abbrev four_digests : List (List ℕ)
+four_digests = (32 ∷ []) ∷ (35 ∷ []) ∷ (36 ∷ []) ∷ (1218 ∷ []) ∷ []
+
+-- ---- the boundary, and what is restored
+
+leaves_of_four_queries : covered_at eight_rows four_queries 0 ≡ 1 ∷ 2 ∷ 5 ∷ []
 unfolding exponent layer_exponent raw_len leaves_under
 leaves_of_four_queries = refl
 
 -- two queries under one node cover it once
-parents_of_four_queries : covered_at (narrow 2 (8 ∷ [])) (5 ∷ 1 ∷ 2 ∷ 0 ∷ []) 1 ≡ 0 ∷ 1 ∷ 2 ∷ []
+parents_of_four_queries : covered_at eight_rows (5 ∷ 1 ∷ 2 ∷ 0 ∷ []) 1 ≡ 0 ∷ 1 ∷ 2 ∷ []
 unfolding exponent layer_exponent raw_len leaves_under
 parents_of_four_queries = refl
 
-boundary_of_four_queries : boundary (narrow 2 (8 ∷ [])) (5 ∷ 1 ∷ 2 ∷ 1 ∷ []) 3 ≡ (0, 0) ∷ (0, 3) ∷ (0, 4) ∷ (1, 3) ∷ []
+boundary_of_four_queries : boundary eight_rows four_queries 3 ≡ (0, 0) ∷ (0, 3) ∷ (0, 4) ∷ (1, 3) ∷ []
 unfolding exponent layer_exponent raw_len leaves_under
 boundary_of_four_queries = refl
 
@@ -35,19 +56,19 @@ boundary_of_padding_slots : boundary (narrow 4 (2 ∷ [])) (0 ∷ []) 1 ≡ (0, 
 unfolding exponent layer_exponent raw_len leaves_under
 boundary_of_padding_slots = refl
 
-digests_for_three_of_8 : length (boundary (narrow 2 (8 ∷ [])) (1 ∷ 2 ∷ 5 ∷ []) 3) ≡ 4
+digests_for_three_of_8 : length (boundary eight_rows (1 ∷ 2 ∷ 5 ∷ []) 3) ≡ 4
 unfolding exponent layer_exponent raw_len leaves_under
 digests_for_three_of_8 = refl
 
-digests_for_one_of_8 : length (boundary (narrow 2 (8 ∷ [])) (5 ∷ []) 3) ≡ 3
+digests_for_one_of_8 : length (boundary eight_rows (5 ∷ []) 3) ≡ 3
 unfolding exponent layer_exponent raw_len leaves_under
 digests_for_one_of_8 = refl
 
-digests_for_all_of_8 : length (boundary (narrow 2 (8 ∷ [])) (0 ∷ 1 ∷ 2 ∷ 3 ∷ 4 ∷ 5 ∷ 6 ∷ 7 ∷ []) 3) ≡ 0
+digests_for_all_of_8 : length (boundary eight_rows (0 ∷ 1 ∷ 2 ∷ 3 ∷ 4 ∷ 5 ∷ 6 ∷ 7 ∷ []) 3) ≡ 0
 unfolding exponent layer_exponent raw_len leaves_under
 digests_for_all_of_8 = refl
 
-digests_for_none_of_8 : length (boundary (narrow 2 (8 ∷ [])) ([]) 3) ≡ 0
+digests_for_none_of_8 : length (boundary eight_rows [] 3) ≡ 0
 unfolding exponent layer_exponent raw_len leaves_under
 digests_for_none_of_8 = refl
 
@@ -65,15 +86,11 @@ digests_for_both_of_2_at_4 : length (boundary (narrow 4 (2 ∷ [])) (0 ∷ 1 ∷
 unfolding exponent layer_exponent raw_len leaves_under
 digests_for_both_of_2_at_4 = refl
 
-digests_of_four_queries :
-    (honest_query example (batch 2 (column (1 ∷ 2 ∷ 3 ∷ 4 ∷ 5 ∷ 6 ∷ 7 ∷ 8 ∷ []) ∷ [])) 3
-    (5 ∷ 1 ∷ 2 ∷ 1 ∷ [])).digests ≡ (32 ∷ []) ∷ (35 ∷ []) ∷ (36 ∷ []) ∷ (1218 ∷ []) ∷ []
+digests_of_four_queries : (honest_query example one_to_eight 3 four_queries).digests ≡ four_digests
 unfolding exponent layer_exponent raw_len node leaves_under
 digests_of_four_queries = refl
 
-digests_under_a_cap_of_two :
-    (honest_query example (batch 2 (column (1 ∷ 2 ∷ 3 ∷ 4 ∷ 5 ∷ 6 ∷ 7 ∷ 8 ∷ []) ∷ [])) 2
-    (1 ∷ 2 ∷ 5 ∷ [])).digests ≡ (32 ∷ []) ∷ (35 ∷ []) ∷ (36 ∷ []) ∷ (1218 ∷ []) ∷ []
+digests_under_a_cap_of_two : (honest_query example one_to_eight 2 (1 ∷ 2 ∷ 5 ∷ [])).digests ≡ four_digests
 unfolding exponent layer_exponent raw_len node leaves_under
 digests_under_a_cap_of_two = refl
 
@@ -83,29 +100,29 @@ unfolding exponent layer_exponent raw_len node leaves_under
 digests_of_padding_slots = refl
 
 root_restored_from_four_queries :
-    restored_node (params example (narrow 2 (8 ∷ [])) 3)
-    (pruned (5 ∷ 1 ∷ 2 ∷ 1 ∷ []) (((6 ∷ []) ∷ []) ∷ ((2 ∷ []) ∷ []) ∷ ((3 ∷ []) ∷ []) ∷ ((2 ∷ []) ∷ []) ∷ [])
-    ((32 ∷ []) ∷ (35 ∷ []) ∷ (36 ∷ []) ∷ (1218 ∷ []) ∷ [])) 3 0 ≡ 1056801 ∷ []
+    restored_node (params example eight_rows 3)
+    (pruned four_queries four_row_sets four_digests) 3 0 ≡ 1056801 ∷ []
 unfolding exponent layer_exponent raw_len leaves_under restored_node
 root_restored_from_four_queries = refl
 
 paths_restored_from_four_queries :
-    map (restored_path (params example (narrow 2 (8 ∷ [])) 3)
-    (pruned (5 ∷ 1 ∷ 2 ∷ 1 ∷ []) (((6 ∷ []) ∷ []) ∷ ((2 ∷ []) ∷ []) ∷ ((3 ∷ []) ∷ []) ∷ ((2 ∷ []) ∷ []) ∷ [])
-    ((32 ∷ []) ∷ (35 ∷ []) ∷ (36 ∷ []) ∷ (1218 ∷ []) ∷ []))) (5 ∷ 1 ∷ 2 ∷ [])
+    map (restored_path (params example eight_rows 3)
+    (pruned four_queries four_row_sets four_digests)) (5 ∷ 1 ∷ 2 ∷ [])
     ≡ ((36 ∷ []) ∷ (1218 ∷ []) ∷ (32897 ∷ []) ∷ []) ∷ ((32 ∷ []) ∷ (1090 ∷ []) ∷ (36993 ∷ []) ∷ [])
     ∷ ((35 ∷ []) ∷ (1026 ∷ []) ∷ (36993 ∷ []) ∷ []) ∷ []
 unfolding exponent layer_exponent raw_len leaves_under restored_node
 paths_restored_from_four_queries = refl
 
 paths_restored_from_a_wrong_digest :
-    map (restored_path (params example (narrow 2 (8 ∷ [])) 3)
-    (pruned (5 ∷ 1 ∷ 2 ∷ 1 ∷ []) (((6 ∷ []) ∷ []) ∷ ((2 ∷ []) ∷ []) ∷ ((3 ∷ []) ∷ []) ∷ ((2 ∷ []) ∷ []) ∷ [])
+    map (restored_path (params example eight_rows 3)
+    (pruned four_queries four_row_sets
     ((31 ∷ []) ∷ (35 ∷ []) ∷ (36 ∷ []) ∷ (1218 ∷ []) ∷ []))) (5 ∷ 1 ∷ 2 ∷ [])
     ≡ ((36 ∷ []) ∷ (1218 ∷ []) ∷ (31936 ∷ []) ∷ []) ∷ ((31 ∷ []) ∷ (1090 ∷ []) ∷ (36993 ∷ []) ∷ [])
     ∷ ((35 ∷ []) ∷ (995 ∷ []) ∷ (36993 ∷ []) ∷ []) ∷ []
 unfolding exponent layer_exponent raw_len leaves_under restored_node
 paths_restored_from_a_wrong_digest = refl
+
+-- ---- the children of covered nodes
 
 children_of_two_parents : children_under 2 (0 ∷ 2 ∷ []) ≡ 0 ∷ 1 ∷ 4 ∷ 5 ∷ []
 children_of_two_parents = refl
@@ -114,6 +131,8 @@ values_of_covered_children : beside {X = ℕ} (is_among (1 ∷ 5 ∷ [])) (0 ∷
     ≡ 31 ∷ 35 ∷ []
 values_of_covered_children = refl
 
+-- of three levels from the leaves up: each has the covered parents, how many children a parent has, and the values of
+-- these children
 path_of_a_kept_leaf :
     siblings_on_path {X = ℕ} ((0 ∷ 1 ∷ 2 ∷ [], 2, 0 ∷ 1 ∷ 2 ∷ 3 ∷ 4 ∷ 5 ∷ []) ∷ (0 ∷ 1 ∷ [], 2, 10 ∷ 11 ∷ 12 ∷ 13 ∷ [])
     ∷ (0 ∷ [], 2, 20 ∷ 21 ∷ []) ∷ []) 5 ≡ 4 ∷ 13 ∷ 20 ∷ []
@@ -124,91 +143,91 @@ path_of_another_leaf :
     ∷ (0 ∷ [], 2, 20 ∷ 21 ∷ []) ∷ []) 7 ≡ 12 ∷ 20 ∷ []
 path_of_another_leaf = refl
 
+-- ---- refusals
+
 honest_queries_are_not_refused :
-    pruned_refusal nat_eq (narrow 2 (8 ∷ [])) 3
-    (pruned (5 ∷ 1 ∷ 2 ∷ 1 ∷ []) (((6 ∷ []) ∷ []) ∷ ((2 ∷ []) ∷ []) ∷ ((3 ∷ []) ∷ []) ∷ ((2 ∷ []) ∷ []) ∷ [])
-    ((32 ∷ []) ∷ (35 ∷ []) ∷ (36 ∷ []) ∷ (1218 ∷ []) ∷ [])) ≡ None
+    pruned_refusal nat_eq eight_rows 3 (pruned four_queries four_row_sets four_digests) ≡ None
 unfolding exponent layer_exponent raw_len leaves_under
 honest_queries_are_not_refused = refl
 
-no_queries_are_not_refused : pruned_refusal nat_eq (narrow 2 (8 ∷ [])) 3 (pruned ([]) ([]) ([])) ≡ None
+no_queries_are_not_refused : pruned_refusal nat_eq eight_rows 3 (pruned [] [] []) ≡ None
 unfolding exponent layer_exponent raw_len leaves_under
 no_queries_are_not_refused = refl
 
-no_queries_with_a_digest : pruned_refusal nat_eq (narrow 2 (8 ∷ [])) 3 (pruned ([]) ([]) ((7 ∷ []) ∷ []))
+no_queries_with_a_digest : pruned_refusal nat_eq eight_rows 3 (pruned [] [] ((7 ∷ []) ∷ []))
     ≡ Some (MalformedPrunedProof (SiblingCountMismatch 0 1))
 unfolding exponent layer_exponent raw_len leaves_under
 no_queries_with_a_digest = refl
 
 row_sets_before_digests :
-    pruned_refusal nat_eq (narrow 2 (8 ∷ [])) 3 (pruned ([]) (((1 ∷ []) ∷ []) ∷ []) ((7 ∷ []) ∷ []))
+    pruned_refusal nat_eq eight_rows 3 (pruned [] (((1 ∷ []) ∷ []) ∷ []) ((7 ∷ []) ∷ []))
     ≡ Some (WrongBatchSize 0 1)
 unfolding exponent layer_exponent raw_len leaves_under
 row_sets_before_digests = refl
 
 one_row_set_too_few :
-    pruned_refusal nat_eq (narrow 2 (8 ∷ [])) 3
-    (pruned (5 ∷ 1 ∷ 2 ∷ 1 ∷ []) (((6 ∷ []) ∷ []) ∷ ((2 ∷ []) ∷ []) ∷ ((3 ∷ []) ∷ []) ∷ [])
-    ((32 ∷ []) ∷ (35 ∷ []) ∷ (36 ∷ []) ∷ (1218 ∷ []) ∷ [])) ≡ Some (WrongBatchSize 4 3)
+    pruned_refusal nat_eq eight_rows 3
+    (pruned four_queries (((6 ∷ []) ∷ []) ∷ ((2 ∷ []) ∷ []) ∷ ((3 ∷ []) ∷ []) ∷ [])
+    four_digests) ≡ Some (WrongBatchSize 4 3)
 unfolding exponent layer_exponent raw_len leaves_under
 one_row_set_too_few = refl
 
 gate_before_row_sets :
     pruned_refusal nat_eq (narrow 2 (6 ∷ 4 ∷ [])) 3
-    (pruned (5 ∷ 1 ∷ 2 ∷ 1 ∷ []) (((6 ∷ []) ∷ []) ∷ ((2 ∷ []) ∷ []) ∷ ((3 ∷ []) ∷ []) ∷ [])
-    ((32 ∷ []) ∷ (35 ∷ []) ∷ (36 ∷ []) ∷ (1218 ∷ []) ∷ [])) ≡ Some (IncompatibleHeights 4 6 3 1)
+    (pruned four_queries (((6 ∷ []) ∷ []) ∷ ((2 ∷ []) ∷ []) ∷ ((3 ∷ []) ∷ []) ∷ [])
+    four_digests) ≡ Some (IncompatibleHeights 4 6 3 1)
 unfolding exponent layer_exponent raw_len leaves_under
 gate_before_row_sets = refl
 
 highest_index_out_of_bounds :
-    pruned_refusal nat_eq (narrow 2 (8 ∷ [])) 3 (pruned (9 ∷ 12 ∷ []) (((1 ∷ []) ∷ []) ∷ ((1 ∷ []) ∷ []) ∷ []) ([]))
+    pruned_refusal nat_eq eight_rows 3 (pruned (9 ∷ 12 ∷ []) (((1 ∷ []) ∷ []) ∷ ((1 ∷ []) ∷ []) ∷ []) [])
     ≡ Some (IndexOutOfBounds 8 12)
 unfolding exponent layer_exponent raw_len leaves_under
 highest_index_out_of_bounds = refl
 
 repeats_that_disagree :
-    pruned_refusal nat_eq (narrow 2 (8 ∷ [])) 3
-    (pruned (5 ∷ 1 ∷ 5 ∷ []) (((6 ∷ []) ∷ []) ∷ ((2 ∷ 2 ∷ []) ∷ []) ∷ ((7 ∷ []) ∷ []) ∷ []) ([]))
+    pruned_refusal nat_eq eight_rows 3
+    (pruned (5 ∷ 1 ∷ 5 ∷ []) (((6 ∷ []) ∷ []) ∷ ((2 ∷ 2 ∷ []) ∷ []) ∷ ((7 ∷ []) ∷ []) ∷ []) [])
     ≡ Some (MalformedPrunedProof (InconsistentDuplicateOpenings 1))
 unfolding exponent layer_exponent raw_len leaves_under
 repeats_that_disagree = refl
 
 repeats_that_disagree_in_number :
-    pruned_refusal nat_eq (narrow 2 (8 ∷ [])) 3 (pruned (1 ∷ 1 ∷ []) (([]) ∷ ((2 ∷ []) ∷ []) ∷ []) ([]))
+    pruned_refusal nat_eq eight_rows 3 (pruned (1 ∷ 1 ∷ []) ([] ∷ ((2 ∷ []) ∷ []) ∷ []) [])
     ≡ Some (MalformedPrunedProof (InconsistentDuplicateOpenings 0))
 unfolding exponent layer_exponent raw_len leaves_under
 repeats_that_disagree_in_number = refl
 
 one_digest_too_many :
-    pruned_refusal nat_eq (narrow 2 (8 ∷ [])) 3
-    (pruned (5 ∷ 1 ∷ 2 ∷ 1 ∷ []) (((6 ∷ []) ∷ []) ∷ ((2 ∷ []) ∷ []) ∷ ((3 ∷ []) ∷ []) ∷ ((2 ∷ []) ∷ []) ∷ [])
+    pruned_refusal nat_eq eight_rows 3
+    (pruned four_queries four_row_sets
     ((32 ∷ []) ∷ (35 ∷ []) ∷ (36 ∷ []) ∷ (1218 ∷ []) ∷ (0 ∷ []) ∷ []))
     ≡ Some (MalformedPrunedProof (SiblingCountMismatch 4 5))
 unfolding exponent layer_exponent raw_len leaves_under
 one_digest_too_many = refl
 
 one_digest_too_few :
-    pruned_refusal nat_eq (narrow 2 (8 ∷ [])) 3
-    (pruned (5 ∷ 1 ∷ 2 ∷ 1 ∷ []) (((6 ∷ []) ∷ []) ∷ ((2 ∷ []) ∷ []) ∷ ((3 ∷ []) ∷ []) ∷ ((2 ∷ []) ∷ []) ∷ [])
+    pruned_refusal nat_eq eight_rows 3
+    (pruned four_queries four_row_sets
     ((32 ∷ []) ∷ (35 ∷ []) ∷ (36 ∷ []) ∷ [])) ≡ Some (MalformedPrunedProof (SiblingCountMismatch 4 3))
 unfolding exponent layer_exponent raw_len leaves_under
 one_digest_too_few = refl
 
 no_rows_for_a_query :
-    pruned_refusal nat_eq (narrow 2 (8 ∷ [])) 3
-    (pruned (1 ∷ 1 ∷ []) (([]) ∷ ([]) ∷ []) ((0 ∷ []) ∷ (0 ∷ []) ∷ (0 ∷ []) ∷ [])) ≡ Some (WrongBatchSize 1 0)
+    pruned_refusal nat_eq eight_rows 3
+    (pruned (1 ∷ 1 ∷ []) ([] ∷ [] ∷ []) ((0 ∷ []) ∷ (0 ∷ []) ∷ (0 ∷ []) ∷ [])) ≡ Some (WrongBatchSize 1 0)
 unfolding exponent layer_exponent raw_len leaves_under
 no_rows_for_a_query = refl
 
 widths_by_ascending_slots :
-    pruned_refusal nat_eq (narrow 2 (8 ∷ [])) 3
+    pruned_refusal nat_eq eight_rows 3
     (pruned (5 ∷ 1 ∷ []) (((6 ∷ []) ∷ []) ∷ ((2 ∷ 2 ∷ []) ∷ []) ∷ []) ((0 ∷ []) ∷ (0 ∷ []) ∷ (0 ∷ []) ∷ (0 ∷ []) ∷ []))
     ≡ Some (WrongWidth 0 1 2)
 unfolding exponent layer_exponent raw_len leaves_under
 widths_by_ascending_slots = refl
 
 a_query_with_too_many_rows :
-    pruned_refusal nat_eq (narrow 2 (8 ∷ [])) 3
+    pruned_refusal nat_eq eight_rows 3
     (pruned (5 ∷ 1 ∷ []) (((6 ∷ 6 ∷ []) ∷ []) ∷ ((2 ∷ []) ∷ (2 ∷ []) ∷ []) ∷ [])
     ((0 ∷ []) ∷ (0 ∷ []) ∷ (0 ∷ []) ∷ (0 ∷ []) ∷ [])) ≡ Some (WrongBatchSize 1 2)
 unfolding exponent layer_exponent raw_len leaves_under
@@ -216,7 +235,7 @@ a_query_with_too_many_rows = refl
 
 a_group_that_disagrees :
     pruned_refusal nat_eq (narrow 2 (2 ∷ 1 ∷ [])) 1
-    (pruned (0 ∷ 1 ∷ []) (((1 ∷ []) ∷ (5 ∷ []) ∷ []) ∷ ((2 ∷ []) ∷ (6 ∷ []) ∷ []) ∷ []) ([]))
+    (pruned (0 ∷ 1 ∷ []) (((1 ∷ []) ∷ (5 ∷ []) ∷ []) ∷ ((2 ∷ []) ∷ (6 ∷ []) ∷ []) ∷ []) [])
     ≡ Some (MalformedPrunedProof (InconsistentGroupOpening 1 1))
 unfolding exponent layer_exponent raw_len leaves_under
 a_group_that_disagrees = refl
@@ -229,9 +248,11 @@ lower_layers_before_higher :
 unfolding exponent layer_exponent raw_len leaves_under
 lower_layers_before_higher = refl
 
+-- ---- collisions
+
 first_pair_of_queries_collides : extracts_pruned (params example (narrow 2 (2 ∷ [])) 1) ((1057 ∷ []) ∷ [])
-    (pruned (1 ∷ 0 ∷ []) (((33 ∷ []) ∷ []) ∷ ((1 ∷ []) ∷ []) ∷ []) ([]))
-    (pruned (1 ∷ 0 ∷ []) (((2 ∷ []) ∷ []) ∷ ((2 ∷ []) ∷ []) ∷ []) ([]))
+    (pruned (1 ∷ 0 ∷ []) (((33 ∷ []) ∷ []) ∷ ((1 ∷ []) ∷ []) ∷ []) [])
+    (pruned (1 ∷ 0 ∷ []) (((2 ∷ []) ∷ []) ∷ ((2 ∷ []) ∷ []) ∷ []) [])
     ≡ Ok (Some (
       0,
       0,
@@ -261,6 +282,6 @@ no_pair_of_queries_differs = refl
 
 no_queries_on_either_side :
     extracts_pruned (params example (narrow 2 (4 ∷ [])) 1) ((1026 ∷ []) ∷ (1090 ∷ []) ∷ [])
-    (pruned ([]) ([]) ([])) (pruned ([]) ([]) ([])) ≡ Ok None
+    (pruned [] [] []) (pruned [] [] []) ≡ Ok None
 unfolding exponent layer_exponent raw_len leaves_under restored_node siblings_below path_digest
 no_queries_on_either_side = refl

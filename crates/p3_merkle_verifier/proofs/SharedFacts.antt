@@ -11,7 +11,7 @@ use Rattle.p3_merkle_core.specs.Openings.{Opening}
 use Rattle.p3_merkle_core.specs.Checks.{Input, inputs_at, meeting_level, shared_inputs, params, leaf_input}
 use Rattle.p3_answers.specs.Answers.{unless}
 use Rattle.p3_merkle_core.specs.declared.collision.InputPair.{InputPair}
-use Rattle.p3_merkle_core.proofs.Checks.Binding.{pieces_long}
+use Rattle.p3_merkle_core.proofs.Lists.ListFacts.{pieces_long}
 use Rattle.p3_merkle_core.proofs.Collisions.Extraction.{anc_same, level_lengths}
 use Rattle.p3_merkle_core.proofs.Lists.ListFacts.{joined, joined_more}
 use Rattle.p3_merkle_core.proofs.Checks.PathFacts.{joined_same}

@@ -54,7 +54,7 @@ fn next_eight<R: Rng>(rng: &mut R) -> [u64; 8]
     ]
 }
 
-/// Appends the values of eight words to a vector that has room for them.
+/// Appends the values of eight words to `values`, which must have room for them.
 fn push_eight<T: SaltWord>(values: &mut Vec<T>, words: [u64; 8])
     requires { vec_len values.old + 8 ≤ vec_capacity values.old }
     ensures items { values.new.items ≡ values.old.items ++ map T.of_salt_word words }
@@ -66,7 +66,7 @@ fn push_eight<T: SaltWord>(values: &mut Vec<T>, words: [u64; 8])
     }
 }
 
-/// Draws `8 * eights` values, eight at a time, and appends them to a vector that has room for them.
+/// Draws `8 * eights` values, eight at a time, and appends them to `values`, which must have room for them.
 fn draw_eights<T: SaltWord, R: Rng>(values: &mut Vec<T>, rng: &mut R, eights: usize)
     requires { vec_len values.old + 8 * eights ≤ vec_capacity values.old }
     ensures { AreDrawn T.of_salt_word (8 * eights) values.old values.new (R.stream rng.old) (R.stream rng.new) }
@@ -77,7 +77,7 @@ fn draw_eights<T: SaltWord, R: Rng>(values: &mut Vec<T>, rng: &mut R, eights: us
     }
 }
 
-/// Draws `count` values, one by one, and appends them to a vector that has room for them.
+/// Draws `count` values, one by one, and appends them to `values`, which must have room for them.
 fn draw_each<T: SaltWord, R: Rng>(values: &mut Vec<T>, rng: &mut R, count: usize)
     requires { vec_len values.old + count ≤ vec_capacity values.old }
     ensures { AreDrawn T.of_salt_word count values.old values.new (R.stream rng.old) (R.stream rng.new) }

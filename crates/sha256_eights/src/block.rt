@@ -2,7 +2,7 @@
 //! message `j`, in a block, in the hash values `state`, and in the working variables `v`, which are `a` to `h`.
 ghost use Rattle.std.specs.Prelude.{◌≡◌, List, ℕ, [], ◌+◌, ◌*◌, ◌<◌, ◌≤◌, slice_index, slice_set};
 ghost use Rattle.sha2.specs.Sha256.{IsRoundsAt, IsWindow, add32, add_state, compress, round, round_constants, rounds};
-ghost use Rattle.sha2.specs.Sha256.{initial_hash_256, schedule, window_word, word_at};
+ghost use Rattle.sha2.specs.Sha256.{initial_hash_256, schedule, small_sigma0, small_sigma1, window_word, word_at};
 ghost use Rattle.sha256_eights.specs.Inner.Inputs.{AreInputs};
 ghost use Rattle.sha256_eights.specs.Inner.Lanes.{lane};
 
@@ -27,19 +27,29 @@ pub(crate) fn initial_state() -> [u32x8; 8]
     ]
 }
 
-/// Computes the next word of each message's schedule (FIPS 180-4, 6.2.2, step 1), and returns it. `w` is a ring of the
-/// last sixteen words: the new word replaces the oldest, the one at `place`.
+/// A word of each message's schedule after the first sixteen (FIPS 180-4, 6.2.2, step 1). `w2`, `w7`, `w15` and `w16`
+/// are the words that stand 2, 7, 15 and 16 places ahead of it.
+#[inline(always)]
+fn schedule_word(w2: u32x8, w7: u32x8, w15: u32x8, w16: u32x8) -> u32x8
+    ensures { (j : ℕ) → j < 8 → slice_index result j
+        ≡ add32 (add32 (add32 (small_sigma1 (slice_index w2 j)) (slice_index w7 j)) (small_sigma0 (slice_index w15 j)))
+        (slice_index w16 j) }
+{
+    add(add(add(small_sigma1(w2), w7), small_sigma0(w15)), w16)
+}
+
+/// Computes the next word of each message's schedule, and returns it. `w` is a ring of the last sixteen words. The new
+/// word replaces the oldest, which is the one at `place`; `place` must be below 16.
 #[inline(always)]
 fn next_word(w: &mut [u32x8; 16], place: usize) -> u32x8
     requires { place < 16 }
     ensures value { (j : ℕ) → j < 8 → slice_index result j ≡ window_word (lane j w.old) place }
     ensures window { (j : ℕ) → j < 8 → lane j w.new ≡ slice_set (lane j w.old) place (slice_index result j) }
 {
-    let word = add(
-        add(
-            add(small_sigma1(w[(place + 14) % 16]), w[(place + 9) % 16]),
-            small_sigma0(w[(place + 1) % 16]),
-        ),
+    let word = schedule_word(
+        w[(place + 14) % 16],
+        w[(place + 9) % 16],
+        w[(place + 1) % 16],
         w[place],
     );
     w[place] = word;
@@ -61,7 +71,8 @@ fn round(v: [u32x8; 8], k: u32, word: u32x8) -> [u32x8; 8]
     [add(temp1, temp2), a, b, c, add(d, temp1), e, f, g]
 }
 
-/// Round `t` of the first sixteen, from the working variables `v`. `w` is the block: `w[t]` is the schedule's word.
+/// Round `t`, which must be one of the first sixteen, from the working variables `v`. `w` is the block: `w[t]` is the
+/// round's word of the schedule.
 #[inline(always)]
 fn block_round(w: &[u32x8; 16], v: [u32x8; 8], t: usize) -> [u32x8; 8]
     requires { t < 16 }
@@ -71,7 +82,7 @@ fn block_round(w: &[u32x8; 16], v: [u32x8; 8], t: usize) -> [u32x8; 8]
     round(v, ROUND_CONSTANTS[t], w[t])
 }
 
-/// Rounds `t` to `t + 3` of the first sixteen, from the working variables `v`. `w` is the block.
+/// Rounds `t` to `t + 3`, which must be among the first sixteen, from the working variables `v`. `w` is the block.
 #[inline(always)]
 fn four_block_rounds(w: &[u32x8; 16], v: [u32x8; 8], t: usize) -> [u32x8; 8]
     requires { t + 4 ≤ 16 }
@@ -84,8 +95,8 @@ fn four_block_rounds(w: &[u32x8; 16], v: [u32x8; 8], t: usize) -> [u32x8; 8]
     block_round(w, v, t + 3)
 }
 
-/// Round `16 * turn + place` of the last 48, from the working variables `v`. `turn` is 1 to 3. `place` is that of the
-/// round's word of the schedule in the ring `w`, which [`next_word`] computes.
+/// Round `16 * turn + place`, one of the last 48, from the working variables `v`. `turn` must be 1 to 3, and `place`
+/// below 16. The round's word of the schedule goes to `place` in the ring `w`, by [`next_word`].
 #[inline(always)]
 fn scheduled_round(w: &mut [u32x8; 16], v: [u32x8; 8], turn: usize, place: usize) -> [u32x8; 8]
     requires low { 1 ≤ turn }
@@ -98,7 +109,8 @@ fn scheduled_round(w: &mut [u32x8; 16], v: [u32x8; 8], turn: usize, place: usize
     round(v, ROUND_CONSTANTS[16 * turn + place], word)
 }
 
-/// Rounds `16 * turn + place` to `16 * turn + place + 3`, each by [`scheduled_round`].
+/// Rounds `16 * turn + place` to `16 * turn + place + 3`, each by [`scheduled_round`]. `turn` must be 1 to 3, and
+/// `place` at most 12.
 #[inline(always)]
 fn four_scheduled_rounds(
     w: &mut [u32x8; 16],
@@ -166,13 +178,7 @@ fn schedule(block: &[u32x8; 16]) -> [u32x8; 64]
     let mut words = [u32x8::splat(0); 64];
     words[..16].copy_from_slice(block);
     for t in 16..64 {
-        words[t] = add(
-            add(
-                add(small_sigma1(words[t - 2]), words[t - 7]),
-                small_sigma0(words[t - 15]),
-            ),
-            words[t - 16],
-        );
+        words[t] = schedule_word(words[t - 2], words[t - 7], words[t - 15], words[t - 16]);
     }
     words
 }
@@ -190,7 +196,7 @@ pub(crate) fn round_inputs(block: &[u32x8; 16]) -> [u32x8; 64]
     inputs
 }
 
-/// Round `t`, from the working variables `v`. `inputs` are from [`round_inputs`].
+/// Round `t`, below 64, from the working variables `v`. `inputs` are from [`round_inputs`].
 #[inline(always)]
 fn prepared_round(inputs: &[u32x8; 64], v: [u32x8; 8], t: usize) -> [u32x8; 8]
     requires { t < 64 }
@@ -201,7 +207,7 @@ fn prepared_round(inputs: &[u32x8; 64], v: [u32x8; 8], t: usize) -> [u32x8; 8]
     round(v, 0, inputs[t])
 }
 
-/// Rounds `t` to `t + 3`, from the working variables `v`. `inputs` are from [`round_inputs`].
+/// Rounds `t` to `t + 3`, from the working variables `v`, where `t` is at most 60. `inputs` are from [`round_inputs`].
 #[inline(always)]
 fn four_prepared_rounds(inputs: &[u32x8; 64], v: [u32x8; 8], t: usize) -> [u32x8; 8]
     requires { t + 4 ≤ 64 }
@@ -223,9 +229,9 @@ pub(crate) fn compress_prepared(state: &mut [u32x8; 8], inputs: &[u32x8; 64])
 {
     let mut v = *state;
     // After eight rounds each working variable is in its place again, so that none is moved.
-    for turn in 0..8 {
-        v = four_prepared_rounds(inputs, v, 8 * turn);
-        v = four_prepared_rounds(inputs, v, 8 * turn + 4);
+    for eight in 0..8 {
+        v = four_prepared_rounds(inputs, v, 8 * eight);
+        v = four_prepared_rounds(inputs, v, 8 * eight + 4);
     }
     add_to(state, &v);
 }

@@ -14,7 +14,7 @@ use crate::digest_size::DigestSize;
 use sha2::{Digest, Sha256};
 use std::simd::prelude::*;
 
-/// The four bytes from `at` on as a word, high byte first.
+/// The four bytes from `at` on, which `bytes` must have, as a word, high byte first.
 #[inline(always)]
 fn word(bytes: &[u8], at: usize) -> u32
     requires { at + 4 ≤ length bytes.now }
@@ -23,7 +23,8 @@ fn word(bytes: &[u8], at: usize) -> u32
     u32::from_be_bytes([bytes[at], bytes[at + 1], bytes[at + 2], bytes[at + 3]])
 }
 
-/// The words at byte `at` of eight messages of `width` bytes each: lane `j` is from message `j`.
+/// The words at byte `at` of eight messages of `width` bytes each: lane `j` is from message `j`. `at + 4` must be at
+/// most `width`.
 #[inline(always)]
 pub(crate) fn words(messages: &[u8], width: usize, at: usize) -> u32x8
     requires full { length messages.now ≡ 8 * width }
@@ -42,7 +43,8 @@ pub(crate) fn words(messages: &[u8], width: usize, at: usize) -> u32x8
     ])
 }
 
-/// Byte `at` of padded message `j` of eight. It must not be one of the last eight, which have the length.
+/// Byte `at` of padded message `j` of eight, where `j < 8`. The byte must stand ahead of the last eight, which have the
+/// length.
 #[inline(always)]
 fn padded_byte(messages: &[u8], width: usize, j: usize, at: usize) -> u8
     requires full { length messages.now ≡ 8 * width }
@@ -59,9 +61,9 @@ fn padded_byte(messages: &[u8], width: usize, j: usize, at: usize) -> u8
     }
 }
 
-/// The word at byte `at` of padded message `j` of eight, which may have bytes of the message and of its padding. `at`
-/// is at most `width`, and the word must end ahead of the last eight bytes of the padded message, which have its
-/// length.
+/// The word at byte `at` of padded message `j` of eight, where `j < 8`. The word may have bytes of the message and of
+/// its padding. `at` must be at most `width`, and the word must end ahead of the last eight bytes of the padded
+/// message, which have its length.
 #[inline(always)]
 fn mixed_word(messages: &[u8], width: usize, j: usize, at: usize) -> u32
     requires full { length messages.now ≡ 8 * width }
@@ -78,7 +80,8 @@ fn mixed_word(messages: &[u8], width: usize, j: usize, at: usize) -> u32
     ])
 }
 
-/// The words at byte `at` of the eight padded messages: lane `j` is [`mixed_word`] of message `j`.
+/// The words at byte `at` of the eight padded messages: lane `j` is [`mixed_word`] of message `j`. `at` must be as
+/// there.
 fn mixed_words(messages: &[u8], width: usize, at: usize) -> u32x8
     requires full { length messages.now ≡ 8 * width }
     requires before { at + 12 ≤ 64 * ((width + 72) / 64) }
@@ -97,7 +100,7 @@ fn mixed_words(messages: &[u8], width: usize, at: usize) -> u32x8
     ])
 }
 
-/// How many blocks of 64 bytes a message of `width` bytes fills with its padding.
+/// How many blocks of 64 bytes a message of `width` bytes fills with its padding. `width + 72` must fit `usize`.
 #[inline(always)]
 fn block_count(width: usize) -> usize
     requires { width + 72 < 2 ^ 64 }
@@ -107,7 +110,7 @@ fn block_count(width: usize) -> usize
     (width + 9).div_ceil(64)
 }
 
-/// Word `n` of a padded message of `width` bytes, where that word is padding alone.
+/// Word `n` of a padded message of `width` bytes. The message must have this word, and it must be padding alone.
 fn padding_word(width: usize, n: usize) -> u32
     requires fits { width + 72 < 2 ^ 64 }
     requires behind { width ≤ 4 * n }
@@ -124,13 +127,14 @@ fn padding_word(width: usize, n: usize) -> u32
     }
     // The padding ends with the message's length in bits, here modulo 2^64: the standard leaves out longer messages.
     let bits = width.wrapping_mul(8);
+    // Its higher 32 bits are the last word but one, and its lower 32 bits the last.
     if at + 4 < end {
         return (bits / 4_294_967_296) as u32;
     }
     (bits % 4_294_967_296) as u32
 }
 
-/// Word `n` of each of the eight padded messages: lane `j` is from message `j`.
+/// Word `n` of each of the eight padded messages, which must have it: lane `j` is from message `j`.
 #[inline(always)]
 fn padded_words(messages: &[u8], width: usize, n: usize) -> u32x8
     requires full { length messages.now ≡ 8 * width }
@@ -147,7 +151,7 @@ fn padded_words(messages: &[u8], width: usize, n: usize) -> u32x8
     u32x8::splat(padding_word(width, n))
 }
 
-/// Loads block `t` of each of the eight padded messages into `block`, one message a lane.
+/// Loads block `t` of each of the eight padded messages, which must have it, into `block`: one message a lane.
 // A block that is returned is copied once more, which takes time.
 fn load_padded_block(block: &mut [u32x8; 16], messages: &[u8], width: usize, t: usize)
     requires full { length messages.now ≡ 8 * width }
@@ -160,7 +164,8 @@ fn load_padded_block(block: &mut [u32x8; 16], messages: &[u8], width: usize, t: 
     }
 }
 
-/// Block `t` of a padded message of `width` bytes, where that block is padding alone: the same in each lane.
+/// Block `t` of a padded message of `width` bytes: the same in each lane. The message must have this block, and it must
+/// be padding alone.
 fn padding_block(width: usize, t: usize) -> [u32x8; 16]
     requires fits { width + 72 < 2 ^ 64 }
     requires behind { width ≤ 64 * t }
@@ -183,8 +188,9 @@ fn filled_count(width: usize) -> usize
     width.div_ceil(64)
 }
 
-/// The inputs of the rounds over the last block of messages of `width` bytes, if that block is padding alone. It is the
-/// same for all of them, so its schedule is computed once. Otherwise the result is zeros, which nothing reads.
+/// The inputs of the rounds over the last block of messages of `width` bytes, if that block is padding alone. Such a
+/// block is the same for all messages, so its schedule is computed once. Otherwise the result is zeros, which nothing
+/// reads.
 fn padding_inputs(width: usize) -> [u32x8; 64]
     requires { width + 72 < 2 ^ 64 }
     ensures { IsPadding width result }
@@ -225,7 +231,7 @@ pub(crate) fn digest_of(words: [u32; 8]) -> [u8; 32]
     digest
 }
 
-/// The hash value of message `j`: lane `j` of each vector of `state`.
+/// The hash value of message `j`, where `j < 8`: lane `j` of each vector of `state`.
 #[inline(always)]
 pub(crate) fn lane_words(state: &[u32x8; 8], j: usize) -> [u32; 8]
     requires { j < 8 }
@@ -244,7 +250,8 @@ pub(crate) fn lane_words(state: &[u32x8; 8], j: usize) -> [u32; 8]
 }
 
 /// Writes the digest of message `i` into `out[i]`, for eight messages of `width` bytes each, from message `first` on.
-/// `padding` is from [`padding_inputs`].
+/// `out` must have a place for each, and `messages` as many messages as `out` has places. `padding` is from
+/// [`padding_inputs`].
 fn hash_eight<const D: usize>(
     messages: &[u8],
     width: usize,
@@ -266,7 +273,8 @@ where
     }
 }
 
-/// Writes the digest of message `i` into `out[i]`, eight at a time, up to the last whole eight.
+/// Writes the digest of message `i` into `out[i]`, eight at a time, up to the last whole eight. `messages` must have as
+/// many messages as `out` has places.
 fn hash_eights<const D: usize>(messages: &[u8], width: usize, out: &mut [[u8; D]])
 where
     Sha256: DigestSize<D>,
@@ -278,12 +286,13 @@ where
         return;
     }
     let padding = padding_inputs(width);
-    for group in 0..out.len() / 8 {
-        hash_eight(messages, width, &padding, 8 * group, out);
+    for eight in 0..out.len() / 8 {
+        hash_eight(messages, width, &padding, 8 * eight, out);
     }
 }
 
-/// Writes the digest of message `i` into `out[i]`, one by one, from message `from` on.
+/// Writes the digest of message `i` into `out[i]`, one by one, from message `from` on. `messages` must have as many
+/// messages as `out` has places, and `from` must be at most their number.
 fn hash_rest<const D: usize>(messages: &[u8], width: usize, from: usize, out: &mut [[u8; D]])
 where
     Sha256: DigestSize<D>,

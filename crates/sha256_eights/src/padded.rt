@@ -24,7 +24,7 @@ fn load_block(block: &mut [u32x8; 16], messages: &[u8], width: usize, t: usize)
     }
 }
 
-/// The hash values of eight messages of `count` blocks, one message a lane.
+/// The hash values of eight messages of `count` blocks, which must fill `messages`: one message a lane.
 fn whole_states(messages: &[u8], count: usize) -> [u32x8; 8]
     requires { length messages.now ≡ 8 * (64 * count) }
     ensures { (j : ℕ) → j < 8 →
@@ -39,8 +39,9 @@ fn whole_states(messages: &[u8], count: usize) -> [u32x8; 8]
     state
 }
 
-/// The digests of eight messages of any lengths that fill `count` blocks of 64 bytes each with their padding. `blocks`
-/// has the padded messages one after another, `8 * 64 * count` bytes, as [`push_padded`] appends them.
+/// The digests of eight messages of any lengths that fill `count` blocks of 64 bytes each with their padding: digest
+/// `j` is that of message `j`. `blocks` must have the padded messages one after another, `8 * 64 * count` bytes, as
+/// [`push_padded`] appends them.
 pub fn hash_padded_eight(blocks: &[u8], count: usize) -> [[u8; 32]; 8]
     requires { length blocks.now ≡ 8 * (64 * count) }
     ensures { (j : ℕ) (m : List ℕ) → j < 8 → message (64 * count) blocks.now j ≡ padded_message m →
@@ -58,7 +59,7 @@ pub fn hash_padded_eight(blocks: &[u8], count: usize) -> [[u8; 32]; 8]
 ///
 /// # Errors
 ///
-/// `AllocError` if memory runs out.
+/// `AllocError` if memory runs out. `blocks` may then have a part of them.
 pub fn push_padded(blocks: &mut Vec<u8>, first: u8, rest: &[u8]) -> Result<(), AllocError>
     ensures { OnOk result (blocks.new.items ≡ blocks.old.items ++ padded_message (first ∷ rest.now)) }
 {
@@ -66,6 +67,7 @@ pub fn push_padded(blocks: &mut Vec<u8>, first: u8, rest: &[u8]) -> Result<(), A
     blocks.push(first)?;
     blocks.extend_from_slice(rest)?;
     blocks.push(0x80)?;
+    // The fewest zeros with which the byte 0x80 and the eight bytes of the length end a block.
     blocks.extend_from_slice(&[0; 64][..(119 - len % 64) % 64])?;
     blocks.extend_from_slice(&len.wrapping_mul(8).to_be_bytes())?;
     Ok(())

@@ -3,7 +3,7 @@
 ghost use Rattle.std.specs.Prelude.{◌≡◌, ℕ, ◌<◌, ◌≤◌, map};
 ghost use Rattle.p3_support.specs.Lists.{lane_of};
 
-use p3_hashes::fold::{FoldCompress, FoldHash, FoldLane};
+use p3_hashes::fold::{FoldCompress, FoldHash, FoldPacked};
 use p3_hashes::lanes::U32x8;
 use p3_merkle_tree::{MerkleTree, MerkleTreeError};
 use p3_support::compress::PseudoCompressionFunction;
@@ -119,7 +119,7 @@ impl<
 
 /// Asserts that these calls build the tree of arity 2 over matrices of these widths and heights. `L` is the `LANES` of
 /// the hasher, `G` that of the compression.
-fn assert_calls<P: FoldLane, const L: usize, const G: usize>(
+fn assert_calls<P: FoldPacked, const L: usize, const G: usize>(
     rt: &impl Abort,
     alloc: Global,
     sizes: &[(usize, usize)],

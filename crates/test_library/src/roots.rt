@@ -3,7 +3,7 @@
 ghost use Rattle.std.specs.Prelude.{◌≤◌};
 
 use p3_hashes::batched::Batched3;
-use p3_hashes::fold::{FoldCompress, FoldHash, FoldLane};
+use p3_hashes::fold::{FoldCompress, FoldHash, FoldPacked};
 use p3_hashes::lanes::{Lanes, U32x8};
 use p3_merkle_tree::{MerkleTree, MerkleTreeError};
 use p3_support::compress::PseudoCompressionFunction;
@@ -13,7 +13,7 @@ use std::test::Fail;
 use test_support::matrices::{Numbers, numbered};
 
 /// The root of the tree of two children over matrices of these widths and heights.
-fn root_of<P: FoldLane, H: CryptographicHasher<P, P, 1>, C: PseudoCompressionFunction<P, 2, 1>>(
+fn root_of<P: FoldPacked, H: CryptographicHasher<P, P, 1>, C: PseudoCompressionFunction<P, 2, 1>>(
     alloc: Global,
     hash: &H,
     compress: &C,

@@ -36,7 +36,7 @@ use crate::salted::{call_salted, salted_scheme};
 use crate::verify::verify;
 use anyhow::{Result, bail};
 use p3_hashes::batched::Batched3;
-use p3_hashes::fold::{FoldCompress, FoldHash, FoldLane};
+use p3_hashes::fold::{FoldCompress, FoldHash, FoldPacked};
 use p3_hashes::lanes::U32x8;
 use p3_merkle_tree::MerkleTreeMmcs;
 
@@ -62,7 +62,7 @@ macro_rules! answer_by {
 
 /// Makes a call of the plain or of the salted scheme by the fold functions in lanes, whose hash and compression take
 /// `L` messages.
-fn answer_in_lanes<P: FoldLane, const L: usize, const N: usize>(
+fn answer_in_lanes<P: FoldPacked, const L: usize, const N: usize>(
     rt: &HostRuntime,
     case: &Case<'_>,
 ) -> Result<()>

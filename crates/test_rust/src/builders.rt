@@ -7,7 +7,7 @@ use crate::case::{Case, Salts};
 use crate::numbers::Fault;
 use crate::scheme::{Answer, answer_to_plain, answer_to_shared};
 use p3_hashes::batched::Batched3;
-use p3_hashes::fold::{FoldCompress, FoldHash, FoldLane};
+use p3_hashes::fold::{FoldCompress, FoldHash, FoldPacked};
 use p3_hashes::lanes::{Lanes, U32x8};
 use p3_hashes::sha::{Sha256Nodes, Sha256Rows};
 use p3_hashes::sha_eights::{Sha256NodesInEights, Sha256RowsInEights};
@@ -47,7 +47,7 @@ macro_rules! answer_by {
 }
 
 /// The answer by the fold functions in lanes, whose hash and compression take `L` messages.
-fn fold_in_lanes<P: FoldLane, const L: usize, const N: usize, const D: usize>(
+fn fold_in_lanes<P: FoldPacked, const L: usize, const N: usize, const D: usize>(
     case: &Case<'_, '_>,
 ) -> Answer
     requires arity { IsTrue (is_arity N) }

@@ -3,7 +3,7 @@
 ghost use Rattle.std.specs.Prelude.{◌≡◌, ◌*◌, ◌<◌, ◌≤◌, length};
 
 use p3_hashes::batched::Batched3;
-use p3_hashes::fold::{FoldCompress, FoldHash, FoldLane};
+use p3_hashes::fold::{FoldCompress, FoldHash, FoldPacked};
 use p3_hashes::lanes::{Lanes, U32x8};
 use p3_hashes::sha::{Sha256Nodes, Sha256Rows};
 use p3_hashes::sha_eights::{Sha256NodesInEights, Sha256RowsInEights};
@@ -71,7 +71,7 @@ fn each_call_compresses_pairs(rt: HostRuntime) {
 }
 
 /// The digests of `K` messages of `width` words, which lie one after another, by one call.
-fn digests_of_many<P: FoldLane, H: CryptographicHasher<P, P, 1>, const K: usize>(
+fn digests_of_many<P: FoldPacked, H: CryptographicHasher<P, P, 1>, const K: usize>(
     hasher: &H,
     messages: &[u32],
     width: usize,
@@ -84,7 +84,7 @@ fn digests_of_many<P: FoldLane, H: CryptographicHasher<P, P, 1>, const K: usize>
 }
 
 /// Asserts the digests of several messages by one call, and of several groups.
-fn assert_many<P: FoldLane, H: CryptographicHasher<P, P, 1>, C: PseudoCompressionFunction<P, 2, 1>>(
+fn assert_many<P: FoldPacked, H: CryptographicHasher<P, P, 1>, C: PseudoCompressionFunction<P, 2, 1>>(
     rt: &impl Abort,
     hasher: &H,
     compress: &C,
@@ -120,7 +120,7 @@ fn many_messages_and_groups_are_taken_by_one_call(rt: HostRuntime) {
 }
 
 /// The packed value whose lanes are `first`, `first + step`, `first + 2 * step` and so on.
-fn ascending<P: FoldLane>(first: u32, step: u32) -> P
+fn ascending<P: FoldPacked>(first: u32, step: u32) -> P
     requires { P.WIDTH ≤ 8 }
 {
     P::from_fn(

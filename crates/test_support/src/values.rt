@@ -9,7 +9,7 @@ use crate::compared::{
 use crate::counting::Counting;
 use crate::matrices::{Numbers, two_rows};
 use p3_hashes::batched::Batched3;
-use p3_hashes::fold::{FoldCompress, FoldHash, FoldLane};
+use p3_hashes::fold::{FoldCompress, FoldHash, FoldPacked};
 use p3_hashes::lanes::{Lanes, U32x8};
 use p3_hashes::sha::{Sha256Nodes, Sha256Rows};
 use p3_hashes::sha_eights::{Sha256NodesInEights, Sha256RowsInEights};

@@ -1,7 +1,7 @@
 -- At one index, two accepted openings have the same inputs exactly if they have the same siblings and the same rows up
 -- to the cap layer: those of the authenticated matrices.
 use Rattle.std.proofs.Common.{◌≡◌, ◌↔◌, ℕ, zero, suc, ◌-◌, ◌<◌, ◌≤◌, List, ◌++◌, refl, ap, sym, ◌∙◌, subst, arith}
-use Rattle.std.proofs.Common.{length, take, drop, insert, replicate, flat_map, eq-eqb, true, eqb, get_or}
+use Rattle.std.proofs.Common.{length, take, take-add, drop, insert, replicate, flat_map, eq-eqb, true, eqb, get_or}
 use Rattle.std.proofs.lemmas.Grind.{common_steps}
 use Rattle.std.proofs.lemmas.List.{take_all, length-map}
 use Rattle.std.proofs.lemmas.List.Edits.{length-insert}
@@ -16,9 +16,9 @@ use Rattle.p3_merkle_core.specs.Checks.{siblings_below, params, AgreeWhereShared
 use Rattle.p3_merkle_core.proofs.Checks.CheckFacts.{full_group, group_first, same_group}
 use Rattle.p3_merkle_core.proofs.Checks.Completeness.{reached_leaf, reached_next}
 use Rattle.p3_merkle_core.proofs.Checks.PathFacts.{joined_same}
-use Rattle.p3_merkle_core.proofs.Collisions.Extraction.{same_ends, siblings_full, in_group}
-use Rattle.p3_merkle_core.proofs.Checks.Binding.{insert_same, take_more_of, level_shared, rows_bound}
-use Rattle.p3_merkle_core.proofs.Lists.ListFacts.{joined, joined_more}
+use Rattle.p3_merkle_core.proofs.Collisions.Extraction.{siblings_full, in_group}
+use Rattle.p3_merkle_core.proofs.Checks.Binding.{level_shared, rows_bound}
+use Rattle.p3_merkle_core.proofs.Lists.ListFacts.{insert_same, joined, joined_more, same_ends}
 use Rattle.p3_merkle_core.proofs.Shapes.LeastFacts.{least_bound, widths_in_pairs}
 use Rattle.p3_merkle_core.proofs.Shapes.LadderFacts.{layer_of_is, row_is_anc}
 use Rattle.p3_merkle_core.proofs.Pruned.Unrefused.{kept_same}
@@ -32,7 +32,7 @@ siblings_joined : {X : Type 0} (s : Shape) (xs : List X) (n : ℕ) → take (sib
     ≡ joined (λ l. take (step s l - 1) (drop (siblings_below s l) xs)) n
 unfolding siblings_below
 siblings_joined s xs zero = refl
-siblings_joined s xs (suc n) = take_more_of (siblings_below s n) (step s n - 1) xs
+siblings_joined s xs (suc n) = take-add (siblings_below s n) (step s n - 1) xs
     ∙ ap (λ ys. ys ++ take (step s n - 1) (drop (siblings_below s n) xs)) (siblings_joined s xs n)
     ∙ sym (joined_more (λ l. take (step s l - 1) (drop (siblings_below s l) xs)) n)
 

@@ -21,7 +21,7 @@ use Rattle.p3_merkle_core.specs.declared.collision.Place.TheVariants.{Leaf, Grou
 use Rattle.p3_answers.proofs.AnswerFacts.{none_unless, map_none, none_map, range_none}
 use Rattle.p3_merkle_core.proofs.Collisions.Extraction.{collides, level_lengths}
 use Rattle.p3_merkle_core.proofs.Checks.InputFacts.{of_last_difference, shared_full, at_one_place}
-use Rattle.p3_merkle_core.proofs.Checks.Binding.{pieces_long}
+use Rattle.p3_merkle_core.proofs.Lists.ListFacts.{pieces_long}
 use Rattle.p3_merkle_core.proofs.Pruned.Unrefused.{all_in_range}
 
 -- ---- the test on inputs

@@ -16,21 +16,10 @@ use Rattle.p3_merkle_core.proofs.Shapes.LeastFacts.{least_passes}
 use Rattle.p3_merkle_core.proofs.Shapes.StepFacts.{anc_next, step_above_1}
 use Rattle.p3_merkle_core.proofs.Checks.Completeness.{reached_next, reached_leaf}
 use Rattle.p3_merkle_core.proofs.Checks.CheckFacts.{accepted_walk, group_first, same_digests, same_group}
-use Rattle.p3_merkle_core.proofs.Lists.ListFacts.{joined, joined_more}
+use Rattle.p3_merkle_core.proofs.Lists.ListFacts.{joined, joined_more, same_ends}
 pub use Rattle.p3_merkle_core.proofs.Checks.CheckFacts.{full_group, inputs_with_rows, inputs_alone}
 
 -- ---- lists
-
-pub same_ends : {X : Type 0} (xs ys cs ds : List X) → length xs ≡ length ys → xs ++ cs ≡ ys ++ ds →
-    (xs ≡ ys) × (cs ≡ ds)
-same_ends [] [] cs ds e same = (refl, same)
-same_ends [] (y ∷ ys) cs ds e same = absurd (omega arith)
-same_ends (x ∷ xs) [] cs ds e same = absurd (omega arith)
-same_ends (x ∷ xs) (y ∷ ys) cs ds e same =
-    let tails : xs ++ cs ≡ ys ++ ds = cc in
-    let rest = same_ends xs ys cs ds (omega arith) tails in
-    let heads : x ≡ y = cc in
-    ((let r = rest.0 in cc), rest.1)
 
 -- a last difference of two joined lists is one of their ends, or their ends are equal and it is one of their fronts
 last_of_joined : {X : Type 0} (xs ys cs ds : List X) (x y : X) → length xs ≡ length ys →

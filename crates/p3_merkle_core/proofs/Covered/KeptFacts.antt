@@ -216,6 +216,14 @@ pub link_at : {X : Type 0} (layers : List (CoveredLayer X)) (level : ℕ) (above
     IsLinked (get_or layers (level - 1) above) above
 link_at {X} layers level above some h linked is = grind (arith, common_steps)
 
+-- the digests of a covered node's children are there
+pub group_at_place : {X : Type 0} (layers : List (CoveredLayer X)) (level place : ℕ) (above : CoveredLayer X) →
+    0 < level → level < length layers → AreLinked layers → above ≡ get_or layers level above →
+    place < length above.covered.nodes.items → above.step * place + above.step ≤ length above.children.items
+group_at_place layers level place above some h linked is inside =
+    group_fits above.step place (length above.covered.nodes.items) (length above.children.items) inside
+    (link_at layers level above some h linked is).full
+
 -- a path that stands at a node of one layer, and its turn to the next
 pub path_turn : {X : Type 0} (layers : List (CoveredLayer X)) (level slot node index : ℕ) (above : CoveredLayer X)
     (old new : List X) → 0 < level → level < length layers → AreLinked layers → above ≡ get_or layers level above →

@@ -1,6 +1,6 @@
 -- Facts on lists: pieces that are joined, an element taken out and put back, how many elements pass.
 use Rattle.std.proofs.lemmas.Grind.{common_steps}
-use Rattle.std.proofs.Common.{◌≡◌, ℕ, zero, suc, append-nil}
+use Rattle.std.proofs.Common.{◌≡◌, ℕ, zero, suc, append-nil, sym, ◌∙◌}
 use Rattle.std.proofs.Common.{◌+◌, ◌-◌, ◌<◌, ◌≤◌, List, [], ◌∷◌, refl, ap, arith, inl, inr, length, get_or, take, drop}
 use Rattle.std.proofs.Common.{insert, remove, length-append, length-take, length-drop, cond, Bool, map, ◌++◌}
 use Rattle.std.proofs.lemmas.Bool.{cases_eq, cases_Bool}
@@ -56,6 +56,53 @@ joined_piece g l (suc t) h =
           )
           (joined_piece g l t (omega arith))
     ]
+
+-- of two lists that are equal, both made of two parts, the parts are equal if the first ones are of one length
+pub same_ends : {X : Type 0} (xs ys cs ds : List X) → length xs ≡ length ys → xs ++ cs ≡ ys ++ ds →
+    (xs ≡ ys) × (cs ≡ ds)
+same_ends [] [] cs ds long same = (refl, same)
+same_ends [] (y ∷ ys) cs ds long same = absurd (omega arith)
+same_ends (x ∷ xs) [] cs ds long same = absurd (omega arith)
+same_ends (x ∷ xs) (y ∷ ys) cs ds long same =
+    let tails : xs ++ cs ≡ ys ++ ds = cc in
+    let rest = same_ends xs ys cs ds (omega arith) tails in
+    let heads : x ≡ y = cc in
+    ((let r = rest.0 in cc), rest.1)
+
+-- pieces of the same lengths join to lists of one length
+pub pieces_long : {A : Type 0} (g h : ℕ → List A) (n : ℕ) → ((k : ℕ) → length (g k) ≡ length (h k)) →
+    length (joined g n) ≡ length (joined h n)
+pieces_long g h zero long = refl
+pieces_long g h (suc n) long = rw (joined_more g n, joined_more h n) (length-append (joined g n) (g n)
+    ∙ (let before = pieces_long g h n long in let last = long n in omega arith)
+    ∙ sym (length-append (joined h n) (h n)))
+
+-- and are equal where these lists are
+pub pieces_same : {A : Type 0} (g h : ℕ → List A) (n : ℕ) → ((k : ℕ) → length (g k) ≡ length (h k)) → joined g n
+    ≡ joined h n → (k : ℕ) → k < n → g k ≡ h k
+pieces_same g h zero long same k below = absurd (omega arith)
+pieces_same g h (suc n) long same k below =
+    let ends = same_ends (joined g n) (joined h n) (g n) (h n) (pieces_long g h n long)
+    (sym (joined_more g n) ∙ same ∙ joined_more h n) in
+    elim (cases_eq k n) [
+      | inl last ↦ rw last ends.1
+      | inr before ↦ pieces_same g h n long ends.0 k (omega arith)
+    ]
+
+-- ---- an element taken out, and put back
+
+-- lists into which elements are put at one place are equal where the results are
+pub insert_same : {X : Type 0} (xs ys : List X) (p : ℕ) (x y : X) → length xs ≡ length ys → insert xs p x
+    ≡ insert ys p y → xs ≡ ys
+insert_same xs ys zero x y long same = cc
+insert_same [] [] (suc p) x y long same = refl
+insert_same [] (b ∷ ys) (suc p) x y long same = absurd (omega arith)
+insert_same (a ∷ xs) [] (suc p) x y long same = absurd (omega arith)
+insert_same (a ∷ xs) (b ∷ ys) (suc p) x y long same =
+    let tails : insert xs p x ≡ insert ys p y = cc in
+    let rest = insert_same xs ys p x y (omega arith) tails in
+    let heads : a ≡ b = cc in
+    cc
 
 pub insert-remove : {X : Type 0} (xs : List X) (p : ℕ) (d : X) → p < length xs → insert (remove xs p) p (get_or xs p d)
     ≡ xs

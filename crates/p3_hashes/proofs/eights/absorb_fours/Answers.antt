@@ -1,3 +1,4 @@
+-- Each turn absorbs the next four words of each message.
 use Rattle.std.proofs.Common.{arith, ◌≡◌, ◌+◌, ◌-◌, ◌*◌, ◌++◌, ◌∙◌, ap, sym, map, take, drop, take-add, slice_range}
 use Rattle.std.specs.List.{fold}
 use Rattle.p3_hashes.specs.Inner.Eights.{lanes_of}

@@ -1,3 +1,4 @@
+-- Lanes 0 to 3 are from the first four messages, and lanes 4 to 7 from the four after them.
 use Rattle.std.proofs.Common.{arith, ℕ, ◌≡◌, ◌+◌, ◌++◌, ◌∙◌, ap, refl, List, [], ◌∷◌, slice_range, get_or}
 use Rattle.p3_support.specs.Lists.{message}
 use Rattle.p3_hashes.specs.Inner.Turned.{turned}

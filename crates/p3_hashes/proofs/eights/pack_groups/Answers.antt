@@ -1,3 +1,4 @@
+-- Lane `k` of each packed child is the child at its place in group `first + k`.
 use Rattle.std.proofs.Common.{rules, arith, ℕ, ◌≡◌, ◌+◌, ◌<◌, ◌∙◌, sym, slice_index_or, [], List}
 use Rattle.std.proofs.lemmas.List.FromFn.{fill_by_all}
 use Rattle.p3_support.specs.Lists.{lane_of}

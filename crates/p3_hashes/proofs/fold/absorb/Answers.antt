@@ -1,3 +1,4 @@
+-- Each turn takes the word into one element.
 use Rattle.std.proofs.Common.{rules, ℕ, slice_index_or}
 use Rattle.p3_hashes.specs.Fold.{take_in}
 use Rattle.p3_support.proofs.LaneReads.{map_seen_more}

@@ -1,3 +1,4 @@
+-- Each turn mixes one child into each lane of the digest.
 use Rattle.std.proofs.Common.{rules, ◌≡◌, ◌<◌, ◌∙◌, sym, ap, List, [], length, map, slice_index_or, take, get_or}
 use Rattle.std.specs.List.{fold}
 use Rattle.std.proofs.lemmas.List.{length-map, get_or-map, get_or-replicate, length-replicate, take_all}

@@ -1,3 +1,4 @@
+-- Each turn absorbs one word in each lane.
 use Rattle.std.proofs.Common.{◌≡◌, ℕ, ◌<◌, List, map, ap, sym, ◌∙◌, ◌∷◌, [], slice_index_or}
 use Rattle.std.proofs.lemmas.List.{map-append}
 use Rattle.p3_hashes.specs.Fold.{fold_hash, take_in}

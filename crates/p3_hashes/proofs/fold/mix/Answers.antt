@@ -1,3 +1,4 @@
+-- Each turn mixes one element of the child into its element of the digest.
 use Rattle.std.proofs.Common.{rules, arith, refl, ◌≡◌, ℕ, ◌+◌, ◌%◌, ◌^◌, ◌<◌, ◌∙◌, ap, length, slice_index_or, inl, inr}
 use Rattle.std.proofs.lemmas.Bool.{cases_eq}
 use Rattle.std.proofs.lemmas.List.{get_or-map}

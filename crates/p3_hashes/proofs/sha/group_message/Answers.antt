@@ -1,3 +1,4 @@
+-- Each turn appends one digest, which has 32 bytes.
 use Rattle.std.proofs.{Common.rules, Common.◌<◌, Common.◌∙◌, Common.[], Common.ap, Common.length}
 use Rattle.std.proofs.lemmas.List.{get_or_default}
 use Rattle.p3_hashes.proofs.Pieces.{concat_more}

@@ -1,3 +1,4 @@
+-- Each clause is a lemma on what a verifier answers, for one index or for several.
 use Rattle.p3_merkle_core.proofs.Pruned.Answered.{restorable}
 use Rattle.p3_merkle_core.proofs.Pruned.Unrefused.{unrefused}
 use Rattle.p3_merkle_core.proofs.Checks.Verdicts.{accepted_from, accepted_answer, pruned_accepted, pruned_capped}

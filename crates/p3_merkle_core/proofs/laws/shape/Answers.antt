@@ -1,3 +1,4 @@
+-- Each clause is a lemma on the shape of a tree: its layers, steps, rows and root.
 use Rattle.std.proofs.lemmas.List.FromFn.{length-map-range_with_len, take-map-range_with_len}
 use Rattle.std.proofs.Common.{get_or, sym, arith}
 use Rattle.p3_merkle_core.specs.Caps.{cap_layer}

@@ -1,30 +1,22 @@
 -- Each turn adds the siblings of one level.
-use Rattle.std.proofs.Common.{◌≡◌, ◌∙◌, ◌+◌, ◌-◌, ◌*◌, ◌/◌, ◌%◌, ℕ, ap, length, sym, arith}
-use Rattle.std.proofs.Math.Nat.{mod-eq-sub-mul-div}
+use Rattle.std.proofs.Common.{◌≡◌, ◌∙◌, ◌+◌, ◌-◌, ◌*◌, sym, arith}
 use Rattle.std.proofs.lemmas.List.{get_or_default, length-set}
-use Rattle.p3_merkle_core.proofs.Covered.KeptFacts.{group_fits, link_at, path_turn}
+use Rattle.p3_merkle_core.proofs.Covered.KeptFacts.{group_at_place, link_at, path_turn}
 use Rattle.p3_merkle_core.proofs.pruning.siblings_on_path.Goals as goal
-
--- a node's position, by its parent
-position_at : (node step parent : ℕ) → parent ≡ node / step → node - step * parent ≡ node % step
-position_at node step parent is = ap (λ p. node - step * p) is ∙ sym (mod-eq-sub-mul-div node step)
 
 pub overflow_add-first : goal.overflow_add-first
 overflow_add-first g c =
     let above = c.index-layers-level.result in
-    let link = link_at c.args.layers.now c.loop-level.level above c.loop-level.invariant.some c.loop-level-test.true
-    c.requires.linked c.index-layers-level.is in
-    let fits = group_fits above.step c.place_of-place.result (length above.covered.nodes.items)
-    (length above.children.items) (rw c.deref.ensures.value at c.place_of-place.ensures.inside) link.full in
+    let fits = group_at_place c.args.layers.now c.loop-level.level c.place_of-place.result above
+    c.loop-level.invariant.some c.loop-level-test.true c.requires.linked c.index-layers-level.is
+    (rw c.deref.ensures.value at c.place_of-place.ensures.inside) in
     omega (arith, fits, above.children.ok)
 
 pub slice_bounds-append_siblings-end : goal.slice_bounds-append_siblings-end
 slice_bounds-append_siblings-end g c =
-    let above = c.index-layers-level.result in
-    let link = link_at c.args.layers.now c.loop-level.level above c.loop-level.invariant.some c.loop-level-test.true
-    c.requires.linked c.index-layers-level.is in
-    let fits = group_fits above.step c.place_of-place.result (length above.covered.nodes.items)
-    (length above.children.items) (rw c.deref.ensures.value at c.place_of-place.ensures.inside) link.full in
+    let fits = group_at_place c.args.layers.now c.loop-level.level c.place_of-place.result c.index-layers-level.result
+    c.loop-level.invariant.some c.loop-level-test.true c.requires.linked c.index-layers-level.is
+    (rw c.deref.ensures.value at c.place_of-place.ensures.inside) in
     omega (arith, fits)
 
 pub loop-level-preserved : goal.loop-level-preserved
@@ -40,7 +32,7 @@ loop-level-preserved g c =
     let here : level + 1 - 1 ≡ level = omega arith in
     let first = above.step * c.place_of-place.result in
     let count : first + above.step - first ≡ above.step = omega arith in
-    let own = position_at c.loop-level.node above.step c.parent_of-parent.result parent in
+    let own = c.position_of-own.ensures in
     record {
       some = omega arith;
       places = length-set c.loop-level.places level c.place_of-place.result ∙ so_far.places;

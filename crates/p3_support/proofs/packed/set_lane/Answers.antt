@@ -1,3 +1,4 @@
+-- Each turn sets lane `k` of one element, and no other lane.
 use Rattle.std.proofs.Common.{rules, arith, ◌≡◌, ℕ, ◌<◌, ◌∙◌, sym, ap, length, slice_index_or, slice_set}
 use Rattle.std.proofs.lemmas.List.{map-set, get_or-map, get_or_read, length-map, get_or-set_same, get_or-set_other}
 use Rattle.std.proofs.lemmas.List.{set-get_or, ext_get_or}

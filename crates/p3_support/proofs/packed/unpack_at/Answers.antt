@@ -1,3 +1,4 @@
+-- Row `first + k` is read out of what was written, which is lane `k`.
 use Rattle.std.proofs.Common.{arith, ℕ, ◌≡◌, ◌≤◌, ◌∙◌, ap, length, slice_index_or, []}
 use Rattle.std.proofs.lemmas.List.FromFn.{get_or-map-range_with_len, length-map-range_with_len}
 use Rattle.p3_support.specs.Lists.{lane_of}

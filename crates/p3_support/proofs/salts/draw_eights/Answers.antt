@@ -1,3 +1,4 @@
+-- Each turn draws the next eight values.
 use Rattle.std.proofs.Common.{arith, ◌++◌, ◌∙◌, ap, map}
 use Rattle.p3_support.proofs.Draws.{drawn_more, salts_mapped}
 use Rattle.p3_support.proofs.salts.draw_eights.Goals as goal

@@ -1,3 +1,4 @@
+-- The sum in each lane is the schedule's next word, and it stands in place of the oldest.
 use Rattle.std.proofs.Common.{◌≡◌, ℕ, List, ◌%◌, arith, slice_index}
 use Rattle.std.proofs.lemmas.List.{map-set}
 use Rattle.sha256_eights.proofs.Lanewise.{lane_word}
@@ -8,14 +9,10 @@ returns-clause-value c = λ j below.
     let p = c.args.place in
     let place : p % 16 ≡ p = omega arith in
     rw (
-      c.add-word.ensures j below,
-      c.add-2.ensures j below,
-      c.add.ensures j below,
-      c.small_sigma1.ensures j below,
-      c.small_sigma0.ensures j below,
+      c.schedule_word-word.ensures j below,
       place,
     ) (simp lane_word)
 
 pub returns-clause-window : goal.returns-clause-window
 returns-clause-window c = λ j below. map-set (λ (v : List ℕ). slice_index v j) c.args.w.now c.args.place
-    c.add-word.result
+    c.schedule_word-word.result

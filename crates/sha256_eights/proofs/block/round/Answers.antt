@@ -1,3 +1,4 @@
+-- Lane by lane, the round is the standard's.
 use Rattle.sha256_eights.proofs.Lanewise.{lane_word, splatted}
 use Rattle.sha256_eights.proofs.block.round.Goals as goal
 

@@ -35,15 +35,11 @@ loop-t-preserved c =
     let t = c.loop-t.t in
     let low = c.loop-t.auto.t in
     let high = c.loop-t-test.true in
-    one_written c.add-in-loop-t-2.result c.loop-t.invariant (omega arith) refl (omega arith) (λ j below b is.
+    one_written c.schedule_word.result c.loop-t.invariant (omega arith) refl (omega arith) (λ j below b is.
     let at : (i : ℕ) → i < t → slice_index (get_or c.loop-t.words i []) j ≡ slice_index (schedule b 48) i =
     λ i under. c.loop-t.invariant.written i (omega arith) under j below b is in
     rw (
-      c.add-in-loop-t-2.ensures j below,
-      c.add-in-loop-t.ensures j below,
-      c.small_sigma0.ensures j below,
-      c.add.ensures j below,
-      c.small_sigma1.ensures j below,
+      c.schedule_word.ensures j below,
       at (t - 2) (omega (arith, low)),
       at (t - 7) (omega (arith, low)),
       at (t - 15) (omega (arith, low)),

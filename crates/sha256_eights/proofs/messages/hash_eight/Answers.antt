@@ -1,3 +1,4 @@
+-- Each turn writes the digest of one message of the eight.
 use Rattle.std.proofs.Common.{List, ℕ, ◌+◌, ◌<◌, ◌∙◌, ap, length, arith}
 use Rattle.sha2.specs.Sha256.{digest_bytes, sha256}
 use Rattle.sha256_eights.proofs.Padding.{length-eight, message_of_part, messages_inside}

@@ -4,6 +4,6 @@ use Rattle.sha256_eights.specs.Messages.{message}
 use Rattle.sha256_eights.specs.Inner.Written.{AreWritten}
 use Rattle.sha256_eights.proofs.messages.hash_eights.Given as goal
 
-abbrev pub invariant-loop-group : goal.invariant-loop-group
-invariant-loop-group g l =
-    AreWritten (λ i d. d ≡ sha256 (message l.width l.messages i)) 0 (8 * l.group) l.initial.out l.out
+abbrev pub invariant-loop-eight : goal.invariant-loop-eight
+invariant-loop-eight g l =
+    AreWritten (λ i d. d ≡ sha256 (message l.width l.messages i)) 0 (8 * l.eight) l.initial.out l.out

@@ -1,3 +1,4 @@
+-- The whole eights and the rest are all messages, and their width is the length of all divided by their number.
 use Rattle.std.proofs.Common.{rules, arith, ◌≡◌, ℕ, ◌<◌, ◌/◌, ◌∙◌, sym, ap, length, []}
 use Rattle.std.proofs.Math.Nat.{mul-div_cancel}
 use Rattle.std.proofs.lemmas.List.FromFn.{fill_by_all}

@@ -1,3 +1,4 @@
+-- Each turn hashes one block of each message; a last block of padding alone is hashed after the loop.
 use Rattle.std.proofs.Common.{◌≡◌, ℕ, List, ◌+◌, ◌*◌, ◌/◌, ◌<◌, ◌∙◌, sym, ap, length, take, drop, arith}
 use Rattle.sha2.specs.Sha256.{compress, hash_after, initial_hash_256, padded_message}
 use Rattle.sha256_eights.proofs.Padding.{length-message}

@@ -1,3 +1,5 @@
+-- A word of a padded message is one of the message, or of its padding alone; search proves the case of a word with
+-- bytes of both.
 use Rattle.std.proofs.Common.{◌+◌, ◌*◌, ◌∙◌, sym, arith}
 use Rattle.sha256_eights.proofs.Padding.{length-message}
 use Rattle.sha256_eights.specs.Messages.{message}

@@ -1,3 +1,4 @@
+-- Each turn writes the digest of one message.
 use Rattle.std.proofs.Common.{◌≡◌, ℕ, List, ◌*◌, ◌/◌, ◌<◌, ◌∙◌, ap, refl, length, arith, sym}
 use Rattle.sha2.specs.Sha256.{digest_bytes, hash_after, initial_hash_256, padded_message, sha256}
 use Rattle.sha256_eights.proofs.Padding.{length-message}

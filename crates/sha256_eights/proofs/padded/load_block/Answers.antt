@@ -1,3 +1,4 @@
+-- Each turn loads one word of each message.
 use Rattle.std.proofs.Common.{◌≡◌, ◌+◌, ◌*◌, ◌∙◌, ap, refl, arith}
 use Rattle.sha2.specs.Sha256.{word_at}
 use Rattle.sha256_eights.specs.Messages.{message}

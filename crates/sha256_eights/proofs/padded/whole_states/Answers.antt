@@ -1,3 +1,4 @@
+-- Each turn hashes one block of each message.
 use Rattle.std.proofs.Common.{◌≡◌, ℕ, List, ◌*◌, ◌∙◌, sym, ap, take, drop, arith}
 use Rattle.sha2.specs.Sha256.{compress, hash_after, initial_hash_256}
 use Rattle.sha256_eights.specs.Messages.{message}

@@ -1,3 +1,4 @@
+-- The width is the length of all messages divided by their number, and each place has the digest of its message.
 use Rattle.std.proofs.Common.{rules, arith, ◌≡◌, ◌<◌, ◌/◌, ◌∙◌, sym, ap, length, []}
 use Rattle.std.proofs.Math.Nat.{mul-div_cancel}
 use Rattle.std.proofs.lemmas.List.FromFn.{fill_by_all}

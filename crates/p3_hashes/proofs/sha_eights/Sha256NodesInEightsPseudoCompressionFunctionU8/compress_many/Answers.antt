@@ -1,3 +1,5 @@
+-- The bytes of all groups are as many messages of one length, and the message of a group is its digests, one after
+-- another.
 use Rattle.std.proofs.Common.{◌≡◌, ℕ, ◌*◌, ◌<◌, ◌∙◌, sym, ap, List, length, map, []}
 use Rattle.std.proofs.Math.Nat.{mul_assoc, mul_comm}
 use Rattle.std.proofs.lemmas.List.{get_or-map, length-map}

@@ -1,3 +1,4 @@
+-- At the row's end no column is left; before it, the next column is the first of those that are left.
 use Rattle.std.proofs.Common.{rules, arith, ◌≡◌, ◌∙◌, sym, ap, length, drop}
 use Rattle.p3_support.specs.Lists.{column_of_rows, columns}
 use Rattle.p3_support.proofs.RowReads.{drop_column, drop_columns}

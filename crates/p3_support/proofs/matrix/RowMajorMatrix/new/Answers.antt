@@ -1,3 +1,4 @@
+-- The height is the number of values divided by the width, and the values fill as many rows.
 use Rattle.std.proofs.Common.{rules, ◌≡◌, ◌*◌, ◌/◌, ◌∙◌, ap, sym, refl, length}
 use Rattle.std.proofs.Math.Nat.{mul-div_cancel, mul-zero}
 use Rattle.p3_support.proofs.matrix.RowMajorMatrix.new.Goals.{then-width-eq0, else-width-eq0}

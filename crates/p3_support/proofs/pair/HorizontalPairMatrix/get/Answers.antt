@@ -1,3 +1,4 @@
+-- An element of a joined row is the left row's below the left width, and the right row's from there on.
 use Rattle.std.proofs.Common.{rules}
 use Rattle.p3_support.proofs.RowReads.{joined_first, joined_second}
 use Rattle.p3_support.proofs.pair.HorizontalPairMatrix.get.Goals as goal

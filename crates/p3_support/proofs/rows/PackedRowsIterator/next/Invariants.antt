@@ -1,3 +1,4 @@
+-- Passing a matrix whose columns are all given leaves the same columns, of fewer matrices.
 use Rattle.std.proofs.Common.{◌≡◌, ◌+◌, ◌≤◌, All, length}
 use Rattle.std.specs.Prelude.{IfSome}
 use Rattle.p3_support.specs.Inner.Stored.{BeginsWith}

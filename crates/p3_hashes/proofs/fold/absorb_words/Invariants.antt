@@ -2,7 +2,7 @@ use Rattle.std.proofs.Common.{◌≡◌, ℕ, ◌<◌, map, take}
 use Rattle.std.specs.List.{fold}
 use Rattle.p3_hashes.specs.Fold.{take_in}
 use Rattle.p3_support.specs.Lists.{lane_of}
-use Rattle.p3_hashes.proofs.eights.absorb_words.Given as goal
+use Rattle.p3_hashes.proofs.fold.absorb_words.Given as goal
 
 abbrev pub invariant-loop-word : goal.invariant-loop-word
 invariant-loop-word g l = (k : ℕ) → k < g.P.PackedValue.WIDTH →

@@ -1,6 +1,6 @@
 use Rattle.std.proofs.Common.{ℕ, ◌+◌, ◌%◌, ◌^◌}
 use Rattle.sha256_eights.proofs.Lanewise.{itself, splatted, zipped}
-use Rattle.p3_hashes.proofs.lanes.U32x8FoldLane.add_to_each.Goals as goal
+use Rattle.p3_hashes.proofs.lanes.U32x8FoldPacked.add_to_each.Goals as goal
 
 pub invariant_of-result : goal.invariant_of-result
 invariant_of-result c =

@@ -1,9 +1,10 @@
+-- Each turn absorbs one word in each lane.
 use Rattle.std.proofs.Common.{rules, ◌≡◌, ◌<◌, ◌∙◌, ap, sym, length, map, take, slice_index, slice_index_or}
 use Rattle.std.specs.List.{fold}
 use Rattle.std.proofs.lemmas.List.{get_or-map, length-map}
 use Rattle.p3_hashes.specs.Fold.{take_in}
 use Rattle.p3_hashes.proofs.FoldSteps.{absorbed_more}
-use Rattle.p3_hashes.proofs.eights.absorb_words.Goals as goal
+use Rattle.p3_hashes.proofs.fold.absorb_words.Goals as goal
 
 pub loop-word-preserved : goal.loop-word-preserved
 loop-word-preserved g c = λ k below.

@@ -1,8 +1,9 @@
+-- Vectors multiply and add in each lane alone.
 use Rattle.std.proofs.Common.{◌≡◌, ℕ, ◌+◌, ◌*◌, ◌%◌, ◌^◌, ◌∙◌, List, length, replicate, slice_index}
 use Rattle.std.specs.Simd.Lanes.{zip2}
 use Rattle.p3_hashes.proofs.FoldSteps.{taken_in}
 use Rattle.sha256_eights.proofs.Lanewise.{Eight, itself, splatted, zipped}
-use Rattle.p3_hashes.proofs.lanes.U32x8FoldLane.mul_31_add.Goals as goal
+use Rattle.p3_hashes.proofs.lanes.U32x8FoldPacked.mul_31_add.Goals as goal
 
 sums : (s w : List ℕ) → length s ≡ 8 → length w ≡ 8
     → Eight (zip2 (λ a b. (a + b) % 2 ^ 32) (zip2 (λ a b. (a * b) % 2 ^ 32) s (replicate 8 31)) w)
