@@ -150,6 +150,7 @@ fn report_clap_error(rt: &HostRuntime, error: &clap::Error) -> ExitCode {
     let Ok(text) = format!(in rt.alloc(); "{error}") else {
         return refuse_memory(rt);
     };
+    // The error quotes arguments: each line is escaped, and clap's line feeds are kept.
     for line in text.lines() {
         let _ = eprintln!(rt; "{}", Escaped(line));
     }
