@@ -33,7 +33,7 @@ fn main(rt: HostRuntime) -> ExitCode {
             Err(error) => refuse(&rt, error),
         },
         Ok((command, args)) => run_command(&args, command),
-        Err(ArgsError::Clap(error)) => print_help(&rt, &error),
+        Err(ArgsError::Clap(error)) => report_clap_error(&rt, &error),
         Err(error) => refuse(&rt, error),
     }
 }
@@ -140,7 +140,7 @@ fn finish(args: &Args<'_>, done: Result<(), Error>) -> ExitCode {
 
 /// Prints the help that is asked for, or what is wrong about the arguments. Returns exit code 0 if help was asked for
 /// and printed, else 2.
-fn print_help(rt: &HostRuntime, error: &clap::Error) -> ExitCode {
+fn report_clap_error(rt: &HostRuntime, error: &clap::Error) -> ExitCode {
     if error.kind() == clap::error::ErrorKind::OutOfMemory {
         return refuse_memory(rt);
     }
@@ -150,6 +150,7 @@ fn print_help(rt: &HostRuntime, error: &clap::Error) -> ExitCode {
     let Ok(text) = format!(in rt.alloc(); "{error}") else {
         return refuse_memory(rt);
     };
+    // The error quotes arguments: each line is escaped, and clap's line feeds are kept.
     for line in text.lines() {
         let _ = eprintln!(rt; "{}", Escaped(line));
     }

@@ -91,10 +91,12 @@ fn first_number(ranges: &[Range], size: usize) -> usize {
     }
 }
 
-/// How many entries a checkpoint claims. If it says no number, a run refuses it, and this is `usize::MAX`.
+/// The size on the second line of a checkpoint, which is not checked otherwise. `usize::MAX` if that line is no number:
+/// then no number is past it, and the run that follows refuses the checkpoint.
 fn claimed_size(alloc: Global, checkpoint: &mut Input<'_>) -> usize {
     let mut text = Vec::new(alloc);
-    // A run fails again where this fails, and refuses more bytes.
+    // Errors are dropped: the run that follows reads the checkpoint again, fails in the same way, and refuses one that
+    // is too long.
     let _ = checkpoint.take(MAX_CHECKPOINT_BYTES).read_to_end(&mut text);
     let mut lines = text.split(|byte| *byte == b'\n');
     let size = lines

@@ -26,9 +26,9 @@ pub fn each_input_has_an_outcome()
         (outcome : Result (List ℕ) Fault) × IsOutcome args input outcome }
 {}
 
-/// Blank lines at the front and at the end do not matter. Two inputs with a blank line between them stand for the
-/// matrices of the first followed by those of the second. So the last line feed may be missing.
-pub fn blank_lines_part_matrices()
+/// Blank lines before the first row and after the last one do not matter, so the last line feed may be missing. Two
+/// inputs with a blank line between them stand for the matrices of the first followed by those of the second.
+pub fn blank_lines_separate_matrices()
     ensures front { (limit : ℕ) (blank input : List ℕ) (matrices : List (List (List ℕ))) →
         All (λ piece. is_blank piece ≡ true) (pieces_of blank) →
         StandsFor limit (blank ++ 10 ∷ input) matrices ↔ StandsFor limit input matrices }

@@ -56,35 +56,35 @@ boundary_of_padding_slots : boundary (narrow 4 (2 ∷ [])) (0 ∷ []) 1 ≡ (0, 
 unfolding exponent layer_exponent raw_len leaves_under
 boundary_of_padding_slots = refl
 
-digests_for_three_of_8 : length (boundary eight_rows (1 ∷ 2 ∷ 5 ∷ []) 3) ≡ 4
+boundary_length_for_three_of_8 : length (boundary eight_rows (1 ∷ 2 ∷ 5 ∷ []) 3) ≡ 4
 unfolding exponent layer_exponent raw_len leaves_under
-digests_for_three_of_8 = refl
+boundary_length_for_three_of_8 = refl
 
-digests_for_one_of_8 : length (boundary eight_rows (5 ∷ []) 3) ≡ 3
+boundary_length_for_one_of_8 : length (boundary eight_rows (5 ∷ []) 3) ≡ 3
 unfolding exponent layer_exponent raw_len leaves_under
-digests_for_one_of_8 = refl
+boundary_length_for_one_of_8 = refl
 
-digests_for_all_of_8 : length (boundary eight_rows (0 ∷ 1 ∷ 2 ∷ 3 ∷ 4 ∷ 5 ∷ 6 ∷ 7 ∷ []) 3) ≡ 0
+boundary_length_for_all_of_8 : length (boundary eight_rows (0 ∷ 1 ∷ 2 ∷ 3 ∷ 4 ∷ 5 ∷ 6 ∷ 7 ∷ []) 3) ≡ 0
 unfolding exponent layer_exponent raw_len leaves_under
-digests_for_all_of_8 = refl
+boundary_length_for_all_of_8 = refl
 
-digests_for_none_of_8 : length (boundary eight_rows [] 3) ≡ 0
+boundary_length_for_none_of_8 : length (boundary eight_rows [] 3) ≡ 0
 unfolding exponent layer_exponent raw_len leaves_under
-digests_for_none_of_8 = refl
+boundary_length_for_none_of_8 = refl
 
-digests_for_one_of_16_at_4 : length (boundary (narrow 4 (16 ∷ [])) (9 ∷ []) 2) ≡ 6
+boundary_length_for_one_of_16_at_arity_4 : length (boundary (narrow 4 (16 ∷ [])) (9 ∷ []) 2) ≡ 6
 unfolding exponent layer_exponent raw_len leaves_under
-digests_for_one_of_16_at_4 = refl
+boundary_length_for_one_of_16_at_arity_4 = refl
 
-digests_for_all_of_16_at_4 :
+boundary_length_for_all_of_16_at_arity_4 :
     length (boundary (narrow 4 (16 ∷ [])) (0 ∷ 1 ∷ 2 ∷ 3 ∷ 4 ∷ 5 ∷ 6 ∷ 7 ∷ 8 ∷ 9 ∷ 10 ∷ 11 ∷ 12 ∷ 13 ∷ 14 ∷ 15 ∷ []) 2)
     ≡ 0
 unfolding exponent layer_exponent raw_len leaves_under
-digests_for_all_of_16_at_4 = refl
+boundary_length_for_all_of_16_at_arity_4 = refl
 
-digests_for_both_of_2_at_4 : length (boundary (narrow 4 (2 ∷ [])) (0 ∷ 1 ∷ []) 1) ≡ 2
+boundary_length_for_both_of_2_at_arity_4 : length (boundary (narrow 4 (2 ∷ [])) (0 ∷ 1 ∷ []) 1) ≡ 2
 unfolding exponent layer_exponent raw_len leaves_under
-digests_for_both_of_2_at_4 = refl
+boundary_length_for_both_of_2_at_arity_4 = refl
 
 digests_of_four_queries : (honest_query example one_to_eight 3 four_queries).digests ≡ four_digests
 unfolding exponent layer_exponent raw_len node leaves_under
@@ -131,17 +131,17 @@ values_of_covered_children : beside {X = ℕ} (is_among (1 ∷ 5 ∷ [])) (0 ∷
     ≡ 31 ∷ 35 ∷ []
 values_of_covered_children = refl
 
--- of three levels from the leaves up: each has the covered parents, how many children a parent has, and the values of
--- these children
-path_of_a_kept_leaf :
-    siblings_on_path {X = ℕ} ((0 ∷ 1 ∷ 2 ∷ [], 2, 0 ∷ 1 ∷ 2 ∷ 3 ∷ 4 ∷ 5 ∷ []) ∷ (0 ∷ 1 ∷ [], 2, 10 ∷ 11 ∷ 12 ∷ 13 ∷ [])
-    ∷ (0 ∷ [], 2, 20 ∷ 21 ∷ []) ∷ []) 5 ≡ 4 ∷ 13 ∷ 20 ∷ []
-path_of_a_kept_leaf = refl
+-- three levels, from the leaves up: the covered parents, how many children each has, and the values of these children
+abbrev three_levels : List (List ℕ × ℕ × List ℕ)
+three_levels =
+    (0 ∷ 1 ∷ 2 ∷ [], 2, 0 ∷ 1 ∷ 2 ∷ 3 ∷ 4 ∷ 5 ∷ []) ∷ (0 ∷ 1 ∷ [], 2, 10 ∷ 11 ∷ 12 ∷ 13 ∷ [])
+    ∷ (0 ∷ [], 2, 20 ∷ 21 ∷ []) ∷ []
 
-path_of_another_leaf :
-    siblings_on_path {X = ℕ} ((0 ∷ 1 ∷ 2 ∷ [], 2, 0 ∷ 1 ∷ 2 ∷ 3 ∷ 4 ∷ 5 ∷ []) ∷ (0 ∷ 1 ∷ [], 2, 10 ∷ 11 ∷ 12 ∷ 13 ∷ [])
-    ∷ (0 ∷ [], 2, 20 ∷ 21 ∷ []) ∷ []) 7 ≡ 12 ∷ 20 ∷ []
-path_of_another_leaf = refl
+siblings_of_a_covered_leaf : siblings_on_path three_levels 5 ≡ 4 ∷ 13 ∷ 20 ∷ []
+siblings_of_a_covered_leaf = refl
+
+siblings_of_an_uncovered_leaf : siblings_on_path three_levels 7 ≡ 12 ∷ 20 ∷ []
+siblings_of_an_uncovered_leaf = refl
 
 -- ---- refusals
 

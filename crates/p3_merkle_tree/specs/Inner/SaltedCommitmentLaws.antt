@@ -1,4 +1,4 @@
--- What follows of what a salted scheme commits to, and of what it shows.
+-- What follows from what a salted scheme commits to, and from what it shows.
 use Rattle.std.specs.Prelude.{◌≡◌, ℕ, zero, suc, ◌<◌, List, [], ◌∷◌, length, map, slice_index, slice_index_or, zip}
 use Rattle.std.specs.List.{AllZip}
 use Rattle.std.proofs.{Common.◌∙◌, Common.ap, Common.arith, Common.refl, Common.subst, Common.sym}
@@ -50,7 +50,7 @@ module _ {T A B : Type 0} {a : Ghosts A T} {b : Ghosts B T} where
   left_heights [] = refl
   left_heights (p ∷ pairs) = ap (λ (hs : List ℕ). a.height_of (left_of p) ∷ hs) (left_heights pairs)
 
-  -- so these are lawful
+  -- if the heights of pairs are lawful, so are those of their left matrices
   pub left_lawful : (pairs : List (HorizontalPair T A B a b)) →
       IsLawful (heights_of (dimensions_of (map pair_matrix pairs))) →
       IsLawful (heights_in a.height_of a.width_of a.row_of (map left_of pairs))
@@ -80,7 +80,7 @@ module _ {A B C : Type 0} (join : A × B → C) where
   pair_at (x ∷ xs) (y ∷ ys) zero a b same = refl
   pair_at (x ∷ xs) (y ∷ ys) (suc k) a b same = pair_at xs ys k a b (omega (arith, same))
 
--- of an accepted pruned opening each row set is shown to be that of its index
+-- in an accepted pruned opening each row set is shown to be that of its index
 pub each_salted_shown : {T W : Type 0} (e : ℕ) (ds : List Dimensions) (c : Params T W) (cap : List (List W))
     (o : SaltedPruned T W) → IsSaltedPrunedAccepted e ds c cap o → AllZip (HaveSaltedProof e ds c cap) o.indices o.rows
 each_salted_shown {T} {W} e ds c cap o w =
@@ -103,7 +103,7 @@ each_salted_shown {T} {W} e ds c cap o w =
       };
     })
 
--- more columns leave the heights
+-- adding columns does not change the heights
 pub wide_heights : (e : ℕ) (ds : List Dimensions) → heights_of (widened e ds) ≡ heights_of ds
 wide_heights e [] = refl
 wide_heights e (d ∷ ds) = ap (λ (hs : List ℕ). d.height ∷ hs) (wide_heights e ds)

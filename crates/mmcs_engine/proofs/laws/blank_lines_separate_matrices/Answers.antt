@@ -4,7 +4,7 @@ use Rattle.std.specs.List.{AllZip}
 use Rattle.mmcs_engine.specs.Input.{IsMatrix}
 use Rattle.mmcs_engine.proofs.InputFacts.{zip_append}
 use Rattle.mmcs_engine.proofs.InputLaws.{blocks_of, blank_front, blank_end, blank_between}
-use Rattle.mmcs_engine.proofs.laws.blank_lines_part_matrices.Goals as goal
+use Rattle.mmcs_engine.proofs.laws.blank_lines_separate_matrices.Goals as goal
 
 pub returns-clause-front : goal.returns-clause-front
 returns-clause-front c = λ limit blank input matrices all.
