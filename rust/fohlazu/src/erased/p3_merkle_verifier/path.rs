@@ -103,7 +103,9 @@ impl<
         PathState { exponent, node: opening.index, used: 0, digest: self.row_digest(opening.rows, exponent) }
     }
 
-    /// Computes level `level` of the check of an opening, from the node that it has reached to its parent.
+    /// Computes level `level` of the check of an opening: from `state`, the node of the path in layer `level`, to its
+    /// parent. `level` must be below the cap's layer, `state` that of this check at `level`, and the opening must have
+    /// the siblings of the whole path to the cap.
     // A call that is not inlined writes the whole level to memory, and a verification needs only `above`.
     #[inline(always)]
     pub(crate) fn compute_level(
