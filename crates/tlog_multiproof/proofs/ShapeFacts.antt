@@ -132,9 +132,13 @@ layers_below s indices m (suc t) h =
     (All-append (λ (slot : ℕ × ℕ). slot.0 < m) (boundary s indices t) (boundary_at s indices t)
     (layers_below s indices m t (omega arith)) last)
 
+-- how many layers there are
+pub levels_small : (size : ℕ) → size ≤ size_limit → levels (log_shape size) ≤ 62
+levels_small size small =
+    omega (arith, levels_le (log_shape size), exponent_le size 62 small, ap exponent (tallest size))
+
 pub layers_small : (size : ℕ) (indices : List ℕ) (slots : List (ℕ × ℕ)) → size ≤ size_limit →
     slots ≡ boundary (log_shape size) indices (levels (log_shape size)) → All (λ slot. slot.0 < 64) slots
 layers_small size indices slots small is =
-    let few : levels (log_shape size) ≤ 62 =
-    omega (arith, levels_le (log_shape size), exponent_le size 62 small, ap exponent (tallest size)) in
+    let few = levels_small size small in
     rw is (layers_below (log_shape size) indices 64 (levels (log_shape size)) (omega arith))

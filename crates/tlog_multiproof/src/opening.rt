@@ -64,7 +64,7 @@ pub fn entry_places(
 }
 
 /// Whether a slot, given by its layer and its place there, is a node: whether it has entries below it.
-fn is_node(size: usize, slot: (usize, usize)) -> bool
+pub(crate) fn is_node(size: usize, slot: (usize, usize)) -> bool
     requires some { 0 < size }
     requires layer { slot.0 < 64 }
     ensures { result ≡ is_node_by size slot }
