@@ -1,9 +1,9 @@
 -- The entries of a proof by where they stand in its text, in any order and in that of their indices.
-use Rattle.std.proofs.Common.{◌≡◌, ℕ, suc, ◌+◌, ◌-◌, ◌<◌, ◌≤◌, List, [], ◌∷◌, ◌++◌, map, drop, length, get_or, refl, ap, sym}
-use Rattle.std.proofs.Common.{subst, ◌∙◌, arith, append_assoc, append-nil, drop_at, length-append, Some, Result, Ok, Err}
+use Rattle.std.proofs.Common.{◌≡◌, ℕ, zero, suc, ◌+◌, ◌-◌, ◌<◌, ◌≤◌, List, [], ◌∷◌, ◌++◌, map, drop, length, get_or, refl, ap, sym}
+use Rattle.std.proofs.Common.{subst, ◌∙◌, arith, append_assoc, append-nil, drop_at, length-append, Option, None, Some, Result, Ok, Err}
 use Rattle.std.proofs.lemmas.List.{get_or-map, length-map, map-append}
 use Rattle.std.proofs.lemmas.List.Sorted.{IsNonDecreasingBy-from_sort}
-use Rattle.std.specs.List.Sorted.{IsSorted}
+use Rattle.std.specs.List.Sorted.{IsPermutation, IsSorted}
 use Rattle.std.specs.Option.{option_map_or}
 use Rattle.std.specs.Ordering.{is_lt, nat_cmp, ordering_then}
 use Rattle.std.specs.Prelude.{false}
@@ -13,12 +13,30 @@ use Rattle.std.specs.declared.cmp.Ordering.TheVariants.{Less, Equal, Greater}
 use Rattle.sha2.specs.Sha256.{sha256}
 use Rattle.tlog.specs.Rfc9162.{leaf_hash}
 use Rattle.tlog_multiproof.specs.Ascending.{IsAscending}
+use Rattle.tlog_multiproof.specs.Entries.{entries_refusal}
+use Rattle.tlog_multiproof.proofs.Permuted.{permuted}
 use Rattle.tlog_text.specs.InPlace.{entries_from}
 use Rattle.tlog_text.specs.Reading.{Reads, entry_by}
 use Rattle.tlog_text.specs.Texts.{EntryFields, entry_lines}
-use Rattle.tlog_text.proofs.InPlaceFacts.{from_goes_on, from_stops, none_from}
+use Rattle.tlog_text.proofs.InPlaceFacts.{from_goes_on, next_from, none_from}
 use Rattle.tlog_text.proofs.ProofLaws.{entry_spelled}
 use Rattle.fohlazu_commands.specs.Inner.{ArePlaces, index_of, leaf_at}
+
+-- ---- how many
+
+-- the entries that begin with what is read of one, if anything is
+length_after : (n : ℕ) (o : Option (EntryFields × List ℕ)) →
+    ((rest : List ℕ) → length (entries_from rest n) ≤ n) →
+    length (option_map_or (λ (read : EntryFields × List ℕ). read.0 ∷ entries_from read.1 n) o []) ≤ suc n
+length_after n None others = omega arith
+length_after n (Some read) others = let few = others read.1 in omega (arith, few)
+
+-- there are no more entries than a text is said to have
+pub length_from : (left : List ℕ) (n : ℕ) → length (entries_from left n) ≤ n
+length_from left zero = rw (none_from left) (omega arith)
+length_from left (suc n) =
+    rw (next_from left n (result_ok (entry_by left)) refl)
+    (length_after n (result_ok (entry_by left)) (λ rest. length_from rest n))
 
 -- ---- entry by entry
 
@@ -111,3 +129,13 @@ sorted_ascends sorted up i j le inside =
     (λ k d low high. first_key (nat_cmp (get_or sorted (k + 1) d).0 (get_or sorted k d).0)
     (nat_cmp (get_or sorted (k + 1) d).1 (get_or sorted k d).1) (up k d low high)) i j d le within in
     rw (get_or-map index_of sorted i d 0 (omega arith), get_or-map index_of sorted j d 0 within) below
+
+-- the verifier refuses sorted entries as it refuses those of the proof
+pub sorted_refusal : (size : ℕ) (text : List ℕ) (entries : List EntryFields) (places sorted : List (ℕ × ℕ))
+    (digests : List (List ℕ)) (root : List ℕ) → ArePlaces text entries places → IsPermutation places sorted →
+    entries_refusal sha256 size (map index_of sorted) (map (leaf_at text) sorted) digests root
+    ≡ entries_refusal sha256 size (map number_at entries) (map hash_at entries) digests root
+sorted_refusal size text entries places sorted digests root are moved =
+    sym (permuted sha256 size index_of (leaf_at text) places sorted digests root moved)
+    ∙ ap (λ indices. entries_refusal sha256 size indices (map (leaf_at text) places) digests root) are.indices
+    ∙ ap (λ leaves. entries_refusal sha256 size (map number_at entries) leaves digests root) are.leaves

@@ -119,7 +119,11 @@ pub(crate) fn read_text<R: Read>(
 {
     let mut bytes = Vec::new(alloc);
     match input.read_to_end(&mut bytes) {
-        Ok(_) => Ok(bytes),
+        Ok(_) => {
+            // Room for up to as many bytes again would be held as long as the text.
+            bytes.shrink_to_fit();
+            Ok(bytes)
+        }
         Err(error) if error.kind() == ErrorKind::OutOfMemory => Err(Error::OutOfMemory),
         Err(_) => Err(Error::Read(source)),
     }

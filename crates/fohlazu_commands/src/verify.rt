@@ -101,7 +101,7 @@ fn check_requested(
 
 /// Checks that entries are those of these numbers, in their order.
 fn check_numbers(numbers: &[usize], entries: Entries) -> Result<(), Error>
-    ensures { Checks result (numbers_refusal (Some numbers.now) (entries_left entries)) }
+    ensures { Checks result (numbers_refusal (Some numbers.now) (entries_left entries.entry)) }
 {
     let mut rest = numbers;
     for entry in entries {
@@ -122,7 +122,7 @@ fn check_numbers(numbers: &[usize], entries: Entries) -> Result<(), Error>
 
 /// Checks that entries can be printed.
 fn check_entries(print: Print, size: usize, entries: Entries) -> Result<(), Error>
-    ensures { Checks result (first_of (entry_refusal print size) (entries_left entries)) }
+    ensures { Checks result (first_of (entry_refusal print size) (entries_left entries.entry)) }
 {
     for entry in entries {
         if !is_printable(print, size, &entry) {
@@ -162,7 +162,7 @@ fn text_of(
     bare: bool,
     entries: Entries,
 ) -> Result<Vec<u8>, AllocError>
-    ensures { IfOk result (λ text. text.items ≡ flat_map (printed print bare) (entries_left entries)) }
+    ensures { IfOk result (λ text. text.items ≡ flat_map (printed print bare) (entries_left entries.entry)) }
 {
     let mut text = Vec::new(alloc);
     for entry in entries {

@@ -41,7 +41,7 @@ pub fn entry_places(indices: &[usize], size: usize) -> Result<Vec<(usize, usize)
 }
 
 /// Whether a slot, given by its layer and its place there, is a node: whether it has entries below it.
-fn is_node(size: usize, slot: (usize, usize)) -> bool {
+pub(crate) fn is_node(size: usize, slot: (usize, usize)) -> bool {
     slot.1 <= (size - 1) >> slot.0
 }
 
