@@ -156,12 +156,7 @@ fn check_proof(alloc: Global, checkpoint: &Checkpoint, proof: &EntriesText) -> R
 }
 
 /// What is printed of entries. Where `bare`, lines are printed without their numbers.
-fn text_of(
-    alloc: Global,
-    print: Print,
-    bare: bool,
-    entries: Entries,
-) -> Result<Vec<u8>, AllocError>
+fn text_of(alloc: Global, print: Print, bare: bool, entries: Entries) -> Result<Vec<u8>, AllocError>
     ensures { IfOk result (λ text. text.items ≡ flat_map (printed print bare) (entries_left entries.entry)) }
 {
     let mut text = Vec::new(alloc);
