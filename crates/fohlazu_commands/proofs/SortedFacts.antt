@@ -1,6 +1,6 @@
 -- The entries of a proof by where they stand in its text, in any order and in that of their indices.
 use Rattle.std.proofs.Common.{◌≡◌, ℕ, zero, suc, ◌+◌, ◌-◌, ◌<◌, ◌≤◌, List, [], ◌∷◌, ◌++◌, map, drop, length, get_or, refl, ap, sym}
-use Rattle.std.proofs.Common.{subst, ◌∙◌, arith, append_assoc, append-nil, drop_at, length-append, Option, None, Some, Result, Ok, Err}
+use Rattle.std.proofs.Common.{◌∙◌, arith, append_assoc, append-nil, drop_at, length-append, Option, None, Some, Ok, Err}
 use Rattle.std.proofs.lemmas.List.{get_or-map, length-map, map-append}
 use Rattle.std.proofs.lemmas.List.Sorted.{IsNonDecreasingBy-from_sort}
 use Rattle.std.specs.List.Sorted.{IsPermutation, IsSorted}
