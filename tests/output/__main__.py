@@ -9,6 +9,8 @@
   were not compared. A second checkpoint in a file has a warning.
 - A text that is longer than it may be is refused at the first byte above, from a file, a pipe and a device without end,
   within 8 MiB and 0.1 s of processor time; so are entries that a checkpoint claims and the file has not, within 8 MiB.
+- Proofs of entries are verified within three times their bytes and 8 MiB: one entry of many bytes, many entries of no
+  byte, many digests. An entry, a length or a digest that a proof claims and has not is refused within 8 MiB.
 - How far a file is read is shown on a terminal, from the first second on, at most four times a second, and is taken
   away.
 
@@ -36,7 +38,8 @@ sys.path.insert(0, str(Path(__file__).resolve().parents[2] / "tools"))
 from script import TOP, arguments, built  # first: it makes those below known
 
 import odd
-from log_texts import entries_text
+from log_texts import checkpoint_text, entries_text
+from logs import leaf_hash
 from running import Program, Ran
 
 CONTENTS = odd.CONTENTS
@@ -313,12 +316,19 @@ LONG = [("prove LONG file 1", 2, 10**6), ("prove LONG file all", 2, 10**6), ("ve
         ("join --origin odd part0 LONG", 2, 10**6)]
 # The memory that a run with such a text has, in KiB, and the seconds of the processor that it may take.
 HELD, SECONDS = 8192, 0.1
+# How many bytes a proof has that is verified within three times its bytes.
+BYTES = 20_000_000
+# Ends of proofs of one entry, which claim more than they have, the line that is refused, and what is said of it.
+CLAIMS = {"entries 4611686018427387904\nentry 1 0\n\n": (5, "`entry NUMBER LENGTH`, but the text ends"),
+          "entries 1\nentry 1 4611686018427387904\n\n": (4, "4611686018427387904 bytes and a line feed"),
+          "entries 1\nentry 1 0\n\ndigests 4611686018427387904\n": (6, "the base64 of 32 bytes, but the text ends")}
 
 
-def limited(program, words, data):
-    """A run that has little memory, and what is wrong about its time, in a list."""
+def limited(program, words, data, more=0):
+    """A run that has little memory, and so many bytes more, and what is wrong about its time, in a list."""
     shell = Program("/bin/sh", program.folder)
-    ran = shell.measured(["-c", f'ulimit -v {HELD}; exec "$@"', "sh", program.path, *words], {}, data)
+    room = HELD + more // 1024
+    ran = shell.measured(["-c", f'ulimit -v {room}; exec "$@"', "sh", program.path, *words], {}, data)
     return ran, [f"takes {ran.seconds:.2f} s"] * (ran.seconds > SECONDS)
 
 
@@ -343,6 +353,7 @@ def limits(program):
         yield f"an origin {more} bytes above the limit", wrong(program.run("prove named file 2 4".split()), *answer)
     yield from one_byte_above(program)
     yield from claimed(program)
+    yield from proofs(program)
 
 
 def one_byte_above(program):
@@ -380,6 +391,26 @@ def claimed(program):
                   "prove sealed - 1-70000,70001-100000"):
         stdin = data if words.startswith("prove sealed") else program.written["sealed"]
         yield words, wrong(program.run(words.split(), {"-": stdin}), 0, b"", proof)
+
+
+def proofs(program):
+    """Proofs of many bytes, and proofs that claim more than they have."""
+    line, count = b"x" * BYTES, BYTES // len("entry 1 0\n\n")
+    digests = [bytes(32)] * (BYTES // 45)
+    too_many = b"fohlazu: proof: it has too many digests: is it under another checkpoint?\n"
+    large = {"one entry of many bytes": ([(1, line)], [], ["1"], (0, b"", line + b"\n")),
+             "many entries of no byte": ([(1, b"")] * count, [], [], (0, UNCOMPARED, b"1\t\n" * count)),
+             "many digests": ([(1, b"")], digests, ["1"], (1, too_many))}
+    for name, (entries, found, numbers, answer) in large.items():
+        proof = entries_text(entries, found)
+        program.write("proof", proof)
+        program.write("sealed", checkpoint_text(b"odd", 1, leaf_hash(entries[0][1])))
+        ran, _ = limited(program, ["verify", "sealed", "proof", *numbers], subprocess.DEVNULL, 3 * len(proof))
+        yield name, wrong(ran, *answer)
+    for end, (at, expected) in CLAIMS.items():
+        program.write("proof", b"fohlazu proof 1\n" + end.encode())
+        ran, slow = limited(program, "verify new proof".split(), subprocess.DEVNULL)
+        yield f"a proof of {end!r}", wrong(ran, 1, f"fohlazu: proof: line {at}: expected {expected}\n".encode()) + slow
 
 
 def watched(program, words, pieces, tracer=(), has_terminal=True, prints_there=False):

@@ -5,3 +5,4 @@ pub mod OutcomeFacts
 pub mod ProveFacts
 pub mod RunFacts
 pub mod SealLaws
+pub mod SortedFacts

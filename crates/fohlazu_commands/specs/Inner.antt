@@ -1,12 +1,14 @@
 -- Definitions that only proofs and internal calls use.
 use Rattle.std.specs.Prelude.{◌≡◌, ◌⊎◌, ℕ, ◌-◌, ◌≤◌, List, length, map, All, MatchResult, Option, None, Some, Result}
-use Rattle.std.specs.Prelude.{Ok, Err}
+use Rattle.std.specs.Prelude.{Ok, Err, [], drop}
+use Rattle.std.specs.Option.{option_map_or}
+use Rattle.std.specs.Result.{result_ok}
 use Rattle.sha2.specs.Sha256.{sha256}
 use Rattle.tlog.specs.Rfc9162.{leaf_hash, root_of}
 use Rattle.tlog_tree.specs.Builders.{IsBuilderOf}
 use Rattle.tlog_tree.specs.declared.node_id.NodeId.{NodeId}
 use Rattle.tlog_multiproof.specs.Entries.{entries_refusal}
-use Rattle.tlog_text.specs.Reading.{checkpoint_in}
+use Rattle.tlog_text.specs.Reading.{checkpoint_in, entry_by}
 use Rattle.tlog_text.specs.Texts.{EntriesFields, EntryFields}
 use Rattle.tlog_files.specs.Entries.{entry_at, wanted_of}
 use Rattle.tlog_files.specs.declared.framing.Framing.{Framing}
@@ -59,3 +61,19 @@ pub record HasLeafIn (entries : List (List ℕ)) (e : EntryFields) : Type 0 wher
 abbrev pub entries_by : Source → Framing → (checkpoint file : List ℕ) → Result (List (List ℕ)) Error
 entries_by source framing checkpoint file =
     and_then (said_by source (checkpoint_in checkpoint)) (λ c. entries_under framing c file)
+
+-- ---- the entries of a proof, where they stand in its text
+
+-- the index of an entry, of it and its place
+abbrev pub index_of : ℕ × ℕ → ℕ
+index_of (index, place) = index
+
+-- the leaf hash of the entry at a place; of no entry, where none stands there
+abbrev pub leaf_at : List ℕ → ℕ × ℕ → List ℕ
+leaf_at text (index, place) =
+    leaf_hash sha256 (option_map_or (λ read. read.0.bytes) (result_ok (entry_by (drop place text))) [])
+
+-- the index of each entry and its place
+pub record ArePlaces (text : List ℕ) (entries : List EntryFields) (places : List (ℕ × ℕ)) : Type 0 where
+  pub indices : map index_of places ≡ map (λ e. e.number - 1) entries
+  pub leaves : map (leaf_at text) places ≡ map (λ e. leaf_hash sha256 e.bytes) entries

@@ -1,9 +1,9 @@
 //! What accepted texts show of files, or else a collision of SHA-256.
 
-ghost use Rattle.std.specs.Prelude.{◌≡◌, ◌⊎◌, ◌↔◌, ℕ, List, [], All, IfErr, IfOk, IfSome, IsNone, Err, None, Ok, map};
+ghost use Rattle.std.specs.Prelude.{◌≡◌, ◌⊎◌, ◌↔◌, ◌-◌, ℕ, List, [], All, IfErr, IfOk, IfSome, IsNone, Err, None, Ok, map};
 ghost use Rattle.sha2.specs.Sha256.{sha256};
 ghost use Rattle.tlog.specs.Collisions.{IsCollision, entries_of};
-ghost use Rattle.tlog.specs.Rfc9162.{leaf_hash};
+ghost use Rattle.tlog.specs.Rfc9162.{leaf_hash as leaf_hash_by};
 ghost use Rattle.tlog_files.specs.Entries.{IsFraming};
 ghost use Rattle.tlog_text.specs.Texts.{checkpoint_fields, entries_fields, entry_fields};
 ghost use Rattle.fohlazu_commands.specs.Collisions.{AreEntriesOfFile, BeginsWithOldFile, IsCheckpointOfFile, IsEntryOf};
@@ -14,12 +14,12 @@ ghost use Rattle.fohlazu_commands.specs.declared.verify.Print.TheVariants.{Raw};
 
 use crate::error::{Error, Source};
 use crate::inputs::{parse_checkpoint, parse_consistency_proof, parse_entries_proof, read_under};
-use crate::verify::{Print, Requested, indices_of, leaves_of, verify};
+use crate::verify::{Print, Requested, verify};
 use crate::verify_consistency::verify_consistency;
 use sha2::Sha256;
 use std::alloc::{AllocError, Global};
 use tlog::collision::{Collision, leaf_input};
-use tlog::prefix_collision;
+use tlog::{leaf_hash, prefix_collision};
 use tlog_files::{Framing, ReadLog};
 use tlog_multiproof::entries_collision;
 use tlog_text::{Checkpoint, EntriesProof, Entry};
@@ -126,6 +126,28 @@ fn read_bytes(
     }
 }
 
+/// The indices of entries, counted from 0.
+fn indices_of(alloc: Global, entries: &[Entry]) -> Result<Vec<usize>, AllocError>
+    ensures { IfOk result (λ indices. indices.items ≡ map (λ e. e.number - 1) (map entry_fields entries.now)) }
+{
+    entries
+        .iter()
+        .map(|entry| entry.number.saturating_sub(1))
+        .collect(alloc)
+}
+
+/// The leaf hashes of entries.
+fn leaves_of(alloc: Global, entries: &[Entry]) -> Result<Vec<[u8; 32]>, AllocError>
+    ensures { IfOk result
+        (λ leaves. leaves.items ≡ map (λ e. leaf_hash_by sha256 e.bytes) (map entry_fields entries.now)) }
+{
+    let mut leaves = Vec::with_capacity(alloc, entries.len())?;
+    for entry in entries {
+        leaves.push(leaf_hash(&entry.bytes))?;
+    }
+    Ok(leaves)
+}
+
 /// A collision, if an entry of a proof that is accepted under the root of all entries is not that of its number; else
 /// `None`.
 fn proved_collision(
@@ -173,7 +195,7 @@ fn entry_collision(
     entry: &[u8],
     other: &[u8],
 ) -> Result<Option<Collision>, AllocError>
-    requires { leaf_hash sha256 entry.now ≡ leaf_hash sha256 other.now }
+    requires { leaf_hash_by sha256 entry.now ≡ leaf_hash_by sha256 other.now }
     ensures none { IfOk result (λ found. IsNone found ↔ (entry.now ≡ other.now)) }
     ensures collision { IfOk result (λ found. IfSome found (IsCollision sha256)) }
 {

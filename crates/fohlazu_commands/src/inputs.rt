@@ -6,6 +6,7 @@ ghost use Rattle.sha2.specs.Sha256.{sha256};
 ghost use Rattle.tlog.specs.Rfc9162.{root_of};
 ghost use Rattle.tlog.specs.Verdicts.{size_limit};
 ghost use Rattle.tlog_files.specs.Entries.{IsFraming};
+ghost use Rattle.tlog_text.specs.InPlace.{in_place};
 ghost use Rattle.tlog_text.specs.Reading.{checkpoint_in, consistency_in, entries_in};
 ghost use Rattle.tlog_text.specs.Texts.{checkpoint_fields, consistency_fields, entries_fields};
 ghost use Rattle.tlog_tree.specs.Builders.{IsBuilderOf};
@@ -22,7 +23,7 @@ use crate::error::{Error, Refusal, Source, text_error};
 use std::alloc::{AllocError, Global};
 use std::io::{ErrorKind, Read};
 use tlog_files::{Framing, ReadError, ReadLog, read_log, read_up_to};
-use tlog_text::{Checkpoint, ConsistencyProof, EntriesProof};
+use tlog_text::{Checkpoint, ConsistencyProof, EntriesProof, EntriesText};
 use tlog_tree::{NodeId, TreeBuilder};
 
 /// The most bytes that a checkpoint or a part has.
@@ -119,7 +120,11 @@ pub(crate) fn read_text<R: Read>(
 {
     let mut bytes = Vec::new(alloc);
     match input.read_to_end(&mut bytes) {
-        Ok(_) => Ok(bytes),
+        Ok(_) => {
+            // Room for up to as many bytes again would be held as long as the text.
+            bytes.shrink_to_fit();
+            Ok(bytes)
+        }
         Err(error) if error.kind() == ErrorKind::OutOfMemory => Err(Error::OutOfMemory),
         Err(_) => Err(Error::Read(source)),
     }
@@ -188,6 +193,13 @@ pub(crate) fn parse_entries_proof(alloc: Global, text: &[u8]) -> Result<EntriesP
     ensures { Gives entries_fields result (said_by Proof (entries_in text.now)) }
 {
     EntriesProof::parse(alloc, text).map_err(|error| text_error(Source::Proof, error))
+}
+
+/// Parses a proof of entries, which stay where they stand in its text, with the errors of [`parse_entries_proof`].
+pub(crate) fn parse_entries_text(alloc: Global, text: &[u8]) -> Result<EntriesText<'_>, Error>
+    ensures { Gives in_place result (said_by Proof (entries_in text.now)) }
+{
+    EntriesText::parse(alloc, text).map_err(|error| text_error(Source::Proof, error))
 }
 
 /// Parses a consistency proof. `Line` for its first wrong line, `OutOfMemory` if memory runs out.

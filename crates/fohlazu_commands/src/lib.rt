@@ -10,6 +10,7 @@ pub mod laws;
 pub mod prove;
 pub mod prove_consistency;
 pub mod seal;
+mod sorted;
 pub mod verify;
 pub mod verify_consistency;
 

@@ -5,18 +5,19 @@ ghost use Rattle.sha2.specs.Sha256.{sha256};
 ghost use Rattle.p3_answers.specs.Answers.{first_of};
 ghost use Rattle.tlog.specs.Rfc9162.{leaf_hash as leaf_hash_by};
 ghost use Rattle.tlog.specs.Verdicts.{size_limit};
-ghost use Rattle.tlog_text.specs.Texts.{checkpoint_fields, entries_fields, entry_fields};
+ghost use Rattle.tlog_text.specs.InPlace.{entries_left, entry_text_fields, in_place};
+ghost use Rattle.tlog_text.specs.Texts.{checkpoint_fields};
 ghost use Rattle.fohlazu_commands.specs.Inner.{Checks, ChecksUnlessMemory};
 ghost use Rattle.fohlazu_commands.specs.Outcomes.{bytes_in, entry_refusal, Gives, is_printable, numbers_in};
 ghost use Rattle.fohlazu_commands.specs.Outcomes.{numbers_refusal, printed, proof_refusal, verify_requested};
 
 use crate::error::{Error, Refusal, Source};
-use crate::inputs::{parse_checkpoint, parse_entries_proof};
+use crate::inputs::{parse_checkpoint, parse_entries_text};
 use crate::prove::all_numbers;
+use crate::sorted::SortedEntries;
 use std::alloc::{AllocError, Global};
-use tlog::leaf_hash;
-use tlog_multiproof::verify_entries;
-use tlog_text::{Checkpoint, EntriesProof, Entry};
+use tlog_multiproof::verify_ascending;
+use tlog_text::{Checkpoint, Entries, EntriesText, EntryText};
 
 /// How entries are printed.
 #[derive(Clone, Copy, Debug, PartialEq, Eq)]
@@ -62,11 +63,11 @@ pub fn verify(
     ensures { Gives bytes_in result (verify_requested print checkpoint.now proof.now requested.now) }
 {
     let checkpoint = parse_checkpoint(Source::Checkpoint, checkpoint)?;
-    let proof = parse_entries_proof(alloc, proof)?;
-    check_requested(alloc, requested, checkpoint.size, &proof.entries)?;
-    check_entries(print, checkpoint.size, &proof.entries)?;
+    let proof = parse_entries_text(alloc, proof)?;
+    check_requested(alloc, requested, checkpoint.size, &proof)?;
+    check_entries(print, checkpoint.size, proof.entries())?;
     check_proof(alloc, &checkpoint, &proof)?;
-    Ok(text_of(alloc, print, is_compared(requested), &proof.entries)?)
+    Ok(text_of(alloc, print, is_compared(requested), proof.entries())?)
 }
 
 /// Whether the numbers of entries are compared.
@@ -81,26 +82,26 @@ fn check_requested(
     alloc: Global,
     requested: &Requested,
     size: usize,
-    entries: &[Entry],
+    proof: &EntriesText,
 ) -> Result<(), Error>
     requires { size ≤ size_limit }
     ensures { ChecksUnlessMemory result
-        (numbers_refusal (numbers_in requested.now size) (map entry_fields entries.now)) }
+        (numbers_refusal (numbers_in requested.now size) (in_place proof.now).entries) }
 {
     match requested {
         Requested::Any => Ok(()),
         Requested::All => {
             // One number more than there are entries shows whether one is missing.
-            let count = size.min(entries.len().saturating_add(1));
-            check_numbers(&all_numbers(alloc, count)?, entries)
+            let count = size.min(proof.count.saturating_add(1));
+            check_numbers(&all_numbers(alloc, count)?, proof.entries())
         }
-        Requested::Numbers(numbers) => check_numbers(numbers, entries),
+        Requested::Numbers(numbers) => check_numbers(numbers, proof.entries()),
     }
 }
 
 /// Checks that entries are those of these numbers, in their order.
-fn check_numbers(numbers: &[usize], entries: &[Entry]) -> Result<(), Error>
-    ensures { Checks result (numbers_refusal (Some numbers.now) (map entry_fields entries.now)) }
+fn check_numbers(numbers: &[usize], entries: Entries) -> Result<(), Error>
+    ensures { Checks result (numbers_refusal (Some numbers.now) (entries_left entries.entry)) }
 {
     let mut rest = numbers;
     for entry in entries {
@@ -119,34 +120,12 @@ fn check_numbers(numbers: &[usize], entries: &[Entry]) -> Result<(), Error>
     Ok(())
 }
 
-/// The indices of entries, counted from 0.
-pub(crate) fn indices_of(alloc: Global, entries: &[Entry]) -> Result<Vec<usize>, AllocError>
-    ensures { IfOk result (λ indices. indices.items ≡ map (λ e. e.number - 1) (map entry_fields entries.now)) }
-{
-    entries
-        .iter()
-        .map(|entry| entry.number.saturating_sub(1))
-        .collect(alloc)
-}
-
-/// The leaf hashes of entries.
-pub(crate) fn leaves_of(alloc: Global, entries: &[Entry]) -> Result<Vec<[u8; 32]>, AllocError>
-    ensures { IfOk result
-        (λ leaves. leaves.items ≡ map (λ e. leaf_hash_by sha256 e.bytes) (map entry_fields entries.now)) }
-{
-    let mut leaves = Vec::with_capacity(alloc, entries.len())?;
-    for entry in entries {
-        leaves.push(leaf_hash(&entry.bytes))?;
-    }
-    Ok(leaves)
-}
-
 /// Checks that entries can be printed.
-fn check_entries(print: Print, size: usize, entries: &[Entry]) -> Result<(), Error>
-    ensures { Checks result (first_of (entry_refusal print size) (map entry_fields entries.now)) }
+fn check_entries(print: Print, size: usize, entries: Entries) -> Result<(), Error>
+    ensures { Checks result (first_of (entry_refusal print size) (entries_left entries.entry)) }
 {
     for entry in entries {
-        if !is_printable(print, size, entry) {
+        if !is_printable(print, size, &entry) {
             return Err(Error::Refused(Source::Proof, Refusal::NoSuchEntry(entry.number)));
         }
     }
@@ -154,8 +133,8 @@ fn check_entries(print: Print, size: usize, entries: &[Entry]) -> Result<(), Err
 }
 
 /// Whether an entry can be printed.
-fn is_printable(print: Print, size: usize, entry: &Entry) -> bool
-    ensures { result ≡ is_printable print size (entry_fields entry.now) }
+fn is_printable(print: Print, size: usize, entry: &EntryText) -> bool
+    ensures { result ≡ is_printable print size (entry_text_fields entry.now) }
 {
     let len = entry.bytes.len();
     match print {
@@ -167,28 +146,22 @@ fn is_printable(print: Print, size: usize, entry: &Entry) -> bool
 }
 
 /// Checks a proof by the verifier.
-fn check_proof(alloc: Global, checkpoint: &Checkpoint, proof: &EntriesProof) -> Result<(), Error>
+fn check_proof(alloc: Global, checkpoint: &Checkpoint, proof: &EntriesText) -> Result<(), Error>
     ensures { ChecksUnlessMemory result
-        (proof_refusal (checkpoint_fields checkpoint.now) (entries_fields proof.now)) }
+        (proof_refusal (checkpoint_fields checkpoint.now) (in_place proof.now)) }
 {
-    let indices = indices_of(alloc, &proof.entries)?;
-    let leaves = leaves_of(alloc, &proof.entries)?;
+    let sorted = SortedEntries::new(alloc, proof)?;
     let (size, root) = (checkpoint.size, &checkpoint.root);
-    Ok(verify_entries(alloc, size, &indices, &leaves, &proof.digests, root)?)
+    Ok(verify_ascending(size, &sorted, &proof.digests, root)?)
 }
 
 /// What is printed of entries. Where `bare`, lines are printed without their numbers.
-fn text_of(
-    alloc: Global,
-    print: Print,
-    bare: bool,
-    entries: &[Entry],
-) -> Result<Vec<u8>, AllocError>
-    ensures { IfOk result (λ text. text.items ≡ flat_map (printed print bare) (map entry_fields entries.now)) }
+fn text_of(alloc: Global, print: Print, bare: bool, entries: Entries) -> Result<Vec<u8>, AllocError>
+    ensures { IfOk result (λ text. text.items ≡ flat_map (printed print bare) (entries_left entries.entry)) }
 {
     let mut text = Vec::new(alloc);
     for entry in entries {
-        push_entry(alloc, &mut text, print, bare, entry)?;
+        push_entry(alloc, &mut text, print, bare, &entry)?;
     }
     Ok(text)
 }
@@ -199,15 +172,15 @@ fn push_entry(
     text: &mut Vec<u8>,
     print: Print,
     bare: bool,
-    entry: &Entry,
+    entry: &EntryText,
 ) -> Result<(), AllocError>
-    ensures { OnOk result (text.new.items ≡ text.old.items ++ printed print bare (entry_fields entry.now)) }
+    ensures { OnOk result (text.new.items ≡ text.old.items ++ printed print bare (entry_text_fields entry.now)) }
 {
     if print == Print::Lines && !bare {
         let head = format!(in alloc; "{}\t", entry.number)?;
         text.extend_from_slice(head.as_bytes())?;
     }
-    text.extend_from_slice(&entry.bytes)?;
+    text.extend_from_slice(entry.bytes)?;
     if print == Print::Lines {
         text.push(b'\n')?;
     }

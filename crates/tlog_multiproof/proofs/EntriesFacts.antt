@@ -145,7 +145,7 @@ form_to size indices leaves digests w =
     let many = le-leb digests expected (omega (arith, w.count)) in
     rw (small, some, paired, within, few, many) refl
 
-highest_below : (size : ℕ) (indices : List ℕ) → 0 < length indices → All (λ i. i < size) indices →
+pub highest_below : (size : ℕ) (indices : List ℕ) → 0 < length indices → All (λ i. i < size) indices →
     greatest indices < size
 highest_below size [] some below = absurd (omega arith)
 highest_below size (i ∷ []) some below = omega (arith, below 0 0 (omega arith))

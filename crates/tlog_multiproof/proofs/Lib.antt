@@ -15,3 +15,8 @@ pub mod VerdictFacts
 pub mod HonestEntries
 pub mod PathFacts
 pub mod Smallest
+pub mod AscentFacts
+pub mod AscentStands
+pub mod AscentValues
+pub mod AscentVerdicts
+pub mod Permuted

@@ -73,7 +73,7 @@ module _ (hash : HashFunction) (size : ℕ) (indices : List ℕ) (leaves : List 
   value = value_of (log_params hash size) p
 
   -- the children of a covered node, where those that are covered are there
-  child_filled : (l j k : ℕ) → l < top → is_covered (log_shape size) indices (suc l) j ≡ true → k < 2 →
+  pub child_filled : (l j k : ℕ) → l < top → is_covered (log_shape size) indices (suc l) j ≡ true → k < 2 →
       (is_covered (log_shape size) indices l (2 * j + k) ≡ true →
       (hash_value : List ℕ) × (restored_node (log_params hash size) p l (2 * j + k) ≡ Hash hash_value ∷ [])) →
       IsFilled size l (2 * j + k) (value l (2 * j + k))

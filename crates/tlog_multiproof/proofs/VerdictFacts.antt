@@ -44,7 +44,7 @@ use Rattle.tlog_multiproof.proofs.Shapes.{ancestor_of_two, lawful, one_column, t
 
 -- ---- options
 
-skip : {E : Type 0} (x y a : Option E) → x ≡ None → y ≡ a → option_or x y ≡ a
+pub skip : {E : Type 0} (x y a : Option E) → x ≡ None → y ≡ a → option_or x y ≡ a
 skip None y a none is = is
 skip (Some x) y a none is = absurd cc
 
@@ -74,7 +74,7 @@ unless_some true why e is = absurd cc
 unless_some false why e is = cc
 
 -- a map to one value answers nothing, or that
-mapped : {X Y : Type 0} (y : Y) (o : Option X) → (option_map (λ x. y) o ≡ None) ⊎ (option_map (λ x. y) o ≡ Some y)
+pub mapped : {X Y : Type 0} (y : Y) (o : Option X) → (option_map (λ x. y) o ≡ None) ⊎ (option_map (λ x. y) o ≡ Some y)
 mapped y None = inl refl
 mapped y (Some x) = inr refl
 
@@ -149,7 +149,7 @@ module _ (hash : HashFunction) (size : ℕ) (indices : List ℕ) (leaves proof :
 
   -- ---- acceptance
 
-  each_included : IsPrunedAccepted c (root_cap root) p → AreIncluded hash size indices leaves proof root
+  pub each_included : IsPrunedAccepted c (root_cap root) p → AreIncluded hash size indices leaves proof root
   each_included w = record {
     some = form.some;
     in_pairs = form.in_pairs;
@@ -160,7 +160,7 @@ module _ (hash : HashFunction) (size : ℕ) (indices : List ℕ) (leaves proof :
         filled k root form.small h).0 (w.each_accepted k h);
   }
 
-  each_accepted : AreIncluded hash size indices leaves proof root → IsPrunedAccepted c (root_cap root) p
+  pub each_accepted : AreIncluded hash size indices leaves proof root → IsPrunedAccepted c (root_cap root) p
   each_accepted is = record {
     restorable = restorable is.one_leaf;
     each_accepted = λ k h. (query_accepted hash size indices leaves p.digests (all_below size indices form.highest)

@@ -2,3 +2,4 @@
 pub mod Paths
 pub mod Meanings
 pub mod Siblings
+pub mod Ascents

@@ -11,7 +11,8 @@ use Rattle.p3_merkle_core.specs.Pruning.{IsUncovered}
 use Rattle.p3_merkle_core.specs.Pruning.{Suffices, is_in, boundary, honest_query, opening_at, pruned_of, restored_path}
 use Rattle.tlog.specs.Rfc9162.{Hash as HashFunction, leaf_hash, path_of, root_of}
 use Rattle.tlog.specs.Verdicts.{IsIncluded, size_limit}
-use Rattle.tlog_multiproof.specs.Entries.{proof_nodes}
+use Rattle.std.specs.List.Sorted.{IsPermutation}
+use Rattle.tlog_multiproof.specs.Entries.{entries_refusal, proof_nodes}
 use Rattle.tlog_multiproof.specs.Instance.{AreFilled, IsPathFilled, slots_of}
 use Rattle.tlog_multiproof.specs.Instance.{leaf_row, log_batch, log_functions, log_params, log_shape, present, root_cap}
 use Rattle.tlog_multiproof.specs.declared.tree.Node.{Node}
@@ -93,3 +94,12 @@ pub record ProofIsSmallest : Type 0 where
   pub fewest : (size : ℕ) (indices : List ℕ) (given padding : List (ℕ × ℕ)) → All (λ i. i < size) indices →
       ArePadding size padding → let s = log_shape size in IsUncovered s indices (levels s) given →
       Suffices s indices (levels s) (given ++ padding) → length (proof_nodes size indices) ≤ length given
+
+-- the verdict on entries, each an index and a leaf hash, hangs on no order of them
+abbrev pub OrderIsFree : Type 0
+OrderIsFree = (hash : HashFunction) (size : ℕ) (entries others : List (ℕ × List ℕ)) (proof : List (List ℕ))
+    (root : List ℕ) → IsPermutation entries others →
+    let index = λ (entry : ℕ × List ℕ). entry.0 in
+    let leaf = λ (entry : ℕ × List ℕ). entry.1 in
+    entries_refusal hash size (map index entries) (map leaf entries) proof root
+    ≡ entries_refusal hash size (map index others) (map leaf others) proof root

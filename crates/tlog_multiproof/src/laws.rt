@@ -3,8 +3,8 @@ ghost use Rattle.std.specs.Prelude.{◌≡◌, ◌≤◌, ◌↔◌, ℕ, List, 
 ghost use Rattle.tlog.specs.Verdicts.{size_limit};
 ghost use Rattle.tlog.specs.Rfc9162.{Hash};
 ghost use Rattle.tlog_multiproof.specs.Entries.{AreIncluded, entries_refusal};
-ghost use Rattle.tlog_multiproof.specs.Laws.{CapIsMth, NodesAreMth, OpeningIsInclusion, QueryIsInclusion};
-ghost use Rattle.tlog_multiproof.specs.Laws.{ProofIsSmallest, RestoredArePaths, SiblingsArePath};
+ghost use Rattle.tlog_multiproof.specs.Laws.{CapIsMth, NodesAreMth, OpeningIsInclusion, OrderIsFree};
+ghost use Rattle.tlog_multiproof.specs.Laws.{ProofIsSmallest, QueryIsInclusion, RestoredArePaths, SiblingsArePath};
 
 /// A log's tree (RFC 9162, 2.1) is the tree of arity 2 over one column of leaf hashes whose compression passes an only
 /// child on, for every hash function and sizes up to 2^62: its nodes and its cap are MTH, its honest openings are PATH,
@@ -30,4 +30,9 @@ pub fn unrefused_is_accepted()
     ensures { (hash : Hash) (size : ℕ) (indices : List ℕ) (leaves proof : List (List ℕ)) (root : List ℕ) →
         (entries_refusal hash size indices leaves proof root ≡ None)
         ↔ ((size ≤ size_limit) × AreIncluded hash size indices leaves proof root) }
+{}
+
+/// The verdict on entries hangs on no order of them.
+pub fn order_is_free()
+    ensures { OrderIsFree }
 {}

@@ -2,6 +2,7 @@
 //! 2 over one column of leaf hashes, with a compression that passes an only child on.
 #![tactic(auto)]
 
+mod ascending;
 mod collision;
 mod error;
 pub mod laws;
@@ -9,6 +10,7 @@ mod opening;
 mod tree;
 mod verify;
 
+pub use ascending::{AscendingEntries, verify_ascending};
 pub use collision::entries_collision;
 pub use error::EntriesError;
 pub use opening::entry_nodes;

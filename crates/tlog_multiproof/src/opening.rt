@@ -59,7 +59,7 @@ pub fn entry_nodes(alloc: Global, indices: &[usize], size: usize) -> Result<Vec<
 }
 
 /// Whether a node has entries below it; in the slot of any other is padding.
-fn is_node(size: usize, node: NodeId) -> bool
+pub(crate) fn is_node(size: usize, node: NodeId) -> bool
     requires some { 0 < size }
     requires layer { node.layer < 64 }
     ensures { result ≡ is_node_by size (slot_of node) }

@@ -59,7 +59,7 @@ impl PackedValue for Node {
 }
 
 /// The parent of two nodes: the hash of a byte 1 and both hashes (RFC 9162, 2.1.1), or the only child.
-fn parent_of<H: LogHash<32>>(left: Node, right: Node) -> Node
+pub(crate) fn parent_of<H: LogHash<32>>(left: Node, right: Node) -> Node
     ensures { result ≡ parent H.hash left right }
 {
     match (left, right) {

@@ -4,3 +4,4 @@ pub mod NoteLaws
 pub mod ProofLaws
 pub mod ReadFacts
 pub mod TestFacts
+pub mod InPlaceFacts

@@ -4,3 +4,4 @@ pub mod Reading
 pub mod Laws
 pub mod Inner
 pub mod Examples
+pub mod InPlace

@@ -91,7 +91,7 @@ fn push_entries(alloc: Global, text: &mut Vec<u8>, entries: &[Entry]) -> Result<
 }
 
 /// The number of an entry and its length, out of the line ahead of its bytes; `None` if the line has another form.
-fn head_of(line: &[u8]) -> Option<(usize, usize)>
+pub(crate) fn head_of(line: &[u8]) -> Option<(usize, usize)>
     ensures { result ≡ head_of line.now }
 {
     let (number, len) = cut_at(b' ', line.strip_prefix(b"entry ")?)?;

@@ -6,6 +6,7 @@
 pub mod checkpoint;
 pub mod consistency;
 pub mod entries;
+mod entries_text;
 pub mod error;
 pub mod laws;
 mod line;
@@ -13,5 +14,6 @@ mod line;
 pub use checkpoint::{Checkpoint, PART_ORIGIN, is_origin};
 pub use consistency::ConsistencyProof;
 pub use entries::{EntriesProof, Entry};
+pub use entries_text::{Entries, EntriesText, EntryText, next_entry};
 pub use error::{Expected, Found, TextError, WrongLine};
 pub use line::is_key_name;

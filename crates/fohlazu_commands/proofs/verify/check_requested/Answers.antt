@@ -3,13 +3,15 @@ use Rattle.std.proofs.Common.{◌≡◌, ◌==◌, ◌+◌, ◌∙◌, [], ◌�
 use Rattle.std.proofs.Common.{if◌then◌else◌, length, map, max, min, refl, suc, sym, zero}
 use Rattle.std.proofs.lemmas.List.{length-map}
 use Rattle.std.specs.List.{range_with_len}
-use Rattle.tlog_text.specs.Texts.{entry_fields, EntryFields}
+use Rattle.tlog_text.specs.InPlace.{entries_from}
+use Rattle.tlog_text.specs.Texts.{EntryFields}
 use Rattle.fohlazu_commands.specs.Inner.{Checks, ChecksUnlessMemory}
 use Rattle.fohlazu_commands.specs.Outcomes.{all_numbers, first_other, numbers_refusal}
 use Rattle.fohlazu_commands.specs.declared.error.Error.{Error}
 use Rattle.fohlazu_commands.specs.declared.error.Error.TheVariants.{Refused}
 use Rattle.fohlazu_commands.specs.declared.error.Refusal.TheVariants.{OtherNumber}
 use Rattle.fohlazu_commands.specs.declared.error.Source.TheVariants.{Proof}
+use Rattle.fohlazu_commands.proofs.SortedFacts.{length_from}
 use Rattle.fohlazu_commands.proofs.verify.check_requested.Goals as goal
 
 same_front : (got : List ℕ) (a m n : ℕ) → min m (length got + 1) ≡ min n (length got + 1) →
@@ -30,12 +32,13 @@ by_numbers (Err error) es ns all same some = inr (sym same ∙ some)
 
 pub returns-in_ok-all_numbers-in-All : goal.returns-in_ok-all_numbers-in-All
 returns-in_ok-all_numbers-in-All c =
-    let es = map entry_fields c.args.entries.now in
+    let p = c.args.proof.now in
+    let es = entries_from p.text.now p.count in
     let got = map (λ (e : EntryFields). e.number) es in
-    let len : length got ≡ length c.args.entries.now =
-    length-map es (λ (e : EntryFields). e.number) ∙ length-map c.args.entries.now entry_fields in
-    let same = same_front got 1 (max c.min-count.result 1) (max c.args.size 1) (omega (arith, len)) in
+    let len = length-map es (λ (e : EntryFields). e.number) in
+    let few = length_from p.text.now p.count in
+    let same = same_front got 1 (max c.min-count.result 1) (max c.args.size 1) (omega (arith, len, few)) in
     rw c.in-All.is
     (by_numbers c.check_numbers.result es c.deref.result.now (all_numbers c.args.size)
     (ap (first_other got) (c.deref.ensures.value ∙ c.in_ok-all_numbers-in-All.ensures.0) ∙ same)
-    c.check_numbers.ensures)
+    (rw c.entries.ensures at c.check_numbers.ensures))

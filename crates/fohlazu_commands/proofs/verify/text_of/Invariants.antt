@@ -1,8 +1,9 @@
-use Rattle.std.proofs.Common.{◌≡◌, map, take, flat_map}
-use Rattle.tlog_text.specs.Texts.{entry_fields}
+use Rattle.std.proofs.Common.{◌≡◌, ◌++◌, flat_map}
+use Rattle.tlog_text.specs.InPlace.{entries_left}
 use Rattle.fohlazu_commands.specs.Outcomes.{printed}
 use Rattle.fohlazu_commands.proofs.verify.text_of.Given as goal
 
 abbrev pub invariant-loop-entry : goal.invariant-loop-entry
 invariant-loop-entry l =
-    l.text.items ≡ flat_map (printed l.print l.bare) (map entry_fields (take l.entry-index l.entries))
+    l.text.items ++ flat_map (printed l.print l.bare) (entries_left l.entry-iterator)
+    ≡ flat_map (printed l.print l.bare) (entries_left l.fn.entries)

@@ -41,7 +41,7 @@ impl PackedValue for Node {
 }
 
 /// The parent of two nodes: the hash of a byte 1 and both hashes (RFC 9162, 2.1.1), or the only child.
-fn parent_of<H: LogHash<32>>(left: Node, right: Node) -> Node {
+pub(crate) fn parent_of<H: LogHash<32>>(left: Node, right: Node) -> Node {
     match (left, right) {
         (Node::Hash(left), Node::Hash(right)) => Node::Hash(H::node_hash(&left, &right)),
         (left, Node::Absent) => left,

@@ -3,7 +3,7 @@ use Rattle.std.proofs.lemmas.Result.{IfOk-weaker}
 use Rattle.std.proofs.lemmas.Simd.{map-map}
 use Rattle.tlog_text.specs.Texts.{entry_fields, EntryFields}
 use Rattle.tlog_text.specs.declared.entries.Entry.{Entry}
-use Rattle.fohlazu_commands.proofs.verify.indices_of.Goals as goal
+use Rattle.fohlazu_commands.proofs.collisions.indices_of.Goals as goal
 
 pub returns : goal.returns
 returns c =

@@ -2,7 +2,7 @@ use Rattle.std.proofs.Common.{◌≡◌, map, take}
 use Rattle.sha2.specs.Sha256.{sha256}
 use Rattle.tlog.specs.Rfc9162.{leaf_hash}
 use Rattle.tlog_text.specs.Texts.{entry_fields, EntryFields}
-use Rattle.fohlazu_commands.proofs.verify.leaves_of.Given as goal
+use Rattle.fohlazu_commands.proofs.collisions.leaves_of.Given as goal
 
 abbrev pub invariant-loop-entry : goal.invariant-loop-entry
 invariant-loop-entry l =
