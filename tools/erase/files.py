@@ -20,8 +20,13 @@ def uses(text: str) -> list[tuple[str, str]]:
     found = []
     for path, one, many in re.findall(r"pub use ([\w:]+?)(?:::(\w+)|::\{([^}]*)\});", text):
         names = [one] if one else many.replace("\n", " ").split(",")
-        found += [(path.replace("::", "."), name.strip()) for name in names if name.strip()]
+        found += [(path.replace("::", "."), name.split(" as ")[0].strip()) for name in names if name.strip()]
     return found
+
+
+def renamed(text: str) -> dict[str, str]:
+    """The names that a file gives on under another name, by that which they have in its sources."""
+    return dict(re.findall(r"(\w+) as (\w+)", "".join(re.findall(r"pub use [^;]*;", text))))
 
 
 def exported(facade: Path, crates: Path, names: list[str]) -> set[str]:
@@ -52,6 +57,7 @@ def package_of(crates: Path) -> Package:
         defaults=settings["defaults"],
         known=settings["known"],
         exported=exported(FACADE, crates, settings["crates"]),
+        renamed=renamed(FACADE.read_text(encoding="utf-8")),
         internal=set(settings["internal"]),
         conditions=settings["conditions"],
         laws=settings["laws"],

@@ -44,7 +44,8 @@ def listing(package: Package) -> str:
     """All tables."""
     tables = [table(title, ["Call", "Condition", last], condition_rows(package, kind))
               for kind, (title, last) in KINDS.items()]
-    laws = [[f"`{called(path)}`", *law] for path, listed in package.laws.items() for law in listed.values()]
+    laws = [[f"`{package.renamed.get(name := called(path), name)}`", *law]
+            for path, listed in package.laws.items() for law in listed.values()]
     others = [[name, *law] for name, law in package.other_laws.items()]
     tables.append(table("Laws", ["Of", "The law", "Where it is broken"], laws + others))
     return "\n".join(tables).rstrip()

@@ -39,6 +39,8 @@ class Package:
     laws: dict[str, dict[str, list[str]]]
     # The same of types and traits of Rust's library.
     other_laws: dict[str, list[str]]
+    # Names that the package exports under another name, by that which they have in the sources.
+    renamed: dict[str, str] = field(default_factory=dict)
 
     # What a first look at all sources finds: the names of functions and of traits, and by `Trait.method` what the list
     # asserts of it.

@@ -51,7 +51,7 @@ pub type ComparedPruned<T, W, M, const N: usize, const D: usize> = Compared<
 >;
 
 /// Commits to matrices, and checks that they have all the indices. Returns the cap, the tree, and the dimensions of the
-/// matrices.
+/// matrices. The errors are those of `commit`, then that of [`check_indices`].
 fn committed<
     P: PackedValue,
     PW: PackedValue,

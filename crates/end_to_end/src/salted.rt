@@ -61,8 +61,9 @@ pub type SaltedComparedPruned<T, W, M, const N: usize, const D: usize> = Compare
     (usize, usize, Collision<T, W, D>),
 >;
 
-/// Commits to matrices, with salts for each row, and then checks that they have all the indices: where they have not,
-/// the salts are drawn already. Returns the cap, the tree, and the dimensions of the matrices without salts.
+/// Commits to matrices, with salts for each row, and then checks that they have all the indices: if they have not, the
+/// salts are drawn already. Returns the cap, the tree, and the dimensions of the matrices without salts. The errors are
+/// those of the salted `commit`, then that of [`check_indices`].
 fn salted_committed<
     P: PackedValue,
     PW: PackedValue,

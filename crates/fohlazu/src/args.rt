@@ -109,7 +109,7 @@ pub(crate) struct Args<'a> {
     pub(crate) state: &'a RunState,
 }
 
-/// Reads the arguments: the command, and what its inputs are called. The notes take what happens while they are read.
+/// Reads the arguments: the command, and what its inputs are called. `state` takes what happens while they are read.
 ///
 /// # Errors
 ///
@@ -143,14 +143,15 @@ pub(crate) fn parse_args<'a>(
         let why = if matches!(command, Command::Verify { .. }) {
             "--raw takes the number of one entry, and --blocks takes numbers or all"
         } else {
-            "an origin has 1 to 999934 bytes, no character below U+0020, no space first or last: --origin sets it"
+            "an origin has 1 to 999934 bytes, no byte order mark, no character below U+0020, no space first or last: --origin sets it"
         };
         return Err(ArgsError::Refused(why));
     }
     Ok((command, args))
 }
 
-/// Checks that each argument that begins with `-` is an option of the command. What clap says of others misleads.
+/// Checks that each argument that begins with `-` is an option of the command, else `Word` for the first that is none.
+/// What clap says of others misleads.
 fn check_options(words: &[String]) -> Result<(), ArgsError<'_>> {
     let command = words.get(1).map_or("", |word| word.as_str());
     let row = COMMANDS.into_iter().find(|row| row.0 == command);
@@ -180,7 +181,7 @@ fn is_option(word: &str, ids: &str) -> bool {
 }
 
 impl<'a> Args<'a> {
-    /// The name that the user gave to an input.
+    /// The name that the user gave to an input; none if the command has no such input.
     pub(crate) fn name_of(&self, source: Source) -> &'a str {
         let (id, k) = match source {
             Source::Checkpoint => ("CHECKPOINT", 0),
@@ -194,7 +195,8 @@ impl<'a> Args<'a> {
         names.and_then(|names| names.get(k).copied()).unwrap_or("")
     }
 
-    /// The command of this name, by the arguments that were found. It may be one that cannot be run.
+    /// The command of this name, which must be one of the table, by the arguments that were found. It may be one that
+    /// cannot be run.
     fn command(&self, alloc: Global, name: &str) -> Result<Command<Input<'a>>, ArgsError<'a>> {
         Ok(match name {
             "seal" => Command::Seal {
@@ -228,6 +230,7 @@ impl<'a> Args<'a> {
                 old: self.checkpoint("OLD"),
                 proof: self.input("PROOF"),
             },
+            // The table of commands has no other name than `join`.
             _ => Command::Join {
                 origin: self.origin(alloc)?,
                 parts: self.parts(alloc)?,
@@ -240,7 +243,7 @@ impl<'a> Args<'a> {
         self.found.get_str("output").filter(|name| *name != "-")
     }
 
-    /// Checks that no input is the output, and at most one is standard input.
+    /// Checks that at most one input is standard input, else `Refused`; and that no input is the output, else `Word`.
     fn check_inputs(&self, alloc: Global) -> Result<(), ArgsError<'a>> {
         let mut names = Vec::new(alloc);
         for id in ["CHECKPOINT", "OLD", "NEW", "FILE", "PROOF", "PART"] {
@@ -251,7 +254,8 @@ impl<'a> Args<'a> {
         }
         let output = self.output().unwrap_or("/dev/stdout");
         for name in names {
-            if is_same_file(self.rt, output, name) {
+            let input = if name == "-" { "/dev/stdin" } else { name };
+            if is_same_file(self.rt, output, input) {
                 let why = "it is the output too, which `>` empties: choose another output";
                 return Err(ArgsError::Word(Escaped(name), why));
             }
@@ -314,7 +318,7 @@ impl<'a> Args<'a> {
         }
     }
 
-    /// The entries that are requested of a proof.
+    /// The entries that are requested of a proof, or why they can't be: `Word` for a number or range that is none.
     fn requested(&self, alloc: Global) -> Result<Requested, ArgsError<'a>> {
         if self.found.get_strs("NUMBER").is_none() {
             self.state.lacks_numbers.set(true);
@@ -360,7 +364,7 @@ impl<'a> Args<'a> {
 }
 
 /// Appends the ranges that a word names, numbers and ranges with commas between, to ranges that have `count` numbers.
-/// Returns how many they have then.
+/// Returns how many they have then; `Word` if the word names none, or there are too many.
 fn add_ranges<'a>(
     ranges: &mut Vec<Range>,
     count: usize,
@@ -379,7 +383,7 @@ fn add_ranges<'a>(
     Ok(count)
 }
 
-/// The first and the last number of a range, as `3-7`, or of one number.
+/// The first and the last number of a range, as `3-7`, or of one number; or why a text is none.
 fn range_of(range: &str) -> Result<(usize, usize), &'static str>
     ensures { IfOk result (λ (first, last). first ≤ last) }
 {
@@ -455,6 +459,7 @@ fn operand<'a>(alloc: Global, id: &str) -> Result<Arg<'a>, AllocError> {
             arg!(in alloc; <PART> ... "The parts, in order; all but the last have 2^k entries, with one k"),
         "NUMBER" =>
             arg!(in alloc; [NUMBER] ... "The entries, as 3, 3-7, 3,7 or all; else any, each after its number"),
+        // The table of commands has no other operand than `NUMBER!`.
         _ => arg!(in alloc; <NUMBER> ... "The entries, as 3, 3-7, 3,7 or all, counted from 1"),
     })
 }

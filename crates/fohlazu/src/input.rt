@@ -51,7 +51,7 @@ pub(crate) struct Input<'a> {
 
 impl<'a> Input<'a> {
     /// The input of this name, not opened yet. If `shows_progress`, a terminal on standard error shows how far it is
-    /// read. `notes` takes why a read fails.
+    /// read. `state` takes why a read fails.
     pub(crate) fn new(
         rt: &'a HostRuntime,
         name: &'a str,
@@ -103,7 +103,8 @@ impl<'a> Input<'a> {
         }
     }
 
-    /// Reads the next bytes of the cache. If there are none, it reads the next bytes of the input, and caches them.
+    /// Reads the next bytes of the cache to the front of `buf`, and returns how many. If there are none, it reads the
+    /// next bytes of the input, and caches them if the input is to be read again.
     fn read_cached(&mut self, buf: &mut [u8]) -> io::Result<usize>
         ensures { IfOk result (λ count. IsPrefixLen count buf.new) }
     {
@@ -124,7 +125,8 @@ impl<'a> Input<'a> {
         Ok(count)
     }
 
-    /// Reads the next bytes. The first call opens the file.
+    /// Reads the next bytes of the input to the front of `buf`, and returns how many. The first call opens the file.
+    /// `UnexpectedEof` if a regular file has become shorter.
     fn read_next(&mut self, buf: &mut [u8]) -> io::Result<usize>
         ensures { IfOk result (λ count. IsPrefixLen count buf.new) }
     {
@@ -141,6 +143,7 @@ impl<'a> Input<'a> {
             }
             self.file = Some((file, len));
         }
+        // It is open by now.
         let Some((file, left)) = &mut self.file else {
             return Ok(0);
         };

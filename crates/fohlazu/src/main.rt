@@ -22,9 +22,7 @@ use std::{env, io};
 fn main(rt: HostRuntime) -> ExitCode {
     let words = match read_words(&rt) {
         Ok(words) => words,
-        Err(error) if error.kind() == io::ErrorKind::OutOfMemory => {
-            return refuse(&rt, "out of memory");
-        }
+        Err(error) if error.kind() == io::ErrorKind::OutOfMemory => return refuse_memory(&rt),
         Err(_) => return refuse(&rt, "an argument is no text in UTF-8"),
     };
     let state = RunState::default();
@@ -50,7 +48,7 @@ fn read_words(rt: &HostRuntime) -> io::Result<Vec<String>> {
     Ok(words)
 }
 
-/// Runs a command.
+/// Runs a command, which must be lawful. Returns the exit code.
 fn run_command(args: &Args<'_>, command: Command<Input<'_>>) -> ExitCode
     requires { IsWellFormed command }
 {
@@ -63,7 +61,7 @@ fn run_command(args: &Args<'_>, command: Command<Input<'_>>) -> ExitCode
     }
 }
 
-/// Proves entries that may be many.
+/// Proves entries that may be many. Returns the exit code.
 fn prove_many(args: &Args<'_>, many: &Many) -> ExitCode {
     let (rt, alloc, framing) = (args.rt, args.rt.alloc(), args.framing());
     // An output that cannot be written is refused ahead of the inputs, as it is where entries are few.
@@ -93,7 +91,7 @@ fn prove_many(args: &Args<'_>, many: &Many) -> ExitCode {
     }
 }
 
-/// Runs a command, whose output replaces a file.
+/// Runs a command, which must be lawful, and puts its output in the place of the file `name`. Returns the exit code.
 fn run_to_file(args: &Args<'_>, command: Command<Input<'_>>, name: &str) -> ExitCode
     requires { IsWellFormed command }
 {
@@ -117,7 +115,8 @@ fn run_to_file(args: &Args<'_>, command: Command<Input<'_>>, name: &str) -> Exit
     }
 }
 
-/// Ends a run: prints why it failed and what the input is called, or that the caller has to compare numbers.
+/// Ends a run: prints why it failed and what the input is called, or that the caller has to compare numbers. Returns
+/// the exit code.
 fn finish(args: &Args<'_>, done: Result<(), Error>) -> ExitCode {
     let rt = args.rt;
     let state = args.state;
@@ -139,16 +138,17 @@ fn finish(args: &Args<'_>, done: Result<(), Error>) -> ExitCode {
     ExitCode::from(error.status())
 }
 
-/// Prints the help that is asked for, or what is wrong about the arguments.
+/// Prints the help that is asked for, or what is wrong about the arguments. Returns exit code 0 if help was asked for
+/// and printed, else 2.
 fn print_help(rt: &HostRuntime, error: &clap::Error) -> ExitCode {
     if error.kind() == clap::error::ErrorKind::OutOfMemory {
-        return refuse(rt, "out of memory");
+        return refuse_memory(rt);
     }
     if error.exit_code() == 0 {
         return ExitCode::from(error.print(rt).map_or(2, |()| 0));
     }
     let Ok(text) = format!(in rt.alloc(); "{error}") else {
-        return refuse(rt, "out of memory");
+        return refuse_memory(rt);
     };
     for line in text.lines() {
         let _ = eprintln!(rt; "{}", Escaped(line));
@@ -156,16 +156,21 @@ fn print_help(rt: &HostRuntime, error: &clap::Error) -> ExitCode {
     ExitCode::from(2)
 }
 
-/// Prints why the output is not written.
+/// Prints why the output `name` cannot be written, without the name if memory ran out. Returns exit code 2.
 fn refuse_output(rt: &HostRuntime, name: &str, error: io::Error) -> ExitCode {
     if error.kind() == io::ErrorKind::OutOfMemory {
-        return refuse(rt, "out of memory");
+        return refuse_memory(rt);
     }
     let _ = eprintln!(rt; "fohlazu: {}: {error}", Escaped(name));
     ExitCode::from(2)
 }
 
-/// Prints why the program stops.
+/// Prints that memory ran out. Returns exit code 2.
+fn refuse_memory(rt: &HostRuntime) -> ExitCode {
+    refuse(rt, "out of memory")
+}
+
+/// Prints why the program stops. Returns exit code 2.
 fn refuse(rt: &HostRuntime, why: impl Display + Drop) -> ExitCode {
     let _ = eprintln!(rt; "fohlazu: {why}");
     ExitCode::from(2)

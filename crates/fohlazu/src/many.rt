@@ -11,6 +11,9 @@ use std::io::Read;
 /// More entries than these are many.
 pub(crate) const MANY: usize = 65536;
 
+/// The most bytes that a checkpoint has.
+const MAX_CHECKPOINT_BYTES: u64 = 1_000_000;
+
 /// How many bytes of a file are read at a time while its entries are counted.
 const CHUNK: usize = 1 << 16;
 
@@ -37,7 +40,7 @@ pub(crate) fn count_of(ranges: &[Range]) -> usize {
     count
 }
 
-/// The numbers of ranges, one range after another.
+/// The numbers of ranges, one range after another. `AllocError` if memory runs out.
 pub(crate) fn numbers_in(alloc: Global, ranges: &[Range]) -> Result<Vec<usize>, AllocError> {
     let mut numbers = Vec::with_capacity(alloc, count_of(ranges))?;
     for (first, last) in ranges {
@@ -80,7 +83,7 @@ impl Many {
     }
 }
 
-/// The first number of ranges that is past the size of a checkpoint, or 1.
+/// The first number of ranges that is past the size of a checkpoint; 1 if there is none.
 fn first_number(ranges: &[Range], size: usize) -> usize {
     match ranges.iter().find(|range| range.1 > size) {
         Some((first, _)) => (*first).max(size.saturating_add(1)),
@@ -92,7 +95,7 @@ fn first_number(ranges: &[Range], size: usize) -> usize {
 fn claimed_size(alloc: Global, checkpoint: &mut Input<'_>) -> usize {
     let mut text = Vec::new(alloc);
     // A run fails again where this fails, and refuses more bytes.
-    let _ = checkpoint.take(1_000_000).read_to_end(&mut text);
+    let _ = checkpoint.take(MAX_CHECKPOINT_BYTES).read_to_end(&mut text);
     let mut lines = text.split(|byte| *byte == b'\n');
     let size = lines
         .nth(1)
@@ -136,7 +139,8 @@ fn run_unwritten(alloc: Global, command: Command<&mut Input<'_>>) -> Result<(), 
     }
 }
 
-/// Whether a file has so many entries. What follows its last line feed counts as one.
+/// Whether a file has at least `count` entries. What follows its last line feed counts as one. False if a read fails;
+/// `AllocError` if memory runs out.
 fn has_entries(
     alloc: Global,
     framing: Framing,
@@ -145,6 +149,7 @@ fn has_entries(
 ) -> Result<bool, AllocError> {
     let mut buffer = vec![in alloc; 0; CHUNK]?;
     let (mut bytes, mut lines) = (0usize, 1usize);
+    // More turns than any file has: it ends before.
     for _turn in 0..u64::MAX {
         let read = match file.read(&mut buffer) {
             Ok(read) if read > 0 => read,

@@ -77,7 +77,7 @@ impl<'a> Replacement<'a> {
         self.failure.map_or(Ok(()), Err)
     }
 
-    /// Renames the file that is written, once the disk has it.
+    /// Renames the file that is written, once the disk has it. The error is that of the system call that failed.
     fn put(&self) -> io::Result<()> {
         let Some((name, file)) = &self.written else {
             return Ok(());
@@ -99,7 +99,7 @@ impl<'a> Replacement<'a> {
         }
     }
 
-    /// The file that is written, which the first call creates.
+    /// The file that is written, which the first call creates. The error is that of the system call that failed.
     fn file(&mut self) -> io::Result<&mut File> {
         let rt = self.rt;
         let place = self.place.as_path();
@@ -126,10 +126,9 @@ impl Write for Replacement<'_> {
     }
 }
 
-/// Whether an output is the regular file that an input is. The input `-` is standard input.
-pub(crate) fn is_same_file(rt: &HostRuntime, output: &str, input: &str) -> bool {
-    let input = if input == "-" { "/dev/stdin" } else { input };
-    match (fs::metadata(rt, output), fs::metadata(rt, input)) {
+/// Whether both names lead to one regular file; false if either cannot be looked up.
+pub(crate) fn is_same_file(rt: &HostRuntime, one: &str, other: &str) -> bool {
+    match (fs::metadata(rt, one), fs::metadata(rt, other)) {
         (Ok(one), Ok(other)) => one.is_file()
             && one.dev() == other.dev()
             && one.ino() == other.ino(),
@@ -164,7 +163,11 @@ fn folder_of(path: Path<'_>) -> Path<'_> {
     }
 }
 
-/// A new file in the folder of another one, and its name. The mode is less what the umask takes.
+/// A new file in the folder of another one, and its name. The umask is taken from the mode.
+///
+/// # Errors
+///
+/// The error of the system call that failed; `AlreadyExists` if there are too many such files.
 fn create_beside(rt: &HostRuntime, place: Path<'_>, mode: u32) -> io::Result<(PathBuf, File)> {
     let mut options = OpenOptions::new();
     options.write(true).create_new(true).mode(mode);

@@ -15,6 +15,7 @@ pub(crate) struct CheckpointWatch {
     is_after_number: bool,
     /// Whether a blank line has ended: signatures follow it.
     is_after_blank: bool,
+    /// Whether a second checkpoint has come.
     has_second: bool,
 }
 

@@ -65,7 +65,7 @@ pub extern "C" fn fohlazu_leaf_hash(entry: &[u8], leaf: &mut [u8; 32])
     *leaf = leaf_hash(entry);
 }
 
-/// The status of a verdict.
+/// The status of a verdict: 0 for Ok, else the place of the error's variant in [`ProofError`], counted from 1.
 fn status(verdict: Result<(), ProofError>) -> i32
     ensures { result ≡ status_of (result_err verdict) }
 {

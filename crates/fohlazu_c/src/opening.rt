@@ -97,8 +97,8 @@ fn verdict<const N: usize>(
         IsOk result → IsAccepted (params_at N cap_height rule dimensions) claim.entry.roots.now
         (presented_opening dimensions claim.entry.index claim.entry.rows.now claim.entry.siblings.now) }
 {
-    let dimensions = dimensions(alloc, claim.sizes)?;
-    let rows = cut(alloc, claim.sizes, claim.rows)?;
+    let dimensions = dimensions_of(alloc, claim.sizes)?;
+    let rows = cut_by_widths(alloc, claim.sizes, claim.rows)?;
     let siblings = Vec::from_slice(alloc, claim.siblings)?;
     let cap = MerkleCap::new(Vec::from_slice(alloc, claim.roots)?);
     let scheme = Scheme::<N>::new_with_rule(Sha256Rows, Sha256Nodes::<N>, cap_height, rule);
@@ -106,17 +106,21 @@ fn verdict<const N: usize>(
     scheme.verify_batch(&cap, &dimensions, claim.index, opening)
 }
 
-/// The dimensions of matrices of these sizes.
-fn dimensions(alloc: Global, sizes: &[MatrixSize]) -> Result<Vec<Dimensions>, AllocError>
+/// The sizes as the library's `Dimensions`. `AllocError` if memory runs out.
+fn dimensions_of(alloc: Global, sizes: &[MatrixSize]) -> Result<Vec<Dimensions>, AllocError>
     ensures { IfOk result (λ dimensions. dimensions.items ≡ map size_shown sizes.now) }
 {
     let to_dimensions = |&MatrixSize { height, width }: &MatrixSize| Dimensions { height, width };
     sizes.iter().map(to_dimensions).collect(alloc)
 }
 
-/// Rows that lie one after another, cut by their widths: a row is short where the bytes end, and bytes that are left
-/// are a row too many.
-fn cut(alloc: Global, sizes: &[MatrixSize], rows: &[u8]) -> Result<Vec<Vec<u8>>, AllocError>
+/// The rows of matrices of these sizes, which lie one after another in `rows`, cut by their widths: a row is short
+/// where the bytes end, and bytes that are left are a row too many. `AllocError` if memory runs out.
+fn cut_by_widths(
+    alloc: Global,
+    sizes: &[MatrixSize],
+    rows: &[u8],
+) -> Result<Vec<Vec<u8>>, AllocError>
     ensures { IfOk result (λ cut. row_lists cut.items ≡ cut_rows (widths_of (map size_shown sizes.now)) rows.now) }
 {
     let mut cut = Vec::new(alloc);
@@ -132,7 +136,7 @@ fn cut(alloc: Global, sizes: &[MatrixSize], rows: &[u8]) -> Result<Vec<Vec<u8>>,
     Ok(cut)
 }
 
-/// The status of a verdict.
+/// The status of a verdict, by the numbers that the C header lists.
 fn status(verdict: Result<(), MerkleTreeError>) -> i32
     ensures { result ≡ opening_status (result_err verdict) }
 {
@@ -147,6 +151,7 @@ fn status(verdict: Result<(), MerkleTreeError>) -> i32
             },
         ) if got < expected => 4,
         Err(MerkleTreeError::WrongHeight { .. }) => 5,
+        // No opening of one index has a malformed pruned proof.
         Err(MerkleTreeError::CapMismatch | MerkleTreeError::MalformedPrunedProof(_)) => 7,
         Err(MerkleTreeError::EmptyBatch) => 9,
         Err(MerkleTreeError::IncompatibleHeights { .. }) => 10,

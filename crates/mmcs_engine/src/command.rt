@@ -126,7 +126,7 @@ impl Command {
 }
 
 impl CapChoice {
-    /// The cap of an argument: a cap height, followed by `f` for the fixed rule.
+    /// The cap of an argument: a cap height, followed by `f` for the fixed rule; `None` if it is no cap.
     pub fn parse(arg: &[u8]) -> Option<CapChoice>
         ensures found { IfSome result (IsCapArg arg.now) }
         ensures none { IfNone result ((cap : CapChoice) → IsCapArg arg.now cap → ⊥) }
@@ -143,7 +143,7 @@ impl CapChoice {
 }
 
 impl HashName {
-    /// The hash of an argument: `fold` or `sha256`.
+    /// The hash of an argument, `fold` or `sha256`; `None` if it is no hash.
     pub fn parse(arg: &str) -> Option<HashName>
         ensures found { IfSome result (λ hash. arg.now ≡ hash_arg hash) }
         ensures none { IfNone result ((hash : HashName) → arg.now ≡ hash_arg hash → ⊥) }
@@ -157,7 +157,7 @@ impl HashName {
 }
 
 impl Arity {
-    /// The arity of an argument: `2`, `4` or `8`.
+    /// The arity of an argument, `2`, `4` or `8`; `None` if it is no arity.
     pub fn parse(arg: &str) -> Option<Arity>
         ensures found { IfSome result (λ arity. arg.now ≡ arity_arg arity) }
         ensures none { IfNone result ((arity : Arity) → arg.now ≡ arity_arg arity → ⊥) }
@@ -172,7 +172,7 @@ impl Arity {
 }
 
 impl Action {
-    /// The action of an argument: `commit`, `open` or `check`.
+    /// The action of an argument, `commit`, `open` or `check`; `None` if it is no action.
     fn parse(arg: &str) -> Option<Action>
         ensures found { IfSome result (λ action. arg.now ≡ action_arg action) }
         ensures none { IfNone result ((action : Action) → arg.now ≡ action_arg action → ⊥) }

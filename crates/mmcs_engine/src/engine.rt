@@ -105,7 +105,8 @@ fn read_all<Src: Read>(alloc: Global, input: &mut Src) -> Result<Vec<u8>, Fault>
     }
 }
 
-/// The text that a command prints for an input, at its arity. The input is dropped once its matrices are read.
+/// The text that a command prints for an input, at its arity, which `N` must be. The input is dropped once its matrices
+/// are read.
 fn reply<const N: usize>(alloc: Global, args: &Args, input: Vec<u8>) -> Result<String, Fault>
     requires taken { IsTrue (is_taken_arity N) }
     requires arity { N ≡ arity_number args.now.command.arity }
@@ -117,6 +118,7 @@ fn reply<const N: usize>(alloc: Global, args: &Args, input: Vec<u8>) -> Result<S
     let CapChoice { height, rule } = args.command.cap;
     match args.command.hash {
         HashName::Fold => {
+            // `LANES` above 1, so that rows and groups are hashed many a call.
             let compress = FoldCompress::<N, 4>;
             let scheme = MerkleTreeMmcs::<u32, u32, _, _, N, 1>::new_with_rule(
                 FoldHash::<4>,
@@ -139,8 +141,8 @@ fn reply<const N: usize>(alloc: Global, args: &Args, input: Vec<u8>) -> Result<S
     }
 }
 
-/// The text that a command prints for an input, under the scheme of the command. The input is dropped once its matrices
-/// are read.
+/// The text that a command prints for an input. `scheme` must be that of the command's hash, arity and cap. The input
+/// is dropped once its matrices are read.
 fn reply_with_scheme<
     W: Word + PackedValue<Value = W>,
     H: CryptographicHasher<W, W, D>,
@@ -169,7 +171,7 @@ fn reply_with_scheme<
     Ok(act(alloc, scheme, args, matrices)?)
 }
 
-/// The text that a command prints for matrices, under its scheme.
+/// The text that a command prints for matrices. `scheme` must be that of the command's hash, arity and cap.
 fn act<
     W: Word + PackedValue<Value = W>,
     H: CryptographicHasher<W, W, D>,
@@ -211,7 +213,8 @@ fn act<
     Ok(format!(in alloc; "ok {count}\n")?)
 }
 
-/// The text of `open`: the rows of each index, then the digests of one proof for all.
+/// The text of `open`: the rows of each index, then the digests of one proof for all. `opened` must have a row set for
+/// each index. `AllocError` if memory runs out.
 fn text_of_opening<W: Word, const D: usize>(
     alloc: Global,
     indices: &[usize],

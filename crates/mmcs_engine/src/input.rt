@@ -53,7 +53,8 @@ pub fn without_return(line: &[u8]) -> &[u8]
     line.strip_suffix(b"\r").unwrap_or(line)
 }
 
-/// The number, at most `max`, of the digits of `before` followed by one more digit.
+/// The number of the digits of `before` followed by one more digit; `before` is `None` ahead of the first. `None` if
+/// `digit` is no digit, or the number is above `max`.
 fn with_digit(before: Option<u32>, digit: u8, max: u32) -> Option<u32>
     ensures some { IfSome result
         (λ number. (digits : List ℕ) → IsRead (max + 1) digits before →
@@ -153,7 +154,8 @@ impl<W: Word> Block<W> {
         Ok(())
     }
 
-    /// Takes the rows, if there are any, as a matrix. The values are those of rows of `width` values each.
+    /// Takes the rows, if there are any, as a matrix, and leaves none. The values must be those of rows of `width`
+    /// values each.
     fn take_matrix(&mut self, alloc: Global) -> Option<RowMajorMatrix<W>>
         requires { (limit : ℕ) × (lines : List (List ℕ)) ×
             IsBlock limit lines (map W.value self.old.values.items) self.old.width }

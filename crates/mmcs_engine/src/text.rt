@@ -24,7 +24,8 @@ pub fn push_digests<W: Word, const D: usize>(
     Ok(())
 }
 
-/// Appends a line of words in lower case hexadecimal, `W::HEX_DIGITS` digits each, one after another.
+/// Appends a line of words in lower case hexadecimal, `W::HEX_DIGITS` digits each, one after another. `AllocError` if
+/// memory runs out.
 fn push_hex_line<W: Word>(text: &mut String, words: &[W]) -> Result<(), AllocError>
     ensures { OnOk result (string_bytes text.new
         ≡ string_bytes text.old ++ hex_line W.HEX_DIGITS (map W.value words.now)) }
@@ -36,7 +37,7 @@ fn push_hex_line<W: Word>(text: &mut String, words: &[W]) -> Result<(), AllocErr
     Ok(())
 }
 
-/// Appends the last `digits` digits of a number in lower case hexadecimal.
+/// Appends the last `digits` digits of a number in lower case hexadecimal. `AllocError` if memory runs out.
 fn push_hex(text: &mut String, digits: usize, number: u32) -> Result<(), AllocError>
     ensures { OnOk result (string_bytes text.new ≡ string_bytes text.old ++ hex_word digits number) }
 {
@@ -62,7 +63,7 @@ pub fn push_rows<W: Word>(text: &mut String, rows: &[Vec<W>]) -> Result<(), Allo
     Ok(())
 }
 
-/// Appends a line for a row: its numbers in decimal, with one space between.
+/// Appends a line for a row: its numbers in decimal, with one space between. `AllocError` if memory runs out.
 fn push_row<W: Word>(text: &mut String, row: &[W]) -> Result<(), AllocError>
     ensures { OnOk result (string_bytes text.new ≡ string_bytes text.old ++ row_line (map W.value row.now)) }
 {

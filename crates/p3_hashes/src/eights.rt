@@ -24,8 +24,8 @@ const MOST_HASHED: usize = 4;
 /// The longest digest, in words, for which eight groups are compressed together. A longer one fills vectors by itself.
 const MOST_COMPRESSED: usize = 1;
 
-/// Packs word `column` of eight messages: lane `k` is from message `first + k`. `messages` must have all eight, and each
-/// must have the word.
+/// Packs word `column` of eight messages: lane `k` is from message `first + k`. `messages` must have all eight, and
+/// each must have the word.
 fn column_of(messages: &[u32], width: usize, first: usize, column: usize) -> U32x8
     requires full { (n : ℕ) × (first + 8 ≤ n) × (length messages.now ≡ n * width) }
     requires fits { first + 8 < 2 ^ 64 }
@@ -115,8 +115,8 @@ fn columns_of_eight(messages: &[u32], width: usize, first: usize, column: usize)
     ]
 }
 
-/// Absorbs the eight messages from `first` on, one a lane, four columns at a time. The columns after the last whole four
-/// are left out. The state must be the initial one.
+/// Absorbs the eight messages from `first` on, one a lane, four columns at a time. The columns after the last whole
+/// four are left out. The state must be the initial one.
 fn absorb_fours<const D: usize>(
     state: &mut [U32x8; D],
     messages: &[u32],

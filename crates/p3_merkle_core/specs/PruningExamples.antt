@@ -86,15 +86,11 @@ digests_for_both_of_2_at_4 : length (boundary (narrow 4 (2 ∷ [])) (0 ∷ 1 ∷
 unfolding exponent layer_exponent raw_len leaves_under
 digests_for_both_of_2_at_4 = refl
 
-digests_of_four_queries :
-    (honest_query example one_to_eight 3
-    four_queries).digests ≡ four_digests
+digests_of_four_queries : (honest_query example one_to_eight 3 four_queries).digests ≡ four_digests
 unfolding exponent layer_exponent raw_len node leaves_under
 digests_of_four_queries = refl
 
-digests_under_a_cap_of_two :
-    (honest_query example one_to_eight 2
-    (1 ∷ 2 ∷ 5 ∷ [])).digests ≡ four_digests
+digests_under_a_cap_of_two : (honest_query example one_to_eight 2 (1 ∷ 2 ∷ 5 ∷ [])).digests ≡ four_digests
 unfolding exponent layer_exponent raw_len node leaves_under
 digests_under_a_cap_of_two = refl
 
@@ -105,15 +101,13 @@ digests_of_padding_slots = refl
 
 root_restored_from_four_queries :
     restored_node (params example eight_rows 3)
-    (pruned four_queries four_row_sets
-    four_digests) 3 0 ≡ 1056801 ∷ []
+    (pruned four_queries four_row_sets four_digests) 3 0 ≡ 1056801 ∷ []
 unfolding exponent layer_exponent raw_len leaves_under restored_node
 root_restored_from_four_queries = refl
 
 paths_restored_from_four_queries :
     map (restored_path (params example eight_rows 3)
-    (pruned four_queries four_row_sets
-    four_digests)) (5 ∷ 1 ∷ 2 ∷ [])
+    (pruned four_queries four_row_sets four_digests)) (5 ∷ 1 ∷ 2 ∷ [])
     ≡ ((36 ∷ []) ∷ (1218 ∷ []) ∷ (32897 ∷ []) ∷ []) ∷ ((32 ∷ []) ∷ (1090 ∷ []) ∷ (36993 ∷ []) ∷ [])
     ∷ ((35 ∷ []) ∷ (1026 ∷ []) ∷ (36993 ∷ []) ∷ []) ∷ []
 unfolding exponent layer_exponent raw_len leaves_under restored_node
@@ -152,9 +146,7 @@ path_of_another_leaf = refl
 -- ---- refusals
 
 honest_queries_are_not_refused :
-    pruned_refusal nat_eq eight_rows 3
-    (pruned four_queries four_row_sets
-    four_digests) ≡ None
+    pruned_refusal nat_eq eight_rows 3 (pruned four_queries four_row_sets four_digests) ≡ None
 unfolding exponent layer_exponent raw_len leaves_under
 honest_queries_are_not_refused = refl
 

@@ -1,5 +1,5 @@
-//! The covered nodes of the layers of a tree: the queried leaves, and the nodes above them. The boundary is the children
-//! of covered nodes that are not covered themselves.
+//! The covered nodes of the layers of a tree: the queried leaves, and the nodes above them. The boundary is the
+//! children of covered nodes that are not covered themselves.
 
 ghost use Rattle.std.specs.Prelude.{◌≡◌, suc, ◌-◌, ◌/◌, ◌<◌, ◌≤◌, map, All, IfOk};
 ghost use Rattle.p3_support.specs.Batches.{heights_of, greatest};
@@ -115,7 +115,8 @@ impl<'a> Covered<'a> {
     }
 }
 
-/// Replaces ascending nodes of a layer by their parents, each once, ascending. A parent has `step` children, at least 1.
+/// Replaces ascending nodes of a layer by their parents, each once, ascending. A parent has `step` children, at least
+/// 1.
 fn replace_by_parents(covered: &mut Vec<usize>, step: usize)
     requires { 0 < step }
     ensures { IsAscending covered.old.items → covered.new.items ≡ distinct (map (λ j. j / step) covered.old.items) }

@@ -119,7 +119,7 @@ pub fn check_indices(max_height: usize, indices: &[usize]) -> Result<(), MerkleT
 }
 
 /// The distinct indices, ascending, and the slot of each query, in query order. `indices` has the index of each query.
-/// `sorted` must have each query once, as its index and its position, ascending.
+/// `sorted` must have each query once, as its index and its position, ascending. `AllocError` if memory runs out.
 fn distinct_slots(
     alloc: Global,
     sorted: &[(usize, usize)],
@@ -143,7 +143,8 @@ fn distinct_slots(
     Ok((distinct, slots))
 }
 
-/// The distinct indices of some queries, with the first query of each, and the slot of each query.
+/// The distinct indices of some queries, with the first query of each, and the slot of each query. `AllocError` if
+/// memory runs out.
 fn distinct_queries_of(alloc: Global, queries: &[usize]) -> Result<DistinctQueries, AllocError>
     ensures { IfOk result (λ queried. AreDistinctOf queried queries.now) }
 {
@@ -363,8 +364,9 @@ pub fn check_pruned<T: Eq>(
     Ok(queried)
 }
 
-/// Checks, in this order: the heights; that there is a row set for each index; that there is no digest where there is
-/// no index; and that each index is below the tallest height. It does not allocate.
+/// Checks, in this order: the heights; that there is a row set for each index; that there is no digest if there is no
+/// index; and that each index is below the tallest height. Returns the first error that [`check_pruned`] lists for
+/// these. It does not allocate.
 fn check_queries(
     schedule: &Schedule<'_>,
     indices: &[usize],
@@ -449,8 +451,8 @@ pub fn children_of<X: Copy>(
     Ok(children)
 }
 
-/// The place of `node` among ascending nodes, of which it must be one. The search begins at the place `start`, or at 0 if
-/// there is no such place or `node` is ahead of it, and takes a step for each node that it passes.
+/// The place of `node` among ascending nodes, of which it must be one. The search begins at the place `start`, or at 0
+/// if there is no such place or `node` is ahead of it, and takes a step for each node that it passes.
 fn place_of(nodes: &[usize], start: usize, node: usize) -> usize
     requires ascending { IsStrictlyIncreasing nodes.now }
     requires among { is_among nodes.now node ≡ true }
@@ -467,9 +469,9 @@ fn place_of(nodes: &[usize], start: usize, node: usize) -> usize
     place
 }
 
-/// The siblings on the path of the leaf `index`, which must be covered, from the leaves up: on each layer above them the
-/// digests of the children of the path's node, without the path's own, ascending. `layers` must be those of a pruned
-/// opening, the leaves first, and `capacity` is the expected number of siblings.
+/// The siblings on the path of the leaf `index`, which must be covered, from the leaves up: on each layer above them
+/// the digests of the children of the path's node, without the path's own, ascending. `layers` must be those of a
+/// pruned opening, the leaves first, and `capacity` is the expected number of siblings.
 ///
 /// `places` must have a number for each layer. The search for the path's node begins at that place among the layer's
 /// covered nodes, and the number then becomes the node's own place. So the searches of ascending leaves pass each node

@@ -75,7 +75,8 @@ struct LevelKind {
 }
 
 /// The step above a layer, with whether matrices belong to the layer that it leads to, and the exponents there. The
-/// layer must be below the root, `exponents` must be its own, and its exponent at most 64. The arity must be at least 2.
+/// layer must be below the root, `exponents` must be its own, and its exponent at most 64. The arity must be at least
+/// 2.
 fn next_step(
     matrices: &MatrixExponents<'_>,
     arity: usize,
@@ -207,7 +208,8 @@ pub struct OwnedSchedule {
 }
 
 impl OwnedSchedule {
-    /// Computes the steps of the tree over matrices of these dimensions by [`schedule_of`]. The arity must be at least 2.
+    /// Computes the steps of the tree over matrices of these dimensions by [`schedule_of`]. The arity must be at least
+    /// 2.
     pub fn new(dimensions: Vec<Dimensions>, arity: usize) -> OwnedSchedule
         requires { 2 ≤ arity }
         ensures dimensions { result.dimensions.items ≡ dimensions.items }

@@ -159,8 +159,8 @@ leaves_part hash rows first words xs ys a k n len same inside s hashed before =
     fill_part (λ j. hash (rows (first + j))) made xs ys a k n len same inside all
     (λ j small. let at : first + a + j ≡ first + (a + j) = omega arith in ap (λ i. hash (rows i)) at) before
 
--- The first n of some slots, which have the default digest d, are lent. The first a of these are written, then the rest.
--- The others should keep what they have, so all slots have what they should.
+-- The first n of some slots, which have the default digest d, are lent. The first a of these are written, then the
+-- rest. The others should keep what they have, so all slots have what they should.
 pub all_filled : {W : Type 0} (f made : ℕ → List W) (d : List W) (xs front ys : List (List W)) (a k n : ℕ) →
     All (λ x. x ≡ d) xs → n ≤ length xs → k ≡ n - a → a ≤ n →
     ys ≡ map made (range_with_len 0 (length (take k (drop a front)))) →

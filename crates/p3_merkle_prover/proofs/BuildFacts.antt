@@ -25,7 +25,8 @@ pub record IsBuilt {T W : Type 0} (f : Functions T W) (b : Batch T) (l x len : �
   pub are_layers : made ≡ map (layer f b) (range_with_len 0 (suc l))
 
 -- a level of the batch's tree, and the layer below it
-pub record CanRaise {T W : Type 0} (f : Functions T W) (b : Batch T) (v : LayerShape) (below : List (List W)) : Type 0 where
+pub record CanRaise {T W : Type 0} (f : Functions T W) (b : Batch T) (v : LayerShape) (below : List (List W))
+    : Type 0 where
   pub lawful : IsLawful (heights (shape b))
   pub level : IsLevel (shape b) v
   pub is_below : below ≡ layer f b v.below

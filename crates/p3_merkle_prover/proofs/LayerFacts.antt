@@ -259,7 +259,8 @@ module _ {T W M : Type 0} (f : Functions T W) (n : ℕ) (height width_of : M →
         ∙ sym (node_next f whole l j (omega (arith, k.raw_is))))
 
     -- the layer above a layer of the definition is the definition's
-    pub layer_next : (v : LayerShape) (below : List (List W)) → IsLevel (shape whole) v → IsLawful (heights (shape whole)) →
+    pub layer_next : (v : LayerShape) (below : List (List W)) → IsLevel (shape whole) v →
+        IsLawful (heights (shape whole)) →
         below ≡ layer f whole v.below →
         map (λ j. cond (nat_lt j v.raw_len)
         (node_above f n (leaf_above v.height) v.has_rows j (take v.step (drop (v.step * j) below))) f.default_digest)

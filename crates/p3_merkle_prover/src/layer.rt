@@ -91,9 +91,9 @@ impl<T, X, G> Buffers<T, X, G> {
     }
 }
 
-/// States that the children of the `count` nodes from `first` on lie within the layer below, which has the children of
-/// each node one after another, so that [`fill`](GenericLayerBuilder::fill) may begin to read there. `arity` is the
-/// most children that a node has.
+/// States that the children of the `count` nodes from `first` on lie within the layer below, so that
+/// [`fill`](GenericLayerBuilder::fill) may begin to read there. The layer above, of the shape `level`, must have these
+/// nodes, and the layer below the children of each node. `arity` is how many children a node has at most.
 fn lemma_children_from<X>(arity: usize, level: &LayerShape, below: &[X], first: usize, count: usize)
     requires children { HasChildren arity level.now (length below.now) }
     requires nodes { first + count ≤ level.now.raw_len }
@@ -113,7 +113,8 @@ impl<
 > LayerBuilder<'a, 'b, P, PW, H, C, M, N, D> {
     ghost use Rattle.p3_merkle_prover.specs.Inner.Slots.{slot_of};
 
-    /// The digests of the `PW::WIDTH` nodes from `first` on, one in each lane.
+    /// The digests of the `PW::WIDTH` nodes from `first` on, one in each lane. The layer must have these nodes and, if
+    /// matrices belong to it, a row for each. A packed group of `N` digests must have fewer than 2^63 bytes.
     fn packed_digest(&self, first: usize) -> [PW; D]
         requires group { FitsInMemory (ArrayAt (ArrayAt PW.row D.row) N.row) }
         requires nodes { first + PW.WIDTH ≤ self.now.level.raw_len }
@@ -144,6 +145,10 @@ impl<
     /// - Else the first nodes are made one in each lane of a call ([`packed_digest`](Self::packed_digest)), as far as
     ///   they, and the rows of these matrices, fill all lanes. With a `WIDTH` of 1 this is none.
     /// - Nodes that are left over are made many a call, where a function with `LANES` 1 takes one after another.
+    ///
+    /// # Errors
+    ///
+    /// `AllocError` if memory runs out, or if the rows of one call have 2^64 words or more.
     pub(crate) fn fill(
         &self,
         buffers: &mut Buffers<P::Value, [PW::Value; D], [[PW::Value; D]; N]>,

@@ -24,7 +24,7 @@ use std::alloc::{AllocError, Global};
 use std::marker::PhantomData;
 
 /// Builds the layers of a tree, with a hasher for rows and a compression of `N` digests for nodes. `G` is the type of a
-/// group. [`TreeBuilder`] is this builder at digests of words.
+/// group. [`MerkleTreeBuilder`] is this builder at digests of words.
 ///
 /// `N` is a power of two from 2 to 2^62, [`check_heights`](p3_merkle_core::gate::check_heights) accepts the heights,
 /// and both packings have equally many lanes.
@@ -68,7 +68,8 @@ pub(crate) type MerkleTreeBuilder<
     const D: usize,
 > = GenericTreeBuilder<'a, P, PW, H, C, M, [[PW::Value; D]; N], N, D>;
 
-/// Replaces the contents of `picked` by the matrices that have `height` rows, in input order.
+/// Replaces the contents of `picked` by the matrices that have `height` rows, in input order. `AllocError` if memory
+/// runs out.
 fn pick_matrices<'a, T, M: Matrix<T>>(
     picked: &mut Vec<&'a M>,
     matrices: &'a [M],
@@ -81,7 +82,7 @@ fn pick_matrices<'a, T, M: Matrix<T>>(
     picked.extend(matrices.iter().filter(|matrix| matrix.height() == height))
 }
 
-/// A list of `count` default digests.
+/// A list of `count` default digests. `AllocError` if memory runs out.
 fn default_digests<PW: PackedValue, const D: usize>(
     alloc: Global,
     count: usize,
@@ -94,10 +95,12 @@ fn default_digests<PW: PackedValue, const D: usize>(
     Ok(digests)
 }
 
-/// States that a layer `below`, padding included, has the children of each node of the layer above, `level`.
+/// States that a layer `below` has the children of each node of the layer above. `level` must be the shape of that
+/// layer in the tree, and `below` must have all slots of its own, padding included.
 fn lemma_children<X>(schedule: &Schedule<'_>, level: &LayerShape, below: &[X])
     requires level { IsLevel (shape_of schedule.now.arity schedule.now.dimensions.now) level.now }
-    requires slots { length below.now ≡ layer_len (shape_of schedule.now.arity schedule.now.dimensions.now) level.now.below }
+    requires slots { length below.now
+        ≡ layer_len (shape_of schedule.now.arity schedule.now.dimensions.now) level.now.below }
     ensures { HasChildren schedule.now.arity level.now (length below.now) }
 {}
 
@@ -114,7 +117,7 @@ impl<
     ghost use Rattle.p3_merkle_prover.specs.Inner.Slots.{batch_for, functions_for, layer_above};
 
     /// The leaves: the digests of the rows of the tallest matrices, then default digests. `picked` and `buffers` are
-    /// scratch memory that all layers share.
+    /// scratch memory that all layers share. `AllocError` if memory runs out.
     fn leaf_layer(
         &self,
         alloc: Global,
@@ -136,7 +139,8 @@ impl<
         Ok(leaves)
     }
 
-    /// The layer above `below`, of the shape `level`. `picked` and `buffers` are scratch memory that all layers share.
+    /// The layer above `below`, of the shape `level`. `below` must have the children of each of its nodes. `picked` and
+    /// `buffers` are scratch memory that all layers share. `AllocError` if memory runs out.
     fn next_layer(
         &self,
         alloc: Global,
@@ -168,6 +172,10 @@ impl<
     }
 
     /// All layers, from the leaves to the root.
+    ///
+    /// # Errors
+    ///
+    /// `AllocError` if memory runs out.
     pub(crate) fn layers(&self, alloc: Global) -> Result<Vec<Vec<[PW::Value; D]>>, AllocError>
         ensures { let all = layers_over (functions_for self.now) (batch_for self.now) in
             IfOk result (λ layers. map (λ nodes. nodes.items) layers.items ≡ all) }

@@ -100,8 +100,8 @@ pub fn matrix_refs<'a, F, X, G, M: Matrix<F>, const N: usize>(
 }
 
 /// The siblings on the path of leaf `index` up to layer `layer`, level by level from the leaves up: the other children
-/// of the parent of the path's node, ascending. `steps` must be those of the tree, the index below [`max_height`], and
-/// the layer at most the number of levels.
+/// of the parent of the path's node, ascending. `schedule` must be that of the tree, the index below [`max_height`],
+/// and the layer at most the number of levels.
 ///
 /// # Errors
 ///

@@ -168,7 +168,7 @@ impl<F: Copy, W: Copy, M: Matrix<F>, const N: usize, const D: usize> MerkleTree<
     }
 }
 
-/// A copy of each layer, in order.
+/// A copy of each layer, in order. `AllocError` if memory runs out.
 fn copies_of<X: Copy>(alloc: Global, layers: &[Vec<X>]) -> Result<Vec<Vec<X>>, AllocError>
     ensures { IfOk result (λ copies. map (λ nodes. nodes.items) copies.items ≡ map (λ nodes. nodes.items) layers.now) }
 {

@@ -9,7 +9,8 @@ use Rattle.p3_merkle_core.specs.declared.cap.CapRule.{CapRule}
 use Rattle.p3_merkle_core.specs.declared.schedule.Schedule.{Schedule}
 
 -- what the steps of some dimensions are of, and the cap's layer by them
-pub record IsSchedule (n : ℕ) (dimensions : List Dimensions) (rule : CapRule) (height : ℕ) (schedule : Schedule) (t : ℕ) :
+pub record IsSchedule (n : ℕ) (dimensions : List Dimensions) (rule : CapRule) (height : ℕ) (schedule : Schedule)
+    (t : ℕ) :
     Type 0 where
   pub tree : shape_of schedule.arity schedule.dimensions.now ≡ shape_of n dimensions
   pub at_cap : t ≡ cap_layer (shape_of n dimensions) rule height
@@ -19,7 +20,8 @@ module _ (n : ℕ) (dimensions : List Dimensions) (rule : CapRule) (height : ℕ
     (at : t ≡ cap_layer (shape_of schedule.arity schedule.dimensions.now) rule height) where
   pub are_steps : IsSchedule n dimensions rule height schedule t
   are_steps =
-      let tree : shape_of schedule.arity schedule.dimensions.now ≡ shape_of n dimensions = λ i. shape_of (arity i) (same i) in
+      let tree : shape_of schedule.arity schedule.dimensions.now ≡ shape_of n dimensions
+      = λ i. shape_of (arity i) (same i) in
       record { tree = tree; at_cap = at ∙ ap (λ s. cap_layer s rule height) tree }
 
   -- the parameters of checks by these steps, where the arity is named in either way

@@ -1,3 +1,4 @@
+-- The lemmas of this crate.
 mod SaltedAnswers
 mod SplitFacts
 mod CommitFacts

@@ -3,7 +3,7 @@ use Rattle.std.specs.Prelude.{◌≡◌, ℕ, List, [], ◌∷◌, length, map, 
 use Rattle.rand_core.specs.Stream.{Stream, next_u64}
 use Rattle.p3_support.specs.Salts.{after_words, salts}
 use Rattle.p3_merkle_core.specs.Geometry.{exponent, layer_exponent, raw_len}
-use Rattle.p3_merkle_core.specs.Nodes.{layer, node}
+use Rattle.p3_merkle_core.specs.Nodes.{Batch, layer, node}
 use Rattle.p3_merkle_core.specs.Examples.{batch, column, example}
 use Rattle.p3_merkle_tree.specs.Salted.{IsAfterSome, after_salts, salted_batch}
 
@@ -15,15 +15,23 @@ words xs = record {
   bytes_after = λ calls n. [];
 }
 
+-- four of them
+abbrev four_words : Stream
+four_words = words (10 ∷ 20 ∷ 30 ∷ 40 ∷ [])
+
+-- a matrix of one column and two rows
+abbrev two_rows : Batch ℕ
+two_rows = batch 2 (column (1 ∷ 2 ∷ []) ∷ [])
+
 -- the word itself
 abbrev whole : ℕ → ℕ
 whole w = w
 
-salts_of_two_words : salts whole 2 (words (10 ∷ 20 ∷ 30 ∷ 40 ∷ [])) ≡ 10 ∷ 20 ∷ []
+salts_of_two_words : salts whole 2 four_words ≡ 10 ∷ 20 ∷ []
 unfolding next_u64
 salts_of_two_words = refl
 
-salts_after_two_words : salts whole 2 (after_words 2 (words (10 ∷ 20 ∷ 30 ∷ 40 ∷ []))) ≡ 30 ∷ 40 ∷ []
+salts_after_two_words : salts whole 2 (after_words 2 four_words) ≡ 30 ∷ 40 ∷ []
 unfolding next_u64
 salts_after_two_words = refl
 
@@ -37,25 +45,23 @@ unfolding next_u64
 rows_of_two_matrices = refl
 
 leaves_of_salted_rows :
-    layer example (salted_batch whole 1 (batch 2 (column (1 ∷ 2 ∷ []) ∷ [])) (words (10 ∷ 20 ∷ 30 ∷ 40 ∷ [])))
-    0 ≡ (1002 ∷ []) ∷ (1043 ∷ []) ∷ []
+    layer example (salted_batch whole 1 two_rows four_words) 0 ≡ (1002 ∷ []) ∷ (1043 ∷ []) ∷ []
 unfolding next_u64 exponent layer_exponent raw_len node
 leaves_of_salted_rows = refl
 
 root_of_salted_rows :
-    layer example (salted_batch whole 1 (batch 2 (column (1 ∷ 2 ∷ []) ∷ [])) (words (10 ∷ 20 ∷ 30 ∷ 40 ∷ [])))
-    1 ≡ (32106 ∷ []) ∷ []
+    layer example (salted_batch whole 1 two_rows four_words) 1 ≡ (32106 ∷ []) ∷ []
 unfolding next_u64 exponent layer_exponent raw_len node
 root_of_salted_rows = refl
 
 -- the same rows, salted once more, take the next words
 root_of_rows_salted_again :
-    let b = batch 2 (column (1 ∷ 2 ∷ []) ∷ []) in
-    layer example (salted_batch whole 1 b (after_salts 1 b.matrices (words (10 ∷ 20 ∷ 30 ∷ 40 ∷ [])))) 1
+    layer example (salted_batch whole 1 two_rows (after_salts 1 two_rows.matrices four_words)) 1
     ≡ (32746 ∷ []) ∷ []
 unfolding next_u64 exponent layer_exponent raw_len node
 root_of_rows_salted_again = refl
 
+-- its leaf is the root
 root_of_a_row_with_two_salts :
     layer example (salted_batch whole 2 (batch 2 (column (9 ∷ []) ∷ [])) (words (100 ∷ 101 ∷ []))) 0
     ≡ (41641 ∷ []) ∷ []

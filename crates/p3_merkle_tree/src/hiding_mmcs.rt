@@ -283,8 +283,9 @@ fn salted_dimensions<T, M: Matrix<T>>(
     widened_dimensions(alloc, &dimensions, salt_elems)
 }
 
-/// Draws `salt_elems` salts for each row of the matrices, and returns each matrix beside its salts. Each salt takes one
-/// call of `next_u64`: matrix by matrix in input order, row by row. `dimensions` are those with salts.
+/// Draws `salt_elems` salts for each row of the matrices, at least 1, and returns each matrix beside its salts. Each
+/// salt takes one call of `next_u64`: matrix by matrix in input order, row by row. `dimensions` must be what
+/// [`salted_dimensions`] returns of the matrices. `AllocError` if memory runs out.
 fn salted_pairs<T: SaltWord, M: Matrix<T> + Drop, R: Rng>(
     alloc: Global,
     rng: &mut R,

@@ -35,7 +35,7 @@ use p3_support::pair::HorizontalPair;
 use std::alloc::{AllocError, Global};
 
 /// Splits each row of one index into the matrix's own words and its salts, and returns the row set and the salt set.
-/// `pairs` has the matrix of each row beside its salts. Only the salts are copied.
+/// `pairs` has the matrix of each row beside its salts. Only the salts are copied. `AllocError` if memory runs out.
 #[tactic(auto, using(crate::proofs::LoopFacts::no_value))]
 fn split_rows<F: Copy, A: Matrix<F>, B: Matrix<F>>(
     alloc: Global,
@@ -57,7 +57,8 @@ fn split_rows<F: Copy, A: Matrix<F>, B: Matrix<F>>(
     Ok((unsalted, salts))
 }
 
-/// Splits the rows of several indices, each as [`split_rows`] does, into row sets and salt sets.
+/// Splits the rows of several indices, each as [`split_rows`] does, into row sets and salt sets. The rows are those of
+/// a tree's matrices beside their salts. The only error is `OutOfMemory`.
 #[tactic(auto, using(crate::proofs::LoopFacts::no_value))]
 fn split_row_sets<F: Copy, X, G, A: Matrix<F>, B: Matrix<F>, const N: usize>(
     alloc: Global,

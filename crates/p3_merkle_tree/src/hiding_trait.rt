@@ -198,15 +198,16 @@ where
     fn verify_multi_batch(
         &self,
         alloc: Global,
-        commit: &Self::Commitment,
+        commitment: &Self::Commitment,
         dimensions: &[Dimensions],
         indices: &[usize],
         rows: &[Vec<Vec<P::Value>>],
         proof: &Self::MultiProof,
     ) -> Result<(), Self::Error>
-        ensures { IsVerdict (presented_all self.now dimensions.now commit.now indices.now rows.now proof.now) result }
+        ensures { IsVerdict (presented_all self.now dimensions.now commitment.now indices.now rows.now proof.now)
+            result }
     {
-        self.verify_multi_batch(alloc, commit, dimensions, indices, rows, proof)
+        self.verify_multi_batch(alloc, commitment, dimensions, indices, rows, proof)
     }
 
     ghost row_of_tallest = { tallest_at_index };

@@ -158,6 +158,7 @@ pub fn widened_dimensions(
 }
 
 /// Each row followed by its salts. Rows and lists of salts are paired in order, up to the end of the shorter list.
+/// `AllocError` if memory runs out.
 fn joined_rows<T: Copy>(
     alloc: Global,
     rows: &[Vec<T>],
@@ -176,7 +177,7 @@ fn joined_rows<T: Copy>(
 }
 
 /// The row sets of several queries, each joined with its salt set by [`joined_rows`]. `sets` has the row sets and
-/// `salts` the salt sets; they are paired in order, up to the end of the shorter list.
+/// `salts` the salt sets; they are paired in order, up to the end of the shorter list. `AllocError` if memory runs out.
 fn joined_row_sets<T: Copy>(
     alloc: Global,
     sets: &[Vec<Vec<T>>],

@@ -330,7 +330,7 @@ impl<
     }
 }
 
-/// States that an arity, a power of two from 2 to 2^62, passes the test of arities.
+/// States that an arity passes the test of arities. It must be a power of two from 2 to 2^62.
 fn lemma_arity<const N: usize>()
     requires { IsArity N }
     ensures { IsTrue (is_arity N) }

@@ -92,7 +92,8 @@ impl<
         matrices: Vec<M>,
     ) -> Result<(Self::Commitment, Self::ProverData), Self::Error>
         ensures agrees { IsSameScheme self.old self.new }
-        ensures matrices_accepted { IfOk result (λ made. IsLawful (heights_in M.height_of M.width_of M.row_of matrices.items)) }
+        ensures matrices_accepted { IfOk result
+            (λ made. IsLawful (heights_in M.height_of M.width_of M.row_of matrices.items)) }
         ensures matrices { IfOk result (λ made. matrices_of made.1 ≡ matrices.items) }
         ensures commitment { IfOk result (λ made. Commits self.new (roots_of made.0) made.1) }
         ensures answer { AnswersUnlessMemory result
@@ -173,15 +174,16 @@ impl<
     fn verify_multi_batch(
         &self,
         alloc: Global,
-        commit: &Self::Commitment,
+        commitment: &Self::Commitment,
         dimensions: &[Dimensions],
         indices: &[usize],
         rows: &[Vec<Vec<P::Value>>],
         proof: &Self::MultiProof,
     ) -> Result<(), Self::Error>
-        ensures { IsVerdict (presented_all self.now dimensions.now commit.now indices.now rows.now proof.now) result }
+        ensures { IsVerdict (presented_all self.now dimensions.now commitment.now indices.now rows.now proof.now)
+            result }
     {
-        self.verify_multi_batch(alloc, commit, dimensions, indices, rows, proof)
+        self.verify_multi_batch(alloc, commitment, dimensions, indices, rows, proof)
     }
 
     ghost row_of_tallest = { tallest_at_index };

@@ -87,8 +87,8 @@ fn stored_rows<P: PackedValue, M: Matrix<P::Value>>(
     Some(piece)
 }
 
-/// Packs one column of `P::WIDTH` rows of `width` elements each, which lie one after another in `rows`: lane `k` is from
-/// row `k`. `rows` must reach to the column's element in the last of them.
+/// Packs one column of `P::WIDTH` rows of `width` elements each, which lie one after another in `rows`: lane `k` is
+/// from row `k`. `rows` must reach to the column's element in the last of them.
 #[inline(always)]
 fn stored_column<P: PackedValue>(rows: &[P::Value], width: usize, column: usize) -> P
     requires first { column ≤ length rows.now }

@@ -23,8 +23,8 @@ fn word(bytes: &[u8], at: usize) -> u32
     u32::from_be_bytes([bytes[at], bytes[at + 1], bytes[at + 2], bytes[at + 3]])
 }
 
-/// The words at byte `at` of eight messages of `width` bytes each: lane `j` is from message `j`. `at + 4` must be at most
-/// `width`.
+/// The words at byte `at` of eight messages of `width` bytes each: lane `j` is from message `j`. `at + 4` must be at
+/// most `width`.
 #[inline(always)]
 pub(crate) fn words(messages: &[u8], width: usize, at: usize) -> u32x8
     requires full { length messages.now ≡ 8 * width }
@@ -61,9 +61,9 @@ fn padded_byte(messages: &[u8], width: usize, j: usize, at: usize) -> u8
     }
 }
 
-/// The word at byte `at` of padded message `j` of eight, where `j < 8`. The word may have bytes of the message and of its
-/// padding. `at` must be at most `width`, and the word must end ahead of the last eight bytes of the padded message,
-/// which have its length.
+/// The word at byte `at` of padded message `j` of eight, where `j < 8`. The word may have bytes of the message and of
+/// its padding. `at` must be at most `width`, and the word must end ahead of the last eight bytes of the padded
+/// message, which have its length.
 #[inline(always)]
 fn mixed_word(messages: &[u8], width: usize, j: usize, at: usize) -> u32
     requires full { length messages.now ≡ 8 * width }
@@ -80,7 +80,8 @@ fn mixed_word(messages: &[u8], width: usize, j: usize, at: usize) -> u32
     ])
 }
 
-/// The words at byte `at` of the eight padded messages: lane `j` is [`mixed_word`] of message `j`. `at` must be as there.
+/// The words at byte `at` of the eight padded messages: lane `j` is [`mixed_word`] of message `j`. `at` must be as
+/// there.
 fn mixed_words(messages: &[u8], width: usize, at: usize) -> u32x8
     requires full { length messages.now ≡ 8 * width }
     requires before { at + 12 ≤ 64 * ((width + 72) / 64) }
@@ -126,6 +127,7 @@ fn padding_word(width: usize, n: usize) -> u32
     }
     // The padding ends with the message's length in bits, here modulo 2^64: the standard leaves out longer messages.
     let bits = width.wrapping_mul(8);
+    // Its higher 32 bits are the last word but one, and its lower 32 bits the last.
     if at + 4 < end {
         return (bits / 4_294_967_296) as u32;
     }

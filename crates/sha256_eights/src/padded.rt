@@ -39,8 +39,8 @@ fn whole_states(messages: &[u8], count: usize) -> [u32x8; 8]
     state
 }
 
-/// The digests of eight messages of any lengths that fill `count` blocks of 64 bytes each with their padding: digest `j`
-/// is that of message `j`. `blocks` must have the padded messages one after another, `8 * 64 * count` bytes, as
+/// The digests of eight messages of any lengths that fill `count` blocks of 64 bytes each with their padding: digest
+/// `j` is that of message `j`. `blocks` must have the padded messages one after another, `8 * 64 * count` bytes, as
 /// [`push_padded`] appends them.
 pub fn hash_padded_eight(blocks: &[u8], count: usize) -> [[u8; 32]; 8]
     requires { length blocks.now ≡ 8 * (64 * count) }

@@ -5,7 +5,7 @@ use anyhow::{Result, bail, ensure};
 use sha2::Sha256;
 use std::alloc::Global;
 use std::fmt::Write;
-use tlog::collision::{consistency_proof, inclusion_proof, root};
+use tlog::honest_proofs::{consistency_proof, inclusion_proof, root};
 use tlog::{SIZE_LIMIT, compose, leaf_hash, verify_consistency, verify_inclusion};
 use tlog_multiproof::{entry_places, verify_entries};
 use tlog_tree::{

@@ -4,7 +4,7 @@ use crate::case::Case;
 use anyhow::{Result, bail, ensure};
 use sha2::Sha256;
 use std::alloc::Global;
-use tlog::collision::root;
+use tlog::honest_proofs::root;
 use tlog::{leaf_hash, verify_consistency, verify_inclusion};
 use tlog_multiproof::{entries_collision, verify_entries};
 

@@ -9,7 +9,8 @@ use Rattle.sha2.specs.Sha256.{compress, digest_bytes, first_words, hash_after, r
 use Rattle.tlog.specs.declared.hash.TheConstants.{EMPTY_ROOT}
 use Rattle.tlog.specs.Rfc9162.{Hash, consistency_end}
 use Rattle.tlog.specs.{Rfc9162.inclusion_end}
-use Rattle.tlog.specs.Verdicts.{IsConsistent, IsIncluded, bare_end, consistency_end_refusal, consistency_refusal}
+use Rattle.tlog.specs.Verdicts.{IsConsistent, IsIncluded, end_of_no_digests, consistency_end_refusal}
+use Rattle.tlog.specs.Verdicts.{consistency_refusal}
 use Rattle.tlog.specs.Verdicts.{growth_end, inclusion_end_refusal, inclusion_refusal, is_same, size_limit}
 use Rattle.tlog.specs.declared.error.ProofError.{ProofError}
 
@@ -148,7 +149,7 @@ nothing_stays hash old new [] old_root new_root z none e = rw (z, none)
 nothing_stays hash old new (c ∷ path) old_root new_root z none e = absurd (omega arith)
 
 -- no digests, and both roots
-bare_tells : (path : List (List ℕ)) (fr sr a b : List ℕ) → bare_end path fr sr ≡ Some (0, a, b) →
+bare_tells : (path : List (List ℕ)) (fr sr a b : List ℕ) → end_of_no_digests path fr sr ≡ Some (0, a, b) →
     (path ≡ []) × (fr ≡ a) × (sr ≡ b)
 bare_tells [] fr sr a b h =
     let e : ◌≡◌ {A = ℕ × List ℕ × List ℕ} (0, fr, sr) (0, a, b) = cc in

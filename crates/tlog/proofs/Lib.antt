@@ -1,3 +1,4 @@
+-- The lemmas of this crate.
 pub mod Walks
 pub mod Accepted
 pub mod Bits

@@ -17,7 +17,8 @@ power_from (suc depth) n small is =
       | inl even ↦ elim (cases_eq n 0) [
         | inl none ↦ power_from depth n (omega arith) is
         | inr some ↦
-            let p = power_from depth half (omega arith) (sym (power_of_double half) ∙ ap is_power_of_two (sym even) ∙ is)
+            let p = power_from depth half (omega arith) (sym (power_of_double half) ∙ ap is_power_of_two (sym even)
+            ∙ is)
             in
             let h = p.1 in (suc p.0, omega (arith, even, h, pow-succ' 2 p.0))
       ]

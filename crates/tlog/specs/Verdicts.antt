@@ -62,18 +62,18 @@ consistency_end_refusal (Some (sn, fr, sr)) old_root new_root = elim (sn == 0) [
   | false ↦ Some TooFewDigests
 ]
 
--- the end of no digests is known beforehand; with digests the iteration stops
-abbrev pub bare_end : List (List ℕ) → List ℕ → List ℕ → Option (ℕ × List ℕ × List ℕ)
-bare_end [] fr sr = Some (0, fr, sr)
-bare_end (c ∷ path) fr sr = None
+-- this end if there are no digests, else none
+abbrev pub end_of_no_digests : List (List ℕ) → List ℕ → List ℕ → Option (ℕ × List ℕ × List ℕ)
+end_of_no_digests [] fr sr = Some (0, fr, sr)
+end_of_no_digests (c ∷ path) fr sr = None
 
--- the end between any sizes: from size 0 the root of nothing, and any new root but between 0 and 0; between equal sizes
--- the old root twice
+-- the end between any sizes. From 0: no digests, the old root is that of nothing, and so is the new one if the new size
+-- is 0. Between equal sizes: no digests, and both roots are the old one. Else that of 2.1.4.2.
 unfoldable pub growth_end : Hash → ℕ → ℕ → List (List ℕ) → List ℕ → List ℕ → Option (ℕ × List ℕ × List ℕ)
 growth_end hash old new path old_root new_root = elim (old == 0) [
-  | true ↦ bare_end path (hash []) (elim (new == 0) [ true ↦ hash [] | false ↦ new_root ])
+  | true ↦ end_of_no_digests path (hash []) (elim (new == 0) [ true ↦ hash [] | false ↦ new_root ])
   | false ↦ elim (old == new) [
-    | true ↦ bare_end path old_root old_root
+    | true ↦ end_of_no_digests path old_root old_root
     | false ↦ consistency_end hash old new old_root path
   ]
 ]

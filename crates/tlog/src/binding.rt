@@ -4,15 +4,14 @@ ghost use Rattle.tlog.specs.Collisions.{IsCollision, entries_of};
 ghost use Rattle.tlog.specs.Inner.Nodes.{HashFixesChildren};
 ghost use Rattle.tlog.specs.Fixed.{NewRootFixesProof, RootFixesEntry, RootFixesLeaf, RootFixesProof, RootsFixPrefix};
 
-use crate::collision::{
-    Collision, consistency_proof, inclusion_proof, leaf_input, node_input, root, root_collision,
-};
+use crate::collision::{Collision, leaf_input, node_input, root_collision};
 use crate::consistency::{self, Climb};
 use crate::hash::LogHash;
+use crate::honest_proofs::{consistency_proof, inclusion_proof, root};
 use crate::inclusion::{sibling_is_left, verify};
 use std::alloc::{AllocError, Global};
 
-/// A collision, if two nodes with other children have one hash; else `None`.
+/// A collision, if two nodes with different children have one hash; else `None`. `AllocError` if memory runs out.
 pub(crate) fn node_collision<H: LogHash<D>, const D: usize>(
     alloc: Global,
     left: &[u8; D],
@@ -24,14 +23,14 @@ pub(crate) fn node_collision<H: LogHash<D>, const D: usize>(
         ↔ HashFixesChildren H.hash left.now right.now other_left.now other_right.now) }
     ensures collision { IfOk result (λ found. IfSome found (IsCollision H.hash)) }
 {
+    if left == other_left && right == other_right {
+        return Ok(None);
+    }
     if H::node_hash(left, right) != H::node_hash(other_left, other_right) {
         return Ok(None);
     }
     let first = node_input(alloc, left, right)?;
     let second = node_input(alloc, other_left, other_right)?;
-    if first == second {
-        return Ok(None);
-    }
     Ok(Some(Collision { first, second }))
 }
 
@@ -165,7 +164,7 @@ pub fn leaf_collision<H: LogHash<D>, const D: usize>(
         return Ok(None);
     }
     let honest = inclusion_proof::<H, D>(alloc, entries, index)?;
-    let root = root::<H, D>(entries);
+    let own_root = root::<H, D>(entries);
     proof_collision::<H, D>(
         alloc,
         index,
@@ -174,7 +173,7 @@ pub fn leaf_collision<H: LogHash<D>, const D: usize>(
         proof,
         &expected,
         &honest,
-        &root,
+        &own_root,
     )
 }
 

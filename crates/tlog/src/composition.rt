@@ -10,10 +10,11 @@ ghost use Rattle.tlog.specs.Inner.Lifts.{Lifts};
 ghost use Rattle.tlog.specs.Inner.Nodes.{HashFixesChildren};
 
 use crate::binding::{node_collision, proof_collision};
-use crate::collision::{Collision, split};
+use crate::collision::Collision;
 use crate::consistency::{self, Climb};
 use crate::error::ComposeError;
 use crate::hash::LogHash;
+use crate::honest_proofs::split;
 use crate::inclusion::verify;
 use std::alloc::{AllocError, Global};
 
@@ -51,7 +52,9 @@ fn lift_beside<H: LogHash<D>, const D: usize>(
     Ok(digests)
 }
 
-/// Checks that `beside` and the root that `climb` leads to are `last` and `old`, if both pairs have one hash.
+/// Checks that `beside` and the root that `climb` leads to are `last` and `old`, if both pairs have one hash: else
+/// `Collision`. `size` is that of the right half in which `climb` leads to its root. Where it leads to none, nothing is
+/// checked.
 fn check_right<H: LogHash<D>, const D: usize>(
     alloc: Global,
     size: usize,
@@ -79,7 +82,7 @@ fn check_right<H: LogHash<D>, const D: usize>(
 
 /// The digests that lead from a node on to the root of `new_size` entries, where those of `climb` lead to the root of
 /// the first `size`, and those of `growth` from the last whole node of these to both roots. Where `climb` or `growth`
-/// does not lead there, any digests may be returned.
+/// does not lead there, any digests may be returned. `Collision` if the proofs differ although they have one root.
 fn lift<H: LogHash<D>, const D: usize>(
     alloc: Global,
     size: usize,
@@ -193,6 +196,7 @@ pub fn compose<H: LogHash<D>, const D: usize>(
     if old_size == 0 {
         return Ok(Vec::new(alloc));
     }
+    // A proof without digests is between equal sizes, so the other one is the whole proof.
     let Some(climb) = Climb::of_proof(old_size, first, old_root) else {
         return Ok(Vec::from_slice(alloc, second)?);
     };
@@ -208,8 +212,9 @@ pub fn compose<H: LogHash<D>, const D: usize>(
     Ok(proof)
 }
 
-/// A collision, if proofs of inclusion of one index are accepted under an old and a new root, and a proof of
-/// consistency from the one to the other, and the leaf hashes differ; else `None`. It needs no entries.
+/// A collision, if the proofs of inclusion of one index, `old_path` under the old root and `new_path` under the new
+/// one, are accepted, and so is `growth`, the proof of consistency between both, and the leaf hashes differ; else
+/// `None`. It needs no entries.
 ///
 /// # Errors
 ///
@@ -259,6 +264,7 @@ pub fn growth_collision<H: LogHash<D>, const D: usize>(
             alloc, index, new_size, old_leaf, &path, new_leaf, new_path, new_root,
         ),
         Err(ComposeError::Collision(found)) => Ok(Some(found)),
+        // `lift` checks no proof, so its only other error is that memory ran out.
         Err(_) => Err(AllocError),
     }
 }

@@ -9,6 +9,7 @@ mod composition;
 pub mod consistency;
 mod error;
 mod hash;
+pub mod honest_proofs;
 pub mod inclusion;
 pub mod laws;
 

@@ -16,7 +16,8 @@ use p3_merkle_core::error::MerkleTreeError;
 use p3_merkle_core::pruning::MerkleAuthPath;
 use p3_merkle_verifier::openings::PrunedOpeningRef;
 use std::alloc::{AllocError, Global};
-use tlog::collision::{Collision, root};
+use tlog::collision::Collision;
+use tlog::honest_proofs::root;
 use tlog::{LogHash, leaf_collision};
 
 /// A collision, if one proof of several leaf hashes is accepted under the root of the entries, and one of them is not

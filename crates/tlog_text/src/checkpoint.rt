@@ -4,14 +4,16 @@ ghost use Rattle.std.specs.Prelude.{◌≡◌, IfOk, option_map};
 ghost use Rattle.std.specs.Result.{result_map_both};
 ghost use Rattle.tlog_text.specs.Lines.{is_origin, passing};
 ghost use Rattle.tlog_text.specs.Reading.{after_origin};
-ghost use Rattle.tlog_text.specs.Reading.{checkpoint_in, log_origin_by, note_by, part_in, part_origin_by, signatures_by};
+ghost use Rattle.tlog_text.specs.Reading.{checkpoint_in, log_origin_by, note_by, part_in, part_origin_by};
+ghost use Rattle.tlog_text.specs.Reading.{signatures_by};
 ghost use Rattle.tlog_text.specs.Inner.Rests.{rest_of};
 ghost use Rattle.tlog_text.specs.Texts.{checkpoint_fields, checkpoint_text};
 
 use crate::error::{Expected, Stop, TextError, error_of, missing};
 use crate::line;
 use crate::line::{
-    cut_at, digest_by, ended, number_by, push_digest, push_line, push_number, skip_line, skip_lines,
+    check_end, cut_at, push_digest, push_line, push_number, read_digest, read_number, skip_line,
+    skip_lines,
 };
 use std::alloc::{AllocError, Global};
 
@@ -95,7 +97,7 @@ pub fn is_origin(text: &str) -> bool
     len <= MAX_ORIGIN_BYTES && bytes.iter().all(|byte| *byte >= b' ')
 }
 
-/// The origin that a line is.
+/// A line as an origin; `None` if it may not be one.
 fn origin_of(line: &[u8]) -> Option<&str>
     ensures { option_map (λ origin. origin.now) result ≡ passing is_origin line.now }
 {
@@ -103,7 +105,8 @@ fn origin_of(line: &[u8]) -> Option<&str>
     is_origin(text).then_some(text)
 }
 
-/// Reads past a blank line and 1 to 100 signatures, if anything is left.
+/// Reads past a blank line and 1 to 100 signatures, if anything is left, and returns what follows them. Else the error
+/// says what is missing.
 #[tactic(auto, unfolding(crate::specs::Reading::signatures_by))]
 fn skip_signatures(left: &[u8]) -> Result<&[u8], Stop>
     ensures { result_map_both (λ rest. rest.now) (λ stop. stop) result ≡ rest_of (signatures_by left.now) }
@@ -113,23 +116,25 @@ fn skip_signatures(left: &[u8]) -> Result<&[u8], Stop>
     }
     let left = skip_line(left, Expected::Blank)?;
     let left = skip_line(left, Expected::Signature)?;
+    // One of at most 100 is read.
     skip_lines(left, Expected::Signature, 99)
 }
 
-/// Reads what stands after an origin: the size, the root, and what may follow them.
+/// Reads what stands after an origin: the size, the root, and what may follow them. Where these do not stand, the error
+/// says what is missing.
 #[tactic(auto, unfolding(crate::specs::Reading::after_origin, crate::specs::Reading::extensions_by))]
 fn after_origin<'a>(origin: &'a str, left: &[u8]) -> Result<Checkpoint<'a>, Stop>
     ensures { result_map_both checkpoint_fields (λ stop. stop) result ≡ after_origin origin.entry.now left.now }
 {
-    let (size, left) = number_by(left, b"", Expected::Size)?;
-    let (root, left) = digest_by(left, false)?;
+    let (size, left) = read_number(left, b"", Expected::Size)?;
+    let (root, left) = read_digest(left, false)?;
     let left = skip_lines(left, Expected::Extension, left.len())?;
     let left = skip_signatures(left)?;
-    ended(left)?;
+    check_end(left)?;
     Ok(Checkpoint { origin, size, root })
 }
 
-/// Reads the checkpoint of a log.
+/// Reads the checkpoint of a log. Where it is none, the error says what is missing.
 #[tactic(auto, unfolding(crate::specs::Reading::log_origin_by))]
 fn log_by(note: &[u8]) -> Result<Checkpoint<'_>, Stop>
     ensures { result_map_both checkpoint_fields (λ stop. stop) result ≡ note_by log_origin_by note.now }
@@ -146,7 +151,7 @@ fn log_by(note: &[u8]) -> Result<Checkpoint<'_>, Stop>
     after_origin(origin, left)
 }
 
-/// Reads a part.
+/// Reads a part of a file. Where it is none, the error says what is missing.
 fn part_by(text: &[u8]) -> Result<Checkpoint<'_>, Stop>
     ensures { result_map_both checkpoint_fields (λ stop. stop) result ≡ note_by part_origin_by text.now }
 {

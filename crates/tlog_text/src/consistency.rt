@@ -7,7 +7,7 @@ ghost use Rattle.tlog_text.specs.declared.error.Stop.TheVariants.{Memory};
 ghost use Rattle.tlog_text.specs.declared.error.TextError.TheVariants.{OutOfMemory};
 
 use crate::error::{Expected, Stop, TextError, error_of};
-use crate::line::{digests_by, number_by, push_digests, push_line, push_number, skip_line};
+use crate::line::{push_digests, push_line, push_number, read_digests, read_number, skip_line};
 use std::alloc::{AllocError, Global};
 
 /// Digests that prove that a log of a new checkpoint begins with the entries that it had at an old size (C2SP
@@ -37,7 +37,7 @@ impl<'a> ConsistencyProof<'a> {
         consistency_by(alloc, text).map_err(|stop| error_of(text, stop))
     }
 
-    /// Prints the proof; It is read again if the old size is at most 2^62, and there are at most 63 digests.
+    /// Prints the proof. It is read again if the old size is at most 2^62, and there are at most 63 digests.
     ///
     /// # Errors
     ///
@@ -54,14 +54,14 @@ impl<'a> ConsistencyProof<'a> {
     }
 }
 
-/// Reads a consistency proof.
+/// Reads a consistency proof. Where it is none, the error says what is missing.
 #[tactic(auto, unfolding(crate::specs::Reading::consistency_by))]
 fn consistency_by(alloc: Global, text: &[u8]) -> Result<ConsistencyProof<'_>, Stop>
     ensures read { IfOk result (λ proof. consistency_by text.now ≡ Ok (consistency_fields proof)) }
     ensures stop { IfErr result (λ stop. (stop ≡ Memory) ⊎ (consistency_by text.now ≡ Err stop)) }
 {
-    let (old_size, left) = number_by(text, b"old ", Expected::OldSize)?;
-    let (digests, left) = digests_by(alloc, left, true, 63)?;
+    let (old_size, left) = read_number(text, b"old ", Expected::OldSize)?;
+    let (digests, left) = read_digests(alloc, left, true, 63)?;
     let checkpoint = skip_line(left, Expected::Blank)?;
     Ok(ConsistencyProof {
         old_size,

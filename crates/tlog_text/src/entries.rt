@@ -9,7 +9,7 @@ ghost use Rattle.tlog_text.specs.declared.error.TextError.TheVariants.{OutOfMemo
 
 use crate::error::{Expected, Stop, TextError, error_of, missing};
 use crate::line::{
-    cut_at, digests_by, ended, number_by, number_of, push_digests, push_line, push_number,
+    check_end, cut_at, number_of, push_digests, push_line, push_number, read_digests, read_number,
     skip_line,
 };
 use std::alloc::{AllocError, Global};
@@ -49,7 +49,7 @@ impl EntriesProof {
         entries_by(alloc, text).map_err(|stop| error_of(text, stop))
     }
 
-    /// Prints the proof; It is read again if its numbers, lengths and counts are at most 2^62, and no number is 0.
+    /// Prints the proof. It is read again if its numbers, lengths and counts are at most 2^62, and no number is 0.
     ///
     /// # Errors
     ///
@@ -68,6 +68,7 @@ impl EntriesProof {
 
     /// How many bytes are printed at most.
     fn room(&self) -> usize {
+        // A digest's line has 45 bytes. What stands around an entry's bytes has at most 50, all other lines at most 80.
         let mut room = self.digests.len().saturating_mul(45).saturating_add(80);
         for entry in &self.entries {
             room = room.saturating_add(entry.bytes.len()).saturating_add(50);
@@ -76,7 +77,8 @@ impl EntriesProof {
     }
 }
 
-/// Appends entries.
+/// Appends entries: for each a line of its number and length, and its bytes with a line feed. `AllocError` if memory
+/// runs out.
 fn push_entries(alloc: Global, text: &mut Vec<u8>, entries: &[Entry]) -> Result<(), AllocError>
     ensures { OnOk result (text.new.items ≡ text.old.items ++ flat_map entry_lines (map entry_fields entries.now)) }
 {
@@ -88,7 +90,7 @@ fn push_entries(alloc: Global, text: &mut Vec<u8>, entries: &[Entry]) -> Result<
     Ok(())
 }
 
-/// The number of an entry and its length.
+/// The number of an entry and its length, out of the line ahead of its bytes; `None` if the line has another form.
 fn head_of(line: &[u8]) -> Option<(usize, usize)>
     ensures { result ≡ head_of line.now }
 {
@@ -97,7 +99,7 @@ fn head_of(line: &[u8]) -> Option<(usize, usize)>
     (number != 0).then_some((number, len))
 }
 
-/// Reads an entry.
+/// Reads an entry. Returns it and what follows it. Where none stands next, the error says what is missing.
 #[tactic(auto, unfolding(crate::specs::Reading::entry_by, crate::specs::Reading::bytes_by))]
 fn entry_by(alloc: Global, left: &[u8]) -> Result<(Entry, &[u8]), Stop>
     ensures read { IfOk result (λ (entry, rest). entry_by left.now ≡ Ok (entry_fields entry, rest.now)) }
@@ -113,7 +115,7 @@ fn entry_by(alloc: Global, left: &[u8]) -> Result<(Entry, &[u8]), Stop>
     Ok((Entry { number, bytes }, &left[len + 1..]))
 }
 
-/// Reads `count` entries.
+/// Reads `count` entries. Returns them and what follows them. Where one is wrong, the error says what is missing.
 fn entry_list_by(alloc: Global, left: &[u8], count: usize) -> Result<(Vec<Entry>, &[u8]), Stop>
     ensures read { IfOk result
         (λ (entries, rest). many never entry_by count left.now ≡ Ok (map entry_fields entries.items, rest.now)) }
@@ -129,17 +131,17 @@ fn entry_list_by(alloc: Global, left: &[u8], count: usize) -> Result<(Vec<Entry>
     Ok((entries, rest))
 }
 
-/// Reads a proof of entries.
+/// Reads a proof of entries. Where it is none, the error says what is missing.
 #[tactic(auto, unfolding(crate::specs::Reading::entries_by))]
 fn entries_by(alloc: Global, text: &[u8]) -> Result<EntriesProof, Stop>
     ensures read { IfOk result (λ proof. entries_by text.now ≡ Ok (entries_fields proof)) }
     ensures stop { IfErr result (λ stop. (stop ≡ Memory) ⊎ (entries_by text.now ≡ Err stop)) }
 {
     let left = skip_line(text, Expected::ProofVersion)?;
-    let (count, left) = number_by(left, b"entries ", Expected::EntryCount)?;
+    let (count, left) = read_number(left, b"entries ", Expected::EntryCount)?;
     let (entries, left) = entry_list_by(alloc, left, count)?;
-    let (count, left) = number_by(left, b"digests ", Expected::DigestCount)?;
-    let (digests, left) = digests_by(alloc, left, false, count)?;
-    ended(left)?;
+    let (count, left) = read_number(left, b"digests ", Expected::DigestCount)?;
+    let (digests, left) = read_digests(alloc, left, false, count)?;
+    check_end(left)?;
     Ok(EntriesProof { entries, digests })
 }

@@ -112,6 +112,7 @@ pub enum Expected {
 pub(crate) enum Stop {
     /// Something else stands at the front of the last `left` bytes than is expected there.
     Missing { left: usize, expected: Expected },
+    /// Memory ran out.
     Memory,
 }
 
@@ -131,7 +132,7 @@ impl<T: Drop> From<AllocFailed<T>> for Stop {
     }
 }
 
-/// Reading stops at what is left.
+/// The stop at what is left of a text, where `expected` is missing.
 pub(crate) fn missing(left: &[u8], expected: Expected) -> Stop
     ensures { result ≡ Missing (length left.now) expected }
 {
@@ -139,7 +140,7 @@ pub(crate) fn missing(left: &[u8], expected: Expected) -> Stop
     Stop::Missing { left, expected }
 }
 
-/// What stands at the front of the rest of a text, where something else is expected.
+/// What stands at the front of `below`, the rest of a text after `above`, where something else is expected.
 fn found_in(above: &[u8], below: &[u8]) -> Found
     ensures { result ≡ found_in above.now below.now }
 {
@@ -156,7 +157,7 @@ fn found_in(above: &[u8], below: &[u8]) -> Found
     }
 }
 
-/// The error of a text where reading stops.
+/// The error of a text, where reading stops so.
 pub(crate) fn error_of(text: &[u8], stop: Stop) -> TextError
     ensures { result ≡ error_of text.now stop }
 {

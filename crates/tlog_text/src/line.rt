@@ -8,7 +8,8 @@ ghost use Rattle.std.specs.Str.Parse.{IsNumeral, digits_value};
 ghost use Rattle.base64.specs.Decode.{decoded_estimate};
 ghost use Rattle.tlog_text.specs.Lines.{base64_bytes, cut_at, digest_of, is_key_name, is_line, is_name_char};
 ghost use Rattle.tlog_text.specs.Lines.{is_signature, is_text, number_after, number_of};
-ghost use Rattle.tlog_text.specs.Reading.{at_blank, at_text_end, digest_by, digests_by, ended, line_by, line_that, many};
+ghost use Rattle.tlog_text.specs.Reading.{at_blank, at_text_end, digest_by, digests_by, ended, line_by, line_that};
+ghost use Rattle.tlog_text.specs.Reading.{many};
 ghost use Rattle.tlog_text.specs.Inner.Rests.{rest_of};
 ghost use Rattle.tlog_text.specs.Texts.{digest_line, line};
 ghost use Rattle.tlog_text.specs.declared.error.Stop.TheVariants.{Memory};
@@ -23,7 +24,7 @@ use std::alloc::{AllocError, Global};
 // It is `SIZE_LIMIT` of tlog, the greatest size of a log. This crate computes no tree, so it does not stand on tlog.
 const MAX_NUMBER: usize = 1 << 62;
 
-/// The bytes ahead of the first `mark`, and those after it.
+/// The bytes ahead of the first `mark`, and those after it; `None` if there is no `mark`.
 pub(crate) fn cut_at(mark: u8, bytes: &[u8]) -> Option<(&[u8], &[u8])>
     ensures { option_map (λ (front, back). (front.now, back.now)) result ≡ cut_at mark bytes.now }
 {
@@ -31,7 +32,7 @@ pub(crate) fn cut_at(mark: u8, bytes: &[u8]) -> Option<(&[u8], &[u8])>
     Some((&bytes[..at], &bytes[at + 1..]))
 }
 
-/// The number of one or more ASCII digits, if it fits `usize`.
+/// The number of one or more ASCII digits, if it fits `usize`; else `None`.
 fn parse_number(digits: &[u8]) -> Option<usize>
     ensures { SomeIff result (IsNumeral 10 digits.now × (digits_value 10 digits.now < 2 ^ 64))
         (digits_value 10 digits.now) }
@@ -43,7 +44,7 @@ fn parse_number(digits: &[u8]) -> Option<usize>
     str::from_utf8(digits).ok()?.parse().ok()
 }
 
-/// The number up to 2^62 whose decimal digits these are.
+/// The number up to 2^62 whose decimal digits these are, without leading zeros; else `None`.
 pub(crate) fn number_of(digits: &[u8]) -> Option<usize>
     ensures { result ≡ number_of digits.now }
 {
@@ -54,7 +55,8 @@ pub(crate) fn number_of(digits: &[u8]) -> Option<usize>
     (number <= MAX_NUMBER).then_some(number)
 }
 
-/// Decodes base64 to the front of `bytes`, and returns how many bytes that is.
+/// Decodes base64 to the front of `bytes`, and returns how many bytes that is; `None` if `text` is no base64. `bytes`
+/// must have room for three bytes for each four characters that are begun.
 fn decode(text: &[u8], bytes: &mut [u8]) -> Option<usize>
     requires { decoded_estimate (length text.now) ≤ length bytes.old }
     ensures len { result ≡ option_map length (base64_bytes text.now) }
@@ -63,7 +65,7 @@ fn decode(text: &[u8], bytes: &mut [u8]) -> Option<usize>
     STANDARD.decode_slice_unchecked(text, bytes).ok()
 }
 
-/// How many bytes this is the base64 of.
+/// How many bytes `text` is the base64 of; `None` if it is no base64.
 fn base64_len(text: &[u8]) -> Option<usize>
     ensures { result ≡ option_map length (base64_bytes text.now) }
 {
@@ -81,10 +83,11 @@ fn base64_len(text: &[u8]) -> Option<usize>
     Some(len + decode(rest, &mut bytes)?)
 }
 
-/// The 32 bytes whose base64 this is.
+/// The 32 bytes whose base64 a line is; `None` if it is not the base64 of 32 bytes.
 fn digest_of(line: &[u8]) -> Option<[u8; 32]>
     ensures { result ≡ digest_of line.now }
 {
+    // The base64 of 32 bytes has 44 characters, for which the decoder wants room for 33 bytes.
     if line.len() != 44 {
         return None;
     }
@@ -104,7 +107,7 @@ fn is_text(bytes: &[u8]) -> bool
     str::from_utf8(bytes).is_ok() && bytes.iter().all(|byte| *byte >= b' ')
 }
 
-/// Whether this is no white space of Unicode, and no `+`.
+/// Whether a text that is a key's name may have this character: any but white space of Unicode and `+`.
 fn is_name_char(c: char) -> bool
     ensures { result ≡ is_name_char c }
 {
@@ -123,7 +126,8 @@ pub fn is_key_name(name: &str) -> bool
     name.chars().all(is_name_char)
 }
 
-/// Whether a line is a signature.
+/// Whether a line is a signature (C2SP signed-note): an em dash, a space, the name of a key, a space, and the base64 of
+/// at least five bytes, four of which name the key.
 #[tactic(auto, using(crate::proofs::LineFacts::no_name), unfolding(crate::specs::Lines::is_signature))]
 fn is_signature(line: &[u8]) -> bool
     ensures { result ≡ is_signature line.now }
@@ -137,7 +141,8 @@ fn is_signature(line: &[u8]) -> bool
     str::from_utf8(name).is_ok_and(is_key_name) && base64_len(signature).is_some_and(|len| len >= 5)
 }
 
-/// Whether a line is what is expected: it is compared, or tested, and nothing is read from it.
+/// Whether a line is what is expected, where it is compared or tested, and nothing is read from it. False for what is
+/// expected of any other line.
 #[tactic(auto, unfolding(crate::specs::Lines::is_line))]
 fn is_line(expected: Expected, line: &[u8]) -> bool
     ensures { result ≡ is_line expected line.now }
@@ -152,7 +157,8 @@ fn is_line(expected: Expected, line: &[u8]) -> bool
     }
 }
 
-/// Reads past a line that is what is expected. Where no such line stands, the error says that `expected` is missing.
+/// Reads past a line that is what is expected, and returns what follows it. If no such line stands next, the error says
+/// that `expected` is missing.
 pub(crate) fn skip_line(left: &[u8], expected: Expected) -> Result<&[u8], Stop>
     ensures { result_map_both (λ rest. rest.now) (λ stop. stop) result ≡ rest_of (line_that expected left.now) }
 {
@@ -165,8 +171,8 @@ pub(crate) fn skip_line(left: &[u8], expected: Expected) -> Result<&[u8], Stop>
     }
 }
 
-/// Reads past lines that are what is expected, at most `limit`, up to a blank line or the end. The first other line is
-/// an error.
+/// Reads past lines that are what is expected, at most `limit`, up to a blank line or the end, and returns what follows
+/// them. The first other line is an error.
 pub(crate) fn skip_lines(left: &[u8], expected: Expected, limit: usize) -> Result<&[u8], Stop>
     ensures { result_map_both (λ rest. rest.now) (λ stop. stop) result
         ≡ rest_of (many at_text_end (line_that expected) limit left.now) }
@@ -182,8 +188,8 @@ pub(crate) fn skip_lines(left: &[u8], expected: Expected, limit: usize) -> Resul
 }
 
 /// Reads a line of a word and a number up to 2^62, without leading zeros. Returns the number and what follows the line.
-/// Where no such line stands, the error says that `expected` is missing.
-pub(crate) fn number_by<'a>(
+/// If no such line stands next, the error says that `expected` is missing.
+pub(crate) fn read_number<'a>(
     left: &'a [u8],
     word: &[u8],
     expected: Expected,
@@ -201,14 +207,16 @@ pub(crate) fn number_by<'a>(
 /// Reads a line that is the base64 of 32 bytes. Returns these and what follows the line. With `blank_stops` the error
 /// says that a blank line may stand instead.
 #[tactic(auto, unfolding(crate::specs::Reading::digest_by))]
-pub(crate) fn digest_by(left: &[u8], blank_stops: bool) -> Result<([u8; 32], &[u8]), Stop>
+pub(crate) fn read_digest(left: &[u8], blank_stops: bool) -> Result<([u8; 32], &[u8]), Stop>
     ensures { result_map_both (λ (digest, rest). (digest, rest.now)) (λ stop. stop) result
         ≡ digest_by blank_stops left.now }
 {
-    let stop = match blank_stops {
-        true => missing(left, Expected::DigestOrBlank),
-        false => missing(left, Expected::Digest),
+    let expected = if blank_stops {
+        Expected::DigestOrBlank
+    } else {
+        Expected::Digest
     };
+    let stop = missing(left, expected);
     let (line, rest) = cut_at(b'\n', left).ok_or(stop)?;
     let digest = digest_of(line).ok_or(stop)?;
     Ok((digest, rest))
@@ -222,8 +230,8 @@ fn at_blank(left: &[u8]) -> bool
 }
 
 /// Reads `count` digests, or with `blank_stops` at most `count`, up to a blank line. Returns them and what follows the
-/// last one's line.
-pub(crate) fn digests_by(
+/// last one's line. The first line that is no digest is an error.
+pub(crate) fn read_digests(
     alloc: Global,
     left: &[u8],
     blank_stops: bool,
@@ -239,15 +247,15 @@ pub(crate) fn digests_by(
         if blank_stops && at_blank(rest) {
             return Ok((digests, rest));
         }
-        let (digest, below) = digest_by(rest, blank_stops)?;
+        let (digest, below) = read_digest(rest, blank_stops)?;
         digests.push(digest)?;
         rest = below;
     }
     Ok((digests, rest))
 }
 
-/// Checks that nothing is left.
-pub(crate) fn ended(left: &[u8]) -> Result<(), Stop>
+/// Checks that nothing is left, else the error says that the end is expected.
+pub(crate) fn check_end(left: &[u8]) -> Result<(), Stop>
     ensures { result ≡ ended tt left.now }
 {
     if left.is_empty() {

@@ -178,8 +178,9 @@ pub mod parallel;
 #[cfg(feature = "sha2")]
 pub mod tlog {
     pub use crate::erased::tlog::collision::{
-        Collision, consistency_proof, inclusion_proof, leaf_input, node_input, root, root_collision, split,
+        Collision, leaf_input, node_input, root_collision,
     };
+    pub use crate::erased::tlog::honest_proofs::{consistency_proof, inclusion_proof, root, split};
     pub use crate::erased::tlog::{
         ComposeError, EMPTY_ROOT, LogHash, ProofError, SIZE_LIMIT, compose, consistency_collision, entry_collision,
         growth_collision, leaf_collision, leaf_hash, node_hash, prefix_collision, proof_collision, verify_consistency,

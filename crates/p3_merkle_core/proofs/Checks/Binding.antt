@@ -1,5 +1,5 @@
--- Two checks whose shared inputs agree have the same rows of each matrix up to the cap layer, wherever their paths reach
--- one node of the matrix's layer.
+-- Two checks whose shared inputs agree have the same rows of each matrix up to the cap layer, wherever their paths
+-- reach one node of the matrix's layer.
 use Rattle.std.proofs.Common.{◌≡◌, ℕ, zero, suc, ◌+◌, ◌-◌, ◌<◌, ◌≤◌, false, eqb, List, [], ◌∷◌, map, refl, sym}
 use Rattle.std.proofs.Common.{◌∙◌, arith, inl, inr, length, filter, flat_map, zip}
 use Rattle.std.proofs.Common.{eq-eqb}

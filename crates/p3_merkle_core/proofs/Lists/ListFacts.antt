@@ -74,7 +74,8 @@ pub pieces_long : {A : Type 0} (g h : ℕ → List A) (n : ℕ) → ((k : ℕ) �
     length (joined g n) ≡ length (joined h n)
 pieces_long g h zero long = refl
 pieces_long g h (suc n) long = rw (joined_more g n, joined_more h n) (length-append (joined g n) (g n)
-    ∙ (let before = pieces_long g h n long in let last = long n in omega arith) ∙ sym (length-append (joined h n) (h n)))
+    ∙ (let before = pieces_long g h n long in let last = long n in omega arith)
+    ∙ sym (length-append (joined h n) (h n)))
 
 -- and are equal where these lists are
 pub pieces_same : {A : Type 0} (g h : ℕ → List A) (n : ℕ) → ((k : ℕ) → length (g k) ≡ length (h k)) → joined g n

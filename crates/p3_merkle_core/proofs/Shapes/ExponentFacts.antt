@@ -199,7 +199,10 @@ one_between a x e [] over under had = had
 one_between a x e (h ∷ hs) over under had =
     elim (cases_eq (exponent h) e) [
       | inl same ↦
-          rw (lt-ltb a (exponent h) (omega (arith, same, over)), lt-ltb (exponent h) x (omega (arith, same, under))) refl
+          rw (
+            lt-ltb a (exponent h) (omega (arith, same, over)),
+            lt-ltb (exponent h) x (omega (arith, same, under)),
+          ) refl
       | inr other ↦ or_right _ _ (one_between a x e hs over under (rw (ne_eqb (exponent h) e other) at had))
     ]
 

@@ -29,7 +29,8 @@ module _ {P PW H C M G V W : Type 0} {N D : ℕ} {p : packed.Ghosts P V} {pd : d
   batch_for builder = batch_of m.height_of m.width_of m.row_of N builder.matrices.now
 
   -- the layer above a layer, at a level
-  abbrev pub layer_above : GenericTreeBuilder P PW H C M G N D V W p pd pe q qd qe h c m → LayerShape → List (List W) → List (List W)
+  abbrev pub layer_above : GenericTreeBuilder P PW H C M G N D V W p pd pe q qd qe h c m → LayerShape →
+      List (List W) → List (List W)
   layer_above builder v below =
       let f = functions_for builder in
       let rows = λ (j : ℕ). rows_of_height m.height_of m.row_of v.height j builder.matrices.now in

@@ -1,3 +1,4 @@
+-- Two different groups with one digest are two different messages of SHA-256 with one digest.
 use Rattle.std.proofs.Common.{rules, ◌≡◌, ◌∙◌, refl, sym, ap, Ok, Some}
 use Rattle.std.specs.List.{concat}
 use Rattle.p3_hashes.specs.Sha.{sha256_rows}

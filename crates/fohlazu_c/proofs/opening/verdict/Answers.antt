@@ -1,3 +1,4 @@
+-- What is verified is what the lists are cut into.
 use Rattle.std.proofs.Common.{inr}
 use Rattle.fohlazu_c.proofs.opening.verdict.Goals as goal
 

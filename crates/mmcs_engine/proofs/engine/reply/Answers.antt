@@ -1,3 +1,4 @@
+-- The scheme of each hash is the one that the definition of a reply names.
 use Rattle.std.proofs.Common.{refl, rules}
 use Rattle.mmcs_engine.proofs.TreesInNumbers.{plain_alike}
 use Rattle.mmcs_engine.proofs.engine.reply.Goals as goal

@@ -1,3 +1,4 @@
+-- The matrices that are read are those that the input stands for.
 use Rattle.std.proofs.Common.{string_bytes}
 use Rattle.std.proofs.lemmas.Result.{err_from_is_err_and}
 use Rattle.p3_merkle_core.specs.Nodes.{shape}

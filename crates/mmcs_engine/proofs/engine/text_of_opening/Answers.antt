@@ -1,3 +1,4 @@
+-- Each turn appends the rows of one index.
 use Rattle.std.proofs.Common.{◌++◌, ◌∙◌, [], ap, sym, map, length, append_assoc, refl, arith}
 use Rattle.std.specs.Prelude.{codes, flat_map}
 use Rattle.std.proofs.lemmas.List.{length-map, take_all}

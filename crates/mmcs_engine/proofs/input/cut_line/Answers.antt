@@ -1,3 +1,4 @@
+-- A line ends at the first line feed, if there is one.
 use Rattle.std.proofs.Common.{◌≡◌, ◌==◌, false, length, arith, subst}
 use Rattle.std.proofs.lemmas.List.{take_all}
 use Rattle.std.proofs.lemmas.List.Splits.{slice_split_none}

@@ -1,3 +1,4 @@
+-- One more digit makes a number, unless it is no digit, or the number becomes too great.
 use Rattle.std.proofs.Common.{◌+◌, arith}
 use Rattle.mmcs_engine.proofs.RowFacts.{in_range, no_digit, not_in_range, number_more, too_large}
 use Rattle.mmcs_engine.proofs.input.with_digit.Goals as goal

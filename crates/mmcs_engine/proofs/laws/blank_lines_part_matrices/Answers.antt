@@ -1,3 +1,4 @@
+-- Blocks of lines stay the same with blank lines around them, and are put one after another with blank lines between.
 use Rattle.std.proofs.Common.{List, ◌++◌, ℕ, sym, subst}
 use Rattle.std.specs.List.{AllZip}
 use Rattle.mmcs_engine.specs.Input.{IsMatrix}

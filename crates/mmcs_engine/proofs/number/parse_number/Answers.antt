@@ -1,3 +1,4 @@
+-- Text of digits is parsed as its number, and nothing else is a number.
 use Rattle.std.proofs.Common.{◌≡◌, List, ℕ, None, Result, Ok, Err, rules, sym, ◌∙◌, ◌^◌}
 use Rattle.std.proofs.lemmas.Str.{IsUtf8-from_ascii}
 use Rattle.std.proofs.lemmas.Fmt.{IsAscii-from_digits}

@@ -1,3 +1,4 @@
+-- Each turn absorbs one word in each lane.
 use Rattle.std.proofs.Common.{rules, ◌≡◌, ◌<◌, ◌∙◌, ap, sym, length, map, take, slice_index, slice_index_or}
 use Rattle.std.specs.List.{fold}
 use Rattle.std.proofs.lemmas.List.{get_or-map, length-map}

@@ -1,3 +1,4 @@
+-- Each turn takes in one more height.
 use Rattle.std.proofs.Common.{◌≡◌, ◌≤◌, max, min, drop}
 use Rattle.p3_merkle_core.specs.Inner.Shapes.{least_height, shortest}
 use Rattle.p3_support.specs.Batches.{heights_of, greatest}

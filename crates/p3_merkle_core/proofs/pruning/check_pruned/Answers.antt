@@ -75,7 +75,8 @@ late g c answer is =
     let early = rw (← length-map c.args.rows.now (λ rows. row_lists rows.items)) at
     c.in_ok-check_queries.ensures.answer in
     let len = rw (c.new-covered.ensures.schedule, c.new-covered.ensures.indices) at c.boundary_len.ensures in
-    pruned_late g.T.PartialEq.eq (shape_of c.args.schedule.now.arity c.args.schedule.now.dimensions.now) c.args.cap_layer
+    pruned_late g.T.PartialEq.eq (shape_of c.args.schedule.now.arity c.args.schedule.now.dimensions.now)
+    c.args.cap_layer
     c.in_ok-queried.queried.indices.items c.in_ok-queried.queried.first_queries.items c.args.indices.now
     (row_sets c.args.rows.now) c.args.num_digests answer c.in_ok-queried.ensures.indices
     c.in_ok-queried.ensures.first_queries early c.in_ok-check_repeats.ensures

@@ -1,3 +1,4 @@
+-- Each turn compares the rows of one slot.
 use Rattle.std.proofs.Common.{◌≡◌, ◌-◌, ◌/◌, ◌^◌, ◌<◌, length, get_or, map}
 use Rattle.std.specs.List.{range_with_len}
 use Rattle.p3_support.specs.Shown.{row_sets}

@@ -87,7 +87,8 @@ returns-in_err-check_rows_under_nodes g c =
     let bits = c.args.schedule.now.exponent - c.step_up-up.result.exponent in
     let nodes = map (λ i. i / 2 ^ bits) c.deref-then-up.result.now in
     let above : nodes ≡ map (ancestor s (l + 1)) leaves = rw c.deref-then-up.ensures.value
-    (nodes_by_bits s c.requires.arity (l + 1) bits (rw (at, c.args.schedule.now.walked.leaves, layer_start s) refl) leaves
+    (nodes_by_bits s c.requires.arity (l + 1) bits
+    (rw (at, c.args.schedule.now.walked.leaves, layer_start s) refl) leaves
     c.requires.below) in
     let some = layer_read eq s leaves firsts c.deref-then-up-2.result.now c.deref.result.now
     nodes sets (l + 1) c.step_up-up.result.exponent (Some e) at
@@ -113,7 +114,8 @@ loop-level-preserved g c =
     let at : c.step_up-up.result.exponent ≡ layer_exponent s (l + 1) = rw add-one c.step_up-up.ensures.exponent in
     let bits = c.args.schedule.now.exponent - c.step_up-up.result.exponent in
     let above : map (λ i. i / 2 ^ bits) leaves ≡ map (ancestor s (l + 1)) leaves =
-    nodes_by_bits s c.requires.arity (l + 1) bits (rw (at, c.args.schedule.now.walked.leaves, layer_start s) refl) leaves
+    nodes_by_bits s c.requires.arity (l + 1) bits
+    (rw (at, c.args.schedule.now.walked.leaves, layer_start s) refl) leaves
     c.requires.below in
     let none : h (l + 1) ≡ None = elim c.if-up.branch [
       | then-up+in_ok-list_matrices+in_ok-check_rows_under_nodes w ↦

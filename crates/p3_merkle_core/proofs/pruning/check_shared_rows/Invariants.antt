@@ -1,3 +1,4 @@
+-- Each turn compares the rows of the matrices of one layer.
 use Rattle.std.proofs.Common.{◌≡◌, ◌-◌, ◌+◌}
 use Rattle.std.specs.List.{range_with_len}
 use Rattle.p3_merkle_core.specs.Geometry.{shape_of, layer_exponent}

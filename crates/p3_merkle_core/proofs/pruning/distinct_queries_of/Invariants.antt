@@ -1,3 +1,4 @@
+-- The first loop lists the queries with their positions, and the second finds the first query of each index.
 use Rattle.std.proofs.Common.{◌≡◌, ℕ, ◌≤◌, get_or, length, map, take}
 use Rattle.std.specs.List.{range_with_len}
 use Rattle.std.specs.Vec.{vec_capacity, vec_len}

@@ -1,3 +1,4 @@
+-- Each turn adds the siblings of one level.
 use Rattle.std.proofs.Common.{◌≡◌, ◌-◌, ◌<◌, true, get_or, length}
 use Rattle.p3_support.specs.Lists.{is_among}
 use Rattle.p3_merkle_core.specs.Inner.Children.{levels_in}

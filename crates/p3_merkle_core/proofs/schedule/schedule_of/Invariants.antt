@@ -1,3 +1,4 @@
+-- The first loop marks the exponents that matrices have, and each turn of the second takes one step up.
 use Rattle.std.proofs.Common.{◌≡◌, ◌<◌, ◌≤◌, ℕ, get_or, length, map, take}
 use Rattle.std.specs.List.{range_with_len}
 use Rattle.p3_merkle_core.specs.Geometry.{shape_of}

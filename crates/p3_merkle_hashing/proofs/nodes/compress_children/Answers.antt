@@ -12,7 +12,8 @@ pub returns-then-step : goal.returns-then-step
 returns-then-step g c =
     whole_groups (g.C.PseudoCompressionFunction.compression c.args.compress.now) g.row.N c.args.step
     (length c.args.slots.now) c.args.below.now c.as_chunks.result.0.now
-    (replicate g.row.D g.PW.PackedValue.default_value) c.compress_many.new.out c.if-step.true c.requires.step c.requires.inside c.as_chunks.ensures.front
+    (replicate g.row.D g.PW.PackedValue.default_value) c.compress_many.new.out c.if-step.true
+    c.requires.step c.requires.inside c.as_chunks.ensures.front
     c.as_chunks.ensures.front_len c.compress_many.ensures
 
 pub loop-first-init : goal.loop-first-init

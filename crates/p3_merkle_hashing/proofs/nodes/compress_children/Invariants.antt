@@ -1,3 +1,4 @@
+-- Each turn writes the slots of one call.
 use Rattle.std.proofs.Common.{ℕ, ◌-◌, ◌*◌, ◌≤◌, ◌++◌, drop, length, replicate, take}
 use Rattle.p3_merkle_hashing.specs.Inner.Slots.{IsFilled}
 use Rattle.p3_merkle_hashing.proofs.nodes.compress_children.Given as goal

@@ -1,3 +1,4 @@
+-- Each turn compresses the digests of one call with those of their rows.
 use Rattle.std.proofs.Common.{◌≡◌, ℕ, ◌≤◌, ◌-◌, ◌∷◌, [], length, replicate, slice_index_or}
 use Rattle.p3_merkle_hashing.specs.Inner.Slots.{IsFilled}
 use Rattle.p3_merkle_hashing.proofs.nodes.inject_row_digests.Given as goal

@@ -18,6 +18,7 @@ returns g c =
     let tree = c.args.tree.now in
     let many = layers_count (λ nodes. length nodes.items) tree.layers.items (shape (tree_batch tree))
     tree.layer_lengths in
-    layer_read (λ nodes. nodes.items) tree.layers.items c.args.layer c.index.result.now (omega (arith, many, c.requires))
+    layer_read (λ nodes. nodes.items) tree.layers.items c.args.layer c.index.result.now
+    (omega (arith, many, c.requires))
     c.index.ensures
     ∙ ap (λ xs. Some xs) (sym (c.new.ensures ∙ c.in_ok-from_slice.ensures.items ∙ c.deref.ensures.value))

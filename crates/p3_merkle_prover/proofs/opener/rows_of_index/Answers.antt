@@ -43,7 +43,12 @@ loop-matrix-preserved g c =
           c.loop-matrix.matrix-index c.args.index c.matrix-item.result
           c.args.tree.now.lawful c.requires inside read)
           c.loop-matrix.invariant.read c.push_reserved.ensures.items
-          (rw (c.in_ok-words.ensures.items, c.bits_reduced_of.ensures, c.max_height-max_height.ensures, c.height.ensures)
+          (rw (
+            c.in_ok-words.ensures.items,
+            c.bits_reduced_of.ensures,
+            c.max_height-max_height.ensures,
+            c.height.ensures,
+          )
           at c.in_ok-append_row.ensures);
       count = omega (arith, c.push_reserved.ensures.len, c.loop-matrix.invariant.count);
       capacity = omega (arith, c.push_reserved.ensures.capacity, c.loop-matrix.invariant.capacity);

@@ -1,3 +1,4 @@
+-- Each turn appends the digests of one layer, and climbs to the layer above.
 use Rattle.std.proofs.Common.{◌≡◌}
 use Rattle.p3_merkle_core.specs.Nodes.{shape}
 use Rattle.p3_merkle_core.specs.Pruning.{boundary_by}

@@ -1,3 +1,4 @@
+-- Each turn draws the salts of one matrix.
 use Rattle.std.proofs.Common.{◌≡◌, ◌++◌, map}
 use Rattle.std.specs.Vec.Iter.{into_iter_items}
 use Rattle.p3_merkle_core.specs.Views.{matrix_of}

@@ -1,3 +1,4 @@
+-- Each turn splits the rows of one index.
 use Rattle.std.proofs.Common.{◌≡◌, ◌++◌, map}
 use Rattle.std.specs.Vec.Iter.{into_iter_items}
 use Rattle.p3_support.specs.Shown.{row_sets}

@@ -11,6 +11,7 @@ loop-matrix-preserved c =
     c.loop-matrix-test.true c.in_ok-push.ensures.items c.loop-matrix.invariant
 
 pub returns-clause-wider : goal.returns-clause-wider
-returns-clause-wider c = made_all (λ (d : Dimensions). record { width = d.width + c.args.salt_elems; height = d.height })
+returns-clause-wider c = made_all
+    (λ (d : Dimensions). record { width = d.width + c.args.salt_elems; height = d.height })
     c.args.dimensions.now c.loop-matrix.matrix-index c.loop-matrix.wider.items c.loop-matrix-test.false
     c.loop-matrix.invariant

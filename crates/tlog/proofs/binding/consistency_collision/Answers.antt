@@ -1,3 +1,4 @@
+-- Two accepted proofs of consistency are two of inclusion of the node where both begin, and are fixed as those are.
 use Rattle.std.proofs.Common.{refl, arith, inl}
 use Rattle.tlog.proofs.Consistencies.{fixed_from, no_digests}
 use Rattle.tlog.proofs.TwoWalks.{accepted_by, same_none}

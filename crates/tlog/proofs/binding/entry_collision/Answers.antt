@@ -1,3 +1,4 @@
+-- Either the leaf hashes differ, and a leaf collision is looked for, or two different entries have one leaf hash.
 use Rattle.std.proofs.Common.{refl, sym, ap, ◌∙◌, arith}
 use Rattle.std.specs.Cmp.Lexicographic.{bytes_decides}
 use Rattle.tlog.specs.Collisions.{entries_of}

@@ -1,3 +1,4 @@
+-- The honest proof of the entry there is a second accepted one, with another leaf hash.
 use Rattle.std.proofs.Common.{refl, sym, ap, ◌∙◌}
 use Rattle.std.specs.Cmp.Lexicographic.{bytes_decides}
 use Rattle.tlog.specs.Rfc9162.{leaf_hash}
@@ -21,6 +22,6 @@ returns-clause-none g c =
     c.index-entries-index.result c.if-index-entries.false c.index-entries-index.is)) in
     let other = unequal c.args.leaf.now c.leaf_hash-expected.result c.eq.result c.eq.ensures c.if-eq.false in
     let both = leaf_fixed g.H.LogHash.hash c.args.entries.now c.args.index c.args.leaf.now c.args.proof.now
-    c.leaf_hash-expected.result c.deref-2.result.now c.root-root.result c.if-index-entries.false expected
-    (c.deref-2.ensures.value ∙ c.in_ok-honest.ensures) c.root-root.ensures other in
+    c.leaf_hash-expected.result c.deref-2.result.now c.root-own_root.result c.if-index-entries.false expected
+    (c.deref-2.ensures.value ∙ c.in_ok-honest.ensures) c.root-own_root.ensures other in
     same_none c.proof_collision.result both c.proof_collision.ensures.none

@@ -1,3 +1,5 @@
+-- The old root is that of the first new entries, or the honest proof from these is a second accepted one, with another
+-- old root.
 use Rattle.std.proofs.Common.{sym, ◌∙◌, arith}
 use Rattle.std.specs.Cmp.Lexicographic.{bytes_decides}
 use Rattle.tlog.proofs.Consistencies.{differ, same_root}

@@ -1,3 +1,5 @@
+-- Each turn compares the children of one node on both paths, which are the same from the node up where no collision is
+-- found.
 use Rattle.std.proofs.Common.{refl, sym, ◌∙◌, arith}
 use Rattle.tlog.proofs.TwoWalks.{at_root, left_shift, other_more, step_left, step_right}
 use Rattle.tlog.proofs.binding.proof_collision.Goals as goal

@@ -4,5 +4,5 @@ use Rattle.tlog.proofs.collision.are_equal.Goals as goal
 
 pub returns : goal.returns
 returns c =
-    let both = entries_decided c.args.d.now c.args.e.now in
+    let both = entries_decided c.args.entries.now c.args.other_entries.now in
     (λ t. both.0 (sym c.eq.ensures ∙ t), λ e. c.eq.ensures ∙ both.1 e)

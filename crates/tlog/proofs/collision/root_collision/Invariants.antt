@@ -6,9 +6,9 @@ use Rattle.tlog.proofs.collision.root_collision.Given as goal
 -- two different lists with one root
 abbrev pub invariant-loop-first : goal.invariant-loop-first
 invariant-loop-first g l = record {
-  roots : root_of g.H.LogHash.hash (entries_of l.d) ≡ root_of g.H.LogHash.hash (entries_of l.e);
-  differ : entries_of l.d ≢ entries_of l.e;
+  roots : root_of g.H.LogHash.hash (entries_of l.part) ≡ root_of g.H.LogHash.hash (entries_of l.other_part);
+  differ : entries_of l.part ≢ entries_of l.other_part;
 }
 
 abbrev pub decreases-loop-first : goal.decreases-loop-first
-decreases-loop-first g l = length l.d
+decreases-loop-first g l = length l.part

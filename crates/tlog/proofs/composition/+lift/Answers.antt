@@ -1,3 +1,4 @@
+-- The recursion goes to the half of the new tree in which the old one ends.
 use Rattle.std.proofs.Common.{rules, arith}
 use Rattle.std.proofs.lemmas.Result.{IfOk-weaker}
 use Rattle.tlog.proofs.Lifts.{across, lift_beside_left, lift_growth_refused, lift_left}

@@ -1,3 +1,4 @@
+-- Both proofs are accepted, so the digests that are lifted lead on to the new root.
 use Rattle.std.proofs.Common.{◌<◌, ◌∙◌, refl, sym, arith}
 use Rattle.tlog.proofs.Composed.{composed_all, composed_part, first_alone, from_nothing, if_err, reason, second_alone}
 use Rattle.tlog.proofs.Consistencies.{begins_layer, begins_whole, begun_end, digests_grow}

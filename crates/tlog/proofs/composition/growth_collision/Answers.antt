@@ -1,3 +1,5 @@
+-- The old path is lifted to one under the new root, where two accepted paths with different leaf hashes are a
+-- collision.
 use Rattle.std.proofs.Common.{◌<◌, ◌∙◌, refl, sym, arith}
 use Rattle.std.specs.Cmp.Lexicographic.{bytes_decides}
 use Rattle.tlog.proofs.Composed.{lifted_included, not_kept, same_included}

@@ -1,3 +1,4 @@
+-- By the sizes: proofs that need no digests, and those that a climb reads.
 use Rattle.std.proofs.{Common.◌≡◌, Common.length, Common.refl, Common.rules, Common.arith, Common.false}
 use Rattle.std.proofs.lemmas.Bool.Decides.{nat_tests}
 use Rattle.std.specs.Prelude.{◌==◌}

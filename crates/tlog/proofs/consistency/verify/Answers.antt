@@ -1,3 +1,4 @@
+-- Each return is one case of the refusal, and the verdict follows from it.
 use Rattle.std.proofs.Common.{rules, Ok, Err}
 use Rattle.tlog.specs.Verdicts.{consistency_refusal}
 use Rattle.tlog.specs.declared.error.ProofError.TheVariants.{OldRootMismatch, RootMismatch}

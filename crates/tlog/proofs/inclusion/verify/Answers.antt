@@ -1,3 +1,4 @@
+-- Each turn is one step of the iteration of RFC 9162 (2.1.3.2).
 use Rattle.std.proofs.Common.{◌≡◌, ℕ, ◌≤◌, ◌<◌, List, drop, length, Some, None, Ok, Err, sym, ◌∙◌, arith, true, false}
 use Rattle.std.specs.Prelude.{◌==◌, Option}
 use Rattle.std.proofs.lemmas.Bool.Decides.{nat_tests}

@@ -1,3 +1,4 @@
+-- Each equation of RFC 9162 is a lemma on the definitions.
 use Rattle.std.proofs.Common.{◌≡◌, suc, ◌*◌, ◌^◌, refl, arith}
 use Rattle.std.proofs.Math.Nat.{pow-succ'}
 use Rattle.std.specs.Prelude.{true, false}

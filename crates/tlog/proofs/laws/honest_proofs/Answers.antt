@@ -1,3 +1,4 @@
+-- What honest proofs lead to, by the lemmas on paths and subproofs.
 use Rattle.std.proofs.Common.{refl, arith, []}
 use Rattle.tlog.specs.Rfc9162.{leaf_hash}
 use Rattle.tlog.proofs.Honest.{honest_grown, included, root_of_none}

@@ -1,3 +1,4 @@
+-- The tests of the code are those of the definition, in another order.
 use Rattle.std.proofs.Common.{true, length, sym, ap, ◌∙◌, arith, rules, nat_le}
 use Rattle.std.proofs.lemmas.Iterator.{YieldsList-from_slice}
 use Rattle.std.proofs.lemmas.Iterator.Search.{all_from_yields_List}

@@ -1,3 +1,4 @@
+-- A part is read as a note whose origin is that of parts.
 use Rattle.std.proofs.Common.{length, sym, ◌∙◌, arith, if◌then◌else◌, nat_lt}
 use Rattle.std.proofs.lemmas.Bool.Decides.{Decides-ltb}
 use Rattle.tlog_text.specs.Reading.{after_origin, missing, part_origin_by, then_read}

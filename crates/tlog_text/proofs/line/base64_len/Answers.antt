@@ -1,3 +1,4 @@
+-- Each turn decodes a group of four characters to three bytes.
 use Rattle.std.proofs.Common.{◌≡◌, ◌+◌, ap, sym, ◌∙◌, arith, option_map}
 use Rattle.tlog_text.proofs.Base64Facts.{len_begins, len_more, len_of, len_refused, len_step, with_group}
 use Rattle.tlog_text.proofs.line.base64_len.Goals.{After-decode}

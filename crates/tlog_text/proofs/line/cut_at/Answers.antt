@@ -1,3 +1,4 @@
+-- The text is cut at the first place of the mark, if there is one.
 use Rattle.std.proofs.Common.{rules, ◌≡◌, ◌==◌, position}
 use Rattle.std.proofs.lemmas.Iterator.{YieldsList-from_slice}
 use Rattle.std.proofs.lemmas.Iterator.Search.{position_from_yields_List}

@@ -1,3 +1,4 @@
+-- What the decoder writes to the front is what the text stands for.
 use Rattle.std.proofs.Common.{arith, ◌∙◌}
 use Rattle.tlog_text.proofs.Base64Facts.{decode_bytes, decode_len}
 use Rattle.tlog_text.proofs.line.decode.Goals as goal

@@ -1,3 +1,4 @@
+-- Each return is one reason why a line is no digest, and the last one has the digest.
 use Rattle.tlog_text.proofs.Base64Facts.{is_digest, not_44, not_digest}
 use Rattle.tlog_text.proofs.line.digest_of.Goals as goal
 

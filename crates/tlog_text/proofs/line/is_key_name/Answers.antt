@@ -1,3 +1,4 @@
+-- The tests of the code are those of the definition.
 use Rattle.std.proofs.Common.{sym, ap, ◌∙◌, rules, ◌&&◌}
 use Rattle.std.proofs.lemmas.Iterator.{YieldsList-from_chars}
 use Rattle.std.proofs.lemmas.Iterator.Search.{all_from_yields_List}

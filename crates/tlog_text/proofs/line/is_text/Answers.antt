@@ -1,3 +1,4 @@
+-- The tests of the code are those of the definition.
 use Rattle.std.proofs.Common.{rules, sym, ◌∙◌, ◌&&◌, nat_le}
 use Rattle.std.proofs.lemmas.Iterator.{YieldsList-from_slice}
 use Rattle.std.proofs.lemmas.Iterator.Search.{all_from_yields_List}

@@ -1,3 +1,4 @@
+-- Each return is one reason why digits are no number, and the last one has the number.
 use Rattle.std.proofs.Common.{◌≡◌, ◌<◌, ◌∙◌, length, get_or, arith}
 use Rattle.tlog_text.proofs.TestFacts.{leading_zero, not_parsed, parsed}
 use Rattle.tlog_text.proofs.line.number_of.Goals as goal

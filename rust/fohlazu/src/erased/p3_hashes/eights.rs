@@ -2,10 +2,14 @@
 
 //! The fold functions of many messages and of many groups, eight at a time, each in a lane of its own. `messages` has
 //! messages of `width` words, one after another; column `c` is word `c` of each. A group is `N` digests, its children.
+//! The number after the last of a call's eight messages must fit `usize`: so it does in each call, since memory has all
+//! of them, or `out` has a place for each.
 
-use crate::erased::p3_hashes::fold::{FoldLane, absorb, compress_group, compress_lanes, hash_words, initial_state};
+use crate::erased::p3_hashes::fold::{
+    FoldPacked, absorb, absorb_words, compress_group, compress_lanes, hash_words, initial_state,
+};
 use crate::erased::p3_hashes::lanes::{U32x8, transpose};
-use crate::erased::p3_support::packed::{pack_columns_fn, unpack_at};
+use crate::erased::p3_support::packed::{PackedValue, pack_columns_fn, unpack_at};
 use crate::simd::*;
 
 /// The longest digest, in words, for which eight messages are hashed together. A longer one leaves no registers for the
@@ -15,36 +19,23 @@ const MOST_HASHED: usize = 4;
 /// The longest digest, in words, for which eight groups are compressed together. A longer one fills vectors by itself.
 const MOST_COMPRESSED: usize = 1;
 
-/// Packs word `column` of `P::WIDTH` messages: lane `k` is from message `first + k`.
+/// Packs word `column` of eight messages: lane `k` is from message `first + k`. `messages` must have all eight, and
+/// each must have the word.
 #[inline]
-fn column_of<P: FoldLane>(messages: &[u32], width: usize, first: usize, column: usize) -> P {
-    P::from_fn(|k| -> u32 { messages[(first + k) * width + column] })
+fn column_of(messages: &[u32], width: usize, first: usize, column: usize) -> U32x8 {
+    U32x8::from_fn(|k| -> u32 { messages[(first + k) * width + column] })
 }
 
-/// Absorbs the columns from `from` on of `P::WIDTH` messages, one a lane, from message `first` on. The state has
-/// absorbed the columns ahead of them.
+/// Absorbs the columns `from..width` of the eight messages from `first` on, one message a lane. The state must have
+/// absorbed the columns before `from`.
 #[inline]
-fn absorb_columns<P: FoldLane, const D: usize>(
-    state: &mut [P; D],
-    messages: &[u32],
-    width: usize,
-    first: usize,
-    from: usize,
-) {
+fn absorb_columns<const D: usize>(state: &mut [U32x8; D], messages: &[u32], width: usize, first: usize, from: usize) {
     for column in from..width {
         absorb(state, column_of(messages, width, first, column));
     }
 }
 
-/// Absorbs packed words into the state, one after another.
-#[inline]
-fn absorb_words<P: FoldLane, const D: usize>(state: &mut [P; D], words: &[P]) {
-    for word in words {
-        absorb(state, *word);
-    }
-}
-
-/// Words `column` to `column + 3` of message `message`, which must have them.
+/// Words `column` to `column + 3` of message `message`. `messages` must have the message, and the message these words.
 #[inline]
 fn words_at(messages: &[u32], width: usize, message: usize, column: usize) -> &[u32] {
     let words = &messages[message * width..(message + 1) * width];
@@ -52,7 +43,7 @@ fn words_at(messages: &[u32], width: usize, message: usize, column: usize) -> &[
 }
 
 /// The columns `column` to `column + 3` of the messages `first` to `first + 3`: vector `i` is column `column + i`, and
-/// its lane `k` is from message `first + k`.
+/// its lane `k` is from message `first + k`. `messages` must have these messages, and each must have these columns.
 #[inline]
 fn columns_of_four(messages: &[u32], width: usize, first: usize, column: usize) -> [u32x4; 4] {
     transpose(
@@ -64,7 +55,7 @@ fn columns_of_four(messages: &[u32], width: usize, first: usize, column: usize) 
 }
 
 /// The columns `column` to `column + 3` of the messages `first` to `first + 7`: vector `i` is column `column + i`, and
-/// its lane `k` is from message `first + k`.
+/// its lane `k` is from message `first + k`. `messages` must have these messages, and each must have these columns.
 #[inline]
 fn columns_of_eight(messages: &[u32], width: usize, first: usize, column: usize) -> [U32x8; 4] {
     let front = columns_of_four(messages, width, first, column);
@@ -77,8 +68,8 @@ fn columns_of_eight(messages: &[u32], width: usize, first: usize, column: usize)
     ]
 }
 
-/// Absorbs eight messages into the state, one a lane, from message `first` on, four columns at a time. The columns
-/// after the last whole four are left out.
+/// Absorbs the eight messages from `first` on, one a lane, four columns at a time. The columns after the last whole
+/// four are left out. The state must be the initial one.
 #[inline]
 fn absorb_fours<const D: usize>(state: &mut [U32x8; D], messages: &[u32], width: usize, first: usize) {
     for block in 0..width / 4 {
@@ -86,7 +77,8 @@ fn absorb_fours<const D: usize>(state: &mut [U32x8; D], messages: &[u32], width:
     }
 }
 
-/// The digests of eight messages of `width` words each: lane `k` is that of message `first + k`.
+/// The digests of eight messages of `width` words each: lane `k` is that of message `first + k`. `messages` must have
+/// all eight.
 #[inline]
 fn hash_eight<const D: usize>(messages: &[u32], width: usize, first: usize) -> [U32x8; D] {
     let mut state = initial_state();
@@ -95,16 +87,18 @@ fn hash_eight<const D: usize>(messages: &[u32], width: usize, first: usize) -> [
     state
 }
 
-/// Writes the digest of message `i` into `out[i]`, eight at a time, up to the last whole eight.
+/// Writes the digest of message `i` into `out[i]`, eight at a time, up to the last whole eight. `messages` must have as
+/// many messages as `out` has places.
 #[inline]
 fn hash_eights<const D: usize>(messages: &[u32], width: usize, out: &mut [[u32; D]]) {
-    for group in 0..out.len() / 8 {
-        let digests: [U32x8; D] = hash_eight(messages, width, 8 * group);
-        unpack_at(&digests, out, 8 * group);
+    for eight in 0..out.len() / 8 {
+        let digests: [U32x8; D] = hash_eight(messages, width, 8 * eight);
+        unpack_at(&digests, out, 8 * eight);
     }
 }
 
-/// Writes the digest of message `i` into `out[i]`, one by one, from message `from` on.
+/// Writes the digest of message `i` into `out[i]`, one by one, from message `from` on. `messages` must have as many
+/// messages as `out` has places, and `from` must be at most their number.
 #[inline]
 fn hash_rest<const D: usize>(messages: &[u32], width: usize, from: usize, out: &mut [[u32; D]]) {
     for i in from..out.len() {
@@ -112,7 +106,7 @@ fn hash_rest<const D: usize>(messages: &[u32], width: usize, from: usize, out: &
     }
 }
 
-/// Writes the digest of message `i` into `out[i]`, for as many messages as `out` has places.
+/// Writes the digest of message `i` into `out[i]`. `messages` must have as many messages as `out` has places.
 #[inline]
 pub(crate) fn hash_all<const D: usize>(messages: &[u32], width: usize, out: &mut [[u32; D]]) {
     if D > MOST_HASHED {
@@ -123,9 +117,9 @@ pub(crate) fn hash_all<const D: usize>(messages: &[u32], width: usize, out: &mut
     hash_rest(messages, width, 8 * (out.len() / 8), out);
 }
 
-/// Packs child `place` of `P::WIDTH` groups: lane `k` is from group `first + k`.
+/// Packs child `place`, below `N`, of `P::WIDTH` groups: lane `k` is from group `first + k`. `groups` must have these.
 #[inline]
-fn pack_child<P: FoldLane, const N: usize, const D: usize>(
+fn pack_child<P: FoldPacked, const N: usize, const D: usize>(
     groups: &[[[u32; D]; N]],
     first: usize,
     place: usize,
@@ -133,13 +127,14 @@ fn pack_child<P: FoldLane, const N: usize, const D: usize>(
     pack_columns_fn(|k| -> &[u32] { &groups[first + k][place] })
 }
 
-/// Packs `P::WIDTH` groups: lane `k` is group `first + k`.
+/// Packs `P::WIDTH` groups: lane `k` is group `first + k`. `groups` must have these.
 #[inline]
-fn pack_groups<P: FoldLane, const N: usize, const D: usize>(groups: &[[[u32; D]; N]], first: usize) -> [[P; D]; N] {
+fn pack_groups<P: FoldPacked, const N: usize, const D: usize>(groups: &[[[u32; D]; N]], first: usize) -> [[P; D]; N] {
     core::array::from_fn(|place| -> [P; D] { pack_child(groups, first, place) })
 }
 
-/// Writes the digest of group `i` into `out[i]`, eight at a time, up to the last whole eight.
+/// Writes the digest of group `i` into `out[i]`, eight at a time, up to the last whole eight. `out` must have as many
+/// places as there are groups.
 #[inline]
 fn compress_eights<const N: usize, const D: usize>(groups: &[[[u32; D]; N]], out: &mut [[u32; D]]) {
     for eight in 0..out.len() / 8 {
@@ -148,7 +143,8 @@ fn compress_eights<const N: usize, const D: usize>(groups: &[[[u32; D]; N]], out
     }
 }
 
-/// Writes the digest of group `i` into `out[i]`, one by one, from group `from` on.
+/// Writes the digest of group `i` into `out[i]`, one by one, from group `from` on. `out` must have as many places as
+/// there are groups, and `from` must be at most their number.
 #[inline]
 fn compress_rest<const N: usize, const D: usize>(groups: &[[[u32; D]; N]], from: usize, out: &mut [[u32; D]]) {
     for i in from..out.len() {
@@ -156,7 +152,7 @@ fn compress_rest<const N: usize, const D: usize>(groups: &[[[u32; D]; N]], from:
     }
 }
 
-/// Writes the digest of group `i` into `out[i]`, for as many groups as `out` has places.
+/// Writes the digest of group `i` into `out[i]`. `out` must have as many places as there are groups.
 #[inline]
 pub(crate) fn compress_all<const N: usize, const D: usize>(groups: &[[[u32; D]; N]], out: &mut [[u32; D]]) {
     if D > MOST_COMPRESSED {

@@ -9,7 +9,7 @@ use crate::erased::p3_support::packed::PackedValue;
 use crate::fallible::{AllocError, TryClone};
 
 /// A packed value with lanes of 32 bits, and the arithmetic of the fold functions on all lanes together.
-pub trait FoldLane: PackedValue<Value = u32> {
+pub trait FoldPacked: PackedValue<Value = u32> {
     /// Lane by lane, `31 * self + word`, modulo 2^32.
     fn mul_31_add(self, word: Self) -> Self;
 
@@ -17,7 +17,7 @@ pub trait FoldLane: PackedValue<Value = u32> {
     fn add_to_each(self, number: u32) -> Self;
 }
 
-impl FoldLane for u32 {
+impl FoldPacked for u32 {
     #[inline]
     fn mul_31_add(self, word: u32) -> u32 {
         self.wrapping_mul(31).wrapping_add(word)
@@ -37,29 +37,30 @@ fn low_bits(index: usize) -> u32 {
 
 /// The state before the first word, in each lane: element `e` is `1 + e`, modulo 2^32.
 #[inline]
-pub(crate) fn initial_state<P: FoldLane, const D: usize>() -> [P; D] {
+pub(crate) fn initial_state<P: FoldPacked, const D: usize>() -> [P; D] {
     core::array::from_fn(|e| -> P { P::broadcast(low_bits(e).wrapping_add(1)) })
 }
 
 /// Absorbs a word into the state, lane by lane: each element becomes `31 * element + word`, modulo 2^32.
 #[inline]
-pub(crate) fn absorb<P: FoldLane, const D: usize>(state: &mut [P; D], word: P) {
+pub(crate) fn absorb<P: FoldPacked, const D: usize>(state: &mut [P; D], word: P) {
     for element in state.iter_mut() {
         *element = element.mul_31_add(word);
     }
 }
 
-/// Absorbs the words of a slice into the state, one after another.
+/// Absorbs the words of a slice into the state, one after another, lane by lane.
 #[inline]
-fn absorb_slice<const D: usize>(state: &mut [u32; D], words: &[u32]) {
+pub(crate) fn absorb_words<P: FoldPacked, const D: usize>(state: &mut [P; D], words: &[P]) {
     for word in words {
         absorb(state, *word);
     }
 }
 
-/// The digests of `P::WIDTH` messages: lane `k` of the items is message `k`, and lane `k` of the result its digest.
+/// The digests of `P::WIDTH` messages: lane `k` of the items is message `k`, and lane `k` of the result its digest. The
+/// items must end, and `next` must be callable until then.
 #[inline]
-fn hash_lanes<P: FoldLane, I: Iterator<Item = P>, const D: usize>(input: I) -> [P; D] {
+fn hash_lanes<P: FoldPacked, I: Iterator<Item = P>, const D: usize>(input: I) -> [P; D] {
     let mut state = initial_state();
     for word in input {
         absorb(&mut state, word);
@@ -71,7 +72,7 @@ fn hash_lanes<P: FoldLane, I: Iterator<Item = P>, const D: usize>(input: I) -> [
 #[inline]
 pub(crate) fn hash_words<const D: usize>(words: &[u32]) -> [u32; D] {
     let mut state = initial_state();
-    absorb_slice(&mut state, words);
+    absorb_words(&mut state, words);
     state
 }
 
@@ -86,7 +87,7 @@ impl<const L: usize> TryClone for FoldHash<L> {
     }
 }
 
-impl<P: FoldLane, const L: usize, const D: usize> CryptographicHasher<P, P, D> for FoldHash<L> {
+impl<P: FoldPacked, const L: usize, const D: usize> CryptographicHasher<P, P, D> for FoldHash<L> {
     const LANES: usize = L;
 
     const PREFER_CONTIGUOUS_INPUT: bool = false;
@@ -105,7 +106,7 @@ impl<P: FoldLane, const L: usize, const D: usize> CryptographicHasher<P, P, D> f
     fn hash_iter_slices<S: AsRef<[u32]>, I: Iterator<Item = S>>(&self, input: I) -> [u32; D] {
         let mut state = initial_state();
         for words in input {
-            absorb_slice(&mut state, words.as_ref());
+            absorb_words(&mut state, words.as_ref());
         }
         state
     }
@@ -129,7 +130,7 @@ impl<P: FoldLane, const L: usize, const D: usize> CryptographicHasher<P, P, D> f
 /// Mixes the child at `place` into the digest, lane by lane: each element becomes `31 * element + child[e] + place`,
 /// modulo 2^32.
 #[inline]
-fn mix<P: FoldLane, const D: usize>(digest: &mut [P; D], child: &[P; D], place: usize) {
+fn mix<P: FoldPacked, const D: usize>(digest: &mut [P; D], child: &[P; D], place: usize) {
     let number = low_bits(place);
     for (e, element) in digest.iter_mut().enumerate() {
         *element = element.mul_31_add(child[e]).add_to_each(number);
@@ -138,7 +139,7 @@ fn mix<P: FoldLane, const D: usize>(digest: &mut [P; D], child: &[P; D], place: 
 
 /// The digests of `P::WIDTH` groups: lane `k` of `children` is group `k`, and lane `k` of the result its digest.
 #[inline]
-pub(crate) fn compress_lanes<P: FoldLane, const N: usize, const D: usize>(children: &[[P; D]; N]) -> [P; D] {
+pub(crate) fn compress_lanes<P: FoldPacked, const N: usize, const D: usize>(children: &[[P; D]; N]) -> [P; D] {
     let mut digest = [P::broadcast(0); D];
     for (i, child) in children.iter().enumerate() {
         mix(&mut digest, child, i);
@@ -163,7 +164,7 @@ impl<const N: usize, const L: usize> TryClone for FoldCompress<N, L> {
     }
 }
 
-impl<P: FoldLane, const N: usize, const L: usize, const D: usize> PseudoCompressionFunction<P, N, D>
+impl<P: FoldPacked, const N: usize, const L: usize, const D: usize> PseudoCompressionFunction<P, N, D>
     for FoldCompress<N, L>
 {
     const LANES: usize = L;

@@ -2,7 +2,7 @@
 
 //! Packed values of two lanes, and of eight.
 
-use crate::erased::p3_hashes::fold::FoldLane;
+use crate::erased::p3_hashes::fold::FoldPacked;
 use crate::erased::p3_support::packed::PackedValue;
 use crate::fallible::{AllocError, TryClone};
 use crate::simd::*;
@@ -50,7 +50,7 @@ impl<T: PackedValue<Value = T> + Default + Eq> PackedValue for Lanes<T> {
     }
 }
 
-impl FoldLane for Lanes<u32> {
+impl FoldPacked for Lanes<u32> {
     #[inline]
     fn mul_31_add(self, word: Lanes<u32>) -> Lanes<u32> {
         Lanes {
@@ -113,7 +113,7 @@ impl PackedValue for U32x8 {
     }
 }
 
-impl FoldLane for U32x8 {
+impl FoldPacked for U32x8 {
     #[inline]
     fn mul_31_add(self, word: U32x8) -> U32x8 {
         U32x8 { lanes: self.lanes * u32x8::splat(31) + word.lanes }

@@ -5,8 +5,8 @@
 //! sets `LANES` to 3.
 //!
 //! Eight messages of one length are hashed together, one in each lane of the processor's vectors; those after the last
-//! whole eight are hashed one by one. The digests of SHA-256 are those of the crate `sha2`; `sha256_eights` has the code
-//! for eight messages.
+//! whole eight are hashed one by one. The digests of SHA-256 are those of the crate `sha2`; `sha256_eights` has the
+//! code for eight messages.
 
 pub(crate) mod batched;
 pub(crate) mod eights;

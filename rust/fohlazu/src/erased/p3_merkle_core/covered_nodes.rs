@@ -1,7 +1,7 @@
 // Made from crates/p3_merkle_core/src/covered_nodes.rt by tools/erase.
 
-//! The covered nodes of the layers of a tree: the queried leaves, and the nodes above them. The boundary is the children
-//! of covered nodes that are not covered themselves.
+//! The covered nodes of the layers of a tree: the queried leaves, and the nodes above them. The boundary is the
+//! children of covered nodes that are not covered themselves.
 
 use crate::erased::p3_merkle_core::geometry::parent_of;
 use crate::erased::p3_merkle_core::schedule::{LevelStep, Schedule};
@@ -78,7 +78,8 @@ impl<'a> Covered<'a> {
     }
 }
 
-/// Replaces ascending nodes of a layer by their parents, each once, ascending. A parent has `step` children.
+/// Replaces ascending nodes of a layer by their parents, each once, ascending. A parent has `step` children, at least
+/// 1.
 #[inline]
 fn replace_by_parents(covered: &mut Vec<usize>, step: usize) {
     if covered.is_empty() {

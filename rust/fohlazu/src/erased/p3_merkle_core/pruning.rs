@@ -13,7 +13,7 @@
 use crate::erased::p3_merkle_core::covered_nodes::Covered;
 use crate::erased::p3_merkle_core::error::{MerkleTreeError, PrunedProofError};
 use crate::erased::p3_merkle_core::gate::check_heights;
-use crate::erased::p3_merkle_core::geometry::{check_widths, exponent_of, parent_of};
+use crate::erased::p3_merkle_core::geometry::{check_widths, exponent_of, parent_of, position_of};
 use crate::erased::p3_merkle_core::group::append_siblings;
 use crate::erased::p3_merkle_core::schedule::Schedule;
 use crate::erased::p3_support::matrix::Dimensions;
@@ -111,8 +111,8 @@ pub fn check_indices(max_height: usize, indices: &[usize]) -> Result<(), MerkleT
     if highest < max_height { Ok(()) } else { Err(MerkleTreeError::IndexOutOfBounds { max_height, index: highest }) }
 }
 
-/// The distinct indices, ascending, and the slot of each query, in query order. `indices` has the index of each query,
-/// and `sorted` has each query as its index and its position, ascending.
+/// The distinct indices, ascending, and the slot of each query, in query order. `indices` has the index of each query.
+/// `sorted` must have each query once, as its index and its position, ascending. `AllocError` if memory runs out.
 #[inline]
 fn distinct_slots(sorted: &[(usize, usize)], indices: &[usize]) -> Result<(Vec<usize>, Vec<usize>), AllocError> {
     let mut distinct = Vec::with_room(sorted.len())?;
@@ -129,7 +129,8 @@ fn distinct_slots(sorted: &[(usize, usize)], indices: &[usize]) -> Result<(Vec<u
     Ok((distinct, slots))
 }
 
-/// The distinct indices of some queries, with the first query of each, and the slot of each query.
+/// The distinct indices of some queries, with the first query of each, and the slot of each query. `AllocError` if
+/// memory runs out.
 #[inline]
 fn distinct_queries_of(queries: &[usize]) -> Result<DistinctQueries, AllocError> {
     let mut sorted = Vec::with_room(queries.len())?;
@@ -146,8 +147,8 @@ fn distinct_queries_of(queries: &[usize]) -> Result<DistinctQueries, AllocError>
     Ok(DistinctQueries { indices, first_queries, slots })
 }
 
-/// Checks that each query has the row set of the first query of its index, else `InconsistentDuplicateOpenings`. `rows`
-/// has the row set of each of `indices`, and `queried` their slots.
+/// Checks that each query has the row set of the first query of its index, else `InconsistentDuplicateOpenings` for the
+/// first that has not. `rows` must have a row set for each of `indices`, and `queried` must be of these indices.
 #[inline]
 fn check_repeats<T: Eq>(
     indices: &[usize],
@@ -165,9 +166,9 @@ fn check_repeats<T: Eq>(
     Ok(())
 }
 
-/// Checks that `rows` and `first_rows` have the same row of each of `matrices`, which are positions in both: else
-/// `InconsistentGroupOpening` for the first that differs. `rows` is the row set of `slot`, and `first_rows` that of the
-/// first slot under the same node. `slot` is only reported.
+/// Checks that `rows` and `first_rows` have the same row of each of `matrices`, else `InconsistentGroupOpening` for the
+/// first that differs. `matrices` must be positions in both. `rows` is the row set of `slot`, and `first_rows` that of
+/// the first slot under the same node. `slot` is only reported.
 #[inline]
 fn check_same_rows<T: Eq>(
     matrices: &[usize],
@@ -190,9 +191,9 @@ fn check_same_rows<T: Eq>(
 }
 
 /// Checks that slots under one node of a layer have the same rows of `matrices`, the positions of the layer's matrices,
-/// else `InconsistentGroupOpening`. Each slot is compared with the first one under its node. `indices` are distinct and
-/// ascending; `first_queries` has the first query of each, whose row set in `rows` is compared. A node's number is an
-/// index without its lowest `bits` bits.
+/// else `InconsistentGroupOpening`. Each slot is compared with the first one under its node. `indices` must be distinct
+/// and ascending. `first_queries` must have the first query of each, whose row set in `rows` is compared, and that row
+/// set must have each of `matrices`. The number of a node is an index without its lowest `bits` bits, at most 63.
 #[inline]
 fn check_rows_under_nodes<T: Eq>(
     matrices: &[usize],
@@ -214,7 +215,8 @@ fn check_rows_under_nodes<T: Eq>(
     Ok(())
 }
 
-/// Replaces the contents of `matrices` by the positions, in input order, of the matrices of this exponent.
+/// Replaces the contents of `matrices` by the positions, in input order, of the matrices of this exponent. `AllocError`
+/// if memory runs out.
 #[inline]
 fn list_matrices(matrices: &mut Vec<usize>, dimensions: &[Dimensions], exponent: usize) -> Result<(), AllocError> {
     matrices.clear();
@@ -227,7 +229,9 @@ fn list_matrices(matrices: &mut Vec<usize>, dimensions: &[Dimensions], exponent:
 }
 
 /// Checks that slots under one node have the same rows of the matrices of its layer, layer by layer up to layer
-/// `cap_layer`, else `InconsistentGroupOpening`. `rows` has the row set of each query, with a row for each matrix.
+/// `cap_layer`, else `InconsistentGroupOpening`. [`check_pruned`] must have found nothing to refuse before: heights and
+/// indices are in range, and the first query of each index has a row for each matrix. `cap_layer` and the arity must be
+/// as there.
 #[inline]
 fn check_shared_rows<T: Eq>(
     schedule: &Schedule<'_>,
@@ -292,8 +296,9 @@ pub(crate) fn check_pruned<T: Eq>(
     Ok(queried)
 }
 
-/// Checks, in this order: the heights; that there is a row set for each index; that there is no digest where there is
-/// no index; and that each index is below the tallest height. It does not allocate.
+/// Checks, in this order: the heights; that there is a row set for each index; that there is no digest if there is no
+/// index; and that each index is below the tallest height. Returns the first error that [`check_pruned`] lists for
+/// these. It does not allocate.
 #[inline]
 fn check_queries(
     schedule: &Schedule<'_>,
@@ -332,8 +337,8 @@ pub(crate) fn distinct_indices(indices: &[usize]) -> Result<Vec<usize>, AllocErr
 }
 
 /// The digests of all children of some parents, `step` of each, parent by parent. A covered child has its digest from
-/// `digests`, any other child the next of `proof_digests`. `covered` has the covered children in that order; `digests`
-/// one digest for each of them; `proof_digests` enough for the others. The number of children, and
+/// `digests`, any other child the next of `proof_digests`. `covered` must have the covered children in that order,
+/// `digests` one digest for each of them, and `proof_digests` enough for the others. The number of children, and
 /// `step * parent + step` for each parent, must fit `usize`. It allocates the list of children.
 ///
 /// # Errors
@@ -363,8 +368,8 @@ pub(crate) fn children_of<X: Copy>(
     Ok(children)
 }
 
-/// The place of `node` among ascending nodes. It must be one of them. The search begins at the place `start`, or at 0
-/// if the node is ahead of it, and takes a step for each node that it passes.
+/// The place of `node` among ascending nodes, of which it must be one. The search begins at the place `start`, or at 0
+/// if there is no such place or `node` is ahead of it, and takes a step for each node that it passes.
 #[inline]
 fn place_of(nodes: &[usize], start: usize, node: usize) -> usize {
     let mut place = 0;
@@ -377,13 +382,13 @@ fn place_of(nodes: &[usize], start: usize, node: usize) -> usize {
     place
 }
 
-/// The siblings on the path of the covered leaf `index`, from the leaves up: on each layer above them the digests of
-/// the children of the path's node, without the path's own, ascending. `layers` are those of a pruned opening, the
-/// leaves first, and `capacity` is the expected number of siblings.
+/// The siblings on the path of the leaf `index`, which must be covered, from the leaves up: on each layer above them
+/// the digests of the children of the path's node, without the path's own, ascending. `layers` must be those of a
+/// pruned opening, the leaves first, and `capacity` is the expected number of siblings.
 ///
-/// `places` has a number for each layer: the search for the path's node begins at that place among the covered nodes,
-/// and leaves the node's own there. So the searches of ascending leaves pass each node once. The path does not depend
-/// on these numbers.
+/// `places` must have a number for each layer. The search for the path's node begins at that place among the layer's
+/// covered nodes, and the number then becomes the node's own place. So the searches of ascending leaves pass each node
+/// once. The path does not depend on these numbers.
 ///
 /// # Errors
 ///
@@ -403,7 +408,7 @@ pub(crate) fn siblings_on_path<X: Copy>(
         let place = place_of(&above.covered.nodes, places[level], parent);
         places[level] = place;
         let first = above.step * place;
-        let own = node - above.step * parent;
+        let own = position_of(node, above.step);
         append_siblings(&mut path, &above.children[first..first + above.step], own)?;
         node = parent;
     }

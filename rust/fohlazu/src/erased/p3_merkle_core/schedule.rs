@@ -55,7 +55,8 @@ struct LevelKind {
 }
 
 /// The step above a layer, with whether matrices belong to the layer that it leads to, and the exponents there. The
-/// layer is below the root, and has these `exponents`, of at most 64. The arity must be at least 2.
+/// layer must be below the root, `exponents` must be its own, and its exponent at most 64. The arity must be at least
+/// 2.
 #[inline]
 fn next_step(matrices: &MatrixExponents<'_>, arity: usize, exponents: Exponents) -> (LevelKind, Exponents) {
     let target = exponents.layer.saturating_sub(exponent_of(arity));
@@ -143,7 +144,8 @@ pub(crate) struct OwnedSchedule {
 }
 
 impl OwnedSchedule {
-    /// Computes the steps of the tree over matrices of these dimensions by [`schedule_of`]. The arity must be at least 2.
+    /// Computes the steps of the tree over matrices of these dimensions by [`schedule_of`]. The arity must be at least
+    /// 2.
     #[inline]
     pub(crate) fn new(dimensions: Vec<Dimensions>, arity: usize) -> OwnedSchedule {
         let schedule = schedule_of(&dimensions, arity);

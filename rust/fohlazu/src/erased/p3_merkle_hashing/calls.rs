@@ -4,12 +4,15 @@
 
 use crate::erased::p3_support::packed::PackedValue;
 
+/// How many bytes of messages one call takes at most, unless one message for each lane has more.
+const BYTES_PER_CALL: usize = 16384;
+
 /// How many messages of `bytes` bytes one call takes: the greatest multiple of `lanes` with at most 16384 bytes in all,
 /// but at least `lanes`. Where `bytes` or `lanes` is 0, it counts as 1.
 pub(crate) fn messages_per_call(bytes: usize, lanes: usize) -> usize {
     let bytes = bytes.max(1);
     let lanes = lanes.max(1);
-    (16384 / bytes / lanes).max(1) * lanes
+    (BYTES_PER_CALL / bytes / lanes).max(1) * lanes
 }
 
 /// How many whole blocks of `PW::WIDTH` slots can be filled lane by lane, if there are `count` slots. It is 0 if there

@@ -11,7 +11,7 @@ use crate::fallible::{AllocError, VecExt};
 use alloc::vec::Vec;
 
 /// Packs child `n` of `PW::WIDTH` nodes: lane `k` is that of node `first + k`. `below` is the layer of the children,
-/// `step` of each node.
+/// `step` of each node. `n` must be below `step`, and the children of the last node must be in the layer.
 // Inlined: a call would store the child in memory in parts of one size, and read it in parts of another, which is slow.
 #[inline(always)]
 fn packed_child<PW: PackedValue, const D: usize>(
@@ -62,7 +62,7 @@ pub(crate) fn compress_pairs_packed<
 
 /// Replaces what `groups` has by the groups of the nodes `first..end`: the children of each, then default digests.
 /// `below` is the layer of the children, `step` of each node, at least one and at most `N`; those of the last node must
-/// be in it, and `first` must be at most `end`.
+/// be in it, and `first` must be at most `end`. `AllocError` if memory runs out.
 fn stage_children<W: Copy, const N: usize, const D: usize>(
     groups: &mut Vec<[[W; D]; N]>,
     default_digest: [W; D],
@@ -119,7 +119,8 @@ pub(crate) fn compress_children<
 }
 
 /// Replaces what `pairs` has by the group of each node: the digest of its children in `folded`, the digest of its rows
-/// in `rows`, then default digests. Both lists must have one length, and `N` must be at least 2.
+/// in `rows`, then default digests. Both lists must have one length, and `N` must be at least 2. `AllocError` if memory
+/// runs out.
 fn stage_pairs<W: Copy, const N: usize, const D: usize>(
     pairs: &mut Vec<[[W; D]; N]>,
     default_digest: [W; D],

@@ -88,7 +88,8 @@ impl<
     const D: usize,
 > LayerBuilder<'a, 'b, P, PW, H, C, M, N, D>
 {
-    /// The digests of the `PW::WIDTH` nodes from `first` on, one in each lane.
+    /// The digests of the `PW::WIDTH` nodes from `first` on, one in each lane. The layer must have these nodes and, if
+    /// matrices belong to it, a row for each. A packed group of `N` digests must have fewer than 2^63 bytes.
     fn packed_digest(&self, first: usize) -> [PW; D] {
         let folded = compress_children_packed::<PW, C, N, D>(self.compress, self.below, self.level.step, first);
         if !self.level.has_rows {
@@ -108,6 +109,10 @@ impl<
     /// - Else the first nodes are made one in each lane of a call ([`packed_digest`](Self::packed_digest)), as far as
     ///   they, and the rows of these matrices, fill all lanes. With a `WIDTH` of 1 this is none.
     /// - Nodes that are left over are made many a call, where a function with `LANES` 1 takes one after another.
+    ///
+    /// # Errors
+    ///
+    /// `AllocError` if memory runs out, or if the rows of one call have 2^64 words or more.
     pub(crate) fn fill(
         &self,
         buffers: &mut Buffers<P::Value, [PW::Value; D], [[PW::Value; D]; N]>,

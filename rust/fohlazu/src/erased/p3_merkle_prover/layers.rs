@@ -19,7 +19,7 @@ use alloc::vec::Vec;
 use core::marker::PhantomData;
 
 /// Builds the layers of a tree, with a hasher for rows and a compression of `N` digests for nodes. `G` is the type of a
-/// group. [`TreeBuilder`] is this builder at digests of words.
+/// group. [`MerkleTreeBuilder`] is this builder at digests of words.
 ///
 /// `N` is a power of two from 2 to 2^62, [`check_heights`](crate::erased::p3_merkle_core::gate::check_heights) accepts the heights,
 /// and both packings have equally many lanes.
@@ -58,7 +58,8 @@ pub(crate) type MerkleTreeBuilder<
     const D: usize,
 > = GenericTreeBuilder<'a, P, PW, H, C, M, [[PW::Value; D]; N], N, D>;
 
-/// Replaces the contents of `picked` by the matrices that have `height` rows, in input order.
+/// Replaces the contents of `picked` by the matrices that have `height` rows, in input order. `AllocError` if memory
+/// runs out.
 fn pick_matrices<'a, T, M: Matrix<T>>(
     picked: &mut Vec<&'a M>,
     matrices: &'a [M],
@@ -68,7 +69,7 @@ fn pick_matrices<'a, T, M: Matrix<T>>(
     picked.try_extend(matrices.iter().filter(|matrix| matrix.height() == height))
 }
 
-/// A list of `count` default digests.
+/// A list of `count` default digests. `AllocError` if memory runs out.
 fn default_digests<PW: PackedValue, const D: usize>(count: usize) -> Result<Vec<[PW::Value; D]>, AllocError> {
     let mut digests = Vec::new();
     digests.try_resize(count, [PW::Value::default(); D])?;
@@ -87,7 +88,7 @@ impl<
 > MerkleTreeBuilder<'a, P, PW, H, C, M, N, D>
 {
     /// The leaves: the digests of the rows of the tallest matrices, then default digests. `picked` and `buffers` are
-    /// scratch memory that all layers share.
+    /// scratch memory that all layers share. `AllocError` if memory runs out.
     fn leaf_layer(
         &self,
         picked: &mut Vec<&'a M>,
@@ -101,7 +102,8 @@ impl<
         Ok(leaves)
     }
 
-    /// The layer above `below`, of the shape `level`. `picked` and `buffers` are scratch memory that all layers share.
+    /// The layer above `below`, of the shape `level`. `below` must have the children of each of its nodes. `picked` and
+    /// `buffers` are scratch memory that all layers share. `AllocError` if memory runs out.
     fn next_layer(
         &self,
         picked: &mut Vec<&'a M>,
@@ -119,6 +121,10 @@ impl<
     }
 
     /// All layers, from the leaves to the root.
+    ///
+    /// # Errors
+    ///
+    /// `AllocError` if memory runs out.
     pub(crate) fn layers(&self) -> Result<Vec<Vec<[PW::Value; D]>>, AllocError> {
         let mut exponent = self.schedule.exponent;
         let mut len = self.schedule.max_height;

@@ -131,7 +131,7 @@ impl<F: Copy, W: Copy, M: Matrix<F>, const N: usize, const D: usize> MerkleTree<
     }
 }
 
-/// A copy of each layer, in order.
+/// A copy of each layer, in order. `AllocError` if memory runs out.
 fn copies_of<X: Copy>(layers: &[Vec<X>]) -> Result<Vec<Vec<X>>, AllocError> {
     let mut copies = Vec::with_room(layers.len())?;
     for nodes in layers {

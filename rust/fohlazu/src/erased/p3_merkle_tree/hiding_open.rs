@@ -21,7 +21,7 @@ use crate::fallible::{AllocError, VecExt};
 use alloc::vec::Vec;
 
 /// Splits each row of one index into the matrix's own words and its salts, and returns the row set and the salt set.
-/// `pairs` has the matrix of each row beside its salts. Only the salts are copied.
+/// `pairs` has the matrix of each row beside its salts. Only the salts are copied. `AllocError` if memory runs out.
 fn split_rows<F: Copy, A: Matrix<F>, B: Matrix<F>>(
     pairs: &[&HorizontalPair<F, A, B>],
     rows: Vec<Vec<F>>,
@@ -36,7 +36,8 @@ fn split_rows<F: Copy, A: Matrix<F>, B: Matrix<F>>(
     Ok((unsalted, salts))
 }
 
-/// Splits the rows of several indices, each as [`split_rows`] does, into row sets and salt sets.
+/// Splits the rows of several indices, each as [`split_rows`] does, into row sets and salt sets. The rows are those of
+/// a tree's matrices beside their salts. The only error is `OutOfMemory`.
 fn split_row_sets<F: Copy, X, G, A: Matrix<F>, B: Matrix<F>, const N: usize>(
     tree: &Tree<F, X, G, HorizontalPair<F, A, B>, N>,
     sets: Vec<Vec<Vec<F>>>,

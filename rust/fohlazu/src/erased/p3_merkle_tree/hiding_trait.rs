@@ -81,12 +81,12 @@ where
 
     fn verify_multi_batch(
         &self,
-        commit: &Self::Commitment,
+        commitment: &Self::Commitment,
         dimensions: &[Dimensions],
         indices: &[usize],
         rows: &[Vec<Vec<P::Value>>],
         proof: &Self::MultiProof,
     ) -> Result<(), Self::Error> {
-        self.verify_multi_batch(commit, dimensions, indices, rows, proof)
+        self.verify_multi_batch(commitment, dimensions, indices, rows, proof)
     }
 }

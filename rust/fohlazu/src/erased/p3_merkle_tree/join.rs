@@ -110,6 +110,7 @@ pub(crate) fn widened_dimensions(
 }
 
 /// Each row followed by its salts. Rows and lists of salts are paired in order, up to the end of the shorter list.
+/// `AllocError` if memory runs out.
 fn joined_rows<T: Copy>(rows: &[Vec<T>], salts: &[Vec<T>]) -> Result<Vec<Vec<T>>, AllocError> {
     let mut joined = Vec::with_room(rows.len())?;
     for (row, salt) in rows.iter().zip(salts) {
@@ -122,7 +123,7 @@ fn joined_rows<T: Copy>(rows: &[Vec<T>], salts: &[Vec<T>]) -> Result<Vec<Vec<T>>
 }
 
 /// The row sets of several queries, each joined with its salt set by [`joined_rows`]. `sets` has the row sets and
-/// `salts` the salt sets; they are paired in order, up to the end of the shorter list.
+/// `salts` the salt sets; they are paired in order, up to the end of the shorter list. `AllocError` if memory runs out.
 fn joined_row_sets<T: Copy>(sets: &[Vec<Vec<T>>], salts: &[Vec<Vec<T>>]) -> Result<Vec<Vec<Vec<T>>>, AllocError> {
     let mut joined = Vec::with_room(sets.len())?;
     for (rows, salt) in sets.iter().zip(salts) {

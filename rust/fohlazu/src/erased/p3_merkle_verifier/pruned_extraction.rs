@@ -73,8 +73,6 @@ impl<
     }
 
     /// True only if the check of the opening `first` agrees with that of each query, wherever both share a place. Where
-    /// it is false, each query has to be compared.
-    /// True only if the check of the opening `first` agrees with that of each query, wherever both share a place. Where
     /// it is false, each query has to be compared. Only the queries of the nearest indices below and above are looked
     /// at: the opening's path shares with one of them each node that it shares with any query, and the checks of the
     /// queries agree among themselves.

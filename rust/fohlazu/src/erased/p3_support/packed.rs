@@ -89,7 +89,7 @@ impl PackedValue for u8 {
     }
 }
 
-/// Unpacks one packed value: lane `k` becomes element `e` of row `k`, where `e < D`. There are `PW::WIDTH` rows.
+/// Unpacks one packed value: lane `k` becomes element `e` of row `k`, where `e < D`. `rows` must have `PW::WIDTH` rows.
 #[inline]
 fn unpack_value<PW: PackedValue, const D: usize>(value: PW, e: usize, rows: &mut [[PW::Value; D]]) {
     for k in 0..PW::WIDTH {
@@ -112,7 +112,8 @@ pub fn unpack_into<PW: PackedValue, const D: usize>(packed: &[PW; D], rows: &mut
 }
 
 /// Unpacks an array of packed values into the rows from `first` on, a row for each lane: `rows[first + k][e]` becomes
-/// lane `k` of `packed[e]`. `first + PW::WIDTH` must be at most the number of rows.
+/// lane `k` of `packed[e]`. The rows before `first` stay as they are. `first + PW::WIDTH` must be at most the number of
+/// rows.
 ///
 /// # Panics
 ///
@@ -123,7 +124,8 @@ pub fn unpack_at<PW: PackedValue, const D: usize>(packed: &[PW; D], rows: &mut [
     unpack_into(packed, &mut rows[first..first + PW::WIDTH]);
 }
 
-/// Writes a column of `D` values into lane `k`: element `e` of `packed` gets `column[e]`. Other lanes stay.
+/// Writes a column into lane `k`, where `k < PW::WIDTH`: lane `k` of `packed[e]` becomes `column[e]`, and other lanes
+/// stay. `column` must have `D` values.
 #[inline]
 fn set_lane<PW: PackedValue, const D: usize>(packed: &mut [PW; D], k: usize, column: &[PW::Value]) {
     assert!(column.len() == D, "long");

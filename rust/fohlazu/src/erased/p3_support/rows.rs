@@ -43,7 +43,8 @@ impl<'a, T, M: Matrix<T>> Iterator for Rows<'a, T, M> {
     }
 }
 
-/// The `P::WIDTH` rows from `row` on of the first of the `matrices`, where it stores them in one piece.
+/// The elements from row `row` on of the first of the `matrices`, if it stores at least `P::WIDTH` rows there in one
+/// piece; else `None`. `row + P::WIDTH` must be at most the height of each.
 #[inline(always)]
 fn stored_rows<P: PackedValue, M: Matrix<P::Value>>(matrices: &[M], row: usize) -> Option<&[P::Value]> {
     let first = matrices.first()?;
@@ -57,7 +58,8 @@ fn stored_rows<P: PackedValue, M: Matrix<P::Value>>(matrices: &[M], row: usize) 
     Some(piece)
 }
 
-/// Packs one column of rows of `width` elements each, which lie one after another: lane `k` is from row `k`.
+/// Packs one column of `P::WIDTH` rows of `width` elements each, which lie one after another in `rows`: lane `k` is
+/// from row `k`. `rows` must reach to the column's element in the last of them.
 #[inline(always)]
 fn stored_column<P: PackedValue>(rows: &[P::Value], width: usize, column: usize) -> P {
     let lanes = &rows[column..];

@@ -45,7 +45,7 @@ fn next_eight<R: Rng>(rng: &mut R) -> [u64; 8] {
     ]
 }
 
-/// Appends the values of eight words to a vector that has room for them.
+/// Appends the values of eight words to `values`, which must have room for them.
 #[inline]
 fn push_eight<T: SaltWord>(values: &mut Vec<T>, words: [u64; 8]) {
     for word in &words {
@@ -53,7 +53,7 @@ fn push_eight<T: SaltWord>(values: &mut Vec<T>, words: [u64; 8]) {
     }
 }
 
-/// Draws `8 * eights` values, eight at a time, and appends them to a vector that has room for them.
+/// Draws `8 * eights` values, eight at a time, and appends them to `values`, which must have room for them.
 #[inline]
 fn draw_eights<T: SaltWord, R: Rng>(values: &mut Vec<T>, rng: &mut R, eights: usize) {
     for _ in 0..eights {
@@ -62,7 +62,7 @@ fn draw_eights<T: SaltWord, R: Rng>(values: &mut Vec<T>, rng: &mut R, eights: us
     }
 }
 
-/// Draws `count` values, one by one, and appends them to a vector that has room for them.
+/// Draws `count` values, one by one, and appends them to `values`, which must have room for them.
 #[inline]
 fn draw_each<T: SaltWord, R: Rng>(values: &mut Vec<T>, rng: &mut R, count: usize) {
     for _ in 0..count {

@@ -10,14 +10,15 @@ use crate::erased::sha256_eights::digest_size::DigestSize;
 use crate::sha256::Sha256;
 use crate::simd::*;
 
-/// The four bytes from `at` on as a word, high byte first.
+/// The four bytes from `at` on, which `bytes` must have, as a word, high byte first.
 #[inline(always)]
 fn word(bytes: &[u8], at: usize) -> u32 {
     assert!(at <= bytes.len() && 4 <= bytes.len() - at);
     u32::from_be_bytes([bytes[at], bytes[at + 1], bytes[at + 2], bytes[at + 3]])
 }
 
-/// The words at byte `at` of eight messages of `width` bytes each: lane `j` is from message `j`.
+/// The words at byte `at` of eight messages of `width` bytes each: lane `j` is from message `j`. `at + 4` must be at
+/// most `width`.
 #[inline(always)]
 pub(crate) fn words(messages: &[u8], width: usize, at: usize) -> u32x8 {
     u32x8::from_array([
@@ -32,7 +33,8 @@ pub(crate) fn words(messages: &[u8], width: usize, at: usize) -> u32x8 {
     ])
 }
 
-/// Byte `at` of padded message `j` of eight. It must not be one of the last eight, which have the length.
+/// Byte `at` of padded message `j` of eight, where `j < 8`. The byte must stand ahead of the last eight, which have the
+/// length.
 #[inline(always)]
 fn padded_byte(messages: &[u8], width: usize, j: usize, at: usize) -> u8 {
     if at < width {
@@ -44,9 +46,9 @@ fn padded_byte(messages: &[u8], width: usize, j: usize, at: usize) -> u8 {
     }
 }
 
-/// The word at byte `at` of padded message `j` of eight, which may have bytes of the message and of its padding. `at`
-/// is at most `width`, and the word must end ahead of the last eight bytes of the padded message, which have its
-/// length.
+/// The word at byte `at` of padded message `j` of eight, where `j < 8`. The word may have bytes of the message and of
+/// its padding. `at` must be at most `width`, and the word must end ahead of the last eight bytes of the padded
+/// message, which have its length.
 #[inline(always)]
 fn mixed_word(messages: &[u8], width: usize, j: usize, at: usize) -> u32 {
     u32::from_be_bytes([
@@ -57,7 +59,8 @@ fn mixed_word(messages: &[u8], width: usize, j: usize, at: usize) -> u32 {
     ])
 }
 
-/// The words at byte `at` of the eight padded messages: lane `j` is [`mixed_word`] of message `j`.
+/// The words at byte `at` of the eight padded messages: lane `j` is [`mixed_word`] of message `j`. `at` must be as
+/// there.
 fn mixed_words(messages: &[u8], width: usize, at: usize) -> u32x8 {
     u32x8::from_array([
         mixed_word(messages, width, 0, at),
@@ -71,14 +74,14 @@ fn mixed_words(messages: &[u8], width: usize, at: usize) -> u32x8 {
     ])
 }
 
-/// How many blocks of 64 bytes a message of `width` bytes fills with its padding.
+/// How many blocks of 64 bytes a message of `width` bytes fills with its padding. `width + 72` must fit `usize`.
 #[inline(always)]
 fn block_count(width: usize) -> usize {
     // The padding has at least nine bytes, one that marks its start and eight of the length, and fills the last block.
     (width + 9).div_ceil(64)
 }
 
-/// Word `n` of a padded message of `width` bytes, where that word is padding alone.
+/// Word `n` of a padded message of `width` bytes. The message must have this word, and it must be padding alone.
 fn padding_word(width: usize, n: usize) -> u32 {
     let at = 4 * n;
     let end = 64 * block_count(width);
@@ -90,13 +93,14 @@ fn padding_word(width: usize, n: usize) -> u32 {
     }
     // The padding ends with the message's length in bits, here modulo 2^64: the standard leaves out longer messages.
     let bits = width.wrapping_mul(8);
+    // Its higher 32 bits are the last word but one, and its lower 32 bits the last.
     if at + 4 < end {
         return (bits / 4_294_967_296) as u32;
     }
     (bits % 4_294_967_296) as u32
 }
 
-/// Word `n` of each of the eight padded messages: lane `j` is from message `j`.
+/// Word `n` of each of the eight padded messages, which must have it: lane `j` is from message `j`.
 #[inline(always)]
 fn padded_words(messages: &[u8], width: usize, n: usize) -> u32x8 {
     let at = 4 * n;
@@ -109,7 +113,7 @@ fn padded_words(messages: &[u8], width: usize, n: usize) -> u32x8 {
     u32x8::splat(padding_word(width, n))
 }
 
-/// Loads block `t` of each of the eight padded messages into `block`, one message a lane.
+/// Loads block `t` of each of the eight padded messages, which must have it, into `block`: one message a lane.
 // A block that is returned is copied once more, which takes time.
 fn load_padded_block(block: &mut [u32x8; 16], messages: &[u8], width: usize, t: usize) {
     for i in 0..16 {
@@ -117,7 +121,8 @@ fn load_padded_block(block: &mut [u32x8; 16], messages: &[u8], width: usize, t: 
     }
 }
 
-/// Block `t` of a padded message of `width` bytes, where that block is padding alone: the same in each lane.
+/// Block `t` of a padded message of `width` bytes: the same in each lane. The message must have this block, and it must
+/// be padding alone.
 fn padding_block(width: usize, t: usize) -> [u32x8; 16] {
     let mut block = [u32x8::splat(0); 16];
     for i in 0..16 {
@@ -132,8 +137,9 @@ fn filled_count(width: usize) -> usize {
     width.div_ceil(64)
 }
 
-/// The inputs of the rounds over the last block of messages of `width` bytes, if that block is padding alone. It is the
-/// same for all of them, so its schedule is computed once. Otherwise the result is zeros, which nothing reads.
+/// The inputs of the rounds over the last block of messages of `width` bytes, if that block is padding alone. Such a
+/// block is the same for all messages, so its schedule is computed once. Otherwise the result is zeros, which nothing
+/// reads.
 fn padding_inputs(width: usize) -> [u32x8; 64] {
     let last = filled_count(width);
     if last == block_count(width) {
@@ -165,7 +171,7 @@ pub(crate) fn digest_of(words: [u32; 8]) -> [u8; 32] {
     digest
 }
 
-/// The hash value of message `j`: lane `j` of each vector of `state`.
+/// The hash value of message `j`, where `j < 8`: lane `j` of each vector of `state`.
 #[inline(always)]
 pub(crate) fn lane_words(state: &[u32x8; 8], j: usize) -> [u32; 8] {
     [
@@ -181,7 +187,8 @@ pub(crate) fn lane_words(state: &[u32x8; 8], j: usize) -> [u32; 8] {
 }
 
 /// Writes the digest of message `i` into `out[i]`, for eight messages of `width` bytes each, from message `first` on.
-/// `padding` is from [`padding_inputs`].
+/// `out` must have a place for each, and `messages` as many messages as `out` has places. `padding` is from
+/// [`padding_inputs`].
 fn hash_eight<const D: usize>(messages: &[u8], width: usize, padding: &[u32x8; 64], first: usize, out: &mut [[u8; D]])
 where
     Sha256: DigestSize<D>,
@@ -193,7 +200,8 @@ where
     }
 }
 
-/// Writes the digest of message `i` into `out[i]`, eight at a time, up to the last whole eight.
+/// Writes the digest of message `i` into `out[i]`, eight at a time, up to the last whole eight. `messages` must have as
+/// many messages as `out` has places.
 fn hash_eights<const D: usize>(messages: &[u8], width: usize, out: &mut [[u8; D]])
 where
     Sha256: DigestSize<D>,
@@ -202,12 +210,13 @@ where
         return;
     }
     let padding = padding_inputs(width);
-    for group in 0..out.len() / 8 {
-        hash_eight(messages, width, &padding, 8 * group, out);
+    for eight in 0..out.len() / 8 {
+        hash_eight(messages, width, &padding, 8 * eight, out);
     }
 }
 
-/// Writes the digest of message `i` into `out[i]`, one by one, from message `from` on.
+/// Writes the digest of message `i` into `out[i]`, one by one, from message `from` on. `messages` must have as many
+/// messages as `out` has places, and `from` must be at most their number.
 fn hash_rest<const D: usize>(messages: &[u8], width: usize, from: usize, out: &mut [[u8; D]])
 where
     Sha256: DigestSize<D>,

@@ -1,7 +1,8 @@
 // Made from crates/sha256_eights/src/lib.rt by tools/erase.
 
 //! SHA-256 (FIPS 180-4) of eight messages at a time, one in each lane of the processor's vectors: of many messages of
-//! one length, or of eight that fill one number of blocks with their padding. The digests are those of the crate `sha2`.
+//! one length, or of eight that fill one number of blocks with their padding. The digests are those of the crate
+//! `sha2`.
 
 pub(crate) mod block;
 pub(crate) mod consts;

@@ -17,7 +17,7 @@ fn load_block(block: &mut [u32x8; 16], messages: &[u8], width: usize, t: usize) 
     }
 }
 
-/// The hash values of eight messages of `count` blocks, one message a lane.
+/// The hash values of eight messages of `count` blocks, which must fill `messages`: one message a lane.
 fn whole_states(messages: &[u8], count: usize) -> [u32x8; 8] {
     let mut state = initial_state();
     let mut block = [u32x8::splat(0); 16];
@@ -28,8 +28,9 @@ fn whole_states(messages: &[u8], count: usize) -> [u32x8; 8] {
     state
 }
 
-/// The digests of eight messages of any lengths that fill `count` blocks of 64 bytes each with their padding. `blocks`
-/// has the padded messages one after another, `8 * 64 * count` bytes, as [`push_padded`] appends them.
+/// The digests of eight messages of any lengths that fill `count` blocks of 64 bytes each with their padding: digest
+/// `j` is that of message `j`. `blocks` must have the padded messages one after another, `8 * 64 * count` bytes, as
+/// [`push_padded`] appends them.
 pub(crate) fn hash_padded_eight(blocks: &[u8], count: usize) -> [[u8; 32]; 8] {
     let state = whole_states(blocks, count);
     let mut digests = [[0u8; 32]; 8];
@@ -43,12 +44,13 @@ pub(crate) fn hash_padded_eight(blocks: &[u8], count: usize) -> [[u8; 32]; 8] {
 ///
 /// # Errors
 ///
-/// `AllocError` if memory runs out.
+/// `AllocError` if memory runs out. `blocks` may then have a part of them.
 pub(crate) fn push_padded(blocks: &mut Vec<u8>, first: u8, rest: &[u8]) -> Result<(), AllocError> {
     let len = rest.len() + 1;
     blocks.try_push(first)?;
     blocks.try_extend_from_slice(rest)?;
     blocks.try_push(0x80)?;
+    // The fewest zeros with which the byte 0x80 and the eight bytes of the length end a block.
     blocks.try_extend_from_slice(&[0; 64][..(119 - len % 64) % 64])?;
     blocks.try_extend_from_slice(&len.wrapping_mul(8).to_be_bytes())?;
     Ok(())

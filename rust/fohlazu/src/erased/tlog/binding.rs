@@ -2,30 +2,29 @@
 
 //! What accepted proofs fix, under one root or under that of entries, or else a collision of the hash function.
 
-use crate::erased::tlog::collision::{
-    Collision, consistency_proof, inclusion_proof, leaf_input, node_input, root, root_collision,
-};
+use crate::erased::tlog::collision::{Collision, leaf_input, node_input, root_collision};
 use crate::erased::tlog::consistency::{self, Climb};
 use crate::erased::tlog::hash::LogHash;
+use crate::erased::tlog::honest_proofs::{consistency_proof, inclusion_proof, root};
 use crate::erased::tlog::inclusion::{sibling_is_left, verify};
 use crate::fallible::AllocError;
 use alloc::vec::Vec;
 
-/// A collision, if two nodes with other children have one hash; else `None`.
+/// A collision, if two nodes with different children have one hash; else `None`. `AllocError` if memory runs out.
 pub(crate) fn node_collision<H: LogHash<D>, const D: usize>(
     left: &[u8; D],
     right: &[u8; D],
     other_left: &[u8; D],
     other_right: &[u8; D],
 ) -> Result<Option<Collision>, AllocError> {
+    if left == other_left && right == other_right {
+        return Ok(None);
+    }
     if H::node_hash(left, right) != H::node_hash(other_left, other_right) {
         return Ok(None);
     }
     let first = node_input(left, right)?;
     let second = node_input(other_left, other_right)?;
-    if first == second {
-        return Ok(None);
-    }
     Ok(Some(Collision { first, second }))
 }
 
@@ -137,8 +136,8 @@ pub fn leaf_collision<H: LogHash<D>, const D: usize>(
         return Ok(None);
     }
     let honest = inclusion_proof::<H, D>(entries, index)?;
-    let root = root::<H, D>(entries);
-    proof_collision::<H, D>(index, entries.len(), leaf, proof, &expected, &honest, &root)
+    let own_root = root::<H, D>(entries);
+    proof_collision::<H, D>(index, entries.len(), leaf, proof, &expected, &honest, &own_root)
 }
 
 /// A collision, if a proof of inclusion of `entry` at `index`, counted from 0, is accepted under the root of the

@@ -1,8 +1,9 @@
 // Made from crates/tlog/src/collision.rt by tools/erase.
 
-//! The root of entries and honest proofs, and what two lists of entries with one root show of the hash function.
+//! The byte strings that a log hashes, and what two lists of entries with one root show of the hash function.
 
 use crate::erased::tlog::hash::LogHash;
+use crate::erased::tlog::honest_proofs::{root, split};
 use crate::fallible::{AllocError, VecExt};
 use alloc::vec::Vec;
 
@@ -15,31 +16,9 @@ pub struct Collision {
     pub second: Vec<u8>,
 }
 
-/// The largest power of two below `n`, where RFC 9162 (2.1.1) splits a list of `n` entries. `n` must be above 1.
-///
-/// # Panics
-///
-/// - By `two_entries` unless `1 < n`.
-pub fn split(n: usize) -> usize {
-    assert!(1 < n, "two_entries");
-    1 << (n - 1).ilog2()
-}
-
-/// The root of entries (RFC 9162, 2.1.1); of no entries the hash of nothing.
-pub fn root<H: LogHash<D>, const D: usize>(entries: &[Vec<u8>]) -> [u8; D] {
-    match entries {
-        [] => H::empty_root(),
-        [entry] => H::leaf_hash(entry),
-        entries => {
-            let (left, right) = entries.split_at(split(entries.len()));
-            H::node_hash(&root::<H, D>(left), &root::<H, D>(right))
-        }
-    }
-}
-
 /// Whether two lists of entries are equal, entry by entry.
-fn are_equal(d: &[Vec<u8>], e: &[Vec<u8>]) -> bool {
-    d == e
+fn are_equal(entries: &[Vec<u8>], other_entries: &[Vec<u8>]) -> bool {
+    entries == other_entries
 }
 
 /// The byte string whose hash is the leaf hash of an entry: a byte 0 and the entry (RFC 9162, 2.1.1).
@@ -71,7 +50,8 @@ pub fn node_input<const D: usize>(left: &[u8; D], right: &[u8; D]) -> Result<Vec
     Ok(input)
 }
 
-/// The byte string whose hash is the root of entries: nothing, the input of a leaf, or that of a node.
+/// The byte string whose hash is the root of entries: nothing, the input of a leaf, or that of a node. `AllocError` if
+/// memory runs out.
 fn root_input<H: LogHash<D>, const D: usize>(entries: &[Vec<u8>]) -> Result<Vec<u8>, AllocError> {
     match entries {
         [] => Ok(Vec::new()),
@@ -89,106 +69,29 @@ fn root_input<H: LogHash<D>, const D: usize>(entries: &[Vec<u8>]) -> Result<Vec<
 ///
 /// `AllocError` if memory runs out.
 pub fn root_collision<H: LogHash<D>, const D: usize>(
-    d: &[Vec<u8>],
-    e: &[Vec<u8>],
+    entries: &[Vec<u8>],
+    other_entries: &[Vec<u8>],
 ) -> Result<Option<Collision>, AllocError> {
-    if are_equal(d, e) || root::<H, D>(d) != root::<H, D>(e) {
+    if are_equal(entries, other_entries) || root::<H, D>(entries) != root::<H, D>(other_entries) {
         return Ok(None);
     }
-    let mut d = d;
-    let mut e = e;
+    // Both parts are different lists of entries with one root.
+    let mut part = entries;
+    let mut other_part = other_entries;
     loop {
-        let first = root_input::<H, D>(d)?;
-        let second = root_input::<H, D>(e)?;
+        let first = root_input::<H, D>(part)?;
+        let second = root_input::<H, D>(other_part)?;
         if first != second {
             return Ok(Some(Collision { first, second }));
         }
-        let (left, right) = d.split_at(split(d.len()));
-        let (other_left, other_right) = e.split_at(split(e.len()));
+        let (left, right) = part.split_at(split(part.len()));
+        let (other_left, other_right) = other_part.split_at(split(other_part.len()));
         if are_equal(left, other_left) {
-            d = right;
-            e = other_right;
+            part = right;
+            other_part = other_right;
         } else {
-            d = left;
-            e = other_left;
+            part = left;
+            other_part = other_left;
         }
-    }
-}
-
-/// The proof of inclusion of entry `index`, counted from 0, under the root of the entries (RFC 9162, 2.1.3.1). The
-/// index must be below their number.
-///
-/// # Errors
-///
-/// `AllocError` if memory runs out.
-///
-/// # Panics
-///
-/// - By `index_in` unless `index < entries.len()`.
-pub fn inclusion_proof<H: LogHash<D>, const D: usize>(
-    entries: &[Vec<u8>],
-    index: usize,
-) -> Result<Vec<[u8; D]>, AllocError> {
-    assert!(index < entries.len(), "index_in");
-    if entries.len() == 1 {
-        return Ok(Vec::new());
-    }
-    let middle = split(entries.len());
-    let (left, right) = entries.split_at(middle);
-    if index < middle {
-        let mut proof = inclusion_proof::<H, D>(left, index)?;
-        proof.try_push(root::<H, D>(right))?;
-        Ok(proof)
-    } else {
-        let mut proof = inclusion_proof::<H, D>(right, index - middle)?;
-        proof.try_push(root::<H, D>(left))?;
-        Ok(proof)
-    }
-}
-
-/// The proof of consistency from the first `old_size` entries to all (RFC 9162, 2.1.4.1). `old_size` must be from 1 to
-/// their number, where the proof has no digests.
-///
-/// # Errors
-///
-/// `AllocError` if memory runs out.
-///
-/// # Panics
-///
-/// - By `some` unless `0 < old_size`.
-/// - By `within` unless `old_size <= entries.len()`.
-pub fn consistency_proof<H: LogHash<D>, const D: usize>(
-    entries: &[Vec<u8>],
-    old_size: usize,
-) -> Result<Vec<[u8; D]>, AllocError> {
-    assert!(0 < old_size, "some");
-    assert!(old_size <= entries.len(), "within");
-    subproof::<H, D>(entries, old_size, true)
-}
-
-/// SUBPROOF (RFC 9162, 2.1.4.1). `is_known` says whether the verifier may know the root of the entries, which is its
-/// flag `b`.
-fn subproof<H: LogHash<D>, const D: usize>(
-    entries: &[Vec<u8>],
-    old_size: usize,
-    is_known: bool,
-) -> Result<Vec<[u8; D]>, AllocError> {
-    if old_size == entries.len() {
-        let mut proof = Vec::new();
-        if !is_known {
-            proof.try_push(root::<H, D>(entries))?;
-        }
-        return Ok(proof);
-    }
-    let middle = split(entries.len());
-    let (left, right) = entries.split_at(middle);
-    if old_size <= middle {
-        let mut proof = subproof::<H, D>(left, old_size, is_known)?;
-        proof.try_push(root::<H, D>(right))?;
-        Ok(proof)
-    } else {
-        let mut proof = subproof::<H, D>(right, old_size - middle, false)?;
-        proof.try_push(root::<H, D>(left))?;
-        Ok(proof)
     }
 }

@@ -3,10 +3,11 @@
 //! Accepted proofs across the growth of a log.
 
 use crate::erased::tlog::binding::{node_collision, proof_collision};
-use crate::erased::tlog::collision::{Collision, split};
+use crate::erased::tlog::collision::Collision;
 use crate::erased::tlog::consistency::{self, Climb};
 use crate::erased::tlog::error::ComposeError;
 use crate::erased::tlog::hash::LogHash;
+use crate::erased::tlog::honest_proofs::split;
 use crate::erased::tlog::inclusion::verify;
 use crate::fallible::{AllocError, VecExt};
 use alloc::vec::Vec;
@@ -36,7 +37,9 @@ fn lift_beside<H: LogHash<D>, const D: usize>(
     Ok(digests)
 }
 
-/// Checks that `beside` and the root that `climb` leads to are `last` and `old`, if both pairs have one hash.
+/// Checks that `beside` and the root that `climb` leads to are `last` and `old`, if both pairs have one hash: else
+/// `Collision`. `size` is that of the right half in which `climb` leads to its root. Where it leads to none, nothing is
+/// checked.
 fn check_right<H: LogHash<D>, const D: usize>(
     size: usize,
     climb: &Climb<D>,
@@ -56,7 +59,7 @@ fn check_right<H: LogHash<D>, const D: usize>(
 
 /// The digests that lead from a node on to the root of `new_size` entries, where those of `climb` lead to the root of
 /// the first `size`, and those of `growth` from the last whole node of these to both roots. Where `climb` or `growth`
-/// does not lead there, any digests may be returned.
+/// does not lead there, any digests may be returned. `Collision` if the proofs differ although they have one root.
 fn lift<H: LogHash<D>, const D: usize>(
     size: usize,
     new_size: usize,
@@ -125,6 +128,7 @@ pub fn compose<H: LogHash<D>, const D: usize>(
     if old_size == 0 {
         return Ok(Vec::new());
     }
+    // A proof without digests is between equal sizes, so the other one is the whole proof.
     let Some(climb) = Climb::of_proof(old_size, first, old_root) else {
         return Ok(Vec::try_from_slice(second)?);
     };
@@ -140,8 +144,9 @@ pub fn compose<H: LogHash<D>, const D: usize>(
     Ok(proof)
 }
 
-/// A collision, if proofs of inclusion of one index are accepted under an old and a new root, and a proof of
-/// consistency from the one to the other, and the leaf hashes differ; else `None`. It needs no entries.
+/// A collision, if the proofs of inclusion of one index, `old_path` under the old root and `new_path` under the new
+/// one, are accepted, and so is `growth`, the proof of consistency between both, and the leaf hashes differ; else
+/// `None`. It needs no entries.
 ///
 /// # Errors
 ///
@@ -177,6 +182,7 @@ pub fn growth_collision<H: LogHash<D>, const D: usize>(
     match lift::<H, D>(old_size, new_size, &climb, &last) {
         Ok(path) => proof_collision::<H, D>(index, new_size, old_leaf, &path, new_leaf, new_path, new_root),
         Err(ComposeError::Collision(found)) => Ok(Some(found)),
+        // `lift` checks no proof, so its only other error is that memory ran out.
         Err(_) => Err(AllocError),
     }
 }

@@ -60,7 +60,9 @@ pub fn verify<H: LogHash<D>, const D: usize>(
     Ok(())
 }
 
-/// The old and the new root that a proof leads to, where the new one may be any from size 0.
+/// The old and the new root that a proof leads to. From size 0 the new one may be any, so it is `new_root` itself. The
+/// new size must be at least the old one and at most 2^62. `TooManyDigests` or `TooFewDigests` if the proof has not as
+/// many digests as one between these sizes.
 fn roots_by<H: LogHash<D>, const D: usize>(
     old_size: usize,
     new_size: usize,
@@ -101,8 +103,9 @@ pub(crate) struct Climb<'a, const D: usize> {
 }
 
 impl<'a, const D: usize> Climb<'a, D> {
-    /// From the node where a proof of consistency begins, the last whole one of the old tree (RFC 9162, 2.1.4.2, 1 to
-    /// 5). The old size must be above 0. `None` if the proof has no digests.
+    /// The climb of a proof of consistency: from the node where the proof begins, the last whole one of the old tree
+    /// (RFC 9162, 2.1.4.2, 1 to 5), by the digests that lead on from it. `None` if the proof has no digests. The old
+    /// size must be above 0.
     pub(crate) fn of_proof(old_size: usize, proof: &'a [[u8; D]], old_root: &'a [u8; D]) -> Option<Self> {
         let (first, rest) = proof.split_first()?;
         let layer = (old_size - 1).trailing_ones();

@@ -10,6 +10,7 @@ pub(crate) mod composition;
 pub(crate) mod consistency;
 pub(crate) mod error;
 pub(crate) mod hash;
+pub(crate) mod honest_proofs;
 pub(crate) mod inclusion;
 
 pub use binding::{consistency_collision, entry_collision, leaf_collision, prefix_collision, proof_collision};

@@ -5,7 +5,8 @@
 use crate::erased::p3_merkle_core::error::MerkleTreeError;
 use crate::erased::p3_merkle_core::pruning::MerkleAuthPath;
 use crate::erased::p3_merkle_verifier::openings::PrunedOpeningRef;
-use crate::erased::tlog::collision::{Collision, root};
+use crate::erased::tlog::collision::Collision;
+use crate::erased::tlog::honest_proofs::root;
 use crate::erased::tlog::{LogHash, leaf_collision};
 use crate::erased::tlog_multiproof::error::EntriesError;
 use crate::erased::tlog_multiproof::opening::opening_of;

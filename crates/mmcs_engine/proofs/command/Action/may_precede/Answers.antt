@@ -1,3 +1,4 @@
+-- An action may precede no arguments, or numbers.
 use Rattle.std.proofs.Common.{◌<◌, Bool, true, false, MatchBool, Decides, ℕ, List, [], ◌∷◌, length, String, refl}
 use Rattle.std.proofs.Common.{string_bytes, ⊎_elim, arith, rules, tests}
 use Rattle.std.proofs.lemmas.Bool.{false≢true}

@@ -1,3 +1,4 @@
+-- Each turn parses one index, and no argument is refused after the command is found.
 use Rattle.std.proofs.Common.{◌++◌, ◌∷◌, ◌∙◌, [], List, ℕ, string_bytes, map, refl, sym, ap, subst, inr}
 use Rattle.std.proofs.lemmas.List.{map_more, take_all}
 use Rattle.std.proofs.lemmas.List.Elements.{All-get_or}

@@ -1,3 +1,4 @@
+-- With an `f` at its end an argument is a cap of the fixed rule, without it one of the lowered rule.
 use Rattle.std.proofs.Common.{◌∷◌, [], Some}
 use Rattle.std.proofs.lemmas.Bool.Decides.{Decides-eqb}
 use Rattle.std.proofs.lemmas.Slice.Eq.{strip_suffix_is}

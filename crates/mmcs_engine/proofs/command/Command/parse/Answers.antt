@@ -1,3 +1,4 @@
+-- Arguments are a command if the first four are, and those after them may follow the action.
 use Rattle.std.proofs.Common.{◌≡◌, ◌≤◌, ◌-◌, List, [], ◌∷◌, ℕ, length, get_or, take, drop, map, string_bytes, refl, sym}
 use Rattle.std.proofs.Common.{ap, ◌∙◌, subst, arith}
 use Rattle.std.proofs.lemmas.Bool.{false≢true}

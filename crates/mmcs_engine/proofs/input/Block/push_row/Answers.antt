@@ -1,3 +1,4 @@
+-- A line becomes a row, or is the first faulty one.
 use Rattle.std.proofs.Common.{◌≡◌, [], length, sym, refl, ⊎_elim, inl, inr, arith}
 use Rattle.std.proofs.lemmas.List.Elements.{All-get_or}
 use Rattle.mmcs_engine.specs.Input.{numbers_of}

@@ -1,3 +1,4 @@
+-- The values of rows of one width are a matrix.
 use Rattle.std.proofs.Common.{◌*◌, length, sym, ap, ◌∙◌, arith}
 use Rattle.std.proofs.lemmas.List.{length-map}
 use Rattle.p3_support.specs.RowMajor.{row_count}

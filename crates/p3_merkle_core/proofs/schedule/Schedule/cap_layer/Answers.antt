@@ -19,7 +19,8 @@ returns c =
             w.exponent_of.ensures,
             w.exponent_of-in-Lowered.ensures,
           )
-          (lowered_by_numbers s c.requires c.args.cap_height schedule.num_levels schedule.min_height schedule.walked.whole
+          (lowered_by_numbers s c.requires c.args.cap_height schedule.num_levels schedule.min_height
+          schedule.walked.whole
           schedule.walked.shortest)
       | in-Fixed w ↦ rw (w.in-Fixed.is, w.max_cap_height-is, schedule.walked.whole) refl
     ]

@@ -1,3 +1,4 @@
+-- The numbers of the layer above follow from how many slots of the layer below are grouped.
 use Rattle.std.proofs.Common.{◌/◌, ◌<◌, ◌∙◌, arith, ap, false, refl, sym}
 use Rattle.std.proofs.lemmas.Bool.{le-ltb, lt-ltb}
 use Rattle.std.proofs.lemmas.Nat.{one_shl}

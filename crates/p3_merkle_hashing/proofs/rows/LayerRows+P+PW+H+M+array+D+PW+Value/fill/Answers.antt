@@ -21,7 +21,8 @@ loop-block-preserved g c =
     let f = λ (j : ℕ). hash (rows (first + j)) in
     let xs = c.loop-block.digests in
     let ys = c.unpack_at.new.rows in
-    let seen = λ (k : ℕ). lane_of g.PW.PackedValue.lanes g.PW.PackedValue.default_value k c.packed_digest-packed.result in
+    let seen = λ (k : ℕ). lane_of g.PW.PackedValue.lanes g.PW.PackedValue.default_value k
+    c.packed_digest-packed.result in
     let written : (k : ℕ) → k < w → slice_index_or ys (block * w + k) [] ≡ seen k =
     rw c.WIDTH.ensures at c.unpack_at.ensures.lanes in
     let kept : (j : ℕ) → j < block * w → slice_index_or ys j [] ≡ slice_index_or xs j [] =

@@ -1,3 +1,4 @@
+-- The first loop adds up the widths, and each turn of the second writes the slots of one call.
 use Rattle.std.proofs.Common.{◌≡◌, ℕ, ◌≤◌, ◌+◌, ◌-◌, length, take}
 use Rattle.std.specs.Prelude.{sum_by}
 use Rattle.p3_merkle_hashing.specs.Inner.Slots.{rows_over, IsFilled}

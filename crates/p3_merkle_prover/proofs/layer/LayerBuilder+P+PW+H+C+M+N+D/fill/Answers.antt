@@ -25,12 +25,14 @@ loop-block-preserved g c =
     let slot = slot_of c.args.self.now in
     let xs = c.loop-block.nodes in
     let ys = c.unpack_at.new.rows in
-    let seen = λ (k : ℕ). lane_of g.PW.PackedValue.lanes g.PW.PackedValue.default_value k c.packed_digest-packed.result in
+    let seen = λ (k : ℕ). lane_of g.PW.PackedValue.lanes g.PW.PackedValue.default_value k
+    c.packed_digest-packed.result in
     let written : (k : ℕ) → k < w → slice_index_or ys (block * w + k) [] ≡ seen k =
     rw c.WIDTH.ensures at c.unpack_at.ensures.lanes in
     let kept : (j : ℕ) → j < block * w → slice_index_or ys j [] ≡ slice_index_or xs j [] =
     rw c.WIDTH.ensures at c.unpack_at.ensures.before in
-    let built : (k : ℕ) → k < w → seen k ≡ slot (block * w + k) = rw c.WIDTH.ensures at c.packed_digest-packed.ensures in
+    let built : (k : ℕ) → k < w → seen k ≡ slot (block * w + k) = rw c.WIDTH.ensures at
+    c.packed_digest-packed.ensures in
     record {
       long = c.unpack_at.ensures.long ∙ c.loop-block.invariant.long;
       filled = group_more slot seen xs ys block w [] written built kept c.loop-block.invariant.filled;
@@ -133,6 +135,7 @@ returns-in_ok-inject_row_digests g c =
     let row = ap (λ l. slice_index_or l j []) are
     ∙ get_or-map-range_with_len made 0 n j j [] (omega (arith, h, folded.long)) (omega arith) in
     node_with f g.row.N leaf v builder.below.now builder.children (done + j) (inside g here j h)
-    (slice_index_or nodes j []) (slice_index_or c.deref.result.now j []) (slice_index_or slots j []) c.if-has_rows-2.true
+    (slice_index_or nodes j []) (slice_index_or c.deref.result.now j []) (slice_index_or slots j [])
+    c.if-has_rows-2.true
     (folded.filled j h ∙ children_from f g.row.N v builder.below.now done j) row
     (filled.filled j (omega (arith, h, rows, folded.long)))))

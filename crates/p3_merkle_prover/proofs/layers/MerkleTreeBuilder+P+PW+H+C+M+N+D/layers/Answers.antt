@@ -1,3 +1,4 @@
+-- Each turn builds the layer above the last one.
 use Rattle.std.proofs.Common.{◌≡◌, ◌∙◌, arith}
 use Rattle.std.proofs.lemmas.List.{map-append}
 use Rattle.p3_merkle_core.specs.Geometry.{levels, shape_of}

@@ -33,7 +33,11 @@ returns-in_err-pairs g c =
       matrices = IfOk-from_err r _ err;
       batch = IfOk-from_err r _ err;
       committed = IfOk-from_err r _ err;
-      drawn = record { generator_after = nothing_drawn _ r err; further = c.salted_pairs.ensures.further; scheme = refl };
+      drawn = record {
+        generator_after = nothing_drawn _ r err;
+        further = c.salted_pairs.ensures.further;
+        scheme = refl;
+      };
       untouched = search rules;
     }
 

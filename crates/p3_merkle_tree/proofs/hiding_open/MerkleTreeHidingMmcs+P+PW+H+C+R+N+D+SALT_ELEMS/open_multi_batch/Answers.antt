@@ -1,4 +1,4 @@
--- Each row is taken apart where its left matrix ends; what is accepted with its salts joined is accepted.
+-- Each row is split where its left matrix ends; the opening with salts joined is accepted, so the salted one is.
 use Rattle.std.proofs.Common.{◌∙◌, List, ap, map, subst}
 use Rattle.p3_merkle_core.specs.Geometry.{shape_of}
 use Rattle.p3_merkle_core.specs.Nodes.{shape}

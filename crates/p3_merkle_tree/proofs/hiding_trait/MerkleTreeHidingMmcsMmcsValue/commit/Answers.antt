@@ -10,7 +10,8 @@ use Rattle.p3_merkle_tree.proofs.SchemeFacts.{untouched_scheme}
 use Rattle.p3_merkle_tree.proofs.hiding_trait.MerkleTreeHidingMmcsMmcsValue.commit.Goals as goal
 
 pub returns-clause-matrices_accepted : goal.returns-clause-matrices_accepted
-returns-clause-matrices_accepted g c = can_when_ok g.M.Matrix.height_of g.M.Matrix.width_of g.M.Matrix.row_of g.row.SALT_ELEMS
+returns-clause-matrices_accepted g c = can_when_ok g.M.Matrix.height_of g.M.Matrix.width_of g.M.Matrix.row_of
+    g.row.SALT_ELEMS
     c.args.matrices.items c.commit.result c.commit.ensures.answer
 
 pub returns-clause-memory : goal.returns-clause-memory

@@ -8,6 +8,7 @@ pub returns : goal.returns
 returns g c =
     let scheme = c.args.self.now in
     let made = c.schedule_of-schedule in
-    params_alike g.row.N c.args.dimensions.now scheme.cap_rule scheme.cap_height made.result c.cap_layer-cap_layer.result
+    params_alike g.row.N c.args.dimensions.now scheme.cap_rule scheme.cap_height made.result
+    c.cap_layer-cap_layer.result
     made.ensures.arity made.ensures.dimensions c.cap_layer-cap_layer.ensures (functions_of scheme) (functions_of scheme)
     made.result.arity refl made.ensures.arity

@@ -31,7 +31,8 @@ returns-in_err-schedule_below-clause-few g c =
 
 pub returns-in_err-schedule_below-clause-answer : goal.returns-in_err-schedule_below-clause-answer
 returns-in_err-schedule_below-clause-answer g c =
-    let p = err_from_is_err_and c.from_residual-in_err-schedule_below.result c.from_residual-in_err-schedule_below.ensures.1 in
+    let p = err_from_is_err_and c.from_residual-in_err-schedule_below.result
+    c.from_residual-in_err-schedule_below.ensures.1 in
     rw p.1 (inl p.2)
 
 pub returns-clause-steps : goal.returns-clause-steps

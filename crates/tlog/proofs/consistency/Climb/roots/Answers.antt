@@ -1,3 +1,4 @@
+-- Each turn is one step of the iteration of RFC 9162 (2.1.4.2).
 use Rattle.std.proofs.Common.{◌≡◌, sym, ◌∙◌, arith, false}
 use Rattle.std.proofs.lemmas.Bool.Decides.{nat_tests}
 use Rattle.std.specs.Prelude.{◌==◌}

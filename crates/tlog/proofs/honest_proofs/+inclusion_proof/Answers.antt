@@ -1,6 +1,7 @@
+-- A path in one half, and then the root of the other.
 use Rattle.std.proofs.Common.{sym, ◌∙◌, arith}
 use Rattle.tlog.proofs.Entries.{path_at_left, path_at_one, path_at_right}
-use Rattle.tlog.proofs.collision.+inclusion_proof.Goals as goal
+use Rattle.tlog.proofs.honest_proofs.+inclusion_proof.Goals as goal
 
 pub returns-then-entries-eq1 : goal.returns-then-entries-eq1
 returns-then-entries-eq1 g t c =

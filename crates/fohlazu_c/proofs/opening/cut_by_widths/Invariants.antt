@@ -2,7 +2,7 @@ use Rattle.std.proofs.Common.{◌≡◌, ◌++◌, map, drop}
 use Rattle.p3_support.specs.Batches.{widths_of}
 use Rattle.p3_support.specs.Shown.{row_lists}
 use Rattle.fohlazu_c.specs.Openings.{cut_rows, size_shown}
-use Rattle.fohlazu_c.proofs.opening.cut.Given as goal
+use Rattle.fohlazu_c.proofs.opening.cut_by_widths.Given as goal
 
 -- the rows so far, and what is left of the bytes cut by the widths that are left
 abbrev pub invariant-loop-size : goal.invariant-loop-size

@@ -1,11 +1,12 @@
+-- Each turn reads one digest.
 use Rattle.std.proofs.Common.{◌≡◌, ◌+◌, ◌-◌, Bool, false, List, ℕ, ap, inr, sym, ◌∙◌, ◌&&◌}
 use Rattle.std.proofs.lemmas.Bool.{and_left, and_right}
 use Rattle.std.proofs.lemmas.Result.{err_from_is_err_and}
 use Rattle.tlog_text.specs.Reading.{at_blank, digest_by, digests_by, many}
 use Rattle.tlog_text.proofs.ReadFacts.{many_ended, many_more, many_refused, many_start, many_stopped, onto}
-use Rattle.tlog_text.proofs.line.digests_by.Goals.{else-blank_stops-via-else-blank_stops, Joined-else-blank_stops}
-use Rattle.tlog_text.proofs.line.digests_by.Goals.{else-blank_stops-via-then-blank_stops+else-at_blank}
-use Rattle.tlog_text.proofs.line.digests_by.Goals as goal
+use Rattle.tlog_text.proofs.line.read_digests.Goals.{else-blank_stops-via-else-blank_stops, Joined-else-blank_stops}
+use Rattle.tlog_text.proofs.line.read_digests.Goals.{else-blank_stops-via-then-blank_stops+else-at_blank}
+use Rattle.tlog_text.proofs.line.read_digests.Goals as goal
 
 abbrev stops : Bool → List ℕ → Bool
 stops blank_stops rest = blank_stops && at_blank rest

@@ -1,9 +1,11 @@
+-- Each turn cuts one row, and what is left after the last is one more.
 use Rattle.std.proofs.Common.{◌≡◌, ◌∙◌, ◌+◌, ◌++◌, ◌∷◌, [], ap, sym, arith, ℕ, Vec, Global}
 use Rattle.std.proofs.lemmas.List.{map-append}
 use Rattle.p3_support.specs.Shown.{row_lists}
 use Rattle.fohlazu_c.proofs.CutFacts.{cut_from, cut_left, cut_more, cut_none}
-use Rattle.fohlazu_c.proofs.opening.cut.Goals as goal
-use Rattle.fohlazu_c.proofs.opening.cut.Goals.{then-not-is_empty+in_ok-from_slice-2+in_ok-push-2, else-not-is_empty}
+use Rattle.fohlazu_c.proofs.opening.cut_by_widths.Goals as goal
+use Rattle.fohlazu_c.proofs.opening.cut_by_widths.Goals.{then-not-is_empty+in_ok-from_slice-2+in_ok-push-2}
+use Rattle.fohlazu_c.proofs.opening.cut_by_widths.Goals.{else-not-is_empty}
 
 pub loop-size-preserved : goal.loop-size-preserved
 loop-size-preserved c =

@@ -1,7 +1,8 @@
+-- The proof of one half, and then the root of the other.
 use Rattle.std.proofs.Common.{sym, ◌∙◌, arith, true, false}
 use Rattle.tlog.proofs.Entries.{sub_at_all, sub_at_left, sub_at_right}
-use Rattle.tlog.proofs.collision.+subproof.Goals as goal
-use Rattle.tlog.proofs.collision.+subproof.Goals.{then-not-is_known+in_ok-push, else-not-is_known}
+use Rattle.tlog.proofs.honest_proofs.+subproof.Goals as goal
+use Rattle.tlog.proofs.honest_proofs.+subproof.Goals.{then-not-is_known+in_ok-push, else-not-is_known}
 
 pub returns-then-old_size-entries : goal.returns-then-old_size-entries
 returns-then-old_size-entries g t c =

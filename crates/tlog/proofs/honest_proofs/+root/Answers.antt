@@ -1,7 +1,8 @@
+-- A list of two or more entries has the root of its halves.
 use Rattle.std.proofs.Common.{sym, ap, ◌∙◌}
 use Rattle.tlog.specs.Rfc9162.{leaf_hash}
 use Rattle.tlog.proofs.Entries.{root_at_none, root_at_one, root_at_split}
-use Rattle.tlog.proofs.collision.+root.Goals as goal
+use Rattle.tlog.proofs.honest_proofs.+root.Goals as goal
 
 pub returns-in-empty : goal.returns-in-empty
 returns-in-empty g t c =

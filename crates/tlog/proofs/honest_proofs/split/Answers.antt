@@ -1,7 +1,8 @@
+-- The power of two by the logarithm is the largest one below the number.
 use Rattle.std.proofs.Common.{◌≡◌, ◌*◌, ◌%◌, ◌^◌, ◌∙◌, arith}
 use Rattle.tlog.specs.Rfc9162.{split}
 use Rattle.tlog.proofs.Splits.{split_by_power, split_is}
-use Rattle.tlog.proofs.collision.split.Goals as goal
+use Rattle.tlog.proofs.honest_proofs.split.Goals as goal
 
 value : (c : goal.After-ilog2) → 1 * 2 ^ c.ilog2.result % 2 ^ 64 ≡ split c.args.n
 value c =

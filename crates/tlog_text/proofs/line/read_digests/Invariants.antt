@@ -1,7 +1,7 @@
 use Rattle.std.proofs.Common.{◌≡◌, ◌-◌, ◌&&◌}
 use Rattle.tlog_text.specs.Reading.{at_blank, digest_by, digests_by, many}
 use Rattle.tlog_text.proofs.ReadFacts.{onto}
-use Rattle.tlog_text.proofs.line.digests_by.Given as goal
+use Rattle.tlog_text.proofs.line.read_digests.Given as goal
 
 abbrev pub invariant-loop-digest : goal.invariant-loop-digest
 invariant-loop-digest l =
