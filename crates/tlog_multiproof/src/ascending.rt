@@ -232,7 +232,7 @@ fn walk<H: LogHash<32>, E: AscendingEntries>(
     }
     let (below, first) = (layer - 1, 2 * slot);
     let left = walk::<H, E>(size, entries, sent, below, first, cursor);
-    if !is_node(size, (below, first + 1)) {
+    if !is_node(size, NodeId { layer: below, slot: first + 1 }) {
         return left;
     }
     let right = walk::<H, E>(size, entries, sent, below, first + 1, cursor);

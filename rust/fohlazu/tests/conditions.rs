@@ -394,17 +394,17 @@ mod sha2 {
 
     pub fn logs(trial: &mut Trial) {
         let n = trial.random.about(2);
-        trial.call("tlog.collision.split", &[("two_entries", n > 1)], || split(n));
+        trial.call("tlog.honest_proofs.split", &[("two_entries", n > 1)], || split(n));
 
         let entries = vec![vec![1, 2]; trial.random.below(5)];
         let index = trial.random.about(entries.len());
         let conditions = [("index_in", index < entries.len())];
-        trial.call("tlog.collision.inclusion_proof", &conditions, || {
+        trial.call("tlog.honest_proofs.inclusion_proof", &conditions, || {
             inclusion_proof::<Sha256, 32>(&entries, index).is_ok()
         });
         let old_size = if trial.random.below(3) == 0 { 0 } else { trial.random.about(entries.len() + 1) };
         let conditions = [("some", old_size != 0), ("within", old_size <= entries.len())];
-        trial.call("tlog.collision.consistency_proof", &conditions, || {
+        trial.call("tlog.honest_proofs.consistency_proof", &conditions, || {
             consistency_proof::<Sha256, 32>(&entries, old_size).is_ok()
         });
 
