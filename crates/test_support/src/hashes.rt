@@ -84,11 +84,11 @@ fn digests_of_many<P: FoldPacked, H: CryptographicHasher<P, P, 1>, const K: usiz
 }
 
 /// Asserts the digests of several messages by one call, and of several groups.
-fn assert_many<P: FoldPacked, H: CryptographicHasher<P, P, 1>, C: PseudoCompressionFunction<P, 2, 1>>(
-    rt: &impl Abort,
-    hasher: &H,
-    compress: &C,
-) {
+fn assert_many<
+    P: FoldPacked,
+    H: CryptographicHasher<P, P, 1>,
+    C: PseudoCompressionFunction<P, 2, 1>,
+>(rt: &impl Abort, hasher: &H, compress: &C) {
     let nine = digests_of_many::<P, H, 9>(hasher, &[1, 2, 3, 4, 5, 6, 7, 8, 9], 1);
     assert_eq!(rt;
         nine,

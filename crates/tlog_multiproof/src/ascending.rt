@@ -20,6 +20,7 @@ use p3_merkle_core::geometry::MAX_HEIGHT;
 use p3_merkle_core::schedule::schedule_of;
 use sha2::Sha256;
 use tlog::LogHash;
+use tlog_tree::NodeId;
 
 /// Entries of a log, in ascending order of their indices. An index may be there more than once.
 pub trait AscendingEntries {
@@ -232,7 +233,13 @@ fn walk<H: LogHash<32>, E: AscendingEntries>(
     }
     let (below, first) = (layer - 1, 2 * slot);
     let left = walk::<H, E>(size, entries, sent, below, first, cursor);
-    if !is_node(size, NodeId { layer: below, slot: first + 1 }) {
+    if !is_node(
+        size,
+        NodeId {
+            layer: below,
+            slot: first + 1,
+        },
+    ) {
         return left;
     }
     let right = walk::<H, E>(size, entries, sent, below, first + 1, cursor);

@@ -1,7 +1,7 @@
 -- The lowest slot under a node, and the rows that are compared with its rows.
 use Rattle.std.proofs.Common.{◌++◌, All, ◌≡◌, ◌≢◌, ℕ, zero, suc, ◌+◌, ◌-◌, ◌/◌, ◌^◌, ◌<◌, ◌≤◌, Bool, true, false, eqb}
 use Rattle.std.proofs.Common.{List, [], ◌∷◌, map, refl, ap, sym, ◌∙◌, arith, inl, inr, length, filter, get_or, eq-eqb}
-use Rattle.std.proofs.Common.{Option, None, Some, Vec, drop, drop-cons, add-one}
+use Rattle.std.proofs.Common.{Option, None, Vec, drop, drop-cons, add-one}
 use Rattle.std.proofs.lemmas.Grind.{common_steps}
 use Rattle.std.proofs.lemmas.Bool.{cases_Bool, eqb-true, false_from_ne_true, ne_eqb, true≢false, cases_lt}
 use Rattle.std.proofs.lemmas.List.Folds.{list_any_at}

@@ -1,12 +1,10 @@
 -- What it says that indices, or the widths of rows, are not refused.
-use Rattle.std.proofs.Common.{◌≡◌, ℕ, zero, suc, ◌+◌, ◌<◌, ◌≤◌, Bool, true, eqb, nat_lt, List, [], ◌∷◌, map, refl, ap}
-use Rattle.std.proofs.Common.{sym, ◌∙◌, arith, inl, inr, length, get_or, All, Option, Some, None, filter, zip}
+use Rattle.std.proofs.Common.{◌≡◌, ℕ, ◌+◌, ◌<◌, eqb, nat_lt, List, [], ◌∷◌, map, refl}
+use Rattle.std.proofs.Common.{arith, length, All, None, zip}
 use Rattle.std.proofs.lemmas.Grind.{common_steps}
-use Rattle.std.proofs.lemmas.Bool.{cases_Bool, cases_eq, cond-true, cond-false, eqb-true, ltb-true, true≢false}
+use Rattle.std.proofs.lemmas.Bool.{eqb-true, ltb-true}
 use Rattle.std.proofs.lemmas.List.{get_or_default, length-map}
-use Rattle.std.specs.Prelude.{Ok}
-use Rattle.std.specs.List.{range_with_len, enumerate_from}
-use Rattle.std.specs.Option.{option_map, option_or}
+use Rattle.std.specs.List.{enumerate_from}
 use Rattle.p3_support.specs.declared.matrix.Dimensions.{Dimensions}
 use Rattle.p3_support.specs.Batches.{greatest, widths_of}
 use Rattle.p3_merkle_core.specs.Refusals.{width_refusal, row_width_refusal, queries_refusal}
