@@ -26,6 +26,7 @@ use Rattle.tlog_multiproof.specs.Instance.{leaf_row, log_functions, log_params, 
 use Rattle.tlog_multiproof.specs.Nodes.{last_word, parent_digest}
 use Rattle.tlog_multiproof.specs.declared.tree.Node.{Node}
 use Rattle.tlog_multiproof.specs.declared.tree.Node.TheVariants.{Absent, Hash}
+use Rattle.tlog_multiproof.proofs.NodeSlots.{as_many}
 use Rattle.tlog_multiproof.proofs.AscentFacts.{boundary_fits, kept_both, sent_is}
 use Rattle.tlog_multiproof.proofs.PaddingFacts.{padded_filled}
 use Rattle.tlog_multiproof.proofs.Restored.{child_filled}
@@ -173,12 +174,15 @@ module _ (hash : HashFunction) (size : ℕ) (indices : List ℕ) (leaves proof :
       ∙ full_group f 2 (left ∷ right ∷ []) refl
 
   module _ (count : length proof ≡ length (proof_nodes size indices)) where
+    slot_count : length proof ≡ length (filter (is_node size) (boundary s indices top))
+    slot_count = count ∙ as_many (filter (is_node size) (boundary s indices top))
+
     -- a second child without entries below it is absent
     pub outside_value : (l j : ℕ) → l < top → is_covered s indices (suc l) j ≡ true → size ≤ (2 * j + 1) * 2 ^ l →
         value l (2 * j + 1) ≡ Absent ∷ []
     outside_value l j low covered past =
         (child_filled hash size indices leaves (with_padding size (boundary s indices top) proof) below paired
-        (padded_filled size (boundary s indices top) proof count) l j 1 low covered (omega arith)
+        (padded_filled size (boundary s indices top) proof slot_count) l j 1 low covered (omega arith)
         (λ y. let inside = covered_inside size indices below l (2 * j + 1) y in absurd (omega arith))).padding past
 
     -- an uncovered node has the digest of its place in the proof
@@ -231,7 +235,7 @@ module _ (hash : HashFunction) (size : ℕ) (indices : List ℕ) (leaves proof :
         let last : length (filter node rest) ≡ suc (length (filter node (after ++ above))) =
         rw both.1 refl in
         let total : length proof ≡ length (filter node before) + length (filter node rest) =
-        count ∙ ap (λ xs. length (filter node xs)) whole
+        slot_count ∙ ap (λ xs. length (filter node xs)) whole
         ∙ ap length (filter-append node before rest)
         ∙ length-append (filter node before) (filter node rest) in
         let more : length (filter node before) < length proof = omega arith in

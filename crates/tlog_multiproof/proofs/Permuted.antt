@@ -16,6 +16,7 @@ use Rattle.p3_merkle_core.proofs.Pruned.SlotFacts.{all_below}
 use Rattle.p3_merkle_core.proofs.Checks.OneHeightFacts.{leaf_words}
 use Rattle.p3_support.specs.Batches.{greatest}
 use Rattle.tlog.specs.Rfc9162.{Hash as HashFunction}
+use Rattle.tlog_multiproof.specs.Instance.{nodes_at}
 use Rattle.tlog_multiproof.specs.Entries.{entries_opening, entries_refusal, form_refusal, is_node}
 use Rattle.tlog_multiproof.specs.Entries.{is_one_leaf_each, proof_nodes, with_padding}
 use Rattle.tlog_multiproof.specs.Instance.{leaf_row, log_functions, log_params, log_shape}
@@ -96,7 +97,7 @@ module _ (size : ℕ) (indices : List ℕ) (leaves : List (List ℕ)) (others : 
       ap (λ covered. boundary_of covered t) all
 
   same_nodes : proof_nodes size indices ≡ proof_nodes size others
-  same_nodes = ap (filter (is_node size)) (same_boundary (levels s))
+  same_nodes = ap (λ slots. nodes_at (filter (is_node size) slots)) (same_boundary (levels s))
 
   same_within : 0 < length indices → nat_lt (greatest indices) size ≡ nat_lt (greatest others) size
   same_within some =

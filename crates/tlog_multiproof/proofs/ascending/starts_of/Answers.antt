@@ -8,6 +8,7 @@ use Rattle.p3_merkle_core.specs.Pruning.{boundary}
 use Rattle.tlog_multiproof.specs.Entries.{is_node}
 use Rattle.tlog_multiproof.specs.Inner.Ascents.{AreUsed, IsReached, sent_before}
 use Rattle.tlog_multiproof.specs.Instance.{log_shape}
+use Rattle.tlog_multiproof.proofs.NodeSlots.{as_many}
 use Rattle.tlog_multiproof.proofs.AscentFacts.{few_before, starts_bound, starts_next, used_start}
 use Rattle.tlog_multiproof.proofs.AscentStands.{root_covered, stands_start}
 use Rattle.tlog_multiproof.proofs.ascending.starts_of.Goals as goal
@@ -86,3 +87,4 @@ returns-clause-count g c =
     omega (arith, c.loop-layer-test.false, c.loop-layer.auto.layer-end, c.requires.top) in
     c.loop-layer.invariant.total
     ∙ ap (λ l. length (filter (is_node size) (boundary (log_shape size) indices l))) top
+    ∙ sym (as_many (filter (is_node size) (boundary (log_shape size) indices (levels (log_shape size)))))
