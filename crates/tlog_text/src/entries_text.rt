@@ -11,7 +11,7 @@ ghost use Rattle.tlog_text.specs.declared.error.TextError.TheVariants.{OutOfMemo
 
 use crate::entries::head_of;
 use crate::error::{Expected, Stop, TextError, error_of, missing};
-use crate::line::{cut_at, digests_by, ended, number_by, skip_line};
+use crate::line::{check_end, cut_at, read_digests, read_number, skip_line};
 use std::alloc::Global;
 
 /// Entries of a log, which stand in the text of their proof, with the digests that prove all of them.
@@ -130,11 +130,11 @@ fn entries_text_by(alloc: Global, text: &[u8]) -> Result<EntriesText<'_>, Stop>
     ensures stop { IfErr result (λ stop. (stop ≡ Memory) ⊎ (entries_by text.now ≡ Err stop)) }
 {
     let left = skip_line(text, Expected::ProofVersion)?;
-    let (count, text) = number_by(left, b"entries ", Expected::EntryCount)?;
+    let (count, text) = read_number(left, b"entries ", Expected::EntryCount)?;
     let left = skip_entries(text, count)?;
-    let (digest_count, left) = number_by(left, b"digests ", Expected::DigestCount)?;
-    let (digests, left) = digests_by(alloc, left, false, digest_count)?;
-    ended(left)?;
+    let (digest_count, left) = read_number(left, b"digests ", Expected::DigestCount)?;
+    let (digests, left) = read_digests(alloc, left, false, digest_count)?;
+    check_end(left)?;
     Ok(EntriesText {
         text,
         count,

@@ -11,10 +11,10 @@ not_ended : {V : Type 0} (v : V) (left : List ℕ) (stop : Stop) → Err stop �
 not_ended v [] stop is = cc
 not_ended v (b ∷ left) stop is = cc
 
-pub returns-in_err-ended-clause-stop : goal.returns-in_err-ended-clause-stop
+pub returns-in_err-check_end-clause-stop : goal.returns-in_err-check_end-clause-stop
 unfolding entries_by
-returns-in_err-ended-clause-stop c =
-    let left = err_from_is_err_and c.from_residual-in_err-ended.result c.from_residual-in_err-ended.ensures.1 in
+returns-in_err-check_end-clause-stop c =
+    let left = err_from_is_err_and c.from_residual-in_err-check_end.result c.from_residual-in_err-check_end.ensures.1 in
     let first = rest_ok _ _ (sym c.in_ok-left.ensures) in
     let entries = rest_ok _ _ (sym c.in_ok-left-2.ensures) in
     rw (left.1, left.2) (inr (rw (
@@ -23,7 +23,7 @@ returns-in_err-ended-clause-stop c =
       entries.1,
       ← c.in_ok-digest_count.ensures,
       c.in_ok-digests.ensures.read,
-    ) (not_ended _ _ _ c.in_err-ended.ensures)))
+    ) (not_ended _ _ _ c.in_err-check_end.ensures)))
 
 pub returns-clause-read : goal.returns-clause-read
 unfolding entries_by

@@ -2,20 +2,18 @@
 
 //! The digests of a proof of several entries, and the pruned opening of a log's tree that they give.
 
-use crate::erased::p3_merkle_core::covered_nodes::Covered;
-use crate::erased::p3_merkle_core::geometry::MAX_HEIGHT;
 use crate::erased::p3_merkle_core::pruning::{
     PrunedBatchOpening, PrunedProof, PrunedRows, check_indices, distinct_indices,
 };
-use crate::erased::p3_merkle_core::schedule::schedule_of;
+use crate::erased::tlog::SIZE_LIMIT;
 use crate::erased::tlog_multiproof::error::EntriesError;
-use crate::erased::tlog_multiproof::tree::{Node, dimensions_of};
+use crate::erased::tlog_multiproof::tree::Node;
+use crate::erased::tlog_tree::NodeId;
 use crate::fallible::{AllocError, VecExt, try_list};
 use alloc::vec::Vec;
 
 /// The nodes whose values are the proof of the entries at these indices, counted from 0, in a log of `size` entries, in
-/// the order of the proof: their layers and slots, as a `TreeBuilder` takes them. The size must be from 1 to 2^62, and
-/// each index below it.
+/// the order of the proof, as a `TreeBuilder` takes them. The size must be from 1 to 2^62, and each index below it.
 ///
 /// # Errors
 ///
@@ -26,48 +24,59 @@ use alloc::vec::Vec;
 /// - By `some` unless `0 < size`.
 /// - By `limit` unless `size <= crate::tlog::SIZE_LIMIT`.
 /// - By `within` unless `indices.iter().all(|&index| index < size)`.
-pub fn entry_places(indices: &[usize], size: usize) -> Result<Vec<(usize, usize)>, AllocError> {
+pub fn entry_nodes(indices: &[usize], size: usize) -> Result<Vec<NodeId>, AllocError> {
     assert!(0 < size, "some");
     assert!(size <= crate::tlog::SIZE_LIMIT, "limit");
     assert!(indices.iter().all(|&index| index < size), "within");
-    let slots = boundary_slots(size, indices)?;
-    let mut places = Vec::new();
-    for slot in &slots {
-        if is_node(size, *slot) {
-            places.try_push(*slot)?;
+    let boundary = boundary_nodes(size, indices)?;
+    let mut nodes = Vec::new();
+    for node in &boundary {
+        if is_node(size, *node) {
+            nodes.try_push(*node)?;
         }
     }
-    Ok(places)
+    Ok(nodes)
 }
 
-/// Whether a slot, given by its layer and its place there, is a node: whether it has entries below it.
-pub(crate) fn is_node(size: usize, slot: (usize, usize)) -> bool {
-    slot.1 <= (size - 1) >> slot.0
+/// Whether a node has entries below it; in the slot of any other is padding.
+pub(crate) fn is_node(size: usize, node: NodeId) -> bool {
+    node.slot <= (size - 1) >> node.layer
 }
 
-/// The slots whose digests a proof of some entries has, each by its layer and its place there: layer by layer from the
-/// leaves, ascending, padding included.
-fn boundary_slots(size: usize, indices: &[usize]) -> Result<Vec<(usize, usize)>, AllocError> {
-    let dimensions = dimensions_of(size);
-    let schedule = schedule_of(&dimensions, 2);
-    let mut covered = Covered::new(&schedule, indices, distinct_indices(indices)?);
-    let mut slots = Vec::new();
-    for layer in 0..schedule.num_levels {
-        push_uncovered(&mut slots, layer, &covered.nodes)?;
-        covered.climb();
+/// The boundary of some entries, padding included: the siblings of entries and of nodes above entries that are neither
+/// themselves, layer by layer from the leaves, ascending.
+fn boundary_nodes(size: usize, indices: &[usize]) -> Result<Vec<NodeId>, AllocError> {
+    let mut covered = distinct_indices(indices)?;
+    let mut nodes = Vec::new();
+    let mut layer = 0;
+    // The slot of the layer's last node. The root is the only one of its layer.
+    let mut last = size - 1;
+    while last > 0 {
+        push_uncovered(&mut nodes, layer, &covered)?;
+        climb(&mut covered);
+        layer += 1;
+        last /= 2;
     }
-    Ok(slots)
+    Ok(nodes)
 }
 
-/// Adds the siblings of the covered nodes of a layer that are not covered, in order. The covered nodes ascend.
-fn push_uncovered(slots: &mut Vec<(usize, usize)>, layer: usize, covered: &[usize]) -> Result<(), AllocError> {
-    for node in covered {
-        let sibling = if *node % 2 == 0 { *node + 1 } else { *node - 1 };
+/// Adds the siblings of the covered slots of a layer that are not covered, in order. The covered slots ascend.
+fn push_uncovered(nodes: &mut Vec<NodeId>, layer: usize, covered: &[usize]) -> Result<(), AllocError> {
+    for slot in covered {
+        let sibling = if *slot % 2 == 0 { *slot + 1 } else { *slot - 1 };
         if covered.binary_search(&sibling).is_err() {
-            slots.try_push((layer, sibling))?;
+            nodes.try_push(NodeId { layer, slot: sibling })?;
         }
     }
     Ok(())
+}
+
+/// Replaces the covered slots of a layer, which ascend, by those of the layer above: their parents, each once.
+fn climb(covered: &mut Vec<usize>) {
+    for slot in covered.iter_mut() {
+        *slot /= 2;
+    }
+    covered.dedup();
 }
 
 /// The opening of some entries by their leaf hashes and the digests of a proof, where padding is absent.
@@ -78,14 +87,14 @@ pub(crate) fn opening_of(
     proof: &[[u8; 32]],
 ) -> Result<PrunedBatchOpening<Node, Node, 1>, EntriesError> {
     check_form(size, indices, leaves.len())?;
-    let slots = boundary_slots(size, indices)?;
-    let sibling_hashes = with_padding(size, &slots, proof)?;
+    let nodes = boundary_nodes(size, indices)?;
+    let sibling_hashes = with_padding(size, &nodes, proof)?;
     Ok(PrunedRows { opened_values: rows_of(leaves)?, pruned_proof: PrunedProof { sibling_hashes } })
 }
 
 /// Checks the size, the indices and the number of leaf hashes.
 fn check_form(size: usize, indices: &[usize], num_leaves: usize) -> Result<(), EntriesError> {
-    if size > MAX_HEIGHT {
+    if size > SIZE_LIMIT {
         return Err(EntriesError::SizeTooLarge);
     }
     if indices.is_empty() {
@@ -100,13 +109,13 @@ fn check_form(size: usize, indices: &[usize], num_leaves: usize) -> Result<(), E
     Ok(())
 }
 
-/// The digests of these slots, each by its layer and its place there, where the proof has those of the nodes.
-fn with_padding(size: usize, slots: &[(usize, usize)], proof: &[[u8; 32]]) -> Result<Vec<[Node; 1]>, EntriesError> {
+/// The digests of these nodes, padding included, where the proof has those of the others.
+fn with_padding(size: usize, nodes: &[NodeId], proof: &[[u8; 32]]) -> Result<Vec<[Node; 1]>, EntriesError> {
     let mut digests = Vec::new();
     let mut used = 0;
-    for slot in slots {
+    for node in nodes {
         let mut word = Node::Absent;
-        if is_node(size, *slot) {
+        if is_node(size, *node) {
             if used == proof.len() {
                 return Err(EntriesError::TooFewDigests);
             }
