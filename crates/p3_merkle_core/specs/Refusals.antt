@@ -1,6 +1,6 @@
 -- Why an opening is refused: the first reason that applies.
 use Rattle.std.specs.Prelude.{◌≡◌, ℕ, suc, false, slice_get, ◌==◌, ◌&&◌, nat_lt, Bool, if◌then◌else◌, List, [], ◌∷◌}
-use Rattle.std.specs.Prelude.{length, filter, zip, unwrap_or, option_map, slice_index, slice_index_or, Option}
+use Rattle.std.specs.Prelude.{◌-◌, ◌^◌, length, min, filter, zip, unwrap_or, option_map, slice_index, slice_index_or, Option}
 use Rattle.std.specs.Prelude.{None, Result, Decides}
 use Rattle.std.specs.List.{list_all, range_with_len, enumerate_from}
 use Rattle.std.specs.Option.{option_or}
@@ -61,9 +61,13 @@ matrices_at s l =
 abbrev pub size_refusal : ℕ → ℕ → Option MerkleTreeError
 size_refusal expected got = unless (expected == got) (WrongBatchSize expected got)
 
+-- a number, or the greatest usize where it is above that
+abbrev pub in_usize : ℕ → ℕ
+in_usize n = min n (2 ^ 64 - 1)
+
 -- the refusal of a row that has not the width w of matrix m
 abbrev pub width_fault : {T : Type 0} → ℕ × (ℕ × List T) → Option MerkleTreeError
-width_fault (m, (w, row)) = unless (w == length row) (WrongWidth m w (length row))
+width_fault (m, (w, row)) = unless (w == length row) (WrongWidth m w (in_usize (length row)))
 
 -- the first row that has not the width of its matrix
 abbrev pub row_width_refusal : {T : Type 0} → List ℕ → List (List T) → Option MerkleTreeError
