@@ -7,6 +7,7 @@ use Rattle.std.proofs.lemmas.List.Sums.{position_or_len_is}
 use Rattle.std.specs.Prelude.{Ok}
 use Rattle.std.specs.List.{AllZip, enumerate_from, position_or_len}
 use Rattle.std.specs.Option.{option_map, option_or}
+use Rattle.p3_support.specs.Batches.{CanWiden}
 use Rattle.p3_support.specs.Batches.{widths_of}
 use Rattle.p3_support.specs.declared.matrix.Dimensions.{Dimensions}
 use Rattle.p3_merkle_tree.specs.Checks.{IsAccepted, Params}
@@ -19,7 +20,7 @@ use Rattle.p3_merkle_tree.specs.Pruning.{IsPrunedAccepted, PrunedOpening}
 use Rattle.p3_merkle_tree.specs.Refusals.{IsEquality}
 use Rattle.p3_merkle_tree.specs.Refusals.{pruned_refusal_under, refusal_under, width_fault}
 use Rattle.p3_answers.specs.Answers.{first_of, ok_unless}
-use Rattle.p3_merkle_tree.specs.SaltedOpenings.{CanWiden, HaveSalts, IsSaltedAccepted, IsSaltedPrunedAccepted}
+use Rattle.p3_merkle_tree.specs.SaltedOpenings.{HaveSalts, IsSaltedAccepted, IsSaltedPrunedAccepted}
 use Rattle.p3_merkle_tree.specs.SaltedOpenings.{SaltedOpening, SaltedPruned, joined, joined_sets}
 use Rattle.p3_merkle_tree.specs.SaltRefusals.{first_too_wide, salt_refusal, salted_refusal_under}
 use Rattle.p3_merkle_tree.specs.SaltRefusals.{salted_pruned_refusal_under, widening_refusal}

@@ -2,6 +2,7 @@
 use Rattle.std.proofs.Common.{◌≡◌, ◌*◌, ◌+◌, ◌<◌, ℕ, List, [], ◌∷◌, ap, refl}
 use Rattle.std.specs.Prelude.{All, Err, IfErr, None, Ok, Result, slice_index}
 use Rattle.std.proofs.lemmas.List.Elements.{All-head}
+use Rattle.p3_support.specs.Batches.{widened}
 use Rattle.rand_core.specs.Stream.{Stream}
 use Rattle.p3_support.specs.Batches.{heights_of}
 use Rattle.p3_support.specs.Salts.{after_words}
@@ -11,7 +12,6 @@ use Rattle.p3_merkle_tree.specs.MerkleTreeError.TheVariants.{OutOfMemory}
 use Rattle.p3_merkle_tree.specs.Nodes.{Matrix, dimensions_of}
 use Rattle.p3_merkle_tree.specs.Presented.{IsVerdict, Presented}
 use Rattle.p3_merkle_tree.specs.Salted.{salted_matrices}
-use Rattle.p3_merkle_tree.specs.SaltedOpenings.{widened}
 use Rattle.end_to_end.proofs.RefusalFacts.{memory_alone}
 
 -- salted matrices are so much wider

@@ -79,7 +79,8 @@ pub(crate) fn size_and_root(log: &ReadLog) -> (usize, [u8; 32])
     (frontier.size(), frontier.root())
 }
 
-/// Checks that so many entries with this root are those of a checkpoint.
+/// Checks that `size` entries with this root are those of the checkpoint: `TooFewEntries` if the checkpoint has another
+/// number of entries, which is then greater, since no more are read; `OtherEntries` if the roots differ.
 fn check_tree(checkpoint: &Checkpoint, size: usize, root: &[u8; 32]) -> Result<(), Error>
     ensures { Checks result (tree_refusal (checkpoint_fields checkpoint.now) size root.now) }
 {

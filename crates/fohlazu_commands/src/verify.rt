@@ -77,7 +77,7 @@ fn is_compared(requested: &Requested) -> bool
     !matches!(requested, Requested::Any)
 }
 
-/// Checks that entries are the requested ones of a log of so many, in their order.
+/// Checks that the proof's entries are the requested ones, in their order, of a log of `size` entries.
 fn check_requested(
     alloc: Global,
     requested: &Requested,
@@ -91,7 +91,7 @@ fn check_requested(
     match requested {
         Requested::Any => Ok(()),
         Requested::All => {
-            // One number more than there are entries shows whether one is missing.
+            // `size` may be 2^62: one number more than the proof has entries is enough to show that one is missing.
             let count = size.min(proof.count.saturating_add(1));
             check_numbers(&all_numbers(alloc, count)?, proof.entries())
         }

@@ -12,3 +12,4 @@ pub mod SiblingFacts
 pub mod CapFacts
 pub mod QuotientFacts
 pub mod OneHeight
+pub mod Widened

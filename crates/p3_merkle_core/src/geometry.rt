@@ -3,8 +3,9 @@
 //! Heights are lawful if each is the tallest one halved, and each time rounded up, some number of times. The slots of a
 //! layer are its nodes, then default digests as padding.
 
-ghost use Rattle.std.specs.Prelude.{◌≡◌, ◌/◌, ◌%◌, ◌^◌, ◌<◌, ◌≤◌, Some, None, MatchResult, map};
-ghost use Rattle.p3_support.specs.Batches.{heights_of, greatest};
+ghost use Rattle.std.specs.Prelude.{◌≡◌, ◌/◌, ◌%◌, ◌^◌, ◌<◌, ◌≤◌, Some, None, MatchResult, ◌==◌, ◌+◌, map};
+ghost use Rattle.p3_support.specs.Batches.{heights_of, greatest, widened, CanWiden};
+ghost use Rattle.p3_support.specs.Rows.{rows_in};
 ghost use Rattle.p3_merkle_core.specs.Geometry.{bits_reduced, exponent, height_at, height_limit, padded_len};
 ghost use Rattle.p3_merkle_core.specs.Gate.{first_too_large};
 ghost use Rattle.p3_merkle_core.specs.Refusals.{width_refusal};
@@ -12,6 +13,7 @@ ghost use Rattle.p3_merkle_core.specs.Inner.Shapes.{shortest};
 
 use crate::error::MerkleTreeError;
 use p3_support::matrix::Dimensions;
+use p3_support::row_parts::RowParts;
 
 /// The greatest height of a matrix, in rows: 2^62. It keeps the slots of all layers within `usize`.
 pub const MAX_HEIGHT: usize = 1 << 62;
@@ -96,21 +98,51 @@ pub fn check_widths<T>(dimensions: &[Dimensions], rows: &[Vec<T>]) -> Result<(),
     ensures { MatchResult result (λ ok. width_refusal dimensions.now (map (λ r. r.items) rows.now) ≡ None)
         (λ e. width_refusal dimensions.now (map (λ r. r.items) rows.now) ≡ Some e) }
 {
-    let (expected, got) = (dimensions.len(), rows.len());
+    check_row_widths(dimensions, 0, RowParts::Vecs(rows))
+}
+
+/// Checks that there is one row for each matrix, and that each is as wide as its matrix with `salt_elems` salts.
+///
+/// # Errors
+///
+/// The first of these that applies:
+///
+/// - `WrongBatchSize` if the number of rows is not that of the matrices;
+/// - `WrongWidth` for the first row whose length is not the width of its matrix with its salts. Where a row has more
+///   words than `usize` can count, as words of no size can be, `got` is `usize::MAX`.
+pub fn check_row_widths<T>(
+    dimensions: &[Dimensions],
+    salt_elems: usize,
+    mut rows: RowParts<'_, T>,
+) -> Result<(), MerkleTreeError>
+    requires { 0 < salt_elems → CanWiden salt_elems dimensions.now }
+    ensures { let refusal = width_refusal (widened salt_elems dimensions.now) (rows_in rows.entry) in
+        MatchResult result (λ ok. refusal ≡ None) (λ e. refusal ≡ Some e) }
+{
+    let (expected, got) = (dimensions.len(), rows.num_rows());
     if got != expected {
         return Err(MerkleTreeError::WrongBatchSize { expected, got });
     }
-    for matrix in 0..dimensions.len() {
-        let (expected, got) = (dimensions[matrix].width, rows[matrix].len());
-        if got != expected {
+    let mut matrix = 0;
+    while let Some((first, second)) = rows.next_row() {
+        let expected = dimensions[matrix].width + salt_elems;
+        if !has_width(expected, first.len(), second.len()) {
             return Err(MerkleTreeError::WrongWidth {
                 matrix,
                 expected,
-                got,
+                got: first.len().saturating_add(second.len()),
             });
         }
+        matrix += 1;
     }
     Ok(())
+}
+
+/// Whether two parts of a row have `width` words together, which may be more than `usize` can count.
+fn has_width(width: usize, first: usize, second: usize) -> bool
+    ensures { result ≡ (width == first + second) }
+{
+    first <= width && second == width - first
 }
 
 /// How many slots a layer of `len` nodes has: `len` if that is at most 1, else the least multiple of `arity` that is

@@ -188,7 +188,7 @@ impl<
         let mut layers = Vec::with_capacity(alloc, self.schedule.num_levels + 1)?;
         layers.push(leaves)?;
         for below in 0..self.schedule.num_levels {
-            let level = self.schedule.level_from(below, exponent, len);
+            let level = self.schedule.layer_above(below, exponent, len);
             let nodes = layers[below].as_slice();
             lemma_children(self.schedule, &level, nodes);
             let layer = self.next_layer(alloc, &mut picked, &mut buffers, level, nodes)?;

@@ -1,6 +1,7 @@
 -- What the plain commitment to pairs says of the salted matrices.
 use Rattle.std.proofs.Common.{◌≡◌, ◌⊎◌, ◌*◌, ◌+◌, ℕ, List, [], ◌∷◌, ap, refl, inl, Result}
 use Rattle.std.specs.Prelude.{Ok, Err, IfErr, IfOk, IsErr, OnOk}
+use Rattle.p3_support.specs.Batches.{widened}
 use Rattle.rand_core.specs.Stream.{Stream}
 use Rattle.p3_support.specs.Salts.{after_words}
 use Rattle.p3_support.specs.declared.matrix.Dimensions.{Dimensions}
@@ -8,7 +9,6 @@ use Rattle.p3_merkle_core.specs.Nodes.{Matrix, dimensions_of}
 use Rattle.p3_merkle_core.specs.declared.error.MerkleTreeError.{MerkleTreeError}
 use Rattle.p3_merkle_core.specs.declared.error.MerkleTreeError.TheVariants.{OutOfMemory}
 use Rattle.p3_merkle_tree.specs.Salted.{salted_matrices}
-use Rattle.p3_merkle_tree.specs.SaltedOpenings.{widened}
 
 -- salted matrices are so much wider
 pub salted_widened : {T : Type 0} (of_word : ℕ → T) (e : ℕ) (ms : List (Matrix T)) (s : Stream) →

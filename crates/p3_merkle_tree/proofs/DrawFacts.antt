@@ -5,12 +5,12 @@ use Rattle.std.proofs.lemmas.Bool.{cases_lt, lt-ltb, le-ltb}
 use Rattle.std.proofs.lemmas.List.{drop_all, map-append, take-map}
 use Rattle.std.proofs.Math.Nat.{mul-le-mul_right}
 use Rattle.std.proofs.Math.Seq.{take-append_seam, take-nil}
+use Rattle.p3_support.specs.Batches.{CanWiden}
 use Rattle.rand_core.specs.Stream.{Stream}
 use Rattle.p3_support.specs.Lists.{message}
 use Rattle.p3_support.specs.Salts.{after_words, salts}
 use Rattle.p3_merkle_core.specs.Nodes.{Matrix, dimensions_of}
 use Rattle.p3_merkle_tree.specs.Salted.{IsAfterSome, after_salts, salted, salted_matrices}
-use Rattle.p3_merkle_tree.specs.SaltedOpenings.{CanWiden}
 
 -- the first of some matrices that can be wider can be, and so can the others
 pub first_fits : {T : Type 0} (e : ℕ) (m : Matrix T) (ms all : List (Matrix T)) → all ≡ m ∷ ms →

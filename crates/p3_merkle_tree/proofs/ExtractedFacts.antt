@@ -5,6 +5,7 @@ use Rattle.std.specs.Option.{option_map, option_or, unwrap_or}
 use Rattle.std.specs.Result.{result_err, result_map_both}
 use Rattle.std.specs.declared.default.Default as default
 use Rattle.std.specs.declared.cmp.PartialEq as equality
+use Rattle.p3_support.specs.Batches.{widened}
 use Rattle.p3_support.specs.declared.compress.PseudoCompressionFunction as compressor
 use Rattle.p3_support.specs.declared.hasher.CryptographicHasher as hasher
 use Rattle.p3_support.specs.declared.packed.PackedValue as packed
@@ -24,7 +25,7 @@ use Rattle.p3_merkle_tree.specs.Schemes.{cap_height_of, cap_rule_of, params_of}
 use Rattle.p3_merkle_tree.proofs.VerdictFacts.{verdict_by}
 use Rattle.p3_merkle_tree.specs.HidingSchemes.{plain_of}
 use Rattle.p3_merkle_tree.specs.SaltedOpenings.{IsSaltedAccepted, IsSaltedPrunedAccepted, SaltedOpening}
-use Rattle.p3_merkle_tree.specs.SaltedOpenings.{SaltedPruned, joined, joined_sets, widened}
+use Rattle.p3_merkle_tree.specs.SaltedOpenings.{SaltedPruned, joined, joined_sets}
 use Rattle.p3_merkle_tree.specs.SaltRefusals.{salted_rows_refusal, salted_sets_refusal}
 use Rattle.p3_merkle_tree.specs.declared.hiding_mmcs.HidingScheme.{HidingScheme}
 use Rattle.p3_merkle_tree.proofs.SaltedAnswers.{salted_presentation, salted_pruned_presentation}

@@ -8,6 +8,7 @@ use Rattle.std.proofs.lemmas.List.{get_or-map, map-append}
 use Rattle.std.specs.List.{position_from}
 use Rattle.std.specs.Option.{option_map, option_or}
 use Rattle.std.specs.declared.vec.Vec.{Vec}
+use Rattle.p3_support.specs.Batches.{CanWiden}
 use Rattle.p3_support.specs.declared.matrix.Dimensions.{Dimensions}
 use Rattle.p3_support.specs.Batches.{widths_of}
 use Rattle.p3_support.specs.Shown.{row_lists, row_sets}
@@ -17,7 +18,6 @@ use Rattle.p3_merkle_core.specs.declared.error.MerkleTreeError.TheVariants.{TooL
 use Rattle.p3_answers.proofs.AnswerFacts.{map_none}
 use Rattle.p3_merkle_core.proofs.Pruned.Unrefused.{size_none}
 use Rattle.p3_merkle_tree.specs.SaltRefusals.{first_too_wide, salt_refusal, salt_sets_refusal, widening_refusal}
-use Rattle.p3_merkle_tree.specs.SaltedOpenings.{CanWiden}
 
 -- where either list is at its end, so is either of what it shows
 pub shown_end : {A B C D : Type 0} (f : A → C) (g : B → D) (xs : List A) (ys : List B) → (xs ≡ []) ⊎ (ys ≡ []) →

@@ -1,6 +1,7 @@
 -- What the answers of the salted calls say in the words of the trait.
 use Rattle.std.proofs.Common.{◌≡◌, ℕ, List, Result, None, inl, inr, map, subst, sym}
 use Rattle.std.specs.Prelude.{Ok, Err, IfErr, IfOk}
+use Rattle.p3_support.specs.Batches.{CanWiden}
 use Rattle.p3_merkle_core.specs.Refusals.{AnswersUnlessMemory}
 use Rattle.p3_merkle_core.specs.Views.{matrix_of}
 use Rattle.p3_merkle_core.specs.Gate.{gate_refusal}
@@ -14,7 +15,6 @@ use Rattle.p3_merkle_core.proofs.Lists.ViewFacts.{dimensions_are}
 use Rattle.p3_merkle_tree.proofs.SaltFacts.{widening}
 use Rattle.p3_merkle_tree.specs.SaltRefusals.{salted_commit_refusal, widening_refusal}
 use Rattle.p3_merkle_tree.specs.SaltedCommitments.{CanCommitSalted}
-use Rattle.p3_merkle_tree.specs.SaltedOpenings.{CanWiden}
 
 module _ {T M : Type 0} (height width : M → ℕ) (row : M → ℕ → List T) (e : ℕ) (ms : List M) where
   -- matrices are refused exactly if they can't be committed to

@@ -5,6 +5,7 @@ use Rattle.std.proofs.lemmas.Bool.{lt-ltb}
 use Rattle.std.proofs.lemmas.List.{drop_at, get_or_default, length-map, take-append-drop, take_at}
 use Rattle.std.proofs.lemmas.Simd.{map-map}
 use Rattle.std.specs.List.{AllZip}
+use Rattle.p3_support.specs.Batches.{widened, CanWiden}
 use Rattle.p3_support.specs.declared.matrix.Matrix.{Ghosts}
 use Rattle.p3_support.specs.declared.pair.HorizontalPair.{HorizontalPair}
 use Rattle.p3_support.specs.Pairs.{left_of, pair_row, right_of}
@@ -17,8 +18,8 @@ use Rattle.p3_merkle_core.specs.Pruning.{pruned_of, IsPrunedAccepted}
 use Rattle.p3_merkle_core.specs.Openings.{honest_rows, opening_of}
 use Rattle.p3_merkle_core.specs.Checks.{IsAccepted, Params}
 use Rattle.p3_merkle_prover.proofs.RowFacts.{row_inside}
-use Rattle.p3_merkle_tree.specs.SaltedOpenings.{CanWiden, HaveSalts, IsSaltedAccepted, IsSaltedPrunedAccepted}
-use Rattle.p3_merkle_tree.specs.SaltedOpenings.{SaltedOpening, SaltedPruned, salted_rows, salted_sets, widened}
+use Rattle.p3_merkle_tree.specs.SaltedOpenings.{HaveSalts, IsSaltedAccepted, IsSaltedPrunedAccepted}
+use Rattle.p3_merkle_tree.specs.SaltedOpenings.{SaltedOpening, SaltedPruned, salted_rows, salted_sets}
 use Rattle.p3_merkle_tree.specs.Inner.SaltedParts.{salt_parts, unsalted_parts, pair_matrix}
 use Rattle.p3_merkle_tree.specs.SaltedTrees.{HaveSaltColumns, left_batch, right_batch, unsalted_dimensions}
 

@@ -1,5 +1,6 @@
 -- What a salted scheme commits to, and what is proved under its commitments.
 use Rattle.std.specs.Prelude.{ℕ, List}
+use Rattle.p3_support.specs.Batches.{CanWiden}
 use Rattle.p3_support.specs.Batches.{dimensions_in}
 use Rattle.p3_support.specs.declared.matrix.Dimensions.{Dimensions}
 use Rattle.p3_support.specs.declared.matrix.Matrix.{Ghosts}
@@ -9,7 +10,7 @@ use Rattle.p3_merkle_core.specs.Views.{heights_in}
 use Rattle.p3_merkle_core.specs.Geometry.{IsLawful}
 use Rattle.p3_merkle_core.specs.Nodes.{Batch}
 use Rattle.p3_merkle_core.specs.Checks.{Params}
-use Rattle.p3_merkle_tree.specs.SaltedOpenings.{CanWiden, IsSaltedAccepted, salted_of}
+use Rattle.p3_merkle_tree.specs.SaltedOpenings.{IsSaltedAccepted, salted_of}
 use Rattle.p3_merkle_tree.specs.SaltedTrees.{HaveSaltColumns}
 
 -- matrices that can be committed to with e salts a row: their heights are lawful, and their widths with the salts are

@@ -1,11 +1,12 @@
 -- Salted openings and their refusals, worked out.
 use Rattle.std.specs.Prelude.{◌≡◌, ◌^◌, ◌-◌, ℕ, List, [], ◌∷◌, refl, Some, None}
+use Rattle.p3_support.specs.Batches.{widened}
 use Rattle.p3_support.specs.declared.matrix.Dimensions.{Dimensions}
 use Rattle.p3_merkle_core.specs.Geometry.{exponent}
 use Rattle.p3_merkle_core.specs.declared.error.MerkleTreeError.TheVariants.{EmptyBatch}
 use Rattle.p3_merkle_core.specs.declared.error.MerkleTreeError.TheVariants.{TooLarge, WrongBatchSize, WrongWidth}
 use Rattle.p3_merkle_tree.specs.SaltRefusals.{salted_commit_refusal, salted_rows_refusal, salted_sets_refusal}
-use Rattle.p3_merkle_tree.specs.SaltedOpenings.{salted_rows, widened}
+use Rattle.p3_merkle_tree.specs.SaltedOpenings.{salted_rows}
 use Rattle.p3_merkle_tree.specs.Inner.SaltedParts.{salt_parts, unsalted_parts}
 
 -- one matrix of this width and height

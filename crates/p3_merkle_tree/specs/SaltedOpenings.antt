@@ -1,6 +1,7 @@
 -- Rows followed by their salts, and when openings of such rows are accepted.
 use Rattle.std.specs.Prelude.{◌≡◌, ℕ, ◌+◌, ◌<◌, ◌^◌, List, ◌++◌, map, length, zip, All}
 use Rattle.std.specs.List.{AllZip}
+use Rattle.p3_support.specs.Batches.{CanWiden}
 use Rattle.p3_support.specs.declared.matrix.Dimensions.{Dimensions}
 use Rattle.p3_support.specs.Batches.{widths_of}
 use Rattle.p3_merkle_core.specs.Openings.{Opening, opening_of}
@@ -16,14 +17,6 @@ salted_rows rows salts = map (λ (row, salt). row ++ salt) (zip rows salts)
 -- the same of several queries: a row set and a salt set for each
 abbrev pub salted_sets : {T : Type 0} → List (List (List T)) → List (List (List T)) → List (List (List T))
 salted_sets sets salts = map (λ (rows, salt). salted_rows rows salt) (zip sets salts)
-
--- matrices with e more columns
-abbrev pub widened : ℕ → List Dimensions → List Dimensions
-widened e dimensions = map (λ d. record { width = d.width + e; height = d.height }) dimensions
-
--- each width with e more columns is a usize
-abbrev pub CanWiden : ℕ → List Dimensions → Type 0
-CanWiden e dimensions = All (λ d. d.width + e < 2 ^ 64) dimensions
 
 -- ---- openings
 

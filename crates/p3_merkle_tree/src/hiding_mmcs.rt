@@ -2,6 +2,7 @@
 //! commitment heights and widths are checked, salts are drawn, and the plain scheme commits.
 
 ghost use Rattle.std.specs.Prelude.{◌≡◌, ◌≤◌, ◌⊎◌, IfErr, IfOk, IsOk, IsTrue, OnOk, map};
+ghost use Rattle.p3_support.specs.Batches.{widened, CanWiden};
 ghost use Rattle.p3_support.specs.Batches.{dimensions_in, heights_of};
 ghost use Rattle.p3_support.specs.Pairs.{left_of};
 ghost use Rattle.p3_merkle_core.specs.Geometry.{is_arity, IsLawful};
@@ -10,7 +11,6 @@ ghost use Rattle.p3_merkle_core.specs.Views.{matrix_of};
 ghost use Rattle.p3_merkle_tree.specs.Inner.SaltedParts.{pair_matrix};
 ghost use Rattle.p3_merkle_tree.specs.SaltRefusals.{salted_commit_refusal};
 ghost use Rattle.p3_merkle_tree.specs.Salted.{after_salts, salted_matrices, IsAfterSome};
-ghost use Rattle.p3_merkle_tree.specs.SaltedOpenings.{widened, CanWiden};
 ghost use Rattle.p3_merkle_tree.specs.SaltedTrees.{HaveSaltColumns};
 
 use crate::join::widened_dimensions;

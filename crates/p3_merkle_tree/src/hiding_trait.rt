@@ -1,6 +1,7 @@
 //! The trait `Mmcs` for the salted scheme, so that callers can be generic in the scheme.
 
 ghost use Rattle.std.specs.Prelude.{◌≡◌, ◌⊎◌, ◌<◌, All, IfErr, IfOk, List, map};
+ghost use Rattle.p3_support.specs.Batches.{widened};
 ghost use Rattle.p3_merkle_prover.specs.Parts.{layers_of, matrices_of, tree_batch};
 ghost use Rattle.p3_merkle_core.specs.Commitments.{IsCommitment};
 ghost use Rattle.p3_merkle_core.specs.Geometry.{shape_of, halved_index};
@@ -23,7 +24,7 @@ ghost use Rattle.p3_merkle_tree.specs.Salted.{salted_batch};
 ghost use Rattle.p3_merkle_tree.specs.SaltRefusals.{salted_commit_refusal};
 ghost use Rattle.p3_merkle_tree.specs.SaltRefusals.{salted_pruned_refusal_under, salted_refusal_under};
 ghost use Rattle.p3_merkle_tree.specs.SaltedOpened.{CommitsSalted, Draws, OpensSalted, OpensSaltedPruned};
-ghost use Rattle.p3_merkle_tree.specs.SaltedOpenings.{salted_of, salted_pruned_of, widened, IsSaltedAccepted};
+ghost use Rattle.p3_merkle_tree.specs.SaltedOpenings.{salted_of, salted_pruned_of, IsSaltedAccepted};
 ghost use Rattle.p3_merkle_tree.specs.SaltedOpenings.{IsSaltedPrunedAccepted};
 
 use crate::hiding_mmcs::{MerkleTreeHidingMmcs, SaltedMultiProof, SaltedProof, SaltedTree};

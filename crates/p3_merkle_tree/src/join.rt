@@ -2,10 +2,11 @@
 //! row of each matrix, a salt set one list of salts for each row.
 
 ghost use Rattle.std.specs.Prelude.{◌≡◌, IfOk, MatchResult, None, Some};
+ghost use Rattle.p3_support.specs.Batches.{widened, CanWiden};
 ghost use Rattle.p3_merkle_core.specs.Refusals.{AnswersUnlessMemory};
 ghost use Rattle.p3_merkle_tree.specs.SaltRefusals.{salt_refusal, salted_rows_refusal, salted_sets_refusal};
 ghost use Rattle.p3_merkle_tree.specs.SaltRefusals.{widening_refusal};
-ghost use Rattle.p3_merkle_tree.specs.SaltedOpenings.{salted_rows, salted_sets, widened, CanWiden};
+ghost use Rattle.p3_merkle_tree.specs.SaltedOpenings.{salted_rows, salted_sets};
 ghost use Rattle.p3_support.specs.Shown.{row_lists, row_sets};
 
 use p3_merkle_core::error::MerkleTreeError;

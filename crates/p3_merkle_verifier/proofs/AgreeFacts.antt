@@ -1,14 +1,10 @@
 -- Checks that agree where they share places: where their levels do, of two queries of one pruned opening, and through a
 -- query between two.
 use Rattle.std.proofs.Common.{◌≡◌, ◌∙◌, ◌⊎◌, ℕ, suc, ◌+◌, ◌<◌, ◌≤◌, Bool, true, false, cond, eqb, List, [], ◌∷◌, length}
-use Rattle.std.proofs.Common.{zip, None, ap, sym, refl, arith, inl, inr}
+use Rattle.std.proofs.Common.{None, ap, sym, refl, arith, inl, inr}
 use Rattle.std.specs.Cmp.Lexicographic.{pointwise, pointwise_decides}
-use Rattle.std.specs.List.{flat_map}
 use Rattle.std.specs.Prelude.{slice_index}
 use Rattle.std.proofs.lemmas.Bool.{cases_Bool, cases_eq, eqb-true, eq-eqb, ne_eqb, cond-true, true≢false}
-use Rattle.std.proofs.lemmas.List.{map-id}
-use Rattle.p3_support.specs.Batches.{heights_of}
-use Rattle.p3_support.specs.Shown.{row_lists}
 use Rattle.p3_merkle_core.specs.Geometry.{Shape, IsArity, ancestor, has_rows, leaves_under}
 use Rattle.p3_merkle_core.specs.Nodes.{Functions, padded}
 use Rattle.p3_merkle_core.specs.Openings.{Opening}
@@ -24,13 +20,12 @@ use Rattle.p3_merkle_core.proofs.Covered.Equivalence.{path_reaches, query_covere
 use Rattle.p3_merkle_core.proofs.Collisions.Extracted.{no_difference}
 use Rattle.p3_merkle_core.proofs.Lists.RisingFacts.{div_mono}
 use Rattle.p3_merkle_verifier.specs.Inner.Checks.{AgreeBelow, AgreeOnLevel, IsLevelOfCheck}
-use Rattle.p3_merkle_verifier.specs.Inner.Collisions.{first_rows, first_words, second_rows, second_words}
+use Rattle.p3_merkle_verifier.specs.Inner.Collisions.{first_words, second_words}
 use Rattle.p3_merkle_verifier.specs.Inner.QueryPairs.{query_difference, query_in, AgreesWithAll, IsBetween}
 use Rattle.p3_merkle_verifier.specs.Inner.QueryPairs.{StandsBetween}
 use Rattle.p3_merkle_verifier.specs.declared.extraction.RowPair.{RowPair}
 use Rattle.p3_merkle_verifier.specs.declared.path.PathLevel.{PathLevel}
 use Rattle.p3_merkle_verifier.specs.declared.pruned_extraction.RestoredQueries.{RestoredQueries}
-use Rattle.p3_merkle_verifier.proofs.LevelFacts.{words_read}
 use Rattle.p3_merkle_verifier.proofs.SharedFacts.{meets, so_far_all}
 
 module _ {T W : Type 0} (f : Functions T W) (s : Shape) where
@@ -167,23 +162,16 @@ module _ {T W : Type 0} (f : Functions T W) (s : Shape) (l : ℕ) (o : Opening T
         | inr without ↦ without
       ]
 
--- the same rows have the same words
+-- words that a test finds to be the same are the same
 pub rows_same : {T : Type 0} (eq : T → T → Bool) → IsEquality eq → (rows : RowPair T) →
-    pointwise (pointwise eq) (first_rows rows) (second_rows rows) ≡ true → first_words rows ≡ second_words rows
-rows_same eq dec rows test =
-    let same = (pointwise_decides (pointwise_decides dec) (first_rows rows) (second_rows rows)).0 test in
-    let heights = heights_of rows.dimensions.now in
-    sym (words_read (λ row. row) rows.exponent (zip heights (row_lists rows.first.now)) (first_rows rows)
-    (map-id (first_rows rows)))
-    ∙ ap (flat_map (λ row. row)) same
-    ∙ words_read (λ row. row) rows.exponent (zip heights (row_lists rows.second.now)) (second_rows rows)
-    (map-id (second_rows rows))
+    pointwise eq (first_words rows) (second_words rows) ≡ true → first_words rows ≡ second_words rows
+rows_same eq dec rows test = (pointwise_decides dec (first_words rows) (second_words rows)).0 test
 
 -- levels with one group, and with the same rows above them if there are any, have the same inputs
 pub levels_same : {T W : Type 0} (eq : T → T → Bool) (same : W → W → Bool) → IsEquality eq → IsEquality same →
     (rows : RowPair T) (first second : PathLevel (List W) (List (List W))) →
     pointwise (pointwise same) first.group second.group ≡ true →
-    (first.pair ≡ None) ⊎ (pointwise (pointwise eq) (first_rows rows) (second_rows rows) ≡ true) →
+    (first.pair ≡ None) ⊎ (pointwise eq (first_words rows) (second_words rows) ≡ true) →
     AgreeOnLevel (first_words rows) (second_words rows) first second
 levels_same eq same dec dec_w rows first second group above f s l o u m n a b met =
     let one = (pointwise_decides (pointwise_decides dec_w) first.group second.group).0 group in

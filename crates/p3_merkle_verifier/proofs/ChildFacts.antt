@@ -1,4 +1,4 @@
--- The queries under the covered nodes of a layer, and the nodes' children.
+-- The covered nodes of a layer, and a query under each.
 use Rattle.std.proofs.Common.{◌≡◌, ◌∙◌, ℕ, suc, ◌-◌, ◌/◌, ◌^◌, ◌<◌, ◌≤◌, true, eqb, All, List, [], ◌∷◌, map, refl, ap}
 use Rattle.std.proofs.Common.{sym, arith, length, get_or}
 use Rattle.std.proofs.lemmas.Nat.{pow_pos}

@@ -1,10 +1,8 @@
 -- One level of the check of an opening.
-use Rattle.std.proofs.Common.{insert, ◌≡◌, ℕ, zero, suc, ◌+◌, ◌-◌, ◌%◌, ◌<◌, ◌≤◌, add-suc, Bool, true, false, eqb, List}
-use Rattle.std.proofs.Common.{[], ◌∷◌, refl, ap, sym, ◌∙◌, arith, map, zip, None, Some}
+use Rattle.std.proofs.Common.{insert, ◌≡◌, ℕ, zero, suc, ◌+◌, ◌-◌, ◌%◌, ◌<◌, ◌≤◌, add-suc, Bool, true, false, List}
+use Rattle.std.proofs.Common.{[], ◌∷◌, refl, ap, sym, ◌∙◌, arith, zip, None, Some}
 use Rattle.std.proofs.lemmas.Bool.{cond_both}
-use Rattle.std.proofs.lemmas.List.Folds.{flat_map-map}
-use Rattle.std.specs.List.{filter, flat_map}
-use Rattle.p3_merkle_core.specs.Geometry.{Shape, exponent, has_rows, heights, is_bridge, layer_exponent, shape_of, step}
+use Rattle.p3_merkle_core.specs.Geometry.{Shape, has_rows, heights, is_bridge, layer_exponent, shape_of, step}
 use Rattle.p3_support.specs.declared.matrix.Dimensions.{Dimensions}
 use Rattle.p3_merkle_core.specs.Nodes.{Functions, padded}
 use Rattle.p3_merkle_core.specs.Openings.{Opening}
@@ -13,16 +11,9 @@ use Rattle.p3_merkle_core.proofs.Checks.Completeness.{reached_next}
 use Rattle.p3_merkle_core.proofs.Shapes.SiblingFacts.{siblings_next}
 use Rattle.p3_merkle_core.proofs.Shapes.StepFacts.{anc_next, step_above_1}
 use Rattle.p3_merkle_verifier.specs.Inner.Checks.{CanStep, IsAbove, IsLevelOfCheck, IsPathState, step_siblings}
-use Rattle.p3_merkle_verifier.specs.Inner.Paths.{CanReach, rows_of_exponent}
+use Rattle.p3_merkle_verifier.specs.Inner.Paths.{CanReach}
 use Rattle.p3_merkle_verifier.specs.declared.path.PathState.{PathState}
 use Rattle.p3_merkle_core.proofs.Checks.CheckFacts.{full_group, inputs_with_rows, inputs_alone}
-
--- rows that are read whole, one after another, are the words of these rows
-pub words_read : {T R : Type 0} (now : R → List T) (x : ℕ) (pairs : List (ℕ × List T)) (rows : List R) → map now rows
-    ≡ rows_of_exponent x pairs → flat_map now rows ≡ words_of_exponent x pairs
-words_read now x pairs rows e =
-    sym (flat_map-map (λ row. row) now rows) ∙ ap (flat_map (λ row. row)) e
-    ∙ flat_map-map (λ row. row) (λ (h, row). row) (filter (λ (h, row). eqb (exponent h) x) pairs)
 
 -- a step from layer l, to the exponent of the next layer, and whether matrices belong to that layer
 pub record IsStepFrom (s : Shape) (l n y : ℕ) (has : Bool) : Type 0 where

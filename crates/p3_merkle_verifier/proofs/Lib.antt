@@ -6,6 +6,7 @@ pub mod ExtractFacts
 mod ParentFacts
 mod GroupFacts
 mod OpenedFacts
+mod PartFacts
 mod ChildFacts
 mod LayerFacts
 mod PathFacts

@@ -5,24 +5,23 @@
 //! node and its siblings; and where matrices belong to the layer above, the words of their rows, and a pair of both
 //! digests. Two checks share the leaf or a level if they reach one node there.
 
-ghost use Rattle.std.specs.Prelude.{◌≡◌, zip, IfOk, IsTrue, length, replicate};
+ghost use Rattle.std.specs.Prelude.{◌≡◌, ◌<◌, zip, IfOk, IsTrue, length, replicate};
 ghost use Rattle.std.specs.Cmp.Lexicographic.{pointwise};
 ghost use Rattle.std.specs.Option.{option_or};
-ghost use Rattle.p3_support.specs.Batches.{heights_of};
-ghost use Rattle.p3_support.specs.Shown.{row_lists};
+ghost use Rattle.p3_support.specs.Batches.{heights_of, CanWiden};
+ghost use Rattle.p3_support.specs.Rows.{rows_in};
 ghost use Rattle.p3_merkle_core.specs.Checks.{digests_at, words_at, words_of_exponent};
 ghost use Rattle.p3_merkle_core.specs.Extraction.{difference_of, input_eq, last_difference};
 ghost use Rattle.p3_merkle_core.specs.Geometry.{layer_exponent, shape_of};
 ghost use Rattle.p3_merkle_core.specs.Refusals.{refusal_under, AnswersUnlessMemory, IsEquality};
 ghost use Rattle.p3_merkle_verifier.specs.Inner.Checks.{functions_of, leaf_difference, opening_in, params_in, shape_in};
-ghost use Rattle.p3_merkle_verifier.specs.Inner.Checks.{AgreeBelow, AgreeOnLevel, ShowsLevel};
-ghost use Rattle.p3_merkle_verifier.specs.Inner.{Collisions.first_rows, Collisions.first_words};
-ghost use Rattle.p3_merkle_verifier.specs.Inner.Collisions.{inputs_above, second_rows, second_words, IsDifference};
+ghost use Rattle.p3_merkle_verifier.specs.Inner.Checks.{salted_params_in, AgreeBelow, AgreeOnLevel, ShowsLevel};
+ghost use Rattle.p3_merkle_verifier.specs.Inner.Collisions.{first_words, inputs_above, second_words, IsDifference};
 ghost use Rattle.p3_merkle_verifier.specs.Inner.Collisions.{Shows};
 ghost use Rattle.p3_merkle_verifier.specs.Inner.Paths.{CanReach};
 
 use crate::checker::Checker;
-use crate::openings::{OpenedRows, OpeningRef};
+use crate::openings::{OpenedParts, OpenedWords, OpeningRef};
 use crate::path::PathLevel;
 use p3_merkle_core::collision::{Collision, InputPair, Place};
 use p3_merkle_core::error::MerkleTreeError;
@@ -31,6 +30,7 @@ use p3_support::compress::PseudoCompressionFunction;
 use p3_support::hasher::CryptographicHasher;
 use p3_support::matrix::Dimensions;
 use p3_support::packed::PackedValue;
+use p3_support::row_parts::RowParts;
 use std::alloc::{AllocError, Global};
 
 /// The rows of two openings, to be compared at the matrices of one exponent.
@@ -41,26 +41,19 @@ struct RowPair<'a, T> {
     /// The exponent of those whose rows are compared.
     pub exponent: usize,
     /// The rows of all matrices in the first opening.
-    pub first: &'a [Vec<T>],
+    pub first: RowParts<'a, T>,
     /// The rows of all matrices in the second opening.
-    pub second: &'a [Vec<T>],
+    pub second: RowParts<'a, T>,
 }
 
 impl<'a, T: Eq> RowPair<'a, T> {
-    /// Whether both openings have the same rows of the matrices of the exponent. Nothing is copied.
+    /// Whether both openings have the same words in the rows of the matrices of the exponent. Nothing is copied.
     fn agree(&self) -> bool
-        ensures { result ≡ pointwise (pointwise T.eq) (first_rows self.now) (second_rows self.now) }
+        ensures { result ≡ pointwise T.eq (first_words self.now) (second_words self.now) }
     {
-        let first = OpenedRows {
-            dimensions: self.dimensions,
-            rows: self.first,
-            exponent: self.exponent,
-        };
-        first.eq(OpenedRows {
-            dimensions: self.dimensions,
-            rows: self.second,
-            exponent: self.exponent,
-        })
+        let first = OpenedWords::new(self.dimensions, self.first, self.exponent);
+        let second = OpenedWords::new(self.dimensions, self.second, self.exponent);
+        first.eq(second)
     }
 }
 
@@ -88,25 +81,20 @@ fn differing_digests<T, W: Copy + Eq, const D: usize>(
 fn opened_words<T: Copy + Drop>(
     alloc: Global,
     dimensions: &[Dimensions],
-    rows: &[Vec<T>],
+    rows: RowParts<'_, T>,
     exponent: usize,
 ) -> Result<Vec<T>, AllocError>
-    ensures { let pairs = zip (heights_of dimensions.now) (row_lists rows.now) in
+    ensures { let pairs = zip (heights_of dimensions.now) (rows_in rows.entry) in
         IfOk result (λ words. words.items ≡ words_of_exponent exponent pairs) }
 {
-    let opened = OpenedRows {
-        dimensions,
-        rows,
-        exponent,
-    };
     let mut words = Vec::new(alloc);
-    for row in opened {
-        words.extend_from_slice(row)?;
+    for part in OpenedParts::new(dimensions, rows, exponent) {
+        words.extend_from_slice(part)?;
     }
     Ok(words)
 }
 
-/// The words of rows that two checks hash at `place`, if they differ.
+/// The words of rows that two checks hash at `place`, if they differ. Nothing is copied where they are the same.
 fn differing_words<T: Copy + Eq + Drop, W, const D: usize>(
     alloc: Global,
     place: Place,
@@ -117,15 +105,13 @@ fn differing_words<T: Copy + Eq + Drop, W, const D: usize>(
         IfOk result (λ found. IsDifference found (pointwise T.eq mine theirs)
         (words_at place mine, words_at place theirs)) }
 {
-    let first = opened_words(alloc, rows.dimensions, rows.first, rows.exponent)?;
-    let second = opened_words(alloc, rows.dimensions, rows.second, rows.exponent)?;
-    if first == second {
+    if rows.agree() {
         return Ok(None);
     }
     Ok(Some(InputPair::Words {
         place,
-        first,
-        second,
+        first: opened_words(alloc, rows.dimensions, rows.first, rows.exponent)?,
+        second: opened_words(alloc, rows.dimensions, rows.second, rows.exponent)?,
     }))
 }
 
@@ -270,8 +256,8 @@ impl<
     }
 
     /// The last place that the checks of two openings share and at which they differ, with both inputs. `None` if they
-    /// agree. Both openings must have their siblings up to the cap. It allocates at shared places alone: the rows
-    /// there, and the inputs that differ.
+    /// agree. Both openings must have their siblings up to the cap. Only the inputs of
+    /// places that differ are copied.
     pub(crate) fn last_difference(
         &self,
         alloc: Global,
@@ -317,18 +303,21 @@ impl<
         &self,
         alloc: Global,
         roots: &[[PW::Value; D]],
+        salt_elems: usize,
         first: OpeningRef<'_, P::Value, [PW::Value; D]>,
         second: OpeningRef<'_, P::Value, [PW::Value; D]>,
     ) -> Result<Option<Collision<P::Value, PW::Value, D>>, MerkleTreeError>
-        ensures answer { let refusal = refusal_under PW.Value.eq (params_in self.now) roots.now in
+        requires fits { 0 < salt_elems → CanWiden salt_elems self.now.schedule.dimensions.now }
+        ensures answer { let refusal = refusal_under PW.Value.eq (salted_params_in salt_elems self.now) roots.now in
             AnswersUnlessMemory result
             (option_or (refusal (opening_in first.entry)) (refusal (opening_in second.entry))) }
         ensures found { let o = opening_in first.entry in
-            let difference = difference_of P.Value.eq PW.Value.eq (params_in self.now) o (opening_in second.entry) in
+            let c = salted_params_in salt_elems self.now in
+            let difference = difference_of P.Value.eq PW.Value.eq c o (opening_in second.entry) in
             IfOk result (λ found. Shows found difference) }
     {
-        self.check_opening(roots, first)?;
-        self.check_opening(roots, second)?;
+        self.check_opening(roots, salt_elems, first)?;
+        self.check_opening(roots, salt_elems, second)?;
         Ok(self.last_difference(alloc, first, second)?)
     }
 }

@@ -4,18 +4,21 @@
 ghost use Rattle.std.specs.Prelude.{◌≡◌, ◌<◌, ◌≤◌, All, length, map, zip};
 ghost use Rattle.std.specs.Iterator.{YieldsFirstBy, item_count};
 ghost use Rattle.p3_support.specs.Batches.{greatest, heights_of, widths_of};
-ghost use Rattle.p3_support.specs.Shown.{row_lists, row_sets};
+ghost use Rattle.p3_support.specs.Rows.{parts_of, rows_in};
+ghost use Rattle.p3_support.specs.Shown.{row_sets};
+ghost use Rattle.p3_merkle_core.specs.Checks.{words_of_exponent};
 ghost use Rattle.p3_merkle_core.specs.Geometry.{height_limit, shape_of};
 ghost use Rattle.p3_merkle_core.specs.Inner.Agreement.{opened_of, AreDistinctOf};
 ghost use Rattle.p3_merkle_core.specs.Pruning.{boundary, CanQuery, IsAgreed};
 ghost use Rattle.p3_merkle_verifier.specs.Inner.OpenedRows.{opened_row, HaveRows};
-ghost use Rattle.p3_merkle_verifier.specs.Inner.Paths.{rows_of_exponent};
+ghost use Rattle.p3_merkle_verifier.specs.Inner.Parts.{parts_left, parts_of_exponent, words_left};
 
 use p3_merkle_core::geometry::exponent_of;
 use p3_merkle_core::pruning::DistinctQueries;
 use p3_merkle_core::schedule::Schedule;
 use p3_support::matrix::{Dimensions, Matrix};
 use p3_support::opening::BatchOpeningRef;
+use p3_support::row_parts::RowParts;
 
 /// A borrowed opening with the index of its leaf.
 #[derive_where(Clone, Copy)]
@@ -23,7 +26,7 @@ pub struct OpeningRef<'a, T, X> {
     /// The index of the leaf.
     pub index: usize,
     /// One row of each matrix, in input order.
-    pub rows: &'a [Vec<T>],
+    pub rows: RowParts<'a, T>,
     /// The siblings on the leaf's path, level by level from the leaves up.
     pub siblings: &'a [X],
 }
@@ -41,43 +44,110 @@ impl<'a, T, W, const D: usize> OpeningRef<'a, T, [W; D]> {
     {
         OpeningRef {
             index,
-            rows: opening.opened_values,
+            rows: RowParts::Vecs(opening.opened_values),
             siblings: opening.opening_proof,
         }
     }
 }
 
-/// The rows of the matrices of one exponent, one after another, each whole. `rows` has one row of each matrix, in input
+/// The parts of the rows of the matrices of one exponent, row after row. `rows` has one row of each matrix, in input
 /// order. Nothing is copied.
 #[derive(Drop)]
-pub(crate) struct OpenedRows<'a, T> {
+pub(crate) struct OpenedParts<'a, T> {
     /// The dimensions of the matrices.
     pub dimensions: &'a [Dimensions],
     /// Their rows.
-    pub rows: &'a [Vec<T>],
+    pub rows: RowParts<'a, T>,
     /// The exponent of the matrices whose rows are yielded.
     pub exponent: usize,
+    /// The second part of the row whose first part was yielded last; empty if none is due.
+    pub second: &'a [T],
 }
 
-impl<'a, T> Iterator for OpenedRows<'a, T> {
+impl<'a, T> OpenedParts<'a, T> {
+    /// The parts of the rows of the matrices of this exponent.
+    pub fn new(
+        dimensions: &'a [Dimensions],
+        rows: RowParts<'a, T>,
+        exponent: usize,
+    ) -> OpenedParts<'a, T>
+        ensures { parts_left result ≡ parts_of_exponent exponent (heights_of dimensions.now) (parts_of rows.entry) }
+    {
+        OpenedParts {
+            dimensions,
+            rows,
+            exponent,
+            second: &[],
+        }
+    }
+}
+
+impl<'a, T> Iterator for OpenedParts<'a, T> {
     type Item = &'a [T];
 
-    ghost next_gives = { YieldsFirstBy (λ row. row.now)
-        (λ s. rows_of_exponent s.exponent (zip (heights_of s.dimensions.now) (row_lists s.rows.now))) };
+    ghost next_gives = { YieldsFirstBy (λ part. part.now) parts_left };
 
-    ghost remaining = { item_count
-        (λ s. rows_of_exponent s.exponent (zip (heights_of s.dimensions.now) (row_lists s.rows.now))) };
+    ghost remaining = { item_count parts_left };
 
+    #[tactic(auto, unfolding(crate::specs::Inner::Parts::parts_of_exponent))]
     fn next(&mut self) -> Option<&'a [T]> {
+        if !self.second.is_empty() {
+            let second = self.second;
+            self.second = &[];
+            return Some(second);
+        }
         while let Some((matrix, matrices)) = self.dimensions.split_first() {
-            let (row, rows) = self.rows.split_first()?;
+            let (first, second) = self.rows.next_row()?;
             self.dimensions = matrices;
-            self.rows = rows;
             if exponent_of(matrix.height) == self.exponent {
-                return Some(row.as_slice());
+                self.second = second;
+                return Some(first);
             }
         }
         None
+    }
+}
+
+/// The words of the rows of the matrices of one exponent, one after another. Nothing is copied.
+#[derive(Drop)]
+pub(crate) struct OpenedWords<'a, T> {
+    /// The words that are left of a part.
+    part: &'a [T],
+    /// The parts after it.
+    parts: OpenedParts<'a, T>,
+}
+
+impl<'a, T> OpenedWords<'a, T> {
+    /// The words of the rows of the matrices of this exponent. `rows` has one row of each matrix, in input order.
+    pub fn new(
+        dimensions: &'a [Dimensions],
+        rows: RowParts<'a, T>,
+        exponent: usize,
+    ) -> OpenedWords<'a, T>
+        ensures { let pairs = zip (heights_of dimensions.now) (rows_in rows.entry) in
+            words_left result ≡ words_of_exponent exponent pairs }
+    {
+        OpenedWords {
+            part: &[],
+            parts: OpenedParts::new(dimensions, rows, exponent),
+        }
+    }
+}
+
+impl<'a, T> Iterator for OpenedWords<'a, T> {
+    type Item = &'a T;
+
+    ghost next_gives = { YieldsFirstBy (λ word. word.now) words_left };
+
+    ghost remaining = { item_count words_left };
+
+    fn next(&mut self) -> Option<&'a T> {
+        while self.part.is_empty() {
+            self.part = self.parts.next()?;
+        }
+        let (word, part) = self.part.split_first()?;
+        self.part = part;
+        Some(word)
     }
 }
 

@@ -6,26 +6,27 @@
 ghost use Rattle.std.specs.Prelude.{insert, suc, ◌≡◌, ◌==◌, ◌+◌, ◌-◌, ◌%◌, ◌<◌, length, replicate, slice_get, zip};
 ghost use Rattle.std.specs.Prelude.{false, unwrap_or, IfOk, MatchResult, None, Some};
 ghost use Rattle.std.specs.Option.{option_map};
-ghost use Rattle.p3_support.specs.Batches.{heights_of};
-ghost use Rattle.p3_support.specs.Shown.{row_lists};
+ghost use Rattle.p3_support.specs.Batches.{heights_of, CanWiden};
+ghost use Rattle.p3_support.specs.Rows.{rows_in};
 ghost use Rattle.p3_merkle_core.specs.Geometry.{layer_exponent, shape_of, step as step_of};
 ghost use Rattle.p3_merkle_core.specs.Checks.{siblings_below, words_of_exponent};
 ghost use Rattle.p3_merkle_core.specs.Nodes.{padded};
-ghost use Rattle.p3_merkle_core.specs.Refusals.{answer_under, form_refusal, is_entry as is_entry_of};
-ghost use Rattle.p3_merkle_verifier.specs.Inner.Checks.{functions_of, opening_in, params_in, shape_in};
+ghost use Rattle.p3_merkle_core.specs.Refusals.{answer_under, is_entry as is_entry_of};
+ghost use Rattle.p3_merkle_verifier.specs.Inner.Checks.{functions_of, opening_in, salted_form_refusal, salted_params_in, shape_in};
 ghost use Rattle.p3_merkle_verifier.specs.Inner.Checks.{step_siblings, CanStep, IsLevelOfCheck, IsPathState};
 ghost use Rattle.p3_merkle_verifier.specs.Inner.Paths.{CanCheck, CanReach};
 
 use crate::checker::Checker;
-use crate::openings::{OpenedRows, OpeningRef};
+use crate::openings::{OpenedParts, OpeningRef};
 use p3_merkle_core::error::MerkleTreeError;
 use p3_merkle_core::gate::check_heights;
-use p3_merkle_core::geometry::{check_widths, parent_of, position_of};
+use p3_merkle_core::geometry::{check_row_widths, parent_of, position_of};
 use p3_merkle_core::group::{group_with, pair_group};
 use p3_merkle_core::schedule::{LevelStep, Schedule};
 use p3_support::compress::PseudoCompressionFunction;
 use p3_support::hasher::CryptographicHasher;
 use p3_support::packed::PackedValue;
+use p3_support::row_parts::RowParts;
 
 /// The node that the check of an opening has reached on the path from the leaf, with its digest.
 #[derive(Drop)]
@@ -90,32 +91,34 @@ fn lemma_step<X>(
     ensures { CanStep schedule.now.arity step used (length siblings.now) }
 {}
 
-/// Checks the form of an opening of the leaf `index`, before anything is hashed: one row for each matrix, of its width;
-/// heights that a tree can have; as many siblings as the levels below the cap need; and an index below the tallest
-/// height. The errors are those of [`check_opening`](Checker::check_opening) without `CapMismatch`.
+/// Checks the form of an opening of the leaf `index`, before anything is hashed: one row for each matrix, of its width
+/// with `salt_elems` salts; heights that a tree can have; as many siblings as the levels below the cap need; and an
+/// index below the tallest height. The errors are those of [`check_opening`](Checker::check_opening) without
+/// `CapMismatch`.
 ///
-/// The arity must be a power of two from 2 to 2^62, and `cap_layer` at most the number of levels.
+/// The arity must be a power of two from 2 to 2^62, `cap_layer` at most the number of levels, and each width with its
+/// salts must fit `usize`.
 fn check_form<T>(
     schedule: &Schedule<'_>,
     cap_layer: usize,
+    salt_elems: usize,
     index: usize,
-    rows: &[Vec<T>],
+    rows: RowParts<'_, T>,
     num_siblings: usize,
 ) -> Result<(), MerkleTreeError>
-    requires { CanCheck (shape_of schedule.now.arity schedule.now.dimensions.now) cap_layer }
-    ensures answer { let refusal = form_refusal (shape_of schedule.now.arity schedule.now.dimensions.now) cap_layer index
-        (row_lists rows.now) num_siblings in
+    requires check { CanCheck (shape_of schedule.now.arity schedule.now.dimensions.now) cap_layer }
+    requires fits { 0 < salt_elems → CanWiden salt_elems schedule.now.dimensions.now }
+    ensures answer { let s = shape_of schedule.now.arity schedule.now.dimensions.now in
+        let refusal = salted_form_refusal salt_elems s cap_layer index (rows_in rows.entry) num_siblings in
         MatchResult result (λ ok. refusal ≡ None) (λ e. refusal ≡ Some e) }
     ensures reach { IfOk result (λ ok. CanReach (shape_of schedule.now.arity schedule.now.dimensions.now) cap_layer
         num_siblings) }
 {
     let dimensions = schedule.dimensions;
     // The number of rows is checked ahead of the heights, and their widths after the siblings.
-    if rows.len() != dimensions.len() {
-        return Err(MerkleTreeError::WrongBatchSize {
-            expected: dimensions.len(),
-            got: rows.len(),
-        });
+    let (expected, got) = (dimensions.len(), rows.num_rows());
+    if got != expected {
+        return Err(MerkleTreeError::WrongBatchSize { expected, got });
     }
     check_heights(schedule.dimensions)?;
     let expected_proof_len = schedule.siblings_below(cap_layer);
@@ -125,7 +128,7 @@ fn check_form<T>(
             num_siblings,
         });
     }
-    check_widths(dimensions, rows)?;
+    check_row_widths(dimensions, salt_elems, rows)?;
     let max_height = schedule.max_height;
     if index >= max_height {
         return Err(MerkleTreeError::IndexOutOfBounds { max_height, index });
@@ -143,15 +146,12 @@ impl<
     const D: usize,
 > Checker<'a, P, PW, H, C, [[PW::Value; D]; N], N, D> {
     /// The digest of the rows of the matrices of one exponent, as one message. `rows` has a row of each matrix.
-    fn row_digest(&self, rows: &[Vec<P::Value>], exponent: usize) -> [PW::Value; D]
-        ensures { let rows = zip (heights_of self.now.schedule.dimensions.now) (row_lists rows.now) in
+    fn row_digest<'x>(&'x self, rows: RowParts<'x, P::Value>, exponent: usize) -> [PW::Value; D]
+        ensures { let rows = zip (heights_of self.now.schedule.dimensions.now) (rows_in rows.entry) in
             result ≡ H.hash self.now.hash.now (words_of_exponent exponent rows) }
     {
-        self.hash.hash_iter_slices(OpenedRows {
-            dimensions: self.schedule.dimensions,
-            rows,
-            exponent,
-        })
+        let parts = OpenedParts::new(self.schedule.dimensions, rows, exponent);
+        self.hash.hash_iter_slices(parts)
     }
 
     /// The start of the check of an opening: the leaf, with the digest of its rows.
@@ -229,7 +229,9 @@ impl<
         }
     }
 
-    /// Checks an opening against the roots of a cap: its form, and that its path leads to the root above the leaf.
+    /// Checks an opening against the roots of a cap: its form, and that its path leads to the root above the leaf. Each
+    /// row is that of its matrix, with `salt_elems` salts after it: 0 in an opening without salts. Each width with its
+    /// salts must fit `usize`. Nothing is allocated.
     ///
     /// # Errors
     ///
@@ -238,15 +240,18 @@ impl<
     /// - `WrongBatchSize`: the number of rows is not that of the dimensions;
     /// - `EmptyBatch`, `TooLarge` or `IncompatibleHeights`: no tree can be built over such heights;
     /// - `WrongHeight`: the number of siblings is not what the levels below the cap need;
-    /// - `WrongWidth`, for the first row whose length is not the width of its matrix;
+    /// - `WrongWidth`, for the first row whose length is not the width of its matrix with its salts;
     /// - `IndexOutOfBounds`: the index is not below the tallest height;
     /// - `CapMismatch`: there is no root above the leaf, or the path leads to another digest.
     pub fn check_opening(
         &self,
         roots: &[[PW::Value; D]],
+        salt_elems: usize,
         opening: OpeningRef<'_, P::Value, [PW::Value; D]>,
     ) -> Result<(), MerkleTreeError>
-        ensures answer { result ≡ answer_under PW.Value.eq (params_in self.now) roots.now (opening_in opening.entry) }
+        requires fits { 0 < salt_elems → CanWiden salt_elems self.now.schedule.dimensions.now }
+        ensures answer { let c = salted_params_in salt_elems self.now in
+            result ≡ answer_under PW.Value.eq c roots.now (opening_in opening.entry) }
         ensures reach { IfOk result (λ ok. CanReach (shape_in self.now) self.now.cap_layer
             (length opening.entry.siblings.now)) }
     {
@@ -254,6 +259,7 @@ impl<
         check_form(
             &self.schedule,
             self.cap_layer,
+            salt_elems,
             index,
             opening.rows,
             num_siblings,

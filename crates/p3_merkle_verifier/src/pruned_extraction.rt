@@ -22,6 +22,7 @@ use p3_merkle_core::pruning::{AuthPath, DistinctQueries};
 use p3_support::compress::PseudoCompressionFunction;
 use p3_support::hasher::CryptographicHasher;
 use p3_support::packed::PackedValue;
+use p3_support::row_parts::RowParts;
 use std::alloc::{AllocError, Global};
 
 /// The queries of a pruned opening, each of which can be read as an opening of its own.
@@ -45,7 +46,7 @@ impl<'a, T, W, const D: usize> RestoredQueries<'a, T, [W; D]> {
         let path = &self.paths[k];
         OpeningRef {
             index: path.leaf_index,
-            rows: &self.sets[k],
+            rows: RowParts::Vecs(&self.sets[k]),
             siblings: &path.siblings,
         }
     }

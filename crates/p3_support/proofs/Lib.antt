@@ -5,3 +5,5 @@ pub mod RowReads
 pub mod Draws
 pub mod LaneReads
 pub mod VerifiedRows
+pub mod FlatRows
+pub mod RowFacts

@@ -1,5 +1,5 @@
 -- Matrices that are committed to together, and what is opened of them.
-use Rattle.std.specs.Prelude.{◌≡◌, ℕ, ◌<◌, max, List, [], ◌∷◌, length, map}
+use Rattle.std.specs.Prelude.{◌≡◌, ℕ, ◌+◌, ◌^◌, ◌<◌, max, All, List, [], ◌∷◌, length, map}
 use Rattle.p3_support.specs.declared.matrix.Dimensions.{Dimensions}
 
 -- the greatest number, or 0 if there are none
@@ -14,6 +14,14 @@ heights_of dimensions = map (λ d. d.height) dimensions
 -- the widths of their rows, in words
 abbrev pub widths_of : List Dimensions → List ℕ
 widths_of dimensions = map (λ d. d.width) dimensions
+
+-- matrices with e more columns
+abbrev pub widened : ℕ → List Dimensions → List Dimensions
+widened e dimensions = map (λ d. record { width = d.width + e; height = d.height }) dimensions
+
+-- each width with e more columns is a usize
+abbrev pub CanWiden : ℕ → List Dimensions → Type 0
+CanWiden e dimensions = All (λ d. d.width + e < 2 ^ 64) dimensions
 
 -- the width and the height of each matrix
 abbrev pub dimensions_in : {M : Type 0} → (M → ℕ) → (M → ℕ) → List M → List Dimensions

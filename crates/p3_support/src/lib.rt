@@ -9,5 +9,6 @@ pub mod mmcs;
 pub mod opening;
 pub mod packed;
 pub mod pair;
+pub mod row_parts;
 pub mod rows;
 pub mod salts;

@@ -57,11 +57,11 @@ fn hash_first(
     let count = block_count(places[0].0);
     if alike < 8 && places.len() >= 8 && all_fill(&places[..8], count) {
         let eight = &places[..8];
-        write(eight, &hash_eight(alloc, entries, eight, count)?, hashes);
+        place_hashes(eight, &hash_eight(alloc, entries, eight, count)?, hashes);
         return Ok(8);
     }
     let batch = &places[..alike];
-    write(batch, &hash_alike(alloc, entries, batch)?, hashes);
+    place_hashes(batch, &hash_alike(alloc, entries, batch)?, hashes);
     Ok(alike)
 }
 
@@ -148,8 +148,9 @@ fn hash_eight(
     Ok(hash_padded_eight(&blocks, count))
 }
 
-/// Writes hashes at the indices of entries.
-fn write(places: &[(usize, usize)], values: &[[u8; 32]], hashes: &mut [[u8; 32]])
+/// Writes `values[k]` into `hashes[index]`, where `index` is that of `places[k]`, the length and index of an entry. There
+/// must be one value for each place, and each index must be within `hashes`.
+fn place_hashes(places: &[(usize, usize)], values: &[[u8; 32]], hashes: &mut [[u8; 32]])
     requires inside { All (λ (place : ℕ × ℕ). place.1 < length hashes.old) places.now }
     requires each { length values.now ≡ length places.now }
     ensures hashed { (entries : List (List ℕ)) → AreHashes entries places.now values.now →

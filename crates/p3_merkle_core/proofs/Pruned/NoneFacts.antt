@@ -10,7 +10,7 @@ use Rattle.p3_support.specs.Batches.{greatest, widths_of}
 use Rattle.p3_merkle_core.specs.Refusals.{width_refusal, row_width_refusal, queries_refusal}
 use Rattle.p3_answers.specs.Answers.{first_of, unless}
 use Rattle.p3_answers.proofs.AnswerFacts.{none_parts, unless_none}
-use Rattle.p3_merkle_core.specs.Refusals.{width_fault}
+use Rattle.p3_merkle_core.specs.Refusals.{in_usize, width_fault}
 use Rattle.p3_merkle_core.specs.declared.error.MerkleTreeError.TheVariants.{WrongWidth, IndexOutOfBounds}
 use Rattle.p3_merkle_core.proofs.Shapes.LeastFacts.{le_tallest}
 
@@ -28,9 +28,9 @@ each_fits n [] [] same e = refl
 each_fits n [] (r ∷ rows) same e = absurd (omega arith)
 each_fits n (w ∷ widths) [] same e = absurd (omega arith)
 each_fits n (w ∷ widths) (r ∷ rows) same e =
-    let both = none_parts (unless (eqb w (length r)) (WrongWidth n w (length r)))
+    let both = none_parts (unless (eqb w (length r)) (WrongWidth n w (in_usize (length r))))
     (first_of width_fault (enumerate_from (n + 1) (zip widths rows))) e in
-    let here = eqb-true w (length r) (unless_none (eqb w (length r)) (WrongWidth n w (length r)) both.0) in
+    let here = eqb-true w (length r) (unless_none (eqb w (length r)) (WrongWidth n w (in_usize (length r))) both.0) in
     let rest = each_fits (n + 1) widths rows (omega arith) both.1 in
     rw (rest, ← here) refl
 

@@ -20,11 +20,12 @@ use Rattle.p3_support.specs.declared.hasher.CryptographicHasher as hasher
 use Rattle.p3_support.specs.declared.packed.PackedValue as packed
 use Rattle.std.specs.declared.default.Default as default
 use Rattle.std.specs.declared.cmp.PartialEq as equality
+use Rattle.p3_support.specs.Batches.{widened}
 use Rattle.p3_merkle_tree.specs.Inner.CommitmentLaws.{all_zip, greatest_is, same_is_equivalence}
 use Rattle.p3_merkle_tree.specs.HidingSchemes.{plain_of}
 use Rattle.p3_merkle_tree.specs.SaltedCommitments.{HaveSaltedProof}
 use Rattle.p3_merkle_tree.specs.SaltedOpenings.{HaveSalts, IsSaltedPrunedAccepted, SaltedPruned, joined_sets}
-use Rattle.p3_merkle_tree.specs.SaltedOpenings.{salted_rows, widened}
+use Rattle.p3_merkle_tree.specs.SaltedOpenings.{salted_rows}
 use Rattle.p3_merkle_tree.specs.Inner.SaltedParts.{pair_matrix}
 use Rattle.p3_merkle_tree.specs.declared.hiding_mmcs.HidingScheme.{HidingScheme}
 

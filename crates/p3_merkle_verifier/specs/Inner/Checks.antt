@@ -1,19 +1,25 @@
 -- How far the checks of openings have come.
 use Rattle.std.specs.Prelude.{◌≡◌, ◌+◌, ◌-◌, ◌/◌, ◌<◌, ◌≤◌, ◌==◌, ℕ, suc, List, [], ◌∷◌, Bool, Option, None}
-use Rattle.std.specs.Prelude.{if◌then◌else◌, drop, replicate, take}
+use Rattle.std.specs.Prelude.{if◌then◌else◌, drop, length, nat_lt, replicate, take}
 use Rattle.std.specs.declared.default.Default as default
 use Rattle.std.specs.declared.cmp.PartialEq as equality
 use Rattle.p3_support.specs.declared.compress.PseudoCompressionFunction as compressor
 use Rattle.p3_support.specs.declared.hasher.CryptographicHasher as hasher
 use Rattle.p3_support.specs.declared.packed.PackedValue as packed
 use Rattle.p3_merkle_core.specs.Extraction.{last_difference}
-use Rattle.p3_merkle_core.specs.Geometry.{Shape, ancestor, layer_exponent, shape_of}
+use Rattle.p3_merkle_core.specs.Geometry.{Shape, ancestor, heights, layer_exponent, shape_of}
 use Rattle.p3_merkle_core.specs.Nodes.{Functions}
 use Rattle.p3_merkle_core.specs.Openings.{Opening, opening_of}
 use Rattle.p3_merkle_core.specs.Checks.{Input, Params, inputs_at, params, path_digest, layer_words, siblings_below}
 use Rattle.p3_merkle_core.specs.Checks.{leaf_input}
 use Rattle.p3_merkle_core.specs.declared.collision.InputPair.{InputPair}
-use Rattle.p3_support.specs.Shown.{row_lists}
+use Rattle.p3_merkle_core.specs.Gate.{gate_refusal}
+use Rattle.p3_merkle_core.specs.Refusals.{row_width_refusal, sibling_count_refusal, size_refusal}
+use Rattle.p3_merkle_core.specs.declared.error.MerkleTreeError.{MerkleTreeError}
+use Rattle.p3_merkle_core.specs.declared.error.MerkleTreeError.TheVariants.{IndexOutOfBounds}
+use Rattle.p3_answers.specs.Answers.{first_some, unless}
+use Rattle.p3_support.specs.Batches.{greatest, widened, widths_of}
+use Rattle.p3_support.specs.Rows.{rows_in}
 use Rattle.p3_merkle_verifier.specs.declared.openings.OpeningRef.{OpeningRef}
 use Rattle.p3_merkle_verifier.specs.declared.path.PathLevel.{PathLevel}
 use Rattle.p3_merkle_verifier.specs.declared.checker.Checker.{Checker}
@@ -40,9 +46,26 @@ module _ {P PW H C G V W : Type 0} {N D : ℕ} {p : packed.Ghosts P V} {pd : def
   abbrev pub params_in : Checker P PW H C G N D V W p pd pe q qd qe h c → Params V W
   params_in checker = params (functions_of checker) (shape_in checker) checker.cap_layer
 
+  -- the same of rows with e salts each, which count as columns
+  abbrev pub salted_params_in : ℕ → Checker P PW H C G N D V W p pd pe q qd qe h c → Params V W
+  salted_params_in e checker =
+      params (functions_of checker) (shape_of checker.schedule.arity (widened e checker.schedule.dimensions.now))
+      checker.cap_layer
+
 -- a borrowed opening with its index
 abbrev pub opening_in : {T W : Type 0} → OpeningRef T (List W) → Opening T W
-opening_in opening = opening_of opening.index (row_lists opening.rows.now) opening.siblings.now
+opening_in opening = opening_of opening.index (rows_in opening.rows) opening.siblings.now
+
+-- why an opening is refused before it is hashed, where each row has e salts after the words of its matrix
+abbrev pub salted_form_refusal : {T : Type 0} → ℕ → Shape → ℕ → ℕ → List (List T) → ℕ → Option MerkleTreeError
+salted_form_refusal e s t index rows siblings =
+    first_some (
+    size_refusal (length s.dimensions) (length rows)
+    ∷ gate_refusal (heights s)
+    ∷ sibling_count_refusal (siblings_below s t) siblings
+    ∷ row_width_refusal (widths_of (widened e s.dimensions)) rows
+    ∷ unless (nat_lt index (greatest (heights s))) (IndexOutOfBounds (greatest (heights s)) index)
+    ∷ [])
 
 -- enough siblings are left for a step
 pub record CanStep (arity step used count : ℕ) : Type 0 where

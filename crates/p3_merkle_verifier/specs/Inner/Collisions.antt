@@ -5,8 +5,7 @@ use Rattle.p3_merkle_core.specs.Views.{inputs_in}
 use Rattle.p3_merkle_core.specs.declared.collision.InputPair.{InputPair}
 use Rattle.p3_merkle_core.specs.declared.collision.Place.TheVariants.{Group, Rows, Pair}
 use Rattle.p3_support.specs.Batches.{heights_of}
-use Rattle.p3_support.specs.Shown.{row_lists}
-use Rattle.p3_merkle_verifier.specs.Inner.Paths.{rows_of_exponent}
+use Rattle.p3_support.specs.Rows.{rows_in}
 use Rattle.p3_merkle_verifier.specs.declared.extraction.RowPair.{RowPair}
 use Rattle.p3_merkle_verifier.specs.declared.path.PathLevel.{PathLevel}
 
@@ -21,19 +20,11 @@ module _ {T W : Type 0} where
 
 -- the words that the first of two openings has for the matrices of an exponent, row after row
 abbrev pub first_words : {T : Type 0} → RowPair T → List T
-first_words rows = words_of_exponent rows.exponent (zip (heights_of rows.dimensions.now) (row_lists rows.first.now))
+first_words rows = words_of_exponent rows.exponent (zip (heights_of rows.dimensions.now) (rows_in rows.first))
 
 -- the same of the second
 abbrev pub second_words : {T : Type 0} → RowPair T → List T
-second_words rows = words_of_exponent rows.exponent (zip (heights_of rows.dimensions.now) (row_lists rows.second.now))
-
--- the rows that the first of two openings has for the matrices of an exponent, each whole
-abbrev pub first_rows : {T : Type 0} → RowPair T → List (List T)
-first_rows rows = rows_of_exponent rows.exponent (zip (heights_of rows.dimensions.now) (row_lists rows.first.now))
-
--- the same of the second
-abbrev pub second_rows : {T : Type 0} → RowPair T → List (List T)
-second_rows rows = rows_of_exponent rows.exponent (zip (heights_of rows.dimensions.now) (row_lists rows.second.now))
+second_words rows = words_of_exponent rows.exponent (zip (heights_of rows.dimensions.now) (rows_in rows.second))
 
 -- the inputs of a level above its group: words and a pair, if there is one
 abbrev pub inputs_above : {T W : Type 0} → ℕ → List T → Option (List (List W)) → List (Input T W)

@@ -1,11 +1,7 @@
 -- What the check of an opening reads.
-use Rattle.std.specs.Prelude.{◌≡◌, ◌≤◌, ℕ, ◌==◌, List, filter, map}
-use Rattle.p3_merkle_core.specs.Geometry.{Shape, IsArity, exponent, levels}
+use Rattle.std.specs.Prelude.{◌≡◌, ◌≤◌, ℕ}
+use Rattle.p3_merkle_core.specs.Geometry.{Shape, IsArity, levels}
 use Rattle.p3_merkle_core.specs.Checks.{siblings_below}
-
--- the rows of the matrices of exponent k, each whole
-abbrev pub rows_of_exponent : {T : Type 0} → ℕ → List (ℕ × List T) → List (List T)
-rows_of_exponent k pairs = map (λ (h, row). row) (filter (λ (h, row). exponent h == k) pairs)
 
 -- openings are checked up to this layer of a shape
 pub record CanCheck (s : Shape) (layer : ℕ) : Type 0 where

@@ -1,4 +1,4 @@
--- They are as many as the log has entries, or one.
+-- The range from 1 to the size, or to 1 if that is 0: these are all numbers, and all of them are numbers of entries.
 use Rattle.std.proofs.Common.{◌≡◌, ◌+◌, arith, max, subst, sym}
 use Rattle.std.proofs.lemmas.Iterator.{items_from_collect, YieldsList-from_range}
 use Rattle.std.proofs.lemmas.Result.{IfOk-weaker}

@@ -1,4 +1,5 @@
--- What the definition answers to two openings, single or pruned, is an extraction.
+-- Each clause is a lemma: on what the definition answers to two openings, on the rows that they bind, and on the inputs
+-- of a check.
 use Rattle.p3_merkle_core.specs.Caps.{cap_layer}
 use Rattle.p3_merkle_core.specs.Checks.{shared_inputs, params}
 use Rattle.p3_merkle_core.specs.Presented.{presented, presented_pruned}

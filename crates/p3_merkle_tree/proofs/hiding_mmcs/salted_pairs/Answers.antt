@@ -3,6 +3,7 @@ use Rattle.std.proofs.Common.{◌≡◌, ◌∙◌, ◌+◌, ◌*◌, List, [], 
 use Rattle.std.proofs.lemmas.List.Elements.{All-push}
 use Rattle.std.proofs.lemmas.List.{map-append, nil_from_length}
 use Rattle.std.specs.Vec.Iter.{into_iter_items}
+use Rattle.p3_support.specs.Batches.{widened, CanWiden}
 use Rattle.p3_support.specs.declared.matrix.Dimensions.{Dimensions}
 use Rattle.p3_support.specs.Lists.{message}
 use Rattle.p3_support.specs.Pairs.{left_of, pair_row, right_of}
@@ -15,7 +16,6 @@ use Rattle.p3_merkle_tree.proofs.CommitFacts.{salted_widened}
 use Rattle.p3_merkle_tree.proofs.DrawFacts.{after_next, after_some, drawn_more, first_fits, others_fit, pairs_more}
 use Rattle.p3_merkle_tree.proofs.DrawFacts.{salted_row, same_more}
 use Rattle.p3_merkle_tree.specs.Salted.{after_salts, salted, salted_matrices}
-use Rattle.p3_merkle_tree.specs.SaltedOpenings.{widened, CanWiden}
 use Rattle.p3_merkle_tree.specs.SaltedTrees.{HaveSaltColumns}
 use Rattle.p3_merkle_tree.specs.Inner.SaltedParts.{pair_matrix}
 use Rattle.p3_merkle_tree.proofs.hiding_mmcs.salted_pairs.Goals as goal

@@ -1,11 +1,11 @@
 -- Each turn draws the salts of one matrix.
 use Rattle.std.proofs.Common.{◌≡◌, ◌++◌, map}
 use Rattle.std.specs.Vec.Iter.{into_iter_items}
+use Rattle.p3_support.specs.Batches.{CanWiden}
 use Rattle.p3_merkle_core.specs.Views.{matrix_of}
 use Rattle.p3_merkle_core.specs.Nodes.{dimensions_of}
 use Rattle.p3_support.specs.Pairs.{left_of}
 use Rattle.p3_merkle_tree.specs.Salted.{after_salts, salted_matrices}
-use Rattle.p3_merkle_tree.specs.SaltedOpenings.{CanWiden}
 use Rattle.p3_merkle_tree.specs.SaltedTrees.{HaveSaltColumns}
 use Rattle.p3_merkle_tree.specs.Inner.SaltedParts.{pair_matrix}
 use Rattle.p3_merkle_tree.proofs.hiding_mmcs.salted_pairs.Given as goal

@@ -1,5 +1,5 @@
 use Rattle.std.proofs.Common.{◌≡◌, take}
-use Rattle.p3_merkle_tree.specs.SaltedOpenings.{widened}
+use Rattle.p3_support.specs.Batches.{widened}
 use Rattle.p3_merkle_tree.proofs.join.widened_dimensions.Given as goal
 
 -- those of the matrices so far

@@ -1,19 +1,20 @@
 -- The first check that fails refuses the form, and lawful heights are within the limit.
-use Rattle.std.proofs.Common.{◌≡◌, ℕ, List, None, length, refl, sym}
+use Rattle.std.proofs.Common.{◌≡◌, ◌∙◌, ◌++◌, ℕ, None, length, refl, sym}
 use Rattle.std.proofs.lemmas.Bool.{eq-eqb}
 use Rattle.std.proofs.lemmas.List.{length-map}
 use Rattle.std.proofs.lemmas.Result.{err_from_is_err_and}
-use Rattle.std.specs.declared.vec.Vec.{Vec}
 use Rattle.p3_support.specs.Batches.{heights_of}
-use Rattle.p3_support.specs.Shown.{row_lists}
+use Rattle.p3_support.specs.Rows.{parts_of, rows_in}
+use Rattle.p3_support.specs.declared.row_parts.RowParts.{RowParts}
 use Rattle.p3_merkle_core.proofs.Shapes.GateFacts.{none_large_from_lawful, tallest_fits}
 use Rattle.p3_merkle_core.specs.Refusals.{size_refusal}
 use Rattle.p3_merkle_verifier.proofs.path.check_form.Goals as goal
 
 -- as many rows as matrices are not refused
-sized : {T A : Type 0} (n : ℕ) (rows : List (Vec T A)) → length rows ≡ n →
-    size_refusal n (length (row_lists rows)) ≡ None
-sized n rows same = rw (eq-eqb n (length (row_lists rows)) (simp length-map (sym same))) refl
+sized : {T : Type 0} (n : ℕ) (rows : RowParts T) → length (parts_of rows) ≡ n →
+    size_refusal n (length (rows_in rows)) ≡ None
+sized n rows same =
+    rw (eq-eqb n (length (rows_in rows)) (sym same ∙ sym (length-map (parts_of rows) (λ part. part.0 ++ part.1)))) refl
 
 pub returns-in_err-check_heights-clause-answer : goal.returns-in_err-check_heights-clause-answer
 returns-in_err-check_heights-clause-answer g c =
@@ -21,7 +22,7 @@ returns-in_err-check_heights-clause-answer g c =
     rw (
       p.1,
       p.2,
-      sized (length c.args.schedule.now.dimensions.now) c.args.rows.now c.if-rows-dimensions.false,
+      sized (length c.args.schedule.now.dimensions.now) c.args.rows (sym c.num_rows-got.ensures ∙ c.if-got-expected.false),
       c.in_err-check_heights.ensures.answer,
     )
     refl

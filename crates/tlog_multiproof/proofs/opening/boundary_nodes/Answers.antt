@@ -30,13 +30,13 @@ overflow_add-layer c =
     (omega (arith, at.last_is, c.loop-last-test.true)) in
     omega (arith, below, levels_small c.args.size c.requires.limit)
 
-pub push_uncovered-requires-clause-ascending : goal.push_uncovered-requires-clause-ascending
-push_uncovered-requires-clause-ascending c =
+pub push_siblings-requires-clause-ascending : goal.push_siblings-requires-clause-ascending
+push_siblings-requires-clause-ascending c =
     covered_ascend (log_shape c.args.size) c.args.indices.now c.loop-last.layer c.deref.result.now
     (c.deref.ensures.value ∙ c.loop-last.invariant.covered)
 
-pub push_uncovered-requires-clause-fits : goal.push_uncovered-requires-clause-fits
-push_uncovered-requires-clause-fits c =
+pub push_siblings-requires-clause-fits : goal.push_siblings-requires-clause-fits
+push_siblings-requires-clause-fits c =
     nodes_fit c.args.size c.args.indices.now c.loop-last.layer c.deref.result.now c.requires.limit c.requires.within
     (c.deref.ensures.value ∙ c.loop-last.invariant.covered)
 
@@ -53,9 +53,9 @@ loop-last-preserved c =
       covered = covered_next size indices l c.loop-last.covered.items c.climb.new.covered.items c.requires.within below
           at.covered c.climb.ensures;
       so_far = boundary_more size indices l here (slots_of c.loop-last.nodes.items)
-          (slots_of c.push_uncovered.new.nodes.items) c.requires.within below is_here at.so_far
-          (slots_more l c.loop-last.nodes.items c.push_uncovered.new.nodes.items
-          (filter (λ j. not (is_among here j)) (map sibling here)) c.in_ok-push_uncovered.ensures);
+          (slots_of c.push_siblings.new.nodes.items) c.requires.within below is_here at.so_far
+          (slots_more l c.loop-last.nodes.items c.push_siblings.new.nodes.items
+          (filter (λ j. not (is_among here j)) (map sibling here)) c.in_ok-push_siblings.ensures);
       low = omega (arith, below);
       last_is = ap (λ (n : ℕ). n / 2) at.last_is ∙ last_above size l;
     }

@@ -1,4 +1,4 @@
--- Each slice is handed on whole.
+-- Adding up slice by slice gives the sum of all coins.
 use Rattle.std.proofs.Common.{rules, ◌≡◌, List, [], ◌∷◌, ◌∙◌, ap, refl, sym}
 use Rattle.std.specs.List.{flat_map, fold}
 use Rattle.std.proofs.lemmas.List.Sums.{fold-append}

@@ -15,8 +15,8 @@ loop-below-init g c =
     (built_first c.args.self.now.build schedule.exponent schedule.max_height c.in_ok-leaves.leaves.items
     (rw c.args.self.now.arity at schedule.walked.leaves) schedule.walked.tallest c.in_ok-leaves.ensures)
 
-pub level_from-level-requires : goal.level_from-level-requires
-level_from-level-requires g c =
+pub layer_above-level-requires : goal.layer_above-level-requires
+layer_above-level-requires g c =
     let schedule = c.args.self.now.schedule.now in
     let top : schedule.num_levels ≡ levels (shape_of g.row.N schedule.dimensions.now) =
     rw c.args.self.now.arity at schedule.walked.whole in
@@ -27,10 +27,10 @@ index-requires g c = omega (arith, layers_long c.loop-below.layers.items c.loop-
 
 pub lemma_children-requires-clause-slots : goal.lemma_children-requires-clause-slots
 lemma_children-requires-clause-slots g c =
-    let above : CanRaise (functions_for c.args.self.now) (batch_for c.args.self.now) c.level_from-level.result
+    let above : CanRaise (functions_for c.args.self.now) (batch_for c.args.self.now) c.layer_above-level.result
     c.as_slice-nodes.result.now =
     can_raise c.loop-below.layers.items c.args.self.now.build c.loop-below.invariant c.args.self.now.arity
-    c.level_from-level.ensures.level c.level_from-level.ensures.below c.index.ensures
+    c.layer_above-level.ensures.level c.layer_above-level.ensures.below c.index.ensures
     c.as_slice-nodes.ensures.value in
     slots_are c.args.self.now.build c.args.self.now.arity above
 
@@ -38,12 +38,12 @@ pub loop-below-preserved : goal.loop-below-preserved
 loop-below-preserved g c =
     let f = functions_for c.args.self.now in
     let below = c.as_slice-nodes.result.now in
-    let level = c.level_from-level.result in
+    let level = c.layer_above-level.result in
     let above : CanRaise f (batch_for c.args.self.now) level below = can_raise c.loop-below.layers.items
-    c.args.self.now.build c.loop-below.invariant c.args.self.now.arity c.level_from-level.ensures.level
-    c.level_from-level.ensures.below c.index.ensures c.as_slice-nodes.ensures.value in
+    c.args.self.now.build c.loop-below.invariant c.args.self.now.arity c.layer_above-level.ensures.level
+    c.layer_above-level.ensures.below c.index.ensures c.as_slice-nodes.ensures.value in
     rw (c.in_ok-push-2.ensures.items, map-append)
-    (built_more c.loop-below.invariant below c.in_ok-layer.layer.items level above c.level_from-level.ensures.below
+    (built_more c.loop-below.invariant below c.in_ok-layer.layer.items level above c.layer_above-level.ensures.below
     (c.in_ok-layer.ensures
     ∙ layer_next f g.row.N g.M.Matrix.height_of g.M.Matrix.width_of g.M.Matrix.row_of c.args.self.now.matrices.now level
     below above.level above.lawful above.is_below))

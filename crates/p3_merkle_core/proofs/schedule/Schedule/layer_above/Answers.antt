@@ -6,10 +6,10 @@ use Rattle.p3_merkle_core.specs.Geometry.{shape_of, height_at}
 use Rattle.p3_merkle_core.proofs.Shapes.LevelFacts.{small_at, level_is, low, next_small, grouped_is}
 use Rattle.p3_merkle_core.proofs.Covered.CoveredFacts.{padded_le}
 use Rattle.p3_merkle_core.proofs.Shapes.ExponentFacts.{bridge_at}
-use Rattle.p3_merkle_core.proofs.schedule.Schedule.level_from.Goals.{then-self-below+then-len-arity, else-self-below}
-use Rattle.p3_merkle_core.proofs.schedule.Schedule.level_from.Goals.{else-self-below-via-then-self-below+else-len-arity}
-use Rattle.p3_merkle_core.proofs.schedule.Schedule.level_from.Goals.{else-self-below-via-else-self-below}
-use Rattle.p3_merkle_core.proofs.schedule.Schedule.level_from.Goals as goal
+use Rattle.p3_merkle_core.proofs.schedule.Schedule.layer_above.Goals.{then-self-below+then-len-arity, else-self-below}
+use Rattle.p3_merkle_core.proofs.schedule.Schedule.layer_above.Goals.{else-self-below-via-then-self-below+else-len-arity}
+use Rattle.p3_merkle_core.proofs.schedule.Schedule.layer_above.Goals.{else-self-below-via-else-self-below}
+use Rattle.p3_merkle_core.proofs.schedule.Schedule.layer_above.Goals as goal
 
 pub overflow_shl-grouped_len : goal.overflow_shl-grouped_len
 overflow_shl-grouped_len c =

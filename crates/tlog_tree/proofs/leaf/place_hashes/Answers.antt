@@ -2,7 +2,7 @@ use Rattle.std.proofs.Common.{ℕ, ◌<◌, [], arith, below_more, get_or, lengt
 use Rattle.std.proofs.lemmas.List.{get_or_default}
 use Rattle.tlog_tree.specs.Inner.Leaves.{IsHashed}
 use Rattle.tlog_tree.proofs.Leaves.{hashed_there, stays_hashed}
-use Rattle.tlog_tree.proofs.leaf.write.Goals as goal
+use Rattle.tlog_tree.proofs.leaf.place_hashes.Goals as goal
 
 pub loop-k-preserved : goal.loop-k-preserved
 loop-k-preserved c =

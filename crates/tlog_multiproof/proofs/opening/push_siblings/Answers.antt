@@ -5,9 +5,9 @@ use Rattle.tlog_tree.specs.Trees.{id_of}
 use Rattle.tlog_tree.specs.declared.node_id.NodeId.{NodeId}
 use Rattle.tlog_multiproof.specs.Inner.Siblings.{sibling}
 use Rattle.tlog_multiproof.proofs.BoundaryFacts.{found_among, missed_among, node_more}
-use Rattle.tlog_multiproof.proofs.opening.push_uncovered.Goals as goal
-use Rattle.tlog_multiproof.proofs.opening.push_uncovered.Goals.{then-slot-eq0, else-slot-eq0}
-use Rattle.tlog_multiproof.proofs.opening.push_uncovered.Goals.{then-is_err+in_ok-push, else-is_err}
+use Rattle.tlog_multiproof.proofs.opening.push_siblings.Goals as goal
+use Rattle.tlog_multiproof.proofs.opening.push_siblings.Goals.{then-slot-eq0, else-slot-eq0}
+use Rattle.tlog_multiproof.proofs.opening.push_siblings.Goals.{then-is_err+in_ok-push, else-is_err}
 
 pub loop-slot-preserved : goal.loop-slot-preserved
 loop-slot-preserved c =

@@ -1,6 +1,6 @@
 use Rattle.std.proofs.Common.{ℕ, List, ◌<◌, get_or}
 use Rattle.tlog_tree.specs.Inner.Leaves.{AreHashes, IsHashed}
-use Rattle.tlog_tree.proofs.leaf.write.Given as goal
+use Rattle.tlog_tree.proofs.leaf.place_hashes.Given as goal
 
 abbrev pub invariant-loop-k : goal.invariant-loop-k
 invariant-loop-k l = record {
