@@ -1,5 +1,6 @@
--- What the scheme hands to its checker.
-use Rattle.std.proofs.Common.{◌≡◌, ◌∙◌, ℕ, List, ap}
+-- What the scheme hands to its checker, for rows without salts and with them.
+use Rattle.std.proofs.Common.{◌≡◌, ◌∙◌, ℕ, Bool, List, ap, sym}
+use Rattle.p3_support.specs.Batches.{widened}
 use Rattle.p3_support.specs.declared.matrix.Dimensions.{Dimensions}
 use Rattle.p3_merkle_core.specs.Caps.{cap_layer}
 use Rattle.p3_merkle_core.specs.Checks.{params}
@@ -7,6 +8,9 @@ use Rattle.p3_merkle_core.specs.Geometry.{shape_of}
 use Rattle.p3_merkle_core.specs.Nodes.{Functions}
 use Rattle.p3_merkle_core.specs.declared.cap.CapRule.{CapRule}
 use Rattle.p3_merkle_core.specs.declared.schedule.Schedule.{Schedule}
+use Rattle.p3_merkle_core.proofs.Shapes.Widened.{cap_layer_same, difference_same, heights_widened}
+use Rattle.p3_merkle_core.specs.Extraction.{difference_of}
+use Rattle.p3_merkle_core.specs.Openings.{Opening}
 
 -- what the steps of some dimensions are of, and the cap's layer by them
 pub record IsSchedule (n : ℕ) (dimensions : List Dimensions) (rule : CapRule) (height : ℕ) (schedule : Schedule)
@@ -29,3 +33,24 @@ module _ (n : ℕ) (dimensions : List Dimensions) (rule : CapRule) (height : ℕ
       params f (shape_of a schedule.dimensions.now) t
       ≡ params g (shape_of n dimensions) (cap_layer (shape_of n dimensions) rule height)
   params_alike f g a functions named = λ i. params (functions i) (shape_of (named i) (same i)) (are_steps.at_cap i)
+
+-- so the parameters are, where each row has e salts
+pub widened_alike : {T W : Type 0} (f g : Functions T W) (a n : ℕ) (es ds : List Dimensions) (t : ℕ) (rule : CapRule)
+    (height : ℕ) → params f (shape_of a es) t ≡ params g (shape_of n ds) (cap_layer (shape_of n ds) rule height) →
+    (e : ℕ) → params f (shape_of a (widened e es)) t
+    ≡ params g (shape_of n (widened e ds)) (cap_layer (shape_of n (widened e ds)) rule height)
+widened_alike f g a n es ds t rule height is e =
+    (λ i. params (is i).functions (shape_of (is i).shape.arity (widened e (is i).shape.dimensions)) (is i).layer)
+    ∙ ap (λ l. params g (shape_of n (widened e ds)) l)
+    (sym (cap_layer_same n (widened e ds) ds (heights_widened e ds) rule height))
+
+-- and the checks of two openings differ alike
+pub difference_alike : {T W : Type 0} (eq : T → T → Bool) (same : W → W → Bool) (f g : Functions T W) (a n : ℕ)
+    (es ds : List Dimensions) (t : ℕ) (rule : CapRule) (height : ℕ) → params f (shape_of a es) t
+    ≡ params g (shape_of n ds) (cap_layer (shape_of n ds) rule height) → (e : ℕ) (o u : Opening T W) →
+    difference_of eq same (params f (shape_of a es) t) o u
+    ≡ difference_of eq same
+    (params g (shape_of n (widened e ds)) (cap_layer (shape_of n (widened e ds)) rule height)) o u
+difference_alike eq same f g a n es ds t rule height is e o u =
+    sym (difference_same a (widened e es) es (heights_widened e es) eq same f t o u)
+    ∙ (λ i. difference_of eq same (widened_alike f g a n es ds t rule height is e i) o u)

@@ -11,22 +11,26 @@ use Rattle.p3_support.specs.declared.hasher.CryptographicHasher as hasher
 use Rattle.p3_support.specs.declared.packed.PackedValue as packed
 use Rattle.p3_support.specs.declared.matrix.Dimensions.{Dimensions}
 use Rattle.p3_merkle_core.specs.Checks.{Input, Params}
-use Rattle.p3_merkle_core.specs.Extraction.{IsExtraction, first_difference}
+use Rattle.p3_merkle_core.specs.Extraction.{IsExtraction, difference_of, first_difference}
+use Rattle.p3_merkle_core.specs.Views.{inputs_in}
+use Rattle.p3_merkle_core.specs.declared.collision.InputPair.{InputPair}
 use Rattle.p3_merkle_core.specs.Geometry.{shape_of}
-use Rattle.p3_merkle_core.specs.Openings.{Opening}
 use Rattle.p3_merkle_core.specs.Pruning.{PrunedOpening}
-use Rattle.p3_merkle_core.specs.Presented.{Presented, IsVerdict, presented, presented_pruned}
+use Rattle.p3_merkle_core.specs.Presented.{Presented, IsVerdict, presented_pruned}
 use Rattle.p3_merkle_core.specs.Refusals.{AnswersUnlessMemory, IsEquality}
 use Rattle.p3_merkle_core.specs.declared.cap.CapRule.{CapRule}
 use Rattle.p3_merkle_core.specs.declared.error.MerkleTreeError.{MerkleTreeError}
 use Rattle.p3_merkle_core.specs.declared.error.MerkleTreeError.TheVariants.{OutOfMemory}
-use Rattle.p3_merkle_core.proofs.Collisions.ExtractionFacts.{IsPresentation, all_authenticated, extracted}
+use Rattle.p3_merkle_core.proofs.Collisions.ExtractionFacts.{IsPresentation, all_authenticated, extracted, extracted_one}
 use Rattle.p3_merkle_tree.specs.Schemes.{cap_height_of, cap_rule_of, params_of}
 use Rattle.p3_merkle_tree.proofs.VerdictFacts.{verdict_by}
 use Rattle.p3_merkle_tree.specs.HidingSchemes.{plain_of}
-use Rattle.p3_merkle_tree.specs.SaltedOpenings.{IsSaltedAccepted, IsSaltedPrunedAccepted, SaltedOpening}
+use Rattle.p3_merkle_tree.specs.SaltedOpenings.{IsSaltedPrunedAccepted, SaltedOpening}
 use Rattle.p3_merkle_tree.specs.SaltedOpenings.{SaltedPruned, joined, joined_sets}
-use Rattle.p3_merkle_tree.specs.SaltRefusals.{salted_rows_refusal, salted_sets_refusal}
+use Rattle.p3_merkle_tree.specs.SaltRefusals.{salted_refusal_under, salted_sets_refusal}
+use Rattle.p3_merkle_tree.specs.SaltedExtraction.{IsSaltedExtraction}
+use Rattle.p3_merkle_tree.specs.SaltedPresented.{presented_salted}
+use Rattle.p3_merkle_tree.proofs.SaltedExtractionFacts.{salted_told}
 use Rattle.p3_merkle_tree.specs.declared.hiding_mmcs.HidingScheme.{HidingScheme}
 use Rattle.p3_merkle_tree.proofs.SaltedAnswers.{salted_presentation, salted_pruned_presentation}
 
@@ -157,19 +161,20 @@ module _ {P PW H C R X G V W : Type 0} {N D E : ℕ} {p : packed.Ghosts P V} {pd
       (plain_of s).arity (all_authenticated (shape_of N (widened E ds)) (cap_rule_of (plain_of s))
       (cap_height_of (plain_of s)) (plain_of s).arity)
 
-  abbrev pub one_index : Kind pe.eq qe.eq (cap_rule_of (plain_of s)) over (widened E ds)
-  one_index =
-      let is = salted_presentation qe.eq E ds (over (widened E ds)) cap dec_w in
-      record {
-        O = SaltedOpening V W;
-        A = Opening V W;
-        join = joined;
-        before = λ o. salted_rows_refusal E ds o.rows o.salts;
-        accepted = λ o. IsSaltedAccepted E ds (over (widened E ds)) cap o;
-        plain = λ given a. presented qe.eq (over given) cap a;
-        decided = λ o. (is o).decided;
-        extracts = λ o u. by_answer _ _ (is o) (is u);
-      }
+  -- so it is to two openings of one index each
+  pub one_answer : (o u : SaltedOpening V W) (r : Result (Option (InputPair V (List W))) MerkleTreeError) →
+      let c = over (widened E ds) in
+      AnswersUnlessMemory r (option_or (salted_refusal_under qe.eq E ds c cap o) (salted_refusal_under qe.eq E ds c cap u)) →
+      IfOk r (λ found. option_map inputs_in found ≡ difference_of pe.eq qe.eq c (joined o) (joined u)) →
+      IsSaltedExtraction pe.eq qe.eq (cap_rule_of (plain_of s)) E ds c cap o u r
+  one_answer o u r answer found =
+      let c = over (widened E ds) in
+      let is = salted_presentation qe.eq E ds c cap dec_w in
+      salted_told pe.eq qe.eq (cap_rule_of (plain_of s)) E ds c cap o u r
+      (extracted_one pe.eq qe.eq (cap_rule_of (plain_of s)) c cap (presented_salted qe.eq E ds c cap o)
+      (presented_salted qe.eq E ds c cap u) (joined o) (joined u) dec dec_w (plain_of s).arity
+      (all_authenticated (shape_of N (widened E ds)) (cap_rule_of (plain_of s)) (cap_height_of (plain_of s))
+      (plain_of s).arity) (is o) (is u) refl refl refl refl r answer found)
 
   abbrev pub several : Kind pe.eq qe.eq (cap_rule_of (plain_of s)) over (widened E ds)
   several =

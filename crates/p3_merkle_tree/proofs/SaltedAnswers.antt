@@ -1,5 +1,11 @@
 -- What is not refused of rows and salts is accepted, and the other way round.
-use Rattle.std.proofs.Common.{◌≡◌, ◌↔◌, ℕ, Bool, List, [], ◌∷◌, refl, sym, ap, ◌∙◌, arith, length, map, zip, None, eqb}
+use Rattle.std.proofs.Common.{◌≡◌, ◌↔◌, ℕ, Bool, List, [], ◌∷◌, refl, sym, ap, ◌∙◌, arith, length, map, zip, None, eqb, Some}
+use Rattle.std.specs.Prelude.{Err, Ok}
+use Rattle.std.specs.Option.{option_or}
+use Rattle.p3_merkle_core.specs.Openings.{Opening}
+use Rattle.p3_merkle_core.specs.Refusals.{answer_under}
+use Rattle.p3_merkle_core.specs.declared.error.MerkleTreeError.{MerkleTreeError}
+use Rattle.p3_merkle_tree.proofs.VerdictFacts.{some_when_err}
 use Rattle.std.proofs.lemmas.Bool.{eqb-true}
 use Rattle.std.proofs.lemmas.List.{length-map}
 use Rattle.std.specs.{List.AllZip}
@@ -135,3 +141,21 @@ module _ {T W : Type 0} (same : W → W → Bool) (e : ℕ) (ds : List Dimension
       (p : SaltedPruned T W) → IsPresentation c cap (presented_salted_pruned eq same e ds c cap p)
   salted_pruned_presentation eq dec w p =
       record { decided = salted_pruned_accepted eq dec w p; each = λ a. a.accepted.each_accepted }
+
+-- rows and salts that are not refused are answered as the plain opening that they are joined to
+module _ {T W : Type 0} (same : W → W → Bool) (e : ℕ) (ds : List Dimensions) (c given : Params T W)
+    (cap : List (List W)) (o : SaltedOpening T W) (u : Opening T W) (none : salted_rows_refusal e ds o.rows o.salts ≡ None)
+    (alike : given ≡ c) (is : u ≡ joined o) where
+  plain : answer_under same given cap u ≡ answer_under same c cap (joined o)
+  plain i = answer_under same (alike i) cap (is i)
+
+  pub passed_after : Ok tt ≡ answer_under same given cap u → salted_refusal_under same e ds c cap o ≡ None
+  passed_after answer =
+      none_of_both (salted_rows_refusal e ds o.rows o.salts) (refusal_under same c cap (joined o)) none
+      (verdict_ok (refusal_under same c cap (joined o)) (sym (answer ∙ plain)))
+
+  pub refused_after : (x : MerkleTreeError) → Err x ≡ answer_under same given cap u →
+      salted_refusal_under same e ds c cap o ≡ Some x
+  refused_after x answer =
+      ap (λ first. option_or first (refusal_under same c cap (joined o))) none
+      ∙ some_when_err (refusal_under same c cap (joined o)) x (answer ∙ plain)

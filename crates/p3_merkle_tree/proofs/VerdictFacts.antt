@@ -1,5 +1,5 @@
 -- What the answer to an opening means.
-use Rattle.std.proofs.Common.{◌≡◌, ◌↔◌, ◌∙◌, ℕ, Bool, List, Option, None, Result, ap, refl, subst, sym}
+use Rattle.std.proofs.Common.{◌≡◌, ◌↔◌, ◌∙◌, ℕ, Bool, List, Option, None, Some, Result, ap, refl, subst, sym}
 use Rattle.std.specs.Prelude.{Ok, Err, IsOk}
 use Rattle.p3_merkle_core.specs.Checks.{Params}
 use Rattle.p3_merkle_core.specs.Geometry.{IsArity, Shape}
@@ -21,6 +21,11 @@ ok_is : {E : Type 0} (r : Result (Unit {0}) E) → IsOk r → r ≡ Ok tt
 ok_is (Ok x) h = refl
 ok_is (Err e) h = absurd cc
 
+-- an error that is answered is the refusal
+pub some_when_err : {E : Type 0} (refusal : Option E) (e : E) → Err e ≡ ok_unless refusal (tt {0}) → refusal ≡ Some e
+some_when_err None e is = absurd cc
+some_when_err (Some x) e is = cc
+
 -- Ok is answered exactly where the opening is accepted
 pub exact_verdict : {T W : Type 0} (same : W → W → Bool) (c : Params T W) (roots : List (List W)) (o : Opening T W) →
     IsEquality same → (r : Result (Unit {0}) MerkleTreeError) → r ≡ answer_under same c roots o →
@@ -31,6 +36,18 @@ exact_verdict same c roots o dec r is =
       accepted = (
         λ h. accepted_from same c.functions c.shape c.layer roots o dec (sym is ∙ ok_is r h),
         λ w. rw (is ∙ accepted_answer same c.functions c.shape c.layer roots o dec w) refl,
+      );
+    }
+
+-- so it is of whatever is refused of nothing that is accepted
+pub exact_by : {T W : Type 0} (p : Presented T W) → (p.refusal ≡ None) ↔ p.is_accepted →
+    (r : Result (Unit {0}) MerkleTreeError) → r ≡ ok_unless p.refusal tt → IsExactVerdict p r
+exact_by p decided r is =
+    record {
+      answer = is;
+      accepted = (
+        λ h. decided.0 (verdict_ok p.refusal (sym is ∙ ok_is r h)),
+        λ a. rw (is ∙ ap (λ refusal. ok_unless refusal (tt {0})) (decided.1 a)) refl,
       );
     }
 

@@ -46,11 +46,17 @@ module _ {P PW H C X G V W : Type 0} {N D : ℕ} {p : packed.Ghosts P V} {pd : d
 module _ {P PW H C X G V W : Type 0} {N D : ℕ} {p : packed.Ghosts P V} {pd : default.Ghosts V} {pe : equality.Ghosts V}
     {q : packed.Ghosts PW W} {qd : default.Ghosts W} {qe : equality.Ghosts W} {h : hasher.Ghosts H P PW D V W}
     {c : compressor.Ghosts C PW N D W} where
-  -- an opening of an index, under a cap over matrices of these dimensions
+  -- an opening of an index, under the roots of a cap over matrices of these dimensions
+  abbrev pub presented_under : Scheme P PW H C X G N D V W p pd pe q qd qe h c → List Dimensions → List (List W) →
+      Opening V W → Presented V W
+  presented_under scheme dimensions roots opening =
+      presented qe.eq (params_of scheme (shape_of N dimensions)) roots opening
+
+  -- a borrowed opening of an index, under such a cap
   abbrev pub presented_one : {A : Type 0} → Scheme P PW H C X G N D V W p pd pe q qd qe h c → List Dimensions →
       MerkleCap V (List W) → ℕ → BatchOpeningRef V (Vec (List W) A) → Presented V W
   presented_one scheme dimensions cap index opening =
-      presented qe.eq (params_of scheme (shape_of N dimensions)) (roots_of cap) (opening_borrowed index opening)
+      presented_under scheme dimensions (roots_of cap) (opening_borrowed index opening)
 
   -- a pruned opening of some indices, by its row sets and its proof, under such a cap
   abbrev pub presented_all : {A B : Type 0} → Scheme P PW H C X G N D V W p pd pe q qd qe h c → List Dimensions →

@@ -3,35 +3,41 @@
 //! is authenticated if the cap's digests are computed from its rows. Openings conflict in a row if both have it, with
 //! other words or salts.
 
-ghost use Rattle.std.specs.Prelude.{◌≡◌, ◌<◌, All, IfOk, None, map};
-ghost use Rattle.p3_merkle_core.specs.Geometry.{heights};
+ghost use Rattle.std.specs.Prelude.{◌≡◌, ◌<◌, All, IfOk, MatchResult, None, Some, length, map};
+ghost use Rattle.p3_merkle_core.specs.Geometry.{heights, shape_of};
 ghost use Rattle.p3_merkle_core.specs.Nodes.{shape};
-ghost use Rattle.p3_merkle_core.specs.Presented.{IsVerdict};
+ghost use Rattle.p3_merkle_core.specs.Presented.{IsExactVerdict, IsVerdict};
 ghost use Rattle.p3_merkle_core.specs.Refusals.{AnswersUnlessMemory};
 ghost use Rattle.p3_support.specs.Batches.{greatest};
 ghost use Rattle.p3_support.specs.Pairs.{left_of};
 ghost use Rattle.p3_support.specs.Shown.{roots_of, row_lists, row_sets};
 ghost use Rattle.p3_merkle_prover.specs.Parts.{matrices_of, tree_batch};
-ghost use Rattle.p3_merkle_tree.specs.Schemes.{cap_rule_of};
+ghost use Rattle.p3_merkle_verifier.specs.Inner.Checks.{opening_in};
+ghost use Rattle.p3_merkle_verifier.specs.Inner.Paths.{CanReach};
+ghost use Rattle.p3_merkle_tree.specs.Schemes.{cap_layer_of, cap_rule_of};
 ghost use Rattle.p3_merkle_tree.specs.HidingSchemes.{plain_of, presented_all, presented_one, salted_borrowed};
 ghost use Rattle.p3_merkle_tree.specs.HidingSchemes.{salted_made, salted_params_of, salted_pruned_borrowed};
 ghost use Rattle.p3_merkle_tree.specs.HidingSchemes.{salted_pruned_made};
 ghost use Rattle.p3_merkle_tree.specs.Inner.SaltedParts.{left_widths, salt_parts, unsalted_parts};
+ghost use Rattle.p3_merkle_tree.specs.SaltRefusals.{salted_refusal_under};
+ghost use Rattle.p3_merkle_tree.specs.SaltedOpenings.{joined};
 ghost use Rattle.p3_merkle_tree.specs.SaltedOpened.{OpensSalted, OpensSaltedPruned};
 ghost use Rattle.p3_merkle_tree.specs.SaltedExtraction.{IsSaltedExtraction, IsSaltedPrunedExtraction};
 
 use crate::hiding_mmcs::{MerkleTreeHidingMmcs, SaltedMultiProof, SaltedProof, SaltedTree};
-use crate::join::{salted_rows, salted_sets};
+use crate::join::{check_salted_rows, salted_sets};
 use p3_merkle_core::collision::Collision;
 use p3_merkle_core::error::MerkleTreeError;
 use p3_merkle_prover::opener::matrix_refs;
 use p3_merkle_prover::tree::Tree;
+use p3_merkle_verifier::openings::OpeningRef;
 use p3_support::compress::PseudoCompressionFunction;
 use p3_support::hasher::CryptographicHasher;
 use p3_support::matrix::{Dimensions, Matrix};
 use p3_support::opening::{BatchOpening, BatchOpeningRef, MerkleCap};
 use p3_support::packed::PackedValue;
 use p3_support::pair::HorizontalPair;
+use p3_support::row_parts::RowParts;
 use std::alloc::{AllocError, Global};
 
 /// Splits each row of one index into the matrix's own words and its salts, and returns the row set and the salt set.
@@ -182,39 +188,66 @@ impl<
         self.plain.get_max_height(tree)
     }
 
+    /// Checks an opening of the leaf `index` with its salts against the roots of a cap, with the errors of
+    /// [`verify_batch`](Self::verify_batch). Returns the opening as the plain scheme's checker reads it, each row
+    /// followed by its salts.
+    fn checked_opening<'b>(
+        &self,
+        roots: &[[PW::Value; D]],
+        dimensions: &[Dimensions],
+        index: usize,
+        opening: BatchOpeningRef<'b, P::Value, SaltedProof<P::Value, PW::Value, D>>,
+    ) -> Result<OpeningRef<'b, P::Value, [PW::Value; D]>, MerkleTreeError>
+        ensures answer { let c = salted_params_of self.now dimensions.now in
+            let opening = salted_borrowed index opening.entry in
+            let refusal = salted_refusal_under PW.Value.eq SALT_ELEMS dimensions.now c roots.now opening in
+            MatchResult result (λ ok. refusal ≡ None) (λ e. refusal ≡ Some e) }
+        ensures opening { IfOk result (λ o. opening_in o ≡ joined (salted_borrowed index opening.entry)) }
+        ensures reach { let s = shape_of N dimensions.now in
+            IfOk result (λ o. CanReach s (cap_layer_of (plain_of self.now) s) (length o.siblings.now)) }
+    {
+        let (rows, (salts, siblings)) = opening.unpack();
+        check_salted_rows(dimensions, SALT_ELEMS, rows, salts)?;
+        let opening = OpeningRef {
+            index,
+            rows: RowParts::Salted { rows, salts },
+            siblings,
+        };
+        self.plain
+            .checker(dimensions)
+            .check_opening(roots, SALT_ELEMS, opening)?;
+        Ok(opening)
+    }
+
     /// Verifies an opening of the leaf `index` with its salts against a cap: the plain scheme's verification of each
     /// row followed by its salts, under dimensions with `SALT_ELEMS` more columns. A cap binds salts as it binds rows.
+    /// Rows and salts are read where they lie: nothing is copied, and nothing is allocated.
     ///
     /// An accepted opening has one row for each of `dimensions`, of that width, and `SALT_ELEMS` salts for each row.
     /// For each level below the cap it has the siblings of the path's node. `dimensions` are those of the matrices
-    /// without salts, in input order; they must come from the verifier, never from the proof. The call allocates the
-    /// joined rows.
+    /// without salts, in input order; they must come from the verifier, never from the proof.
     ///
     /// # Errors
     ///
-    /// The first of these that applies, where `OutOfMemory` may come at any time:
+    /// The first of these that applies:
     ///
     /// - `WrongBatchSize`: the number of rows is not that of the dimensions;
     /// - `WrongWidth`, for the first row whose length is not the width of its matrix;
     /// - `WrongBatchSize`: the number of lists of salts is not that of the rows;
     /// - `TooLarge`, for the first matrix whose width with its salts does not fit `usize`;
-    /// - the error of the plain [`verify_batch`](crate::mmcs::Scheme::verify_batch) for the joined rows, so
-    ///   that a wrong number of salts is a `WrongWidth` of the joined row.
+    /// - the error of the plain [`verify_batch`](crate::mmcs::Scheme::verify_batch) for the rows with their salts, so
+    ///   that a wrong number of salts is a `WrongWidth` of the row with its salts.
     pub fn verify_batch(
         &self,
-        alloc: Global,
         commit: &MerkleCap<P::Value, [PW::Value; D]>,
         dimensions: &[Dimensions],
         index: usize,
         opening: BatchOpeningRef<'_, P::Value, SaltedProof<P::Value, PW::Value, D>>,
     ) -> Result<(), MerkleTreeError>
-        ensures { IsVerdict (presented_one self.now dimensions.now commit.now index opening.entry) result }
+        ensures { IsExactVerdict (presented_one self.now dimensions.now commit.now index opening.entry) result }
     {
-        let (rows, (salts, siblings)) = opening.unpack();
-        let salted = salted_rows(alloc, dimensions, SALT_ELEMS, rows, salts)?;
-        let opening = BatchOpeningRef::new(&salted.rows, siblings);
-        self.plain
-            .verify_batch(commit, &salted.dimensions, index, opening)
+        self.checked_opening(commit.roots(), dimensions, index, opening)?;
+        Ok(())
     }
 
     /// Verifies the rows and salts of several leaves by one pruned proof against a cap: the plain scheme's verification
@@ -289,31 +322,11 @@ impl<
             dimensions.now (salted_params_of self.now dimensions.now) (roots_of commit.now) in
             extracts (salted_borrowed index1 first.entry) (salted_borrowed index2 second.entry) result }
     {
-        let (rows1, (salts1, siblings1)) = first.unpack();
-        let salted1 = salted_rows(alloc, dimensions, SALT_ELEMS, rows1, salts1)?;
-        let joined1 = BatchOpeningRef::new(&salted1.rows, siblings1);
-        let (rows2, (salts2, siblings2)) = second.unpack();
-        match salted_rows(alloc, dimensions, SALT_ELEMS, rows2, salts2) {
-            Ok(salted2) => {
-                let joined2 = BatchOpeningRef::new(&salted2.rows, siblings2);
-                self.plain.extract_collision(
-                    alloc,
-                    commit,
-                    &salted1.dimensions,
-                    index1,
-                    joined1,
-                    index2,
-                    joined2,
-                )
-            }
-            // A refusal of the first opening comes before one of the second.
-            Err(error) => {
-                let checked = self
-                    .plain
-                    .verify_batch(commit, &salted1.dimensions, index1, joined1);
-                Err(checked.err().unwrap_or(error))
-            }
-        }
+        let roots = commit.roots();
+        let first = self.checked_opening(roots, dimensions, index1, first)?;
+        let second = self.checked_opening(roots, dimensions, index2, second)?;
+        let checker = self.plain.checker(dimensions);
+        Ok(checker.last_difference(alloc, first, second)?)
     }
 
     /// Extracts a collision from two accepted pruned openings of one cap: the first pair of queries that gives a

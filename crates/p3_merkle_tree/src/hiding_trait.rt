@@ -6,7 +6,7 @@ ghost use Rattle.p3_merkle_prover.specs.Parts.{layers_of, matrices_of, tree_batc
 ghost use Rattle.p3_merkle_core.specs.Commitments.{IsCommitment};
 ghost use Rattle.p3_merkle_core.specs.Geometry.{shape_of, halved_index};
 ghost use Rattle.p3_merkle_core.specs.Nodes.{shape};
-ghost use Rattle.p3_merkle_core.specs.Presented.{IsVerdict};
+ghost use Rattle.p3_merkle_core.specs.Presented.{IsExactVerdict, IsVerdict};
 ghost use Rattle.p3_merkle_core.specs.Refusals.{AnswersUnlessMemory};
 ghost use Rattle.p3_merkle_core.specs.Views.{batch_of};
 ghost use Rattle.p3_merkle_core.specs.declared.error.MerkleTreeError.TheVariants.{OutOfMemory};
@@ -167,9 +167,9 @@ where
         index: usize,
         opening: BatchOpeningRef<'_, P::Value, Self::Proof>,
     ) -> Result<(), Self::Error>
-        ensures { IsVerdict (presented_one self.now dimensions.now commitment.now index opening.entry) result }
+        ensures { IsExactVerdict (presented_one self.now dimensions.now commitment.now index opening.entry) result }
     {
-        self.verify_batch(alloc, commitment, dimensions, index, opening)
+        self.verify_batch(commitment, dimensions, index, opening)
     }
 
     #[tactic(auto, using(crate::specs::Inner::SaltedCommitmentLaws::left_greatest))]

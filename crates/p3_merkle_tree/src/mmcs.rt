@@ -4,7 +4,9 @@
 ghost use Rattle.std.specs.Prelude.{◌≡◌, ◌<◌, ◌≤◌, IfOk, IsTrue, None};
 ghost use Rattle.p3_merkle_core.specs.Computed.{Computes};
 ghost use Rattle.p3_merkle_core.specs.Geometry.{is_arity, IsArity};
+ghost use Rattle.p3_merkle_core.specs.Openings.{opening_of};
 ghost use Rattle.p3_support.specs.Batches.{greatest};
+ghost use Rattle.p3_support.specs.Rows.{rows_in};
 
 use p3_merkle_core::cap::CapRule;
 use p3_merkle_core::error::MerkleTreeError;
@@ -19,6 +21,7 @@ use p3_support::hasher::CryptographicHasher;
 use p3_support::matrix::{Dimensions, Matrix};
 use p3_support::opening::{BatchOpening, BatchOpeningRef, MerkleCap};
 use p3_support::packed::PackedValue;
+use p3_support::row_parts::RowParts;
 use std::alloc::{AllocError, Global};
 use std::marker::PhantomData;
 
@@ -143,7 +146,7 @@ impl<
     ghost use Rattle.p3_merkle_core.specs.Views.{opening_made, heights_in};
     ghost use Rattle.p3_merkle_core.specs.declared.cap.CapRule.TheVariants.{Lowered};
     ghost use Rattle.p3_merkle_prover.specs.Parts.{matrices_of, tree_batch};
-    ghost use Rattle.p3_merkle_tree.specs.Committed.{presented_one, Commits, Opens};
+    ghost use Rattle.p3_merkle_tree.specs.Committed.{presented_one, presented_under, Commits, Opens};
     ghost use Rattle.p3_merkle_tree.specs.Schemes.{cap_height_of, cap_rule_of, compression_of, hash_of, params_of};
     ghost use Rattle.p3_merkle_verifier.specs.Inner.Checks.{params_in};
     ghost use Rattle.p3_support.specs.Shown.{roots_of};
@@ -324,9 +327,31 @@ impl<
     ) -> Result<(), MerkleTreeError>
         ensures { IsExactVerdict (presented_one self.now dimensions.now commit.now index opening.entry) result }
     {
-        let opening = OpeningRef::new(index, opening);
-        self.checker(dimensions)
-            .check_opening(commit.roots(), opening)
+        let (rows, siblings) = opening.unpack();
+        let rows = RowParts::Vecs(rows);
+        self.verify_rows(commit.roots(), dimensions, index, rows, siblings)
+    }
+
+    /// Verifies an opening of the leaf `index` as [`verify_batch`](Self::verify_batch) does, with the same errors,
+    /// wherever its rows lie: see [`RowParts`]. `roots` are those of the cap, and `siblings` are those on the leaf's
+    /// path, level by level from the leaves up. It copies nothing and does not allocate.
+    pub fn verify_rows(
+        &self,
+        roots: &[[PW::Value; D]],
+        dimensions: &[Dimensions],
+        index: usize,
+        rows: RowParts<'_, P::Value>,
+        siblings: &[[PW::Value; D]],
+    ) -> Result<(), MerkleTreeError>
+        ensures { let opening = opening_of index (rows_in rows.entry) siblings.now in
+            IsExactVerdict (presented_under self.now dimensions.now roots.now opening) result }
+    {
+        let opening = OpeningRef {
+            index,
+            rows,
+            siblings,
+        };
+        self.checker(dimensions).check_opening(roots, 0, opening)
     }
 }
 

@@ -8,14 +8,14 @@
 ghost use Rattle.std.specs.Prelude.{◌≡◌, ◌<◌, zip, IfOk, IsTrue, length, replicate};
 ghost use Rattle.std.specs.Cmp.Lexicographic.{pointwise};
 ghost use Rattle.std.specs.Option.{option_or};
-ghost use Rattle.p3_support.specs.Batches.{heights_of, CanWiden};
+ghost use Rattle.p3_support.specs.Batches.{heights_of};
 ghost use Rattle.p3_support.specs.Rows.{rows_in};
 ghost use Rattle.p3_merkle_core.specs.Checks.{digests_at, words_at, words_of_exponent};
 ghost use Rattle.p3_merkle_core.specs.Extraction.{difference_of, input_eq, last_difference};
 ghost use Rattle.p3_merkle_core.specs.Geometry.{layer_exponent, shape_of};
 ghost use Rattle.p3_merkle_core.specs.Refusals.{refusal_under, AnswersUnlessMemory, IsEquality};
 ghost use Rattle.p3_merkle_verifier.specs.Inner.Checks.{functions_of, leaf_difference, opening_in, params_in, shape_in};
-ghost use Rattle.p3_merkle_verifier.specs.Inner.Checks.{salted_params_in, AgreeBelow, AgreeOnLevel, ShowsLevel};
+ghost use Rattle.p3_merkle_verifier.specs.Inner.Checks.{AgreeBelow, AgreeOnLevel, ShowsLevel};
 ghost use Rattle.p3_merkle_verifier.specs.Inner.Collisions.{first_words, inputs_above, second_words, IsDifference};
 ghost use Rattle.p3_merkle_verifier.specs.Inner.Collisions.{Shows};
 ghost use Rattle.p3_merkle_verifier.specs.Inner.Paths.{CanReach};
@@ -256,9 +256,9 @@ impl<
     }
 
     /// The last place that the checks of two openings share and at which they differ, with both inputs. `None` if they
-    /// agree. Both openings must have their siblings up to the cap. Only the inputs of
-    /// places that differ are copied.
-    pub(crate) fn last_difference(
+    /// agree. Both openings must have their siblings up to the cap. Only the inputs of places that differ are copied.
+    /// `AllocError` if memory runs out.
+    pub fn last_difference(
         &self,
         alloc: Global,
         first: OpeningRef<'_, P::Value, [PW::Value; D]>,
@@ -303,21 +303,18 @@ impl<
         &self,
         alloc: Global,
         roots: &[[PW::Value; D]],
-        salt_elems: usize,
         first: OpeningRef<'_, P::Value, [PW::Value; D]>,
         second: OpeningRef<'_, P::Value, [PW::Value; D]>,
     ) -> Result<Option<Collision<P::Value, PW::Value, D>>, MerkleTreeError>
-        requires fits { 0 < salt_elems → CanWiden salt_elems self.now.schedule.dimensions.now }
-        ensures answer { let refusal = refusal_under PW.Value.eq (salted_params_in salt_elems self.now) roots.now in
+        ensures answer { let refusal = refusal_under PW.Value.eq (params_in self.now) roots.now in
             AnswersUnlessMemory result
             (option_or (refusal (opening_in first.entry)) (refusal (opening_in second.entry))) }
         ensures found { let o = opening_in first.entry in
-            let c = salted_params_in salt_elems self.now in
-            let difference = difference_of P.Value.eq PW.Value.eq c o (opening_in second.entry) in
+            let difference = difference_of P.Value.eq PW.Value.eq (params_in self.now) o (opening_in second.entry) in
             IfOk result (λ found. Shows found difference) }
     {
-        self.check_opening(roots, salt_elems, first)?;
-        self.check_opening(roots, salt_elems, second)?;
+        self.check_opening(roots, 0, first)?;
+        self.check_opening(roots, 0, second)?;
         Ok(self.last_difference(alloc, first, second)?)
     }
 }

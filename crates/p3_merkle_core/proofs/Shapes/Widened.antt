@@ -1,12 +1,16 @@
--- Steps and paths depend on the heights of matrices alone: matrices with more columns have the same.
-use Rattle.std.proofs.Common.{◌≡◌, ◌∙◌, ℕ, zero, suc, ◌+◌, ◌-◌, List, [], ◌∷◌, ap, refl, sym}
-use Rattle.std.specs.Prelude.{◌&&◌, ◌==◌, flat_map, if◌then◌else◌, nat_lt}
+-- Steps, paths and cap layers depend on the heights of matrices alone: matrices with more columns have the same.
+use Rattle.std.proofs.Common.{◌≡◌, ◌∙◌, ℕ, zero, suc, ◌+◌, ◌-◌, Bool, List, [], ◌∷◌, ap, refl, sym}
+use Rattle.std.specs.Prelude.{◌&&◌, ◌==◌, flat_map, if◌then◌else◌, min, nat_lt}
 use Rattle.std.specs.List.{list_any, range_with_len}
 use Rattle.p3_support.specs.Batches.{greatest, heights_of, widened}
 use Rattle.p3_support.specs.declared.matrix.Dimensions.{Dimensions}
+use Rattle.p3_merkle_core.specs.Caps.{cap_layer, levels_above_rows, max_cap_height}
+use Rattle.p3_merkle_core.specs.declared.cap.CapRule.{CapRule}
+use Rattle.p3_merkle_core.specs.declared.cap.CapRule.TheVariants.{Fixed, Lowered}
+use Rattle.p3_merkle_core.specs.Extraction.{difference_of, input_eq, last_difference}
 use Rattle.p3_merkle_core.specs.Checks.{inputs_at, layer_words, meeting_level, params, path_digest, shared_inputs}
 use Rattle.p3_merkle_core.specs.Checks.{siblings_below, words_at}
-use Rattle.p3_merkle_core.specs.Geometry.{ancestor, exponent, has_rows, is_bridge, layer_exponent, leaves_under}
+use Rattle.p3_merkle_core.specs.Geometry.{ancestor, exponent, has_rows, is_bridge, layer_below_root, layer_exponent, leaves_under, levels}
 use Rattle.p3_merkle_core.specs.Geometry.{least, shape_of, step}
 use Rattle.p3_merkle_core.specs.declared.collision.Place.TheVariants.{Leaf}
 use Rattle.p3_merkle_core.specs.Nodes.{Functions}
@@ -74,3 +78,26 @@ module _ (n : ℕ) (ds es : List Dimensions) (same : heights_of ds ≡ heights_o
       λ k. let m = meeting_same t i j k in
       if i == j then words_at Leaf (words_same o.rows 0 k) ∷ flat_map (λ l. inputs_same f o l k) (range_with_len 0 t)
       else flat_map (λ l. inputs_same f o (m + l) k) (range_with_len 0 (t - m))
+
+  pub difference_same : {T W : Type 0} (eq : T → T → Bool) (same : W → W → Bool) (f : Functions T W) (t : ℕ)
+      (o u : Opening T W) →
+      difference_of eq same (params f (shape_of n ds) t) o u ≡ difference_of eq same (params f (shape_of n es) t) o u
+  difference_same eq test f t o u =
+      λ k. last_difference (input_eq eq test) (shared_same f t o.index u.index o k) (shared_same f t o.index u.index u k)
+
+  levels_same : levels (shape_of n ds) ≡ levels (shape_of n es)
+  levels_same = λ k. least (λ l. exponent_same l k == 0) (exponent (greatest (same k)))
+
+  rows_below_root_same : (x : ℕ) →
+      has_rows (shape_of n ds) (layer_below_root (shape_of n ds) x)
+      ≡ has_rows (shape_of n es) (layer_below_root (shape_of n es) x)
+  rows_below_root_same x = has_rows_same (levels (shape_of n ds) - x)
+      ∙ ap (λ l. has_rows (shape_of n es) (l - x)) levels_same
+
+  max_cap_height_same : (rule : CapRule) → max_cap_height (shape_of n ds) rule ≡ max_cap_height (shape_of n es) rule
+  max_cap_height_same Lowered = λ k. least (λ x. rows_below_root_same x k) (levels_same k)
+  max_cap_height_same Fixed = levels_same
+
+  pub cap_layer_same : (rule : CapRule) (cap_height : ℕ) →
+      cap_layer (shape_of n ds) rule cap_height ≡ cap_layer (shape_of n es) rule cap_height
+  cap_layer_same rule cap_height = λ k. levels_same k - min cap_height (max_cap_height_same rule k)
