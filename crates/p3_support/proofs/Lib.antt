@@ -7,3 +7,4 @@ pub mod LaneReads
 pub mod VerifiedRows
 pub mod FlatRows
 pub mod RowFacts
+pub mod RowSetFacts

@@ -2,6 +2,7 @@ pub mod Batches
 pub mod Lists
 pub mod RowMajor
 pub mod Rows
+pub mod RowSets
 pub mod Pairs
 pub mod Salts
 pub mod Shown

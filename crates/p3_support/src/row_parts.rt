@@ -1,9 +1,12 @@
-//! The rows of one opening, wherever they lie.
+//! The rows of openings, wherever they lie. A row set has one row of each matrix, in input order.
 
-ghost use Rattle.std.specs.Prelude.{◌≡◌, drop, length, slice_get};
+ghost use Rattle.std.specs.Prelude.{◌≡◌, ◌++◌, ◌<◌, [], drop, length, slice_get, slice_index_or};
+ghost use Rattle.std.specs.Cmp.Lexicographic.{pointwise};
 ghost use Rattle.std.specs.Option.{option_map};
 ghost use Rattle.p3_support.specs.Batches.{widths_of};
-ghost use Rattle.p3_support.specs.Rows.{first_len, parts_of};
+ghost use Rattle.p3_support.specs.RowSets.{sets_in};
+ghost use Rattle.p3_support.specs.Rows.{first_len, parts_of, rows_in};
+ghost use Rattle.p3_support.specs.Shown.{row_lists, row_sets};
 
 use crate::matrix::Dimensions;
 
@@ -93,4 +96,120 @@ impl<'a, T> RowParts<'a, T> {
             }
         }
     }
+}
+
+impl<'a, T: Eq> RowParts<'a, T> {
+    /// Whether both have the same rows, however they are parted.
+    pub fn same_rows(mut self, mut other: RowParts<'_, T>) -> bool
+        ensures { result ≡ pointwise (pointwise T.eq) (rows_in self.entry) (rows_in other.entry) }
+    {
+        while let Some(row) = self.next_row() {
+            let Some(other_row) = other.next_row() else {
+                return false;
+            };
+            if !same_row(row, other_row) {
+                return false;
+            }
+        }
+        other.next_row().is_none()
+    }
+}
+
+/// Whether two rows, each in two parts, have the same words.
+pub fn same_row<T: Eq>(row: (&[T], &[T]), other: (&[T], &[T])) -> bool
+    ensures { result ≡ pointwise T.eq (row.entry.0.now ++ row.entry.1.now) (other.entry.0.now ++ other.entry.1.now) }
+{
+    let ((first, second), (other_first, other_second)) = (row, other);
+    if first.len() <= other_first.len() {
+        let (front, back) = other_first.split_at(first.len());
+        first == front && is_joined(second, back, other_second)
+    } else {
+        let (front, back) = first.split_at(other_first.len());
+        front == other_first && is_joined(other_second, back, second)
+    }
+}
+
+/// Whether `row` is `first` followed by `second`.
+fn is_joined<T: Eq>(row: &[T], first: &[T], second: &[T]) -> bool
+    ensures { result ≡ pointwise T.eq row.now (first.now ++ second.now) }
+{
+    if row.len() < first.len() {
+        return false;
+    }
+    let (front, back) = row.split_at(first.len());
+    front == first && back == second
+}
+
+/// The row sets of several queries. Each row is read in two parts, as in [`RowParts`].
+#[derive_where(Clone, Copy)]
+pub enum RowSets<'a, T> {
+    /// Each row is a vector.
+    Vecs(&'a [Vec<Vec<T>>]),
+    /// Each row is followed by its salts. Row sets and salt sets are paired in order, and so are the rows and the lists
+    /// of salts of each, up to the end of the shorter list.
+    Salted {
+        /// The row sets.
+        sets: &'a [Vec<Vec<T>>],
+        /// The salts of each row of each set.
+        salts: &'a [Vec<Vec<T>>],
+    },
+}
+
+impl<'a, T> RowSets<'a, T> {
+    /// How many row sets there are.
+    pub fn num_sets(&self) -> usize
+        ensures { result ≡ length (sets_in self.now) }
+    {
+        match self {
+            RowSets::Vecs(sets) => sets.len(),
+            RowSets::Salted { sets, salts } => sets.len().min(salts.len()),
+        }
+    }
+
+    /// The row set of a query, which must be below the number of row sets.
+    pub fn rows(&self, query: usize) -> RowParts<'a, T>
+        requires { query < length (sets_in self.now) }
+        ensures { rows_in result ≡ slice_index_or (sets_in self.now) query [] }
+    {
+        match *self {
+            RowSets::Vecs(sets) => RowParts::Vecs(set_at(sets, query)),
+            RowSets::Salted { sets, salts } => RowParts::Salted {
+                rows: set_at(sets, query),
+                salts: set_at(salts, query),
+            },
+        }
+    }
+
+    /// The row that a query opened of a matrix: its first and its second part, which is empty if the row lies in one
+    /// piece. The query must be below the number of row sets, and the matrix below the number of its rows.
+    pub fn row(&self, query: usize, matrix: usize) -> (&'a [T], &'a [T])
+        requires query { query < length (sets_in self.now) }
+        requires matrix { matrix < length (slice_index_or (sets_in self.now) query []) }
+        ensures { result.0.now ++ result.1.now
+            ≡ slice_index_or (slice_index_or (sets_in self.now) query []) matrix [] }
+    {
+        match *self {
+            RowSets::Vecs(sets) => (row_at(set_at(sets, query), matrix), &[]),
+            RowSets::Salted { sets, salts } => (
+                row_at(set_at(sets, query), matrix),
+                row_at(set_at(salts, query), matrix),
+            ),
+        }
+    }
+}
+
+/// The row set of a query, which must be below the number of row sets.
+fn set_at<'a, T>(sets: &'a [Vec<Vec<T>>], query: usize) -> &'a [Vec<T>]
+    requires { query < length sets.now }
+    ensures { row_lists result.now ≡ slice_index_or (row_sets sets.now) query [] }
+{
+    &sets[query]
+}
+
+/// The row of a matrix, which must be below the number of rows.
+fn row_at<'a, T>(rows: &'a [Vec<T>], matrix: usize) -> &'a [T]
+    requires { matrix < length rows.now }
+    ensures { result.now ≡ slice_index_or (row_lists rows.now) matrix [] }
+{
+    &rows[matrix]
 }

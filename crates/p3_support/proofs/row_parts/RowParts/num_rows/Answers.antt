@@ -12,8 +12,13 @@ pub returns-in-Salted : goal.returns-in-Salted
 returns-in-Salted g c =
     let rows = c.in-Salted.rows.now in
     let salts = c.in-Salted.salts.now in
-    rw c.in-Salted.is (omega (arith, c.min.ensures, length-zip (row_lists rows) (row_lists salts),
-    length-map rows (λ row. row.items), length-map salts (λ row. row.items)))
+    rw c.in-Salted.is (omega (
+      arith,
+      c.min.ensures,
+      length-zip (row_lists rows) (row_lists salts),
+      length-map rows (λ row. row.items),
+      length-map salts (λ row. row.items),
+    ))
 
 pub returns-in-Flat : goal.returns-in-Flat
 returns-in-Flat g c =
