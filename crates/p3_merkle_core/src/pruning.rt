@@ -14,7 +14,7 @@ ghost use Rattle.std.specs.Cmp.Lexicographic.{pointwise};
 ghost use Rattle.std.specs.List.Sorted.{IsStrictlyIncreasing};
 ghost use Rattle.p3_support.specs.Batches.{heights_of, greatest};
 ghost use Rattle.p3_support.specs.Lists.{is_among};
-ghost use Rattle.p3_support.specs.Shown.{row_lists, row_sets};
+ghost use Rattle.p3_support.specs.RowSets.{sets_in};
 ghost use Rattle.p3_merkle_core.specs.Geometry.{height_limit, shape_of, IsArity};
 ghost use Rattle.p3_merkle_core.specs.Refusals.{digest_count_refusal, duplicate_refusal, pruned_refusal};
 ghost use Rattle.p3_merkle_core.specs.Refusals.{queries_refusal, AnswersUnlessMemory};
@@ -28,10 +28,11 @@ ghost use Rattle.p3_merkle_core.specs.declared.error.MerkleTreeError.TheVariants
 use crate::covered_nodes::Covered;
 use crate::error::{MerkleTreeError, PrunedProofError};
 use crate::gate::check_heights;
-use crate::geometry::{check_widths, exponent_of, parent_of, position_of};
+use crate::geometry::{check_row_widths, exponent_of, parent_of, position_of};
 use crate::group::append_siblings;
 use crate::schedule::Schedule;
 use p3_support::matrix::Dimensions;
+use p3_support::row_parts::{RowSets, same_row};
 use std::alloc::{AllocError, Global};
 
 /// The digests of a pruned proof, which opens several leaves at once. [`PrunedMerklePaths`] has digests of words.
@@ -170,47 +171,48 @@ fn distinct_queries_of(alloc: Global, queries: &[usize]) -> Result<DistinctQueri
 /// first that has not. `rows` must have a row set for each of `indices`, and `queried` must be of these indices.
 fn check_repeats<T: Eq>(
     indices: &[usize],
-    rows: &[Vec<Vec<T>>],
+    rows: RowSets<'_, T>,
     queried: &DistinctQueries,
 ) -> Result<(), MerkleTreeError>
     requires queried { AreDistinctOf queried.now indices.now }
-    requires pairs { length indices.now ≡ length rows.now }
-    ensures { let p = opened_of indices.now (row_sets rows.now) in
+    requires pairs { length indices.now ≡ length (sets_in rows) }
+    ensures { let p = opened_of indices.now (sets_in rows.entry) in
         MatchResult result (λ ok. duplicate_refusal T.eq p ≡ None) (λ e. duplicate_refusal T.eq p ≡ Some e) }
 {
     for query in 0..indices.len() {
         let slot = queried.slots[query];
         let first = queried.first_queries[slot];
         // Nothing is compared where both are the same query.
-        if query != first && rows[query] != rows[first] {
+        if query != first && !rows.rows(query).same_rows(rows.rows(first)) {
             return Err(PrunedProofError::InconsistentDuplicateOpenings { slot }.into());
         }
     }
     Ok(())
 }
 
-/// Checks that `rows` and `first_rows` have the same row of each of `matrices`, else `InconsistentGroupOpening` for the
-/// first that differs. `matrices` must be positions in both. `rows` is the row set of `slot`, and `first_rows` that of
-/// the first slot under the same node. `slot` is only reported.
+/// Checks that the row sets of `query` and `first_query` have the same row of each of `matrices`, else
+/// `InconsistentGroupOpening` for the first that differs. `matrices` must be positions in both. `query` is the first
+/// query of `slot`, and `first_query` that of the first slot under the same node. `slot` is only reported.
 fn check_same_rows<T: Eq>(
     matrices: &[usize],
     slot: usize,
-    rows: &[Vec<T>],
-    first_rows: &[Vec<T>],
+    rows: RowSets<'_, T>,
+    query: usize,
+    first_query: usize,
 ) -> Result<(), MerkleTreeError>
-    requires rows { All (λ matrix. matrix < length rows.now) matrices.now }
-    requires first_rows { All (λ matrix. matrix < length first_rows.now) matrices.now }
-    ensures { let refusal = rows_refusal T.eq matrices.now slot (row_lists rows.now) (row_lists first_rows.now) in
+    requires query { query < length (sets_in rows) }
+    requires first_query { first_query < length (sets_in rows) }
+    requires rows { All (λ matrix. matrix < length (slice_index_or (sets_in rows) query [])) matrices.now }
+    requires first_rows { All (λ matrix. matrix < length (slice_index_or (sets_in rows) first_query []))
+        matrices.now }
+    ensures { let sets = sets_in rows.entry in
+        let refusal = rows_refusal T.eq matrices.now slot (slice_index_or sets query [])
+        (slice_index_or sets first_query []) in
         MatchResult result (λ ok. refusal ≡ None) (λ e. refusal ≡ Some e) }
 {
     for matrix in matrices {
         let matrix = *matrix;
-        // Rows of one word are compared in place: a call takes longer.
-        let differ = match (rows[matrix].as_slice(), first_rows[matrix].as_slice()) {
-            ([word], [first]) => *word != *first,
-            (words, first) => words != first,
-        };
-        if differ {
+        if !same_row(rows.row(query, matrix), rows.row(first_query, matrix)) {
             return Err(PrunedProofError::InconsistentGroupOpening { slot, matrix }.into());
         }
     }
@@ -226,24 +228,23 @@ fn check_rows_under_nodes<T: Eq>(
     indices: &[usize],
     bits: usize,
     first_queries: &[usize],
-    rows: &[Vec<Vec<T>>],
+    rows: RowSets<'_, T>,
 ) -> Result<(), MerkleTreeError>
     requires pairs { length indices.now ≡ length first_queries.now }
     requires ascending { IsAscending indices.now }
     requires bits { bits < 64 }
-    requires queries { All (λ query. query < length rows.now) first_queries.now }
+    requires queries { All (λ query. query < length (sets_in rows)) first_queries.now }
     requires full { (k : ℕ) → k < length first_queries.now →
-        All (λ matrix. matrix < length (slot_rows first_queries.now (row_sets rows.now) k)) matrices.now }
+        All (λ matrix. matrix < length (slot_rows first_queries.now (sets_in rows) k)) matrices.now }
     ensures { let nodes = map (λ i. i / 2 ^ bits) indices.now in
-        let refusal = nodes_refusal T.eq matrices.now nodes first_queries.now (row_sets rows.now) in
+        let refusal = nodes_refusal T.eq matrices.now nodes first_queries.now (sets_in rows.entry) in
         MatchResult result (λ ok. refusal ≡ None) (λ e. refusal ≡ Some e) }
 {
     let mut first_slot = 0;
     for slot in 1..indices.len() {
         if indices[slot] >> bits == indices[first_slot] >> bits {
-            let own_rows = &rows[first_queries[slot]];
-            let first_rows = &rows[first_queries[first_slot]];
-            check_same_rows(matrices, slot, own_rows, first_rows)?;
+            let query = first_queries[slot];
+            check_same_rows(matrices, slot, rows, query, first_queries[first_slot])?;
         } else {
             first_slot = slot;
         }
@@ -278,7 +279,7 @@ fn check_shared_rows<T: Eq>(
     schedule: &Schedule<'_>,
     cap_layer: usize,
     queried: &DistinctQueries,
-    rows: &[Vec<Vec<T>>],
+    rows: RowSets<'_, T>,
 ) -> Result<(), MerkleTreeError>
     requires arity { IsArity schedule.now.arity }
     requires low { greatest (heights_of schedule.now.dimensions.now) ≤ height_limit }
@@ -286,12 +287,13 @@ fn check_shared_rows<T: Eq>(
     requires layer { cap_layer ≤ schedule.now.num_levels }
     requires pairs { length queried.now.indices.items ≡ length queried.now.first_queries.items }
     requires ascending { IsStrictlyIncreasing queried.now.indices.items }
-    requires queries { All (λ query. query < length rows.now) queried.now.first_queries.items }
+    requires queries { All (λ query. query < length (sets_in rows)) queried.now.first_queries.items }
     requires full { (k : ℕ) → k < length queried.now.first_queries.items →
-        length (slot_rows queried.now.first_queries.items (row_sets rows.now) k) ≡ length schedule.now.dimensions.now }
+        length (slot_rows queried.now.first_queries.items (sets_in rows) k)
+        ≡ length schedule.now.dimensions.now }
     ensures { let s = shape_of schedule.now.arity schedule.now.dimensions.now in
         let refusal = layers_refusal T.eq s cap_layer queried.now.indices.items queried.now.first_queries.items
-        (row_sets rows.now) in
+        (sets_in rows.entry) in
         AnswersUnlessMemory result refusal }
 {
     let mut matrices = Vec::new(alloc);
@@ -333,7 +335,7 @@ fn check_shared_rows<T: Eq>(
 /// - `IndexOutOfBounds`: the highest index is not below the tallest height;
 /// - `InconsistentDuplicateOpenings`: the row set of a query is not that of the first query of its index;
 /// - `SiblingCountMismatch`: the number of digests is not that of the boundary nodes;
-/// - `WrongBatchSize`, `WrongWidth`: by ascending indices, the error of [`check_widths`] for the first query of each;
+/// - `WrongBatchSize`, `WrongWidth`: by ascending indices, the error of [`check_row_widths`] for the first query of each;
 /// - `InconsistentGroupOpening`: layer by layer up to `cap_layer`, by ascending indices and in input order of the
 ///   layer's matrices, a row is not that of the lowest index under the same node.
 pub fn check_pruned<T: Eq>(
@@ -341,24 +343,24 @@ pub fn check_pruned<T: Eq>(
     schedule: &Schedule<'_>,
     cap_layer: usize,
     indices: &[usize],
-    rows: &[Vec<Vec<T>>],
+    rows: RowSets<'_, T>,
     num_digests: usize,
 ) -> Result<DistinctQueries, MerkleTreeError>
     requires arity { IsArity schedule.now.arity }
     requires layer { cap_layer ≤ schedule.now.num_levels }
     ensures { let refusal = pruned_refusal T.eq (shape_of schedule.now.arity schedule.now.dimensions.now) cap_layer
-        (opened_with indices.now (row_sets rows.now) num_digests) in
+        (opened_with indices.now (sets_in rows.entry) num_digests) in
         MatchResult result (λ queried. (refusal ≡ None) × AreDistinctOf queried indices.now)
         (λ e. (e ≡ OutOfMemory) ⊎ (refusal ≡ Some e)) }
 {
-    check_queries(schedule, indices, rows.len(), num_digests)?;
+    check_queries(schedule, indices, rows.num_sets(), num_digests)?;
     let queried = distinct_queries_of(alloc, indices)?;
     check_repeats(indices, rows, &queried)?;
     let leaves = Vec::from_slice(alloc, &queried.indices)?;
     let covered = Covered::new(schedule, indices, leaves);
     check_digest_count(covered.boundary_len(cap_layer), num_digests)?;
     for query in &queried.first_queries {
-        check_widths(schedule.dimensions, &rows[*query])?;
+        check_row_widths(schedule.dimensions, 0, rows.rows(*query))?;
     }
     check_shared_rows(alloc, schedule, cap_layer, &queried, rows)?;
     Ok(queried)

@@ -25,7 +25,7 @@ use Rattle.p3_merkle_core.proofs.Shapes.LadderFacts.{shifted_is_anc}
 use Rattle.p3_merkle_core.proofs.Shapes.LevelFacts.{exponent_low}
 use Rattle.p3_merkle_core.proofs.Shapes.StepFacts.{anc_start}
 use Rattle.p3_merkle_core.proofs.Lists.RisingFacts.{listed_at, listed_in, none_kept, rising_from}
-use Rattle.p3_merkle_core.proofs.Pruned.SlotFacts.{first_place, rising_order, set_read}
+use Rattle.p3_merkle_core.proofs.Pruned.SlotFacts.{first_place, rising_order}
 
 -- ---- the first place of a number
 
@@ -218,21 +218,16 @@ slots_start row_eq laws matrices (x ∷ xs) firsts sets =
     (first_slot_agrees row_eq laws matrices nodes firsts sets 0 (first_start nodes))
 
 -- the row set of a slot, as the code reads it
-pub rows_read : {T A B : Type 0} (rows : List (Vec (Vec T A) B)) (firsts : List ℕ) (k : ℕ) (set : Vec (Vec T A) B)
-    (read : List (Vec T A)) → All (λ query. query < length rows) firsts → k < length firsts → set
-    ≡ get_or rows (get_or firsts k 0) set → read ≡ set.items → row_lists read ≡ slot_rows firsts (row_sets rows) k
-rows_read rows firsts k set read inside h is value = ap row_lists value
-    ∙ sym (set_read rows (get_or firsts k 0) set (inside k 0 h) is)
+pub rows_read : {T : Type 0} (sets : List (List (List T))) (firsts : List ℕ) (k query : ℕ) → k < length firsts →
+    query ≡ get_or firsts k query → slot_rows firsts sets k ≡ get_or sets query []
+rows_read sets firsts k query inside is =
+    ap (λ q. get_or sets q []) (get_or_default firsts k 0 query inside ∙ sym is)
 
 none_within : (g : ℕ → Option MerkleTreeError) (a n : ℕ) → ((k : ℕ) → k < a + n → g k ≡ None) →
     first_of g (range_with_len a n) ≡ None
 none_within g a zero none = refl
 none_within g a (suc n) none =
     rw (none a (omega arith)) (none_within g (a + 1) n (λ k h. none k (omega arith)))
-
-pub full_rows : {T A : Type 0} (rows : List (Vec T A)) (set : List (List T)) (n : ℕ) → row_lists rows ≡ set → length set
-    ≡ n → length rows ≡ n
-full_rows rows set n e l = sym (length-map rows (λ row. row.items)) ∙ ap length e ∙ l
 
 pub first_slot_place : (nodes : List ℕ) (k first : ℕ) → k < length nodes → first
     ≡ first_query nodes (get_or nodes k 0) → first < length nodes

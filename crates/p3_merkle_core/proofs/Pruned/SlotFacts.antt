@@ -337,12 +337,6 @@ pub repeats_next : {T : Type 0} (row_eq : T → T → Bool) (firsts indices : Li
 repeats_next row_eq firsts indices sets n k is e h w =
     grind (arith, common_steps, drop-cons, add-one, queried_at, at_slot)
 
--- the row set of query n, as the code reads it
-pub set_read : {T A B : Type 0} (rows : List (Vec (Vec T A) B)) (n : ℕ) (v : Vec (Vec T A) B) → n < length rows → v
-    ≡ get_or rows n v → get_or (row_sets rows) n [] ≡ row_lists v.items
-set_read rows n v h e = get_or-map (λ rows. row_lists rows.items) rows n v [] h
-    ∙ ap (λ rows. row_lists rows.items) (sym e)
-
 -- one turn over the queries
 pub record IsRepeatTurn {T : Type 0} (row_eq : T → T → Bool) (indices : List ℕ) (sets : List (List (List T)))
     (total : Option MerkleTreeError) (n k : ℕ) (differ : Bool) : Type 0 where
@@ -350,31 +344,19 @@ pub record IsRepeatTurn {T : Type 0} (row_eq : T → T → Bool) (indices : List
       first_of (repeat_fault row_eq (opened_of indices sets)) (zip (drop (n + 1) indices) (drop (n + 1) sets)) ≡ total
   pub found : differ ≡ true → total ≡ Some (MalformedPrunedProof (InconsistentDuplicateOpenings k))
 
--- the row sets of two queries, as the code compares them
-pub sets_compared : {T A B : Type 0} (row_eq : T → T → Bool) (rows : List (Vec (Vec T A) B)) (n f : ℕ)
-    (mine theirs : Vec (Vec T A) B) → n < length rows → f < length rows → mine ≡ get_or rows n mine → theirs
-    ≡ get_or rows f theirs → pointwise (pointwise row_eq) (get_or (row_sets rows) n []) (get_or (row_sets rows) f [])
-    ≡ pointwise (λ a b. pointwise row_eq a.items b.items) mine.items theirs.items
-sets_compared row_eq rows n f mine theirs h k is_mine is_theirs =
-    rw (set_read rows n mine h is_mine, set_read rows f theirs k is_theirs)
-    (pointwise-map (λ r. r.items) (pointwise row_eq) mine.items theirs.items)
-
 -- a query has its own row set
 pub own_set : {T : Type 0} (row_eq : T → T → Bool) → IsEquivalence row_eq → (sets : List (List (List T))) (n f : ℕ) →
     n ≡ f → pointwise (pointwise row_eq) (get_or sets n []) (get_or sets f []) ≡ true
 own_set row_eq laws sets n f e = grind (arith, common_steps, lists_equiv)
 
-pub repeat_turn : {T A B : Type 0} (row_eq : T → T → Bool) (firsts indices : List ℕ) (rows : List (Vec (Vec T A) B))
+pub repeat_turn : {T : Type 0} (row_eq : T → T → Bool) (firsts indices : List ℕ) (sets : List (List (List T)))
     (total : Option MerkleTreeError) (n k f : ℕ) (differ : Bool) →
-    firsts ≡ map (first_query indices) (distinct indices) → length indices ≡ length rows → n < length indices →
+    firsts ≡ map (first_query indices) (distinct indices) → length indices ≡ length sets → n < length indices →
     IsSlot indices (get_or indices n 0) k → f ≡ get_or firsts k f → differ
-    ≡ not (pointwise (pointwise row_eq) (get_or (row_sets rows) n []) (get_or (row_sets rows) f [])) →
-    first_of (repeat_fault row_eq (opened_of indices (row_sets rows))) (zip (drop n indices) (drop n (row_sets rows)))
-    ≡ total →
-    IsRepeatTurn row_eq indices (row_sets rows) total n k differ
-repeat_turn row_eq firsts indices rows total n k f differ is e h w is_first is_differ so_far =
-    let sets = row_sets rows in
-    let long : length indices ≡ length sets = e ∙ sym (length-map rows (λ rows. row_lists rows.items)) in
+    ≡ not (pointwise (pointwise row_eq) (get_or sets n []) (get_or sets f [])) →
+    first_of (repeat_fault row_eq (opened_of indices sets)) (zip (drop n indices) (drop n sets)) ≡ total →
+    IsRepeatTurn row_eq indices sets total n k differ
+repeat_turn row_eq firsts indices sets total n k f differ is long h w is_first is_differ so_far =
     let at = at_slot firsts indices sets (get_or indices n 0) k is long (queried_at indices n h) w in
     let first : f ≡ get_or firsts k 0 = is_first ∙ get_or_default firsts k f 0 at.inside in
     let b = pointwise (pointwise row_eq) (get_or sets n []) (get_or sets (get_or firsts k 0) []) in

@@ -56,8 +56,15 @@ module _ (n : ℕ) (ds es : List Dimensions) (same : heights_of ds ≡ heights_o
       reached_leaf f (shape_of n ds) o ∙ rw (exponent_same 0, same) (sym (reached_leaf f (shape_of n es) o))
   path_same f o (suc l) =
       reached_next f (shape_of n ds) o l
-      ∙ rw (path_same f o l, siblings_same l, step_same l, leaves_under_same l, has_rows_same (suc l),
-      exponent_same (suc l), same) (sym (reached_next f (shape_of n es) o l))
+      ∙ rw (
+        path_same f o l,
+        siblings_same l,
+        step_same l,
+        leaves_under_same l,
+        has_rows_same (suc l),
+        exponent_same (suc l),
+        same,
+      ) (sym (reached_next f (shape_of n es) o l))
 
   words_same : {T : Type 0} (rows : List (List T)) (l : ℕ) →
       layer_words (shape_of n ds) rows l ≡ layer_words (shape_of n es) rows l
@@ -66,8 +73,15 @@ module _ (n : ℕ) (ds es : List Dimensions) (same : heights_of ds ≡ heights_o
   inputs_same : {T W : Type 0} (f : Functions T W) (o : Opening T W) (l : ℕ) →
       inputs_at f (shape_of n ds) o l ≡ inputs_at f (shape_of n es) o l
   inputs_same f o l =
-      rw (path_same f o l, siblings_same l, step_same l, leaves_under_same l, has_rows_same (suc l),
-      exponent_same (suc l), same) refl
+      rw (
+        path_same f o l,
+        siblings_same l,
+        step_same l,
+        leaves_under_same l,
+        has_rows_same (suc l),
+        exponent_same (suc l),
+        same,
+      ) refl
 
   meeting_same : (t i j : ℕ) → meeting_level (shape_of n ds) t i j ≡ meeting_level (shape_of n es) t i j
   meeting_same t i j = λ k. least (λ l. ancestor_same (suc l) i k == ancestor_same (suc l) j k) t

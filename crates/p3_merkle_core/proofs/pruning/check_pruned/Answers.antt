@@ -4,8 +4,9 @@ use Rattle.std.proofs.Common.{None, Option, Some}
 use Rattle.std.proofs.lemmas.List.{length-map}
 use Rattle.std.proofs.{lemmas.Result.err_from_is_err_and}
 use Rattle.std.specs.Prelude.{slice_index_or}
-use Rattle.p3_support.specs.Shown.{row_lists, row_sets}
+use Rattle.p3_support.specs.RowSets.{sets_in}
 use Rattle.p3_support.specs.Batches.{greatest, heights_of}
+use Rattle.p3_support.proofs.RowFacts.{widened_none}
 use Rattle.p3_merkle_core.specs.Geometry.{shape_of}
 use Rattle.p3_merkle_core.specs.Refusals.{width_refusal, pruned_refusal}
 use Rattle.p3_answers.specs.Answers.{first_of}
@@ -15,11 +16,11 @@ use Rattle.p3_merkle_core.proofs.Lists.RisingFacts.{increasing_from}
 use Rattle.p3_merkle_core.proofs.Pruned.AgreeFacts.{firsts_inside}
 use Rattle.p3_answers.proofs.AnswerFacts.{found_or, kept_or}
 use Rattle.p3_merkle_core.proofs.Pruned.LeadFacts.{all_fit, firsts_next}
-use Rattle.p3_merkle_core.proofs.Pruned.SlotFacts.{all_below, distinct_bounded, distinct_rising, set_read}
+use Rattle.p3_merkle_core.proofs.Pruned.SlotFacts.{all_below, distinct_bounded, distinct_rising}
 use Rattle.p3_merkle_core.proofs.Pruned.PrunedFacts.{asked_from, full_from, late_from, pruned_counted, pruned_late}
 use Rattle.p3_merkle_core.proofs.pruning.check_pruned.Given.{Over}
 use Rattle.p3_merkle_core.proofs.pruning.check_pruned.Goals.{After-deref-query-items}
-use Rattle.p3_merkle_core.proofs.pruning.check_pruned.Goals.{After-deref-in-loop-query, In_ok-check_digest_count}
+use Rattle.p3_merkle_core.proofs.pruning.check_pruned.Goals.{In_ok-check_digest_count}
 use Rattle.p3_merkle_core.proofs.pruning.check_pruned.Goals as goal
 
 pub new-covered-requires : goal.new-covered-requires
@@ -27,69 +28,53 @@ new-covered-requires g c = record {
   arity = c.requires.arity;
   low = c.in_ok-check_queries.ensures.low;
   below = all_below (greatest (heights_of c.args.schedule.now.dimensions.now)) c.args.indices.now
-      (asked_from (heights_of c.args.schedule.now.dimensions.now) c.args.indices.now (length c.args.rows.now)
-      c.args.num_digests c.in_ok-check_queries.ensures.answer).highest;
+      (asked_from (heights_of c.args.schedule.now.dimensions.now) c.args.indices.now (length (sets_in c.args.rows))
+      c.args.num_digests (rw c.num_sets.ensures at c.in_ok-check_queries.ensures.answer)).highest;
   nodes = c.in_ok-leaves.ensures.items ∙ c.deref.ensures.value ∙ c.in_ok-queried.ensures.indices;
 }
 
 pub returns-in_err-check_digest_count : goal.returns-in_err-check_digest_count
 returns-in_err-check_digest_count g c =
     let s = shape_of c.args.schedule.now.arity c.args.schedule.now.dimensions.now in
-    let early = rw (← length-map c.args.rows.now (λ rows. row_lists rows.items)) at
-    c.in_ok-check_queries.ensures.answer in
+    let early = rw c.num_sets.ensures at c.in_ok-check_queries.ensures.answer in
     let left = err_from_is_err_and c.from_residual-in_err-check_digest_count.result
     c.from_residual-in_err-check_digest_count.ensures.1 in
     let len = rw (c.new-covered.ensures.schedule, c.new-covered.ensures.indices) at c.boundary_len.ensures in
     let some = rw len at c.in_err-check_digest_count.ensures in
-    let found = pruned_counted g.T.PartialEq.eq s c.args.cap_layer c.args.indices.now (row_sets c.args.rows.now)
+    let found = pruned_counted g.T.PartialEq.eq s c.args.cap_layer c.args.indices.now (sets_in c.args.rows)
     c.args.num_digests c.in_err-check_digest_count.field-0.0 early
     (rw (c.in_ok-check_repeats.ensures, some) refl) in
     rw left.1 (inr (found ∙ ap (λ e. Some e) (sym left.2)))
 
 -- the first queries are queries
 inside : (g : Over) (c : After-deref-query-items g) →
-    All (λ query. query < length c.args.rows.now) c.deref-query-items.result.now
+    All (λ query. query < length (sets_in c.args.rows)) c.deref-query-items.result.now
 inside g c =
-    let asked = asked_from (heights_of c.args.schedule.now.dimensions.now) c.args.indices.now (length c.args.rows.now)
-    c.args.num_digests c.in_ok-check_queries.ensures.answer in
+    let asked = asked_from (heights_of c.args.schedule.now.dimensions.now) c.args.indices.now (length (sets_in c.args.rows))
+    c.args.num_digests (rw c.num_sets.ensures at c.in_ok-check_queries.ensures.answer) in
     rw (c.deref-query-items.ensures.value, ← asked.pairs) (firsts_inside
     c.in_ok-queried.queried.first_queries.items c.args.indices.now c.in_ok-queried.ensures.first_queries)
-
--- the row set of one of them, as the code reads it
-read : (g : Over) (c : After-deref-in-loop-query g) →
-    All (λ query. query < length c.args.rows.now) c.deref-query-items.result.now →
-    get_or (row_sets c.args.rows.now) (get_or c.deref-query-items.result.now c.loop-query.query-index 0) []
-    ≡ row_lists c.deref-in-loop-query.result.now
-read g c all = set_read c.args.rows.now (get_or c.deref-query-items.result.now c.loop-query.query-index 0)
-    c.index-rows-query.result (all c.loop-query.query-index 0 c.loop-query-test.true) c.index-rows-query.is
-    ∙ ap row_lists (sym c.deref-in-loop-query.ensures.value)
 
 -- where nothing is refused before the rows are looked at, they decide
 late : (g : Over) (c : In_ok-check_digest_count g) (answer : Option MerkleTreeError) →
     let s = shape_of c.args.schedule.now.arity c.args.schedule.now.dimensions.now in
-    let sets = row_sets c.args.rows.now in
+    let sets = sets_in c.args.rows in
     late_refusal g.T.PartialEq.eq s c.args.cap_layer c.in_ok-queried.queried.indices.items
     c.in_ok-queried.queried.first_queries.items sets ≡ answer →
     pruned_refusal g.T.PartialEq.eq s c.args.cap_layer (opened_with c.args.indices.now sets c.args.num_digests) ≡ answer
 late g c answer is =
-    let early = rw (← length-map c.args.rows.now (λ rows. row_lists rows.items)) at
-    c.in_ok-check_queries.ensures.answer in
+    let early = rw c.num_sets.ensures at c.in_ok-check_queries.ensures.answer in
     let len = rw (c.new-covered.ensures.schedule, c.new-covered.ensures.indices) at c.boundary_len.ensures in
     pruned_late g.T.PartialEq.eq (shape_of c.args.schedule.now.arity c.args.schedule.now.dimensions.now)
     c.args.cap_layer
     c.in_ok-queried.queried.indices.items c.in_ok-queried.queried.first_queries.items c.args.indices.now
-    (row_sets c.args.rows.now) c.args.num_digests answer c.in_ok-queried.ensures.indices
+    (sets_in c.args.rows) c.args.num_digests answer c.in_ok-queried.ensures.indices
     c.in_ok-queried.ensures.first_queries early c.in_ok-check_repeats.ensures
     (rw len at c.in_ok-check_digest_count.ensures) is
 
-pub bounds-rows-query : goal.bounds-rows-query
-bounds-rows-query g c = inside g (goal.at.bounds-rows-query g c).After-deref-query-items c.loop-query.query-index 0
+pub rows-requires : goal.rows-requires
+rows-requires g c = inside g (goal.at.rows-requires g c).After-deref-query-items c.loop-query.query-index 0
     c.loop-query-test.true
-
-pub offset_bounds-rows-query : goal.offset_bounds-rows-query
-offset_bounds-rows-query g c =
-    let all = inside g (goal.at.offset_bounds-rows-query g c).After-deref-query-items in
-    omega (arith, all c.loop-query.query-index 0 c.loop-query-test.true)
 
 pub loop-query-preserved : goal.loop-query-preserved
 loop-query-preserved g c =
@@ -97,28 +82,28 @@ loop-query-preserved g c =
     let n = c.loop-query.query-index in
     let at = goal.at.loop-query-preserved g c in
     let h = λ (query : ℕ). width_refusal c.args.schedule.now.dimensions.now
-    (slice_index_or (row_sets c.args.rows.now) query []) in
+    (slice_index_or (sets_in c.args.rows) query []) in
     let none : h (get_or firsts n 0) ≡ None =
-    rw (read g at.After-deref-in-loop-query (inside g at.After-deref-query-items)) c.in_ok-check_widths.ensures in
+    rw (widened_none c.args.schedule.now.dimensions.now, c.rows.ensures) at c.in_ok-check_row_widths.ensures in
     kept_or (h (get_or firsts n 0)) (first_of h (drop (n + 1) firsts)) (first_of h firsts)
     (firsts_next h firsts n (first_of h firsts) c.loop-query-test.true c.loop-query.invariant) none
 
-pub returns-in_err-check_widths : goal.returns-in_err-check_widths
-returns-in_err-check_widths g c =
+pub returns-in_err-check_row_widths : goal.returns-in_err-check_row_widths
+returns-in_err-check_row_widths g c =
     let firsts = c.deref-query-items.result.now in
     let n = c.loop-query.query-index in
-    let at = goal.at.returns-in_err-check_widths g c in
+    let at = goal.at.returns-in_err-check_row_widths g c in
     let h = λ (query : ℕ). width_refusal c.args.schedule.now.dimensions.now
-    (slice_index_or (row_sets c.args.rows.now) query []) in
-    let e = c.in_err-check_widths.field-0.0 in
+    (slice_index_or (sets_in c.args.rows) query []) in
+    let e = c.in_err-check_row_widths.field-0.0 in
     let here : h (get_or firsts n 0) ≡ Some e =
-    rw (read g at.After-deref-in-loop-query (inside g at.After-deref-query-items)) c.in_err-check_widths.ensures in
+    rw (widened_none c.args.schedule.now.dimensions.now, c.rows.ensures) at c.in_err-check_row_widths.ensures in
     let some : first_of h c.in_ok-queried.queried.first_queries.items ≡ Some e =
     rw c.deref-query-items.ensures.value at
     (found_or (h (get_or firsts n 0)) (first_of h (drop (n + 1) firsts)) (first_of h firsts) e
     (firsts_next h firsts n (first_of h firsts) c.loop-query-test.true c.loop-query.invariant) here) in
-    let left = err_from_is_err_and c.from_residual-in_err-check_widths.result
-    c.from_residual-in_err-check_widths.ensures.1 in
+    let left = err_from_is_err_and c.from_residual-in_err-check_row_widths.result
+    c.from_residual-in_err-check_row_widths.ensures.1 in
     let found = late g at.In_ok-check_digest_count (Some e) (rw some refl) in
     rw left.1 (inr (found ∙ ap (λ e. Some e) (sym left.2)))
 
@@ -127,8 +112,8 @@ check_shared_rows-requires g c =
     let indices = c.args.indices.now in
     let d = distinct indices in
     let firsts = c.in_ok-queried.queried.first_queries.items in
-    let asked = asked_from (heights_of c.args.schedule.now.dimensions.now) c.args.indices.now (length c.args.rows.now)
-    c.args.num_digests c.in_ok-check_queries.ensures.answer in
+    let asked = asked_from (heights_of c.args.schedule.now.dimensions.now) c.args.indices.now (length (sets_in c.args.rows))
+    c.args.num_digests (rw c.num_sets.ensures at c.in_ok-check_queries.ensures.answer) in
     let s = shape_of c.args.schedule.now.arity c.args.schedule.now.dimensions.now in
     let m = greatest (heights_of c.args.schedule.now.dimensions.now) in
     record {
@@ -140,7 +125,7 @@ check_shared_rows-requires g c =
           ∙ ap length (sym c.in_ok-queried.ensures.first_queries);
       ascending = rw c.in_ok-queried.ensures.indices (increasing_from 0 d (distinct_rising indices));
       queries = rw (← asked.pairs) (firsts_inside firsts indices c.in_ok-queried.ensures.first_queries);
-      full = full_from c.args.schedule.now.dimensions.now firsts (row_sets c.args.rows.now)
+      full = full_from c.args.schedule.now.dimensions.now firsts (sets_in c.args.rows)
           (all_fit c.deref-query-items.result.now _ _ c.loop-query.query-index (omega arith)
           c.deref-query-items.ensures.value c.loop-query.invariant);
     }
@@ -149,7 +134,7 @@ pub returns-in_err-check_shared_rows : goal.returns-in_err-check_shared_rows
 returns-in_err-check_shared_rows g c =
     let s = shape_of c.args.schedule.now.arity c.args.schedule.now.dimensions.now in
     let queried = c.in_ok-queried.queried in
-    let sets = row_sets c.args.rows.now in
+    let sets = sets_in c.args.rows in
     let widths = first_of (λ query. width_refusal c.args.schedule.now.dimensions.now (slice_index_or sets query []))
     queried.first_queries.items in
     let groups = layers_refusal g.T.PartialEq.eq s c.args.cap_layer queried.indices.items queried.first_queries.items
@@ -171,7 +156,7 @@ pub returns : goal.returns
 returns g c =
     let s = shape_of c.args.schedule.now.arity c.args.schedule.now.dimensions.now in
     let queried = c.in_ok-queried.queried in
-    let sets = row_sets c.args.rows.now in
+    let sets = sets_in c.args.rows in
     let widths = first_of (λ query. width_refusal c.args.schedule.now.dimensions.now (slice_index_or sets query []))
     queried.first_queries.items in
     let groups = layers_refusal g.T.PartialEq.eq s c.args.cap_layer queried.indices.items queried.first_queries.items

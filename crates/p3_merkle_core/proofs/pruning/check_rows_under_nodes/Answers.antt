@@ -5,12 +5,12 @@ use Rattle.std.proofs.lemmas.List.{get_or-map, length-map}
 use Rattle.std.proofs.lemmas.Nat.{pow_pos}
 use Rattle.std.proofs.lemmas.Result.{err_from_is_err_and}
 use Rattle.std.specs.List.{range_with_len}
-use Rattle.p3_support.specs.Shown.{row_sets}
+use Rattle.p3_support.specs.RowSets.{sets_in}
 use Rattle.p3_merkle_core.specs.Inner.Agreement.{nodes_refusal}
 use Rattle.p3_answers.specs.Answers.{first_of}
 use Rattle.p3_merkle_core.proofs.Pruned.LeadFacts.{first_slot_agrees, first_slot_kept, first_slot_new, first_start}
 use Rattle.p3_answers.proofs.AnswerFacts.{found_or, kept_or}
-use Rattle.p3_merkle_core.proofs.Pruned.LeadFacts.{full_rows, rows_read, slot_fault, slot_read}
+use Rattle.p3_merkle_core.proofs.Pruned.LeadFacts.{slot_fault, slot_read}
 use Rattle.p3_merkle_core.proofs.Pruned.LeadFacts.{slots_next, slots_start}
 use Rattle.p3_merkle_core.proofs.Pruned.SlotFacts.{divided}
 use Rattle.p3_merkle_core.proofs.pruning.check_rows_under_nodes.Goals.{then-indices-slot+in_ok-check_same_rows}
@@ -24,27 +24,7 @@ loop-slot-init g c =
       below = omega arith;
       is_first = first_start nodes;
       so_far = slots_start g.T.PartialEq.eq g.met.T.Eq.laws c.args.matrices.now nodes c.args.first_queries.now
-          (row_sets c.args.rows.now);
-    }
-
-pub check_same_rows-requires : goal.check_same_rows-requires
-check_same_rows-requires g c =
-    let rows = c.args.rows.now in
-    let firsts = c.args.first_queries.now in
-    let k = c.loop-slot.slot in
-    let first = c.loop-slot.first_slot in
-    let inside : k < length firsts = omega (arith, c.requires.pairs) in
-    let first_in : first < length firsts = omega (arith, c.requires.pairs) in
-    let own = rows_read rows firsts k c.index-rows-first_queries.result c.deref.result.now c.requires.queries inside
-    c.index-rows-first_queries.is c.deref.ensures.value in
-    let other = rows_read rows firsts first c.index-rows-first_queries-then-indices-slot.result
-    c.deref-then-indices-slot.result.now c.requires.queries first_in c.index-rows-first_queries-then-indices-slot.is
-    c.deref-then-indices-slot.ensures.value in
-    record {
-      rows = subst (λ n. All (λ m. m < n) c.args.matrices.now) (sym (full_rows c.deref.result.now _ _ own refl))
-          (c.requires.full k inside);
-      first_rows = subst (λ n. All (λ m. m < n) c.args.matrices.now)
-          (sym (full_rows c.deref-then-indices-slot.result.now _ _ other refl)) (c.requires.full first first_in);
+          (sets_in c.args.rows);
     }
 
 pub loop-slot-preserved : goal.loop-slot-preserved
@@ -54,7 +34,7 @@ loop-slot-preserved g c =
     let nodes = map (λ i. i / 2 ^ c.args.bits) c.args.indices.now in
     let long = length-map c.args.indices.now (λ i. i / 2 ^ c.args.bits) in
     let firsts = c.args.first_queries.now in
-    let rows = c.args.rows.now in
+    let sets = sets_in c.args.rows in
     let k = c.loop-slot.slot in
     let first = c.loop-slot.first_slot in
     let l : k < length nodes = omega (arith, long, c.loop-slot-test.true) in
@@ -62,21 +42,16 @@ loop-slot-preserved g c =
     let its_first = get_or-map (λ i. i / 2 ^ c.args.bits) c.args.indices.now first 0 0 (omega arith) in
     let up = divided c.args.indices.now (2 ^ c.args.bits) (pow_pos c.args.bits) c.requires.ascending in
     let is = c.loop-slot.invariant.is_first in
-    let h = slot_fault eq matrices nodes firsts (row_sets rows) in
-    let total = nodes_refusal eq matrices nodes firsts (row_sets rows) in
+    let h = slot_fault eq matrices nodes firsts sets in
+    let total = nodes_refusal eq matrices nodes firsts sets in
     let same : k + 1 - 1 ≡ k = omega arith in
     let none : h k ≡ None = elim c.if-indices-slot.branch [
       | then-indices-slot+in_ok-check_same_rows w ↦
-          slot_read eq matrices nodes firsts (row_sets rows) k first _ _ None
-          (rows_read rows firsts k w.index-rows-first_queries.result w.deref.result.now c.requires.queries
-          (omega (arith, c.requires.pairs)) w.index-rows-first_queries.is w.deref.ensures.value)
-          (rows_read rows firsts first w.index-rows-first_queries-then-indices-slot.result
-          w.deref-then-indices-slot.result.now c.requires.queries (omega (arith, c.requires.pairs))
-          w.index-rows-first_queries-then-indices-slot.is w.deref-then-indices-slot.ensures.value)
+          slot_read eq matrices nodes firsts sets k first _ _ None refl refl
           (first_slot_kept nodes k first l is (mine ∙ w.if-indices-slot.true ∙ sym its_first))
           w.in_ok-check_same_rows.ensures
       | else-indices-slot w ↦
-          first_slot_agrees eq g.met.T.Eq.laws matrices nodes firsts (row_sets rows) k
+          first_slot_agrees eq g.met.T.Eq.laws matrices nodes firsts sets k
           (first_slot_new nodes k first up l is
           (λ e. w.if-indices-slot.false (sym mine ∙ e ∙ its_first)))
     ] in
@@ -103,21 +78,15 @@ returns-in_err-check_same_rows g c =
     let nodes = map (λ i. i / 2 ^ c.args.bits) c.args.indices.now in
     let long = length-map c.args.indices.now (λ i. i / 2 ^ c.args.bits) in
     let firsts = c.args.first_queries.now in
-    let rows = c.args.rows.now in
+    let sets = sets_in c.args.rows in
     let k = c.loop-slot.slot in
     let first = c.loop-slot.first_slot in
     let is = c.loop-slot.invariant.is_first in
-    let h = slot_fault eq matrices nodes firsts (row_sets rows) in
-    let total = nodes_refusal eq matrices nodes firsts (row_sets rows) in
+    let h = slot_fault eq matrices nodes firsts sets in
+    let total = nodes_refusal eq matrices nodes firsts sets in
     let mine = get_or-map (λ i. i / 2 ^ c.args.bits) c.args.indices.now k 0 0 c.loop-slot-test.true in
     let its_first = get_or-map (λ i. i / 2 ^ c.args.bits) c.args.indices.now first 0 0 (omega arith) in
-    let some = slot_read eq matrices nodes firsts (row_sets rows) k first _ _
-    (Some c.in_err-check_same_rows.field-0.0)
-    (rows_read rows firsts k c.index-rows-first_queries.result c.deref.result.now c.requires.queries
-    (omega (arith, c.requires.pairs)) c.index-rows-first_queries.is c.deref.ensures.value)
-    (rows_read rows firsts first c.index-rows-first_queries-then-indices-slot.result
-    c.deref-then-indices-slot.result.now c.requires.queries (omega (arith, c.requires.pairs))
-    c.index-rows-first_queries-then-indices-slot.is c.deref-then-indices-slot.ensures.value)
+    let some = slot_read eq matrices nodes firsts sets k first _ _ (Some c.in_err-check_same_rows.field-0.0) refl refl
     (first_slot_kept nodes k first (omega (arith, long, c.loop-slot-test.true)) is (mine ∙ c.if-indices-slot.true ∙ sym
     its_first)) c.in_err-check_same_rows.ensures in
     let found = found_or (h k) (first_of h (range_with_len (k + 1) (length nodes - (k + 1)))) total

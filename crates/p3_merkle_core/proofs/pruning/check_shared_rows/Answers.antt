@@ -6,7 +6,7 @@ use Rattle.p3_merkle_core.specs.Geometry.{ancestor, heights, layer_exponent, sha
 use Rattle.p3_merkle_core.specs.Inner.Agreement.{layers_refusal}
 use Rattle.p3_answers.specs.Answers.{first_of}
 use Rattle.p3_support.specs.Batches.{greatest}
-use Rattle.p3_support.specs.Shown.{row_sets}
+use Rattle.p3_support.specs.RowSets.{sets_in}
 use Rattle.p3_merkle_core.proofs.Lists.RisingFacts.{rising_from}
 use Rattle.p3_answers.proofs.AnswerFacts.{found_or, kept_or}
 use Rattle.p3_merkle_core.proofs.Pruned.LeadFacts.{no_matrix, nodes_by_bits}
@@ -24,7 +24,7 @@ loop-level-init g c =
     let s = shape_of c.args.schedule.now.arity c.args.schedule.now.dimensions.now in
     let leaves = c.args.queried.now.indices.items in
     let firsts = c.args.queried.now.first_queries.items in
-    let sets = row_sets c.args.rows.now in
+    let sets = sets_in c.args.rows in
     let h = layer_fault g.T.PartialEq.eq s leaves firsts sets in
     let t = c.args.cap_layer in
     let e : t - 0 ≡ t = omega arith in
@@ -51,7 +51,7 @@ check_rows_under_nodes-requires g c =
     let s = shape_of c.args.schedule.now.arity c.args.schedule.now.dimensions.now in
     let leaves = c.args.queried.now.indices.items in
     let firsts = c.args.queried.now.first_queries.items in
-    let sets = row_sets c.args.rows.now in
+    let sets = sets_in c.args.rows in
     let nodes = c.deref-then-up.result.now in
     let read = c.deref-then-up-2.result.now in
     let nodes_is : nodes ≡ leaves = c.deref-then-up.ensures.value in
@@ -77,7 +77,7 @@ returns-in_err-check_rows_under_nodes g c =
     let s = shape_of c.args.schedule.now.arity c.args.schedule.now.dimensions.now in
     let leaves = c.args.queried.now.indices.items in
     let firsts = c.args.queried.now.first_queries.items in
-    let sets = row_sets c.args.rows.now in
+    let sets = sets_in c.args.rows in
     let l = c.loop-level.level in
     let t = c.args.cap_layer in
     let h = layer_fault eq s leaves firsts sets in
@@ -106,7 +106,7 @@ loop-level-preserved g c =
     let s = shape_of c.args.schedule.now.arity c.args.schedule.now.dimensions.now in
     let leaves = c.args.queried.now.indices.items in
     let firsts = c.args.queried.now.first_queries.items in
-    let sets = row_sets c.args.rows.now in
+    let sets = sets_in c.args.rows in
     let l = c.loop-level.level in
     let t = c.args.cap_layer in
     let h = layer_fault eq s leaves firsts sets in
