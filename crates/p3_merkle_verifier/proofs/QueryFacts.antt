@@ -2,7 +2,7 @@
 use Rattle.std.proofs.Common.{◌≡◌, ◌∙◌, ℕ, ◌<◌, Bool, List, [], ap, sym, arith, length, subst, Option, None}
 use Rattle.std.specs.Prelude.{slice_index, slice_index_or}
 use Rattle.std.proofs.lemmas.List.{get_or-map, length-map}
-use Rattle.p3_support.specs.Shown.{row_lists, row_sets}
+use Rattle.p3_support.specs.RowSets.{sets_in}
 use Rattle.p3_merkle_core.specs.Views.{shown_path, shown_paths}
 use Rattle.p3_merkle_core.specs.Extraction.{difference_of, first_pair}
 use Rattle.p3_merkle_core.specs.Geometry.{Shape}
@@ -30,7 +30,7 @@ use Rattle.p3_merkle_verifier.proofs.PlaceFacts.{pairs_alike}
 
 -- what is restored is read query by query
 pub restored : {T W : Type 0} (c : Params T W) (p : PrunedOpening T W) (queries : RestoredQueries T (List W)) →
-    row_sets queries.sets.now ≡ p.rows → shown_paths queries.paths.items ≡ restored_paths c p → AreQueriesOf c p queries
+    sets_in queries.sets ≡ p.rows → shown_paths queries.paths.items ≡ restored_paths c p → AreQueriesOf c p queries
 restored c p queries rows shown =
     let both : ℕ → ℕ × List (List _) = λ i. (i, restored_path c p i) in
     record {
@@ -46,7 +46,7 @@ restored c p queries rows shown =
 pub searchable : {T W : Type 0} (eq : T → T → Bool) (same : W → W → Bool) (f : Functions T W) (s : Shape) (t : ℕ)
     (cap : List (List W)) (p : PrunedOpening T W) (queries : RestoredQueries T (List W)) → IsEquality eq →
     IsEquality same → CanCheck s t → pruned_refusal_under eq same (params f s t) cap p ≡ None →
-    row_sets queries.sets.now ≡ p.rows → AreQueriesOf (params f s t) p queries →
+    sets_in queries.sets ≡ p.rows → AreQueriesOf (params f s t) p queries →
     AreDistinctOf queries.leaves p.indices → CanSearch (params f s t) queries
 searchable eq same f s t cap p queries dec dec_w w none rows are at =
     let accepted = (pruned_accepted eq same f s t cap p dec dec_w w.arity).0
@@ -62,7 +62,7 @@ searchable eq same f s t cap p queries dec dec_w w none rows are at =
     λ k inside. ap (λ (o : Opening _ _). o.index) (are.each k inside) in
     record {
       comparable = record {
-        in_pairs = sym (length-map queries.sets.now (λ set. row_lists set.items)) ∙ ap length rows
+        in_pairs = ap length rows
             ∙ accepted.restorable.agreed.in_pairs ∙ sym are.as_many;
         reach = λ k h. record {
           arity = w.arity;

@@ -1,11 +1,11 @@
 //! Openings as a check reads them: a single one with its index, a pruned one, and the rows of both. The exponent of a
 //! matrix is log2 of its height, rounded up. A query is one index of a pruned opening; a row set is its rows.
 
-ghost use Rattle.std.specs.Prelude.{◌≡◌, ◌<◌, ◌≤◌, All, length, map, zip};
+ghost use Rattle.std.specs.Prelude.{◌≡◌, ◌++◌, ◌<◌, ◌≤◌, All, length, map, zip};
 ghost use Rattle.std.specs.Iterator.{YieldsFirstBy, item_count};
 ghost use Rattle.p3_support.specs.Batches.{greatest, heights_of, widths_of};
 ghost use Rattle.p3_support.specs.Rows.{parts_of, rows_in};
-ghost use Rattle.p3_support.specs.Shown.{row_sets};
+ghost use Rattle.p3_support.specs.RowSets.{sets_in};
 ghost use Rattle.p3_merkle_core.specs.Checks.{words_of_exponent};
 ghost use Rattle.p3_merkle_core.specs.Geometry.{height_limit, shape_of};
 ghost use Rattle.p3_merkle_core.specs.Inner.Agreement.{opened_of, AreDistinctOf};
@@ -18,7 +18,7 @@ use p3_merkle_core::pruning::DistinctQueries;
 use p3_merkle_core::schedule::Schedule;
 use p3_support::matrix::{Dimensions, Matrix};
 use p3_support::opening::BatchOpeningRef;
-use p3_support::row_parts::RowParts;
+use p3_support::row_parts::{RowParts, RowSets};
 
 /// A borrowed opening with the index of its leaf.
 #[derive_where(Clone, Copy)]
@@ -156,25 +156,25 @@ impl<'a, T> Iterator for OpenedWords<'a, T> {
 #[derive(Drop)]
 pub struct OpenedMatrix<'a, T> {
     /// The row set of each query.
-    pub sets: &'a [Vec<Vec<T>>],
+    pub sets: RowSets<'a, T>,
     /// The queries whose rows these are.
     pub queries: &'a [usize],
     /// The position of the matrix in a row set.
     pub place: usize,
     /// How many elements a row has.
     pub width: usize,
-    ghost among: { All (λ k. k < length (row_sets sets.now)) queries.now },
-    ghost fit: { HaveRows (row_sets sets.now) place width },
+    ghost among: { All (λ k. k < length (sets_in sets)) queries.now },
+    ghost fit: { HaveRows (sets_in sets) place width },
 }
 
 impl<'a, T> OpenedMatrix<'a, T> {
-    /// Row `row` of the matrix: that of query `queries[row]`.
-    fn row_words(&self, row: usize) -> &[T]
+    /// Row `row` of the matrix, that of query `queries[row]`: its first and its second part.
+    fn parts(&self, row: usize) -> (&'a [T], &'a [T])
         requires { row < length self.now.queries.now }
-        ensures { result.now ≡ opened_row (row_sets self.now.sets.now) self.now.queries.now self.now.place row }
+        ensures { result.0.now ++ result.1.now
+            ≡ opened_row (sets_in self.now.sets) self.now.queries.now self.now.place row }
     {
-        let rows = &self.sets[self.queries[row]];
-        &rows[self.place]
+        self.sets.row(self.queries[row], self.place)
     }
 }
 
@@ -197,15 +197,25 @@ impl<'a, T: Copy> Matrix<T> for OpenedMatrix<'a, T> {
     }
 
     fn get(&self, row: usize, column: usize) -> T {
-        self.row_words(row)[column]
+        let (first, second) = self.parts(row);
+        if column < first.len() {
+            first[column]
+        } else {
+            second[column - first.len()]
+        }
     }
 
     fn piece(&self, row: usize, column: usize) -> &[T] {
-        &self.row_words(row)[column..]
+        let (first, second) = self.parts(row);
+        if column < first.len() {
+            &first[column..]
+        } else {
+            &second[column - first.len()..]
+        }
     }
 
-    ghost length_row_of = { λ m r h. length-opened_row (row_sets m.sets.now) m.queries.now m.place m.width
-        m.among m.fit r h };
+    ghost length_row_of = { λ m r h. length-opened_row (sets_in m.sets) m.queries.now m.place m.width m.among m.fit
+        r h };
 }
 
 /// A borrowed pruned opening.
@@ -214,7 +224,7 @@ pub struct PrunedOpeningRef<'a, T, X> {
     /// The index of each query.
     pub indices: &'a [usize],
     /// The row set of each query: one row of each matrix, in input order.
-    pub sets: &'a [Vec<Vec<T>>],
+    pub sets: RowSets<'a, T>,
     /// The digests of the proof, in wire order.
     pub sent: &'a [X],
 }
@@ -234,10 +244,10 @@ pub struct CheckedPrunedOpening<'a, T, X> {
     ghost distinct: { AreDistinctOf leaves opening.indices.now },
     ghost queried: { CanQuery (shape_of schedule.now.arity schedule.now.dimensions.now) opening.indices.now cap_layer },
     ghost low: { greatest (heights_of schedule.now.dimensions.now) ≤ height_limit },
-    ghost pairs: { length opening.sets.now ≡ length opening.indices.now },
+    ghost pairs: { length (sets_in opening.sets) ≡ length opening.indices.now },
     ghost all_sent: { length opening.sent.now
         ≡ length (boundary (shape_of schedule.now.arity schedule.now.dimensions.now) opening.indices.now cap_layer) },
     ghost agreed: { IsAgreed (shape_of schedule.now.arity schedule.now.dimensions.now) cap_layer
-        (opened_of opening.indices.now (row_sets opening.sets.now)) },
-    ghost fit: { All (λ rows. map length rows ≡ widths_of schedule.now.dimensions.now) (row_sets opening.sets.now) },
+        (opened_of opening.indices.now (sets_in opening.sets)) },
+    ghost fit: { All (λ rows. map length rows ≡ widths_of schedule.now.dimensions.now) (sets_in opening.sets) },
 }

@@ -9,7 +9,7 @@ ghost use Rattle.std.specs.Prelude.{◌≡◌, ◌/◌, ◌<◌, ◌≤◌, ℕ,
 ghost use Rattle.std.specs.Prelude.{slice_index_or, zip};
 ghost use Rattle.std.specs.List.{list_all, range_with_len};
 ghost use Rattle.p3_support.specs.Batches.{heights_of};
-ghost use Rattle.p3_support.specs.Shown.{row_sets};
+ghost use Rattle.p3_support.specs.RowSets.{sets_in};
 ghost use Rattle.p3_merkle_core.specs.Checks.{params, words_of_exponent};
 ghost use Rattle.p3_merkle_core.specs.Geometry.{layer_exponent};
 ghost use Rattle.p3_merkle_core.specs.Nodes.{Functions};
@@ -40,6 +40,7 @@ use p3_merkle_hashing::rows::LayerRows;
 use p3_support::compress::PseudoCompressionFunction;
 use p3_support::hasher::CryptographicHasher;
 use p3_support::packed::PackedValue;
+use p3_support::row_parts::RowSets;
 use std::alloc::{AllocError, Global};
 use std::marker::PhantomData;
 use std::mem;
@@ -55,7 +56,7 @@ impl<'a, T, W: Copy, const D: usize> PrunedOpeningRef<'a, T, [W; D]> {
     {
         PrunedOpeningRef {
             indices,
-            sets,
+            sets: RowSets::Vecs(sets),
             sent: proof.sibling_hashes.as_slice(),
         }
     }
@@ -130,7 +131,7 @@ fn opened_matrices<'a, T, X>(
 ) -> Result<Vec<OpenedMatrix<'a, T>>, AllocError>
     requires { All (λ k. k < length restorable.now.opening.indices.now) queries.now }
     ensures heights { IfOk result (λ matrices. All (λ m. length m.queries.now ≡ length queries.now) matrices.items) }
-    ensures rows { let sets = row_sets restorable.now.opening.sets.now in
+    ensures rows { let sets = sets_in restorable.now.opening.sets in
         let heights = heights_of restorable.now.schedule.now.dimensions.now in
         IfOk result (λ matrices. (j : ℕ) → j < length queries.now → rows_over row_in matrices.items j
         ≡ words_of_exponent exponent (zip heights (slice_index_or sets (slice_index queries.now j) []))) }

@@ -3,6 +3,7 @@
 
 ghost use Rattle.std.specs.Prelude.{◌≡◌, ◌⊎◌, ℕ, ◌<◌, IfOk, IsTrue, length, replicate};
 ghost use Rattle.std.specs.Option.{option_or};
+ghost use Rattle.p3_support.specs.RowSets.{sets_in};
 ghost use Rattle.p3_merkle_core.specs.Extraction.{difference_of, first_pair};
 ghost use Rattle.p3_merkle_core.specs.Pruning.{opening_at};
 ghost use Rattle.p3_merkle_core.specs.Refusals.{pruned_refusal_under, AnswersUnlessMemory};
@@ -22,14 +23,14 @@ use p3_merkle_core::pruning::{AuthPath, DistinctQueries};
 use p3_support::compress::PseudoCompressionFunction;
 use p3_support::hasher::CryptographicHasher;
 use p3_support::packed::PackedValue;
-use p3_support::row_parts::RowParts;
+use p3_support::row_parts::RowSets;
 use std::alloc::{AllocError, Global};
 
 /// The queries of a pruned opening, each of which can be read as an opening of its own.
 #[derive(Drop)]
 struct RestoredQueries<'a, T, X> {
     /// The rows of each query.
-    pub sets: &'a [Vec<Vec<T>>],
+    pub sets: RowSets<'a, T>,
     /// The restored path of each query, with its index.
     pub paths: Vec<AuthPath<X>>,
     /// The distinct indices of the queries, with the first query of each.
@@ -39,14 +40,14 @@ struct RestoredQueries<'a, T, X> {
 impl<'a, T, W, const D: usize> RestoredQueries<'a, T, [W; D]> {
     /// Query `k` as an opening of its own, with its restored path.
     fn opening(&self, k: usize) -> OpeningRef<'_, T, [W; D]>
-        requires row_set { k < length self.now.sets.now }
+        requires row_set { k < length (sets_in self.now.sets) }
         requires path { k < length self.now.paths.items }
         ensures { opening_in result ≡ query_in self.now k }
     {
         let path = &self.paths[k];
         OpeningRef {
             index: path.leaf_index,
-            rows: RowParts::Vecs(&self.sets[k]),
+            rows: self.sets.rows(k),
             siblings: &path.siblings,
         }
     }

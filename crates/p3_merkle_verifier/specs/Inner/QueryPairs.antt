@@ -10,7 +10,7 @@ use Rattle.p3_merkle_core.specs.Checks.{Input, Params}
 use Rattle.p3_merkle_core.specs.Pruning.{PrunedOpening, opening_at}
 use Rattle.p3_answers.specs.Answers.{first_of}
 use Rattle.p3_merkle_core.specs.declared.collision.InputPair.{InputPair}
-use Rattle.p3_support.specs.Shown.{row_sets}
+use Rattle.p3_support.specs.RowSets.{sets_in}
 use Rattle.p3_merkle_verifier.specs.Inner.Checks.{AgreeBelow}
 use Rattle.p3_merkle_verifier.specs.Inner.Paths.{CanReach}
 use Rattle.p3_merkle_verifier.specs.declared.pruned_extraction.RestoredQueries.{RestoredQueries}
@@ -19,11 +19,11 @@ use Rattle.p3_merkle_verifier.specs.declared.pruned_extraction.RestoredQueries.{
 abbrev pub query_in : {T W : Type 0} → RestoredQueries T (List W) → ℕ → Opening T W
 query_in queries k =
     let (index, siblings) = slice_index_or (shown_paths queries.paths.items) k (0, []) in
-    opening_of index (slice_index_or (row_sets queries.sets.now) k []) siblings
+    opening_of index (slice_index_or (sets_in queries.sets) k []) siblings
 
 -- the queries can be checked up to the cap's layer: each has a row set, and a path with its siblings
 pub record CanCompare {T W : Type 0} (c : Params T W) (queries : RestoredQueries T (List W)) : Type 0 where
-  pub in_pairs : length queries.sets.now ≡ length queries.paths.items
+  pub in_pairs : length (sets_in queries.sets) ≡ length queries.paths.items
   pub reach : (k : ℕ) → k < length queries.paths.items → CanReach c.shape c.layer (length (query_in queries k).siblings)
 
 -- v is between i and j, or one of them

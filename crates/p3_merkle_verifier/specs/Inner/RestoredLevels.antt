@@ -9,13 +9,13 @@ use Rattle.p3_merkle_core.specs.Inner.Covered.{covered_at}
 use Rattle.p3_merkle_core.specs.Nodes.{Functions}
 use Rattle.p3_merkle_core.specs.Pruning.{PrunedOpening, pruned_of, restored_node, value_of, words_under}
 use Rattle.p3_merkle_core.specs.declared.pruning.CoveredLayer.{CoveredLayer}
-use Rattle.p3_support.specs.Shown.{row_sets}
+use Rattle.p3_support.specs.RowSets.{sets_in}
 use Rattle.p3_merkle_verifier.specs.declared.openings.PrunedOpeningRef.{PrunedOpeningRef}
 use Rattle.p3_merkle_verifier.specs.declared.openings.CheckedPrunedOpening.{CheckedPrunedOpening}
 
 -- the borrowed pruned opening
 abbrev pub pruned_in : {T W : Type 0} → PrunedOpeningRef T (List W) → PrunedOpening T W
-pruned_in opening = pruned_of opening.indices.now (row_sets opening.sets.now) opening.sent.now
+pruned_in opening = pruned_of opening.indices.now (sets_in opening.sets) opening.sent.now
 
 -- the shape of the tree that an opening is of
 abbrev pub tree_of : {T X : Type 0} → CheckedPrunedOpening T X → Shape

@@ -6,7 +6,7 @@ use Rattle.std.proofs.lemmas.Slice.Zip.{length-zip}
 use Rattle.std.specs.List.{flat_map}
 use Rattle.std.specs.declared.vec.Vec.{Vec}
 use Rattle.p3_support.specs.Batches.{heights_of}
-use Rattle.p3_support.specs.Shown.{row_lists, row_sets}
+use Rattle.p3_support.specs.RowSets.{sets_in}
 use Rattle.p3_support.specs.declared.matrix.Dimensions.{Dimensions}
 use Rattle.p3_merkle_core.specs.Checks.{words_of_exponent}
 use Rattle.p3_merkle_core.specs.Geometry.{exponent}
@@ -21,7 +21,7 @@ loop-place-preserved g c =
     let restorable = c.args.restorable.now in
     let dimensions = restorable.schedule.now.dimensions.now in
     let heights = heights_of dimensions in
-    let sets = row_sets restorable.opening.sets.now in
+    let sets = sets_in restorable.opening.sets in
     let queries = c.args.queries.now in
     let x = c.args.exponent in
     let i = c.loop-place.place in
@@ -36,7 +36,7 @@ loop-place-preserved g c =
     let in_rows : (j : ℕ) → j < length queries → i < length (rows j) = λ j h.
     let query : get_or queries j 0 < length restorable.opening.indices.now = c.requires j 0 h in
     let among : get_or queries j 0 < length sets =
-    omega (arith, query, restorable.pairs, length-map restorable.opening.sets.now (λ v. row_lists v.items)) in
+    omega (arith, query, restorable.pairs) in
     omega (arith, row_set_long dimensions sets (get_or queries j 0) restorable.fit among) in
     elim c.if-exponent_of-exponent.branch [
       | then-exponent_of-exponent+in_ok-push w ↦
@@ -65,7 +65,7 @@ returns g c =
     let restorable = c.args.restorable.now in
     let dimensions = restorable.schedule.now.dimensions.now in
     let heights = heights_of dimensions in
-    let sets = row_sets restorable.opening.sets.now in
+    let sets = sets_in restorable.opening.sets in
     let queries = c.args.queries.now in
     let x = c.args.exponent in
     let i = c.loop-place.place in
@@ -82,7 +82,7 @@ pub invariant_of-push : goal.invariant_of-push
 invariant_of-push g c =
     let restorable = c.args.restorable.now in
     let dimensions = restorable.schedule.now.dimensions.now in
-    let sets = row_sets restorable.opening.sets.now in
+    let sets = sets_in restorable.opening.sets in
     let i = c.loop-place.place in
     let none : Dimensions = record { width = 0; height = 0 } in
     let inside : i < length dimensions = c.loop-place-test.true in
@@ -90,7 +90,7 @@ invariant_of-push g c =
       among =
           (λ k d h. let query : get_or c.args.queries.now k d < length restorable.opening.indices.now =
           c.requires k d h in
-          omega (arith, query, restorable.pairs, length-map restorable.opening.sets.now (λ v. row_lists v.items)));
+          omega (arith, query, restorable.pairs));
       fit = have_rows dimensions sets i (get_or dimensions i none).width restorable.fit inside
           (sym (get_or-map (λ (m : Dimensions). m.width) dimensions i none 0 inside));
     }

@@ -1,7 +1,7 @@
 use Rattle.std.proofs.Common.{◌≡◌, ℕ, ◌<◌, [], All, length, take, zip}
 use Rattle.std.specs.Prelude.{slice_index, slice_index_or}
 use Rattle.p3_support.specs.Batches.{heights_of}
-use Rattle.p3_support.specs.Shown.{row_sets}
+use Rattle.p3_support.specs.RowSets.{sets_in}
 use Rattle.p3_merkle_core.specs.Checks.{words_of_exponent}
 use Rattle.p3_merkle_hashing.specs.Inner.Slots.{rows_over}
 use Rattle.p3_merkle_verifier.specs.Inner.OpenedMatrices.{row_in}
@@ -10,7 +10,7 @@ use Rattle.p3_merkle_verifier.proofs.pruned_check.opened_matrices.Given as goal
 -- the matrices so far
 abbrev pub invariant-loop-place : goal.invariant-loop-place
 invariant-loop-place g l =
-    let sets = row_sets l.restorable.opening.sets.now in
+    let sets = sets_in l.restorable.opening.sets in
     let hs = heights_of l.restorable.schedule.now.dimensions.now in
     let queries = l.queries in
     record {

@@ -1,7 +1,7 @@
 -- What is not refused restores, and its distinct indices are the covered leaves.
 use Rattle.std.proofs.Common.{◌∙◌, [], ap, length, replicate, sym}
 use Rattle.std.proofs.lemmas.List.{length-map, length-replicate}
-use Rattle.p3_support.specs.Shown.{row_lists, row_sets}
+use Rattle.p3_support.specs.RowSets.{sets_in}
 use Rattle.p3_merkle_core.specs.Geometry.{heights}
 use Rattle.p3_merkle_core.specs.Inner.Agreement.{opened_with}
 use Rattle.p3_answers.specs.Answers.{ok_unless}
@@ -19,14 +19,14 @@ invariant_of-restorable g c =
     let t = c.args.self.now.cap_layer in
     let check = c.args.self.now.check in
     let opening = c.args.opening in
-    let rows = row_sets opening.sets.now in
+    let rows = sets_in opening.sets in
     let p = opened_with opening.indices.now rows (length opening.sent.now) in
     let none = c.in_ok-leaves.ensures.0 in
     let r = restorable eq s t p g.met.P.PackedValue.eq_is_equality (ap (λ refusal. ok_unless refusal (tt {0})) none) in
     record {
       queried = record { well_shaped = check.arity; below = r.below; in_tree = check.in_tree };
       low = tallest_fits (heights s) (none_large_from_lawful (heights s) r.lawful);
-      pairs = sym (length-map opening.sets.now (λ rows. row_lists rows.items)) ∙ sym (asked_of eq s t p none).pairs;
+      pairs = sym (asked_of eq s t p none).pairs;
       all_sent = sym (length-replicate (length opening.sent.now) []) ∙ r.count;
       agreed = agreed_with s t opening.indices.now rows (replicate (length opening.sent.now) []) [] r.agreed;
       fit = r.rows_fit;
@@ -37,7 +37,7 @@ pub new-requires : goal.new-requires
 new-requires g c =
     let s = shape_in c.args.self.now in
     let opening = c.args.opening in
-    let p = opened_with opening.indices.now (row_sets opening.sets.now) (length opening.sent.now) in
+    let p = opened_with opening.indices.now (sets_in opening.sets) (length opening.sent.now) in
     let r = restorable g.P.Value.PartialEq.eq s c.args.self.now.cap_layer p g.met.P.PackedValue.eq_is_equality
     (ap (λ refusal. ok_unless refusal (tt {0})) c.in_ok-leaves.ensures.0) in
     record {

@@ -4,7 +4,7 @@ use Rattle.std.proofs.lemmas.List.{take_at}
 use Rattle.std.proofs.lemmas.List.FromFn.{length-map-range_with_len}
 use Rattle.std.specs.List.{range_with_len}
 use Rattle.p3_support.specs.Batches.{heights_of}
-use Rattle.p3_support.specs.Shown.{row_sets}
+use Rattle.p3_support.specs.RowSets.{sets_in}
 use Rattle.p3_merkle_core.specs.Geometry.{heights}
 use Rattle.p3_merkle_hashing.specs.Inner.Slots.{rows_over}
 use Rattle.p3_merkle_verifier.specs.Inner.Checks.{functions_of}
@@ -25,7 +25,7 @@ returns g c = λ l le at.
     let queries = c.in_ok-queries.queries.items in
     let row = λ (j : ℕ). f.hash (rows_over row_in c.deref-2.result.now (0 + j)) in
     let digest = query_digest f.hash c.args.exponent (heights_of restorable.schedule.now.dimensions.now)
-    (row_sets opening.sets.now) in
+    (sets_in opening.sets) in
     let opened = rw (← c.deref-2.ensures.value, c.deref.ensures.value) at c.in_ok-matrices.ensures.rows in
     let n = length queries in
     let made = c.in_ok-digests in
