@@ -41,6 +41,11 @@ refused_before (Ok v) first after err a = absurd cc
 refused_before (Err x) first after err (inl m) = inl m
 refused_before (Err x) first after err (inr is) = inr (ap (λ (z : Option MerkleTreeError). option_or z after) is)
 
+-- an error that is the refusal, or says that memory ran out
+pub answer_of : {V : Type 0} (r : Result V MerkleTreeError) (x : MerkleTreeError) (refusal : Option MerkleTreeError) →
+    r ≡ Err x → (x ≡ OutOfMemory) ⊎ (refusal ≡ Some x) → AnswersUnlessMemory r refusal
+answer_of r x refusal is answer = subst (λ z. AnswersUnlessMemory z refusal) (sym is) answer
+
 -- the first opening's refusal, else that of the second before it is joined: the refusal of both
 error_of_both : {U : Type 0} (checked : Result U MerkleTreeError) (y x : MerkleTreeError)
     (first before after : Option MerkleTreeError) → AnswersUnlessMemory checked first → (y ≡ OutOfMemory) ⊎

@@ -58,9 +58,14 @@ module _ {P PW H C X G V W : Type 0} {N D : ℕ} {p : packed.Ghosts P V} {pd : d
   presented_one scheme dimensions cap index opening =
       presented_under scheme dimensions (roots_of cap) (opening_borrowed index opening)
 
-  -- a pruned opening of some indices, by its row sets and its proof, under such a cap
+  -- a pruned opening of some indices, under the roots of such a cap
+  abbrev pub presented_pruned_under : Scheme P PW H C X G N D V W p pd pe q qd qe h c → List Dimensions →
+      List (List W) → PrunedOpening V W → Presented V W
+  presented_pruned_under scheme dimensions roots opening =
+      presented_pruned pe.eq qe.eq (params_of scheme (shape_of N dimensions)) roots opening
+
+  -- the same of borrowed row sets and a borrowed proof
   abbrev pub presented_all : {A B : Type 0} → Scheme P PW H C X G N D V W p pd pe q qd qe h c → List Dimensions →
       MerkleCap V (List W) → List ℕ → List (Vec (Vec V A) B) → PrunedProof (List W) → Presented V W
   presented_all scheme dimensions cap indices rows proof =
-      presented_pruned pe.eq qe.eq (params_of scheme (shape_of N dimensions)) (roots_of cap)
-      (pruned_borrowed indices rows proof)
+      presented_pruned_under scheme dimensions (roots_of cap) (pruned_borrowed indices rows proof)

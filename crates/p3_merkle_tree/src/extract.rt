@@ -5,7 +5,8 @@
 ghost use Rattle.p3_merkle_core.specs.Extraction.{IsExtraction};
 ghost use Rattle.p3_merkle_core.specs.Geometry.{shape_of};
 ghost use Rattle.p3_merkle_core.specs.Views.{found_alone, found_pair};
-ghost use Rattle.p3_merkle_tree.specs.Committed.{presented_one, presented_all};
+ghost use Rattle.p3_merkle_verifier.specs.Inner.RestoredLevels.{pruned_in};
+ghost use Rattle.p3_merkle_tree.specs.Committed.{presented_all, presented_one, presented_pruned_under};
 ghost use Rattle.p3_merkle_tree.specs.Schemes.{cap_rule_of, params_of};
 
 use crate::mmcs::MerkleTreeMmcs;
@@ -105,7 +106,25 @@ impl<
     {
         let first = PrunedOpeningRef::new(indices1, rows1, proof1);
         let second = PrunedOpeningRef::new(indices2, rows2, proof2);
+        self.pruned_extraction(alloc, commit.roots(), dimensions, first, second)
+    }
+
+    /// Extracts a collision from two pruned openings under the roots of a cap as
+    /// [`extract_collision_multi`](Self::extract_collision_multi) does, with the same errors, wherever their rows lie.
+    pub(crate) fn pruned_extraction(
+        &self,
+        alloc: Global,
+        roots: &[[PW::Value; D]],
+        dimensions: &[Dimensions],
+        first: PrunedOpeningRef<'_, P::Value, [PW::Value; D]>,
+        second: PrunedOpeningRef<'_, P::Value, [PW::Value; D]>,
+    ) -> Result<Option<(usize, usize, Collision<P::Value, PW::Value, D>)>, MerkleTreeError>
+        ensures { let c = params_of self.now (shape_of N dimensions.now) in
+            let presented = presented_pruned_under self.now dimensions.now roots.now in
+            IsExtraction P.Value.eq PW.Value.eq (cap_rule_of self.now) c (presented (pruned_in first.entry))
+            (presented (pruned_in second.entry)) (found_pair result) }
+    {
         self.checker(dimensions)
-            .pruned_extraction(alloc, commit.roots(), first, second)
+            .pruned_extraction(alloc, roots, first, second)
     }
 }

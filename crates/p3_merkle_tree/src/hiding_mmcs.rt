@@ -13,8 +13,8 @@ ghost use Rattle.p3_merkle_tree.specs.SaltRefusals.{salted_commit_refusal};
 ghost use Rattle.p3_merkle_tree.specs.Salted.{after_salts, salted_matrices, IsAfterSome};
 ghost use Rattle.p3_merkle_tree.specs.SaltedTrees.{HaveSaltColumns};
 
-use crate::join::widened_dimensions;
 use crate::mmcs::{MerkleTreeMmcs, Scheme};
+use crate::salts::{check_widening, widened_dimensions};
 use p3_merkle_core::cap::CapRule;
 use p3_merkle_core::error::MerkleTreeError;
 use p3_merkle_core::gate::check_heights;
@@ -265,7 +265,7 @@ impl<
 
 /// Checks that a tree can be built over matrices of these heights, and that each width fits `usize` with `salt_elems`
 /// more columns. Returns the dimensions of the matrices with these columns. The errors are those of [`check_heights`],
-/// then those of [`widened_dimensions`].
+/// then those of [`check_widening`]. `OutOfMemory` may come at any time.
 fn salted_dimensions<T, M: Matrix<T>>(
     alloc: Global,
     matrices: &[M],
@@ -280,7 +280,8 @@ fn salted_dimensions<T, M: Matrix<T>>(
 {
     let dimensions = dimensions_of(alloc, matrices)?;
     check_heights(&dimensions)?;
-    widened_dimensions(alloc, &dimensions, salt_elems)
+    check_widening(&dimensions, salt_elems)?;
+    Ok(widened_dimensions(alloc, &dimensions, salt_elems)?)
 }
 
 /// Draws `salt_elems` salts for each row of the matrices, at least 1, and returns each matrix beside its salts. Each

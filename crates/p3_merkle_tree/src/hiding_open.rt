@@ -1,5 +1,5 @@
-//! Salted openings: those of the plain scheme, with each row split into the matrix's own words and its salts, which are
-//! joined again for a check. A row set has one row of each matrix, a salt set one list of salts for each row. A matrix
+//! Salted openings: those of the plain scheme, with each row split into the matrix's own words and its salts. A check
+//! reads both where they lie, one after the other. A row set has one row of each matrix, a salt set one list of salts for each row. A matrix
 //! is authenticated if the cap's digests are computed from its rows. Openings conflict in a row if both have it, with
 //! other words or salts.
 
@@ -14,30 +14,31 @@ ghost use Rattle.p3_support.specs.Shown.{roots_of, row_lists, row_sets};
 ghost use Rattle.p3_merkle_prover.specs.Parts.{matrices_of, tree_batch};
 ghost use Rattle.p3_merkle_verifier.specs.Inner.Checks.{opening_in};
 ghost use Rattle.p3_merkle_verifier.specs.Inner.Paths.{CanReach};
+ghost use Rattle.p3_merkle_verifier.specs.Inner.RestoredLevels.{pruned_in};
 ghost use Rattle.p3_merkle_tree.specs.Schemes.{cap_layer_of, cap_rule_of};
 ghost use Rattle.p3_merkle_tree.specs.HidingSchemes.{plain_of, presented_all, presented_one, salted_borrowed};
 ghost use Rattle.p3_merkle_tree.specs.HidingSchemes.{salted_made, salted_params_of, salted_pruned_borrowed};
 ghost use Rattle.p3_merkle_tree.specs.HidingSchemes.{salted_pruned_made};
 ghost use Rattle.p3_merkle_tree.specs.Inner.SaltedParts.{left_widths, salt_parts, unsalted_parts};
 ghost use Rattle.p3_merkle_tree.specs.SaltRefusals.{salted_refusal_under};
-ghost use Rattle.p3_merkle_tree.specs.SaltedOpenings.{joined};
+ghost use Rattle.p3_merkle_tree.specs.SaltedOpenings.{joined, joined_sets};
 ghost use Rattle.p3_merkle_tree.specs.SaltedOpened.{OpensSalted, OpensSaltedPruned};
 ghost use Rattle.p3_merkle_tree.specs.SaltedExtraction.{IsSaltedExtraction, IsSaltedPrunedExtraction};
 
 use crate::hiding_mmcs::{MerkleTreeHidingMmcs, SaltedMultiProof, SaltedProof, SaltedTree};
-use crate::join::{check_salted_rows, salted_sets};
+use crate::salts::{check_salted_rows, check_salted_sets, widened_dimensions};
 use p3_merkle_core::collision::Collision;
 use p3_merkle_core::error::MerkleTreeError;
 use p3_merkle_prover::opener::matrix_refs;
 use p3_merkle_prover::tree::Tree;
-use p3_merkle_verifier::openings::OpeningRef;
+use p3_merkle_verifier::openings::{OpeningRef, PrunedOpeningRef};
 use p3_support::compress::PseudoCompressionFunction;
 use p3_support::hasher::CryptographicHasher;
 use p3_support::matrix::{Dimensions, Matrix};
 use p3_support::opening::{BatchOpening, BatchOpeningRef, MerkleCap};
 use p3_support::packed::PackedValue;
 use p3_support::pair::HorizontalPair;
-use p3_support::row_parts::RowParts;
+use p3_support::row_parts::{RowParts, RowSets};
 use std::alloc::{AllocError, Global};
 
 /// Splits each row of one index into the matrix's own words and its salts, and returns the row set and the salt set.
@@ -257,7 +258,8 @@ impl<
     /// width, and `SALT_ELEMS` salts for each row. Queries of one index have the same rows and salts. Queries under one
     /// node, at most as high as the cap, have the same rows and salts of the matrices that belong to the node's layer.
     /// `dimensions` are those of the matrices without salts, in input order; they must come from the verifier, never
-    /// from the proof. The call allocates the joined rows.
+    /// from the proof. Rows and salts are read where they lie: the call allocates lists of nodes and of their digests, and
+    /// the dimensions with salts.
     ///
     /// # Errors
     ///
@@ -268,8 +270,8 @@ impl<
     ///   dimensions, `WrongWidth` for the first row whose length is not the width of its matrix, `WrongBatchSize` if
     ///   the number of lists of salts is not that of the rows;
     /// - `TooLarge`, for the first matrix whose width with its salts does not fit `usize`;
-    /// - the error of the plain [`verify_multi_batch`](crate::mmcs::Scheme::verify_multi_batch) for the joined
-    ///   rows.
+    /// - the error of the plain [`verify_multi_batch`](crate::mmcs::Scheme::verify_multi_batch) for the rows
+    ///   with their salts.
     pub fn verify_multi_batch(
         &self,
         alloc: Global,
@@ -282,15 +284,12 @@ impl<
         ensures { IsVerdict (presented_all self.now dimensions.now commit.now indices.now rows.now proof.now) result }
     {
         let (salts, pruned) = proof;
-        let salted = salted_sets(alloc, dimensions, SALT_ELEMS, rows, salts)?;
-        self.plain.verify_multi_batch(
-            alloc,
-            commit,
-            &salted.dimensions,
-            indices,
-            &salted.rows,
-            pruned,
-        )
+        check_salted_sets(dimensions, SALT_ELEMS, rows, salts)?;
+        let wider = widened_dimensions(alloc, dimensions, SALT_ELEMS)?;
+        let rows = RowSets::Salted { sets: rows, salts };
+        let digests = &pruned.sibling_hashes;
+        self.plain
+            .verify_row_sets(alloc, commit.roots(), &wider, indices, rows, digests)
     }
 
     /// Extracts a collision from two accepted openings of one cap: two different inputs of the hasher or of the
@@ -363,33 +362,37 @@ impl<
             extracts (salted_pruned_borrowed indices1.now rows1.now proof1.now)
             (salted_pruned_borrowed indices2.now rows2.now proof2.now) result }
     {
-        let (salts1, pruned1) = proof1;
-        let salted1 = salted_sets(alloc, dimensions, SALT_ELEMS, rows1, salts1)?;
-        let (salts2, pruned2) = proof2;
-        match salted_sets(alloc, dimensions, SALT_ELEMS, rows2, salts2) {
-            Ok(salted2) => self.plain.extract_collision_multi(
-                alloc,
-                commit,
-                &salted1.dimensions,
-                indices1,
-                &salted1.rows,
-                pruned1,
-                indices2,
-                &salted2.rows,
-                pruned2,
-            ),
-            // A refusal of the first opening comes before one of the second.
-            Err(error) => {
-                let checked = self.plain.verify_batch_pruned(
-                    alloc,
-                    commit,
-                    &salted1.dimensions,
-                    indices1,
-                    &salted1.rows,
-                    pruned1,
-                );
-                Err(checked.err().unwrap_or(error))
-            }
+        let roots = commit.roots();
+        check_salted_sets(dimensions, SALT_ELEMS, rows1, &proof1.0)?;
+        let wider = widened_dimensions(alloc, dimensions, SALT_ELEMS)?;
+        let first = opening_with_salts(indices1, rows1, proof1);
+        // A refusal of the first opening comes before one of the second.
+        if let Err(error) = check_salted_sets(dimensions, SALT_ELEMS, rows2, &proof2.0) {
+            let (indices, rows, digests) = (first.indices, first.sets, first.sent);
+            let checked = self
+                .plain
+                .verify_row_sets(alloc, roots, &wider, indices, rows, digests);
+            return Err(checked.err().unwrap_or(error));
         }
+        let second = opening_with_salts(indices2, rows2, proof2);
+        self.plain
+            .pruned_extraction(alloc, roots, &wider, first, second)
+    }
+}
+
+/// The pruned opening of these indices, row sets and proof, as the plain scheme's checker reads it: each row is followed
+/// by its salts.
+fn opening_with_salts<'a, T, W, const D: usize>(
+    indices: &'a [usize],
+    rows: &'a [Vec<Vec<T>>],
+    proof: &'a SaltedMultiProof<T, W, D>,
+) -> PrunedOpeningRef<'a, T, [W; D]>
+    ensures { pruned_in result ≡ joined_sets (salted_pruned_borrowed indices.now rows.now proof.now) }
+{
+    let (salts, pruned) = proof;
+    PrunedOpeningRef {
+        indices,
+        sets: RowSets::Salted { sets: rows, salts },
+        sent: &pruned.sibling_hashes,
     }
 }

@@ -5,12 +5,13 @@ ghost use Rattle.std.specs.Prelude.{◌≡◌, ◌<◌, All, IfOk, None};
 ghost use Rattle.p3_merkle_core.specs.Geometry.{heights, shape_of};
 ghost use Rattle.p3_merkle_core.specs.Nodes.{shape};
 ghost use Rattle.p3_merkle_core.specs.Presented.{presented_to_restore, IsVerdict};
-ghost use Rattle.p3_merkle_core.specs.Pruning.{restored_paths};
+ghost use Rattle.p3_merkle_core.specs.Pruning.{pruned_of, restored_paths};
 ghost use Rattle.p3_merkle_core.specs.Refusals.{AnswersUnlessMemory};
 ghost use Rattle.p3_merkle_core.specs.Views.{multi_made, pruned_borrowed, pruned_made, shown_paths};
 ghost use Rattle.p3_support.specs.Batches.{greatest};
+ghost use Rattle.p3_support.specs.RowSets.{sets_in};
 ghost use Rattle.p3_merkle_prover.specs.Parts.{tree_batch};
-ghost use Rattle.p3_merkle_tree.specs.Committed.{presented_all, OpensPruned};
+ghost use Rattle.p3_merkle_tree.specs.Committed.{presented_all, presented_pruned_under, OpensPruned};
 ghost use Rattle.p3_merkle_tree.specs.Schemes.{cap_layer_of, params_of};
 
 use crate::mmcs::MerkleTreeMmcs;
@@ -27,6 +28,7 @@ use p3_support::hasher::CryptographicHasher;
 use p3_support::matrix::{Dimensions, Matrix};
 use p3_support::opening::MerkleCap;
 use p3_support::packed::PackedValue;
+use p3_support::row_parts::RowSets;
 use std::alloc::Global;
 
 impl<
@@ -127,9 +129,33 @@ impl<
     ) -> Result<(), MerkleTreeError>
         ensures { IsVerdict (presented_all self.now dimensions.now commit.now indices.now rows.now proof.now) result }
     {
-        let opening = PrunedOpeningRef::new(indices, rows, proof);
+        let rows = RowSets::Vecs(rows);
+        let digests = &proof.sibling_hashes;
+        self.verify_row_sets(alloc, commit.roots(), dimensions, indices, rows, digests)
+    }
+
+    /// Verifies the openings of several leaves as [`verify_batch_pruned`](Self::verify_batch_pruned) does, with the same
+    /// errors, wherever their rows lie: see [`RowSets`]. `roots` are those of the cap, and `digests` are those of the
+    /// pruned proof, in wire order. It copies no row: it allocates lists of nodes and of their digests.
+    pub fn verify_row_sets(
+        &self,
+        alloc: Global,
+        roots: &[[PW::Value; D]],
+        dimensions: &[Dimensions],
+        indices: &[usize],
+        rows: RowSets<'_, P::Value>,
+        digests: &[[PW::Value; D]],
+    ) -> Result<(), MerkleTreeError>
+        ensures { let opening = pruned_of indices.now (sets_in rows.entry) digests.now in
+            IsVerdict (presented_pruned_under self.now dimensions.now roots.now opening) result }
+    {
+        let opening = PrunedOpeningRef {
+            indices,
+            sets: rows,
+            sent: digests,
+        };
         self.checker(dimensions)
-            .check_pruned_opening(alloc, commit.roots(), opening)
+            .check_pruned_opening(alloc, roots, opening)
     }
 
     /// The same as [`verify_batch_pruned`](Self::verify_batch_pruned), by the name that the trait `Mmcs` has for it.

@@ -4,7 +4,7 @@ use Rattle.std.specs.Slice.Iter.{iter_rest}
 use Rattle.p3_answers.specs.Answers.{first_of}
 use Rattle.p3_support.specs.Shown.{row_sets}
 use Rattle.p3_merkle_tree.specs.SaltRefusals.{salt_refusal}
-use Rattle.p3_merkle_tree.proofs.join.salted_sets.Given as goal
+use Rattle.p3_merkle_tree.proofs.salts.check_salted_sets.Given as goal
 
 -- the sets so far are not refused, so those that are left decide
 abbrev pub invariant-loop-rows : goal.invariant-loop-rows

@@ -1,7 +1,7 @@
 -- Where no width is too large, all have room for the salts; else the first that is too large is refused.
 use Rattle.std.proofs.Common.{arith}
 use Rattle.p3_merkle_tree.proofs.SaltFacts.{first_wide, widening}
-use Rattle.p3_merkle_tree.proofs.join.check_widening.Goals as goal
+use Rattle.p3_merkle_tree.proofs.salts.check_widening.Goals as goal
 
 pub returns-then-width-salt_elems-clause-answer : goal.returns-then-width-salt_elems-clause-answer
 returns-then-width-salt_elems-clause-answer c =

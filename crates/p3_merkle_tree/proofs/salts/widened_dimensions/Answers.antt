@@ -2,7 +2,7 @@
 use Rattle.std.proofs.Common.{◌+◌}
 use Rattle.p3_support.specs.declared.matrix.Dimensions.{Dimensions}
 use Rattle.p3_merkle_tree.proofs.LoopFacts.{made_all, made_next}
-use Rattle.p3_merkle_tree.proofs.join.widened_dimensions.Goals as goal
+use Rattle.p3_merkle_tree.proofs.salts.widened_dimensions.Goals as goal
 
 pub loop-matrix-preserved : goal.loop-matrix-preserved
 loop-matrix-preserved c =
@@ -10,8 +10,8 @@ loop-matrix-preserved c =
     c.args.dimensions.now c.loop-matrix.matrix-index _ c.loop-matrix.wider.items c.push.new.self.items
     c.loop-matrix-test.true c.in_ok-push.ensures.items c.loop-matrix.invariant
 
-pub returns-clause-wider : goal.returns-clause-wider
-returns-clause-wider c = made_all
+pub returns : goal.returns
+returns c = made_all
     (λ (d : Dimensions). record { width = d.width + c.args.salt_elems; height = d.height })
     c.args.dimensions.now c.loop-matrix.matrix-index c.loop-matrix.wider.items c.loop-matrix-test.false
     c.loop-matrix.invariant

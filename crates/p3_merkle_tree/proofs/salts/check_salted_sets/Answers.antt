@@ -3,14 +3,16 @@ use Rattle.std.proofs.Common.{None, Option, Some, sym, ap, ◌∙◌, ◌≡◌,
 use Rattle.std.proofs.lemmas.List.{length-map}
 use Rattle.std.proofs.lemmas.Result.{err_from_is_err_and}
 use Rattle.std.proofs.lemmas.Slice.Zip.{Zip-more, either_empty_from_Zip}
+use Rattle.std.specs.Prelude.{MatchResult}
 use Rattle.std.specs.Option.{option_or}
+use Rattle.p3_merkle_core.specs.declared.error.MerkleTreeError.{MerkleTreeError}
 use Rattle.std.specs.Iterator.Adapters.{zip_first, zip_second}
 use Rattle.std.specs.Slice.Iter.{iter_rest}
 use Rattle.p3_merkle_core.specs.Refusals.{AnswersUnlessMemory}
 use Rattle.p3_support.specs.Shown.{row_lists, row_sets}
 use Rattle.p3_merkle_tree.proofs.SaltFacts.{no_set_refused, set_passes, set_refused, sets_decide}
 use Rattle.p3_merkle_tree.specs.SaltRefusals.{salt_refusal, widening_refusal}
-use Rattle.p3_merkle_tree.proofs.join.salted_sets.Goals as goal
+use Rattle.p3_merkle_tree.proofs.salts.check_salted_sets.Goals as goal
 
 pub loop-rows-preserved : goal.loop-rows-preserved
 loop-rows-preserved g c =
@@ -42,21 +44,9 @@ returns-in_err-check_rows_and_salts g c =
     c.loop-rows.invariant e refused) in
     let left = err_from_is_err_and c.from_residual.result c.from_residual.ensures.1 in
     rw (left.1, left.2) (record {
-      answer = inr (ap (λ z. option_or z (widening_refusal c.args.salt_elems ds)) first);
-      dimensions = tt;
-      sets = tt;
+      answer = ap (λ z. option_or z (widening_refusal c.args.salt_elems ds)) first;
+      fits = tt;
     })
-
-pub returns-in_err-widened_dimensions-clause-answer : goal.returns-in_err-widened_dimensions-clause-answer
-returns-in_err-widened_dimensions-clause-answer g c =
-    let it = c.loop-rows.rows-iterator in
-    let ds = c.args.dimensions.now in
-    let none = no_set_refused ds (iter_rest (zip_first it)) c.args.sets.now (iter_rest (zip_second it)) c.args.salts.now
-    (simp length-map c.if-salts-sets.false)
-    (either_empty_from_Zip it c.next.new.self c.next.result c.in-None.is c.next.ensures.steps)
-    c.loop-rows.invariant in
-    subst (λ (o : Option _). AnswersUnlessMemory c.from_residual-in_err-widened_dimensions.result
-    (option_or o (widening_refusal c.args.salt_elems ds))) (sym none) (search rules)
 
 pub returns-clause-answer : goal.returns-clause-answer
 returns-clause-answer g c =
@@ -66,4 +56,6 @@ returns-clause-answer g c =
     (simp length-map c.if-salts-sets.false)
     (either_empty_from_Zip it c.next.new.self c.next.result c.in-None.is c.next.ensures.steps)
     c.loop-rows.invariant in
-    ap (λ z. option_or z (widening_refusal c.args.salt_elems ds)) none ∙ c.in_ok-widened_dimensions.ensures.answer
+    subst (λ (o : Option MerkleTreeError). MatchResult c.check_widening.result
+    (λ ok. option_or o (widening_refusal c.args.salt_elems ds) ≡ None)
+    (λ e. option_or o (widening_refusal c.args.salt_elems ds) ≡ Some e)) (sym none) c.check_widening.ensures.answer
