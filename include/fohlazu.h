@@ -58,8 +58,8 @@ struct fohlazu_size {
 
 /* Verifies that the matrices of these sizes, whose tree has a cap of these roots, have the rows that belong to index,
  * which counts rows of the tallest from 0. rows has the row of each matrix, in their order, one after another; siblings
- * are the digests on the path to the cap. Tree, roots, sizes and index are the caller's own knowledge. It takes memory,
- * and gives all of it back. */
+ * are the digests on the path to the cap. Tree, roots, sizes and index are the caller's own knowledge. It copies no
+ * row: it takes memory for the sizes alone, and gives it back. */
 int fohlazu_verify_opening(const struct fohlazu_tree *tree, const uint8_t (*roots)[32], size_t roots_length,
                            const struct fohlazu_size *sizes, size_t sizes_length, size_t index, const uint8_t *rows,
                            size_t rows_length, const uint8_t (*siblings)[32], size_t siblings_length);

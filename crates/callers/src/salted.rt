@@ -28,7 +28,7 @@ pub fn run(rt: &HostRuntime) -> Result<()> {
 
     check_indices(scheme.get_max_height(&tree), &[2])?;
     let opening = scheme.open_batch(alloc, 2, &tree)?;
-    scheme.verify_batch(alloc, &cap, &DIMENSIONS, 2, BatchOpeningRef::from(&opening))?;
+    scheme.verify_batch(&cap, &DIMENSIONS, 2, BatchOpeningRef::from(&opening))?;
 
     let (row, (salts, siblings)) = (&opening.opened_values, &opening.opening_proof);
     let (salts, siblings) = (salts.len(), siblings.len());

@@ -1,7 +1,7 @@
 //! The salted scheme: what it opens of its own commitment is accepted; and an opening that anybody presents has the
 //! committed row of each authenticated matrix, or a collision is returned.
 
-ghost use Rattle.std.specs.Prelude.{◌≡◌, ◌<◌, ◌⊎◌, [], ◌∷◌, All, IfErr, IfOk, IsSome, map, slice_index};
+ghost use Rattle.std.specs.Prelude.{◌≡◌, ◌<◌, ◌⊎◌, [], ◌∷◌, All, IfErr, IfOk, IsOk, IsSome, map, slice_index};
 ghost use Rattle.end_to_end.specs.Honest.{IsHonestSalted, IsHonestSaltedPruned};
 ghost use Rattle.end_to_end.specs.Refusals.{salted_open_refusal};
 ghost use Rattle.end_to_end.specs.Comparisons.{IsSaltedComparison, IsSaltedPrunedComparison};
@@ -117,7 +117,7 @@ where
 ///
 /// # Errors
 ///
-/// The first of these that applies, where `OutOfMemory` may come at any time, also as the verdict or as what is found:
+/// The first of these that applies, where `OutOfMemory` may come at any time, also as what is found:
 ///
 /// - `EmptyBatch`, `TooLarge` or `IncompatibleHeights` if the matrices have such heights;
 /// - `TooLarge` for the first matrix whose width with its salts does not fit `usize`;
@@ -150,7 +150,7 @@ where
     ensures committed { IfOk result (λ v. CommitsSalted scheme.new (roots_of v.cap) v.tree) }
     ensures opened { IfOk result (λ v.
         IsHonestSalted scheme.new v.tree (roots_of v.cap) (salted_made index v.opening)) }
-    ensures verdict { IfOk result (λ v. IfErr v.verdict (λ e. e ≡ OutOfMemory)) }
+    ensures verdict { IfOk result (λ v. IsOk v.verdict) }
     ensures compared { let compares = IsSaltedComparison PW.Value.eq (cap_rule_of (plain_of scheme.new)) SALT_ELEMS in
         IfOk result (λ v. let dimensions = unsalted_dimensions N (matrices_of v.tree) in
         compares dimensions (salted_params_of scheme.new dimensions) (roots_of v.cap)
@@ -165,7 +165,7 @@ where
     let (cap, tree, dimensions) = salted_committed(alloc, scheme, matrices, &[index])?;
     let opening = scheme.open_batch(alloc, index, &tree)?;
     let honest = BatchOpeningRef::from(&opening);
-    let verdict = scheme.verify_batch(alloc, &cap, &dimensions, index, honest);
+    let verdict = scheme.verify_batch(&cap, &dimensions, index, honest);
     let found = scheme.extract_collision(alloc, &cap, &dimensions, index, claimed, index, honest);
     Ok(Compared {
         cap,

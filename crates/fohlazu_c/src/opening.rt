@@ -1,13 +1,12 @@
 //! The call about openings of matrices.
 
-ghost use Rattle.std.specs.Prelude.{◌≡◌, ◌⊎◌, ◌↔◌, ℕ, pos, map, Err, IfOk, IsOk, IsTrue, None, Some};
+ghost use Rattle.std.specs.Prelude.{◌≡◌, ◌⊎◌, ◌↔◌, ℕ, pos, length, map, nat_lt, sum_by};
+ghost use Rattle.std.specs.Prelude.{Err, IfOk, IsOk, IsTrue, None, Some};
 ghost use Rattle.std.specs.Result.{result_err};
-ghost use Rattle.p3_support.specs.Batches.{widths_of};
-ghost use Rattle.p3_support.specs.Shown.{row_lists};
 ghost use Rattle.p3_merkle_core.specs.Checks.{IsAccepted, Params};
 ghost use Rattle.p3_answers.specs.Answers.{ok_unless};
 ghost use Rattle.p3_merkle_core.specs.declared.error.MerkleTreeError.TheVariants.{OutOfMemory};
-ghost use Rattle.fohlazu_c.specs.Openings.{cut_rows, is_arity_taken, opening_status, params_at, params_shown};
+ghost use Rattle.fohlazu_c.specs.Openings.{is_arity_taken, opening_status, params_at, params_shown};
 ghost use Rattle.fohlazu_c.specs.Openings.{presented_opening, refusal_at, size_shown};
 
 use crate::setting::{MatrixSize, TreeSetting, rule};
@@ -16,7 +15,7 @@ use p3_merkle_core::cap::CapRule;
 use p3_merkle_core::error::MerkleTreeError;
 use p3_merkle_tree::mmcs::MerkleTreeMmcs;
 use p3_support::matrix::Dimensions;
-use p3_support::opening::{BatchOpeningRef, MerkleCap};
+use p3_support::row_parts::RowParts;
 use std::alloc::{AllocError, Global};
 
 type Scheme<const N: usize> = MerkleTreeMmcs<u8, u8, Sha256Rows, Sha256Nodes<N>, N, 32>;
@@ -81,7 +80,8 @@ struct Claim<'a> {
     siblings: &'a [[u8; 32]],
 }
 
-/// The verdict on a claim under an arity: that of `verify_batch`, or `OutOfMemory`, which may come at any time.
+/// The verdict on a claim under an arity: that of `verify_batch`, or `OutOfMemory`, which may come at any time. The
+/// rows are read where they lie.
 fn verdict<const N: usize>(
     alloc: Global,
     cap_height: usize,
@@ -97,13 +97,32 @@ fn verdict<const N: usize>(
         IsOk result → IsAccepted (params_at N cap_height rule dimensions) claim.entry.roots.now
         (presented_opening dimensions claim.entry.index claim.entry.rows.now claim.entry.siblings.now) }
 {
-    let dimensions = dimensions_of(alloc, claim.sizes)?;
-    let rows = cut_by_widths(alloc, claim.sizes, claim.rows)?;
-    let siblings = Vec::from_slice(alloc, claim.siblings)?;
-    let cap = MerkleCap::new(Vec::from_slice(alloc, claim.roots)?);
+    if are_more_bytes(claim.sizes, claim.rows) {
+        let expected = claim.sizes.len();
+        return Err(MerkleTreeError::WrongBatchSize {
+            expected,
+            got: expected + 1,
+        });
+    }
+    let dimensions = &dimensions_of(alloc, claim.sizes)?;
+    let rows = RowParts::Flat {
+        words: claim.rows,
+        dimensions,
+    };
     let scheme = Scheme::<N>::new_with_rule(Sha256Rows, Sha256Nodes::<N>, cap_height, rule);
-    let opening = BatchOpeningRef::new(&rows, &siblings);
-    scheme.verify_batch(&cap, &dimensions, claim.index, opening)
+    scheme.verify_rows(claim.roots, dimensions, claim.index, rows, claim.siblings)
+}
+
+/// Whether these are more bytes than the rows of matrices of these sizes have together. Then the bytes that are left
+/// would be a row too many.
+fn are_more_bytes(sizes: &[MatrixSize], bytes: &[u8]) -> bool
+    ensures { result ≡ nat_lt (sum_by (λ size. size.width) sizes.now) (length bytes.now) }
+{
+    let mut left = bytes.len();
+    for size in sizes {
+        left = left.saturating_sub(size.width);
+    }
+    left > 0
 }
 
 /// The sizes as the library's `Dimensions`. `AllocError` if memory runs out.
@@ -112,28 +131,6 @@ fn dimensions_of(alloc: Global, sizes: &[MatrixSize]) -> Result<Vec<Dimensions>,
 {
     let to_dimensions = |&MatrixSize { height, width }: &MatrixSize| Dimensions { height, width };
     sizes.iter().map(to_dimensions).collect(alloc)
-}
-
-/// The rows of matrices of these sizes, which lie one after another in `rows`, cut by their widths: a row is short
-/// where the bytes end, and bytes that are left are a row too many. `AllocError` if memory runs out.
-fn cut_by_widths(
-    alloc: Global,
-    sizes: &[MatrixSize],
-    rows: &[u8],
-) -> Result<Vec<Vec<u8>>, AllocError>
-    ensures { IfOk result (λ cut. row_lists cut.items ≡ cut_rows (widths_of (map size_shown sizes.now)) rows.now) }
-{
-    let mut cut = Vec::new(alloc);
-    let mut left = rows;
-    for size in sizes {
-        let (row, rest) = left.split_at(size.width.min(left.len()));
-        cut.push(Vec::from_slice(alloc, row)?)?;
-        left = rest;
-    }
-    if !left.is_empty() {
-        cut.push(Vec::from_slice(alloc, left)?)?;
-    }
-    Ok(cut)
 }
 
 /// The status of a verdict, by the numbers that the C header lists.

@@ -8,11 +8,10 @@ use Rattle.p3_merkle_tree.specs.SaltedExtraction.{IsSaltedExtraction}
 use Rattle.p3_merkle_tree.specs.SaltedOpenings.{SaltedOpening, salted_of}
 use Rattle.p3_merkle_tree.specs.SaltedTrees.{unsalted_dimensions}
 use Rattle.p3_merkle_tree.specs.Schemes.{cap_rule_of}
-use Rattle.p3_merkle_tree.specs.Presented.{IsVerdict}
+use Rattle.p3_merkle_tree.specs.Presented.{IsExactVerdict}
 use Rattle.p3_merkle_tree.specs.SaltedPresented.{presented_salted}
 use Rattle.end_to_end.proofs.ComparisonFacts.{compared_salted}
 use Rattle.end_to_end.proofs.RefusalFacts.{salted_unrefused}
-use Rattle.end_to_end.proofs.SaltedFacts.{memory_left}
 use Rattle.end_to_end.proofs.salted.salted_commit_compare.Goals as goal
 
 pub returns-clause-opened : goal.returns-clause-opened
@@ -35,15 +34,13 @@ returns-clause-verdict g c =
     let same = c.deref.ensures.value ∙ c.in_ok-cap.ensures.dimensions in
     let lent = c.from-honest.ensures in
     let is = subst (λ (z : List Dimensions × SaltedOpening _ _).
-    IsVerdict (presented z.0 z.1) c.verify_batch-verdict.result)
+    IsExactVerdict (presented z.0 z.1) c.verify_batch-verdict.result)
     (λ i. (
       same i,
       salted_of c.args.index (row_lists (lent.0 i)) (row_lists (lent.1 i).0.items) (lent.1 i).1.items,
     ))
     c.verify_batch-verdict.ensures in
-    memory_left (presented (unsalted_dimensions g.row.N (matrices_of c.in_ok-cap.tree))
-    (salted_made c.args.index c.in_ok-opening.opening)) c.verify_batch-verdict.result is
-    (returns-clause-opened g c).accepted
+    is.accepted.1 (returns-clause-opened g c).accepted
 
 pub returns-clause-compared : goal.returns-clause-compared
 returns-clause-compared g c =
