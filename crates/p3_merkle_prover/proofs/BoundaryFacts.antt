@@ -14,12 +14,13 @@ use Rattle.std.specs.List.{list_any, range_with_len, remove}
 use Rattle.std.specs.Cmp.{both_ways}
 use Rattle.std.specs.Prelude.{slice_index_or}
 use Rattle.std.specs.List.Sorted.{IsStrictlyIncreasing}
+use Rattle.p3_support.specs.Lists.{is_among}
 use Rattle.p3_merkle_core.specs.Geometry.{Shape, step, layer_len}
 use Rattle.p3_merkle_core.specs.Pruning.{CanQuery, is_covered, is_boundary, boundary_at, boundary, boundary_by}
 use Rattle.p3_merkle_core.specs.Inner.Covered.{covered_at}
 use Rattle.p3_merkle_core.specs.Openings.{node_in}
 use Rattle.p3_merkle_core.proofs.Lists.ListFacts.{joined_more}
-use Rattle.p3_merkle_core.proofs.Lists.RisingFacts.{all_kept, div_mono, increasing_from, is_listed, listed_at}
+use Rattle.p3_merkle_core.proofs.Lists.RisingFacts.{all_kept, div_mono, increasing_from, listed_at}
 use Rattle.p3_merkle_core.proofs.Lists.RisingFacts.{none_kept, place_of, range_joined, rising_filter}
 use Rattle.p3_merkle_core.proofs.Covered.CoveredFacts.{covered_child, covered_listed, group_fits, listed_covered}
 use Rattle.p3_merkle_core.proofs.Shapes.StepFacts.{step_above_1}
@@ -60,7 +61,7 @@ not_beside : (covered : List ℕ) (n j : ℕ) → ((i : ℕ) → i < length cove
     is_beside covered n j ≡ false
 not_beside covered n j none =
     false_from_ne_true (is_beside covered n j) (λ t.
-    let parts = and_parts (list_any (λ k. eqb (k / n) (j / n)) covered) (not (is_listed covered j)) t in
+    let parts = and_parts (list_any (λ k. eqb (k / n) (j / n)) covered) (not (is_among covered j)) t in
     let q = found_in (λ k. eqb (k / n) (j / n)) covered parts.0 in
     none q.0 q.1 (eqb-true (get_or covered q.0 0 / n) (j / n) q.2))
 
@@ -68,17 +69,17 @@ beside_itself : (covered : List ℕ) (n place j : ℕ) → place < length covere
     is_beside covered n j ≡ false
 beside_itself covered n place j h e =
     false_from_ne_true (is_beside covered n j) (λ t.
-    let parts = and_parts (list_any (λ k. eqb (k / n) (j / n)) covered) (not (is_listed covered j)) t in
-    true≢false (sym (ap (is_listed covered) e ∙ listed_at covered place 0 h) ∙ not-true (is_listed covered j) parts.1))
+    let parts = and_parts (list_any (λ k. eqb (k / n) (j / n)) covered) (not (is_among covered j)) t in
+    true≢false (sym (ap (is_among covered) e ∙ listed_at covered place 0 h) ∙ not-true (is_among covered j) parts.1))
 
 beside_at : (covered : List ℕ) (n place j : ℕ) → place < length covered → get_or covered place 0 / n ≡ j / n →
     ((i : ℕ) → i < length covered → get_or covered i 0 ≡ j → ⊥) → is_beside covered n j ≡ true
 beside_at covered n place j h e other =
-    let out = false_from_ne_true (is_listed covered j) (λ t. let q = found_in (λ k. eqb k j) covered t in
+    let out = false_from_ne_true (is_among covered j) (λ t. let q = found_in (λ k. eqb k j) covered t in
     other q.0 q.1 (eqb-true (get_or covered q.0 0) j q.2)) in
-    and_from (list_any (λ k. eqb (k / n) (j / n)) covered) (not (is_listed covered j))
+    and_from (list_any (λ k. eqb (k / n) (j / n)) covered) (not (is_among covered j))
     (list_any_at (λ k. eqb (k / n) (j / n)) covered place 0 h (eq-eqb (get_or covered place 0 / n) (j / n) e))
-    (not_from_false (is_listed covered j) out)
+    (not_from_false (is_among covered j) out)
 
 -- ---- from one covered node to the next
 
@@ -320,7 +321,7 @@ groups_fit s indices t w l h n len here is_step is_len is i d below =
     let k = get_or here i d in
     let some : 0 < n = omega (arith, step_above_1 s l w.well_shaped.above_1) in
     let c : is_covered s indices l k
-    ≡ true = listed_covered s indices l k (ap (λ (xs : List ℕ). is_listed xs k) (sym is)
+    ≡ true = listed_covered s indices l k (ap (λ (xs : List ℕ). is_among xs k) (sym is)
     ∙ listed_at here i d below) in
     let up = covered_listed s indices t w (suc l) (k / step s l) (omega arith) (covered_up s indices l k c) in
     let fits : n * (k / n) + n ≤ len = rw (is_step, is_len) (group_fits s indices t w l h (k / step s l) up) in
@@ -333,7 +334,7 @@ beside_is : (s : Shape) (indices : List ℕ) (t : ℕ) → CanQuery s indices t 
 beside_is s indices t w l h j =
     let n = step s l in
     let here = covered_at s indices l in
-    let listed = both_ways (is_covered s indices l j) (is_listed here j)
+    let listed = both_ways (is_covered s indices l j) (is_among here j)
     (covered_listed s indices t w l j (omega arith)) (listed_covered s indices l j) in
     let above = both_ways (is_covered s indices (suc l) (j / n)) (list_any (λ k. eqb (k / n) (j / n)) here)
     (λ c.

@@ -12,7 +12,7 @@ use Rattle.p3_merkle_core.specs.Inner.Agreement.{distinct, first_query, AreDisti
 use Rattle.p3_merkle_core.specs.declared.pruning.DistinctQueries.{DistinctQueries}
 use Rattle.p3_merkle_core.specs.Inner.Covered.{covered_at}
 use Rattle.p3_merkle_core.proofs.Covered.CoveredFacts.{covered_leaf, covered_listed, listed_below, listed_covered}
-use Rattle.p3_merkle_core.proofs.Lists.RisingFacts.{is_listed, listed_at, listed_map, map_lists, rising_filter}
+use Rattle.p3_merkle_core.proofs.Lists.RisingFacts.{listed_at, listed_map, map_lists, rising_filter}
 use Rattle.p3_merkle_core.proofs.Pruned.AgreeFacts.{firsts_inside}
 use Rattle.p3_merkle_core.proofs.Pruned.LeadFacts.{first_there, nodes_by_bits}
 use Rattle.p3_merkle_core.proofs.Pruned.SlotFacts.{distinct_from, distinct_is, distinct_queried, parents_once}
@@ -32,7 +32,7 @@ map_on P g h e (x ∷ xs) all = rw (e x (all 0 0 (omega arith)), map_on P g h e 
 -- ---- the nodes of a layer, by the bits of the leaves
 
 pub covered_listed_above : (s : Shape) (indices : List ℕ) (l j : ℕ) →
-    is_covered s indices l j ≡ is_listed (map (ancestor s l) indices) j
+    is_covered s indices l j ≡ is_among (map (ancestor s l) indices) j
 covered_listed_above s [] l j = refl
 covered_listed_above s (i ∷ indices) l j = rw (covered_listed_above s indices l j) refl
 
@@ -44,13 +44,13 @@ covered_by_bits s indices t w l bits h is =
     let leaves = distinct indices in
     let nodes = map (ancestor s l) leaves in
     let are : covered_at s indices 0 ≡ leaves = distinct_from s indices w.below in
-    let leaf = λ (i : ℕ) (c : is_listed indices i ≡ true). rw are at (covered_listed s indices t w 0 i (omega arith)
+    let leaf = λ (i : ℕ) (c : is_among indices i ≡ true). rw are at (covered_listed s indices t w 0 i (omega arith)
     (covered_leaf s indices i ∙ c)) in
-    let index = λ (i : ℕ) (c : is_listed leaves i ≡ true). sym (covered_leaf s indices i)
+    let index = λ (i : ℕ) (c : is_among leaves i ≡ true). sym (covered_leaf s indices i)
     ∙ listed_covered s indices 0 i (rw (← are) at c) in
     let above : covered_at s indices l ≡ distinct nodes =
     distinct_is nodes (covered_at s indices l) (rising_filter (is_covered s indices l) 0 (layer_len s l)) (λ j.
-    both_ways (is_listed (covered_at s indices l) j) (is_listed nodes j)
+    both_ways (is_among (covered_at s indices l) j) (is_among nodes j)
     (λ c.
     let found = listed_map (ancestor s l) indices j (sym (covered_listed_above s indices l j)
     ∙ listed_covered s indices l j c) in

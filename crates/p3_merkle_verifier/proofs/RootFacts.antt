@@ -6,6 +6,7 @@ use Rattle.std.specs.Cmp.{both_ways}
 use Rattle.std.specs.Cmp.Lexicographic.{pointwise}
 use Rattle.std.proofs.lemmas.Bool.{and_from, and_parts, eqb-true, or_cases, or_left, or_right, true≢false}
 use Rattle.std.proofs.lemmas.List.Folds.{list_all-map}
+use Rattle.p3_support.specs.Lists.{is_among}
 use Rattle.p3_merkle_core.specs.Geometry.{Shape, ancestor}
 use Rattle.p3_merkle_core.specs.Nodes.{Functions}
 use Rattle.p3_merkle_core.specs.Refusals.{cap_refusal, is_entry}
@@ -15,23 +16,22 @@ use Rattle.p3_merkle_core.specs.Pruning.{CanQuery, PrunedOpening, restored_node}
 use Rattle.p3_merkle_core.specs.Inner.Covered.{covered_at}
 use Rattle.p3_merkle_core.specs.Checks.{params}
 use Rattle.p3_merkle_core.proofs.Covered.CoveredFacts.{covered_listed, listed_covered}
-use Rattle.p3_merkle_core.proofs.Lists.RisingFacts.{is_listed}
 use Rattle.p3_merkle_verifier.proofs.ChildFacts.{covered_listed_above}
 
-listed_pass : (q : ℕ → Bool) (xs : List ℕ) (j : ℕ) → list_all q xs ≡ true → is_listed xs j ≡ true → q j ≡ true
+listed_pass : (q : ℕ → Bool) (xs : List ℕ) (j : ℕ) → list_all q xs ≡ true → is_among xs j ≡ true → q j ≡ true
 listed_pass q [] j a b = absurd (true≢false (sym b))
 listed_pass q (x ∷ xs) j a b =
     let p = and_parts (q x) (list_all q xs) a in
-    elim (or_cases (eqb x j) (is_listed xs j) b) [
+    elim (or_cases (eqb x j) (is_among xs j) b) [
       | inl e ↦ let is : x ≡ j = eqb-true x j e in rw is at p.0
       | inr r ↦ listed_pass q xs j p.1 r
     ]
 
-pass_listed : (q : ℕ → Bool) (xs : List ℕ) → ((j : ℕ) → is_listed xs j ≡ true → q j ≡ true) → list_all q xs ≡ true
+pass_listed : (q : ℕ → Bool) (xs : List ℕ) → ((j : ℕ) → is_among xs j ≡ true → q j ≡ true) → list_all q xs ≡ true
 pass_listed q [] h = refl
 pass_listed q (x ∷ xs) h =
-    and_from (q x) (list_all q xs) (h x (or_left (eqb x x) (is_listed xs x) (eq-eqb x x refl)))
-    (pass_listed q xs (λ j l. h j (or_right (eqb x j) (is_listed xs j) l)))
+    and_from (q x) (list_all q xs) (h x (or_left (eqb x x) (is_among xs x) (eq-eqb x x refl)))
+    (pass_listed q xs (λ j l. h j (or_right (eqb x j) (is_among xs j) l)))
 
 -- what holds of the ancestor of each query holds of each covered node, and the other way round
 pub all_covered : (s : Shape) (indices : List ℕ) (t : ℕ) → CanQuery s indices t → (q : ℕ → Bool) →

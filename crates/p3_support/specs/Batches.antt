@@ -37,9 +37,3 @@ rows_in height row row_number top ms index = map (λ m. row m (row_number top (h
 pub record FitDimensions {T : Type 0} (dimensions : List Dimensions) (index : ℕ) (rows : List (List T)) : Type 0 where
   pub rows_fit : map length rows ≡ widths_of dimensions
   pub in_range : index < greatest (heights_of dimensions)
-
--- a relation is an equivalence
-pub record IsEquivalence {A : Type 0} (alike : A → A → Type 0) : Type 0 where
-  pub itself : (x : A) → alike x x
-  pub back : (x y : A) → alike x y → alike y x
-  pub through : (x y z : A) → alike x y → alike y z → alike x z

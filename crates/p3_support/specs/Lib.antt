@@ -4,6 +4,7 @@ pub mod RowMajor
 pub mod Rows
 pub mod RowSets
 pub mod Pairs
+pub mod Relations
 pub mod Salts
 pub mod Shown
 pub mod Inner

@@ -2,7 +2,8 @@
 ghost use Rattle.std.specs.Prelude.{◌≡◌, ◌⊎◌, ℕ, ◌<◌, All, IfErr, IfOk, IsOk, List, Option, map};
 ghost use Rattle.std.specs.List.{AllZip};
 ghost use Rattle.p3_answers.specs.Answers.{AnswersUnless};
-ghost use Rattle.p3_support.specs.Batches.{dimensions_in, greatest, rows_in, FitDimensions, IsEquivalence};
+ghost use Rattle.p3_support.specs.Batches.{dimensions_in, greatest, rows_in, FitDimensions};
+ghost use Rattle.p3_support.specs.Relations.{IsEquivalence};
 ghost use Rattle.p3_support.specs.Shown.{row_lists, row_sets};
 ghost use Rattle.p3_support.specs.declared.matrix.Dimensions.{Dimensions};
 

@@ -13,7 +13,7 @@ use Rattle.std.specs.List.Sorted.{IsBinarySearchResult}
 use Rattle.std.specs.Ordering.{nat_cmp}
 use Rattle.p3_support.specs.Lists.{is_among}
 use Rattle.p3_merkle_core.specs.Inner.Agreement.{IsAscending}
-use Rattle.p3_merkle_core.proofs.Lists.RisingFacts.{IsRising, is_listed, listed_at, rising_lower}
+use Rattle.p3_merkle_core.proofs.Lists.RisingFacts.{IsRising, listed_at, rising_lower}
 use Rattle.tlog_multiproof.specs.Inner.Siblings.{sibling}
 
 -- ---- what a binary search finds
@@ -59,31 +59,31 @@ node_more f p g xs i old so_far new h is more =
 -- ---- siblings ascend
 
 -- ascending numbers without their least bound
-rising_past : (a : ℕ) (xs : List ℕ) → IsRising a xs → is_listed xs a ≡ false → IsRising (suc a) xs
+rising_past : (a : ℕ) (xs : List ℕ) → IsRising a xs → is_among xs a ≡ false → IsRising (suc a) xs
 rising_past a [] r missed = tt
 rising_past a (x ∷ xs) r missed =
     elim (cases_eq x a) [
-      | inl e ↦ absurd (true≢false (sym (or_left (eqb x a) (is_listed xs a) (eq-eqb x a e)) ∙ missed))
+      | inl e ↦ absurd (true≢false (sym (or_left (eqb x a) (is_among xs a) (eq-eqb x a e)) ∙ missed))
       | inr ne ↦ (omega (arith, r.0), r.1)
     ]
 
 -- the siblings of ascending numbers that are not among them ascend
 pub siblings_rise : (here : List ℕ) (h : ℕ) (xs : List ℕ) →
-    ((j : ℕ) → is_listed xs j ≡ true → is_listed here j ≡ true) → IsRising (2 * h) xs →
-    IsRising (2 * h) (filter (λ j. not (is_listed here j)) (map sibling xs))
+    ((j : ℕ) → is_among xs j ≡ true → is_among here j ≡ true) → IsRising (2 * h) xs →
+    IsRising (2 * h) (filter (λ j. not (is_among here j)) (map sibling xs))
 siblings_rise here h [] within r = tt
 siblings_rise here h (x ∷ xs) within r =
     let k = sibling x in
-    let inside = λ (j : ℕ) (l : is_listed xs j ≡ true). within j (or_right (eqb x j) (is_listed xs j) l) in
-    elim (cases_Bool (is_listed here k)) [
+    let inside = λ (j : ℕ) (l : is_among xs j ≡ true). within j (or_right (eqb x j) (is_among xs j) l) in
+    elim (cases_Bool (is_among here k)) [
       | inl t ↦ rw t (siblings_rise here h xs inside (rising_lower (2 * h) (suc x) xs (omega (arith, r.0)) r.1))
       | inr f ↦
           let past : IsRising (2 * (x / 2 + 1)) xs =
           elim (cases_eq (x % 2) 0) [
             | inl even ↦
                 let next : suc x ≡ k = omega arith in
-                let no : is_listed xs (suc x) ≡ false =
-                false_from_ne_true (is_listed xs (suc x)) (λ l.
+                let no : is_among xs (suc x) ≡ false =
+                false_from_ne_true (is_among xs (suc x)) (λ l.
                 true≢false (sym (rw next at (inside (suc x) l)) ∙ f)) in
                 rising_lower (2 * (x / 2 + 1)) (suc (suc x)) xs (omega arith) (rising_past (suc x) xs r.1 no)
             | inr odd ↦ rising_lower (2 * (x / 2 + 1)) (suc x) xs (omega arith) r.1

@@ -9,6 +9,7 @@ use Rattle.std.proofs.lemmas.List.{length-map, length-append}
 use Rattle.std.proofs.Math.Nat.{mul-le-mul_left}
 use Rattle.std.proofs.Math.Pow.{pow_mono}
 use Rattle.std.specs.{List.dedup, List.range_with_len}
+use Rattle.p3_support.specs.Lists.{is_among}
 use Rattle.p3_merkle_core.specs.Geometry.{Shape, step, ancestor, raw_len, layer_len, padded_len}
 use Rattle.p3_merkle_core.specs.Geometry.{leaves_under, levels, layer_exponent, exponent, heights, height_limit}
 use Rattle.p3_support.specs.Batches.{greatest}
@@ -22,7 +23,7 @@ use Rattle.p3_merkle_core.proofs.Lists.ListFacts.{joined_more}
 use Rattle.p3_merkle_core.proofs.Covered.Under.{covered_up}
 use Rattle.p3_merkle_core.proofs.Covered.Sufficient.{covered_below}
 use Rattle.p3_merkle_core.proofs.Checks.CheckFacts.{padded_ge}
-use Rattle.p3_merkle_core.proofs.Lists.RisingFacts.{is_listed, rising_filter, filter_is, listed_in, listed_there}
+use Rattle.p3_merkle_core.proofs.Lists.RisingFacts.{rising_filter, filter_is, listed_in, listed_there}
 use Rattle.p3_merkle_core.proofs.Lists.RisingFacts.{by_groups, groups_are, groups_count, listed_dedup, listed_map}
 use Rattle.p3_merkle_core.proofs.Lists.RisingFacts.{map_lists, rising_dedup, rising_length}
 
@@ -36,17 +37,17 @@ some_leaf s l h =
       | inr nz ↦ omega arith
     ]
 
-pub listed_covered : (s : Shape) (queries : List ℕ) (l j : ℕ) → is_listed (covered_at s queries l) j ≡ true →
+pub listed_covered : (s : Shape) (queries : List ℕ) (l j : ℕ) → is_among (covered_at s queries l) j ≡ true →
     is_covered s queries l j ≡ true
 listed_covered s queries l j h = (listed_in (is_covered s queries l) 0 (layer_len s l) j h).2
 
 pub covered_listed : (s : Shape) (queries : List ℕ) (t : ℕ) → CanQuery s queries t → (l j : ℕ) → l ≤ t →
-    is_covered s queries l j ≡ true → is_listed (covered_at s queries l) j ≡ true
+    is_covered s queries l j ≡ true → is_among (covered_at s queries l) j ≡ true
 covered_listed s queries t w l j h c = grind (arith, common_steps, covered_below, padded_ge, listed_there)
 
 -- the children of a covered node are slots of the layer below
 pub group_fits : (s : Shape) (queries : List ℕ) (t : ℕ) → CanQuery s queries t → (l : ℕ) → l < t → (g : ℕ) →
-    is_listed (covered_at s queries (suc l)) g ≡ true → step s l * g + step s l ≤ layer_len s l
+    is_among (covered_at s queries (suc l)) g ≡ true → step s l * g + step s l ≤ layer_len s l
 group_fits s queries t w l h g c =
     let inside = covered_below s queries t w (suc l) g (omega arith) (listed_covered s queries (suc l) g c) in
     let low : l < levels s = omega (arith, w.in_tree) in
@@ -56,7 +57,7 @@ group_fits s queries t w l h g c =
 
 -- ---- the leaves
 
-pub covered_leaf : (s : Shape) (queries : List ℕ) (j : ℕ) → is_covered s queries 0 j ≡ is_listed queries j
+pub covered_leaf : (s : Shape) (queries : List ℕ) (j : ℕ) → is_covered s queries 0 j ≡ is_among queries j
 covered_leaf s [] j = refl
 covered_leaf s (q ∷ queries) j = rw (anc_start s q) (ap (λ b. eqb q j || b) (covered_leaf s queries j))
 
@@ -64,10 +65,10 @@ pub raw_start : (s : Shape) → raw_len s 0 ≡ greatest (heights s)
 unfolding raw_len
 raw_start s = refl
 
-pub listed_below : (m : ℕ) (queries : List ℕ) (j : ℕ) → All (λ q. q < m) queries → is_listed queries j ≡ true → j < m
+pub listed_below : (m : ℕ) (queries : List ℕ) (j : ℕ) → All (λ q. q < m) queries → is_among queries j ≡ true → j < m
 listed_below m [] j below h = absurd (true≢false (sym h))
 listed_below m (q ∷ queries) j below h =
-    elim (or_cases (eqb q j) (is_listed queries j) h) [
+    elim (or_cases (eqb q j) (is_among queries j) h) [
       | inl e ↦ let is = eqb-true q j e in omega (arith, below 0 0 (omega arith))
       | inr rest ↦ listed_below m queries j (λ k d l. below (suc k) d (omega arith)) rest
     ]
@@ -138,22 +139,22 @@ boundary_by_groups s queries t w l h =
 
 -- the same by what is listed below
 pub boundary_by_lists : (s : Shape) (queries : List ℕ) (t : ℕ) → CanQuery s queries t → (l : ℕ) → l < t →
-    by_groups (step s l) (λ j. not (is_listed (covered_at s queries l) j)) (covered_at s queries (suc l))
+    by_groups (step s l) (λ j. not (is_among (covered_at s queries l) j)) (covered_at s queries (suc l))
     ≡ filter (is_boundary s queries l) (range_with_len 0 (layer_len s l))
 boundary_by_lists s queries t w l h =
     let two = step_above_1 s l w.well_shaped.above_1 in
     let here = covered_at s queries l in
-    groups_are (step s l) (omega arith) (λ j. not (is_listed here j)) (is_boundary s queries l)
+    groups_are (step s l) (omega arith) (λ j. not (is_among here j)) (is_boundary s queries l)
     (covered_at s queries (suc l)) (layer_len s l)
     (rising_filter (is_covered s queries (suc l)) 0 (layer_len s (suc l))) (group_fits s queries t w l h)
     (λ j b.
     let p = and_parts (is_covered s queries (suc l) (j / step s l)) (not (is_covered s queries l j)) b in (
       covered_listed s queries t w (suc l) (j / step s l) (omega arith) p.0,
-      not_if (is_listed here j) (is_covered s queries l j) (listed_covered s queries l j) p.1,
+      not_if (is_among here j) (is_covered s queries l j) (listed_covered s queries l j) p.1,
     ))
     (λ j g c. and_from (is_covered s queries (suc l) (j / step s l)) (not (is_covered s queries l j))
     (listed_covered s queries (suc l) (j / step s l) g)
-    (not_if (is_covered s queries l j) (is_listed here j) (covered_listed s queries t w l j (omega arith)) c))
+    (not_if (is_covered s queries l j) (is_among here j) (covered_listed s queries t w l j (omega arith)) c))
 
 -- the boundary nodes and the covered nodes of a layer are the children of the covered nodes above
 pub covered_count : (s : Shape) (queries : List ℕ) (t : ℕ) → CanQuery s queries t → (l : ℕ) → l < t →

@@ -12,13 +12,10 @@ use Rattle.std.proofs.lemmas.List.Kept.{AllPairs-from_increasing}
 use Rattle.std.proofs.lemmas.List.FromFn.{length-range_with_len}
 use Rattle.std.specs.List.{list_any, range_with_len, dedup, dedup_from, flat_map}
 use Rattle.std.specs.List.Sorted.{IsStrictlyIncreasing}
+use Rattle.p3_support.specs.Lists.{is_among}
 use Rattle.p3_merkle_core.specs.Inner.Agreement.{IsAscending}
 
 -- ---- ascending lists
-
--- whether a number is in a list
-abbrev pub is_listed : List ℕ → ℕ → Bool
-is_listed xs j = list_any (λ x. eqb x j) xs
 
 -- each number is at least a, and above those before it
 abbrev pub IsRising : ℕ → List ℕ → Type 0
@@ -42,10 +39,10 @@ pub rising_from : (xs : List ℕ) → IsStrictlyIncreasing xs → IsRising 0 xs
 rising_from xs h = rising_from_pairs 0 xs (AllPairs-from_increasing xs h) (λ k. omega arith)
 
 -- a number in the list is not below its start
-pub listed_from : (a : ℕ) (xs : List ℕ) (j : ℕ) → IsRising a xs → is_listed xs j ≡ true → a ≤ j
+pub listed_from : (a : ℕ) (xs : List ℕ) (j : ℕ) → IsRising a xs → is_among xs j ≡ true → a ≤ j
 listed_from a [] j r h = absurd (true≢false (sym h))
 listed_from a (x ∷ xs) j r h =
-    elim (or_cases (eqb x j) (is_listed xs j) h) [
+    elim (or_cases (eqb x j) (is_among xs j) h) [
       | inl e ↦ let is = eqb-true x j e in omega (arith, r.0)
       | inr rest ↦ omega (arith, r.0, listed_from (suc x) xs j r.1 rest)
     ]
@@ -53,14 +50,14 @@ listed_from a (x ∷ xs) j r h =
 -- an ascending list of just the numbers from a on, below a + n, that pass
 pub record IsJust (p : ℕ → Bool) (a n : ℕ) (xs : List ℕ) : Type 0 where
   pub rising : IsRising a xs
-  pub sound : (j : ℕ) → is_listed xs j ≡ true → (j < a + n) × (p j ≡ true)
-  pub complete : (j : ℕ) → a ≤ j → j < a + n → p j ≡ true → is_listed xs j ≡ true
+  pub sound : (j : ℕ) → is_among xs j ≡ true → (j < a + n) × (p j ≡ true)
+  pub complete : (j : ℕ) → a ≤ j → j < a + n → p j ≡ true → is_among xs j ≡ true
 
 -- there is one such list
 pub filter_is : (p : ℕ → Bool) (a n : ℕ) (xs : List ℕ) → IsJust p a n xs → xs ≡ filter p (range_with_len a n)
 filter_is p a zero [] w = refl
 filter_is p a zero (x ∷ xs) w =
-    absurd (omega (arith, w.rising.0, (w.sound x (or_left (eqb x x) (is_listed xs x) (eq-eqb x x refl))).0))
+    absurd (omega (arith, w.rising.0, (w.sound x (or_left (eqb x x) (is_among xs x) (eq-eqb x x refl))).0))
 filter_is p a (suc n) [] w =
     let f : p a ≡ false =
     false_from_ne_true (p a) (λ t. true≢false (sym (w.complete a (omega arith) (omega arith) t))) in
@@ -72,13 +69,13 @@ filter_is p a (suc n) [] w =
 filter_is p a (suc n) (x ∷ xs) w =
     elim (cases_eq x a) [
       | inl e ↦
-          let t : p a ≡ true = rw e at ((w.sound x (or_left (eqb x x) (is_listed xs x) (eq-eqb x x refl))).1) in
+          let t : p a ≡ true = rw e at ((w.sound x (or_left (eqb x x) (is_among xs x) (eq-eqb x x refl))).1) in
           let up : IsRising (a + 1) xs = rising_lower (a + 1) (suc x) xs (omega arith) w.rising.1 in
           rw (t, e) (ap (λ ys. a ∷ ys) (filter_is p (a + 1) n xs (record {
             rising = up;
-            sound = λ j h. let q = w.sound j (or_right (eqb x j) (is_listed xs j) h) in (omega (arith, q.0), q.1);
+            sound = λ j h. let q = w.sound j (or_right (eqb x j) (is_among xs j) h) in (omega (arith, q.0), q.1);
             complete = λ j low high u.
-                elim (or_cases (eqb x j) (is_listed xs j) (w.complete j (omega arith) (omega arith) u)) [
+                elim (or_cases (eqb x j) (is_among xs j) (w.complete j (omega arith) (omega arith) u)) [
                   | inl same ↦ absurd (let is = eqb-true x j same in omega arith)
                   | inr rest ↦ rest
                 ];
@@ -99,12 +96,12 @@ filter_is p a (suc n) (x ∷ xs) w =
 
 -- ---- what a filter over a range lists
 
-pub listed_in : (p : ℕ → Bool) (a n j : ℕ) → is_listed (filter p (range_with_len a n)) j ≡ true →
+pub listed_in : (p : ℕ → Bool) (a n j : ℕ) → is_among (filter p (range_with_len a n)) j ≡ true →
     (a ≤ j) × (j < a + n) × (p j ≡ true)
 listed_in p a zero j h = absurd (true≢false (sym h))
 listed_in p a (suc n) j h =
     elim (cases_Bool (p a)) [
-      | inl t ↦ elim (or_cases (eqb a j) (is_listed (filter p (range_with_len (a + 1) n)) j) (rw t at h)) [
+      | inl t ↦ elim (or_cases (eqb a j) (is_among (filter p (range_with_len (a + 1) n)) j) (rw t at h)) [
         | inl e ↦ let is = eqb-true a j e in (omega arith, omega arith, rw (← is) t)
         | inr rest ↦ let q = listed_in p (a + 1) n j rest in (omega (arith, q.0), omega (arith, q.1), q.2)
       ]
@@ -112,17 +109,17 @@ listed_in p a (suc n) j h =
     ]
 
 pub listed_there : (p : ℕ → Bool) (a n j : ℕ) → p j ≡ true → a ≤ j → j < a + n →
-    is_listed (filter p (range_with_len a n)) j ≡ true
+    is_among (filter p (range_with_len a n)) j ≡ true
 listed_there p a zero j h low high = absurd (omega arith)
 listed_there p a (suc n) j h low high =
     elim (cases_eq a j) [
       | inl e ↦
           let t : p a ≡ true = rw e h in
-          rw t (or_left (eqb a j) (is_listed (filter p (range_with_len (a + 1) n)) j) (eq-eqb a j e))
+          rw t (or_left (eqb a j) (is_among (filter p (range_with_len (a + 1) n)) j) (eq-eqb a j e))
       | inr ne ↦
           let rest = listed_there p (a + 1) n j h (omega arith) (omega arith) in
           elim (cases_Bool (p a)) [
-            | inl t ↦ rw t (or_right (eqb a j) (is_listed (filter p (range_with_len (a + 1) n)) j) rest)
+            | inl t ↦ rw t (or_right (eqb a j) (is_among (filter p (range_with_len (a + 1) n)) j) rest)
             | inr f ↦ rw f rest
           ]
     ]
@@ -162,13 +159,13 @@ by_groups n p places = flat_map (λ g. filter p (range_with_len (n * g) n)) plac
 pub place_of : (n g j : ℕ) → n * g ≤ j → j < n * g + n → j / n ≡ g
 place_of n g j low high = grind (arith, common_steps)
 
-rising_append : (a b : ℕ) (xs ys : List ℕ) → a ≤ b → IsRising a xs → ((j : ℕ) → is_listed xs j ≡ true → j < b) →
+rising_append : (a b : ℕ) (xs ys : List ℕ) → a ≤ b → IsRising a xs → ((j : ℕ) → is_among xs j ≡ true → j < b) →
     IsRising b ys → IsRising a (xs ++ ys)
 rising_append a b [] ys le r below s = rising_lower a b ys le s
 rising_append a b (x ∷ xs) ys le r below s = (
   r.0,
-  rising_append (suc x) b xs ys (below x (or_left (eqb x x) (is_listed xs x) (eq-eqb x x refl))) r.1
-      (λ j h. below j (or_right (eqb x j) (is_listed xs j) h)) s,
+  rising_append (suc x) b xs ys (below x (or_left (eqb x x) (is_among xs x) (eq-eqb x x refl))) r.1
+      (λ j h. below j (or_right (eqb x j) (is_among xs j) h)) s,
 )
 
 rising_groups : (n : ℕ) (p : ℕ → Bool) (a : ℕ) (places : List ℕ) → IsRising a places →
@@ -180,41 +177,41 @@ rising_groups n p a (g ∷ places) r =
     (rising_lower (n * a) (n * g) here (mul-le-mul_left n r.0) (rising_filter p (n * g) n))
     (λ j h. let q = listed_in p (n * g) n j h in omega (arith, q.1)) (rising_groups n p (suc g) places r.1)
 
-groups_sound : (n : ℕ) (p : ℕ → Bool) (places : List ℕ) (j : ℕ) → is_listed (by_groups n p places) j ≡ true →
-    (is_listed places (j / n) ≡ true) × (p j ≡ true)
+groups_sound : (n : ℕ) (p : ℕ → Bool) (places : List ℕ) (j : ℕ) → is_among (by_groups n p places) j ≡ true →
+    (is_among places (j / n) ≡ true) × (p j ≡ true)
 groups_sound n p [] j h = absurd (true≢false (sym h))
 groups_sound n p (g ∷ places) j h =
     let here = filter p (range_with_len (n * g) n) in
     let rest = by_groups n p places in
-    elim (or_cases (is_listed here j) (is_listed rest j) (sym (list_any-append (λ x. eqb x j) here rest) ∙ h)) [
+    elim (or_cases (is_among here j) (is_among rest j) (sym (list_any-append (λ x. eqb x j) here rest) ∙ h)) [
       | inl first ↦
           let q = listed_in p (n * g) n j first in
-          (or_left (eqb g (j / n)) (is_listed places (j / n)) (eq-eqb g (j / n) (sym (place_of n g j q.0 q.1))), q.2)
+          (or_left (eqb g (j / n)) (is_among places (j / n)) (eq-eqb g (j / n) (sym (place_of n g j q.0 q.1))), q.2)
       | inr later ↦
           let q = groups_sound n p places j later in
-          (or_right (eqb g (j / n)) (is_listed places (j / n)) q.0, q.1)
+          (or_right (eqb g (j / n)) (is_among places (j / n)) q.0, q.1)
     ]
 
-groups_complete : (n : ℕ) → 0 < n → (p : ℕ → Bool) (places : List ℕ) (j : ℕ) → is_listed places (j / n) ≡ true → p j
-    ≡ true → is_listed (by_groups n p places) j ≡ true
+groups_complete : (n : ℕ) → 0 < n → (p : ℕ → Bool) (places : List ℕ) (j : ℕ) → is_among places (j / n) ≡ true → p j
+    ≡ true → is_among (by_groups n p places) j ≡ true
 groups_complete n some p [] j h t = absurd (true≢false (sym h))
 groups_complete n some p (g ∷ places) j h t =
     let here = filter p (range_with_len (n * g) n) in
     let rest = by_groups n p places in
-    list_any-append (λ x. eqb x j) here rest ∙ elim (or_cases (eqb g (j / n)) (is_listed places (j / n)) h) [
+    list_any-append (λ x. eqb x j) here rest ∙ elim (or_cases (eqb g (j / n)) (is_among places (j / n)) h) [
       | inl e ↦
           let whole : n * (j / n) + j % n ≡ j = omega arith in
           let small : j % n < n = omega arith in
           let is : n * g ≡ n * (j / n) = ap (λ z. n * z) (eqb-true g (j / n) e) in
-          or_left (is_listed here j) (is_listed rest j) (listed_there p (n * g) n j t (omega arith) (omega arith))
-      | inr later ↦ or_right (is_listed here j) (is_listed rest j) (groups_complete n some p places j later t)
+          or_left (is_among here j) (is_among rest j) (listed_there p (n * g) n j t (omega arith) (omega arith))
+      | inr later ↦ or_right (is_among here j) (is_among rest j) (groups_complete n some p places j later t)
     ]
 
 -- where each group lies below m, and q asks for a group that is listed and for p, the groups list what passes q
 pub groups_are : (n : ℕ) → 0 < n → (p q : ℕ → Bool) (places : List ℕ) (m : ℕ) → IsRising 0 places →
-    ((g : ℕ) → is_listed places g ≡ true → n * g + n ≤ m) →
-    ((j : ℕ) → q j ≡ true → (is_listed places (j / n) ≡ true) × (p j ≡ true)) →
-    ((j : ℕ) → is_listed places (j / n) ≡ true → p j ≡ true → q j ≡ true) →
+    ((g : ℕ) → is_among places g ≡ true → n * g + n ≤ m) →
+    ((j : ℕ) → q j ≡ true → (is_among places (j / n) ≡ true) × (p j ≡ true)) →
+    ((j : ℕ) → is_among places (j / n) ≡ true → p j ≡ true → q j ≡ true) →
     by_groups n p places ≡ filter q (range_with_len 0 m)
 groups_are n some p q places m r fits parts both =
     filter_is q 0 m (by_groups n p places) (record {
@@ -262,11 +259,11 @@ rising_once (x ∷ xs) up =
     (λ i j h k. up (suc i) (suc j) (omega arith) (omega arith)) in
     rising_lower 0 x (dedup_from eqb x xs) (omega arith) (dedup_rising x xs rest)
 
-dedup_lists : (k : ℕ) (xs : List ℕ) (j : ℕ) → is_listed (dedup_from eqb k xs) j ≡ is_listed (k ∷ xs) j
+dedup_lists : (k : ℕ) (xs : List ℕ) (j : ℕ) → is_among (dedup_from eqb k xs) j ≡ is_among (k ∷ xs) j
 dedup_lists k [] j = refl
 dedup_lists k (x ∷ xs) j = grind (arith, common_steps, dedup_lists k xs j, dedup_lists x xs j)
 
-pub listed_dedup : (xs : List ℕ) (j : ℕ) → is_listed (dedup eqb xs) j ≡ is_listed xs j
+pub listed_dedup : (xs : List ℕ) (j : ℕ) → is_among (dedup eqb xs) j ≡ is_among xs j
 listed_dedup [] j = refl
 listed_dedup (x ∷ xs) j = dedup_lists x xs j
 
@@ -285,37 +282,37 @@ rising_dedup n some (x ∷ xs) r =
     rising_lower 0 (x / n) (dedup_from eqb (x / n) (map (λ j. j / n) xs)) (omega arith)
     (dedup_rising (x / n) (map (λ j. j / n) xs) (climbing_map n some (suc x) x xs (omega arith) r.1))
 
-pub listed_map : (f : ℕ → ℕ) (xs : List ℕ) (j : ℕ) → is_listed (map f xs) j ≡ true → (k : ℕ) × (is_listed xs k ≡ true) ×
+pub listed_map : (f : ℕ → ℕ) (xs : List ℕ) (j : ℕ) → is_among (map f xs) j ≡ true → (k : ℕ) × (is_among xs k ≡ true) ×
     (f k ≡ j)
 listed_map f [] j h = absurd (true≢false (sym h))
 listed_map f (x ∷ xs) j h =
-    elim (or_cases (eqb (f x) j) (is_listed (map f xs) j) h) [
-      | inl e ↦ (x, or_left (eqb x x) (is_listed xs x) (eq-eqb x x refl), eqb-true (f x) j e)
-      | inr rest ↦ let q = listed_map f xs j rest in (q.0, or_right (eqb x q.0) (is_listed xs q.0) q.1, q.2)
+    elim (or_cases (eqb (f x) j) (is_among (map f xs) j) h) [
+      | inl e ↦ (x, or_left (eqb x x) (is_among xs x) (eq-eqb x x refl), eqb-true (f x) j e)
+      | inr rest ↦ let q = listed_map f xs j rest in (q.0, or_right (eqb x q.0) (is_among xs q.0) q.1, q.2)
     ]
 
-pub map_lists : (f : ℕ → ℕ) (xs : List ℕ) (k : ℕ) → is_listed xs k ≡ true → is_listed (map f xs) (f k) ≡ true
+pub map_lists : (f : ℕ → ℕ) (xs : List ℕ) (k : ℕ) → is_among xs k ≡ true → is_among (map f xs) (f k) ≡ true
 map_lists f [] k h = absurd (true≢false (sym h))
 map_lists f (x ∷ xs) k h =
-    elim (or_cases (eqb x k) (is_listed xs k) h) [
-      | inl e ↦ or_left (eqb (f x) (f k)) (is_listed (map f xs) (f k)) (eq-eqb (f x) (f k) (ap f (eqb-true x k e)))
-      | inr rest ↦ or_right (eqb (f x) (f k)) (is_listed (map f xs) (f k)) (map_lists f xs k rest)
+    elim (or_cases (eqb x k) (is_among xs k) h) [
+      | inl e ↦ or_left (eqb (f x) (f k)) (is_among (map f xs) (f k)) (eq-eqb (f x) (f k) (ap f (eqb-true x k e)))
+      | inr rest ↦ or_right (eqb (f x) (f k)) (is_among (map f xs) (f k)) (map_lists f xs k rest)
     ]
 
-pub rising_length : (a b : ℕ) (xs : List ℕ) → a ≤ b → IsRising a xs → ((j : ℕ) → is_listed xs j ≡ true → j < b) →
+pub rising_length : (a b : ℕ) (xs : List ℕ) → a ≤ b → IsRising a xs → ((j : ℕ) → is_among xs j ≡ true → j < b) →
     length xs + a ≤ b
 rising_length a b [] le r below = omega arith
 rising_length a b (x ∷ xs) le r below =
     omega (
       arith,
       r.0,
-      rising_length (suc x) b xs (below x (or_left (eqb x x) (is_listed xs x) (eq-eqb x x refl))) r.1
-          (λ j h. below j (or_right (eqb x j) (is_listed xs j) h)),
+      rising_length (suc x) b xs (below x (or_left (eqb x x) (is_among xs x) (eq-eqb x x refl))) r.1
+          (λ j h. below j (or_right (eqb x j) (is_among xs j) h)),
     )
 
 -- ---- by places
 
-pub listed_at : (xs : List ℕ) (k d : ℕ) → k < length xs → is_listed xs (get_or xs k d) ≡ true
+pub listed_at : (xs : List ℕ) (k d : ℕ) → k < length xs → is_among xs (get_or xs k d) ≡ true
 listed_at xs k d h = list_any_at (λ x. eqb x (get_or xs k d)) xs k d h (eq-eqb (get_or xs k d) (get_or xs k d) refl)
 
 pub increasing_from : (a : ℕ) (xs : List ℕ) → IsRising a xs → IsStrictlyIncreasing xs

@@ -29,7 +29,7 @@ use Rattle.p3_merkle_core.specs.declared.error.MerkleTreeError.{MerkleTreeError}
 use Rattle.p3_merkle_core.specs.declared.error.MerkleTreeError.TheVariants.{MalformedPrunedProof}
 use Rattle.p3_merkle_core.specs.Inner.Agreement.{distinct, first_query, opened_of, IsAscending, IsSlot}
 use Rattle.p3_merkle_core.proofs.Checks.CheckFacts.{padded_ge}
-use Rattle.p3_merkle_core.proofs.Lists.RisingFacts.{is_listed, IsRising, div_mono, filter_is, listed_dedup, listed_in}
+use Rattle.p3_merkle_core.proofs.Lists.RisingFacts.{IsRising, div_mono, filter_is, listed_dedup, listed_in}
 use Rattle.p3_merkle_core.proofs.Lists.RisingFacts.{listed_from, listed_there, listed_at, rising_filter, rising_once}
 use Rattle.p3_merkle_core.proofs.Covered.CoveredFacts.{covered_leaf, listed_below, listed_covered, raw_start}
 
@@ -54,7 +54,7 @@ all_below m (q ∷ indices) h = tail_below m q indices (omega arith) (all_below 
 -- ---- the distinct indices
 
 -- an ascending list of just the numbers of another
-pub distinct_is : (indices xs : List ℕ) → IsRising 0 xs → ((j : ℕ) → is_listed xs j ≡ is_among indices j) → xs
+pub distinct_is : (indices xs : List ℕ) → IsRising 0 xs → ((j : ℕ) → is_among xs j ≡ is_among indices j) → xs
     ≡ distinct indices
 unfolding distinct
 distinct_is indices xs up same =
@@ -70,7 +70,7 @@ pub distinct_from : (s : Shape) (indices : List ℕ) → All (λ q. q < greatest
     covered_at s indices 0 ≡ distinct indices
 distinct_from s indices below =
     distinct_is indices (covered_at s indices 0) (rising_filter (is_covered s indices 0) 0 (layer_len s 0)) (λ j.
-    both_ways (is_listed (covered_at s indices 0) j) (is_among indices j)
+    both_ways (is_among (covered_at s indices 0) j) (is_among indices j)
     (λ h. sym (covered_leaf s indices j) ∙ listed_covered s indices 0 j h)
     (λ c.
     listed_there (is_covered s indices 0) 0 (layer_len s 0) j (covered_leaf s indices j ∙ c) (omega arith)
@@ -96,9 +96,9 @@ pub distinct_rising : (indices : List ℕ) → IsRising 0 (distinct indices)
 unfolding distinct
 distinct_rising indices = rising_filter (is_among indices) 0 (suc (greatest indices))
 
-distinct_lists : (indices : List ℕ) (j : ℕ) → is_listed (distinct indices) j ≡ is_among indices j
+distinct_lists : (indices : List ℕ) (j : ℕ) → is_among (distinct indices) j ≡ is_among indices j
 unfolding distinct
-distinct_lists indices j = grind (arith, common_steps, is_listed, listed_in, listed_there, highest)
+distinct_lists indices j = grind (arith, common_steps, is_among, listed_in, listed_there, highest)
 
 pub distinct_bounded : (m : ℕ) (indices : List ℕ) → All (λ q. q < m) indices → All (λ q. q < m) (distinct indices)
 distinct_bounded m indices below k d h =
@@ -156,10 +156,10 @@ rising_order a (x ∷ xs) r (suc i) (suc j) h l = rising_order (suc x) xs r.1 i 
 
 -- ---- places
 
-listed_place : (xs : List ℕ) (j : ℕ) → is_listed xs j ≡ true → (k : ℕ) × (k < length xs) × (get_or xs k 0 ≡ j)
+listed_place : (xs : List ℕ) (j : ℕ) → is_among xs j ≡ true → (k : ℕ) × (k < length xs) × (get_or xs k 0 ≡ j)
 listed_place [] j h = absurd (true≢false (sym h))
 listed_place (x ∷ xs) j h =
-    elim (or_cases (eqb x j) (is_listed xs j) h) [
+    elim (or_cases (eqb x j) (is_among xs j) h) [
       | inl e ↦ (0, omega arith, eqb-true x j e)
       | inr rest ↦ let k = listed_place xs j rest in (suc k.0, omega (arith, k.1), k.2)
     ]

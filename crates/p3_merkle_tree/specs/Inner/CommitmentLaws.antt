@@ -14,7 +14,8 @@ use Rattle.p3_merkle_core.specs.Pruning.{PrunedOpening, restored_path, IsPrunedA
 use Rattle.p3_merkle_core.specs.Caps.{cap_layer}
 use Rattle.p3_merkle_core.specs.Checks.{Params, params}
 use Rattle.p3_merkle_prover.proofs.RowFacts.{row_inside}
-use Rattle.p3_support.specs.Batches.{FitDimensions, IsEquivalence, rows_in, greatest}
+use Rattle.p3_support.specs.Batches.{FitDimensions, rows_in, greatest}
+use Rattle.p3_support.specs.Relations.{IsEquivalence}
 use Rattle.p3_support.specs.declared.matrix.Dimensions.{Dimensions}
 use Rattle.p3_support.specs.declared.compress.PseudoCompressionFunction as compressor
 use Rattle.p3_support.specs.declared.hasher.CryptographicHasher as hasher
@@ -33,14 +34,14 @@ module _ {P PW H C X G V W : Type 0} {N D : ℕ} {p : packed.Ghosts P V} {pd : d
   pub same_is_equivalence : IsEquivalence {A = Scheme P PW H C X G N D V W p pd pe q qd qe h c} IsSameScheme
   same_is_equivalence =
       record {
-        itself = λ s. record { same_hash = refl; same_compression = refl; same_cap_height = refl; same_rule = refl };
-        back = λ s t w. record {
+        reflexive = λ s. record { same_hash = refl; same_compression = refl; same_cap_height = refl; same_rule = refl };
+        symmetric = λ s t w. record {
           same_hash = sym w.same_hash;
           same_compression = sym w.same_compression;
           same_cap_height = sym w.same_cap_height;
           same_rule = sym w.same_rule;
         };
-        through = λ s t u v w.
+        transitive = λ s t u v w.
             record {
               same_hash = v.same_hash ∙ w.same_hash;
               same_compression = v.same_compression ∙ w.same_compression;

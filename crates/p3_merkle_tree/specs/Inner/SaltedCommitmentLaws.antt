@@ -3,7 +3,8 @@ use Rattle.std.specs.Prelude.{◌≡◌, ℕ, zero, suc, ◌<◌, List, [], ◌�
 use Rattle.std.specs.List.{AllZip}
 use Rattle.std.proofs.{Common.◌∙◌, Common.ap, Common.arith, Common.refl, Common.subst, Common.sym}
 use Rattle.std.proofs.lemmas.List.Elements.{AllZip-get_or}
-use Rattle.p3_support.specs.Batches.{FitDimensions, IsEquivalence, heights_of, greatest}
+use Rattle.p3_support.specs.Batches.{FitDimensions, heights_of, greatest}
+use Rattle.p3_support.specs.Relations.{IsEquivalence}
 use Rattle.p3_support.specs.Pairs.{left_of}
 use Rattle.p3_support.specs.declared.matrix.Dimensions.{Dimensions}
 use Rattle.p3_support.specs.declared.matrix.Matrix.{Ghosts}
@@ -37,9 +38,9 @@ module _ {P PW H C R X G V W : Type 0} {N D E : ℕ} {p : packed.Ghosts P V} {pd
       (λ s t. IsSameScheme (plain_of s) (plain_of t))
   same_plain_is_equivalence =
       record {
-        itself = λ s. same_is_equivalence.itself (plain_of s);
-        back = λ s t w. same_is_equivalence.back (plain_of s) (plain_of t) w;
-        through = λ s t u v w. same_is_equivalence.through (plain_of s) (plain_of t) (plain_of u) v w;
+        reflexive = λ s. same_is_equivalence.reflexive (plain_of s);
+        symmetric = λ s t w. same_is_equivalence.symmetric (plain_of s) (plain_of t) w;
+        transitive = λ s t u v w. same_is_equivalence.transitive (plain_of s) (plain_of t) (plain_of u) v w;
       }
 
 -- ---- the matrices of pairs
