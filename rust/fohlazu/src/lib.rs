@@ -63,6 +63,27 @@ mod erased {
 /// # Ok::<(), MerkleTreeError>(())
 /// ```
 ///
+/// Rows that lie elsewhere than in vectors are verified where they lie, and none is copied: see
+/// [`RowParts`](support::RowParts), and [`RowSets`](support::RowSets) for pruned openings.
+///
+/// ```
+/// use fohlazu::hashes::{FoldCompress, FoldHash};
+/// use fohlazu::merkle_tree::{MerkleTreeError, MerkleTreeMmcs};
+/// use fohlazu::support::{Dimensions, RowMajorMatrix, RowParts};
+///
+/// let scheme = MerkleTreeMmcs::<u32, u32, FoldHash<4>, FoldCompress<2, 4>, 2, 1>::new(FoldHash, FoldCompress, 0);
+/// let matrices = vec![RowMajorMatrix::new((1..=8).collect(), 2), RowMajorMatrix::new(vec![9, 10], 1)];
+/// let (cap, tree) = scheme.commit(matrices)?;
+/// let siblings = scheme.open_batch(3, &tree)?.opening_proof;
+///
+/// // The rows of the leaf 3, one after the other: 7 and 8 of the first matrix, 10 of the second.
+/// let words = [7, 8, 10];
+/// let dimensions = [Dimensions { width: 2, height: 4 }, Dimensions { width: 1, height: 2 }];
+/// let rows = RowParts::Flat { words: &words, dimensions: &dimensions };
+/// scheme.verify_rows(cap.roots(), &dimensions, 3, rows, &siblings)?;
+/// # Ok::<(), MerkleTreeError>(())
+/// ```
+///
 /// Errors are a [`MerkleTreeError`](merkle_tree::MerkleTreeError): each call's docs say which come, and in which order.
 pub mod merkle_tree {
     pub use crate::erased::p3_merkle_tree::{
@@ -114,6 +135,7 @@ pub mod support {
     pub use crate::erased::p3_support::opening::{BatchOpening, BatchOpeningRef, DigestRef, Hash, MerkleCap};
     pub use crate::erased::p3_support::packed::{PackedValue, pack_columns_fn, unpack_at, unpack_into};
     pub use crate::erased::p3_support::pair::HorizontalPair;
+    pub use crate::erased::p3_support::row_parts::{RowParts, RowSets};
     pub use crate::erased::p3_support::rows::{PackedRows, Rows, packed_rows_of, rows_of};
     pub use crate::erased::p3_support::salts::SaltWord;
     pub use crate::fallible::{AllocError, TryClone};

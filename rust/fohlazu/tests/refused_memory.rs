@@ -16,8 +16,8 @@ use fohlazu::merkle_tree::{
     BatchOpening, BatchOpeningRef, CapRule, MerkleTree, MerkleTreeHidingMmcs, MerkleTreeMmcs, check_indices,
 };
 use fohlazu::support::{
-    CryptographicHasher, Matrix, PackedValue, PseudoCompressionFunction, RowMajorMatrix, SaltWord, TryClone,
-    dimensions_of,
+    CryptographicHasher, Matrix, PackedValue, PseudoCompressionFunction, RowMajorMatrix, RowParts, RowSets, SaltWord,
+    TryClone, dimensions_of,
 };
 use fohlazu::tlog::{
     Frontier, TreeBuilder, compose, consistency_collision, consistency_places, consistency_proof, entries_collision,
@@ -164,6 +164,10 @@ where
     let opening = BatchOpening::new(opening.0, opening.1);
     let verdict = without_memory("verify_batch", || scheme.verify_batch(&cap, &dimensions, 5, (&opening).into()));
     assert_eq!(verdict, Ok(()));
+    let words = opening.opened_values.concat();
+    let flat = RowParts::Flat { words: &words, dimensions: &dimensions };
+    let verify = || scheme.verify_rows(cap.roots(), &dimensions, 5, flat, &opening.opening_proof);
+    assert_eq!(without_memory("verify_rows", verify), Ok(()));
     each("proof_arity_schedule", || scheme.proof_arity_schedule(&dimensions));
     let count = opening.opening_proof.len();
     let path = || scheme.replay_arity_and_positions(&dimensions, 5, count);
@@ -177,6 +181,9 @@ where
     let (rows, proof) = each("open_multi_batch", || scheme.open_multi_batch(&QUERIES, &tree));
     assert_eq!((&rows, &proof), (&pruned.opened_values, &pruned.pruned_proof));
     assert_eq!(proof.sibling_hashes.len(), digests);
+    let sets = RowSets::Vecs(&rows);
+    let digests = &proof.sibling_hashes;
+    each("verify_row_sets", || scheme.verify_row_sets(cap.roots(), &dimensions, &QUERIES, sets, digests));
     each("verify_batch_pruned", || scheme.verify_batch_pruned(&cap, &dimensions, &QUERIES, &rows, &proof));
     each("verify_multi_batch", || scheme.verify_multi_batch(&cap, &dimensions, &QUERIES, &rows, &proof));
     let paths = each("restore_and_recompute_paths", || {
@@ -233,8 +240,11 @@ where
 
     let (rows, proof) = each_refused("open_batch", || (), |()| scheme.open_batch(5, &tree), BatchOpening::unpack);
     let opening = BatchOpeningRef::new(&rows, &proof);
-    each("verify_batch", || scheme.verify_batch(&cap, &dimensions, 5, opening));
-    each("extract_collision", || scheme.extract_collision(&cap, &dimensions, 5, opening, 5, opening));
+    let verdict = without_memory("verify_batch", || scheme.verify_batch(&cap, &dimensions, 5, opening));
+    assert_eq!(verdict, Ok(()));
+    let found =
+        without_memory("extract_collision", || scheme.extract_collision(&cap, &dimensions, 5, opening, 5, opening));
+    assert_eq!(found, Ok(None));
     let (rows, proof) = each("open_multi_batch", || scheme.open_multi_batch(&QUERIES, &tree));
     each("verify_multi_batch", || scheme.verify_multi_batch(&cap, &dimensions, &QUERIES, &rows, &proof));
     each("extract_collision_multi", || {

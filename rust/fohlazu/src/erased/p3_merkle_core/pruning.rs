@@ -13,10 +13,11 @@
 use crate::erased::p3_merkle_core::covered_nodes::Covered;
 use crate::erased::p3_merkle_core::error::{MerkleTreeError, PrunedProofError};
 use crate::erased::p3_merkle_core::gate::check_heights;
-use crate::erased::p3_merkle_core::geometry::{check_widths, exponent_of, parent_of, position_of};
+use crate::erased::p3_merkle_core::geometry::{check_row_widths, exponent_of, parent_of, position_of};
 use crate::erased::p3_merkle_core::group::append_siblings;
 use crate::erased::p3_merkle_core::schedule::Schedule;
 use crate::erased::p3_support::matrix::Dimensions;
+use crate::erased::p3_support::row_parts::{RowSets, same_row};
 use crate::fallible::{AllocError, TryClone, VecExt, try_vec};
 use alloc::vec::Vec;
 
@@ -152,38 +153,34 @@ fn distinct_queries_of(queries: &[usize]) -> Result<DistinctQueries, AllocError>
 #[inline]
 fn check_repeats<T: Eq>(
     indices: &[usize],
-    rows: &[Vec<Vec<T>>],
+    rows: RowSets<'_, T>,
     queried: &DistinctQueries,
 ) -> Result<(), MerkleTreeError> {
     for query in 0..indices.len() {
         let slot = queried.slots[query];
         let first = queried.first_queries[slot];
         // Nothing is compared where both are the same query.
-        if query != first && rows[query] != rows[first] {
+        if query != first && !rows.rows(query).same_rows(rows.rows(first)) {
             return Err(PrunedProofError::InconsistentDuplicateOpenings { slot }.into());
         }
     }
     Ok(())
 }
 
-/// Checks that `rows` and `first_rows` have the same row of each of `matrices`, else `InconsistentGroupOpening` for the
-/// first that differs. `matrices` must be positions in both. `rows` is the row set of `slot`, and `first_rows` that of
-/// the first slot under the same node. `slot` is only reported.
+/// Checks that the row sets of `query` and `first_query` have the same row of each of `matrices`, else
+/// `InconsistentGroupOpening` for the first that differs. `matrices` must be positions in both. `query` is the first
+/// query of `slot`, and `first_query` that of the first slot under the same node. `slot` is only reported.
 #[inline]
 fn check_same_rows<T: Eq>(
     matrices: &[usize],
     slot: usize,
-    rows: &[Vec<T>],
-    first_rows: &[Vec<T>],
+    rows: RowSets<'_, T>,
+    query: usize,
+    first_query: usize,
 ) -> Result<(), MerkleTreeError> {
     for matrix in matrices {
         let matrix = *matrix;
-        // Rows of one word are compared in place: a call takes longer.
-        let differ = match (rows[matrix].as_slice(), first_rows[matrix].as_slice()) {
-            ([word], [first]) => *word != *first,
-            (words, first) => words != first,
-        };
-        if differ {
+        if !same_row(rows.row(query, matrix), rows.row(first_query, matrix)) {
             return Err(PrunedProofError::InconsistentGroupOpening { slot, matrix }.into());
         }
     }
@@ -200,14 +197,13 @@ fn check_rows_under_nodes<T: Eq>(
     indices: &[usize],
     bits: usize,
     first_queries: &[usize],
-    rows: &[Vec<Vec<T>>],
+    rows: RowSets<'_, T>,
 ) -> Result<(), MerkleTreeError> {
     let mut first_slot = 0;
     for slot in 1..indices.len() {
         if indices[slot] >> bits == indices[first_slot] >> bits {
-            let own_rows = &rows[first_queries[slot]];
-            let first_rows = &rows[first_queries[first_slot]];
-            check_same_rows(matrices, slot, own_rows, first_rows)?;
+            let query = first_queries[slot];
+            check_same_rows(matrices, slot, rows, query, first_queries[first_slot])?;
         } else {
             first_slot = slot;
         }
@@ -237,7 +233,7 @@ fn check_shared_rows<T: Eq>(
     schedule: &Schedule<'_>,
     cap_layer: usize,
     queried: &DistinctQueries,
-    rows: &[Vec<Vec<T>>],
+    rows: RowSets<'_, T>,
 ) -> Result<(), MerkleTreeError> {
     let mut matrices = Vec::new();
     let mut exponent = schedule.exponent;
@@ -272,7 +268,7 @@ fn check_shared_rows<T: Eq>(
 /// - `IndexOutOfBounds`: the highest index is not below the tallest height;
 /// - `InconsistentDuplicateOpenings`: the row set of a query is not that of the first query of its index;
 /// - `SiblingCountMismatch`: the number of digests is not that of the boundary nodes;
-/// - `WrongBatchSize`, `WrongWidth`: by ascending indices, the error of [`check_widths`] for the first query of each;
+/// - `WrongBatchSize`, `WrongWidth`: by ascending indices, the error of [`check_row_widths`] for the first query of each;
 /// - `InconsistentGroupOpening`: layer by layer up to `cap_layer`, by ascending indices and in input order of the
 ///   layer's matrices, a row is not that of the lowest index under the same node.
 #[inline]
@@ -280,17 +276,17 @@ pub(crate) fn check_pruned<T: Eq>(
     schedule: &Schedule<'_>,
     cap_layer: usize,
     indices: &[usize],
-    rows: &[Vec<Vec<T>>],
+    rows: RowSets<'_, T>,
     num_digests: usize,
 ) -> Result<DistinctQueries, MerkleTreeError> {
-    check_queries(schedule, indices, rows.len(), num_digests)?;
+    check_queries(schedule, indices, rows.num_sets(), num_digests)?;
     let queried = distinct_queries_of(indices)?;
     check_repeats(indices, rows, &queried)?;
     let leaves = Vec::try_from_slice(&queried.indices)?;
     let covered = Covered::new(schedule, indices, leaves);
     check_digest_count(covered.boundary_len(cap_layer), num_digests)?;
     for query in &queried.first_queries {
-        check_widths(schedule.dimensions, &rows[*query])?;
+        check_row_widths(schedule.dimensions, 0, rows.rows(*query))?;
     }
     check_shared_rows(schedule, cap_layer, &queried, rows)?;
     Ok(queried)

@@ -89,6 +89,18 @@ impl<
     ) -> Result<Option<(usize, usize, Collision<P::Value, PW::Value, D>)>, MerkleTreeError> {
         let first = PrunedOpeningRef::new(indices1, rows1, proof1);
         let second = PrunedOpeningRef::new(indices2, rows2, proof2);
-        self.checker(dimensions).pruned_extraction(commit.roots(), first, second)
+        self.pruned_extraction(commit.roots(), dimensions, first, second)
+    }
+
+    /// Extracts a collision from two pruned openings under the roots of a cap as
+    /// [`extract_collision_multi`](Self::extract_collision_multi) does, with the same errors, wherever their rows lie.
+    pub(crate) fn pruned_extraction(
+        &self,
+        roots: &[[PW::Value; D]],
+        dimensions: &[Dimensions],
+        first: PrunedOpeningRef<'_, P::Value, [PW::Value; D]>,
+        second: PrunedOpeningRef<'_, P::Value, [PW::Value; D]>,
+    ) -> Result<Option<(usize, usize, Collision<P::Value, PW::Value, D>)>, MerkleTreeError> {
+        self.checker(dimensions).pruned_extraction(roots, first, second)
     }
 }

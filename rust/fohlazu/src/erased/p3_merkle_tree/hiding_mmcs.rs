@@ -9,8 +9,8 @@ use crate::erased::p3_merkle_core::gate::check_heights;
 use crate::erased::p3_merkle_core::pruning::PrunedMerklePaths;
 use crate::erased::p3_merkle_prover::checked::CheckedMatrices;
 use crate::erased::p3_merkle_prover::tree::MerkleTree;
-use crate::erased::p3_merkle_tree::join::widened_dimensions;
 use crate::erased::p3_merkle_tree::mmcs::{MerkleTreeMmcs, Scheme};
+use crate::erased::p3_merkle_tree::salts::{check_widening, widened_dimensions};
 use crate::erased::p3_support::compress::PseudoCompressionFunction;
 use crate::erased::p3_support::hasher::CryptographicHasher;
 use crate::erased::p3_support::matrix::{Dimensions, Matrix, RowMajorMatrix, dimensions_of};
@@ -194,11 +194,12 @@ impl<
 
 /// Checks that a tree can be built over matrices of these heights, and that each width fits `usize` with `salt_elems`
 /// more columns. Returns the dimensions of the matrices with these columns. The errors are those of [`check_heights`],
-/// then those of [`widened_dimensions`].
+/// then those of [`check_widening`]. `OutOfMemory` may come at any time.
 fn salted_dimensions<T, M: Matrix<T>>(matrices: &[M], salt_elems: usize) -> Result<Vec<Dimensions>, MerkleTreeError> {
     let dimensions = dimensions_of(matrices)?;
     check_heights(&dimensions)?;
-    widened_dimensions(&dimensions, salt_elems)
+    check_widening(&dimensions, salt_elems)?;
+    Ok(widened_dimensions(&dimensions, salt_elems)?)
 }
 
 /// Draws `salt_elems` salts for each row of the matrices, at least 1, and returns each matrix beside its salts. Each

@@ -5,8 +5,8 @@
 //! openings as lists of rows are in `p3_support`, hashes in `p3_hashes`.
 //!
 //! The salted scheme is this crate's own: each row is followed by random words before it is hashed. That this hides the
-//! rows is not proved. Salts are drawn beside the matrices. Rows of an opening are joined with their salts, the plain
-//! scheme does the rest, and what it opens is split.
+//! rows is not proved. Salts are drawn beside the matrices. What the plain scheme opens is split into rows and salts; its
+//! checks read each row and its salts where they lie, one after the other.
 //!
 //! Some names are aliases at digests of words: `MerkleTree`, `MerkleTreeMmcs`, `MerkleTreeHidingMmcs`, `Hash`,
 //! `PrunedMerklePaths`, `PrunedBatchOpening`, `MerkleAuthPath` and `Collision`. The structs that they name, which are
@@ -17,10 +17,10 @@ pub(crate) mod extract;
 pub(crate) mod hiding_mmcs;
 pub(crate) mod hiding_open;
 pub(crate) mod hiding_trait;
-pub(crate) mod join;
 pub(crate) mod mmcs;
 pub(crate) mod mmcs_trait;
 pub(crate) mod pruned;
+pub(crate) mod salts;
 pub(crate) mod schedule;
 
 pub use crate::erased::p3_merkle_core::cap::CapRule;

@@ -17,6 +17,7 @@ use crate::erased::p3_support::hasher::CryptographicHasher;
 use crate::erased::p3_support::matrix::{Dimensions, Matrix};
 use crate::erased::p3_support::opening::MerkleCap;
 use crate::erased::p3_support::packed::PackedValue;
+use crate::erased::p3_support::row_parts::RowSets;
 use alloc::vec::Vec;
 
 impl<
@@ -109,8 +110,24 @@ impl<
         rows: &[Vec<Vec<P::Value>>],
         proof: &PrunedMerklePaths<PW::Value, D>,
     ) -> Result<(), MerkleTreeError> {
-        let opening = PrunedOpeningRef::new(indices, rows, proof);
-        self.checker(dimensions).check_pruned_opening(commit.roots(), opening)
+        let rows = RowSets::Vecs(rows);
+        let digests = &proof.sibling_hashes;
+        self.verify_row_sets(commit.roots(), dimensions, indices, rows, digests)
+    }
+
+    /// Verifies the openings of several leaves as [`verify_batch_pruned`](Self::verify_batch_pruned) does, with the same
+    /// errors, wherever their rows lie: see [`RowSets`]. `roots` are those of the cap, and `digests` are those of the
+    /// pruned proof, in wire order. It copies no row: it allocates lists of nodes and of their digests.
+    pub fn verify_row_sets(
+        &self,
+        roots: &[[PW::Value; D]],
+        dimensions: &[Dimensions],
+        indices: &[usize],
+        rows: RowSets<'_, P::Value>,
+        digests: &[[PW::Value; D]],
+    ) -> Result<(), MerkleTreeError> {
+        let opening = PrunedOpeningRef { indices, sets: rows, sent: digests };
+        self.checker(dimensions).check_pruned_opening(roots, opening)
     }
 
     /// The same as [`verify_batch_pruned`](Self::verify_batch_pruned), by the name that the trait `Mmcs` has for it.

@@ -22,6 +22,7 @@ use crate::erased::p3_merkle_verifier::path::is_entry;
 use crate::erased::p3_support::compress::PseudoCompressionFunction;
 use crate::erased::p3_support::hasher::CryptographicHasher;
 use crate::erased::p3_support::packed::PackedValue;
+use crate::erased::p3_support::row_parts::RowSets;
 use crate::fallible::{AllocError, VecExt, try_vec};
 use alloc::vec::Vec;
 use core::marker::PhantomData;
@@ -34,7 +35,7 @@ impl<'a, T, W: Copy, const D: usize> PrunedOpeningRef<'a, T, [W; D]> {
         sets: &'a [Vec<Vec<T>>],
         proof: &'a PrunedMerklePaths<W, D>,
     ) -> PrunedOpeningRef<'a, T, [W; D]> {
-        PrunedOpeningRef { indices, sets, sent: proof.sibling_hashes.as_slice() }
+        PrunedOpeningRef { indices, sets: RowSets::Vecs(sets), sent: proof.sibling_hashes.as_slice() }
     }
 }
 

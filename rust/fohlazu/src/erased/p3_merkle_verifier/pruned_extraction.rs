@@ -12,13 +12,14 @@ use crate::erased::p3_merkle_verifier::pruned_check::paths_of;
 use crate::erased::p3_support::compress::PseudoCompressionFunction;
 use crate::erased::p3_support::hasher::CryptographicHasher;
 use crate::erased::p3_support::packed::PackedValue;
+use crate::erased::p3_support::row_parts::RowSets;
 use crate::fallible::AllocError;
 use alloc::vec::Vec;
 
 /// The queries of a pruned opening, each of which can be read as an opening of its own.
 struct RestoredQueries<'a, T, X> {
     /// The rows of each query.
-    pub sets: &'a [Vec<Vec<T>>],
+    pub sets: RowSets<'a, T>,
     /// The restored path of each query, with its index.
     pub paths: Vec<AuthPath<X>>,
     /// The distinct indices of the queries, with the first query of each.
@@ -29,7 +30,7 @@ impl<'a, T, W, const D: usize> RestoredQueries<'a, T, [W; D]> {
     /// Query `k` as an opening of its own, with its restored path.
     fn opening(&self, k: usize) -> OpeningRef<'_, T, [W; D]> {
         let path = &self.paths[k];
-        OpeningRef { index: path.leaf_index, rows: &self.sets[k], siblings: &path.siblings }
+        OpeningRef { index: path.leaf_index, rows: self.sets.rows(k), siblings: &path.siblings }
     }
 
     /// The positions of the queries with the nearest indices below and above `index`, so that one of them stands

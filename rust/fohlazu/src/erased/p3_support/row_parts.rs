@@ -1,0 +1,211 @@
+// Made from crates/p3_support/src/row_parts.rt by tools/erase.
+
+//! The rows of openings, wherever they lie. A row set has one row of each matrix, in input order.
+
+use crate::erased::p3_support::matrix::Dimensions;
+use crate::fallible::{AllocError, TryClone};
+use alloc::vec::Vec;
+
+/// The rows of one opening, one of each matrix, in input order. A row is read in two parts, one after the other, so
+/// that a check reads a row and its salts where they lie, and copies neither.
+///
+/// A value is a cursor: it has the rows that are left, and a copy of it goes on from where it stands.
+pub enum RowParts<'a, T> {
+    /// Each row is a vector.
+    Vecs(&'a [Vec<T>]),
+    /// Each row is a slice.
+    Slices(&'a [&'a [T]]),
+    /// Each row is followed by its salts. Rows and lists of salts are paired in order, up to the end of the shorter
+    /// list.
+    Salted {
+        /// The rows.
+        rows: &'a [Vec<T>],
+        /// The salts of each row.
+        salts: &'a [Vec<T>],
+    },
+    /// The rows lie one after another in one slice, each as long as its matrix is wide. The last row has all words that
+    /// are left, so that a slice of another length has a row of another length than its matrix.
+    Flat {
+        /// The words of the rows.
+        words: &'a [T],
+        /// The dimensions of the matrices, in input order.
+        dimensions: &'a [Dimensions],
+    },
+}
+
+impl<'a, T> Clone for RowParts<'a, T> {
+    fn clone(&self) -> Self {
+        *self
+    }
+}
+
+impl<'a, T> Copy for RowParts<'a, T> {}
+
+impl<'a, T> TryClone for RowParts<'a, T> {
+    fn try_clone(&self) -> Result<Self, AllocError> {
+        Ok(*self)
+    }
+}
+
+/// How many of the `left` words the row of a matrix of this width has, before those of the `others`.
+#[inline]
+fn first_len(width: usize, others: &[Dimensions], left: usize) -> usize {
+    if others.is_empty() { left } else { width.min(left) }
+}
+
+impl<'a, T> RowParts<'a, T> {
+    /// How many rows are left.
+    #[inline]
+    pub(crate) fn num_rows(&self) -> usize {
+        match self {
+            RowParts::Vecs(rows) => rows.len(),
+            RowParts::Slices(rows) => rows.len(),
+            RowParts::Salted { rows, salts } => rows.len().min(salts.len()),
+            RowParts::Flat { dimensions, .. } => dimensions.len(),
+        }
+    }
+
+    /// Takes the next row: its first and its second part. The second is empty if the row lies in one piece. `None` if
+    /// no row is left.
+    #[inline]
+    pub(crate) fn next_row(&mut self) -> Option<(&'a [T], &'a [T])> {
+        match *self {
+            RowParts::Vecs(rows) => {
+                let (row, rows) = rows.split_first()?;
+                *self = RowParts::Vecs(rows);
+                Some((row.as_slice(), &[]))
+            }
+            RowParts::Slices(rows) => {
+                let (row, rows) = rows.split_first()?;
+                *self = RowParts::Slices(rows);
+                Some((*row, &[]))
+            }
+            RowParts::Salted { rows, salts } => {
+                let (row, rows) = rows.split_first()?;
+                let (salt, salts) = salts.split_first()?;
+                *self = RowParts::Salted { rows, salts };
+                Some((row.as_slice(), salt.as_slice()))
+            }
+            RowParts::Flat { words, dimensions } => {
+                let (matrix, dimensions) = dimensions.split_first()?;
+                let len = first_len(matrix.width, dimensions, words.len());
+                let (row, words) = words.split_at(len);
+                *self = RowParts::Flat { words, dimensions };
+                Some((row, &[]))
+            }
+        }
+    }
+}
+
+impl<'a, T: Eq> RowParts<'a, T> {
+    /// Whether both have the same rows, however they are parted.
+    #[inline]
+    pub(crate) fn same_rows(mut self, mut other: RowParts<'_, T>) -> bool {
+        while let Some(row) = self.next_row() {
+            let Some(other_row) = other.next_row() else {
+                return false;
+            };
+            if !same_row(row, other_row) {
+                return false;
+            }
+        }
+        other.next_row().is_none()
+    }
+}
+
+/// Whether two rows, each in two parts, have the same words.
+#[inline]
+pub(crate) fn same_row<T: Eq>(row: (&[T], &[T]), other: (&[T], &[T])) -> bool {
+    let ((first, second), (other_first, other_second)) = (row, other);
+    if first.len() <= other_first.len() {
+        let (front, back) = other_first.split_at(first.len());
+        first == front && is_joined(second, back, other_second)
+    } else {
+        let (front, back) = first.split_at(other_first.len());
+        front == other_first && is_joined(other_second, back, second)
+    }
+}
+
+/// Whether `row` is `first` followed by `second`.
+#[inline]
+fn is_joined<T: Eq>(row: &[T], first: &[T], second: &[T]) -> bool {
+    if row.len() < first.len() {
+        return false;
+    }
+    let (front, back) = row.split_at(first.len());
+    front == first && back == second
+}
+
+/// The row sets of several queries. Each row is read in two parts, as in [`RowParts`].
+pub enum RowSets<'a, T> {
+    /// Each row is a vector.
+    Vecs(&'a [Vec<Vec<T>>]),
+    /// Each row is followed by its salts. Row sets and salt sets are paired in order, and so are the rows and the lists
+    /// of salts of each, up to the end of the shorter list.
+    Salted {
+        /// The row sets.
+        sets: &'a [Vec<Vec<T>>],
+        /// The salts of each row of each set.
+        salts: &'a [Vec<Vec<T>>],
+    },
+}
+
+impl<'a, T> Clone for RowSets<'a, T> {
+    fn clone(&self) -> Self {
+        *self
+    }
+}
+
+impl<'a, T> Copy for RowSets<'a, T> {}
+
+impl<'a, T> TryClone for RowSets<'a, T> {
+    fn try_clone(&self) -> Result<Self, AllocError> {
+        Ok(*self)
+    }
+}
+
+impl<'a, T> RowSets<'a, T> {
+    /// How many row sets there are.
+    #[inline]
+    pub(crate) fn num_sets(&self) -> usize {
+        match self {
+            RowSets::Vecs(sets) => sets.len(),
+            RowSets::Salted { sets, salts } => sets.len().min(salts.len()),
+        }
+    }
+
+    /// The row set of a query, which must be below the number of row sets.
+    #[inline]
+    pub(crate) fn rows(&self, query: usize) -> RowParts<'a, T> {
+        match *self {
+            RowSets::Vecs(sets) => RowParts::Vecs(set_at(sets, query)),
+            RowSets::Salted { sets, salts } => {
+                RowParts::Salted { rows: set_at(sets, query), salts: set_at(salts, query) }
+            }
+        }
+    }
+
+    /// The row that a query opened of a matrix: its first and its second part, which is empty if the row lies in one
+    /// piece. The query must be below the number of row sets, and the matrix below the number of its rows.
+    #[inline]
+    pub(crate) fn row(&self, query: usize, matrix: usize) -> (&'a [T], &'a [T]) {
+        match *self {
+            RowSets::Vecs(sets) => (row_at(set_at(sets, query), matrix), &[]),
+            RowSets::Salted { sets, salts } => {
+                (row_at(set_at(sets, query), matrix), row_at(set_at(salts, query), matrix))
+            }
+        }
+    }
+}
+
+/// The row set of a query, which must be below the number of row sets.
+#[inline]
+fn set_at<'a, T>(sets: &'a [Vec<Vec<T>>], query: usize) -> &'a [Vec<T>] {
+    &sets[query]
+}
+
+/// The row of a matrix, which must be below the number of rows.
+#[inline]
+fn row_at<'a, T>(rows: &'a [Vec<T>], matrix: usize) -> &'a [T] {
+    &rows[matrix]
+}
