@@ -199,9 +199,7 @@ pub mod parallel;
 /// ```
 #[cfg(feature = "sha2")]
 pub mod tlog {
-    pub use crate::erased::tlog::collision::{
-        Collision, leaf_input, node_input, root_collision,
-    };
+    pub use crate::erased::tlog::collision::{Collision, leaf_input, node_input, root_collision};
     pub use crate::erased::tlog::honest_proofs::{consistency_proof, inclusion_proof, root, split};
     pub use crate::erased::tlog::{
         ComposeError, EMPTY_ROOT, LogHash, ProofError, SIZE_LIMIT, compose, consistency_collision, entry_collision,
