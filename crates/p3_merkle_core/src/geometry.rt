@@ -98,7 +98,21 @@ pub fn check_widths<T>(dimensions: &[Dimensions], rows: &[Vec<T>]) -> Result<(),
     ensures { MatchResult result (λ ok. width_refusal dimensions.now (map (λ r. r.items) rows.now) ≡ None)
         (λ e. width_refusal dimensions.now (map (λ r. r.items) rows.now) ≡ Some e) }
 {
-    check_row_widths(dimensions, 0, RowParts::Vecs(rows))
+    let (expected, got) = (dimensions.len(), rows.len());
+    if got != expected {
+        return Err(MerkleTreeError::WrongBatchSize { expected, got });
+    }
+    for matrix in 0..dimensions.len() {
+        let (expected, got) = (dimensions[matrix].width, rows[matrix].len());
+        if got != expected {
+            return Err(MerkleTreeError::WrongWidth {
+                matrix,
+                expected,
+                got,
+            });
+        }
+    }
+    Ok(())
 }
 
 /// Checks that there is one row for each matrix, and that each is as wide as its matrix with `salt_elems` salts.
@@ -119,6 +133,12 @@ pub fn check_row_widths<T>(
     ensures { let refusal = width_refusal (widened salt_elems dimensions.now) (rows_in rows.entry) in
         MatchResult result (λ ok. refusal ≡ None) (λ e. refusal ≡ Some e) }
 {
+    if salt_elems == 0 {
+        if let RowParts::Vecs(rows) = rows {
+            // Through `RowParts` a row takes three times as long, and most rows are vectors.
+            return check_widths(dimensions, rows);
+        }
+    }
     let (expected, got) = (dimensions.len(), rows.num_rows());
     if got != expected {
         return Err(MerkleTreeError::WrongBatchSize { expected, got });

@@ -15,6 +15,7 @@ ghost use Rattle.std.specs.List.Sorted.{IsStrictlyIncreasing};
 ghost use Rattle.p3_support.specs.Batches.{heights_of, greatest};
 ghost use Rattle.p3_support.specs.Lists.{is_among};
 ghost use Rattle.p3_support.specs.RowSets.{sets_in};
+ghost use Rattle.p3_support.specs.Shown.{row_lists};
 ghost use Rattle.p3_merkle_core.specs.Geometry.{height_limit, shape_of, IsArity};
 ghost use Rattle.p3_merkle_core.specs.Refusals.{digest_count_refusal, duplicate_refusal, pruned_refusal};
 ghost use Rattle.p3_merkle_core.specs.Refusals.{queries_refusal, AnswersUnlessMemory};
@@ -32,7 +33,7 @@ use crate::geometry::{check_row_widths, exponent_of, parent_of, position_of};
 use crate::group::append_siblings;
 use crate::schedule::Schedule;
 use p3_support::matrix::Dimensions;
-use p3_support::row_parts::{RowSets, same_row};
+use p3_support::row_parts::{RowParts, RowSets, same_row};
 use std::alloc::{AllocError, Global};
 
 /// The digests of a pruned proof, which opens several leaves at once. [`PrunedMerklePaths`] has digests of words.
@@ -210,9 +211,43 @@ fn check_same_rows<T: Eq>(
         (slice_index_or sets first_query []) in
         MatchResult result (λ ok. refusal ≡ None) (λ e. refusal ≡ Some e) }
 {
+    if let (RowParts::Vecs(rows), RowParts::Vecs(first_rows)) = (
+        rows.rows(query),
+        rows.rows(first_query),
+    ) {
+        // Through `RowSets` a row takes three times as long, and most rows are vectors.
+        return check_same_vectors(matrices, slot, rows, first_rows);
+    }
     for matrix in matrices {
         let matrix = *matrix;
         if !same_row(rows.row(query, matrix), rows.row(first_query, matrix)) {
+            return Err(PrunedProofError::InconsistentGroupOpening { slot, matrix }.into());
+        }
+    }
+    Ok(())
+}
+
+/// Checks that `rows` and `first_rows` have the same row of each of `matrices`, as [`check_same_rows`] does of row sets.
+/// `matrices` must be positions in both. `slot` is only reported.
+fn check_same_vectors<T: Eq>(
+    matrices: &[usize],
+    slot: usize,
+    rows: &[Vec<T>],
+    first_rows: &[Vec<T>],
+) -> Result<(), MerkleTreeError>
+    requires rows { All (λ matrix. matrix < length rows.now) matrices.now }
+    requires first_rows { All (λ matrix. matrix < length first_rows.now) matrices.now }
+    ensures { let refusal = rows_refusal T.eq matrices.now slot (row_lists rows.now) (row_lists first_rows.now) in
+        MatchResult result (λ ok. refusal ≡ None) (λ e. refusal ≡ Some e) }
+{
+    for matrix in matrices {
+        let matrix = *matrix;
+        // Rows of one word are compared in place: a call takes longer.
+        let differ = match (rows[matrix].as_slice(), first_rows[matrix].as_slice()) {
+            ([word], [first]) => *word != *first,
+            (words, first) => words != first,
+        };
+        if differ {
             return Err(PrunedProofError::InconsistentGroupOpening { slot, matrix }.into());
         }
     }

@@ -11,7 +11,7 @@ ghost use Rattle.p3_merkle_core.specs.Geometry.{height_limit, shape_of};
 ghost use Rattle.p3_merkle_core.specs.Inner.Agreement.{opened_of, AreDistinctOf};
 ghost use Rattle.p3_merkle_core.specs.Pruning.{boundary, CanQuery, IsAgreed};
 ghost use Rattle.p3_merkle_verifier.specs.Inner.OpenedRows.{opened_row, HaveRows};
-ghost use Rattle.p3_merkle_verifier.specs.Inner.Parts.{parts_left, parts_of_exponent, words_left};
+ghost use Rattle.p3_merkle_verifier.specs.Inner.Parts.{parts_left, parts_of_exponent, rows_left, salted_left, words_left};
 
 use p3_merkle_core::geometry::exponent_of;
 use p3_merkle_core::pruning::DistinctQueries;
@@ -102,6 +102,84 @@ impl<'a, T> Iterator for OpenedParts<'a, T> {
             if exponent_of(matrix.height) == self.exponent {
                 self.second = second;
                 return Some(first);
+            }
+        }
+        None
+    }
+}
+
+/// The parts that [`OpenedParts`] yields of rows in one piece.
+// Through `RowParts` a row takes three times as long, and most rows are vectors.
+#[derive(Drop)]
+pub(crate) struct OpenedRows<'a, T> {
+    /// The dimensions of the matrices.
+    pub dimensions: &'a [Dimensions],
+    /// Their rows.
+    pub rows: &'a [Vec<T>],
+    /// The exponent of the matrices whose rows are yielded.
+    pub exponent: usize,
+}
+
+impl<'a, T> Iterator for OpenedRows<'a, T> {
+    type Item = &'a [T];
+
+    ghost next_gives = { YieldsFirstBy (λ row. row.now) rows_left };
+
+    ghost remaining = { item_count rows_left };
+
+    #[tactic(auto, unfolding(crate::specs::Inner::Parts::parts_of_exponent))]
+    fn next(&mut self) -> Option<&'a [T]> {
+        while let Some((matrix, matrices)) = self.dimensions.split_first() {
+            let (row, rows) = self.rows.split_first()?;
+            self.dimensions = matrices;
+            self.rows = rows;
+            if exponent_of(matrix.height) == self.exponent {
+                return Some(row.as_slice());
+            }
+        }
+        None
+    }
+}
+
+/// The parts that [`OpenedParts`] yields of rows with salts.
+// It takes less time for the same reason as `OpenedRows`.
+#[derive(Drop)]
+pub(crate) struct SaltedRows<'a, T> {
+    /// The dimensions of the matrices.
+    pub dimensions: &'a [Dimensions],
+    /// Their rows.
+    pub rows: &'a [Vec<T>],
+    /// The salts of each row.
+    pub salts: &'a [Vec<T>],
+    /// The exponent of the matrices whose rows are yielded.
+    pub exponent: usize,
+    /// The salts of the row that was yielded last; empty if none are due.
+    pub due: &'a [T],
+}
+
+impl<'a, T> Iterator for SaltedRows<'a, T> {
+    type Item = &'a [T];
+
+    ghost next_gives = { YieldsFirstBy (λ part. part.now) salted_left };
+
+    ghost remaining = { item_count salted_left };
+
+    #[tactic(auto, unfolding(crate::specs::Inner::Parts::parts_of_exponent))]
+    fn next(&mut self) -> Option<&'a [T]> {
+        if !self.due.is_empty() {
+            let due = self.due;
+            self.due = &[];
+            return Some(due);
+        }
+        while let Some((matrix, matrices)) = self.dimensions.split_first() {
+            let (row, rows) = self.rows.split_first()?;
+            let (salt, salts) = self.salts.split_first()?;
+            self.dimensions = matrices;
+            self.rows = rows;
+            self.salts = salts;
+            if exponent_of(matrix.height) == self.exponent {
+                self.due = salt.as_slice();
+                return Some(row.as_slice());
             }
         }
         None

@@ -17,7 +17,7 @@ ghost use Rattle.p3_merkle_verifier.specs.Inner.Checks.{step_siblings, CanStep, 
 ghost use Rattle.p3_merkle_verifier.specs.Inner.Paths.{CanCheck, CanReach};
 
 use crate::checker::Checker;
-use crate::openings::{OpenedParts, OpeningRef};
+use crate::openings::{OpenedParts, OpenedRows, OpeningRef, SaltedRows};
 use p3_merkle_core::error::MerkleTreeError;
 use p3_merkle_core::gate::check_heights;
 use p3_merkle_core::geometry::{check_row_widths, parent_of, position_of};
@@ -150,8 +150,25 @@ impl<
         ensures { let rows = zip (heights_of self.now.schedule.dimensions.now) (rows_in rows.entry) in
             result ≡ H.hash self.now.hash.now (words_of_exponent exponent rows) }
     {
-        let parts = OpenedParts::new(self.schedule.dimensions, rows, exponent);
-        self.hash.hash_iter_slices(parts)
+        let dimensions = self.schedule.dimensions;
+        match rows {
+            RowParts::Vecs(rows) => self.hash.hash_iter_slices(OpenedRows {
+                dimensions,
+                rows,
+                exponent,
+            }),
+            RowParts::Salted { rows, salts } => self.hash.hash_iter_slices(SaltedRows {
+                dimensions,
+                rows,
+                salts,
+                exponent,
+                due: &[],
+            }),
+            RowParts::Slices(_) | RowParts::Flat { .. } => {
+                let parts = OpenedParts::new(dimensions, rows, exponent);
+                self.hash.hash_iter_slices(parts)
+            }
+        }
     }
 
     /// The start of the check of an opening: the leaf, with the digest of its rows.

@@ -64,6 +64,8 @@ impl<'a, T> RowParts<'a, T> {
 
     /// Takes the next row: its first and its second part. The second is empty if the row lies in one piece. `None` if
     /// no row is left.
+    // A call that is not inlined writes the row and what is left to memory, for each row of each layer.
+    #[inline(always)]
     #[tactic(auto, unfolding(crate::specs::Rows::flat_rows))]
     pub fn next_row(&mut self) -> Option<(&'a [T], &'a [T])>
         ensures row { option_map (λ (first, second). (first.now, second.now)) result
@@ -120,6 +122,9 @@ pub fn same_row<T: Eq>(row: (&[T], &[T]), other: (&[T], &[T])) -> bool
     ensures { result ≡ pointwise T.eq (row.entry.0.now ++ row.entry.1.now) (other.entry.0.now ++ other.entry.1.now) }
 {
     let ((first, second), (other_first, other_second)) = (row, other);
+    if second.is_empty() && other_second.is_empty() {
+        return first == other_first;
+    }
     if first.len() <= other_first.len() {
         let (front, back) = other_first.split_at(first.len());
         first == front && is_joined(second, back, other_second)

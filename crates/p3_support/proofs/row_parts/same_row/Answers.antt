@@ -17,7 +17,7 @@ returns-then-eq g c =
     let front = c.split_at.result.0.now in
     let back = c.split_at.result.1.now in
     let cut = sym ((λ i. c.split_at.ensures.front i ++ c.split_at.ensures.back i) ∙ take-append-drop (length first) other) in
-    let begins = sym c.eq.ensures ∙ c.if-eq.true in
+    let begins = sym c.eq-then-first-other_first.ensures ∙ c.if-eq.true in
     c.is_joined.ensures
     ∙ sym (longer_second eq first second other rest front back cut c.split_at.ensures.front_len
     ∙ (λ i. begins i && pointwise eq second (back ++ rest)))
@@ -32,7 +32,7 @@ returns-else-eq g c =
     let front = c.split_at.result.0.now in
     let back = c.split_at.result.1.now in
     let cut = sym ((λ i. c.split_at.ensures.front i ++ c.split_at.ensures.back i) ∙ take-append-drop (length first) other) in
-    let begins = sym c.eq.ensures ∙ c.if-eq.false in
+    let begins = sym c.eq-then-first-other_first.ensures ∙ c.if-eq.false in
     c.if-eq.false
     ∙ sym (longer_second eq first second other rest front back cut c.split_at.ensures.front_len
     ∙ (λ i. begins i && pointwise eq second (back ++ rest)))
