@@ -8,8 +8,8 @@ use Rattle.tlog_tree.proofs.leaf.hash_first.Goals as goal
 abbrev bytes_of : Bor (List ℕ) → List ℕ
 bytes_of entry = entry.now
 
-pub write-requires-clause-inside : goal.write-requires-clause-inside
-write-requires-clause-inside c = λ k d h.
+pub place_hashes-requires-clause-inside : goal.place_hashes-requires-clause-inside
+place_hashes-requires-clause-inside c = λ k d h.
     let E = map bytes_of c.args.entries.now in
     let own = All-take (IsPlaceOf E) 8 c.args.places.now c.requires.own k d h in
     omega (arith, own.within, length-map c.args.entries.now bytes_of, c.requires.room)
@@ -23,5 +23,5 @@ hash_alike-requires c = (
 
 pub returns-clause-hashed : goal.returns-clause-hashed
 returns-clause-hashed c =
-    c.write-2.ensures.hashed (map bytes_of c.args.entries.now)
+    c.place_hashes-2.ensures.hashed (map bytes_of c.args.entries.now)
     (rw c.deref.ensures.value c.in_ok-hash_alike.ensures.hashes)
