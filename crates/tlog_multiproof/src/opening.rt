@@ -93,11 +93,7 @@ fn boundary_nodes(alloc: Global, size: usize, indices: &[usize]) -> Result<Vec<N
 
 /// Appends, in order, each sibling of a covered slot that is not covered itself. The slots in `covered` are of `layer`,
 /// must ascend, and be below 2^64 - 1.
-fn push_siblings(
-    nodes: &mut Vec<NodeId>,
-    layer: usize,
-    covered: &[usize],
-) -> Result<(), AllocError>
+fn push_siblings(nodes: &mut Vec<NodeId>, layer: usize, covered: &[usize]) -> Result<(), AllocError>
     requires ascending { IsAscending covered.now }
     requires fits { All (λ slot. slot + 1 < 2 ^ 64) covered.now }
     ensures { IfOk result (λ done. nodes.new.items ≡ nodes.old.items
