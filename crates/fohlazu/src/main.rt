@@ -135,7 +135,7 @@ fn finish(args: &Args<'_>, done: Result<(), Error>) -> ExitCode {
         (None, Error::Write, Some(failure)) => eprintln!(rt; "fohlazu: standard output: {failure}"),
         (None, _, _) => eprintln!(rt; "fohlazu: {error}"),
     };
-    ExitCode::from(error.status())
+    ExitCode::from(error.exit_code())
 }
 
 /// Prints the help that is asked for, or what is wrong about the arguments. Returns exit code 0 if help was asked for

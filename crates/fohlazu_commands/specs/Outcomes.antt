@@ -21,7 +21,7 @@ use Rattle.tlog_files.specs.declared.framing.Framing.{Framing}
 use Rattle.fohlazu_commands.specs.Errors.{checkpoint_error, entries_error, text_error}
 use Rattle.fohlazu_commands.specs.declared.error.Error.{Error}
 use Rattle.fohlazu_commands.specs.declared.error.Error.TheVariants.{OutOfMemory, Read, Refused}
-use Rattle.fohlazu_commands.specs.declared.error.Refusal.TheVariants.{Consistency, EndsInsideLine, NoSuchEntry}
+use Rattle.fohlazu_commands.specs.declared.error.Refusal.TheVariants.{Consistency, EndsInsideLine, UnprintableEntry}
 use Rattle.fohlazu_commands.specs.declared.error.Refusal.TheVariants.{MissingEntry, NumberPastEnd, OtherEntries}
 use Rattle.fohlazu_commands.specs.declared.error.Refusal.TheVariants.{OtherNumber, OtherOldEntries, OtherOldSize}
 use Rattle.fohlazu_commands.specs.declared.error.Refusal.TheVariants.{OtherOrigin, PartSize, SmallerSize, TooFewEntries}
@@ -171,7 +171,7 @@ is_printable Raw size e = true
 
 -- why an entry is refused
 abbrev pub entry_refusal : Print → ℕ → EntryFields → Option Error
-entry_refusal print size e = unless (is_printable print size e) (Refused Proof (NoSuchEntry e.number))
+entry_refusal print size e = unless (is_printable print size e) (Refused Proof (UnprintableEntry e.number))
 
 -- why the verifier refuses the entries
 abbrev pub proof_refusal : CheckpointFields → EntriesFields → Option Error
