@@ -1,6 +1,7 @@
 //! What accepted texts show of files, or else a collision of SHA-256.
 
-ghost use Rattle.std.specs.Prelude.{◌≡◌, ◌⊎◌, ◌↔◌, ◌-◌, ℕ, List, [], All, IfErr, IfOk, IfSome, IsNone, Err, None, Ok, map};
+ghost use Rattle.std.specs.Prelude.{◌≡◌, ◌⊎◌, ◌↔◌, ◌-◌, ℕ, List, [], All, IfErr, IfOk, IfSome, IsNone, Err, None, Ok};
+ghost use Rattle.std.specs.Prelude.{map};
 ghost use Rattle.sha2.specs.Sha256.{sha256};
 ghost use Rattle.tlog.specs.Collisions.{IsCollision, entries_of};
 ghost use Rattle.tlog.specs.Rfc9162.{leaf_hash as leaf_hash_by};

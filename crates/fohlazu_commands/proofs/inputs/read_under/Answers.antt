@@ -11,7 +11,8 @@ pub returns-in_err-log : goal.returns-in_err-log
 returns-in_err-log g c =
     let fields = checkpoint_fields c.args.checkpoint.now in
     let left = err_from_is_err_and c.from_residual.result c.from_residual.ensures.1 in
-    rw (left.1, left.2) (stops (entries_read c.args.framing (Some fields.size)) (checked fields) _ _ c.in_err-log.ensures)
+    rw (left.1, left.2)
+    (stops (entries_read c.args.framing (Some fields.size)) (checked fields) _ _ c.in_err-log.ensures)
 
 pub returns-in_err-check_tree : goal.returns-in_err-check_tree
 returns-in_err-check_tree g c =
