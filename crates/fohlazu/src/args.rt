@@ -119,7 +119,8 @@ pub(crate) struct Args<'a> {
     pub(crate) state: &'a RunState,
 }
 
-/// Reads the arguments: what they ask for, and what the inputs are called. `state` takes what happens while they are read.
+/// Reads the arguments: what they ask for, and what the inputs are called. `state` takes what happens while they are
+/// read.
 ///
 /// # Errors
 ///

@@ -242,13 +242,12 @@ module _ (hash : HashFunction) (size : ℕ) (indices : List ℕ) (leaves proof :
         ∙ ap length (filter-append node before rest)
         ∙ length-append (filter node before) (filter node rest) in
         let more : length (filter node before) < length proof = omega arith in
+        let is_place : ℕ × ℕ → Bool = λ x. eqb x.0 l && eqb x.1 j in
         let missing = in_neither l j (boundary s indices l) here (none_below s indices l j l (omega arith))
         (none_here b l 0 j j (omega arith)) in (
           omega arith,
           value_sent l j uncovered
-              ∙ ap
-              (λ xs. value_at (λ (x : ℕ × ℕ). eqb x.0 l && eqb x.1 j) (zip xs (with_padding size xs proof)) (Absent ∷ []))
-              whole
+              ∙ ap (λ xs. value_at is_place (zip xs (with_padding size xs proof)) (Absent ∷ [])) whole
               ∙ sent_at size l j before (after ++ above) proof (Absent ∷ []) missing both.1 more
               ∙ ap (λ k. Hash (get_or proof k []) ∷ []) place,
         )
