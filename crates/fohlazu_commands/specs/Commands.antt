@@ -7,7 +7,7 @@ use Rattle.tlog_text.specs.Lines.{is_origin}
 use Rattle.tlog_files.specs.Entries.{IsFraming}
 use Rattle.tlog_files.specs.declared.framing.Framing.{Framing}
 use Rattle.fohlazu_commands.specs.Outcomes.{and_then, bytes_from, compared, join_outcome, numbers_under, prove_growth}
-use Rattle.fohlazu_commands.specs.Outcomes.{prove_under, requested, seal_outcome, verify_consistency_outcome}
+use Rattle.fohlazu_commands.specs.Outcomes.{checkpoint_with, prove_under, seal_outcome, verify_consistency_outcome}
 use Rattle.fohlazu_commands.specs.Outcomes.{verify_requested}
 use Rattle.fohlazu_commands.specs.declared.error.Error.{Error}
 use Rattle.fohlazu_commands.specs.declared.error.Error.TheVariants.{OutOfMemory, Refused, Write}
@@ -105,7 +105,7 @@ seal_file origin framing file = and_then (bytes_from File file) (seal_outcome or
 
 abbrev pub prove_file : Framing → (checkpoint file : Option (List ℕ)) → List ℕ → Result (List ℕ) Error
 prove_file framing checkpoint file numbers =
-    and_then (note_from Checkpoint checkpoint) (λ text. and_then (requested text numbers) (λ c.
+    and_then (note_from Checkpoint checkpoint) (λ text. and_then (checkpoint_with text numbers) (λ c.
     and_then (bytes_from File file) (prove_under framing c numbers)))
 
 -- of the requested entries, or of all of the checkpoint

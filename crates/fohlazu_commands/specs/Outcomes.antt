@@ -127,10 +127,10 @@ numbers_under None checkpoint =
 abbrev pub number_refusal : ℕ → ℕ → Option Error
 number_refusal size number = unless (nat_le number size) (Refused Checkpoint (NumberPastEnd number size))
 
--- a checkpoint that has the requested entries
-abbrev pub requested : List ℕ → List ℕ → Result CheckpointFields Error
-requested checkpoint numbers =
-    and_then (said_by Checkpoint (checkpoint_in checkpoint))
+-- the checkpoint that a text says, if it has entries of these numbers
+abbrev pub checkpoint_with : (text numbers : List ℕ) → Result CheckpointFields Error
+checkpoint_with text numbers =
+    and_then (said_by Checkpoint (checkpoint_in text))
     (λ c. ok_unless (first_of (number_refusal c.size) numbers) c)
 
 -- the entries of these numbers, and the digests that prove them: the values of nodes

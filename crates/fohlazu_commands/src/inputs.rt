@@ -52,9 +52,9 @@ pub(crate) fn read_file<R: Read>(
     Ok(read_log(alloc, framing, limit, nodes, wanted, file)?)
 }
 
-/// Reads the entries of a checkpoint from its file, as [`read_file`] does, up to as many as the checkpoint has.
-/// `TooFewEntries` if the file has fewer, else `OtherEntries` if they have another root.
-pub(crate) fn read_under<R: Read>(
+/// Reads the first entries of a file, as [`read_file`] does, as many as its checkpoint has. `TooFewEntries` if the file
+/// has fewer, else `OtherEntries` if they have another root.
+pub(crate) fn read_file_under<R: Read>(
     alloc: Global,
     framing: Framing,
     checkpoint: &Checkpoint,

@@ -5,7 +5,7 @@ use Rattle.tlog_text.specs.Texts.{checkpoint_fields}
 use Rattle.fohlazu_commands.specs.Inner.{ReadsAs}
 use Rattle.fohlazu_commands.specs.Outcomes.{entries_read}
 use Rattle.fohlazu_commands.proofs.OutcomeFacts.{checked, checked_is, goes, stops}
-use Rattle.fohlazu_commands.proofs.inputs.read_under.Goals as goal
+use Rattle.fohlazu_commands.proofs.inputs.read_file_under.Goals as goal
 
 pub returns-in_err-log : goal.returns-in_err-log
 returns-in_err-log g c =
