@@ -14,7 +14,9 @@ ghost use Rattle.fohlazu_commands.specs.declared.error.Error.TheVariants.{OutOfM
 ghost use Rattle.fohlazu_commands.specs.declared.verify.Print.TheVariants.{Raw};
 
 use crate::error::{Error, Source};
-use crate::inputs::{parse_checkpoint, parse_consistency_proof, parse_entries_proof, read_file_under};
+use crate::inputs::{
+    parse_checkpoint, parse_consistency_proof, parse_entries_proof, read_file_under,
+};
 use crate::verify::{Print, Requested, verify};
 use crate::verify_consistency::verify_consistency;
 use sha2::Sha256;
