@@ -100,6 +100,7 @@ toolchain:
 
 documents:
 	@python3 tools/audit
+	@python3 tools/columns.py
 	@python3 tools/strength.py --check
 	@python3 tools/documents.py
 	@python3 tools/package.py

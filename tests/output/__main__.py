@@ -76,7 +76,8 @@ MISTAKEN["twice.signed"] = MISTAKEN["signed"] + NEW
 MISTAKEN["whole"] = odd.printed(["prove", "new", "file", "all"], CONTENTS)
 # Arguments with mistakes, and what is said of them.
 MESSAGES = TOP / "tests/output/messages.txt"
-SAME = "it is the output too, which `>` empties: choose another output"
+SAME = "it is the output too: choose another output"
+EMPTIED = "it is the output too, which `>` empties: choose another output"
 INSIDE = "ends inside a line: `--whole-lines` leaves it out, `--partial` takes it as an entry"
 # Numbers, and what `prove new file` prints for the same ones, written singly.
 RANGES = {"3-4": "3 4", "1,3": "1 3", "4,1-2 3": "4 1 2 3", "2-2,2": "2 2", "01-4": "1 2 3 4", "all": "1 2 3 4"}
@@ -238,7 +239,7 @@ def places(program):
         yield words, refused(program.run(words.split()), f"{name}: {SAME}")
         with open(folder / name, "ab") as file:
             ran = program.run([*before_it.split(), *after.split()], stdout=file)
-            yield f"{words}, standard output", refused(ran, f"{name}: {SAME}")
+            yield f"{words}, standard output", refused(ran, f"{name}: {EMPTIED}")
     refusals = {}
     for name in ["file", "./file", "hard", "soft", "folder/../file", f"{folder}/file"]:
         refusals |= {f"seal -o {name} {given}": f"{given}: {SAME}" for given in ("file", "-")}

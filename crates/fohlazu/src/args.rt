@@ -1,6 +1,7 @@
 //! The arguments of the program.
 
-ghost use Rattle.std.specs.Prelude.{IfOk, ◌≤◌};
+ghost use Rattle.std.specs.Prelude.{IfOk, ◌≡◌, ◌≤◌};
+ghost use Rattle.fohlazu.specs.declared.args.Request.TheVariants.{Run};
 ghost use Rattle.fohlazu_commands.specs.Commands.{IsWellFormed};
 
 use crate::input::{Input, RunState};
@@ -101,6 +102,15 @@ fn is_escaped(c: char) -> bool {
     c.is_control() || sets_direction
 }
 
+/// What the arguments ask for.
+#[derive(Drop)]
+pub(crate) enum Request<'a> {
+    /// To run this command.
+    Run(Command<Input<'a>>),
+    /// To prove entries that may be many: their numbers are made once the file is known to have them.
+    ProveMany(Many),
+}
+
 /// The arguments of a command, as far as they are not in it: what its inputs are called, and where its output goes.
 #[derive(Drop)]
 pub(crate) struct Args<'a> {
@@ -109,7 +119,8 @@ pub(crate) struct Args<'a> {
     pub(crate) state: &'a RunState,
 }
 
-/// Reads the arguments: the command, and what its inputs are called. `state` takes what happens while they are read.
+/// Reads the arguments: what they ask for, and what the inputs are called. `state` takes what happens while they are
+/// read.
 ///
 /// # Errors
 ///
@@ -125,8 +136,8 @@ pub(crate) fn parse_args<'a>(
     rt: &'a HostRuntime,
     state: &'a RunState,
     words: &'a [String],
-) -> Result<(Command<Input<'a>>, Args<'a>), ArgsError<'a>>
-    ensures { IfOk result (λ (command, args). IsWellFormed command) }
+) -> Result<(Request<'a>, Args<'a>), ArgsError<'a>>
+    ensures { IfOk result (λ (request, args). (command : _) → request ≡ Run command → IsWellFormed command) }
 {
     let alloc = rt.alloc();
     check_options(words)?;
@@ -138,16 +149,24 @@ pub(crate) fn parse_args<'a>(
     };
     let args = Args { rt, found, state };
     args.check_inputs(alloc)?;
-    let command = args.command(alloc, name)?;
+    let request = args.request(alloc, name)?;
+    Ok((request, args))
+}
+
+/// Checks that a command can be run, else `Refused` says what is wrong about it.
+fn check_command<'a>(command: &Command<Input<'_>>) -> Result<(), ArgsError<'a>>
+    ensures { IfOk result (λ ok. IsWellFormed command.now) }
+{
     if !command.is_well_formed() {
         let why = if matches!(command, Command::Verify { .. }) {
             "--raw takes the number of one entry, and --blocks takes numbers or all"
         } else {
-            "an origin has 1 to 999934 bytes, no byte order mark, no character below U+0020, no space first or last: --origin sets it"
+            "an origin has 1 to 999934 bytes, no byte order mark, no character below U+0020, \
+             no space first or last: --origin sets it"
         };
         return Err(ArgsError::Refused(why));
     }
-    Ok((command, args))
+    Ok(())
 }
 
 /// Checks that each argument that begins with `-` is an option of the command, else `Word` for the first that is none.
@@ -195,6 +214,20 @@ impl<'a> Args<'a> {
         names.and_then(|names| names.get(k).copied()).unwrap_or("")
     }
 
+    /// What the command of this name asks for, which must be one of the table, by the arguments that were found.
+    fn request(&self, alloc: Global, name: &str) -> Result<Request<'a>, ArgsError<'a>>
+        ensures { IfOk result (λ request. (command : _) → request ≡ Run command → IsWellFormed command) }
+    {
+        if name == "prove" {
+            if let Some(many) = self.many(alloc)? {
+                return Ok(Request::ProveMany(many));
+            }
+        }
+        let command = self.command(alloc, name)?;
+        check_command(&command)?;
+        Ok(Request::Run(command))
+    }
+
     /// The command of this name, which must be one of the table, by the arguments that were found. It may be one that
     /// cannot be run.
     fn command(&self, alloc: Global, name: &str) -> Result<Command<Input<'a>>, ArgsError<'a>> {
@@ -208,11 +241,7 @@ impl<'a> Args<'a> {
                 framing: self.framing(),
                 checkpoint: self.checkpoint("CHECKPOINT"),
                 file: self.input("FILE"),
-                numbers: match self.many(alloc)? {
-                    // `prove_many` takes their numbers once the file is known to have them.
-                    Some(_) => Some(vec![in alloc; 1]?),
-                    None => self.numbers(alloc)?,
-                },
+                numbers: self.numbers(alloc)?,
             },
             "verify" => Command::Verify {
                 print: self.print(),
@@ -252,11 +281,18 @@ impl<'a> Args<'a> {
         if names.iter().filter(|name| **name == "-").count() > 1 {
             return Err(ArgsError::Refused("`-` is standard input, once at most"));
         }
-        let output = self.output().unwrap_or("/dev/stdout");
+        let (output, why) = match self.output() {
+            Some(name) => (name, "it is the output too: choose another output"),
+            None => {
+                (
+                    "/dev/stdout",
+                    "it is the output too, which `>` empties: choose another output",
+                )
+            }
+        };
         for name in names {
             let input = if name == "-" { "/dev/stdin" } else { name };
             if is_same_file(self.rt, output, input) {
-                let why = "it is the output too, which `>` empties: choose another output";
                 return Err(ArgsError::Word(Escaped(name), why));
             }
         }
@@ -307,7 +343,7 @@ impl<'a> Args<'a> {
     }
 
     /// The numbers of the entries to prove, if these may be many: all of a checkpoint, or ranges of more than `MANY`.
-    pub(crate) fn many(&self, alloc: Global) -> Result<Option<Many>, ArgsError<'a>> {
+    fn many(&self, alloc: Global) -> Result<Option<Many>, ArgsError<'a>> {
         let Some(ranges) = self.ranges(alloc)? else {
             return Ok(Some(Many::All));
         };

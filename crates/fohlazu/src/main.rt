@@ -10,7 +10,7 @@ mod watch;
 
 ghost use Rattle.fohlazu_commands.specs.Commands.{IsWellFormed};
 
-use args::{Args, ArgsError, Escaped, parse_args};
+use args::{Args, ArgsError, Escaped, Request, parse_args};
 use fohlazu_commands::{Command, Error, run};
 use input::{Input, RunState};
 use many::Many;
@@ -27,12 +27,10 @@ fn main(rt: HostRuntime) -> ExitCode {
     };
     let state = RunState::default();
     match parse_args(&rt, &state, &words) {
-        Ok((command @ Command::Prove { .. }, args)) => match args.many(rt.alloc()) {
-            Ok(Some(many)) => prove_many(&args, &many),
-            Ok(None) => run_command(&args, command),
-            Err(error) => refuse(&rt, error),
+        Ok((request, args)) => match request {
+            Request::Run(command) => run_command(&args, command),
+            Request::ProveMany(many) => prove_many(&args, &many),
         },
-        Ok((command, args)) => run_command(&args, command),
         Err(ArgsError::Clap(error)) => report_clap_error(&rt, &error),
         Err(error) => refuse(&rt, error),
     }
@@ -135,7 +133,7 @@ fn finish(args: &Args<'_>, done: Result<(), Error>) -> ExitCode {
         (None, Error::Write, Some(failure)) => eprintln!(rt; "fohlazu: standard output: {failure}"),
         (None, _, _) => eprintln!(rt; "fohlazu: {error}"),
     };
-    ExitCode::from(error.status())
+    ExitCode::from(error.exit_code())
 }
 
 /// Prints the help that is asked for, or what is wrong about the arguments. Returns exit code 0 if help was asked for

@@ -50,8 +50,8 @@ pub(crate) fn numbers_in(alloc: Global, ranges: &[Range]) -> Result<Vec<usize>, 
 }
 
 impl Many {
-    /// The numbers, or `None` for all of the checkpoint, once the file is known to have the entries. Both inputs are
-    /// then at their beginning again.
+    /// Checks that the file has the entries, and returns their numbers, or `None` for all of the checkpoint. Both
+    /// inputs are then at their beginning again.
     ///
     /// # Errors
     ///
@@ -69,26 +69,24 @@ impl Many {
             Many::All => {
                 // A run refuses more entries than `MAX_ENTRIES_PER_PROOF` ahead of their numbers.
                 if MANY < size && size <= MAX_ENTRIES_PER_PROOF {
-                    check_entries(alloc, framing, checkpoint, file, 1, size)?;
+                    check_entries(alloc, framing, checkpoint, file, size, None)?;
                 }
                 Ok(None)
             }
             Many::Ranges(ranges) => {
                 let last = ranges.iter().map(|range| range.1).max().unwrap_or(0);
-                let number = first_number(ranges, size);
-                check_entries(alloc, framing, checkpoint, file, number, last)?;
+                let past_end = first_past_end(ranges, size);
+                check_entries(alloc, framing, checkpoint, file, last, past_end)?;
                 Ok(Some(numbers_in(alloc, ranges)?))
             }
         }
     }
 }
 
-/// The first number of ranges that is past the size of a checkpoint; 1 if there is none.
-fn first_number(ranges: &[Range], size: usize) -> usize {
-    match ranges.iter().find(|range| range.1 > size) {
-        Some((first, _)) => (*first).max(size.saturating_add(1)),
-        None => 1,
-    }
+/// The first number of ranges that is past the size of a checkpoint, if there is one.
+fn first_past_end(ranges: &[Range], size: usize) -> Option<usize> {
+    let (first, _) = ranges.iter().find(|range| range.1 > size)?;
+    Some((*first).max(size.saturating_add(1)))
 }
 
 /// The size on the second line of a checkpoint, which is not checked otherwise. `usize::MAX` if that line is no number:
@@ -105,26 +103,27 @@ fn claimed_size(alloc: Global, checkpoint: &mut Input<'_>) -> usize {
     size.unwrap_or(usize::MAX)
 }
 
-/// Checks that a file has entries up to `last`. If it has fewer, a run that proves the entry `number` alone says what
-/// is wrong. Both inputs are then at their beginning again.
+/// Checks that a file has entries up to `last`, and that no requested number is past the end of the checkpoint, where
+/// `past_end` is the first that is. If that is not so, a run that proves one entry, this or the first of the file, says
+/// what is wrong. Both inputs are then at their beginning again.
 fn check_entries<'a>(
     alloc: Global,
     framing: Framing,
     checkpoint: &mut Input<'a>,
     file: &mut Input<'a>,
-    number: usize,
     last: usize,
+    past_end: Option<usize>,
 ) -> Result<(), Error> {
-    let has_last = number == 1 && has_entries(alloc, framing, file, last)?;
+    let has_all = past_end.is_none() && has_entries(alloc, framing, file, last)?;
     file.rewind();
-    if has_last {
+    if has_all {
         return Ok(());
     }
     let command = Command::Prove {
         framing,
         checkpoint: &mut *checkpoint,
         file: &mut *file,
-        numbers: Some(vec![in alloc; number]?),
+        numbers: Some(vec![in alloc; past_end.unwrap_or(1)]?),
     };
     run_unwritten(alloc, command)?;
     checkpoint.rewind();

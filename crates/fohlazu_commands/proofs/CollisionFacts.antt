@@ -76,7 +76,8 @@ pub record ByText (framing : Framing) (text file : List ℕ) (entries : List (Li
 pub by_text : (source : Source) (framing : Framing) (text file : List ℕ) (entries : List (List ℕ)) →
     entries_by source framing text file ≡ Ok entries → ByText framing text file entries
 by_text source framing text file entries is =
-    let (c, said, read) = stepped (said_by source (checkpoint_in text)) (λ c. entries_under framing c file) entries is in
+    let (c, said, read) =
+    stepped (said_by source (checkpoint_in text)) (λ c. entries_under framing c file) entries is in
     let u = are_under framing c file entries read in
     let says : checkpoint_in text ≡ Ok (checkpoint_of c.origin entries) = said_ok source (checkpoint_in text) c said
     ∙ (λ i. Ok (record { origin = c.origin; size = sym u.size i; root = sym u.root i })) in
@@ -89,7 +90,8 @@ pub of_text : (source : Source) (framing : Framing) (text file : List ℕ) (n : 
 of_text source framing text file n of =
     let c = checkpoint_of of.0 (take n (entries_in framing file)) in
     let limit = ((notes text c).0 of.1).2.checkpoint.size in
-    ap (λ r. and_then (said_by source r) (λ x. entries_under framing x file)) of.1 ∙ under_of framing c file n refl limit
+    ap (λ r. and_then (said_by source r) (λ x. entries_under framing x file)) of.1
+    ∙ under_of framing c file n refl limit
 
 -- a text whose entries are not those of a file is no checkpoint of it
 pub not_of_file : (source : Source) (framing : Framing) (text file : List ℕ) (e : Error) →
@@ -99,7 +101,8 @@ not_of_file source framing text file e is of =
     (of_text source framing text file of.0 of.1) is
 
 -- the checkpoint of the entries that were read
-own_checkpoint : (framing : Framing) (text file : List ℕ) (entries : List (List ℕ)) (by : ByText framing text file entries) →
+own_checkpoint : (framing : Framing) (text file : List ℕ) (entries : List (List ℕ))
+    (by : ByText framing text file entries) →
     IsCheckpointOf (take by.n (entries_in framing file)) text
 own_checkpoint framing text file entries by =
     subst (λ (es : List (List ℕ)). IsCheckpointOf es text) (sym by.are) (by.origin, by.says)
@@ -147,7 +150,8 @@ verified print checkpoint proof numbers c p text says shows is =
 
 module _ (framing : Framing) (checkpoint proof file text : List ℕ) (entries : List (List ℕ)) (p : EntriesFields)
     (out : verify_outcome Raw checkpoint proof None ≡ Ok text)
-    (is : entries_by Checkpoint framing checkpoint file ≡ Ok entries) (says : said_by Proof (proof_in proof) ≡ Ok p) where
+    (is : entries_by Checkpoint framing checkpoint file ≡ Ok entries)
+    (says : said_by Proof (proof_in proof) ≡ Ok p) where
   by : ByText framing checkpoint file entries
   by = by_text Checkpoint framing checkpoint file entries is
 
@@ -277,7 +281,8 @@ module _ (framing : Framing) (old proof old_file new_file new : List ℕ) (D E :
         let new_same = same_ok (verify_consistency_outcome old proof) new other out other_out in
         let old_same = same_ok (entries_by Old framing old old_file) D (take m (entries_in framing old_file)) old_is
         (of_text Old framing old old_file m of_old) in
-        let of = subst (λ (t : List ℕ). IsCheckpointOf (take n (entries_in framing new_file)) t) (sym new_same) of_new in
+        let of =
+        subst (λ (t : List ℕ). IsCheckpointOf (take n (entries_in framing new_file)) t) (sym new_same) of_new in
         let same = same_ok (entries_by Proof framing new new_file) E (take n (entries_in framing new_file)) new_is
         (of_text Proof framing new new_file n of) in
         let all = take m (entries_in framing old_file) in

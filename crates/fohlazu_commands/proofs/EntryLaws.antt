@@ -28,9 +28,10 @@ use Rattle.tlog_text.specs.Texts.{IsDigest}
 use Rattle.tlog_files.specs.Entries.{entries_in, entry_at}
 use Rattle.tlog_files.specs.declared.framing.Framing.{Framing}
 use Rattle.fohlazu_commands.specs.Outcomes.{is_printable, said_by, checkpoint_of, entries_under, entry_refusal}
-use Rattle.fohlazu_commands.specs.Outcomes.{number_refusal, requested, first_other, numbers_refusal, printed, proof_over}
+use Rattle.fohlazu_commands.specs.Outcomes.{number_refusal, checkpoint_with, first_other, numbers_refusal, printed}
+use Rattle.fohlazu_commands.specs.Outcomes.{proof_over}
 use Rattle.fohlazu_commands.specs.Laws.{printed_of, AreRequested, CanSay, NumbersAreCompared, ProofsAreAccepted}
-use Rattle.fohlazu_commands.specs.Commands.{prove_file, AreNumbers}
+use Rattle.fohlazu_commands.specs.Commands.{max_note_bytes, prove_file, AreNumbers}
 use Rattle.fohlazu_commands.specs.Outcomes.{and_then}
 use Rattle.fohlazu_commands.specs.declared.error.Error.{Error}
 use Rattle.fohlazu_commands.specs.Errors.{entries_error}
@@ -58,9 +59,10 @@ is_proved : (framing : Framing) (checkpoint file numbers proof : List ℕ) →
     × (entries_text (proof_over entries numbers) ≡ proof)
 is_proved framing checkpoint file numbers proof is =
     let next : List ℕ → Result (List ℕ) Error =
-    λ text. and_then (requested text numbers) (λ (c : CheckpointFields). prove_under framing c numbers file) in
-    let came = short_came Checkpoint 1000000 checkpoint next proof is in
-    let (c, asked, printed) = stepped (requested checkpoint numbers) (λ c. prove_under framing c numbers file) proof came in
+    λ text. and_then (checkpoint_with text numbers) (λ (c : CheckpointFields). prove_under framing c numbers file) in
+    let came = short_came Checkpoint max_note_bytes checkpoint next proof is in
+    let (c, asked, printed) =
+    stepped (checkpoint_with checkpoint numbers) (λ c. prove_under framing c numbers file) proof came in
     let (a, said, few) = stepped (said_by Checkpoint (checkpoint_in checkpoint))
     (λ a. ok_unless (first_of (number_refusal a.size) numbers) a) c asked in
     let (inside, same) = ok_none (first_of (number_refusal a.size) numbers) a c few in
@@ -80,12 +82,11 @@ proofs_are_proved framing origin checkpoint file first numbers said_is begins in
     let note = ((notes checkpoint (checkpoint_of origin first)).0 said_is).2 in
     let small = note.checkpoint.size in
     let next : List ℕ → Result (List ℕ) Error =
-    λ text. and_then (requested text numbers) (λ (c : CheckpointFields). prove_under framing c numbers file) in
+    λ text. and_then (checkpoint_with text numbers) (λ (c : CheckpointFields). prove_under framing c numbers file) in
     let proof = entries_text (proof_over first numbers) in
-    let given : and_then (requested checkpoint numbers) (λ (c : CheckpointFields). prove_under framing c numbers file)
-    ≡ Ok proof =
+    let given : next checkpoint ≡ Ok proof =
     rw (said_is, numbers_pass (length first) numbers inside, first_under framing origin file first begins small) refl in
-    (proof, short_goes Checkpoint 1000000 checkpoint next proof note.short given)
+    (proof, short_goes Checkpoint max_note_bytes checkpoint next proof note.short given)
 
 -- ---- what verify makes of it
 

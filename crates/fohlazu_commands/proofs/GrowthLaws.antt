@@ -22,7 +22,7 @@ use Rattle.tlog_text.specs.Texts.{consistency_text, CheckpointFields, Consistenc
 use Rattle.tlog_text.proofs.ProofLaws.{consistency_proofs}
 use Rattle.tlog_text.proofs.NoteLaws.{notes}
 use Rattle.tlog_files.specs.declared.framing.Framing.{Framing}
-use Rattle.fohlazu_commands.specs.Commands.{note_from}
+use Rattle.fohlazu_commands.specs.Commands.{max_note_bytes, note_from}
 use Rattle.fohlazu_commands.specs.Laws.{GrowthIsAccepted, GrowthIsProved}
 use Rattle.fohlazu_commands.specs.Outcomes.{verify_consistency_outcome}
 use Rattle.fohlazu_commands.specs.Outcomes.{and_then, checkpoint_of, compared, consistency_refused, entries_under}
@@ -105,7 +105,7 @@ same_itself bytes = (bytes_decides bytes bytes).1 refl
 size_of : (text : List ℕ) (c : CheckpointFields) → checkpoint_in text ≡ Ok c → c.size ≤ size_limit
 size_of text c is = let found = (notes text c).0 is in found.2.checkpoint.size
 
-short_of : (text : List ℕ) (c : CheckpointFields) → checkpoint_in text ≡ Ok c → length text ≤ 1000000
+short_of : (text : List ℕ) (c : CheckpointFields) → checkpoint_in text ≡ Ok c → length text ≤ max_note_bytes
 short_of text c is = let found = (notes text c).0 is in found.2.short
 
 -- the digests that are sent
@@ -136,8 +136,8 @@ module _ (framing : Framing) (new file : List ℕ) where
 
 pub growth_is_accepted : GrowthIsAccepted
 growth_is_accepted framing old new file proof is =
-    let came = short_came New 1000000 new (with_new framing new file old) proof
-    (short_came Old 1000000 old (with_old framing new file) proof is) in
+    let came = short_came New max_note_bytes new (with_new framing new file old) proof
+    (short_came Old max_note_bytes old (with_old framing new file) proof is) in
     let ((o, n), pair, more) = stepped (compared old new) (λ (o, n). prove_growth framing o n new file) proof came in
     let (old_is, new_is, follows) = are_compared old new o n pair in
     let (entries, read, last) = stepped (entries_under framing n file) (growth_text o n new) proof more in
@@ -224,6 +224,6 @@ growth_is_proved framing origin old new file first more old_is new_is begins =
     let given : with_new framing new file old new ≡ Ok proof =
     rw (old_is, new_is, follows origin first more, first_under framing origin file all begins small, none) refl in (
       proof,
-      short_goes Old 1000000 old (with_old framing new file) proof (short_of old o old_is)
-          (short_goes New 1000000 new (with_new framing new file old) proof (short_of new n new_is) given),
+      short_goes Old max_note_bytes old (with_old framing new file) proof (short_of old o old_is)
+          (short_goes New max_note_bytes new (with_new framing new file old) proof (short_of new n new_is) given),
     )

@@ -32,7 +32,8 @@ use Rattle.sha2.specs.Sha256.{sha256, digest_bytes}
 use Rattle.tlog_text.proofs.Base64Facts.{all_bytes}
 use Rattle.tlog_text.specs.Texts.{CheckpointFields, IsDigest}
 use Rattle.tlog_text.specs.declared.error.TextError.{TextError}
-use Rattle.fohlazu_commands.specs.Outcomes.{and_then, bytes_from, entries_read, tree_refusal, checkpoint_of, cut_refusal}
+use Rattle.fohlazu_commands.specs.Outcomes.{and_then, bytes_from, entries_read, tree_refusal, checkpoint_of}
+use Rattle.fohlazu_commands.specs.Outcomes.{cut_refusal}
 use Rattle.fohlazu_commands.specs.Laws.{BeginsWith, EndsWithEntry, EndWithEntries, FilesGrow, FitsCut}
 use Rattle.fohlazu_commands.specs.Commands.{HoldsOfInput, IsReadAs}
 use Rattle.fohlazu_commands.specs.Errors.{read_error}
@@ -298,7 +299,8 @@ none_refused framing is =
     by false = refl
 
 -- an entry of a file by its number, under a checkpoint of so many entries
-pub prints : (print : Print) (framing : Framing) (file : List ℕ) (size n : ℕ) → IsFraming framing → FitsCut print framing → 1 ≤ n →
+pub prints : (print : Print) (framing : Framing) (file : List ℕ) (size n : ℕ) → IsFraming framing →
+    FitsCut print framing → 1 ≤ n →
     n ≤ size → size ≤ length (entries_in framing file) →
     is_printable print size (record { number = n; bytes = entry_at (entries_in framing file) (n - 1) }) ≡ true
 prints Raw framing file size n is fits from to inside = refl

@@ -27,7 +27,8 @@ use Rattle.tlog_text.proofs.NoteLaws.{notes}
 use Rattle.fohlazu_commands.specs.Commands.{AreNumbers, HoldsOfInput}
 use Rattle.fohlazu_commands.specs.Inner.{entry_of, HasEntries, ReadsAs}
 use Rattle.fohlazu_commands.specs.Outcomes.{all_numbers}
-use Rattle.fohlazu_commands.specs.Outcomes.{bytes_in, Gives, and_then, bytes_from, entries_under, number_refusal, said_by}
+use Rattle.fohlazu_commands.specs.Outcomes.{bytes_in, Gives, and_then, bytes_from, entries_under, number_refusal}
+use Rattle.fohlazu_commands.specs.Outcomes.{said_by}
 use Rattle.fohlazu_commands.specs.declared.error.Error.{Error}
 use Rattle.fohlazu_commands.specs.declared.error.Source.{Source}
 use Rattle.fohlazu_commands.specs.declared.error.Source.TheVariants.{File}

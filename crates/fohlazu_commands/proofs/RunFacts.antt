@@ -10,7 +10,7 @@ use Rattle.p3_answers.specs.Answers.{ok_unless, unless}
 use Rattle.std.proofs.KnownBytes.{Appends-kept, Appends-trans}
 use Rattle.std.specs.Io.KnownBytes.{Appends, Keeps, WriteAppends}
 use Rattle.fohlazu_commands.specs.Commands.{AreReadAs, EndsIn, HoldsOfInput, IsReadAs, bytes_of_parts, note_from}
-use Rattle.fohlazu_commands.specs.Commands.{limited_from}
+use Rattle.fohlazu_commands.specs.Commands.{limited_from, max_note_bytes}
 use Rattle.fohlazu_commands.specs.Outcomes.{bytes_in, Gives, and_then}
 use Rattle.fohlazu_commands.specs.declared.error.Error.{Error}
 use Rattle.fohlazu_commands.specs.declared.error.Error.TheVariants.{OutOfMemory, Read, Refused}
@@ -62,7 +62,7 @@ read_long source (Some all) bytes limit is long =
     (Some all, refl, long_read source limit all (omega (arith, ap length is, length-take (limit + 1) all, long)))
 
 abbrev pub IsShort : List ℕ → Type 0
-IsShort x = length x ≤ 1000000
+IsShort x = length x ≤ max_note_bytes
 
 -- what becomes of the next part's text
 abbrev pub with_more : ℕ → List (Option (List ℕ)) → List ℕ → Result (List (List ℕ)) Error
@@ -73,7 +73,7 @@ pub all_read : (k : ℕ) (xs : List (List ℕ)) → All IsShort xs → bytes_of_
 all_read k [] short = refl
 all_read k (x ∷ xs) short =
     ap (λ r. and_then r (with_more k (map Some xs)))
-    (short_read (Part k) 1000000 x (All-head IsShort x xs short))
+    (short_read (Part k) max_note_bytes x (All-head IsShort x xs short))
     ∙ ap (λ r. and_then r (λ texts. Ok (x ∷ texts))) (all_read (k + 1) xs (All-tail IsShort x xs short))
 
 -- the parts up to one that is refused are read
@@ -85,7 +85,7 @@ read_until k [] input more e short why =
 read_until k (x ∷ xs) input more e short why =
     let same : (k + 1) + length xs ≡ k + length (x ∷ xs) = omega arith in
     ap (λ r. and_then r (with_more k (map Some xs ++ input ∷ more)))
-    (short_read (Part k) 1000000 x (All-head IsShort x xs short))
+    (short_read (Part k) max_note_bytes x (All-head IsShort x xs short))
     ∙ ap (λ r. and_then r (λ texts. Ok (x ∷ texts)))
     (read_until (k + 1) xs input more e (All-tail IsShort x xs short) (ap (λ n. note_from (Part n) input) same ∙ why))
 
@@ -128,6 +128,19 @@ goes_first view result r x next is given = subst (λ q. Gives view result (and_t
 pub fails_first : {V W : Type 0} (view : V → W) (e : Error) (r : Result (List ℕ) Error)
     (next : List ℕ → Result W Error) → r ≡ Err e → Gives view (Err e) (and_then r next)
 fails_first view e r next is = inr (ap (λ q. and_then q next) is)
+
+-- of a command whose first input is a checkpoint that is refused, no other input is read
+pub first_note_fails : {Has : Result (List ℕ) Error → Type 0} (known : Option (List ℕ)) (source : Source) (e : Error)
+    (next : List ℕ → Result (List ℕ) Error) →
+    (e ≡ OutOfMemory) ⊎ HoldsOfInput known (λ note. note_from source note ≡ Err e) →
+    ((note : Option (List ℕ)) → IsReadAs known note → Has (and_then (note_from source note) next)) →
+    (outcome : Result (List ℕ) Error) × Has outcome × Gives bytes_in (Err e) outcome
+first_note_fails known source e next (inl memory) has = (_, has None tt, inl memory)
+first_note_fails known source e next (inr (note, read, why)) has = (
+  _,
+  has note read,
+  fails_first bytes_in e _ next why,
+)
 
 -- an error ends a run
 pub ends_failed : (V : Type 0) (old new : Option (List ℕ)) (outcome : Result (List ℕ) Error) (e : Error) →

@@ -29,11 +29,14 @@ use Rattle.tlog_text.specs.Reading.{part_in}
 use Rattle.tlog_text.specs.Texts.{checkpoint_text, IsDigest}
 use Rattle.tlog_files.specs.Entries.{entries_in, is_refused, IsFraming}
 use Rattle.tlog_files.specs.declared.framing.Framing.{Framing}
-use Rattle.fohlazu_commands.specs.Laws.{AreSealed, EndWithEntries, JoinsAreReadAgain, PartsJoin, Says, SealsAreReadAgain}
-use Rattle.fohlazu_commands.specs.Outcomes.{and_then, checkpoint_of, entries_read, is_part_size, join_outcome, join_refusal}
+use Rattle.fohlazu_commands.specs.Laws.{AreSealed, EndWithEntries, JoinsAreReadAgain, PartsJoin, Says}
+use Rattle.fohlazu_commands.specs.Laws.{SealsAreReadAgain}
+use Rattle.fohlazu_commands.specs.Outcomes.{and_then, checkpoint_of, entries_read, is_part_size, join_outcome}
+use Rattle.fohlazu_commands.specs.Outcomes.{join_refusal}
 use Rattle.fohlazu_commands.specs.Outcomes.{joined, part_refusal, parts_in, said_by, seal_outcome, sizes_refusal}
 use Rattle.fohlazu_commands.specs.declared.error.Source.TheVariants.{Part}
-use Rattle.fohlazu_commands.proofs.OutcomeFacts.{entries_of_all, none_refused, refused_as, read_ok, entries_root, is_read}
+use Rattle.fohlazu_commands.proofs.OutcomeFacts.{entries_of_all, none_refused, refused_as, read_ok, entries_root}
+use Rattle.fohlazu_commands.proofs.OutcomeFacts.{is_read}
 use Rattle.fohlazu_commands.proofs.OutcomeFacts.{none_of, ok_none, root_is, said_ok, stepped}
 
 -- ---- seal
@@ -44,7 +47,8 @@ pub record IsSealed (origin : List ℕ) (framing : Framing) (file text : List �
   pub whole : is_refused framing None file ≡ false
   pub text_is : text ≡ checkpoint_text (checkpoint_of origin (entries_in framing file))
 
-pub is_sealed : (origin : List ℕ) (framing : Framing) (file text : List ℕ) → seal_outcome origin framing file ≡ Ok text →
+pub is_sealed : (origin : List ℕ) (framing : Framing) (file text : List ℕ) →
+    seal_outcome origin framing file ≡ Ok text →
     IsSealed origin framing file text
 is_sealed origin framing file text is =
     let found = stepped (entries_read framing None file)
@@ -254,7 +258,8 @@ module _ (framing : Framing) (is : IsFraming framing) where
   whole (file ∷ next ∷ files) (text ∷ texts) are end =
       refused_as framing file (concat (next ∷ files)) is end.0 ∙ whole (next ∷ files) texts are.1 end.1
 
-  sizes_say : (files : List (List ℕ)) → map (λ (p : ℕ × List ℕ). p.0) (map (fields_of framing) files) ≡ sizes_of framing files
+  sizes_say : (files : List (List ℕ)) → map (λ (p : ℕ × List ℕ). p.0) (map (fields_of framing) files)
+      ≡ sizes_of framing files
   sizes_say files = map-map (λ (p : ℕ × List ℕ). p.0) (fields_of framing) files
 
   roots_say : (files : List (List ℕ)) →

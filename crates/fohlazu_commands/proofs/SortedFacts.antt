@@ -1,5 +1,6 @@
 -- The entries of a proof by where they stand in its text, in any order and in that of their indices.
-use Rattle.std.proofs.Common.{◌≡◌, ℕ, zero, suc, ◌+◌, ◌-◌, ◌<◌, ◌≤◌, List, [], ◌∷◌, ◌++◌, map, drop, length, get_or, refl, ap, sym}
+use Rattle.std.proofs.Common.{◌≡◌, ℕ, zero, suc, ◌+◌, ◌-◌, ◌<◌, ◌≤◌, List, [], ◌∷◌, ◌++◌, map, drop, length, get_or}
+use Rattle.std.proofs.Common.{refl, ap, sym}
 use Rattle.std.proofs.Common.{◌∙◌, arith, append_assoc, append-nil, drop_at, length-append, Option, None, Some, Ok, Err}
 use Rattle.std.proofs.lemmas.List.{get_or-map, length-map, map-append}
 use Rattle.std.proofs.lemmas.List.Sorted.{IsNonDecreasingBy-from_sort}
@@ -84,11 +85,15 @@ one_more text count left i places new e rest more is w added =
     (result_ok (entry_by xs)) [])) here ∙ ap (λ o. leaf_hash sha256 (option_map_or
     (λ (read : EntryFields × List ℕ). read.0.bytes) o [])) (sym is) in
     record {
-      front = (done ++ entry_lines e, split ∙ ap (λ xs. done ++ xs) parts ∙ sym (append_assoc done (entry_lines e) rest));
+      front = (
+        done ++ entry_lines e,
+        split ∙ ap (λ xs. done ++ xs) parts ∙ sym (append_assoc done (entry_lines e) rest),
+      );
       indices = ap (λ ps. map index_of ps ++ map number_at (entries_from rest (count - (i + 1)))) added
           ∙ ap (λ xs. xs ++ map number_at (entries_from rest (count - (i + 1))))
           (map-append index_of places ((e.number - 1, place) ∷ []))
-          ∙ append_assoc (map index_of places) ((e.number - 1) ∷ []) (map number_at (entries_from rest (count - (i + 1))))
+          ∙ append_assoc (map index_of places) ((e.number - 1) ∷ [])
+          (map number_at (entries_from rest (count - (i + 1))))
           ∙ ap (λ es. map index_of places ++ map number_at es) (sym all) ∙ w.indices;
       leaves = ap (λ ps. map (leaf_at text) ps ++ map hash_at (entries_from rest (count - (i + 1)))) added
           ∙ ap (λ xs. xs ++ map hash_at (entries_from rest (count - (i + 1))))

@@ -7,7 +7,7 @@ use Rattle.tlog_text.specs.Lines.{is_origin}
 use Rattle.tlog_files.specs.Entries.{IsFraming}
 use Rattle.tlog_files.specs.declared.framing.Framing.{Framing}
 use Rattle.fohlazu_commands.specs.Outcomes.{and_then, bytes_from, compared, join_outcome, numbers_under, prove_growth}
-use Rattle.fohlazu_commands.specs.Outcomes.{prove_under, requested, seal_outcome, verify_consistency_outcome}
+use Rattle.fohlazu_commands.specs.Outcomes.{checkpoint_with, prove_under, seal_outcome, verify_consistency_outcome}
 use Rattle.fohlazu_commands.specs.Outcomes.{verify_requested}
 use Rattle.fohlazu_commands.specs.declared.error.Error.{Error}
 use Rattle.fohlazu_commands.specs.declared.error.Error.TheVariants.{OutOfMemory, Refused, Write}
@@ -16,7 +16,8 @@ use Rattle.fohlazu_commands.specs.declared.error.Source.{Source}
 use Rattle.fohlazu_commands.specs.declared.error.Source.TheVariants.{Checkpoint, File, New, Old, Part, Proof}
 use Rattle.fohlazu_commands.specs.declared.command.Command.{Command}
 use Rattle.fohlazu_commands.specs.declared.command.Command.TheVariants.{Join, Prove}
-use Rattle.fohlazu_commands.specs.declared.command.Command.TheVariants.{ProveConsistency, Seal, Verify, VerifyConsistency}
+use Rattle.fohlazu_commands.specs.declared.command.Command.TheVariants.{ProveConsistency, Seal, Verify}
+use Rattle.fohlazu_commands.specs.declared.command.Command.TheVariants.{VerifyConsistency}
 use Rattle.fohlazu_commands.specs.declared.verify.Print.{Print}
 use Rattle.fohlazu_commands.specs.declared.verify.Print.TheVariants.{Blocks, Lines, Raw}
 use Rattle.fohlazu_commands.specs.declared.verify.Requested.{Requested}
@@ -40,7 +41,8 @@ IsPrint print requested = ⊥
 -- a lawful origin, blocks of 1 to 2 ^ 30 bytes, and numbers from 1 on where there are any
 abbrev pub IsWellFormed : {Src : Type 0} → Command Src → Type 0
 IsWellFormed (Seal origin framing file) = (is_origin (string_bytes origin) ≡ true) × IsFraming framing
-IsWellFormed (Prove framing checkpoint file numbers) = IsFraming framing × IfSome (option_map (λ ns. ns.items) numbers) AreNumbers
+IsWellFormed (Prove framing checkpoint file numbers) =
+    IsFraming framing × IfSome (option_map (λ ns. ns.items) numbers) AreNumbers
 IsWellFormed (Verify print checkpoint proof requested) = IsPrint print requested
 IsWellFormed (ProveConsistency framing old new file) = IsFraming framing
 IsWellFormed (VerifyConsistency old proof) = Unit {0}
@@ -66,20 +68,28 @@ AreReadAs known inputs = ⊥
 abbrev pub HoldsOfInputs : List (Option (List ℕ)) → (List (Option (List ℕ)) → Type 0) → Type 0
 HoldsOfInputs known Holds = (inputs : List (Option (List ℕ))) × AreReadAs known inputs × Holds inputs
 
+-- the most bytes that a checkpoint or a part may have
+abbrev pub max_note_bytes : ℕ
+max_note_bytes = 1000000
+
+-- the most bytes that a consistency proof may have: a line of 24 for the old size, 63 lines of 45 for digests, a blank
+-- line, and a checkpoint
+abbrev pub max_growth_bytes : ℕ
+max_growth_bytes = 1002860
+
 -- the bytes of an input that may have at most so many
 abbrev pub limited_from : Source → ℕ → Option (List ℕ) → Result (List ℕ) Error
 limited_from source limit input =
     and_then (bytes_from source input) (λ bytes.
     ok_unless (unless (nat_le (length bytes) limit) (Refused source (TooLong limit))) bytes)
 
--- a checkpoint or a part has at most 10 ^ 6 bytes
+-- the bytes of a checkpoint or a part
 abbrev pub note_from : Source → Option (List ℕ) → Result (List ℕ) Error
-note_from source input = limited_from source 1000000 input
+note_from source input = limited_from source max_note_bytes input
 
--- a consistency proof has at most a line of 24 bytes for the old size, 63 lines of 45 for digests, a blank line, and a
--- checkpoint
+-- the bytes of a consistency proof
 abbrev pub growth_from : Option (List ℕ) → Result (List ℕ) Error
-growth_from input = limited_from Proof 1002860 input
+growth_from input = limited_from Proof max_growth_bytes input
 
 -- the bytes of parts, counted from k, if all can be read
 abbrev pub bytes_of_parts : ℕ → List (Option (List ℕ)) → Result (List (List ℕ)) Error
@@ -95,7 +105,7 @@ seal_file origin framing file = and_then (bytes_from File file) (seal_outcome or
 
 abbrev pub prove_file : Framing → (checkpoint file : Option (List ℕ)) → List ℕ → Result (List ℕ) Error
 prove_file framing checkpoint file numbers =
-    and_then (note_from Checkpoint checkpoint) (λ text. and_then (requested text numbers) (λ c.
+    and_then (note_from Checkpoint checkpoint) (λ text. and_then (checkpoint_with text numbers) (λ c.
     and_then (bytes_from File file) (prove_under framing c numbers)))
 
 -- of the requested entries, or of all of the checkpoint

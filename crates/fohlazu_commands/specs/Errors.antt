@@ -1,4 +1,4 @@
--- Errors and their exit statuses.
+-- Errors and their exit codes.
 use Rattle.std.specs.Prelude.{ℕ}
 use Rattle.tlog_files.specs.declared.error.ReadError.{ReadError}
 use Rattle.tlog_files.specs.declared.error.ReadError.TheVariants.{EndsInsideLine, OutOfMemory as NoFileMemory}
@@ -10,22 +10,23 @@ use Rattle.tlog_multiproof.specs.declared.error.EntriesError.TheVariants.{OutOfM
 use Rattle.fohlazu_commands.specs.declared.error.Error.{Error}
 use Rattle.fohlazu_commands.specs.declared.error.Error.TheVariants.{OutOfMemory, Read, Refused}
 use Rattle.fohlazu_commands.specs.declared.error.Refusal.TheVariants.{CheckpointLine, TooManyEntries as TooMany}
-use Rattle.fohlazu_commands.specs.declared.error.Refusal.TheVariants.{EndsInsideLine as InsideLine, Entries, Line, TooLong}
+use Rattle.fohlazu_commands.specs.declared.error.Refusal.TheVariants.{EndsInsideLine as InsideLine, Entries, Line}
+use Rattle.fohlazu_commands.specs.declared.error.Refusal.TheVariants.{TooLong}
 use Rattle.fohlazu_commands.specs.declared.error.Source.{Source}
 use Rattle.fohlazu_commands.specs.declared.error.Source.TheVariants.{Checkpoint, File, New, Old, Part, Proof}
 
 -- 2 for a checkpoint or part that is too long or has a wrong line, 1 for any other refusal, 2 for what is no refusal
-abbrev pub status_of : Error → ℕ
-status_of (Refused Checkpoint (Line line)) = 2
-status_of (Refused Old (Line line)) = 2
-status_of (Refused New (Line line)) = 2
-status_of (Refused (Part k) (Line line)) = 2
-status_of (Refused Checkpoint (TooLong most)) = 2
-status_of (Refused Old (TooLong most)) = 2
-status_of (Refused New (TooLong most)) = 2
-status_of (Refused (Part k) (TooLong most)) = 2
-status_of (Refused source refusal) = 1
-status_of error = 2
+abbrev pub exit_code_of : Error → ℕ
+exit_code_of (Refused Checkpoint (Line line)) = 2
+exit_code_of (Refused Old (Line line)) = 2
+exit_code_of (Refused New (Line line)) = 2
+exit_code_of (Refused (Part k) (Line line)) = 2
+exit_code_of (Refused Checkpoint (TooLong most)) = 2
+exit_code_of (Refused Old (TooLong most)) = 2
+exit_code_of (Refused New (TooLong most)) = 2
+exit_code_of (Refused (Part k) (TooLong most)) = 2
+exit_code_of (Refused source refusal) = 1
+exit_code_of error = 2
 
 -- the error of an input whose text is wrong
 abbrev pub text_error : Source → TextError → Error

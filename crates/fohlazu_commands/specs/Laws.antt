@@ -58,7 +58,8 @@ JoinsAreReadAgain =
 -- texts are what seal prints of files as parts
 abbrev pub AreSealed : Framing → (files texts : List (List ℕ)) → Type 0
 AreSealed framing [] [] = Unit {0}
-AreSealed framing (file ∷ files) (text ∷ texts) = (seal_outcome part_origin framing file ≡ Ok text) × AreSealed framing files texts
+AreSealed framing (file ∷ files) (text ∷ texts) =
+    (seal_outcome part_origin framing file ≡ Ok text) × AreSealed framing files texts
 AreSealed framing files texts = ⊥
 
 -- each file but the last ends where an entry does
@@ -89,8 +90,9 @@ GrowthIsAccepted =
 -- between checkpoints of first entries of a file it prints a proof
 abbrev pub GrowthIsProved : Type 0
 GrowthIsProved =
-    (framing : Framing) (origin old new file : List ℕ) (first more : List (List ℕ)) → IsCheckpointUnder origin old first →
-    IsCheckpointUnder origin new (first ++ more) → BeginsWith framing file (first ++ more) →
+    (framing : Framing) (origin old new file : List ℕ) (first more : List (List ℕ)) →
+    IsCheckpointUnder origin old first → IsCheckpointUnder origin new (first ++ more) →
+    BeginsWith framing file (first ++ more) →
     (proof : List ℕ) × (prove_file_growth framing (Some old) (Some new) (Some file) ≡ Ok proof)
 
 -- ---- entries
@@ -127,7 +129,8 @@ pub record CanSay (entries : List (List ℕ)) (numbers : List ℕ) : Type 0 wher
 abbrev pub ProofsAreAccepted : Type 0
 ProofsAreAccepted =
     (framing : Framing) (print : Print) (checkpoint file : List ℕ) (numbers : List ℕ) (requested : Option (List ℕ))
-    (proof : List ℕ) → IsFraming framing → FitsCut print framing → AreNumbers numbers → CanSay (entries_in framing file) numbers →
+    (proof : List ℕ) → IsFraming framing → FitsCut print framing → AreNumbers numbers →
+    CanSay (entries_in framing file) numbers →
     AreRequested requested numbers → prove_file framing (Some checkpoint) (Some file) numbers ≡ Ok proof →
     verify_outcome print checkpoint proof requested
     ≡ Ok (printed_of print (is_some requested) (entries_in framing file) numbers)
@@ -143,5 +146,6 @@ ProofsAreProved =
 abbrev pub ProofsStay : Type 0
 ProofsStay =
     (framing : Framing) (checkpoint file grown : List ℕ) (numbers : List ℕ) (proof : List ℕ) →
-    BeginsWith framing grown (entries_in framing file) → prove_file framing (Some checkpoint) (Some file) numbers ≡ Ok proof →
+    BeginsWith framing grown (entries_in framing file) →
+    prove_file framing (Some checkpoint) (Some file) numbers ≡ Ok proof →
     prove_file framing (Some checkpoint) (Some grown) numbers ≡ Ok proof

@@ -21,7 +21,7 @@ use Rattle.tlog_files.specs.declared.framing.Framing.{Framing}
 use Rattle.fohlazu_commands.specs.Errors.{checkpoint_error, entries_error, text_error}
 use Rattle.fohlazu_commands.specs.declared.error.Error.{Error}
 use Rattle.fohlazu_commands.specs.declared.error.Error.TheVariants.{OutOfMemory, Read, Refused}
-use Rattle.fohlazu_commands.specs.declared.error.Refusal.TheVariants.{Consistency, EndsInsideLine, NoSuchEntry}
+use Rattle.fohlazu_commands.specs.declared.error.Refusal.TheVariants.{Consistency, EndsInsideLine, UnprintableEntry}
 use Rattle.fohlazu_commands.specs.declared.error.Refusal.TheVariants.{MissingEntry, NumberPastEnd, OtherEntries}
 use Rattle.fohlazu_commands.specs.declared.error.Refusal.TheVariants.{OtherNumber, OtherOldEntries, OtherOldSize}
 use Rattle.fohlazu_commands.specs.declared.error.Refusal.TheVariants.{OtherOrigin, PartSize, SmallerSize, TooFewEntries}
@@ -127,10 +127,10 @@ numbers_under None checkpoint =
 abbrev pub number_refusal : ℕ → ℕ → Option Error
 number_refusal size number = unless (nat_le number size) (Refused Checkpoint (NumberPastEnd number size))
 
--- a checkpoint that has the requested entries
-abbrev pub requested : List ℕ → List ℕ → Result CheckpointFields Error
-requested checkpoint numbers =
-    and_then (said_by Checkpoint (checkpoint_in checkpoint))
+-- the checkpoint that a text says, if it has entries of these numbers
+abbrev pub checkpoint_with : (text numbers : List ℕ) → Result CheckpointFields Error
+checkpoint_with text numbers =
+    and_then (said_by Checkpoint (checkpoint_in text))
     (λ c. ok_unless (first_of (number_refusal c.size) numbers) c)
 
 -- the entries of these numbers, and the digests that prove them: the values of nodes
@@ -171,7 +171,7 @@ is_printable Raw size e = true
 
 -- why an entry is refused
 abbrev pub entry_refusal : Print → ℕ → EntryFields → Option Error
-entry_refusal print size e = unless (is_printable print size e) (Refused Proof (NoSuchEntry e.number))
+entry_refusal print size e = unless (is_printable print size e) (Refused Proof (UnprintableEntry e.number))
 
 -- why the verifier refuses the entries
 abbrev pub proof_refusal : CheckpointFields → EntriesFields → Option Error

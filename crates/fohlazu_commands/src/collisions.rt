@@ -1,6 +1,7 @@
 //! What accepted texts show of files, or else a collision of SHA-256.
 
-ghost use Rattle.std.specs.Prelude.{◌≡◌, ◌⊎◌, ◌↔◌, ◌-◌, ℕ, List, [], All, IfErr, IfOk, IfSome, IsNone, Err, None, Ok, map};
+ghost use Rattle.std.specs.Prelude.{◌≡◌, ◌⊎◌, ◌↔◌, ◌-◌, ℕ, List, [], All, IfErr, IfOk, IfSome, IsNone, Err, None, Ok};
+ghost use Rattle.std.specs.Prelude.{map};
 ghost use Rattle.sha2.specs.Sha256.{sha256};
 ghost use Rattle.tlog.specs.Collisions.{IsCollision, entries_of};
 ghost use Rattle.tlog.specs.Rfc9162.{leaf_hash as leaf_hash_by};
@@ -13,7 +14,9 @@ ghost use Rattle.fohlazu_commands.specs.declared.error.Error.TheVariants.{OutOfM
 ghost use Rattle.fohlazu_commands.specs.declared.verify.Print.TheVariants.{Raw};
 
 use crate::error::{Error, Source};
-use crate::inputs::{parse_checkpoint, parse_consistency_proof, parse_entries_proof, read_under};
+use crate::inputs::{
+    parse_checkpoint, parse_consistency_proof, parse_entries_proof, read_file_under,
+};
 use crate::verify::{Print, Requested, verify};
 use crate::verify_consistency::verify_consistency;
 use sha2::Sha256;
@@ -119,7 +122,7 @@ fn read_bytes(
     ensures { ReadsAs [] wanted.now result (entries_under framing (checkpoint_fields checkpoint.now) file.now) }
 {
     let mut rest = file;
-    match read_under(alloc, framing, checkpoint, &[], wanted, &mut rest) {
+    match read_file_under(alloc, framing, checkpoint, &[], wanted, &mut rest) {
         // Bytes in memory are always read.
         Err(Error::Read(_)) => Err(Error::OutOfMemory),
         result => result,

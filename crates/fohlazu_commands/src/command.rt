@@ -123,8 +123,8 @@ fn is_print(print: Print, requested: &Requested) -> bool
     }
 }
 
-/// Runs a command that [`is_well_formed`](Command::is_well_formed): reads its inputs one after another, and writes what it
-/// answers.
+/// Runs a command that [`is_well_formed`](Command::is_well_formed): reads its inputs one after another, and writes
+/// what it answers.
 ///
 /// # Errors
 ///

@@ -1,7 +1,7 @@
 //! Why a command stops.
 
 ghost use Rattle.std.specs.Prelude.{◌≡◌};
-ghost use Rattle.fohlazu_commands.specs.Errors.{entries_error, read_error, status_of, text_error};
+ghost use Rattle.fohlazu_commands.specs.Errors.{entries_error, exit_code_of, read_error, text_error};
 ghost use Rattle.fohlazu_commands.specs.declared.error.Error.TheVariants.{OutOfMemory};
 
 use std::alloc::{AllocError, AllocFailed};
@@ -93,10 +93,10 @@ pub enum Refusal {
     /// A proof with an entry after all that are requested.
     #[error("it has entry {0} after all that are requested: give the numbers that it has, in its order, or none")]
     UnrequestedEntry(usize),
-    /// A proof with an entry that a file of lines, or of such blocks, does not have.
+    /// A proof with an entry that cannot be printed: a line with a line feed inside, or a block of another length.
     #[error("entry {0} is no line, or no block of this size: give `--blocks` as for `seal`, or \
              `--raw` to print one entry")]
-    NoSuchEntry(usize),
+    UnprintableEntry(usize),
     /// A proof of entries that the verifier refuses.
     #[error("{}", entries_words(.0))]
     Entries(EntriesError),
@@ -164,11 +164,11 @@ impl Error {
         }
     }
 
-    /// The exit status of a program that stops so. It is 1 if an input is refused, but 2 if that is a checkpoint or a
+    /// The exit code of a program that stops so. It is 1 if an input is refused, but 2 if that is a checkpoint or a
     /// part with a wrong line or too many bytes. It is 2 if an input cannot be read, the output cannot be written, or
     /// memory ran out.
-    pub fn status(&self) -> u8
-        ensures { result ≡ status_of self.now }
+    pub fn exit_code(&self) -> u8
+        ensures { result ≡ exit_code_of self.now }
     {
         match self {
             Error::Refused(Source::File | Source::Proof, _) => 1,

@@ -13,8 +13,10 @@ ghost use Rattle.tlog_tree.specs.Builders.{IsBuilderOf};
 ghost use Rattle.tlog_tree.specs.Trees.{all_there, values_at};
 ghost use Rattle.tlog_tree.specs.declared.node_id.NodeId.{NodeId};
 ghost use Rattle.fohlazu_commands.specs.Commands.{growth_from, note_from, limited_from, HoldsOfInput, IsReadAs};
+ghost use Rattle.fohlazu_commands.specs.Commands.{max_growth_bytes, max_note_bytes};
 ghost use Rattle.fohlazu_commands.specs.Inner.{Checks, HasEntries, ReadsAs};
-ghost use Rattle.fohlazu_commands.specs.Outcomes.{and_then, bytes_from, entries_read, entries_under, Gives, growth_refusal};
+ghost use Rattle.fohlazu_commands.specs.Outcomes.{and_then, bytes_from, entries_read, entries_under, Gives};
+ghost use Rattle.fohlazu_commands.specs.Outcomes.{growth_refusal};
 ghost use Rattle.fohlazu_commands.specs.Outcomes.{said_by, tree_refusal};
 ghost use Rattle.fohlazu_commands.specs.declared.error.Error.TheVariants.{OutOfMemory, Read as FailedRead};
 ghost use Rattle.fohlazu_commands.specs.declared.error.Source.TheVariants.{File, Proof};
@@ -50,9 +52,9 @@ pub(crate) fn read_file<R: Read>(
     Ok(read_log(alloc, framing, limit, nodes, wanted, file)?)
 }
 
-/// Reads the entries of a checkpoint from its file, as [`read_file`] does, up to as many as the checkpoint has.
-/// `TooFewEntries` if the file has fewer, else `OtherEntries` if they have another root.
-pub(crate) fn read_under<R: Read>(
+/// Reads the first entries of a file, as [`read_file`] does, as many as its checkpoint has. `TooFewEntries` if the file
+/// has fewer, else `OtherEntries` if they have another root.
+pub(crate) fn read_file_under<R: Read>(
     alloc: Global,
     framing: Framing,
     checkpoint: &Checkpoint,
@@ -164,7 +166,7 @@ pub(crate) fn read_note<R: Read>(
     input: &mut R,
 ) -> Result<Vec<u8>, Error>
     ensures bytes { IfOk result
-        (λ bytes. IsReadAs (R.remaining input.old) (Some bytes.items) × (length bytes.items ≤ 1000000)) }
+        (λ bytes. IsReadAs (R.remaining input.old) (Some bytes.items) × (length bytes.items ≤ max_note_bytes)) }
     ensures failed { IfErr result (λ error. (error ≡ OutOfMemory)
         ⊎ HoldsOfInput (R.remaining input.old) (λ all. note_from source all ≡ Err error)) }
 {
@@ -174,7 +176,7 @@ pub(crate) fn read_note<R: Read>(
 /// The bytes of a consistency proof, with the errors of [`read_limited`].
 pub(crate) fn read_growth<R: Read>(alloc: Global, input: &mut R) -> Result<Vec<u8>, Error>
     ensures bytes { IfOk result
-        (λ bytes. IsReadAs (R.remaining input.old) (Some bytes.items) × (length bytes.items ≤ 1002860)) }
+        (λ bytes. IsReadAs (R.remaining input.old) (Some bytes.items) × (length bytes.items ≤ max_growth_bytes)) }
     ensures failed { IfErr result (λ error. (error ≡ OutOfMemory)
         ⊎ HoldsOfInput (R.remaining input.old) (λ all. growth_from all ≡ Err error)) }
 {

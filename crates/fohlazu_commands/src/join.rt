@@ -8,7 +8,8 @@ ghost use Rattle.tlog_tree.specs.Trees.{leaves_root};
 ghost use Rattle.sha2.specs.Sha256.{sha256};
 ghost use Rattle.fohlazu_commands.specs.Inner.{Checks, IsMemory};
 ghost use Rattle.fohlazu_commands.specs.Outcomes.{bytes_in};
-ghost use Rattle.fohlazu_commands.specs.Outcomes.{Gives, is_part_size, join_outcome, join_refusal, parts_in, sizes_refusal};
+ghost use Rattle.fohlazu_commands.specs.Outcomes.{Gives, is_part_size, join_outcome, join_refusal, parts_in};
+ghost use Rattle.fohlazu_commands.specs.Outcomes.{sizes_refusal};
 
 use crate::error::{Error, Refusal, Source, text_error};
 use std::alloc::{AllocError, Global};
@@ -32,7 +33,7 @@ pub fn join(alloc: Global, origin: &str, texts: &[Vec<u8>]) -> Result<Vec<u8>, E
     ensures { Gives bytes_in result (join_outcome origin.now (map bytes_in texts.now)) }
 {
     let parts = read_parts(alloc, texts)?;
-    let size = check_sizes(alloc, &parts)?;
+    let size = size_of_parts(alloc, &parts)?;
     let root = root_of_parts(alloc, &parts)?;
     Ok(Checkpoint { origin, size, root }.to_text(alloc)?)
 }
@@ -51,18 +52,18 @@ fn read_parts(alloc: Global, texts: &[Vec<u8>]) -> Result<Vec<(usize, [u8; 32])>
     Ok(parts)
 }
 
-/// How many entries parts have, if their sizes fit.
-fn check_sizes(alloc: Global, parts: &[(usize, [u8; 32])]) -> Result<usize, Error>
+/// How many entries parts have together, if their sizes fit.
+fn size_of_parts(alloc: Global, parts: &[(usize, [u8; 32])]) -> Result<usize, Error>
     ensures { let sizes = map (λ part. part.0) parts.now in
         Gives (λ size. size) result (ok_unless (join_refusal sizes) (sum sizes)) }
 {
     let sizes: Vec<usize> = parts.iter().map(|part| part.0).collect(alloc)?;
-    check_each(&sizes)?;
+    check_part_sizes(&sizes)?;
     total(&sizes).ok_or(Error::Refused(Source::Part(0), Refusal::TooManyEntries))
 }
 
 /// Checks that each part has a size that fits.
-fn check_each(sizes: &[usize]) -> Result<(), Error>
+fn check_part_sizes(sizes: &[usize]) -> Result<(), Error>
     ensures { Checks result (sizes_refusal sizes.now) }
 {
     for k in 0..sizes.len() {

@@ -1,6 +1,7 @@
 //! What the outcomes say of files, as the contracts of calls that do nothing.
 
-ghost use Rattle.fohlazu_commands.specs.Laws.{FilesGrow, GrowthIsAccepted, GrowthIsProved, JoinsAreReadAgain, PartsJoin};
+ghost use Rattle.fohlazu_commands.specs.Laws.{FilesGrow, GrowthIsAccepted, GrowthIsProved, JoinsAreReadAgain};
+ghost use Rattle.fohlazu_commands.specs.Laws.{PartsJoin};
 ghost use Rattle.fohlazu_commands.specs.Laws.{NumbersAreCompared, ProofsAreAccepted, ProofsAreProved, ProofsStay};
 ghost use Rattle.fohlazu_commands.specs.Laws.{SealsAreReadAgain};
 
@@ -26,20 +27,34 @@ pub fn parts_join()
     ensures { PartsJoin }
 {}
 
-/// Between checkpoints of one origin, of first entries of a file, which may have grown since, `prove_consistency`
-/// prints a proof, and whatever it prints is accepted by `verify_consistency`, which prints the new checkpoint as it
+/// Whatever `prove_consistency` prints is accepted by `verify_consistency`, which prints the new checkpoint as it
 /// stands.
-pub fn growth()
-    ensures accepted { GrowthIsAccepted }
-    ensures proved { GrowthIsProved }
+pub fn growth_is_accepted()
+    ensures { GrowthIsAccepted }
 {}
 
-/// Under a checkpoint of first entries of a file `prove` prints a proof of any of them, the same once the file has
-/// grown, and whatever it prints is accepted by `verify`, which prints these entries, as the file is cut or raw.
-/// Numbers of entries are refused exactly if they are not the requested ones, in their order.
-pub fn proofs()
-    ensures accepted { ProofsAreAccepted }
-    ensures proved { ProofsAreProved }
-    ensures stay { ProofsStay }
-    ensures compared { NumbersAreCompared }
+/// Between checkpoints of one origin, of first entries of a file, which may have grown since, `prove_consistency`
+/// prints a proof.
+pub fn growth_is_proved()
+    ensures { GrowthIsProved }
+{}
+
+/// Whatever `prove` prints is accepted by `verify`, which prints the entries of the file, as the file is cut or raw.
+pub fn proofs_are_accepted()
+    ensures { ProofsAreAccepted }
+{}
+
+/// Under a checkpoint of first entries of a file `prove` prints a proof of any of them.
+pub fn proofs_are_proved()
+    ensures { ProofsAreProved }
+{}
+
+/// What `prove` prints stays the same once the file has grown.
+pub fn proofs_stay()
+    ensures { ProofsStay }
+{}
+
+/// Entries of a proof are refused for their numbers exactly if these are not the requested ones, in their order.
+pub fn numbers_are_compared()
+    ensures { NumbersAreCompared }
 {}

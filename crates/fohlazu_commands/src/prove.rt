@@ -8,13 +8,13 @@ ghost use Rattle.tlog_files.specs.Entries.{IsFraming, entry_at, wanted_of};
 ghost use Rattle.tlog_text.specs.Texts.{checkpoint_fields, entries_text, entry_fields};
 ghost use Rattle.fohlazu_commands.specs.{Commands.AreNumbers, Commands.HoldsOfInput};
 ghost use Rattle.fohlazu_commands.specs.Inner.{Checks, entry_of, HasEntries};
-ghost use Rattle.fohlazu_commands.specs.Outcomes.{all_numbers, and_then, bytes_from, bytes_in, Gives, number_refusal};
-ghost use Rattle.fohlazu_commands.specs.Outcomes.{numbers_under, proof_over, prove_under, requested};
+ghost use Rattle.fohlazu_commands.specs.Outcomes.{all_numbers, and_then, bytes_from, bytes_in, checkpoint_with, Gives};
+ghost use Rattle.fohlazu_commands.specs.Outcomes.{number_refusal, numbers_under, proof_over, prove_under};
 ghost use Rattle.fohlazu_commands.specs.declared.error.Error.{Error};
 ghost use Rattle.fohlazu_commands.specs.declared.error.Source.TheVariants.{File};
 
 use crate::error::{Error, Refusal, Source};
-use crate::inputs::{digests_of, parse_checkpoint, read_under};
+use crate::inputs::{digests_of, parse_checkpoint, read_file_under};
 use std::alloc::{AllocError, Global};
 use std::io::Read;
 use tlog_files::{Framing, ReadLog};
@@ -49,11 +49,11 @@ pub fn prove<R: Read>(
     requires framing { IsFraming framing }
     requires numbers { AreNumbers numbers.now }
     ensures answer { HoldsOfInput (R.remaining file.old) (λ input. Gives bytes_in result
-        (and_then (requested checkpoint.now numbers.now) (λ c.
+        (and_then (checkpoint_with checkpoint.now numbers.now) (λ c.
         and_then (bytes_from File input) (prove_under framing c numbers.now)))) }
-    ensures unread { (error : Error) → requested checkpoint.now numbers.now ≡ Err error → file.new ≡ file.old }
+    ensures unread { (error : Error) → checkpoint_with checkpoint.now numbers.now ≡ Err error → file.new ≡ file.old }
 {
-    let checkpoint = requested(checkpoint, numbers)?;
+    let checkpoint = checkpoint_with(checkpoint, numbers)?;
     prove_under(alloc, framing, &checkpoint, numbers, file)
 }
 
@@ -91,13 +91,14 @@ pub(crate) fn all_numbers(alloc: Global, size: usize) -> Result<Vec<usize>, Allo
     (1..size.max(1) + 1).collect(alloc)
 }
 
-/// The checkpoint that a text says, if it has the requested entries.
-fn requested<'a>(checkpoint: &'a [u8], numbers: &[usize]) -> Result<Checkpoint<'a>, Error>
-    ensures checkpoint { Gives checkpoint_fields result (requested checkpoint.now numbers.now) }
+/// The checkpoint that a text says, which has entries of these numbers. `Line` for the text's first wrong line, else
+/// `NumberPastEnd` for the first number whose entry the checkpoint does not have.
+fn checkpoint_with<'a>(text: &'a [u8], numbers: &[usize]) -> Result<Checkpoint<'a>, Error>
+    ensures checkpoint { Gives checkpoint_fields result (checkpoint_with text.now numbers.now) }
     ensures numbers { IfOk result (λ c. All (λ number. number ≤ c.size) numbers.now) }
     ensures limit { IfOk result (λ c. c.size ≤ size_limit) }
 {
-    let checkpoint = parse_checkpoint(Source::Checkpoint, checkpoint)?;
+    let checkpoint = parse_checkpoint(Source::Checkpoint, text)?;
     check_numbers(checkpoint.size, numbers)?;
     Ok(checkpoint)
 }
@@ -131,7 +132,7 @@ fn prove_under<R: Read>(
 {
     let indices: Vec<usize> = numbers.iter().map(|n| n.saturating_sub(1)).collect(alloc)?;
     let nodes = entry_nodes(alloc, &indices, checkpoint.size)?;
-    let log = read_under(alloc, framing, checkpoint, &nodes, &indices, file)?;
+    let log = read_file_under(alloc, framing, checkpoint, &nodes, &indices, file)?;
     drop(nodes);
     Ok(text_of(alloc, numbers, log)?)
 }

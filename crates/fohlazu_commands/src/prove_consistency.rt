@@ -15,7 +15,7 @@ ghost use Rattle.fohlazu_commands.specs.declared.error.Error.{Error};
 ghost use Rattle.fohlazu_commands.specs.declared.error.Source.TheVariants.{File};
 
 use crate::error::{Error, Refusal, Source};
-use crate::inputs::{check_growth, digests_of, parse_checkpoint, read_under};
+use crate::inputs::{check_growth, digests_of, parse_checkpoint, read_file_under};
 use std::alloc::{AllocError, Global};
 use std::io::Read;
 use tlog::verify_consistency;
@@ -85,7 +85,7 @@ fn prove_growth<R: Read>(
         (prove_growth framing (checkpoint_fields old.now) (checkpoint_fields new.now) checkpoint.now))) }
 {
     let nodes = growth_nodes(alloc, old.size, new.size)?;
-    let log = read_under(alloc, framing, new, &nodes, &[], file)?;
+    let log = read_file_under(alloc, framing, new, &nodes, &[], file)?;
     text_of(alloc, old, new, checkpoint, log)
 }
 

@@ -50,8 +50,8 @@ pub enum Requested {
 ///
 /// - `Line` for the first wrong line of the checkpoint, then of the proof;
 /// - `OtherNumber`, `UnrequestedEntry` or `MissingEntry` where its entries first differ from the requested ones;
-/// - `NoSuchEntry` for the first entry that cannot be printed: a line with a line feed inside, or a block of another
-///   length;
+/// - `UnprintableEntry` for the first entry that cannot be printed: a line with a line feed inside, or a block of
+///   another length;
 /// - `Entries` with the verifier's reason.
 pub fn verify(
     alloc: Global,
@@ -67,11 +67,11 @@ pub fn verify(
     check_requested(alloc, requested, checkpoint.size, &proof)?;
     check_entries(print, checkpoint.size, proof.entries())?;
     check_proof(alloc, &checkpoint, &proof)?;
-    Ok(text_of(alloc, print, is_compared(requested), proof.entries())?)
+    Ok(text_of(alloc, print, is_requested(requested), proof.entries())?)
 }
 
-/// Whether the numbers of entries are compared.
-fn is_compared(requested: &Requested) -> bool
+/// Whether the entries of a proof are requested ones, whose numbers are compared and then not printed.
+fn is_requested(requested: &Requested) -> bool
     ensures { (size : ℕ) → result ≡ is_some (numbers_in requested.now size) }
 {
     !matches!(requested, Requested::Any)
@@ -126,7 +126,7 @@ fn check_entries(print: Print, size: usize, entries: Entries) -> Result<(), Erro
 {
     for entry in entries {
         if !is_printable(print, size, &entry) {
-            return Err(Error::Refused(Source::Proof, Refusal::NoSuchEntry(entry.number)));
+            return Err(Error::Refused(Source::Proof, Refusal::UnprintableEntry(entry.number)));
         }
     }
     Ok(())
@@ -155,28 +155,35 @@ fn check_proof(alloc: Global, checkpoint: &Checkpoint, proof: &EntriesText) -> R
     Ok(verify_ascending(size, &sorted, &proof.digests, root)?)
 }
 
-/// What is printed of entries. Where `bare`, lines are printed without their numbers.
-fn text_of(alloc: Global, print: Print, bare: bool, entries: Entries) -> Result<Vec<u8>, AllocError>
-    ensures { IfOk result (λ text. text.items ≡ flat_map (printed print bare) (entries_left entries.entry)) }
+/// What is printed of entries: lines have their numbers ahead if they are not requested ones.
+fn text_of(
+    alloc: Global,
+    print: Print,
+    is_requested: bool,
+    entries: Entries,
+) -> Result<Vec<u8>, AllocError>
+    ensures { IfOk result
+        (λ text. text.items ≡ flat_map (printed print is_requested) (entries_left entries.entry)) }
 {
     let mut text = Vec::new(alloc);
     for entry in entries {
-        push_entry(alloc, &mut text, print, bare, &entry)?;
+        push_entry(alloc, &mut text, print, is_requested, &entry)?;
     }
     Ok(text)
 }
 
-/// Appends what is printed of an entry. Where `bare`, a line is printed without its number.
+/// Appends what is printed of an entry: a line has its number ahead if it is not a requested one.
 fn push_entry(
     alloc: Global,
     text: &mut Vec<u8>,
     print: Print,
-    bare: bool,
+    is_requested: bool,
     entry: &EntryText,
 ) -> Result<(), AllocError>
-    ensures { OnOk result (text.new.items ≡ text.old.items ++ printed print bare (entry_text_fields entry.now)) }
+    ensures { OnOk result
+        (text.new.items ≡ text.old.items ++ printed print is_requested (entry_text_fields entry.now)) }
 {
-    if print == Print::Lines && !bare {
+    if print == Print::Lines && !is_requested {
         let head = format!(in alloc; "{}\t", entry.number)?;
         text.extend_from_slice(head.as_bytes())?;
     }

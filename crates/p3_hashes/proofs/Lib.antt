@@ -1,5 +1,5 @@
 pub mod FoldSteps
-pub mod Turns
+pub mod Transposed
 pub mod Written
 pub mod Pieces
 pub mod Groups

@@ -1,3 +1,3 @@
 -- Definitions that only proofs, and calls that no public contract mentions, use.
 pub mod Eights
-pub mod Turned
+pub mod Transposed

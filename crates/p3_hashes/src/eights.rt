@@ -6,7 +6,7 @@ ghost use Rattle.std.specs.Prelude.{◌≡◌, ℕ, ◌+◌, ◌*◌, ◌/◌, �
 ghost use Rattle.std.specs.Prelude.{take};
 ghost use Rattle.p3_support.specs.Lists.{lane_of, message as message_of};
 ghost use Rattle.p3_hashes.specs.Inner.Eights.{lanes_of};
-ghost use Rattle.p3_hashes.specs.Inner.Turned.{turned};
+ghost use Rattle.p3_hashes.specs.Inner.Transposed.{transposed};
 ghost use Rattle.sha256_eights.specs.Inner.Written.{AreWritten};
 ghost use Rattle.p3_hashes.specs.Fold.{fold_hash, fold_compress};
 
@@ -84,7 +84,7 @@ fn columns_of_four(messages: &[u32], width: usize, first: usize, column: usize) 
     requires inside { column + 4 ≤ width }
     ensures columns { let row =
         (λ (k : ℕ). slice_range (message_of width messages.now (first + k)) column (column + 4)) in
-        result ≡ turned (row 0) (row 1) (row 2) (row 3) }
+        result ≡ transposed (row 0) (row 1) (row 2) (row 3) }
     ensures long { (k : ℕ) → k < 4 →
         length (slice_range (message_of width messages.now (first + k)) column (column + 4)) ≡ 4 }
 {

@@ -2,7 +2,7 @@
 ghost use Rattle.std.specs.Prelude.{◌≡◌, ℕ, ◌<◌, ◌∷◌, [], length, slice_index_or, refl};
 ghost use Rattle.std.specs.Cmp.{unsigned_Decides};
 ghost use Rattle.p3_hashes.specs.Fold.{take_in};
-ghost use Rattle.p3_hashes.specs.Inner.Turned.{turned};
+ghost use Rattle.p3_hashes.specs.Inner.Transposed.{transposed};
 
 use crate::fold::FoldPacked;
 use p3_support::packed::PackedValue;
@@ -156,7 +156,7 @@ pub(crate) fn transpose(first: &[u32], second: &[u32], third: &[u32], fourth: &[
     requires second { length second.now ≡ 4 }
     requires third { length third.now ≡ 4 }
     requires fourth { length fourth.now ≡ 4 }
-    ensures { result ≡ turned first.now second.now third.now fourth.now }
+    ensures { result ≡ transposed first.now second.now third.now fourth.now }
 {
     let (front_odd, back_odd) = u32x4::from_slice(first).interleave(u32x4::from_slice(third));
     let (front_even, back_even) = u32x4::from_slice(second).interleave(u32x4::from_slice(fourth));

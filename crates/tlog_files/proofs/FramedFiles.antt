@@ -27,7 +27,8 @@ Splits framing file = (ended : List (List ℕ)) × (open_bytes : List ℕ) × Is
 
 module _ (framing : Framing) (front : List ℕ) (ended : List (List ℕ)) (open_bytes : List ℕ)
     (s : IsSplit framing front ended open_bytes) where
-  ends : (more : List ℕ) → IsFraming framing → IsWhole framing (open_bytes ++ more) → Splits framing (front ++ (more ++ ending framing))
+  ends : (more : List ℕ) → IsFraming framing → IsWhole framing (open_bytes ++ more) →
+      Splits framing (front ++ (more ++ ending framing))
   ends more is whole = (
     ended ++ (open_bytes ++ more) ∷ [],
     [],
@@ -67,14 +68,16 @@ next (InBlocks size) front b ended open_bytes is s =
       | inr full ↦ ends framing front ended open_bytes s (b ∷ []) is (omega (arith, len, full, s.at.opens))
     ]
 
-walk : (framing : Framing) (front rest : List ℕ) → IsFraming framing → Splits framing front → Splits framing (front ++ rest)
+walk : (framing : Framing) (front rest : List ℕ) → IsFraming framing → Splits framing front →
+    Splits framing (front ++ rest)
 walk framing front [] is s = subst (Splits framing) (sym (append-nil front)) s
 walk framing front (b ∷ rest) is s =
     subst (Splits framing) (append_assoc front (b ∷ []) rest)
     (walk framing (front ++ b ∷ []) rest is (next framing front b s.0 s.1 is s.2))
 
 splits : (framing : Framing) (file : List ℕ) → IsFraming framing → Splits framing file
-splits framing file is = walk framing [] file is ([], [], record { at = cut_none framing is; whole = All-nil (IsWhole framing) })
+splits framing file is =
+    walk framing [] file is ([], [], record { at = cut_none framing is; whole = All-nil (IsWhole framing) })
 
 -- ---- files that grow
 
@@ -84,7 +87,8 @@ module _ (framing : Framing) (is : IsFraming framing) where
 
   pub no_entries : entries_in framing [] ≡ []
   no_entries =
-      (λ i. no_entry framing [] (none_open framing is) i ++ last_entry (partial_of framing) (no_rest i)) ∙ no_last (partial_of framing)
+      (λ i. no_entry framing [] (none_open framing is) i ++ last_entry (partial_of framing) (no_rest i))
+      ∙ no_last (partial_of framing)
 
   module _ (file more : List ℕ) (end : rest_of framing file ≡ []) where
     none : (splits framing file is).1 ≡ []

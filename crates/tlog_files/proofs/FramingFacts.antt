@@ -2,10 +2,10 @@
 use Rattle.std.proofs.Common.{◌≡◌, ℕ, zero, suc, ◌+◌, ◌*◌, ◌/◌, ◌<◌, ◌==◌, List, [], ◌∷◌, ◌++◌, length, map, take, drop}
 use Rattle.std.proofs.Common.{refl, sym, ap, ◌∙◌, arith, length-append, Bor, All, append_assoc, append-nil}
 use Rattle.std.proofs.lemmas.List.Elements.{All-append, All-cons, All-head, All-nil, All-tail}
-use Rattle.std.proofs.Math.Nat.{add-div_left, add-mul, zero-mul}
+use Rattle.std.proofs.Math.Nat.{add-div_left, add-mul, div-eq_of_lt, zero-mul}
 use Rattle.std.proofs.Math.Seq.{take-append_seam, drop-append-add}
 use Rattle.std.proofs.lemmas.List.Splits.{length-slice_split, slice_split_at, slice_split_none}
-use Rattle.std.proofs.lemmas.Nat.{div-mul-add}
+use Rattle.std.proofs.lemmas.Grind.{flat_map-append}
 use Rattle.std.specs.List.{range_with_len}
 use Rattle.tlog_files.specs.Entries.{all_but_last, block_of, last_entry, last_of, pieces_of, rest_of, whole_entries}
 use Rattle.tlog_files.specs.Inner.Splitting.{ending, IsOpen, IsWhole, LacksFeed, joined, AreAtHead, IsCutAt}
@@ -80,10 +80,6 @@ rest_after_block size block rest some long =
     ∙ ap (λ n. drop n (block ++ rest)) steps
     ∙ drop-append-add block rest (q * size)
 
-no_block : (size : ℕ) (bytes : List ℕ) → length bytes < size → length bytes / size ≡ 0
-no_block size bytes short =
-    ap (λ n. n / size) (omega arith) ∙ div-mul-add 0 size (length bytes) short
-
 -- ---- both
 
 -- no entry ends with an empty rest
@@ -112,12 +108,12 @@ rest_after_entry (Blocks size) entry rest is whole = rest_after_block size entry
 pub no_entry : (framing : Framing) (bytes : List ℕ) → IsOpen framing bytes → whole_entries framing bytes ≡ []
 no_entry (Lines partial) bytes opens = ap all_but_last (slice_split_none (λ b. b == 10) bytes opens)
 no_entry (Blocks size) bytes opens =
-    ap (λ n. map (block_of size bytes) (range_with_len 0 n)) (no_block size bytes opens)
+    ap (λ n. map (block_of size bytes) (range_with_len 0 n)) (div-eq_of_lt opens)
 
 pub all_rest : (framing : Framing) (bytes : List ℕ) → IsOpen framing bytes → rest_of framing bytes ≡ bytes
 all_rest (Lines partial) bytes opens = ap last_of (slice_split_none (λ b. b == 10) bytes opens)
 all_rest (Blocks size) bytes opens =
-    ap (λ n. drop (n * size) bytes) (no_block size bytes opens) ∙ ap (λ n. drop n bytes) (zero-mul size)
+    ap (λ n. drop (n * size) bytes) (div-eq_of_lt opens) ∙ ap (λ n. drop n bytes) (zero-mul size)
 
 -- at the start
 pub cut_none : (framing : Framing) → IsFraming framing → IsCutAt framing [] [] []
@@ -135,7 +131,8 @@ cut_more framing front more ended open_bytes at opens =
     }
 
 -- the open entry ends
-pub cut_end : (framing : Framing) (front more : List ℕ) (ended : List (List ℕ)) (open_bytes : List ℕ) → IsFraming framing →
+pub cut_end : (framing : Framing) (front more : List ℕ) (ended : List (List ℕ)) (open_bytes : List ℕ) →
+    IsFraming framing →
     IsCutAt framing front ended open_bytes → IsWhole framing (open_bytes ++ more) →
     IsCutAt framing (front ++ (more ++ ending framing)) (ended ++ (open_bytes ++ more) ∷ []) []
 cut_end framing front more ended open_bytes is at whole =
@@ -161,7 +158,8 @@ cut_whole framing front ended [] is at whole =
     rw (append-nil front, append-nil ended) (at)
 cut_whole framing front ended (entry ∷ entries) is at whole =
     let first = cut_end framing front entry ended [] is at (All-head (IsWhole framing) entry entries whole) in
-    simp append_assoc at (cut_whole framing (front ++ (entry ++ ending framing)) (ended ++ entry ∷ []) entries is first
+    rw (append_assoc front (entry ++ ending framing) (joined framing entries), append_assoc ended (entry ∷ []) entries)
+    at (cut_whole framing (front ++ (entry ++ ending framing)) (ended ++ entry ∷ []) entries is first
     (All-tail (IsWhole framing) entry entries whole))
 
 -- after an entry's end fewer bytes are left
@@ -174,10 +172,6 @@ fewer_left (Blocks size) open_bytes more rest left opens whole parts =
 
 -- ---- whole entries at the head of bytes
 
-joined_append : (framing : Framing) (xs ys : List (List ℕ)) → joined framing (xs ++ ys) ≡ joined framing xs ++ joined framing ys
-joined_append framing [] ys = refl
-joined_append framing (x ∷ xs) ys = rw (joined_append framing xs ys) (sym (simp append_assoc))
-
 -- one more
 pub more_at_head : (framing : Framing) (bytes left rest entry : List ℕ) (entries : List (List ℕ)) →
     AreAtHead framing bytes left entries → left ≡ entry ++ (ending framing ++ rest) → IsWhole framing entry →
@@ -185,7 +179,9 @@ pub more_at_head : (framing : Framing) (bytes left rest entry : List ℕ) (entri
 more_at_head framing bytes left rest entry entries at_head parts whole =
     record {
       parts = at_head.parts ∙ ap (λ xs. joined framing entries ++ xs) parts
-          ∙ sym (rw (joined_append framing entries (entry ∷ [])) (simp (append_assoc, append-nil)));
+          ∙ sym (
+          rw (flat_map-append (λ e. e ++ ending framing) entries (entry ∷ [])) (simp (append_assoc, append-nil))
+          );
       whole = All-append (IsWhole framing) entries (entry ∷ []) at_head.whole
           (All-cons (IsWhole framing) entry [] whole (All-nil (IsWhole framing)));
     }
@@ -202,7 +198,8 @@ module _ (framing : Framing) (file : List ℕ) (ended : List (List ℕ)) (open_b
   whole_is : whole_entries framing file ≡ ended
   whole_is =
       ap (whole_entries framing) (sym (append-nil file)) ∙ at.whole []
-      ∙ ap (λ xs. ended ++ xs) (ap (whole_entries framing) (append-nil open_bytes) ∙ no_entry framing open_bytes at.opens)
+      ∙ ap (λ xs. ended ++ whole_entries framing xs) (append-nil open_bytes)
+      ∙ ap (λ xs. ended ++ xs) (no_entry framing open_bytes at.opens)
       ∙ append-nil ended
 
   pub entries_are : entries_in framing file ≡ ended ++ last_entry (partial_of framing) open_bytes

@@ -12,7 +12,8 @@ use Rattle.tlog.specs.Verdicts.{size_limit}
 use Rattle.tlog_tree.specs.Builders.{IsBuilderOf}
 use Rattle.tlog_tree.specs.declared.builder.TreeBuilder.{TreeBuilder}
 use Rattle.tlog_tree.specs.declared.node_id.NodeId.{NodeId}
-use Rattle.tlog_files.specs.Entries.{entries_in, is_refused, read_refusal, wanted_of, first_entries, is_short, partial_of}
+use Rattle.tlog_files.specs.Entries.{entries_in, is_refused, read_refusal, wanted_of, first_entries, is_short}
+use Rattle.tlog_files.specs.Entries.{partial_of}
 use Rattle.tlog_files.specs.Inner.Splitting.{AreAll, AreTooMany, HasBuilt, HasGrown, ReadsTooMany}
 use Rattle.tlog_files.specs.Entries.{refuses, rest_of, HoldsOfFile}
 use Rattle.tlog_files.specs.Inner.Wanted.{HoldsWanted}
@@ -56,7 +57,8 @@ grown_on nodes wanted s t tree grown bytes more room g step =
       all_read = step.all_read;
     }
 
-pub log_of : (log : ReadLog) (framing : Framing) (limit : ℕ) (nodes : List NodeId) (wanted bytes : List ℕ) (w : WantedEntries)
+pub log_of : (log : ReadLog) (framing : Framing) (limit : ℕ) (nodes : List NodeId) (wanted bytes : List ℕ)
+    (w : WantedEntries)
     (ended hashes : List (List ℕ)) → AreAll wanted w framing limit ended bytes hashes →
     IsBuilderOf (leaves ended ++ hashes) nodes log.tree →
     ((all : List (List ℕ)) (open_bytes : List ℕ) → HoldsWanted w wanted all open_bytes →
@@ -151,9 +153,11 @@ only e Many is (inl none) = absurd (cc)
 only e Many is (inr far) = far.1
 
 -- as a file is read
-pub refused_reading : (e : ReadError) (framing : Framing) (limit : ℕ) (before after : Option (List ℕ)) (front more : List ℕ) →
+pub refused_reading : (e : ReadError) (framing : Framing) (limit : ℕ) (before after : Option (List ℕ))
+    (front more : List ℕ) →
     Consumes before after (front ++ more) →
-    ((rest : List ℕ) → (e ≡ OutOfMemory) ⊎ ((e ≡ TooManyEntries) × AreTooMany framing limit (front ++ (more ++ rest)))) →
+    ((rest : List ℕ) →
+    (e ≡ OutOfMemory) ⊎ ((e ≡ TooManyEntries) × AreTooMany framing limit (front ++ (more ++ rest)))) →
     (e ≡ OutOfMemory) ⊎ ((e ≡ FailedRead) ⊎ ((e ≡ TooManyEntries) × ReadsTooMany framing limit before after))
 refused_reading e framing limit before after front more consumed each =
     elim (each []) [
@@ -196,7 +200,8 @@ same_read None n entries is few =
       sym (lt-ltb (length entries) n (omega (arith, few, count, is))),
     )
 
-pub log_with : (log : ReadLog) (framing : Framing) (limit : Option ℕ) (n : ℕ) (nodes : List NodeId) (wanted bytes : List ℕ) →
+pub log_with : (log : ReadLog) (framing : Framing) (limit : Option ℕ) (n : ℕ) (nodes : List NodeId)
+    (wanted bytes : List ℕ) →
     n ≡ unwrap_or limit (2 ^ 64 - 1) → IsLogOf log framing (Some n) nodes wanted bytes →
     IsLogOf log framing limit nodes wanted bytes
 log_with log framing limit n nodes wanted bytes is log_is =

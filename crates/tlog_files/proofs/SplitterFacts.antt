@@ -46,15 +46,16 @@ pub fewer_after_whole : (framing : Framing) (bytes rest : List ℕ) (entries : L
     AreAtHead framing bytes rest entries → 0 < length entries → length rest < length bytes
 fewer_after_whole framing bytes rest [] is head some = absurd (omega (arith, some))
 fewer_after_whole framing bytes rest (entry ∷ entries) is head some =
-    let parts = head.parts ∙ append_assoc entry (ending framing ++ joined framing entries) rest
-    ∙ ap (λ xs. entry ++ xs) (append_assoc (ending framing) (joined framing entries) rest) in
+    let parts = head.parts ∙ append_assoc (entry ++ ending framing) (joined framing entries) rest
+    ∙ append_assoc entry (ending framing) (joined framing entries ++ rest) in
     let fewer = fewer_left framing [] entry (joined framing entries ++ rest) bytes (none_open framing is)
     (All-head (IsWhole framing) entry entries head.whole) parts in
     omega (arith, fewer, length-append (joined framing entries) rest)
 
 -- the open entry, to its end
 pub open_ended : (wanted : List ℕ) (s t : Splitter) (front bytes more rest : List ℕ) (ended : List (List ℕ)) →
-    IsFraming s.framing → t.framing ≡ s.framing → (b : IsAt wanted s front ended) → bytes ≡ more ++ (ending s.framing ++ rest) →
+    IsFraming s.framing → t.framing ≡ s.framing → (b : IsAt wanted s front ended) →
+    bytes ≡ more ++ (ending s.framing ++ rest) →
     IsWhole s.framing (b.open_bytes ++ more) → Holds wanted t (ended ++ (b.open_bytes ++ more) ∷ []) [] →
     HasRead wanted t front ended bytes rest (leaf_hash sha256 (b.open_bytes ++ more) ∷ [])
 open_ended wanted s t front bytes more rest ended is same b parts whole holds =
@@ -113,7 +114,8 @@ module _ (wanted : List ℕ) (s : Splitter) (front rest : List ℕ) (ended : Lis
   abbrev AllOf : WantedEntries → List (List ℕ) → Type 0
   AllOf w hashes = AreAll wanted w s.framing s.limit ended (front ++ rest) hashes
 
-  split : entries ≡ ended ++ (whole_entries s.framing (at.open_bytes ++ rest) ++ last (rest_of s.framing (front ++ rest)))
+  split : entries
+      ≡ ended ++ (whole_entries s.framing (at.open_bytes ++ rest) ++ last (rest_of s.framing (front ++ rest)))
   split =
       let end = last (rest_of s.framing (front ++ rest)) in
       ap (λ xs. xs ++ end) (at.at.whole rest) ∙ append_assoc ended (whole_entries s.framing (at.open_bytes ++ rest)) end
@@ -124,7 +126,8 @@ module _ (wanted : List ℕ) (s : Splitter) (front rest : List ℕ) (ended : Lis
       omega (arith, many, at.holds.within, ap length split, length-append {A = List ℕ}, length-take s.limit entries)
 
   -- without a last entry
-  no_more : take s.limit entries ≡ ended → is_refused s.framing (Some s.limit) (front ++ rest) ≡ false → AllOf s.wanted []
+  no_more : take s.limit entries ≡ ended → is_refused s.framing (Some s.limit) (front ++ rest) ≡ false →
+      AllOf s.wanted []
   no_more all not_refused =
       record {
         more = [];
@@ -153,7 +156,8 @@ module _ (wanted : List ℕ) (s : Splitter) (front rest : List ℕ) (ended : Lis
   rest_at_end none = ap (rest_of s.framing) (whole_file none) ∙ rest_is s.framing front ended at.open_bytes at.at
 
   entries_at_end : rest ≡ [] → entries ≡ ended ++ last at.open_bytes
-  entries_at_end none = ap (entries_in s.framing) (whole_file none) ∙ entries_are s.framing front ended at.open_bytes at.at
+  entries_at_end none =
+      ap (entries_in s.framing) (whole_file none) ∙ entries_are s.framing front ended at.open_bytes at.at
 
   all_ended : rest ≡ [] → last at.open_bytes ≡ [] → entries ≡ ended
   all_ended none closed = entries_at_end none ∙ ap (λ xs. ended ++ xs) closed ∙ append-nil ended
@@ -191,7 +195,8 @@ module _ (wanted : List ℕ) (s : Splitter) (front rest : List ℕ) (ended : Lis
       }
 
   -- what is open is refused
-  pub refused_when_open : rest ≡ [] → partial_of s.framing ≡ Refuse → s.count < s.limit → (length at.open_bytes ≡ 0 → ⊥) →
+  pub refused_when_open : rest ≡ [] → partial_of s.framing ≡ Refuse → s.count < s.limit →
+      (length at.open_bytes ≡ 0 → ⊥) →
       (is_refused s.framing (Some s.limit) (front ++ rest) ≡ true) × (take s.limit entries ≡ ended)
   refused_when_open none is room some =
       let all = all_ended none (ap (λ p. last_entry p at.open_bytes) is) in (

@@ -83,7 +83,8 @@ refuses Include = false
 -- whether a reader refuses a file: it comes to the end, inside a line, and refuses partial lines
 abbrev pub is_refused : Framing → Option ℕ → List ℕ → Bool
 is_refused framing limit bytes =
-    refuses (partial_of framing) && (not (length (rest_of framing bytes) == 0) && is_short limit (entries_in framing bytes))
+    refuses (partial_of framing)
+    && (not (length (rest_of framing bytes) == 0) && is_short limit (entries_in framing bytes))
 
 -- why the first entries of a file are not read: there are more than a log may have, or the file is refused
 abbrev pub read_refusal : Framing → Option ℕ → List ℕ → Option ReadError

@@ -13,4 +13,5 @@ pub record IsLogOf (log : ReadLog) (framing : Framing) (limit : Option ℕ) (nod
     : Type 0 where
   pub not_refused : is_refused framing limit bytes ≡ false
   pub tree : IsBuilderOf (map (leaf_hash sha256) (first_entries limit (entries_in framing bytes))) nodes log.tree
-  pub entries : map (λ entry. entry.items) log.entries.items ≡ wanted_of (first_entries limit (entries_in framing bytes)) wanted
+  pub entries : map (λ entry. entry.items) log.entries.items
+      ≡ wanted_of (first_entries limit (entries_in framing bytes)) wanted

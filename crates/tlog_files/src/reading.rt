@@ -9,7 +9,8 @@ ghost use Rattle.tlog_tree.specs.declared.node_id.NodeId.{NodeId};
 ghost use Rattle.tlog_files.specs.Entries.{read_refusal, HoldsOfFile, IsFraming};
 ghost use Rattle.tlog_files.specs.Logs.{IsLogOf};
 ghost use Rattle.tlog_files.specs.Inner.Splitting.{AreTooMany, HasBuilt, HasGrown, IsReady, ReadsTooMany};
-ghost use Rattle.tlog_files.specs.declared.error.ReadError.TheVariants.{OutOfMemory, Read as FailedRead, TooManyEntries};
+ghost use Rattle.tlog_files.specs.declared.error.ReadError.TheVariants.{OutOfMemory, Read as FailedRead};
+ghost use Rattle.tlog_files.specs.declared.error.ReadError.TheVariants.{TooManyEntries};
 
 use crate::error::ReadError;
 use crate::framing::Framing;
@@ -80,7 +81,8 @@ fn read_through<R: Read>(
 ) -> Result<TreeBuilder, ReadError>
     requires { IsReady splitter.old }
     ensures ready { OnOk result (IsReady splitter.new) }
-    ensures unchanged { OnOk result ((splitter.new.framing ≡ splitter.old.framing) × (splitter.new.limit ≡ splitter.old.limit)) }
+    ensures unchanged { OnOk result ((splitter.new.framing ≡ splitter.old.framing)
+        × (splitter.new.limit ≡ splitter.old.limit)) }
     ensures built { (nodes : List NodeId) (wanted : List ℕ) → HasBuilt nodes wanted splitter.old tree [] →
         IfOk result (λ read. (bytes : List ℕ) × Consumes (R.remaining file.old) (R.remaining file.new) bytes
         × HasGrown nodes wanted splitter.new read [] bytes
@@ -117,7 +119,8 @@ fn push(
 ) -> Result<TreeBuilder, ReadError>
     requires { IsReady splitter.old }
     ensures ready { OnOk result (IsReady splitter.new) }
-    ensures unchanged { OnOk result ((splitter.new.framing ≡ splitter.old.framing) × (splitter.new.limit ≡ splitter.old.limit)) }
+    ensures unchanged { OnOk result ((splitter.new.framing ≡ splitter.old.framing)
+        × (splitter.new.limit ≡ splitter.old.limit)) }
     ensures built { (nodes : List NodeId) (wanted front : List ℕ) → HasBuilt nodes wanted splitter.old tree front →
         IfOk result (λ grown. HasGrown nodes wanted splitter.new grown front bytes.now) }
     ensures refused { (nodes : List NodeId) (wanted front rest : List ℕ) →

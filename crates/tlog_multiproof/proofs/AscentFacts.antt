@@ -1,7 +1,8 @@
 -- How far a walk over ascending entries has come: how many digests it has used, and which entries it has passed.
 use Rattle.std.proofs.Common.{◌≡◌, ℕ, zero, suc, ◌+◌, ◌-◌, ◌*◌, ◌/◌, ◌^◌, ◌<◌, ◌≤◌, Bool, true, false, not, ◌&&◌}
 use Rattle.std.proofs.Common.{List, [], ◌∷◌, ◌++◌, map, filter, refl, ap, sym, ◌∙◌, arith, add-one, inl, inr, length}
-use Rattle.std.proofs.Common.{length-append, All, nat_lt, pow_pos, pow-add, mul-le-mul_left, mul-le-mul_right, Option, Some, None}
+use Rattle.std.proofs.Common.{length-append, All, nat_lt, pow_pos, pow-add, mul-le-mul_left, mul-le-mul_right, Option}
+use Rattle.std.proofs.Common.{Some, None}
 use Rattle.std.proofs.lemmas.Bool.{and_left, and_parts, and_right, cases_Bool, cases_eq, cases_lt}
 use Rattle.std.proofs.lemmas.Bool.{false_from_ne_true, ltb-true, true≢false}
 use Rattle.std.proofs.lemmas.List.Elements.{filter-append}
@@ -159,7 +160,8 @@ module _ (size : ℕ) (indices : List ℕ) where
       let same : j * 2 ^ (l - m) * 2 ^ m ≡ j * 2 ^ l =
       mul_assoc j (2 ^ (l - m)) (2 ^ m) ∙ ap (λ p. j * p) (power_split l m low) in
       and_right (is_boundary s indices m x) (is_node size (m, x))
-      (false_from_ne_true (nat_lt (x * 2 ^ m) size) (λ t. let less = ltb-true (x * 2 ^ m) size t in absurd (omega arith)))
+      (false_from_ne_true (nat_lt (x * 2 ^ m) size)
+      (λ t. let less = ltb-true (x * 2 ^ m) size t in absurd (omega arith)))
 
   -- ---- layer by layer
 

@@ -16,7 +16,8 @@ use Rattle.tlog_multiproof.proofs.AscentFacts.{quotient}
 use Rattle.tlog_multiproof.proofs.Shapes.{ancestor_of_two, double_slot, root_covers, step_of_two}
 
 -- past all entries of one index
-pub stands_past : (indices : List ℕ) (index first k : ℕ) → IsAscending indices → StandsAt indices index first → first ≤ k →
+pub stands_past : (indices : List ℕ) (index first k : ℕ) → IsAscending indices → StandsAt indices index first →
+    first ≤ k →
     k ≤ length indices → ((i : ℕ) → first ≤ i → i < k → get_or indices i 0 ≡ index) →
     (k < length indices → get_or indices k 0 ≢ index) → StandsAt indices (index + 1) k
 stands_past indices index first k up w le inside same other = record {

@@ -1,7 +1,8 @@
 -- The values that a walk over ascending entries computes are those that the opening of the entries restores.
 use Rattle.std.proofs.Common.{◌≡◌, ◌≢◌, ℕ, zero, suc, ◌+◌, ◌-◌, ◌*◌, ◌/◌, ◌^◌, ◌<◌, ◌≤◌, Bool, true, false}
 use Rattle.std.proofs.Common.{◌==◌, ◌&&◌, List, [], ◌∷◌, ◌++◌, map, filter, zip, refl, ap, sym, ◌∙◌, arith, inl, inr}
-use Rattle.std.proofs.Common.{length, length-append, length-drop, get_or, get_or-drop, take, drop, All, eqb, eq-eqb, ne_eqb, append_assoc}
+use Rattle.std.proofs.Common.{length, length-append, length-drop, get_or, get_or-drop, take, drop, All, eqb, eq-eqb}
+use Rattle.std.proofs.Common.{ne_eqb, append_assoc}
 use Rattle.std.proofs.lemmas.Bool.{and_from, and_parts, and_right, cases_Bool, cases_lt, cond-false, cond-true}
 use Rattle.std.proofs.lemmas.Bool.{true≢false}
 use Rattle.std.proofs.lemmas.Grind.{flat_map-append}
@@ -11,7 +12,8 @@ use Rattle.std.specs.List.{flat_map, range_with_len}
 use Rattle.p3_merkle_core.specs.Checks.{Params, layer_words}
 use Rattle.p3_merkle_core.specs.Geometry.{Shape, ancestor, layer_len, levels}
 use Rattle.p3_merkle_core.specs.Nodes.{compress_padded, with_rows}
-use Rattle.p3_merkle_core.specs.Pruning.{PrunedOpening, boundary, boundary_at, first_rows, is_boundary, is_covered, is_in}
+use Rattle.p3_merkle_core.specs.Pruning.{PrunedOpening, boundary, boundary_at, first_rows, is_boundary, is_covered}
+use Rattle.p3_merkle_core.specs.Pruning.{is_in}
 use Rattle.p3_merkle_core.specs.Pruning.{restored_node, sent_digest, value_at, value_of}
 use Rattle.p3_merkle_core.proofs.Checks.OneHeightFacts.{leaf_words}
 use Rattle.p3_merkle_core.proofs.Checks.PathFacts.{group_values}
@@ -30,7 +32,8 @@ use Rattle.tlog_multiproof.proofs.NodeSlots.{as_many}
 use Rattle.tlog_multiproof.proofs.AscentFacts.{boundary_fits, kept_both, sent_is}
 use Rattle.tlog_multiproof.proofs.PaddingFacts.{padded_filled}
 use Rattle.tlog_multiproof.proofs.Restored.{child_filled}
-use Rattle.tlog_multiproof.proofs.Shapes.{ancestor_of_two, covered_inside, one_column, one_taken, step_of_two, two_is_arity}
+use Rattle.tlog_multiproof.proofs.Shapes.{ancestor_of_two, covered_inside, one_column, one_taken, step_of_two}
+use Rattle.tlog_multiproof.proofs.Shapes.{two_is_arity}
 
 -- ---- what is found
 
@@ -239,12 +242,12 @@ module _ (hash : HashFunction) (size : ℕ) (indices : List ℕ) (leaves proof :
         ∙ ap length (filter-append node before rest)
         ∙ length-append (filter node before) (filter node rest) in
         let more : length (filter node before) < length proof = omega arith in
+        let is_place : ℕ × ℕ → Bool = λ x. eqb x.0 l && eqb x.1 j in
         let missing = in_neither l j (boundary s indices l) here (none_below s indices l j l (omega arith))
         (none_here b l 0 j j (omega arith)) in (
           omega arith,
           value_sent l j uncovered
-              ∙ ap (λ xs. value_at (λ (x : ℕ × ℕ). eqb x.0 l && eqb x.1 j) (zip xs (with_padding size xs proof)) (Absent ∷ []))
-              whole
+              ∙ ap (λ xs. value_at is_place (zip xs (with_padding size xs proof)) (Absent ∷ [])) whole
               ∙ sent_at size l j before (after ++ above) proof (Absent ∷ []) missing both.1 more
               ∙ ap (λ k. Hash (get_or proof k []) ∷ []) place,
         )

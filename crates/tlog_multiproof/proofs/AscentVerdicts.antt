@@ -1,5 +1,6 @@
 -- What a walk over ascending entries ends in is the verdict on them.
-use Rattle.std.proofs.Common.{◌≡◌, ◌≢◌, ℕ, zero, suc, ◌+◌, ◌-◌, ◌*◌, ◌^◌, ◌<◌, ◌≤◌, true, false, List, [], ◌∷◌, length, zip}
+use Rattle.std.proofs.Common.{◌≡◌, ◌≢◌, ℕ, zero, suc, ◌+◌, ◌-◌, ◌*◌, ◌^◌, ◌<◌, ◌≤◌, true, false, List, [], ◌∷◌, length}
+use Rattle.std.proofs.Common.{zip}
 use Rattle.std.proofs.Common.{refl, ap, sym, ◌∙◌, arith, inl, inr, get_or, All, Option, Some, None, nat_le, nat_lt}
 use Rattle.std.proofs.Common.{mul-le-mul_right}
 use Rattle.std.proofs.lemmas.Bool.{cases_lt, eq-eqb, false_from_ne_true, le-leb, leb-true, lt-ltb, ltb-true}
@@ -95,7 +96,8 @@ module _ (size : ℕ) (indices : List ℕ) (leaves digests : ℕ) where
     no_indices none =
         let yes = le-leb size size_limit small in
         let no : nat_lt 0 (length indices) ≡ false =
-        false_from_ne_true (nat_lt 0 (length indices)) (λ t. let less = ltb-true 0 (length indices) t in absurd (omega arith)) in
+        false_from_ne_true (nat_lt 0 (length indices))
+        (λ t. let less = ltb-true 0 (length indices) t in absurd (omega arith)) in
         rw (yes, no) refl
 
     module _ (some : 0 < length indices) (paired : leaves ≡ length indices) where
@@ -118,7 +120,8 @@ module _ (size : ℕ) (indices : List ℕ) (leaves digests : ℕ) where
             let low = lt-ltb (greatest indices) size (highest_below size indices some within) in
             let expected = length (proof_nodes size indices) in
             let no : nat_le expected digests ≡ false =
-            false_from_ne_true (nat_le expected digests) (λ t. let le = leb-true expected digests t in absurd (omega arith)) in
+            false_from_ne_true (nat_le expected digests)
+            (λ t. let le = leb-true expected digests t in absurd (omega arith)) in
             rw (yes, any, each, low, no) refl
 
         pub too_many : length (proof_nodes size indices) < digests → refused TooManyDigests
@@ -130,7 +133,8 @@ module _ (size : ℕ) (indices : List ℕ) (leaves digests : ℕ) where
             let expected = length (proof_nodes size indices) in
             let enough = le-leb expected digests (omega arith) in
             let no : nat_le digests expected ≡ false =
-            false_from_ne_true (nat_le digests expected) (λ t. let le = leb-true digests expected t in absurd (omega arith)) in
+            false_from_ne_true (nat_le digests expected)
+            (λ t. let le = leb-true digests expected t in absurd (omega arith)) in
             rw (yes, any, each, low, enough, no) refl
 
 -- a form that is right
@@ -193,13 +197,15 @@ module _ (hash : HashFunction) (size : ℕ) (indices : List ℕ) (leaves proof :
               w.rows_fit w.agreed).0 capped;
         })
 
-    pub included_root : AreIncluded hash size indices leaves proof root → restored_node c p (levels s) 0 ≡ Hash root ∷ []
+    pub included_root : AreIncluded hash size indices leaves proof root →
+        restored_node c p (levels s) 0 ≡ Hash root ∷ []
     included_root is =
         let w = each_accepted hash size indices leaves proof root form is in
         let r = w.restorable in
         let capped = (equivalent (log_functions hash) s (levels s) (root_cap root) p two_is_arity r.lawful r.below
         r.rows_fit r.agreed).1 w.each_accepted 0 (root_covered size indices form.some within) in
-        let both : ◌≡◌ {A = Option (List Node)} (Some (Hash root ∷ [])) (Some (restored_node c p (levels s) 0)) = capped in
+        let both : ◌≡◌ {A = Option (List Node)} (Some (Hash root ∷ [])) (Some (restored_node c p (levels s) 0))
+        = capped in
         cc
 
     pub two_leaves : is_one_leaf_each (zip indices leaves) ≡ false → refusal ≡ Some TwoLeafHashes

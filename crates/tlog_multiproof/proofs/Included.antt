@@ -11,7 +11,8 @@ use Rattle.p3_merkle_core.proofs.Checks.CheckFacts.{accepted_by_walk, accepted_w
 use Rattle.tlog.specs.Rfc9162.{Hash as HashFunction, inclusion_walk}
 use Rattle.tlog.specs.Verdicts.{IsIncluded, size_limit}
 use Rattle.tlog_multiproof.specs.Nodes.{parent_digest}
-use Rattle.tlog_multiproof.specs.Instance.{IsPathFilled, leaf_row, log_functions, log_params, log_shape, present, root_cap}
+use Rattle.tlog_multiproof.specs.Instance.{IsPathFilled, leaf_row, log_functions, log_params, log_shape, present}
+use Rattle.tlog_multiproof.specs.Instance.{root_cap}
 use Rattle.tlog_multiproof.specs.declared.tree.Node.{Node}
 use Rattle.tlog_multiproof.specs.declared.tree.Node.TheVariants.{Hash}
 use Rattle.tlog_multiproof.proofs.Shapes.{ancestor_of_two, lawful, leaf_reached, more_below, next_reached, one_sibling}

@@ -1,6 +1,7 @@
 -- The verdict on entries hangs on no order of them.
 use Rattle.std.proofs.Common.{◌≡◌, ℕ, zero, suc, ◌+◌, ◌*◌, ◌/◌, ◌^◌, ◌<◌, ◌≤◌, Bool, true, List, [], ◌∷◌, ap, arith}
-use Rattle.std.proofs.Common.{refl, sym, ◌∙◌, inl, inr, length, map, get_or, zip, filter, eqb, eq-eqb, nat_lt, not, ◌&&◌, ◌==◌}
+use Rattle.std.proofs.Common.{refl, sym, ◌∙◌, inl, inr, length, map, get_or, zip, filter, eqb, eq-eqb, nat_lt, not}
+use Rattle.std.proofs.Common.{◌&&◌, ◌==◌}
 use Rattle.std.proofs.Common.{All, Option, Some, None}
 use Rattle.std.proofs.lemmas.Bool.{cases_Bool, eqb-true, lt-ltb, ltb-true, true≢false}
 use Rattle.std.proofs.lemmas.List.{get_or_default, get_or-map, length-map}
@@ -10,7 +11,8 @@ use Rattle.std.specs.List.{flat_map, range_with_len}
 use Rattle.std.specs.List.Sorted.{IsPermutation}
 use Rattle.p3_merkle_core.specs.Checks.{layer_words}
 use Rattle.p3_merkle_core.specs.Geometry.{Shape, ancestor, layer_len, levels, step}
-use Rattle.p3_merkle_core.specs.Pruning.{boundary, first_rows, is_covered, restored_node, sent_digest, value_at, value_of}
+use Rattle.p3_merkle_core.specs.Pruning.{boundary, first_rows, is_covered, restored_node, sent_digest, value_at}
+use Rattle.p3_merkle_core.specs.Pruning.{value_of}
 use Rattle.p3_merkle_core.proofs.Covered.Equivalence.{restored_leaf, rows_under_is}
 use Rattle.p3_merkle_core.proofs.Pruned.SlotFacts.{all_below}
 use Rattle.p3_merkle_core.proofs.Checks.OneHeightFacts.{leaf_words}
@@ -192,7 +194,8 @@ module _ (size : ℕ) (indices : List ℕ) (leaves : List (List ℕ)) (others : 
       | inl t ↦
           let o = sym (same_covered (suc l) j) ∙ t in
           parent_value hash size indices leaves proof below paired l j (omega arith) t
-          ∙ ap (λ (d : List Node). parent_digest hash (d ∷ (value l (2 * j + 1) ∷ []))) (value_same l (2 * j) (omega arith))
+          ∙ ap (λ (d : List Node). parent_digest hash (d ∷ (value l (2 * j + 1) ∷ [])))
+          (value_same l (2 * j) (omega arith))
           ∙ ap (λ (d : List Node). parent_digest hash (other_value l (2 * j) ∷ (d ∷ [])))
           (value_same l (2 * j + 1) (omega arith))
           ∙ sym (parent_value hash size others hashes proof other_below other_paired l j (omega arith) o)
@@ -205,7 +208,8 @@ module _ (size : ℕ) (indices : List ℕ) (leaves : List (List ℕ)) (others : 
         restored_node (log_params hash size) (entries_opening size indices leaves proof) (levels s) 0
         ≡ restored_node (log_params hash size) (entries_opening size others hashes proof) (levels s) 0
     root_same some =
-        sym (value_covered hash size indices leaves proof below paired (levels s) 0 (root_covered size indices some below))
+        sym (value_covered hash size indices leaves proof below paired (levels s) 0
+        (root_covered size indices some below))
         ∙ value_same (levels s) 0 (omega arith)
         ∙ value_covered hash size others hashes proof other_below other_paired (levels s) 0
         (root_covered size others (omega arith) other_below)

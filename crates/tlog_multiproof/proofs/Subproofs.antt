@@ -1,5 +1,6 @@
 -- SUBPROOF of entries is that of their leaf hashes.
-use Rattle.std.proofs.Common.{◌≡◌, ◌-◌, ◌==◌, ◌∙◌, ℕ, zero, suc, List, [], ◌∷◌, ◌++◌, drop, length, map, refl, sym, take}
+use Rattle.std.proofs.Common.{◌≡◌, ◌-◌, ◌==◌, ◌∙◌, ℕ, zero, suc, List, [], ◌∷◌, ◌++◌, drop, length, map, refl, sym}
+use Rattle.std.proofs.Common.{take}
 use Rattle.std.specs.Prelude.{Bool, true, false, nat_le}
 use Rattle.std.proofs.lemmas.List.{drop-map, length-map, take-map}
 use Rattle.tlog.specs.Rfc9162.{Hash, mth, split, subproof_within}

@@ -35,7 +35,8 @@ use Rattle.tlog_multiproof.specs.Inner.Meanings.{IsMeaning}
 use Rattle.tlog_multiproof.specs.declared.error.EntriesError.{EntriesError}
 use Rattle.tlog_multiproof.specs.declared.error.EntriesError.TheVariants.{TwoLeafHashes, RootMismatch}
 use Rattle.tlog_multiproof.specs.declared.tree.Node.{Node}
-use Rattle.tlog_multiproof.proofs.EntriesFacts.{HaveForm, HaveOneLeaf, accepted_from, form_to, one_leaf_from, Keeps, keeps}
+use Rattle.tlog_multiproof.proofs.EntriesFacts.{HaveForm, HaveOneLeaf, accepted_from, form_to, one_leaf_from, Keeps}
+use Rattle.tlog_multiproof.proofs.EntriesFacts.{keeps}
 use Rattle.tlog_multiproof.proofs.EntriesFacts.{one_leaf_to, paths_refusal, unrefused}
 use Rattle.tlog_multiproof.proofs.NodeSlots.{as_many}
 use Rattle.tlog_multiproof.proofs.PaddingFacts.{filled_length, padded_filled}

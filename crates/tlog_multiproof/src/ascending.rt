@@ -68,8 +68,8 @@ struct Cursor {
 }
 
 /// Checks entries as [`verify_entries`](crate::verify_entries) does, with the same errors in the same order, without
-/// memory of its own: `OutOfMemory` never comes, nor does `LeafCountMismatch`. A leaf hash is taken once, or up to three
-/// times where an index is there more than once.
+/// memory of its own: `OutOfMemory` never comes, nor does `LeafCountMismatch`. A leaf hash is taken once, or up to
+/// three times where an index is there more than once.
 ///
 /// # Errors
 ///
@@ -199,9 +199,9 @@ fn is_one_leaf_each<E: AscendingEntries>(entries: &E) -> bool
     true
 }
 
-/// The value of a node of layer `layer` that is above entries, or whose digest the proof has: the leaf hash of an entry,
-/// the hash of its children, or that digest. `Absent` without the digests: the walk then counts them. It goes from the
-/// first of the entries that are not passed, past all that are under the node.
+/// The value of a node of layer `layer` that is above entries, or whose digest the proof has: the leaf hash of an
+/// entry, the hash of its children, or that digest. `Absent` without the digests: the walk then counts them. It goes
+/// from the first of the entries that are not passed, past all that are under the node.
 fn walk<H: LogHash<32>, E: AscendingEntries>(
     size: usize,
     entries: &E,

@@ -16,8 +16,8 @@ use Rattle.std.specs.Str.{chars, is_utf8, IsUtf8}
 use lib.Utf8.{encode}
 use Rattle.tlog_text.specs.Lines.{byte_order_mark, is_origin, passing, after, base64, base64_bytes, cut_at, dash}
 use Rattle.tlog_text.specs.Lines.{digest_of, head_of, is_key_name, is_line, is_signature, is_signed, is_text}
-use Rattle.tlog_text.specs.Reading.{digest_by, line_by, line_that, log_origin_by}
-use Rattle.tlog_text.specs.declared.error.Expected.TheVariants.{Blank, Digest, DigestOrBlank, EntryHead, Extension}
+use Rattle.tlog_text.specs.Reading.{line_by, line_that, log_origin_by}
+use Rattle.tlog_text.specs.declared.error.Expected.TheVariants.{Blank, EntryHead, Extension}
 use Rattle.tlog_text.specs.declared.error.Expected.TheVariants.{Origin, PartOrigin, ProofVersion, Signature}
 use Rattle.tlog_text.specs.Texts.{digest_line, line, IsDigest}
 use Rattle.tlog_text.specs.declared.error.Expected.{Expected}
@@ -141,11 +141,10 @@ head_spelled =
 
 -- ---- digests
 
-pub digest_spelled : (blank_stops : Bool) → IsSpelled (digest_by blank_stops)
+pub digest_spelled : (expected : Expected) → IsSpelled (line_by expected digest_of)
     (λ digest rest. IsDigest digest) digest_line
-unfolding digest_by
-digest_spelled blank_stops =
-    line_spelled (if blank_stops then DigestOrBlank else Digest) digest_of IsDigest base64
+digest_spelled expected =
+    line_spelled expected digest_of IsDigest base64
     (λ digest is. plain_lacks (base64 digest) (base64_plain digest is.1)) digest_found
 
 -- ---- origins

@@ -13,7 +13,8 @@ use Rattle.base64.specs.Rfc4648.{padding_len, unpadded_len}
 use Rattle.tlog_text.specs.Reading.{at_end, at_text_end, extensions_by, line_that, signatures_by, after_origin, note_by}
 use Rattle.tlog_text.specs.Reading.{part_origin_by, then_read, Reads, checkpoint_in, error_of, log_origin_by}
 use Rattle.tlog_text.specs.Texts.{line, signature_lines, AreLines, checkpoint_text, digest_line, CheckpointFields}
-use Rattle.tlog_text.specs.declared.error.Expected.TheVariants.{Blank, Extension, Signature, PartOrigin, Size}
+use Rattle.tlog_text.specs.declared.error.Expected.TheVariants.{Blank, Digest, Extension, PartOrigin, Signature}
+use Rattle.tlog_text.specs.declared.error.Expected.TheVariants.{Size}
 use Rattle.tlog_text.specs.Lines.{is_origin, part_origin, base64, is_line}
 use Rattle.tlog_text.specs.Laws.{ThreeLinesAreSpelled, CheckpointsAreReadAgain, NotesAreSpelled, PartsAreSpelled}
 use Rattle.tlog_text.specs.Inner.Rests.{rest_of}
@@ -142,7 +143,8 @@ module _ (origin_by : List ℕ → Reads (List ℕ)) (Is : List ℕ → Type 0)
   note_read note =
       read_as (passes _ (nat_lt 1000000 (length note)) (Decides-ltb 1000000 (length note))
       (in_turn (origin_by note) after_origin (spelled note) (λ origin left.
-      in_turn _ _ (number_spelled Size [] refl left) (λ size left. in_turn _ _ (digest_spelled false left) (λ root left.
+      in_turn _ _ (number_spelled Size [] refl left) (λ size left.
+      in_turn _ _ (digest_spelled Digest left) (λ root left.
       in_turn _ _ (extensions_read left) (λ extensions left. in_turn _ _ (signatures_spelled left) (λ signatures left.
       ends (record { origin = origin; size = size; root = root }) left)))))))
       (λ c (short, (origin, l1, (own, t1), said)).

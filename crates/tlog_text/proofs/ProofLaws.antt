@@ -9,8 +9,10 @@ use Rattle.std.proofs.lemmas.Bool.Decides.{Decides-and, Decides-eqb, Decides-ltb
 use Rattle.std.proofs.lemmas.List.Elements.{All-head}
 use Rattle.base64.specs.Rfc4648.{padding_len, unpadded_len}
 use Rattle.tlog_text.specs.Texts.{IsEntry, digest_line, entries_text, entry_lines, line, EntryFields, IsDigest}
-use Rattle.tlog_text.specs.Reading.{bytes_by, digests_by, entries_by, entry_by, error_of, never, at_blank}
-use Rattle.tlog_text.specs.declared.error.Expected.TheVariants.{DigestCount, EntryCount, ProofVersion, Blank, OldSize}
+use Rattle.tlog_text.specs.Reading.{bytes_by, digests_by, digests_to_blank, entries_by, entry_by, error_of, never}
+use Rattle.tlog_text.specs.Reading.{at_blank}
+use Rattle.tlog_text.specs.declared.error.Expected.TheVariants.{Blank, Digest, DigestCount, DigestOrBlank}
+use Rattle.tlog_text.specs.declared.error.Expected.TheVariants.{EntryCount, OldSize, ProofVersion}
 use Rattle.tlog_text.specs.Laws.{EntriesProofsAreSpelled, ConsistencyProofsAreSpelled}
 use Rattle.tlog_text.specs.Lines.{base64}
 use Rattle.tlog_text.specs.Reading.{consistency_by}
@@ -75,7 +77,7 @@ entries_proofs text p =
     in_turn _ _ (number_spelled EntryCount (codes "entries ") refl left) (λ count left.
     in_turn _ _ (many_spelled never entry_by IsEntry entry_lines entry_spelled (λ e rest is. refl) count left)
     (λ entries left. in_turn _ _ (number_spelled DigestCount (codes "digests ") refl left) (λ digest_count left.
-    in_turn _ _ (many_spelled _ _ IsDigest digest_line (digest_spelled false) (λ d rest is. refl) digest_count left)
+    in_turn _ _ (many_spelled _ _ IsDigest digest_line (digest_spelled Digest) (λ d rest is. refl) digest_count left)
     (λ digests left. ends (record { entries = entries; digests = digests }) left)))))) in (
       λ is.
           let (version, l1, (version_is, t1), said) = read is in
@@ -111,7 +113,7 @@ entries_proofs text p =
 -- ---- digests up to a blank line
 
 -- a digest is no blank line
-digest_goes_on : (digest left : List ℕ) → IsDigest digest → (true && at_blank (digest_line digest ++ left)) ≡ false
+digest_goes_on : (digest left : List ℕ) → IsDigest digest → at_blank (digest_line digest ++ left) ≡ false
 digest_goes_on digest left is = by_symbols (base64 digest) (base64_plain digest is.1) (length-base64 digest)
   where
     by_symbols : (symbols : List ℕ) → All (λ c. 32 ≤ c) symbols →
@@ -127,11 +129,12 @@ digest_goes_on digest left is = by_symbols (base64 digest) (base64_plain digest 
 -- ---- proofs
 
 pub consistency_proofs : ConsistencyProofsAreSpelled
-unfolding consistency_by digests_by
+unfolding consistency_by digests_to_blank
 consistency_proofs text p =
     let (read, back) = says (error_of text) (consistency_by text) p
     (in_turn _ _ (number_spelled OldSize (codes "old ") refl text) (λ old_size left.
-    in_turn _ _ (many_spelled _ _ IsDigest digest_line (digest_spelled true) digest_goes_on 63 left) (λ digests left.
+    in_turn _ _ (many_spelled _ _ IsDigest digest_line (digest_spelled DigestOrBlank) digest_goes_on 63 left)
+    (λ digests left.
     in_turn _ _ (that_spelled Blank left) (λ blank left.
     gives (record { old_size = old_size; digests = digests; checkpoint = left }))))) in (
       λ is.

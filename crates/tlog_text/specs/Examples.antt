@@ -7,8 +7,9 @@ use Rattle.base64.proofs.OnLiterals.{base64_on_literals}
 use Rattle.tlog_text.specs.Lines.{base64, base64_bytes, dash, is_key_name, is_line, is_origin, is_signature, is_text}
 use Rattle.tlog_text.specs.Lines.{number_of}
 use Rattle.tlog_text.specs.Reading.{after_origin, bytes_by, checkpoint_in}
-use Rattle.tlog_text.specs.Reading.{consistency_by, consistency_in, wrong_line, digest_by, digests_by, entries_by}
+use Rattle.tlog_text.specs.Reading.{consistency_by, consistency_in, digests_by, digests_to_blank, entries_by}
 use Rattle.tlog_text.specs.Reading.{entries_in, entry_by, extensions_by, log_origin_by, many, part_in, signatures_by}
+use Rattle.tlog_text.specs.Reading.{wrong_line}
 use Rattle.tlog_text.specs.Texts.{checkpoint_text, consistency_text, entries_text, line, CheckpointFields}
 use Rattle.tlog_text.specs.Texts.{ConsistencyFields, EntriesFields}
 use Rattle.tlog_text.specs.declared.error.Expected.TheVariants.{Digest, DigestOrBlank, End, EntryBytes, EntryHead}
@@ -25,7 +26,7 @@ unfolding log_origin_by extensions_by signatures_by after_origin many digits cha
 on_notes = tt
 
 unfoldable pub on_literals : ⊤
-unfolding on_lines on_notes bytes_by entry_by digest_by digests_by entries_by consistency_by
+unfolding on_lines on_notes bytes_by entry_by digests_by digests_to_blank entries_by consistency_by
 on_literals = tt
 
 -- ---- lines

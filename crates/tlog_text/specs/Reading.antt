@@ -1,5 +1,5 @@
 -- What a text says, or its first wrong line. Each part is read at the front of what is left of the text.
-use Rattle.std.specs.Prelude.{ℕ, zero, suc, ◌+◌, ◌-◌, ◌==◌, ◌&&◌, ◌||◌, nat_eq, nat_lt, Bool, true, false, Err}
+use Rattle.std.specs.Prelude.{ℕ, zero, suc, ◌+◌, ◌-◌, ◌==◌, ◌&&◌, ◌||◌, nat_eq, nat_lt, Bool, false, Err}
 use Rattle.std.specs.Prelude.{if◌then◌else◌, List, [], ◌∷◌, length, take, drop, codes, slice_index, Option, Result, Ok}
 use Rattle.std.specs.List.{count_by, starts_with}
 use Rattle.std.specs.Option.{option_map_or}
@@ -70,13 +70,13 @@ at_text_end left = at_end left || at_blank left
 
 -- ---- digests
 
--- a digest, where a blank line may stand instead or not
-unfoldable pub digest_by : Bool → List ℕ → Reads (List ℕ)
-digest_by blank_stops left = line_by (if blank_stops then DigestOrBlank else Digest) digest_of left
+-- so many digests
+unfoldable pub digests_by : ℕ → List ℕ → Reads (List (List ℕ))
+digests_by count left = many never (line_by Digest digest_of) count left
 
--- so many digests; at most so many, where a blank line stops them
-unfoldable pub digests_by : Bool → ℕ → List ℕ → Reads (List (List ℕ))
-digests_by blank_stops count left = many (λ rest. blank_stops && at_blank rest) (digest_by blank_stops) count left
+-- the digests up to a blank line, at most so many
+unfoldable pub digests_to_blank : ℕ → List ℕ → Reads (List (List ℕ))
+digests_to_blank limit left = many at_blank (line_by DigestOrBlank digest_of) limit left
 
 -- ---- checkpoints
 
@@ -104,8 +104,10 @@ signatures_by left =
 -- a size and a root, extension lines and signatures after an origin
 unfoldable pub after_origin : List ℕ → List ℕ → Result CheckpointFields Stop
 after_origin origin left =
-    then_read (line_by Size (number_after []) left) (λ size left. then_read (digest_by false left) (λ root left.
-    then_read (extensions_by left) (λ extensions left. then_read (signatures_by left) (λ signatures left.
+    then_read (line_by Size (number_after []) left) (λ size left.
+    then_read (line_by Digest digest_of left) (λ root left.
+    then_read (extensions_by left) (λ extensions left.
+    then_read (signatures_by left) (λ signatures left.
     ended (record { origin = origin; size = size; root = root }) left))))
 
 -- a note of at most 10 ^ 6 bytes that begins with such an origin
@@ -135,7 +137,7 @@ entries_by text =
     then_read (line_by EntryCount (number_after (codes "entries ")) left) (λ count left.
     then_read (many never entry_by count left) (λ entries left.
     then_read (line_by DigestCount (number_after (codes "digests ")) left) (λ digest_count left.
-    then_read (digests_by false digest_count left) (λ digests left.
+    then_read (digests_by digest_count left) (λ digests left.
     ended (record { entries = entries; digests = digests }) left)))))
 
 -- ---- consistency proofs
@@ -144,7 +146,7 @@ entries_by text =
 unfoldable pub consistency_by : List ℕ → Result ConsistencyFields Stop
 consistency_by text =
     then_read (line_by OldSize (number_after (codes "old ")) text) (λ old_size left.
-    then_read (digests_by true 63 left) (λ digests left. then_read (line_that Blank left) (λ blank left.
+    then_read (digests_to_blank 63 left) (λ digests left. then_read (line_that Blank left) (λ blank left.
     Ok (record { old_size = old_size; digests = digests; checkpoint = left }))))
 
 -- ---- errors

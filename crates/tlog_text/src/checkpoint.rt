@@ -127,7 +127,7 @@ fn after_origin<'a>(origin: &'a str, left: &[u8]) -> Result<Checkpoint<'a>, Stop
     ensures { result_map_both checkpoint_fields (λ stop. stop) result ≡ after_origin origin.entry.now left.now }
 {
     let (size, left) = read_number(left, b"", Expected::Size)?;
-    let (root, left) = read_digest(left, false)?;
+    let (root, left) = read_digest(left, Expected::Digest)?;
     let left = skip_lines(left, Expected::Extension, left.len())?;
     let left = skip_signatures(left)?;
     check_end(left)?;

@@ -7,7 +7,9 @@ ghost use Rattle.tlog_text.specs.declared.error.Stop.TheVariants.{Memory};
 ghost use Rattle.tlog_text.specs.declared.error.TextError.TheVariants.{OutOfMemory};
 
 use crate::error::{Expected, Stop, TextError, error_of};
-use crate::line::{push_digests, push_line, push_number, read_digests, read_number, skip_line};
+use crate::line::{
+    push_digests, push_line, push_number, read_digests_to_blank, read_number, skip_line,
+};
 use std::alloc::{AllocError, Global};
 
 /// Digests that prove that a log of a new checkpoint begins with the entries that it had at an old size (C2SP
@@ -61,7 +63,7 @@ fn consistency_by(alloc: Global, text: &[u8]) -> Result<ConsistencyProof<'_>, St
     ensures stop { IfErr result (λ stop. (stop ≡ Memory) ⊎ (consistency_by text.now ≡ Err stop)) }
 {
     let (old_size, left) = read_number(text, b"old ", Expected::OldSize)?;
-    let (digests, left) = read_digests(alloc, left, true, 63)?;
+    let (digests, left) = read_digests_to_blank(alloc, left, 63)?;
     let checkpoint = skip_line(left, Expected::Blank)?;
     Ok(ConsistencyProof {
         old_size,

@@ -141,7 +141,7 @@ fn entries_by(alloc: Global, text: &[u8]) -> Result<EntriesProof, Stop>
     let (count, left) = read_number(left, b"entries ", Expected::EntryCount)?;
     let (entries, left) = entry_list_by(alloc, left, count)?;
     let (count, left) = read_number(left, b"digests ", Expected::DigestCount)?;
-    let (digests, left) = read_digests(alloc, left, false, count)?;
+    let (digests, left) = read_digests(alloc, left, count)?;
     check_end(left)?;
     Ok(EntriesProof { entries, digests })
 }

@@ -43,8 +43,8 @@ pub struct EntryText<'a> {
 }
 
 impl<'a> EntriesText<'a> {
-    /// Reads a proof of entries as [`EntriesProof::parse`](crate::EntriesProof::parse) does, with the same errors in the
-    /// same order. Its digests are copied, and nothing else.
+    /// Reads a proof of entries as [`EntriesProof::parse`](crate::EntriesProof::parse) does, with the same errors in
+    /// the same order. Its digests are copied, and nothing else.
     ///
     /// # Errors
     ///
@@ -133,7 +133,7 @@ fn entries_text_by(alloc: Global, text: &[u8]) -> Result<EntriesText<'_>, Stop>
     let (count, text) = read_number(left, b"entries ", Expected::EntryCount)?;
     let left = skip_entries(text, count)?;
     let (digest_count, left) = read_number(left, b"digests ", Expected::DigestCount)?;
-    let (digests, left) = read_digests(alloc, left, false, digest_count)?;
+    let (digests, left) = read_digests(alloc, left, digest_count)?;
     check_end(left)?;
     Ok(EntriesText {
         text,

@@ -8,8 +8,8 @@ ghost use Rattle.std.specs.Str.Parse.{IsNumeral, digits_value};
 ghost use Rattle.base64.specs.Decode.{decoded_estimate};
 ghost use Rattle.tlog_text.specs.Lines.{base64_bytes, cut_at, digest_of, is_key_name, is_line, is_name_char};
 ghost use Rattle.tlog_text.specs.Lines.{is_signature, is_text, number_after, number_of};
-ghost use Rattle.tlog_text.specs.Reading.{at_blank, at_text_end, digest_by, digests_by, ended, line_by, line_that};
-ghost use Rattle.tlog_text.specs.Reading.{many};
+ghost use Rattle.tlog_text.specs.Reading.{at_blank, at_text_end, digests_by, digests_to_blank, ended, line_by};
+ghost use Rattle.tlog_text.specs.Reading.{line_that, many};
 ghost use Rattle.tlog_text.specs.Inner.Rests.{rest_of};
 ghost use Rattle.tlog_text.specs.Texts.{digest_line, line};
 ghost use Rattle.tlog_text.specs.declared.error.Stop.TheVariants.{Memory};
@@ -204,18 +204,12 @@ pub(crate) fn read_number<'a>(
     Ok((number, rest))
 }
 
-/// Reads a line that is the base64 of 32 bytes. Returns these and what follows the line. With `blank_stops` the error
-/// says that a blank line may stand instead.
-#[tactic(auto, unfolding(crate::specs::Reading::digest_by))]
-pub(crate) fn read_digest(left: &[u8], blank_stops: bool) -> Result<([u8; 32], &[u8]), Stop>
+/// Reads a line that is the base64 of 32 bytes. Returns these and what follows the line. If no such line stands next,
+/// the error says that `expected` is missing.
+pub(crate) fn read_digest(left: &[u8], expected: Expected) -> Result<([u8; 32], &[u8]), Stop>
     ensures { result_map_both (λ (digest, rest). (digest, rest.now)) (λ stop. stop) result
-        ≡ digest_by blank_stops left.now }
+        ≡ line_by expected digest_of left.now }
 {
-    let expected = if blank_stops {
-        Expected::DigestOrBlank
-    } else {
-        Expected::Digest
-    };
     let stop = missing(left, expected);
     let (line, rest) = cut_at(b'\n', left).ok_or(stop)?;
     let digest = digest_of(line).ok_or(stop)?;
@@ -229,25 +223,44 @@ fn at_blank(left: &[u8]) -> bool
     left.first() == Some(&b'\n')
 }
 
-/// Reads `count` digests, or with `blank_stops` at most `count`, up to a blank line. Returns them and what follows the
-/// last one's line. The first line that is no digest is an error.
+/// Reads `count` digests. Returns them and what follows the last one's line. The first line that is no digest is an
+/// error.
 pub(crate) fn read_digests(
     alloc: Global,
     left: &[u8],
-    blank_stops: bool,
     count: usize,
 ) -> Result<(Vec<[u8; 32]>, &[u8]), Stop>
-    ensures read { IfOk result
-        (λ (digests, rest). digests_by blank_stops count left.now ≡ Ok (digests.items, rest.now)) }
-    ensures stop { IfErr result (λ stop. (stop ≡ Memory) ⊎ (digests_by blank_stops count left.now ≡ Err stop)) }
+    ensures read { IfOk result (λ (digests, rest). digests_by count left.now ≡ Ok (digests.items, rest.now)) }
+    ensures stop { IfErr result (λ stop. (stop ≡ Memory) ⊎ (digests_by count left.now ≡ Err stop)) }
 {
     let mut digests = Vec::new(alloc);
     let mut rest = left;
     for _digest in 0..count {
-        if blank_stops && at_blank(rest) {
+        let (digest, below) = read_digest(rest, Expected::Digest)?;
+        digests.push(digest)?;
+        rest = below;
+    }
+    Ok((digests, rest))
+}
+
+/// Reads the digests up to a blank line, at most `limit`. Returns them and what follows the last one's line. The first
+/// line that is neither a digest nor blank is an error.
+pub(crate) fn read_digests_to_blank(
+    alloc: Global,
+    left: &[u8],
+    limit: usize,
+) -> Result<(Vec<[u8; 32]>, &[u8]), Stop>
+    ensures read { IfOk result
+        (λ (digests, rest). digests_to_blank limit left.now ≡ Ok (digests.items, rest.now)) }
+    ensures stop { IfErr result (λ stop. (stop ≡ Memory) ⊎ (digests_to_blank limit left.now ≡ Err stop)) }
+{
+    let mut digests = Vec::new(alloc);
+    let mut rest = left;
+    for _digest in 0..limit {
+        if at_blank(rest) {
             return Ok((digests, rest));
         }
-        let (digest, below) = read_digest(rest, blank_stops)?;
+        let (digest, below) = read_digest(rest, Expected::DigestOrBlank)?;
         digests.push(digest)?;
         rest = below;
     }

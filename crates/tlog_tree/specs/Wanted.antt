@@ -5,7 +5,8 @@ use Rattle.tlog.specs.Verdicts.{size_limit}
 use Rattle.tlog_tree.specs.Trees.{node_at}
 use Rattle.tlog_tree.specs.declared.wanted.WantedNode.{WantedNode}
 
--- how many leaves there are when the last one below it comes, or one more than a log has at most
+-- how many leaves a log has once the last one below a node has come; one more than a log has at most, if no log has so
+-- many
 abbrev pub end_of : WantedNode → ℕ
 end_of node = min ((node.id.slot + 1) * 2 ^ node.id.layer) (size_limit + 1)
 

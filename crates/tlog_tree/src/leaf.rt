@@ -148,8 +148,8 @@ fn hash_eight(
     Ok(hash_padded_eight(&blocks, count))
 }
 
-/// Writes `values[k]` into `hashes[index]`, where `index` is that of `places[k]`, the length and index of an entry. There
-/// must be one value for each place, and each index must be within `hashes`.
+/// Writes `values[k]` into `hashes[index]`, where `index` is that of `places[k]`, the length and index of an entry.
+/// There must be one value for each place, and each index must be within `hashes`.
 fn place_hashes(places: &[(usize, usize)], values: &[[u8; 32]], hashes: &mut [[u8; 32]])
     requires inside { All (λ (place : ℕ × ℕ). place.1 < length hashes.old) places.now }
     requires each { length values.now ≡ length places.now }

@@ -19,7 +19,7 @@ pub struct WantedNode {
 }
 
 impl WantedNode {
-    /// How many leaves there are when the last one below it comes, or one more than a log has at most.
+    /// How many leaves a log has once the last leaf below this node has come; `SIZE_LIMIT + 1` if no log has so many.
     pub(crate) fn end(&self) -> usize
         ensures { result ≡ end_of self.now }
     {
@@ -30,7 +30,7 @@ impl WantedNode {
         }
     }
 
-    /// The node with its value, if it is among the nodes from slot `first` of a layer on.
+    /// This node, with its value if it is one of `nodes`, which stand in the layer from slot `first` on.
     fn kept(self, layer: usize, first: usize, nodes: &[[u8; 32]]) -> WantedNode
         ensures { result ≡ kept_in layer first nodes.now self }
     {
@@ -45,7 +45,7 @@ impl WantedNode {
     }
 }
 
-/// Gives their values to those of the wanted nodes that are among the nodes from slot `first` of a layer on.
+/// Sets the value of each wanted node that is one of `nodes`, which stand in the layer from slot `first` on.
 pub(crate) fn keep(wanted: &mut [WantedNode], layer: usize, first: usize, nodes: &[[u8; 32]])
     ensures { wanted.new ≡ map (kept_in layer first nodes.now) wanted.old }
 {

@@ -1,6 +1,6 @@
 -- A file whose bytes come piece by piece: entries that have ended, and one that is open.
 use Rattle.std.specs.Prelude.{◌≡◌, ◌⊎◌, ℕ, ◌-◌, ◌^◌, ◌<◌, ◌≤◌, ◌==◌, min, false, List, [], ◌∷◌, ◌++◌, length, map, take}
-use Rattle.std.specs.Prelude.{All, Option, Some}
+use Rattle.std.specs.Prelude.{All, Option, Some, flat_map}
 use Rattle.std.specs.Io.KnownBytes.{Consumes}
 use Rattle.sha2.specs.Hashers.{Holds256}
 use Rattle.sha2.specs.Sha256.{sha256}
@@ -39,8 +39,7 @@ IsOpen (Blocks size) bytes = length bytes < size
 
 -- entries one after another, each with what follows it
 abbrev pub joined : Framing → List (List ℕ) → List ℕ
-joined framing [] = []
-joined framing (entry ∷ entries) = entry ++ (ending framing ++ joined framing entries)
+joined framing entries = flat_map (λ entry. entry ++ ending framing) entries
 
 -- these entries stand at the head of the bytes, and after them the rest
 pub record AreAtHead (framing : Framing) (bytes rest : List ℕ) (entries : List (List ℕ)) : Type 0 where

@@ -14,7 +14,7 @@ with_value false value w = w
 abbrev pub is_new : ℕ → ℕ → ℕ → Bool
 is_new size count end = nat_lt size end && nat_le end count
 
--- with its value, if it is among the nodes of a layer that stand from slot `first` on
+-- a node, with its value if it is one of these, which stand in a layer from slot `first` on
 abbrev pub kept_in : ℕ → ℕ → List (List ℕ) → WantedNode → WantedNode
 kept_in layer first nodes w =
     with_value ((w.id.layer == layer) && is_new first (first + length nodes) (w.id.slot + 1))

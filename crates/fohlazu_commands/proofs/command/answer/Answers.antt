@@ -4,11 +4,12 @@ use Rattle.std.proofs.Common.{Err, Global, Option, Vec}
 use Rattle.std.proofs.lemmas.Result.{err_from_is_err_and}
 use Rattle.std.specs.Option.{option_map}
 use Rattle.tlog_text.specs.Texts.{CheckpointFields}
-use Rattle.fohlazu_commands.specs.Outcomes.{and_then, bytes_from, bytes_in, compared, Gives, join_outcome, numbers_under}
+use Rattle.fohlazu_commands.specs.Outcomes.{and_then, bytes_from, bytes_in, compared, Gives, join_outcome}
+use Rattle.fohlazu_commands.specs.Outcomes.{numbers_under}
 use Rattle.fohlazu_commands.specs.Outcomes.{prove_growth, verify_consistency_outcome, verify_requested}
 use Rattle.fohlazu_commands.specs.declared.error.Source.TheVariants.{Checkpoint, File, New, Old, Proof}
-use Rattle.fohlazu_commands.proofs.RunFacts.{fails_first, goes_first, short_read, unread_gives}
-use Rattle.fohlazu_commands.specs.Commands.{growth_from, note_from, prove_file}
+use Rattle.fohlazu_commands.proofs.RunFacts.{fails_first, first_note_fails, goes_first, short_read, unread_gives}
+use Rattle.fohlazu_commands.specs.Commands.{growth_from, max_growth_bytes, max_note_bytes, note_from, prove_file}
 use Rattle.fohlazu_commands.specs.declared.error.Error.{Error}
 use Rattle.fohlazu_commands.proofs.command.answer.Goals as goal
 
@@ -18,7 +19,7 @@ pub returns-in_ok-numbers-in-Prove : goal.returns-in_ok-numbers-in-Prove
 returns-in_ok-numbers-in-Prove g c =
     let text = c.in_ok-checkpoint-in-Prove in
     let bytes = text.checkpoint.items in
-    let fits = short_read Checkpoint 1000000 bytes text.ensures.bytes.1 in
+    let fits = short_read Checkpoint max_note_bytes bytes text.ensures.bytes.1 in
     let are = rw c.deref-in-Prove.ensures.value at c.in_ok-numbers-in-Prove.ensures.answer in
     let h = rw (c.deref-in-Prove-2.ensures.value, c.deref-in-Prove-3.ensures.value) at c.prove.ensures.answer in
     let own = goes_first bytes_in c.prove.result _ bytes _ fits h.2 in
@@ -31,15 +32,14 @@ pub returns-in_err-checkpoint-in-Prove : goal.returns-in_err-checkpoint-in-Prove
 returns-in_err-checkpoint-in-Prove g c =
     let left = err_from_is_err_and c.from_residual.result c.from_residual.ensures.1 in
     rw (c.in-Prove.is, left.1, left.2)
-    (⊎_elim (λ memory. (_, (None, tt, (None, tt, refl)), inl memory))
-    (λ refused. (_, (refused.0, refused.1, (None, tt, refl)), fails_first bytes_in _ _ _ refused.2))
-    c.in_err-checkpoint-in-Prove.ensures.failed)
+    (first_note_fails _ Checkpoint _ _ c.in_err-checkpoint-in-Prove.ensures.failed
+    (λ note read. (note, read, (None, tt, refl))))
 
 pub returns-in_err-numbers-in-Prove : goal.returns-in_err-numbers-in-Prove
 returns-in_err-numbers-in-Prove g c =
     let text = c.in_ok-checkpoint-in-Prove in
     let bytes = text.checkpoint.items in
-    let fits = short_read Checkpoint 1000000 bytes text.ensures.bytes.1 in
+    let fits = short_read Checkpoint max_note_bytes bytes text.ensures.bytes.1 in
     let stop = c.from_residual-in_err-numbers-in-Prove in
     let left = err_from_is_err_and stop.result stop.ensures.1 in
     let why = rw c.deref-in-Prove.ensures.value at c.in_err-numbers-in-Prove.ensures.answer in
@@ -59,7 +59,7 @@ pub returns-in_ok-proof-in-Verify : goal.returns-in_ok-proof-in-Verify
 returns-in_ok-proof-in-Verify g c =
     let a = c.in_ok-checkpoint-in-Verify in
     let b = c.in_ok-proof-in-Verify in
-    let fits = short_read Checkpoint 1000000 a.checkpoint.items a.ensures.bytes.1 in
+    let fits = short_read Checkpoint max_note_bytes a.checkpoint.items a.ensures.bytes.1 in
     let h = rw (c.deref-in-Verify.ensures.value, c.deref-in-Verify-2.ensures.value) at c.verify.ensures in
     rw c.in-Verify.is (
       _,
@@ -72,14 +72,13 @@ returns-in_err-checkpoint-in-Verify g c =
     let stop = c.from_residual-in_err-checkpoint-in-Verify in
     let left = err_from_is_err_and stop.result stop.ensures.1 in
     rw (c.in-Verify.is, left.1, left.2)
-    (⊎_elim (λ memory. (_, (None, tt, (None, tt, refl)), inl memory))
-    (λ refused. (_, (refused.0, refused.1, (None, tt, refl)), fails_first bytes_in _ _ _ refused.2))
-    c.in_err-checkpoint-in-Verify.ensures.failed)
+    (first_note_fails _ Checkpoint _ _ c.in_err-checkpoint-in-Verify.ensures.failed
+    (λ note read. (note, read, (None, tt, refl))))
 
 pub returns-in_err-proof-in-Verify : goal.returns-in_err-proof-in-Verify
 returns-in_err-proof-in-Verify g c =
     let text = c.in_ok-checkpoint-in-Verify in
-    let fits = short_read Checkpoint 1000000 text.checkpoint.items text.ensures.bytes.1 in
+    let fits = short_read Checkpoint max_note_bytes text.checkpoint.items text.ensures.bytes.1 in
     let stop = c.from_residual-in_err-proof-in-Verify in
     let left = err_from_is_err_and stop.result stop.ensures.1 in
     let why = unread_gives bytes_in Proof _ c.in_err-proof-in-Verify.ensures.failed in
@@ -98,8 +97,8 @@ pub returns-in_ok-new-in-ProveConsistency : goal.returns-in_ok-new-in-ProveConsi
 returns-in_ok-new-in-ProveConsistency g c =
     let old = c.in_ok-old-in-ProveConsistency in
     let new = c.in_ok-new-in-ProveConsistency in
-    let old_fits = short_read Old 1000000 old.old.items old.ensures.bytes.1 in
-    let new_fits = short_read New 1000000 new.new.items new.ensures.bytes.1 in
+    let old_fits = short_read Old max_note_bytes old.old.items old.ensures.bytes.1 in
+    let new_fits = short_read New max_note_bytes new.new.items new.ensures.bytes.1 in
     let h = rw (c.deref-in-ProveConsistency.ensures.value, c.deref-in-ProveConsistency-2.ensures.value)
     at c.prove_consistency.ensures.answer in
     rw c.in-ProveConsistency.is (
@@ -113,14 +112,13 @@ returns-in_err-old-in-ProveConsistency g c =
     let stop = c.from_residual-in_err-old-in-ProveConsistency in
     let left = err_from_is_err_and stop.result stop.ensures.1 in
     rw (c.in-ProveConsistency.is, left.1, left.2)
-    (⊎_elim (λ memory. (_, (None, tt, (None, tt, (None, tt, refl))), inl memory))
-    (λ refused. (_, (refused.0, refused.1, (None, tt, (None, tt, refl))), fails_first bytes_in _ _ _ refused.2))
-    c.in_err-old-in-ProveConsistency.ensures.failed)
+    (first_note_fails _ Old _ _ c.in_err-old-in-ProveConsistency.ensures.failed
+    (λ note read. (note, read, (None, tt, (None, tt, refl)))))
 
 pub returns-in_err-new-in-ProveConsistency : goal.returns-in_err-new-in-ProveConsistency
 returns-in_err-new-in-ProveConsistency g c =
     let old = c.in_ok-old-in-ProveConsistency in
-    let fits = short_read Old 1000000 old.old.items old.ensures.bytes.1 in
+    let fits = short_read Old max_note_bytes old.old.items old.ensures.bytes.1 in
     let stop = c.from_residual-in_err-new-in-ProveConsistency in
     let left = err_from_is_err_and stop.result stop.ensures.1 in
     let e = c.in_err-new-in-ProveConsistency.field-0.0 in
@@ -146,8 +144,8 @@ pub returns-in_ok-proof-in-VerifyConsistency : goal.returns-in_ok-proof-in-Verif
 returns-in_ok-proof-in-VerifyConsistency g c =
     let old = c.in_ok-old-in-VerifyConsistency in
     let shown = c.in_ok-proof-in-VerifyConsistency in
-    let old_fits = short_read Old 1000000 old.old.items old.ensures.bytes.1 in
-    let shown_fits = short_read Proof 1002860 shown.proof.items shown.ensures.bytes.1 in
+    let old_fits = short_read Old max_note_bytes old.old.items old.ensures.bytes.1 in
+    let shown_fits = short_read Proof max_growth_bytes shown.proof.items shown.ensures.bytes.1 in
     let h = rw (c.deref-in-VerifyConsistency.ensures.value, c.deref-in-VerifyConsistency-2.ensures.value)
     at c.verify_consistency.ensures in
     rw c.in-VerifyConsistency.is (
@@ -162,14 +160,13 @@ returns-in_err-old-in-VerifyConsistency g c =
     let stop = c.from_residual-in_err-old-in-VerifyConsistency in
     let left = err_from_is_err_and stop.result stop.ensures.1 in
     rw (c.in-VerifyConsistency.is, left.1, left.2)
-    (⊎_elim (λ memory. (_, (None, tt, (None, tt, refl)), inl memory))
-    (λ refused. (_, (refused.0, refused.1, (None, tt, refl)), fails_first bytes_in _ _ _ refused.2))
-    c.in_err-old-in-VerifyConsistency.ensures.failed)
+    (first_note_fails _ Old _ _ c.in_err-old-in-VerifyConsistency.ensures.failed
+    (λ note read. (note, read, (None, tt, refl))))
 
 pub returns-in_err-proof-in-VerifyConsistency : goal.returns-in_err-proof-in-VerifyConsistency
 returns-in_err-proof-in-VerifyConsistency g c =
     let old = c.in_ok-old-in-VerifyConsistency in
-    let fits = short_read Old 1000000 old.old.items old.ensures.bytes.1 in
+    let fits = short_read Old max_note_bytes old.old.items old.ensures.bytes.1 in
     let stop = c.from_residual-in_err-proof-in-VerifyConsistency in
     let left = err_from_is_err_and stop.result stop.ensures.1 in
     let e = c.in_err-proof-in-VerifyConsistency.field-0.0 in

@@ -5,5 +5,5 @@ use Rattle.fohlazu_commands.proofs.verify.text_of.Given as goal
 
 abbrev pub invariant-loop-entry : goal.invariant-loop-entry
 invariant-loop-entry l =
-    l.text.items ++ flat_map (printed l.print l.bare) (entries_left l.entry-iterator)
-    ≡ flat_map (printed l.print l.bare) (entries_left l.fn.entries)
+    l.text.items ++ flat_map (printed l.print l.is_requested) (entries_left l.entry-iterator)
+    ≡ flat_map (printed l.print l.is_requested) (entries_left l.fn.entries)

@@ -16,7 +16,8 @@ returns-then-ne-2-clause-collision g c =
       same_hash =
           ap g.H.LogHash.hash c.in_ok-first.ensures
           ∙ root_is_hashed g.H.LogHash.hash (entries_of c.loop-first.part.now)
-          ∙ c.loop-first.invariant.roots ∙ sym (root_is_hashed g.H.LogHash.hash (entries_of c.loop-first.other_part.now))
+          ∙ c.loop-first.invariant.roots
+          ∙ sym (root_is_hashed g.H.LogHash.hash (entries_of c.loop-first.other_part.now))
           ∙ sym (ap g.H.LogHash.hash c.in_ok-second.ensures);
     }
 

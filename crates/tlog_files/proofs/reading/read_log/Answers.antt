@@ -125,5 +125,6 @@ returns-in_err-tree-2-clause-refused g c =
     rw (p.1, p.2) (refused_file e c.args.framing c.args.limit s.limit before after
     (c.new-splitter.ensures.unchanged.1 ∙ c.unwrap_or.ensures)
     (subst (λ k. (e ≡ OutOfMemory) ⊎ ((e ≡ FailedRead) ⊎ ((e ≡ TooManyEntries) × ReadsTooMany k s.limit before after)))
-    c.new-splitter.ensures.unchanged.0 (c.in_err-tree-2.ensures.refused c.args.wanted_nodes.now c.args.wanted_entries.now
+    c.new-splitter.ensures.unchanged.0
+    (c.in_err-tree-2.ensures.refused c.args.wanted_nodes.now c.args.wanted_entries.now
     (start g at.In_ok-tree (places g at.After-deref)))))

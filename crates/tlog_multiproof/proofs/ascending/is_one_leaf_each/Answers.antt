@@ -1,4 +1,5 @@
-use Rattle.std.proofs.Common.{◌≡◌, ◌∙◌, ◌-◌, Bool, true, false, not, [], ap, refl, arith, eqb, get_or, inl, inr, suc, sym}
+use Rattle.std.proofs.Common.{◌≡◌, ◌∙◌, ◌-◌, Bool, true, false, not, [], ap, refl, arith, eqb, get_or, inl, inr, suc}
+use Rattle.std.proofs.Common.{sym}
 use Rattle.std.proofs.lemmas.Bool.{cases_eq, not-true, true≢false}
 use Rattle.std.specs.Cmp.Lexicographic.{bytes_decides, pointwise}
 use Rattle.tlog_multiproof.proofs.AscentVerdicts.{neighbours_agree, neighbours_differ}

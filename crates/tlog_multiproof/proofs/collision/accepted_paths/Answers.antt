@@ -50,7 +50,8 @@ returns-in-Err-restored_paths g c =
     record {
       refused = λ none small is.
           not_refused other answer
-          (restored_unrefused g.H.LogHash.hash size indices leaves proof c.args.root.now form node.eq node.eq decides is);
+          (restored_unrefused g.H.LogHash.hash size indices leaves proof c.args.root.now form node.eq node.eq
+          decides is);
       accepted = tt;
     }
 
@@ -94,7 +95,7 @@ returns g c =
     c.in-Err-check_pruned_opening.ensures in
     record {
       refused = λ none small is.
-          not_refused other answer (included_unrefused g.H.LogHash.hash size indices leaves proof root form node.eq node.eq
-          decides decides is);
+          not_refused other answer
+          (included_unrefused g.H.LogHash.hash size indices leaves proof root form node.eq node.eq decides decides is);
       accepted = tt;
     }

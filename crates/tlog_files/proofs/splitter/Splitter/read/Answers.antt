@@ -27,9 +27,8 @@ returns-then-not-is_empty-clause-read c =
     λ wanted front ended b.
     let none = nil_from_length b.open_bytes (omega (arith, c.if-self-eq0.true, b.holds.opened.counted)) in
     let t : Splitter = record s { count = s.count + c.len.result; wanted = c.copy.new.self } in
-    whole_read wanted s t front c.args.bytes.now c.in_ok-entries.rest.now ended entries _ c.requires.ready.framing refl b
-    none
-    head hashed (record {
+    whole_read wanted s t front c.args.bytes.now c.in_ok-entries.rest.now ended entries _ c.requires.ready.framing
+    refl b none head hashed (record {
       counted = omega (arith, b.holds.counted, many, length-append ended entries);
       within = omega
           (arith, b.holds.counted, b.holds.within, few, length-map found bytes_of, length-append ended entries);
@@ -68,8 +67,8 @@ returns-in_ok-end-in-Some-clause-read c =
       kept = c.in_ok-push-in-Some.ensures.holds wanted ended b.open_bytes b.holds.counted b.holds.kept;
     }) in
     rw with_end.1
-    (open_ended wanted s t front bytes more rest ended c.requires.ready.framing c.in_ok-end-in-Some.ensures.unchanged.0 b parts.0
-    parts.1 with_end.0)
+    (open_ended wanted s t front bytes more rest ended c.requires.ready.framing
+    c.in_ok-end-in-Some.ensures.unchanged.0 b parts.0 parts.1 with_end.0)
 
 pub returns-in_ok-end-in-Some-clause-ready : goal.returns-in_ok-end-in-Some-clause-ready
 returns-in_ok-end-in-Some-clause-ready c =

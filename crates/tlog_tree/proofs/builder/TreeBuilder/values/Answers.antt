@@ -44,4 +44,5 @@ pub returns : goal.returns
 returns c = λ leaves nodes is.
     all_answered sha256 leaves nodes c.args.self.now.wanted.items c.loop-node.values.items is.at
     c.loop-node.invariant.room
-    (λ k d h. c.loop-node.invariant.answered leaves nodes is k d (omega (arith, c.loop-node-test.false, c.deref-node-items.ensures.len)))
+    (λ k d h. c.loop-node.invariant.answered leaves nodes is k d
+    (omega (arith, c.loop-node-test.false, c.deref-node-items.ensures.len)))

@@ -73,7 +73,11 @@ loop-rest-preserved c =
           (λ a r q k. rw (← count) (search rules)) in
           let due = due_alone sha256 c.loop-rest.size (A ++ chunk) ws c.grown.new.wanted start end
           (omega (arith, count)) (omega (arith, count))
-          (omega (arith, c.partition_point-start.ensures.bound, length-take-le end ws c.partition_point-end.ensures.bound))
+          (omega (
+            arith,
+            c.partition_point-start.ensures.bound,
+            length-take-le end ws c.partition_point-end.ensures.bound,
+          ))
           c.partition_point-end.ensures.bound first last
           (c.in_ok-nodes-2.ensures.wanted A long (c.deref-in-loop-rest.ensures.value ∙ kept.grown leaves is)) in
           wanted_more sha256 (length leaves) c.loop-rest.size A chunk

@@ -5,13 +5,14 @@ use Rattle.tlog_text.specs.Texts.{checkpoint_fields}
 use Rattle.fohlazu_commands.specs.Inner.{ReadsAs}
 use Rattle.fohlazu_commands.specs.Outcomes.{entries_read}
 use Rattle.fohlazu_commands.proofs.OutcomeFacts.{checked, checked_is, goes, stops}
-use Rattle.fohlazu_commands.proofs.inputs.read_under.Goals as goal
+use Rattle.fohlazu_commands.proofs.inputs.read_file_under.Goals as goal
 
 pub returns-in_err-log : goal.returns-in_err-log
 returns-in_err-log g c =
     let fields = checkpoint_fields c.args.checkpoint.now in
     let left = err_from_is_err_and c.from_residual.result c.from_residual.ensures.1 in
-    rw (left.1, left.2) (stops (entries_read c.args.framing (Some fields.size)) (checked fields) _ _ c.in_err-log.ensures)
+    rw (left.1, left.2)
+    (stops (entries_read c.args.framing (Some fields.size)) (checked fields) _ _ c.in_err-log.ensures)
 
 pub returns-in_err-check_tree : goal.returns-in_err-check_tree
 returns-in_err-check_tree g c =

@@ -1,5 +1,5 @@
 use Rattle.fohlazu_commands.proofs.ProveFacts.{numbers_inside}
-use Rattle.fohlazu_commands.proofs.prove.requested.Goals as goal
+use Rattle.fohlazu_commands.proofs.prove.checkpoint_with.Goals as goal
 
 pub returns-clause-numbers : goal.returns-clause-numbers
 returns-clause-numbers c =

@@ -8,7 +8,7 @@ use Rattle.fohlazu_commands.specs.Outcomes.{part_refusal, sizes_refusal}
 use Rattle.fohlazu_commands.specs.declared.error.Error.TheVariants.{Refused}
 use Rattle.fohlazu_commands.specs.declared.error.Source.TheVariants.{Part}
 use Rattle.fohlazu_commands.specs.declared.error.Refusal.TheVariants.{PartSize}
-use Rattle.fohlazu_commands.proofs.join.check_each.Goals as goal
+use Rattle.fohlazu_commands.proofs.join.check_part_sizes.Goals as goal
 
 -- the refusal of a place among so many, else of those after it
 next_place : {E : Type 0} (h : ℕ → Option E) (k n : ℕ) (total : Option E) → k < n →

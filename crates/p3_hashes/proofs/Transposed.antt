@@ -1,6 +1,6 @@
--- Rows and columns that are exchanged, by their places.
+-- Transposed rows, by the places of their words.
 use Rattle.std.proofs.Common.{◌≡◌, ℕ, zero, suc, ◌<◌, List, [], ◌∷◌, length, get_or, slice_index, refl, arith}
-use Rattle.p3_hashes.specs.Inner.Turned.{turned}
+use Rattle.p3_hashes.specs.Inner.Transposed.{transposed}
 use Rattle.sha256_eights.proofs.Lanewise.{each_lane}
 
 -- a list of four, by its elements
@@ -14,8 +14,9 @@ four_of (a ∷ b ∷ c ∷ d ∷ []) h = refl
 four_of (a ∷ b ∷ c ∷ d ∷ e ∷ xs) h = absurd (omega (arith, h))
 
 -- four columns of the same rows
-pub turned_same : {a b c d p q r s : List ℕ} → a ≡ p → b ≡ q → c ≡ r → d ≡ s → turned a b c d ≡ turned p q r s
-turned_same ea eb ec ed = cc
+pub transposed_same : {a b c d p q r s : List ℕ} → a ≡ p → b ≡ q → c ≡ r → d ≡ s →
+    transposed a b c d ≡ transposed p q r s
+transposed_same ea eb ec ed = cc
 
 -- what holds of each of four rows
 pub four_cases : (P : ℕ → Type 0) → P 0 → P 1 → P 2 → P 3 → (k : ℕ) → k < 4 → P k
@@ -26,7 +27,7 @@ four_cases P a b c d (suc (suc (suc zero))) below = d
 four_cases P a b c d (suc (suc (suc (suc k)))) below = absurd (omega (arith, below))
 
 -- what the lanes of four columns of eight rows are: the rows
-pub turned_lanes : (a b c d e f g h p q r s : List ℕ) → length a ≡ 4 → length b ≡ 4 → length c ≡ 4 → length d ≡ 4 →
+pub transposed_lanes : (a b c d e f g h p q r s : List ℕ) → length a ≡ 4 → length b ≡ 4 → length c ≡ 4 → length d ≡ 4 →
     length e ≡ 4 → length f ≡ 4 → length g ≡ 4 → length h ≡ 4
     → p ≡ slice_index a 0 ∷ slice_index b 0 ∷ slice_index c 0 ∷ slice_index d 0 ∷ slice_index e 0 ∷ slice_index f 0
     ∷ slice_index g 0 ∷ slice_index h 0 ∷ []
@@ -38,6 +39,6 @@ pub turned_lanes : (a b c d e f g h p q r s : List ℕ) → length a ≡ 4 → l
     ∷ slice_index g 3 ∷ slice_index h 3 ∷ []
     → (k : ℕ) → k < 8 → get_or p k 0 ∷ get_or q k 0 ∷ get_or r k 0 ∷ get_or s k 0 ∷ []
     ≡ get_or (a ∷ b ∷ c ∷ d ∷ e ∷ f ∷ g ∷ h ∷ []) k []
-turned_lanes a b c d e f g h p q r s la lb lc ld le lf lg lh ep eq er es =
+transposed_lanes a b c d e f g h p q r s la lb lc ld le lf lg lh ep eq er es =
     rw (ep, eq, er, es) (each_lane _ (four_of a la) (four_of b lb) (four_of c lc) (four_of d ld) (four_of e le)
     (four_of f lf) (four_of g lg) (four_of h lh))

@@ -2,7 +2,7 @@ use Rattle.std.proofs.Common.{◌≡◌, ◌-◌, length}
 use Rattle.std.specs.List.{range_with_len}
 use Rattle.p3_answers.specs.Answers.{first_of}
 use Rattle.fohlazu_commands.specs.Outcomes.{part_refusal, sizes_refusal}
-use Rattle.fohlazu_commands.proofs.join.check_each.Given as goal
+use Rattle.fohlazu_commands.proofs.join.check_part_sizes.Given as goal
 
 -- the sizes so far fit, so the rest decides
 abbrev pub invariant-loop-k : goal.invariant-loop-k
