@@ -75,13 +75,15 @@ class Derives:
 
     def derived(self, trait: str, item: Item, is_copy: bool) -> str:
         """What stands in the `impl` of a derived trait."""
-        fields = self.fields(item)
-        seen = [name for name, skipped in fields if not skipped]
         if trait in ("Copy", "Eq"):
             return ""
+        if trait == "Clone" and is_copy:
+            return "fn clone(&self) -> Self { *self }"
+        fields = self.fields(item)
+        seen = [name for name, skipped in fields if not skipped]
         if trait == "Clone":
             clones = "".join(f"{name}: self.{name}.clone(), " for name, _ in fields)
-            return f"fn clone(&self) -> Self {{ {'*self' if is_copy else f'Self {{ {clones} }}'} }}"
+            return f"fn clone(&self) -> Self {{ Self {{ {clones} }} }}"
         if trait == "PartialEq":
             return f"fn eq(&self, other: &Self) -> bool {{ {' && '.join(f'self.{n} == other.{n}' for n in seen)} }}"
         if trait == "Debug":

@@ -114,6 +114,7 @@ pub mod support {
     pub use crate::erased::p3_support::opening::{BatchOpening, BatchOpeningRef, DigestRef, Hash, MerkleCap};
     pub use crate::erased::p3_support::packed::{PackedValue, pack_columns_fn, unpack_at, unpack_into};
     pub use crate::erased::p3_support::pair::HorizontalPair;
+    pub use crate::erased::p3_support::row_parts::RowParts;
     pub use crate::erased::p3_support::rows::{PackedRows, Rows, packed_rows_of, rows_of};
     pub use crate::erased::p3_support::salts::SaltWord;
     pub use crate::fallible::{AllocError, TryClone};
