@@ -7,6 +7,7 @@
 
 use crate::erased::p3_merkle_core::error::MerkleTreeError;
 use crate::erased::p3_support::matrix::Dimensions;
+use crate::erased::p3_support::row_parts::RowParts;
 use crate::fallible::{AllocError, TryClone};
 use alloc::vec::Vec;
 
@@ -89,17 +90,47 @@ pub(crate) fn first_too_large_of(dimensions: &[Dimensions], max_height: usize) -
 /// - `WrongWidth` for the first row whose length is not the width of its matrix.
 #[inline]
 pub(crate) fn check_widths<T>(dimensions: &[Dimensions], rows: &[Vec<T>]) -> Result<(), MerkleTreeError> {
-    let (expected, got) = (dimensions.len(), rows.len());
+    check_row_widths(dimensions, 0, RowParts::Vecs(rows))
+}
+
+/// Checks that there is one row for each matrix, and that each is as wide as its matrix with `salt_elems` salts.
+///
+/// # Errors
+///
+/// The first of these that applies:
+///
+/// - `WrongBatchSize` if the number of rows is not that of the matrices;
+/// - `WrongWidth` for the first row whose length is not the width of its matrix with its salts. Where a row has more
+///   words than `usize` can count, as words of no size can be, `got` is `usize::MAX`.
+#[inline]
+pub(crate) fn check_row_widths<T>(
+    dimensions: &[Dimensions],
+    salt_elems: usize,
+    mut rows: RowParts<'_, T>,
+) -> Result<(), MerkleTreeError> {
+    let (expected, got) = (dimensions.len(), rows.num_rows());
     if got != expected {
         return Err(MerkleTreeError::WrongBatchSize { expected, got });
     }
-    for matrix in 0..dimensions.len() {
-        let (expected, got) = (dimensions[matrix].width, rows[matrix].len());
-        if got != expected {
-            return Err(MerkleTreeError::WrongWidth { matrix, expected, got });
+    let mut matrix = 0;
+    while let Some((first, second)) = rows.next_row() {
+        let expected = dimensions[matrix].width + salt_elems;
+        if !has_width(expected, first.len(), second.len()) {
+            return Err(MerkleTreeError::WrongWidth {
+                matrix,
+                expected,
+                got: first.len().saturating_add(second.len()),
+            });
         }
+        matrix += 1;
     }
     Ok(())
+}
+
+/// Whether two parts of a row have `width` words together, which may be more than `usize` can count.
+#[inline]
+fn has_width(width: usize, first: usize, second: usize) -> bool {
+    first <= width && second == width - first
 }
 
 /// How many slots a layer of `len` nodes has: `len` if that is at most 1, else the least multiple of `arity` that is

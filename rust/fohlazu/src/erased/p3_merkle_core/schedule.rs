@@ -214,10 +214,10 @@ impl<'a> Schedule<'a> {
         LevelStep { step, has_rows: kept.has_rows, exponent: exponent.saturating_sub(exponent_of(step)) }
     }
 
-    /// The shape of the layer above the layer `below`, which must be below the root, and have `len` nodes and this
-    /// exponent. The arity must be a power of two from 2 to 2^62, and [`check_heights`] must accept the heights.
+    /// The shape of the layer above the layer `below`. That is the number of a layer below the root; `exponent` and `len`
+    /// must be its exponent and its number of nodes. The arity must be a power of two from 2 to 2^62, and [`check_heights`] must accept the heights.
     #[inline]
-    pub(crate) fn level_from(&self, below: usize, exponent: usize, len: usize) -> LayerShape {
+    pub(crate) fn layer_above(&self, below: usize, exponent: usize, len: usize) -> LayerShape {
         let arity = self.arity;
         let up = self.step_up(arity, below, exponent);
         // Where a bridge step halves a layer that is shorter than the arity, the 2^exponent slots that its nodes can

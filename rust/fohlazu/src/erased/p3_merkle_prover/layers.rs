@@ -134,7 +134,7 @@ impl<
         let mut layers = Vec::with_room(self.schedule.num_levels + 1)?;
         layers.try_push(leaves)?;
         for below in 0..self.schedule.num_levels {
-            let level = self.schedule.level_from(below, exponent, len);
+            let level = self.schedule.layer_above(below, exponent, len);
             let nodes = layers[below].as_slice();
             let layer = self.next_layer(&mut picked, &mut buffers, level, nodes)?;
             layers.try_push(layer)?;

@@ -10,13 +10,15 @@ use crate::erased::p3_merkle_core::error::MerkleTreeError;
 use crate::erased::p3_merkle_prover::opener::matrix_refs;
 use crate::erased::p3_merkle_prover::tree::Tree;
 use crate::erased::p3_merkle_tree::hiding_mmcs::{MerkleTreeHidingMmcs, SaltedMultiProof, SaltedProof, SaltedTree};
-use crate::erased::p3_merkle_tree::join::{salted_rows, salted_sets};
+use crate::erased::p3_merkle_tree::join::{check_salted_rows, salted_sets};
+use crate::erased::p3_merkle_verifier::openings::OpeningRef;
 use crate::erased::p3_support::compress::PseudoCompressionFunction;
 use crate::erased::p3_support::hasher::CryptographicHasher;
 use crate::erased::p3_support::matrix::{Dimensions, Matrix};
 use crate::erased::p3_support::opening::{BatchOpening, BatchOpeningRef, MerkleCap};
 use crate::erased::p3_support::packed::PackedValue;
 use crate::erased::p3_support::pair::HorizontalPair;
+use crate::erased::p3_support::row_parts::RowParts;
 use crate::fallible::{AllocError, VecExt};
 use alloc::vec::Vec;
 
@@ -139,24 +141,41 @@ impl<
         self.plain.get_max_height(tree)
     }
 
+    /// Checks an opening of the leaf `index` with its salts against the roots of a cap, with the errors of
+    /// [`verify_batch`](Self::verify_batch). Returns the opening as the plain scheme's checker reads it, each row
+    /// followed by its salts.
+    fn checked_opening<'b>(
+        &self,
+        roots: &[[PW::Value; D]],
+        dimensions: &[Dimensions],
+        index: usize,
+        opening: BatchOpeningRef<'b, P::Value, SaltedProof<P::Value, PW::Value, D>>,
+    ) -> Result<OpeningRef<'b, P::Value, [PW::Value; D]>, MerkleTreeError> {
+        let (rows, (salts, siblings)) = opening.unpack();
+        check_salted_rows(dimensions, SALT_ELEMS, rows, salts)?;
+        let opening = OpeningRef { index, rows: RowParts::Salted { rows, salts }, siblings };
+        self.plain.checker(dimensions).check_opening(roots, SALT_ELEMS, opening)?;
+        Ok(opening)
+    }
+
     /// Verifies an opening of the leaf `index` with its salts against a cap: the plain scheme's verification of each
     /// row followed by its salts, under dimensions with `SALT_ELEMS` more columns. A cap binds salts as it binds rows.
+    /// Rows and salts are read where they lie: nothing is copied, and nothing is allocated.
     ///
     /// An accepted opening has one row for each of `dimensions`, of that width, and `SALT_ELEMS` salts for each row.
     /// For each level below the cap it has the siblings of the path's node. `dimensions` are those of the matrices
-    /// without salts, in input order; they must come from the verifier, never from the proof. The call allocates the
-    /// joined rows.
+    /// without salts, in input order; they must come from the verifier, never from the proof.
     ///
     /// # Errors
     ///
-    /// The first of these that applies, where `OutOfMemory` may come at any time:
+    /// The first of these that applies:
     ///
     /// - `WrongBatchSize`: the number of rows is not that of the dimensions;
     /// - `WrongWidth`, for the first row whose length is not the width of its matrix;
     /// - `WrongBatchSize`: the number of lists of salts is not that of the rows;
     /// - `TooLarge`, for the first matrix whose width with its salts does not fit `usize`;
-    /// - the error of the plain [`verify_batch`](crate::erased::p3_merkle_tree::mmcs::Scheme::verify_batch) for the joined rows, so
-    ///   that a wrong number of salts is a `WrongWidth` of the joined row.
+    /// - the error of the plain [`verify_batch`](crate::erased::p3_merkle_tree::mmcs::Scheme::verify_batch) for the rows with their salts, so
+    ///   that a wrong number of salts is a `WrongWidth` of the row with its salts.
     pub fn verify_batch(
         &self,
         commit: &MerkleCap<P::Value, [PW::Value; D]>,
@@ -164,10 +183,8 @@ impl<
         index: usize,
         opening: BatchOpeningRef<'_, P::Value, SaltedProof<P::Value, PW::Value, D>>,
     ) -> Result<(), MerkleTreeError> {
-        let (rows, (salts, siblings)) = opening.unpack();
-        let salted = salted_rows(dimensions, SALT_ELEMS, rows, salts)?;
-        let opening = BatchOpeningRef::new(&salted.rows, siblings);
-        self.plain.verify_batch(commit, &salted.dimensions, index, opening)
+        self.checked_opening(commit.roots(), dimensions, index, opening)?;
+        Ok(())
     }
 
     /// Verifies the rows and salts of several leaves by one pruned proof against a cap: the plain scheme's verification
@@ -227,21 +244,11 @@ impl<
         index2: usize,
         second: BatchOpeningRef<'_, P::Value, SaltedProof<P::Value, PW::Value, D>>,
     ) -> Result<Option<Collision<P::Value, PW::Value, D>>, MerkleTreeError> {
-        let (rows1, (salts1, siblings1)) = first.unpack();
-        let salted1 = salted_rows(dimensions, SALT_ELEMS, rows1, salts1)?;
-        let joined1 = BatchOpeningRef::new(&salted1.rows, siblings1);
-        let (rows2, (salts2, siblings2)) = second.unpack();
-        match salted_rows(dimensions, SALT_ELEMS, rows2, salts2) {
-            Ok(salted2) => {
-                let joined2 = BatchOpeningRef::new(&salted2.rows, siblings2);
-                self.plain.extract_collision(commit, &salted1.dimensions, index1, joined1, index2, joined2)
-            }
-            // A refusal of the first opening comes before one of the second.
-            Err(error) => {
-                let checked = self.plain.verify_batch(commit, &salted1.dimensions, index1, joined1);
-                Err(checked.err().unwrap_or(error))
-            }
-        }
+        let roots = commit.roots();
+        let first = self.checked_opening(roots, dimensions, index1, first)?;
+        let second = self.checked_opening(roots, dimensions, index2, second)?;
+        let checker = self.plain.checker(dimensions);
+        Ok(checker.last_difference(first, second)?)
     }
 
     /// Extracts a collision from two accepted pruned openings of one cap: the first pair of queries that gives a

@@ -17,31 +17,30 @@ pub(crate) struct Salted<Rows> {
     pub rows: Rows,
 }
 
-/// Checks the rows and the salts of one index, and joins each row with its salts. `rows` is the row set, `salts` the
-/// salt set. `dimensions` are those of the matrices without salts; in the result each has `salt_elems` more columns.
-/// How many salts a row has is not checked: where it is not `salt_elems`, the joined row has another width than its
-/// matrix.
+/// Checks the rows and the salts of one index. `rows` is the row set, `salts` the salt set. `dimensions` are those of
+/// the matrices without salts. How many salts a row has is not checked.
 ///
 /// # Errors
 ///
-/// The first of these that applies, where `OutOfMemory` may come at any time:
+/// The first of these that applies:
 ///
 /// - the error of [`check_widths`] for the rows;
 /// - `WrongBatchSize` if there are not as many lists of salts as rows;
-/// - `TooLarge` for the first matrix whose width with its salts does not fit `usize`.
-pub(crate) fn salted_rows<T: Copy>(
+/// - `TooLarge` for the first matrix whose width with `salt_elems` more columns does not fit `usize`.
+pub(crate) fn check_salted_rows<T>(
     dimensions: &[Dimensions],
     salt_elems: usize,
     rows: &[Vec<T>],
     salts: &[Vec<T>],
-) -> Result<Salted<Vec<Vec<T>>>, MerkleTreeError> {
+) -> Result<(), MerkleTreeError> {
     check_rows_and_salts(dimensions, rows, salts)?;
-    Ok(Salted { dimensions: widened_dimensions(dimensions, salt_elems)?, rows: joined_rows(rows, salts)? })
+    check_widening(dimensions, salt_elems)
 }
 
 /// Checks the rows and the salts of several indices, and joins each row with its salts. `sets` has a row set for each
 /// index, and `salts` a salt set. `dimensions` are those of the matrices without salts; in the result each has
-/// `salt_elems` more columns. How many salts a row has is not checked, as in [`salted_rows`].
+/// `salt_elems` more columns. How many salts a row has is not checked: where it is not `salt_elems`, the joined row has
+/// another width than its matrix.
 ///
 /// # Errors
 ///

@@ -5,8 +5,8 @@
 //! openings as lists of rows are in `p3_support`, hashes in `p3_hashes`.
 //!
 //! The salted scheme is this crate's own: each row is followed by random words before it is hashed. That this hides the
-//! rows is not proved. Salts are drawn beside the matrices. Rows of an opening are joined with their salts, the plain
-//! scheme does the rest, and what it opens is split.
+//! rows is not proved. Salts are drawn beside the matrices. A check reads each row of an opening with its salts after
+//! it; the plain scheme does the rest, and what it opens is split.
 //!
 //! Some names are aliases at digests of words: `MerkleTree`, `MerkleTreeMmcs`, `MerkleTreeHidingMmcs`, `Hash`,
 //! `PrunedMerklePaths`, `PrunedBatchOpening`, `MerkleAuthPath` and `Collision`. The structs that they name, which are

@@ -11,12 +11,13 @@ use crate::erased::p3_merkle_core::collision::{Collision, InputPair, Place};
 use crate::erased::p3_merkle_core::error::MerkleTreeError;
 use crate::erased::p3_merkle_core::schedule::Schedule;
 use crate::erased::p3_merkle_verifier::checker::Checker;
-use crate::erased::p3_merkle_verifier::openings::{OpenedRows, OpeningRef};
+use crate::erased::p3_merkle_verifier::openings::{OpenedParts, OpenedWords, OpeningRef};
 use crate::erased::p3_merkle_verifier::path::PathLevel;
 use crate::erased::p3_support::compress::PseudoCompressionFunction;
 use crate::erased::p3_support::hasher::CryptographicHasher;
 use crate::erased::p3_support::matrix::Dimensions;
 use crate::erased::p3_support::packed::PackedValue;
+use crate::erased::p3_support::row_parts::RowParts;
 use crate::fallible::{AllocError, VecExt};
 use alloc::vec::Vec;
 
@@ -27,16 +28,17 @@ struct RowPair<'a, T> {
     /// The exponent of those whose rows are compared.
     pub exponent: usize,
     /// The rows of all matrices in the first opening.
-    pub first: &'a [Vec<T>],
+    pub first: RowParts<'a, T>,
     /// The rows of all matrices in the second opening.
-    pub second: &'a [Vec<T>],
+    pub second: RowParts<'a, T>,
 }
 
 impl<'a, T: Eq> RowPair<'a, T> {
-    /// Whether both openings have the same rows of the matrices of the exponent. Nothing is copied.
+    /// Whether both openings have the same words in the rows of the matrices of the exponent. Nothing is copied.
     fn agree(&self) -> bool {
-        let first = OpenedRows { dimensions: self.dimensions, rows: self.first, exponent: self.exponent };
-        first.eq(OpenedRows { dimensions: self.dimensions, rows: self.second, exponent: self.exponent })
+        let first = OpenedWords::new(self.dimensions, self.first, self.exponent);
+        let second = OpenedWords::new(self.dimensions, self.second, self.exponent);
+        first.eq(second)
     }
 }
 
@@ -53,26 +55,31 @@ fn differing_digests<T, W: Copy + Eq, const D: usize>(
 }
 
 /// The words of the rows of the matrices of one exponent, one after another. `rows` has a row for each of `dimensions`.
-fn opened_words<T: Copy>(dimensions: &[Dimensions], rows: &[Vec<T>], exponent: usize) -> Result<Vec<T>, AllocError> {
-    let opened = OpenedRows { dimensions, rows, exponent };
+fn opened_words<T: Copy>(
+    dimensions: &[Dimensions],
+    rows: RowParts<'_, T>,
+    exponent: usize,
+) -> Result<Vec<T>, AllocError> {
     let mut words = Vec::new();
-    for row in opened {
-        words.try_extend_from_slice(row)?;
+    for part in OpenedParts::new(dimensions, rows, exponent) {
+        words.try_extend_from_slice(part)?;
     }
     Ok(words)
 }
 
-/// The words of rows that two checks hash at `place`, if they differ.
+/// The words of rows that two checks hash at `place`, if they differ. Nothing is copied where they are the same.
 fn differing_words<T: Copy + Eq, W, const D: usize>(
     place: Place,
     rows: &RowPair<'_, T>,
 ) -> Result<Option<InputPair<T, [W; D]>>, AllocError> {
-    let first = opened_words(rows.dimensions, rows.first, rows.exponent)?;
-    let second = opened_words(rows.dimensions, rows.second, rows.exponent)?;
-    if first == second {
+    if rows.agree() {
         return Ok(None);
     }
-    Ok(Some(InputPair::Words { place, first, second }))
+    Ok(Some(InputPair::Words {
+        place,
+        first: opened_words(rows.dimensions, rows.first, rows.exponent)?,
+        second: opened_words(rows.dimensions, rows.second, rows.exponent)?,
+    }))
 }
 
 /// The words that two checks hash at the leaf, if both openings are of one leaf and the words differ.
@@ -189,8 +196,8 @@ impl<
     }
 
     /// The last place that the checks of two openings share and at which they differ, with both inputs. `None` if they
-    /// agree. Both openings must have their siblings up to the cap. It allocates at shared places alone: the rows
-    /// there, and the inputs that differ.
+    /// agree. Both openings must have their siblings up to the cap. Only the inputs of places that differ are copied.
+    /// `AllocError` if memory runs out.
     pub(crate) fn last_difference(
         &self,
         first: OpeningRef<'_, P::Value, [PW::Value; D]>,
@@ -231,8 +238,8 @@ impl<
         first: OpeningRef<'_, P::Value, [PW::Value; D]>,
         second: OpeningRef<'_, P::Value, [PW::Value; D]>,
     ) -> Result<Option<Collision<P::Value, PW::Value, D>>, MerkleTreeError> {
-        self.check_opening(roots, first)?;
-        self.check_opening(roots, second)?;
+        self.check_opening(roots, 0, first)?;
+        self.check_opening(roots, 0, second)?;
         Ok(self.last_difference(first, second)?)
     }
 }

@@ -8,6 +8,7 @@ use crate::erased::p3_merkle_core::pruning::DistinctQueries;
 use crate::erased::p3_merkle_core::schedule::Schedule;
 use crate::erased::p3_support::matrix::{Dimensions, Matrix};
 use crate::erased::p3_support::opening::BatchOpeningRef;
+use crate::erased::p3_support::row_parts::RowParts;
 use alloc::vec::Vec;
 
 /// A borrowed opening with the index of its leaf.
@@ -15,7 +16,7 @@ pub(crate) struct OpeningRef<'a, T, X> {
     /// The index of the leaf.
     pub index: usize,
     /// One row of each matrix, in input order.
-    pub rows: &'a [Vec<T>],
+    pub rows: RowParts<'a, T>,
     /// The siblings on the leaf's path, level by level from the leaves up.
     pub siblings: &'a [X],
 }
@@ -31,34 +32,76 @@ impl<'a, T, X> Copy for OpeningRef<'a, T, X> {}
 impl<'a, T, W, const D: usize> OpeningRef<'a, T, [W; D]> {
     /// The opening of the leaf `index` that has the rows and siblings of `opening`.
     pub(crate) fn new(index: usize, opening: BatchOpeningRef<'a, T, Vec<[W; D]>>) -> OpeningRef<'a, T, [W; D]> {
-        OpeningRef { index, rows: opening.opened_values, siblings: opening.opening_proof }
+        OpeningRef { index, rows: RowParts::Vecs(opening.opened_values), siblings: opening.opening_proof }
     }
 }
 
-/// The rows of the matrices of one exponent, one after another, each whole. `rows` has one row of each matrix, in input
+/// The parts of the rows of the matrices of one exponent, row after row. `rows` has one row of each matrix, in input
 /// order. Nothing is copied.
-pub(crate) struct OpenedRows<'a, T> {
+pub(crate) struct OpenedParts<'a, T> {
     /// The dimensions of the matrices.
     pub dimensions: &'a [Dimensions],
     /// Their rows.
-    pub rows: &'a [Vec<T>],
+    pub rows: RowParts<'a, T>,
     /// The exponent of the matrices whose rows are yielded.
     pub exponent: usize,
+    /// The second part of the row whose first part was yielded last; empty if none is due.
+    pub second: &'a [T],
 }
 
-impl<'a, T> Iterator for OpenedRows<'a, T> {
+impl<'a, T> OpenedParts<'a, T> {
+    /// The parts of the rows of the matrices of this exponent.
+    pub(crate) fn new(dimensions: &'a [Dimensions], rows: RowParts<'a, T>, exponent: usize) -> OpenedParts<'a, T> {
+        OpenedParts { dimensions, rows, exponent, second: &[] }
+    }
+}
+
+impl<'a, T> Iterator for OpenedParts<'a, T> {
     type Item = &'a [T];
 
     fn next(&mut self) -> Option<&'a [T]> {
+        if !self.second.is_empty() {
+            let second = self.second;
+            self.second = &[];
+            return Some(second);
+        }
         while let Some((matrix, matrices)) = self.dimensions.split_first() {
-            let (row, rows) = self.rows.split_first()?;
+            let (first, second) = self.rows.next_row()?;
             self.dimensions = matrices;
-            self.rows = rows;
             if exponent_of(matrix.height) == self.exponent {
-                return Some(row.as_slice());
+                self.second = second;
+                return Some(first);
             }
         }
         None
+    }
+}
+
+/// The words of the rows of the matrices of one exponent, one after another. Nothing is copied.
+pub(crate) struct OpenedWords<'a, T> {
+    /// The words that are left of a part.
+    part: &'a [T],
+    /// The parts after it.
+    parts: OpenedParts<'a, T>,
+}
+
+impl<'a, T> OpenedWords<'a, T> {
+    /// The words of the rows of the matrices of this exponent. `rows` has one row of each matrix, in input order.
+    pub(crate) fn new(dimensions: &'a [Dimensions], rows: RowParts<'a, T>, exponent: usize) -> OpenedWords<'a, T> {
+        OpenedWords { part: &[], parts: OpenedParts::new(dimensions, rows, exponent) }
+    }
+}
+
+impl<'a, T> Iterator for OpenedWords<'a, T> {
+    type Item = &'a T;
+
+    fn next(&mut self) -> Option<&'a T> {
+        while self.part.is_empty() {
+            self.part = self.parts.next()?;
+        }
+        let (word, part) = self.part.split_first()?;
+        self.part = part;
+        Some(word)
     }
 }
 

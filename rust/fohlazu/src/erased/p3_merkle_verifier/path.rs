@@ -7,15 +7,15 @@
 
 use crate::erased::p3_merkle_core::error::MerkleTreeError;
 use crate::erased::p3_merkle_core::gate::check_heights;
-use crate::erased::p3_merkle_core::geometry::{check_widths, parent_of, position_of};
+use crate::erased::p3_merkle_core::geometry::{check_row_widths, parent_of, position_of};
 use crate::erased::p3_merkle_core::group::{group_with, pair_group};
 use crate::erased::p3_merkle_core::schedule::{LevelStep, Schedule};
 use crate::erased::p3_merkle_verifier::checker::Checker;
-use crate::erased::p3_merkle_verifier::openings::{OpenedRows, OpeningRef};
+use crate::erased::p3_merkle_verifier::openings::{OpenedParts, OpeningRef};
 use crate::erased::p3_support::compress::PseudoCompressionFunction;
 use crate::erased::p3_support::hasher::CryptographicHasher;
 use crate::erased::p3_support::packed::PackedValue;
-use alloc::vec::Vec;
+use crate::erased::p3_support::row_parts::RowParts;
 
 /// The node that the check of an opening has reached on the path from the leaf, with its digest.
 pub(crate) struct PathState<X> {
@@ -52,29 +52,33 @@ pub(crate) struct PathLevel<X, G> {
     pub above: PathState<X>,
 }
 
-/// Checks the form of an opening of the leaf `index`, before anything is hashed: one row for each matrix, of its width;
-/// heights that a tree can have; as many siblings as the levels below the cap need; and an index below the tallest
-/// height. The errors are those of [`check_opening`](Checker::check_opening) without `CapMismatch`.
+/// Checks the form of an opening of the leaf `index`, before anything is hashed: one row for each matrix, of its width
+/// with `salt_elems` salts; heights that a tree can have; as many siblings as the levels below the cap need; and an
+/// index below the tallest height. The errors are those of [`check_opening`](Checker::check_opening) without
+/// `CapMismatch`.
 ///
-/// The arity must be a power of two from 2 to 2^62, and `cap_layer` at most the number of levels.
+/// The arity must be a power of two from 2 to 2^62, `cap_layer` at most the number of levels, and each width with its
+/// salts must fit `usize`.
 fn check_form<T>(
     schedule: &Schedule<'_>,
     cap_layer: usize,
+    salt_elems: usize,
     index: usize,
-    rows: &[Vec<T>],
+    rows: RowParts<'_, T>,
     num_siblings: usize,
 ) -> Result<(), MerkleTreeError> {
     let dimensions = schedule.dimensions;
     // The number of rows is checked ahead of the heights, and their widths after the siblings.
-    if rows.len() != dimensions.len() {
-        return Err(MerkleTreeError::WrongBatchSize { expected: dimensions.len(), got: rows.len() });
+    let (expected, got) = (dimensions.len(), rows.num_rows());
+    if got != expected {
+        return Err(MerkleTreeError::WrongBatchSize { expected, got });
     }
     check_heights(schedule.dimensions)?;
     let expected_proof_len = schedule.siblings_below(cap_layer);
     if num_siblings != expected_proof_len {
         return Err(MerkleTreeError::WrongHeight { expected_proof_len, num_siblings });
     }
-    check_widths(dimensions, rows)?;
+    check_row_widths(dimensions, salt_elems, rows)?;
     let max_height = schedule.max_height;
     if index >= max_height {
         return Err(MerkleTreeError::IndexOutOfBounds { max_height, index });
@@ -93,8 +97,9 @@ impl<
 > Checker<'a, P, PW, H, C, [[PW::Value; D]; N], N, D>
 {
     /// The digest of the rows of the matrices of one exponent, as one message. `rows` has a row of each matrix.
-    fn row_digest(&self, rows: &[Vec<P::Value>], exponent: usize) -> [PW::Value; D] {
-        self.hash.hash_iter_slices(OpenedRows { dimensions: self.schedule.dimensions, rows, exponent })
+    fn row_digest<'x>(&'x self, rows: RowParts<'x, P::Value>, exponent: usize) -> [PW::Value; D] {
+        let parts = OpenedParts::new(self.schedule.dimensions, rows, exponent);
+        self.hash.hash_iter_slices(parts)
     }
 
     /// The start of the check of an opening: the leaf, with the digest of its rows.
@@ -133,7 +138,9 @@ impl<
         PathLevel { level, group, pair: Some(pair), above }
     }
 
-    /// Checks an opening against the roots of a cap: its form, and that its path leads to the root above the leaf.
+    /// Checks an opening against the roots of a cap: its form, and that its path leads to the root above the leaf. Each
+    /// row is that of its matrix, with `salt_elems` salts after it: 0 in an opening without salts. Each width with its
+    /// salts must fit `usize`. Nothing is allocated.
     ///
     /// # Errors
     ///
@@ -142,16 +149,17 @@ impl<
     /// - `WrongBatchSize`: the number of rows is not that of the dimensions;
     /// - `EmptyBatch`, `TooLarge` or `IncompatibleHeights`: no tree can be built over such heights;
     /// - `WrongHeight`: the number of siblings is not what the levels below the cap need;
-    /// - `WrongWidth`, for the first row whose length is not the width of its matrix;
+    /// - `WrongWidth`, for the first row whose length is not the width of its matrix with its salts;
     /// - `IndexOutOfBounds`: the index is not below the tallest height;
     /// - `CapMismatch`: there is no root above the leaf, or the path leads to another digest.
     pub(crate) fn check_opening(
         &self,
         roots: &[[PW::Value; D]],
+        salt_elems: usize,
         opening: OpeningRef<'_, P::Value, [PW::Value; D]>,
     ) -> Result<(), MerkleTreeError> {
         let (index, num_siblings) = (opening.index, opening.siblings.len());
-        check_form(&self.schedule, self.cap_layer, index, opening.rows, num_siblings)?;
+        check_form(&self.schedule, self.cap_layer, salt_elems, index, opening.rows, num_siblings)?;
         let mut state = self.start(opening);
         for level in 0..self.cap_layer {
             state = self.compute_level(level, opening, &state).above;

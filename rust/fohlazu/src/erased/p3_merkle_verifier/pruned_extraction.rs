@@ -12,6 +12,7 @@ use crate::erased::p3_merkle_verifier::pruned_check::paths_of;
 use crate::erased::p3_support::compress::PseudoCompressionFunction;
 use crate::erased::p3_support::hasher::CryptographicHasher;
 use crate::erased::p3_support::packed::PackedValue;
+use crate::erased::p3_support::row_parts::RowParts;
 use crate::fallible::AllocError;
 use alloc::vec::Vec;
 
@@ -29,7 +30,7 @@ impl<'a, T, W, const D: usize> RestoredQueries<'a, T, [W; D]> {
     /// Query `k` as an opening of its own, with its restored path.
     fn opening(&self, k: usize) -> OpeningRef<'_, T, [W; D]> {
         let path = &self.paths[k];
-        OpeningRef { index: path.leaf_index, rows: &self.sets[k], siblings: &path.siblings }
+        OpeningRef { index: path.leaf_index, rows: RowParts::Vecs(&self.sets[k]), siblings: &path.siblings }
     }
 
     /// The positions of the queries with the nearest indices below and above `index`, so that one of them stands

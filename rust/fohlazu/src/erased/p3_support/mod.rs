@@ -10,5 +10,6 @@ pub(crate) mod mmcs;
 pub(crate) mod opening;
 pub(crate) mod packed;
 pub(crate) mod pair;
+pub(crate) mod row_parts;
 pub(crate) mod rows;
 pub(crate) mod salts;

@@ -52,7 +52,7 @@ fn boundary_nodes(size: usize, indices: &[usize]) -> Result<Vec<NodeId>, AllocEr
     // The slot of the layer's last node. The root is the only one of its layer.
     let mut last = size - 1;
     while last > 0 {
-        push_uncovered(&mut nodes, layer, &covered)?;
+        push_siblings(&mut nodes, layer, &covered)?;
         climb(&mut covered);
         layer += 1;
         last /= 2;
@@ -60,8 +60,9 @@ fn boundary_nodes(size: usize, indices: &[usize]) -> Result<Vec<NodeId>, AllocEr
     Ok(nodes)
 }
 
-/// Adds the siblings of the covered slots of a layer that are not covered, in order. The covered slots ascend.
-fn push_uncovered(nodes: &mut Vec<NodeId>, layer: usize, covered: &[usize]) -> Result<(), AllocError> {
+/// Appends, in order, each sibling of a covered slot that is not covered itself. The slots in `covered` are of `layer`,
+/// must ascend, and be below 2^64 - 1.
+fn push_siblings(nodes: &mut Vec<NodeId>, layer: usize, covered: &[usize]) -> Result<(), AllocError> {
     for slot in covered {
         let sibling = if *slot % 2 == 0 { *slot + 1 } else { *slot - 1 };
         if covered.binary_search(&sibling).is_err() {

@@ -38,11 +38,11 @@ fn hash_first(entries: &[&[u8]], places: &[(usize, usize)], hashes: &mut [[u8; 3
     let count = block_count(places[0].0);
     if alike < 8 && places.len() >= 8 && all_fill(&places[..8], count) {
         let eight = &places[..8];
-        write(eight, &hash_eight(entries, eight, count)?, hashes);
+        place_hashes(eight, &hash_eight(entries, eight, count)?, hashes);
         return Ok(8);
     }
     let batch = &places[..alike];
-    write(batch, &hash_alike(entries, batch)?, hashes);
+    place_hashes(batch, &hash_alike(entries, batch)?, hashes);
     Ok(alike)
 }
 
@@ -97,8 +97,9 @@ fn hash_eight(entries: &[&[u8]], places: &[(usize, usize)], count: usize) -> Res
     Ok(hash_padded_eight(&blocks, count))
 }
 
-/// Writes hashes at the indices of entries.
-fn write(places: &[(usize, usize)], values: &[[u8; 32]], hashes: &mut [[u8; 32]]) {
+/// Writes `values[k]` into `hashes[index]`, where `index` is that of `places[k]`, the length and index of an entry. There
+/// must be one value for each place, and each index must be within `hashes`.
+fn place_hashes(places: &[(usize, usize)], values: &[[u8; 32]], hashes: &mut [[u8; 32]]) {
     for (k, (_, index)) in places.iter().enumerate() {
         hashes[*index] = values[k];
     }
