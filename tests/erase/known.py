@@ -198,6 +198,13 @@ KNOWN = [
         impl<'a, F, X: Eq> Eq for R<'a, F, X> { }""",
     ),
     Form(
+        "derive_where of an enum that is a copy",
+        "#[derive_where(Clone, Copy)]\nenum R<'a, X> { One(&'a [X]), Two { value: &'a X } }",
+        """enum R<'a, X> { One(&'a [X]), Two { value: &'a X } }
+        impl<'a, X> Clone for R<'a, X> { fn clone(&self) -> Self { *self } }
+        impl<'a, X> Copy for R<'a, X> { }""",
+    ),
+    Form(
         "derive_where of a clone that is no copy",
         "#[derive_where(Clone; X)]\nstruct R<F, X> { value: X, of: PhantomData<F> }",
         """struct R<F, X> { value: X, of: PhantomData<F> }

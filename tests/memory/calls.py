@@ -15,8 +15,10 @@ PLAIN = ["open_batch_pruned", "verify_batch_pruned", "restore_and_recompute_path
 SALTED = ["fork"]
 VALUES = ["free", "tree", "rand", "append_row", "dimensions_of"]
 BUILDERS = ["scalar", "packed", "batched", "batched3"]
+# Calls on openings that stand in a line.
+VERIFICATIONS = ["verify", "verify_flat", "verify_salted"]
 # Calls that take no memory.
-FREE = ["verify", "verify_batch", "free", "salted free"]
+FREE = [*VERIFICATIONS, "verify_batch", "salted verify_batch", "free", "salted free"]
 # Four heights, with an index that is opened twice.
 BATCH = "2x17 2x9 2x5 2x3 | 16 3 3 0"
 # How many salts a row has, and the first one.
@@ -32,8 +34,8 @@ def of_builders() -> list[str]:
 def kind(line: str) -> str:
     """The name of the call of a line, with salts or without."""
     scheme, *_, name = line.split(" | ")
-    if scheme.startswith("verify "):
-        return "verify"
+    if (first := scheme.split()[0]) in VERIFICATIONS:
+        return first
     return f"{'salted ' if scheme.startswith('salted ') else ''}{name}"
 
 
@@ -44,7 +46,7 @@ def answer(line: str) -> str:
 
 def answers_again(line: str) -> list[str]:
     """What it may answer after it ran out of memory; nothing for a verification, which takes none."""
-    return [] if kind(line) == "verify" else [f"Ok({text})" for text in sorted(Call(line).answers_again())]
+    return [] if kind(line) in VERIFICATIONS else [f"Ok({text})" for text in sorted(Call(line).answers_again())]
 
 
 def digests(values: list[int]) -> list[list[int]]:

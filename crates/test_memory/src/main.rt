@@ -4,7 +4,11 @@
 //! - `BUILDER ARITY | MATRICES | QUERIES | CALL`: a call on what a scheme committed to and opened. `salted` stands
 //!   ahead of the builder of a scheme with two salts for each row, which are 100, 101 and so on.
 //! - `verify ARITY CAP | ROOTS | DIMENSIONS | INDEX | ROWS | SIBLINGS`: the plain `verify_batch`, which takes no
-//!   memory.
+//!   memory; nor do the next two.
+//! - `verify_flat ARITY CAP | ROOTS | DIMENSIONS | INDEX | WORDS | SIBLINGS`: `verify_rows`, of rows that lie one after
+//!   another.
+//! - `verify_salted ARITY CAP | ROOTS | DIMENSIONS | INDEX | ROWS | SALTS | SIBLINGS`: the salted `verify_batch`, with
+//!   two salts a row.
 //!
 //! CALL is the name of a call of the library, or one of these: `clone_matrices`, `clone_cap`, `clone_opening`,
 //! `clone_multi`, and of the plain scheme `clone_pruned`, `clone_paths` and `clone_positions` say whether a clone is
@@ -129,7 +133,7 @@ fn answer_at<const N: usize>(rt: &HostRuntime, case: &Case<'_>) -> Result<()>
 
 /// Makes the call of a line.
 fn answer_line(rt: &HostRuntime, line: &str) -> Result<()> {
-    if line.starts_with("verify ") {
+    if line.starts_with("verify") {
         return verify(rt, line);
     }
     let case = Case::read(rt.alloc(), line)?;

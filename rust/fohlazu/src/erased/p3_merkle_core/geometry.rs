@@ -90,7 +90,17 @@ pub(crate) fn first_too_large_of(dimensions: &[Dimensions], max_height: usize) -
 /// - `WrongWidth` for the first row whose length is not the width of its matrix.
 #[inline]
 pub(crate) fn check_widths<T>(dimensions: &[Dimensions], rows: &[Vec<T>]) -> Result<(), MerkleTreeError> {
-    check_row_widths(dimensions, 0, RowParts::Vecs(rows))
+    let (expected, got) = (dimensions.len(), rows.len());
+    if got != expected {
+        return Err(MerkleTreeError::WrongBatchSize { expected, got });
+    }
+    for matrix in 0..dimensions.len() {
+        let (expected, got) = (dimensions[matrix].width, rows[matrix].len());
+        if got != expected {
+            return Err(MerkleTreeError::WrongWidth { matrix, expected, got });
+        }
+    }
+    Ok(())
 }
 
 /// Checks that there is one row for each matrix, and that each is as wide as its matrix with `salt_elems` salts.
@@ -108,6 +118,12 @@ pub(crate) fn check_row_widths<T>(
     salt_elems: usize,
     mut rows: RowParts<'_, T>,
 ) -> Result<(), MerkleTreeError> {
+    if salt_elems == 0 {
+        if let RowParts::Vecs(rows) = rows {
+            // Through `RowParts` a row takes three times as long, and most rows are vectors.
+            return check_widths(dimensions, rows);
+        }
+    }
     let (expected, got) = (dimensions.len(), rows.num_rows());
     if got != expected {
         return Err(MerkleTreeError::WrongBatchSize { expected, got });

@@ -17,7 +17,7 @@ use crate::erased::p3_merkle_core::geometry::{check_row_widths, exponent_of, par
 use crate::erased::p3_merkle_core::group::append_siblings;
 use crate::erased::p3_merkle_core::schedule::Schedule;
 use crate::erased::p3_support::matrix::Dimensions;
-use crate::erased::p3_support::row_parts::{RowSets, same_row};
+use crate::erased::p3_support::row_parts::{RowParts, RowSets, same_row};
 use crate::fallible::{AllocError, TryClone, VecExt, try_vec};
 use alloc::vec::Vec;
 
@@ -178,9 +178,36 @@ fn check_same_rows<T: Eq>(
     query: usize,
     first_query: usize,
 ) -> Result<(), MerkleTreeError> {
+    if let (RowParts::Vecs(rows), RowParts::Vecs(first_rows)) = (rows.rows(query), rows.rows(first_query)) {
+        // Through `RowSets` a row takes three times as long, and most rows are vectors.
+        return check_same_vectors(matrices, slot, rows, first_rows);
+    }
     for matrix in matrices {
         let matrix = *matrix;
         if !same_row(rows.row(query, matrix), rows.row(first_query, matrix)) {
+            return Err(PrunedProofError::InconsistentGroupOpening { slot, matrix }.into());
+        }
+    }
+    Ok(())
+}
+
+/// Checks that `rows` and `first_rows` have the same row of each of `matrices`, as [`check_same_rows`] does of row sets.
+/// `matrices` must be positions in both. `slot` is only reported.
+#[inline]
+fn check_same_vectors<T: Eq>(
+    matrices: &[usize],
+    slot: usize,
+    rows: &[Vec<T>],
+    first_rows: &[Vec<T>],
+) -> Result<(), MerkleTreeError> {
+    for matrix in matrices {
+        let matrix = *matrix;
+        // Rows of one word are compared in place: a call takes longer.
+        let differ = match (rows[matrix].as_slice(), first_rows[matrix].as_slice()) {
+            ([word], [first]) => *word != *first,
+            (words, first) => words != first,
+        };
+        if differ {
             return Err(PrunedProofError::InconsistentGroupOpening { slot, matrix }.into());
         }
     }

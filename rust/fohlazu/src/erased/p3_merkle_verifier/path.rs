@@ -11,7 +11,7 @@ use crate::erased::p3_merkle_core::geometry::{check_row_widths, parent_of, posit
 use crate::erased::p3_merkle_core::group::{group_with, pair_group};
 use crate::erased::p3_merkle_core::schedule::{LevelStep, Schedule};
 use crate::erased::p3_merkle_verifier::checker::Checker;
-use crate::erased::p3_merkle_verifier::openings::{OpenedParts, OpeningRef};
+use crate::erased::p3_merkle_verifier::openings::{OpenedParts, OpenedRows, OpeningRef, SaltedRows};
 use crate::erased::p3_support::compress::PseudoCompressionFunction;
 use crate::erased::p3_support::hasher::CryptographicHasher;
 use crate::erased::p3_support::packed::PackedValue;
@@ -98,8 +98,17 @@ impl<
 {
     /// The digest of the rows of the matrices of one exponent, as one message. `rows` has a row of each matrix.
     fn row_digest<'x>(&'x self, rows: RowParts<'x, P::Value>, exponent: usize) -> [PW::Value; D] {
-        let parts = OpenedParts::new(self.schedule.dimensions, rows, exponent);
-        self.hash.hash_iter_slices(parts)
+        let dimensions = self.schedule.dimensions;
+        match rows {
+            RowParts::Vecs(rows) => self.hash.hash_iter_slices(OpenedRows { dimensions, rows, exponent }),
+            RowParts::Salted { rows, salts } => {
+                self.hash.hash_iter_slices(SaltedRows { dimensions, rows, salts, exponent, due: &[] })
+            }
+            RowParts::Slices(_) | RowParts::Flat { .. } => {
+                let parts = OpenedParts::new(dimensions, rows, exponent);
+                self.hash.hash_iter_slices(parts)
+            }
+        }
     }
 
     /// The start of the check of an opening: the leaf, with the digest of its rows.

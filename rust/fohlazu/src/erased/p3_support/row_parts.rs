@@ -67,7 +67,8 @@ impl<'a, T> RowParts<'a, T> {
 
     /// Takes the next row: its first and its second part. The second is empty if the row lies in one piece. `None` if
     /// no row is left.
-    #[inline]
+    // A call that is not inlined writes the row and what is left to memory, for each row of each layer.
+    #[inline(always)]
     pub(crate) fn next_row(&mut self) -> Option<(&'a [T], &'a [T])> {
         match *self {
             RowParts::Vecs(rows) => {
@@ -117,6 +118,9 @@ impl<'a, T: Eq> RowParts<'a, T> {
 #[inline]
 pub(crate) fn same_row<T: Eq>(row: (&[T], &[T]), other: (&[T], &[T])) -> bool {
     let ((first, second), (other_first, other_second)) = (row, other);
+    if second.is_empty() && other_second.is_empty() {
+        return first == other_first;
+    }
     if first.len() <= other_first.len() {
         let (front, back) = other_first.split_at(first.len());
         first == front && is_joined(second, back, other_second)

@@ -95,9 +95,10 @@ impl Frontier {
         root_of_nodes(&self.nodes)
     }
 
-    /// The root of the leaves after the first nodes of a layer, as many as have all their leaves, if there are any.
+    /// The root of the leaves that follow the first `whole` nodes of a layer, if there are such leaves. `whole` must be
+    /// the number of all nodes of the layer that have all their leaves.
     pub(crate) fn root_behind(&self, whole: usize) -> Option<[u8; 32]> {
-        // The whole nodes above the layer, and in it, are those of its first nodes.
+        // The frontier begins with a node for each bit of `whole`. These stand in the layer, or above its whole nodes.
         let above = whole.count_ones() as usize;
         let (_, behind) = self.nodes.split_at(above.min(self.nodes.len()));
         if behind.is_empty() {

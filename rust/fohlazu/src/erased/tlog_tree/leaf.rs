@@ -97,8 +97,8 @@ fn hash_eight(entries: &[&[u8]], places: &[(usize, usize)], count: usize) -> Res
     Ok(hash_padded_eight(&blocks, count))
 }
 
-/// Writes `values[k]` into `hashes[index]`, where `index` is that of `places[k]`, the length and index of an entry. There
-/// must be one value for each place, and each index must be within `hashes`.
+/// Writes `values[k]` into `hashes[index]`, where `index` is that of `places[k]`, the length and index of an entry.
+/// There must be one value for each place, and each index must be within `hashes`.
 fn place_hashes(places: &[(usize, usize)], values: &[[u8; 32]], hashes: &mut [[u8; 32]]) {
     for (k, (_, index)) in places.iter().enumerate() {
         hashes[*index] = values[k];

@@ -17,7 +17,7 @@ pub(crate) struct WantedNode {
 }
 
 impl WantedNode {
-    /// How many leaves there are when the last one below it comes, or one more than a log has at most.
+    /// How many leaves a log has once the last leaf below this node has come; `SIZE_LIMIT + 1` if no log has so many.
     pub(crate) fn end(&self) -> usize {
         if self.id.slot < whole_count(SIZE_LIMIT, self.id.layer) {
             (self.id.slot + 1) << self.id.layer
@@ -26,7 +26,7 @@ impl WantedNode {
         }
     }
 
-    /// The node with its value, if it is among the nodes from slot `first` of a layer on.
+    /// This node, with its value if it is one of `nodes`, which stand in the layer from slot `first` on.
     fn kept(self, layer: usize, first: usize, nodes: &[[u8; 32]]) -> WantedNode {
         let slot = self.id.slot;
         if self.id.layer == layer && first <= slot && slot - first < nodes.len() {
@@ -36,7 +36,7 @@ impl WantedNode {
     }
 }
 
-/// Gives their values to those of the wanted nodes that are among the nodes from slot `first` of a layer on.
+/// Sets the value of each wanted node that is one of `nodes`, which stand in the layer from slot `first` on.
 pub(crate) fn keep(wanted: &mut [WantedNode], layer: usize, first: usize, nodes: &[[u8; 32]]) {
     for node in wanted.iter_mut() {
         *node = node.kept(layer, first, nodes);
