@@ -59,8 +59,8 @@ def count_of(checkpoint):
 
 
 def notice(loop, operator, days):
-    """What customers find where something else is published. An older folder, as of a machine that was rolled back, is no
-    longer silent, and a server that gives the last proof again and again does not hold the loop."""
+    """What customers find where something else is published. An older folder is named, as of a machine that was rolled
+    back, and a server that gives the last proof again and again does not hold the loop."""
     (before, _), (last, growth) = days[-2:]
     old, count = count_of(before), count_of(last)
     [rewritten] = [proof for why, _, _, proof in operator.forged(old) if why == "a rewritten log"]
@@ -71,7 +71,7 @@ def notice(loop, operator, days):
         "forked": (last, {"checkpoint": forked}, 3, b"two histories of one log: last and kept/checkpoint, both signed"),
         "rewritten": (before, {"checkpoint": rewritten.partition(b"\n\n")[2], f"from-{old}.growth": rewritten}, 1,
                       b"from-%d.growth is refused: " % old),
-        "again": (last, {"checkpoint": longer, f"from-{count}.growth": growth}, 1, b"last is refused: the signature by "),
+        "again": (last, {"checkpoint": longer, f"from-{count}.growth": growth}, 1, b"last is refused: the signature "),
         "a page": (last, {"checkpoint": b"<html>\n\n<h1>404</h1>\n"}, 1, b"last is no growth proof, or not whole"),
         "nothing": (last, {}, 37, b"curl: (37)"),
     }

@@ -1,16 +1,20 @@
-"""Runs scripts of share/ in forks of this process, which has their modules already: to begin Python anew takes longer
-than most of what they do. A script that a script starts runs in a fork, too."""
+"""Runs scripts of share/ inside this process, each anew over files of its own: to begin Python, or a fork of it, takes
+longer than most of what they do. A script that a script starts runs inside, too. openssl runs as it does."""
 
-import base64  # noqa: F401: the scripts import these
-import fcntl  # noqa: F401
-import hashlib  # noqa: F401
 import os
-import re  # noqa: F401
-import runpy
 import subprocess
 import sys
 import traceback
-from pathlib import Path  # noqa: F401
+from functools import cache
+from pathlib import Path
+
+run_program = subprocess.run
+STANDARD = range(3)
+
+
+@cache
+def compiled(path):
+    return compile(Path(path).read_bytes(), path, "exec")
 
 
 def contents(file):
@@ -18,46 +22,58 @@ def contents(file):
     found = b""
     while piece := os.read(file, 1 << 20):
         found += piece
-    os.close(file)
     return found
 
 
-run_program = subprocess.run
-
-
-def run_inside(words, **settings):
-    """What subprocess.run is in a fork: scripts run in forks, and other programs as they do."""
+def run_either(words, **settings):
+    """What subprocess.run is for a script: scripts run inside, and other programs as they do."""
     if words[0] != sys.executable:
         return run_program(words, **settings)
     _, _, path, *words = words
-    return subprocess.CompletedProcess(words, *run_forked(path, words, settings["input"]))
+    return subprocess.CompletedProcess(words, *run_inside(path, words, settings["input"]))
 
 
-def run_forked(path, words, data):
+def run_inside(path, words, data):
     """The status, what the script prints, and what it says."""
-    files = [os.memfd_create("forked") for _ in range(3)]
+    files = [os.memfd_create("inside") for _ in STANDARD]
     os.write(files[0], data)
     os.lseek(files[0], 0, os.SEEK_SET)
-    process = os.fork()
-    if process == 0:
-        status = 1
-        try:
-            for standard, file in enumerate(files):
-                os.dup2(file, standard)
-            sys.stdin, sys.stdout = open(0, closefd=False), open(1, "w", closefd=False)
-            sys.stderr = open(2, "w", errors="backslashreplace", closefd=False)
-            sys.argv = [os.fsdecode(word) for word in (path, *words)]
-            subprocess.run = run_inside
-            runpy.run_path(str(path), run_name="__main__")
-        except SystemExit as ended:
-            status = ended.code
-            sys.stdout.flush()
-            sys.stderr.flush()
-        except BaseException:
-            traceback.print_exc()
-            sys.stderr.flush()
-        finally:
-            os._exit(status)
-    _, ended = os.waitpid(process, 0)
-    os.close(files[0])
-    return os.waitstatus_to_exitcode(ended), *map(contents, files[1:])
+    kept = [os.dup(file) for file in STANDARD]
+    ours = sys.argv, sys.stdin, sys.stdout, sys.stderr, subprocess.run
+    for stream in sys.stdout, sys.stderr:
+        stream.flush()
+    try:
+        for file in STANDARD:
+            os.dup2(files[file], file)
+        sys.argv = [os.fsdecode(word) for word in (path, *words)]
+        sys.stdin, sys.stdout = open(0, closefd=False), open(1, "w", closefd=False)
+        sys.stderr = open(2, "w", errors="backslashreplace", closefd=False)
+        subprocess.run = run_either
+        status = status_of(str(path))
+        for stream in sys.stdout, sys.stderr:
+            stream.flush()
+    finally:
+        sys.argv, sys.stdin, sys.stdout, sys.stderr, subprocess.run = ours
+        for file in STANDARD:
+            os.dup2(kept[file], file)
+    printed = [contents(file) for file in files[1:]]
+    for file in (*files, *kept):
+        os.close(file)
+    return status, *printed
+
+
+def status_of(path):
+    """Runs a script to its end, in names of its own."""
+    try:
+        exec(compiled(path), {"__name__": "__main__", "__file__": path})
+    except SystemExit as ended:
+        return ended.code or 0
+    except Exception:
+        traceback.print_exc()
+        return 1
+    return 0
+
+
+def open_files():
+    """How many files this process has open."""
+    return len(os.listdir("/proc/self/fd"))
