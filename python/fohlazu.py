@@ -628,7 +628,8 @@ ENTRIES_WORDS = {
     Reason.NO_INDICES: "it has no entries",
     Reason.TWO_LEAF_HASHES: "it has two entries of one number",
     Reason.INDEX_PAST_END: "it has an entry past the last one of the checkpoint",
-    Reason.ROOT_MISMATCH: "its entries or digests are not those of the checkpoint",
+    Reason.ROOT_MISMATCH:
+        "its entries or digests are not those of the checkpoint: some changed, or it is under another one",
 }
 CONSISTENCY_WORDS = {
     Reason.TOO_FEW_DIGESTS: "it has too few digests",

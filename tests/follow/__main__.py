@@ -8,7 +8,8 @@
   root, is nothing new. Two signed histories of the log are announced, stored and named; a full disk is no hindrance.
 - A policy opens what has enough cosignatures, each witness counted once. fohlazu-daily asks three witnesses, of which
   some are out of reach for days, or broken; customers with policies take what has enough. A customer who missed days
-  catches up by the loop of docs/USES.md. What never ends is no input.
+  catches up by the loop of docs/USES.md, and notices by it an older folder, another history, a rewritten log, a page,
+  nothing, and one proof that is given again and again. What never ends is no input.
 - The witness of witness.py, on loopback, takes the proofs by curl, and answers 200, 400, 403, 404, 409 and 422. Its
   cosignatures are opened by fohlazu-open, and fohlazu and fohlazu-follow read past them. So does a witness of another
   hand, which shares no line with the tests or the scripts. They are skipped without curl.
@@ -29,7 +30,7 @@ sys.path.insert(0, str(Path(__file__).resolve().parents[2] / "tools"))
 from script import TOP, arguments, built, check, counted, run_script  # first: it makes those below known
 
 import log_texts
-from catching_up import catch_up
+from catching_up import catch_up, notice
 from endless import try_endless
 from parties import ORIGIN, SHARE, Customer, Operator, contents, count_of, printed, run, script
 from policies import try_policies
@@ -217,8 +218,11 @@ def try_inputs(operator, folder, days):
     if not shutil.which("curl"):
         return "but for missed days, which need Debian's curl"
     (folder / "missed").mkdir()
-    catch_up(folder / "missed", os.environ["FOHLAZU"], operator.folder / "published", operator.vkey, days[0][0])
-    return "all"
+    said = printed(script("fohlazu-daily", *words, "-u", (folder / "nowhere").as_uri()))
+    check(b"/nowhere/checkpoint is not there yet: copy " in said, said)
+    published = operator.folder / "published"
+    loop = catch_up(folder / "missed", os.environ["FOHLAZU"], published, operator.vkey, days[0][0])
+    return f"all; {notice(loop, operator, days)} others are published in the place of a day"
 
 
 def main():

@@ -226,6 +226,8 @@ class Handler(BaseHTTPRequestHandler):
 
 
 if __name__ == "__main__":
+    if len(sys.argv) < 4:
+        sys.exit(__doc__)
     witness = Witness(*sys.argv[1:3], sys.argv[3:])
     server = HTTPServer(("127.0.0.1", int(os.environ.get("PORT", "0"))), Handler)
     print(witness.vkey, server.server_port, sep="\n", flush=True)

@@ -272,8 +272,8 @@ def try_hostile(operator, customer, follow, policy, counts):
         (b"".join(line(b"w%d.example" % number, bytes([number]) * 76) for number in range(9)), "is no cosignature"),
         (line(b"w" * 20_000, bytes(76)), "is no cosignature"), (line(b"w", bytes(4)), "is no cosignature"),
         (line(b"w\xff", bytes(76)), "is no cosignature"), (line(b"w", bytes(76))[:-1], "is no cosignature"),
-        (line(ORIGIN.encode(), operator.key.id + bytes(64)), "its name and ID are another's"),
-        (line(north.name.encode(), north.id + bytes(72)), "its name and ID are another's"),
+        (line(ORIGIN.encode(), operator.key.id + bytes(64)), "its name and ID are the log's or those of another -w"),
+        (line(north.name.encode(), north.id + bytes(72)), "its name and ID are the log's or those of another -w"),
     ]:
         operator.witnesses["south"].answer = lambda body, answer=answer: (200, "text/plain", answer)
         said, note = operator.day(True, 2)
@@ -282,7 +282,7 @@ def try_hostile(operator, customer, follow, policy, counts):
             follow(customer, policy, 0)
         counts["days with a hostile witness"] += 1
     said, _ = operator.day(True, 2, ["-w", f"http://127.0.0.1:{operator.ports['north']}/"])
-    check(said.count("its name and ID are another's") == 2, said)
+    check(said.count("its name and ID are the log's or those of another -w") == 2, said)
 
 
 def try_policies(folder, source):

@@ -31,7 +31,8 @@ ENTRIES |= {"an index is not below the size": "it has an entry past the last one
 ENTRIES |= {f"the proof has too {number} digests": f"it has too {number} digests: is it under another checkpoint?"
             for number in ("few", "many")}
 ENTRIES |= {"one index has two leaf hashes": "it has two entries of one number"}
-ENTRIES |= {"the proof is of another root": "its entries or digests are not those of the checkpoint"}
+ENTRIES |= {"the proof is of another root":
+            "its entries or digests are not those of the checkpoint: some changed, or it is under another one"}
 # What is said of entries that are verified without numbers.
 SECOND = "fohlazu: {}: it has more than one checkpoint: only the first is read\n"
 UNCOMPARED = "fohlazu: entry numbers were not compared: check that they are those you requested"

@@ -1,24 +1,28 @@
-"""python3 tests/peers [quick] [notes] [COUNT SEED]    logs beside tests/model/logs.py and Go's golang.org/x/mod/sumdb
+"""python3 tests/peers [quick] [notes] [proofs] [both] [COUNT SEED]    logs beside tests/model/logs.py and Go's packages
 
-COUNT is 100000, and SEED 1, if they are not given.
+COUNT is 100000, and SEED 1, if they are not given. The packages are note and tlog of golang.org/x/mod/sumdb. A process
+for each processor tries what takes long.
 
 - Verdicts on COUNT random questions of the model beside Go, which has no bound and accepts nothing from size 0.
   tests/python has the library's beside the model.
-- Roots and proofs of crates/test_log, of all sizes to 300 and of some to 10^6, beside Go; to 3000 beside the model.
+- Some COUNT roots and proofs of crates/test_log, of all sizes to 300 at most, of ten to 3000 and some to 10^6, beside
+  Go; to 3000 beside the model.
 - Go has the checkpoints of fohlazu, and takes its proofs, from COUNT / 50 files; fohlazu takes them signed by Go. Both
-  refuse the same damaged ones.
-- The lines of sh of docs/FILES.md on stored answers of a certificate log, certificates.txt, as they are and with a value
-  changed, beside the model; Go accepts the proofs. It needs Debian's jq, and is skipped without it.
+  refuse the same damaged ones. `proofs` tries this part alone, with COUNT / 2 files, each with two proofs.
+- The lines of sh of docs/FILES.md on stored answers of a certificate log, certificates.txt, as they are and with a
+  value changed, beside the model; Go accepts the proofs. It needs Debian's jq, and is skipped without it.
 - Signed notes: share/fohlazu-sign signs 220 texts as note.Sign does, and share/fohlazu-open opens 220 notes of Go's;
   each byte of three notes and their keys is changed, and 620 notes are damaged; it opens 20 cosignatures. `notes` tries
-  this part alone, with COUNT further texts and notes, and COUNT / 10 damaged ones. All but the first 20 of each run in
-  forks of this process.
+  this part alone, with COUNT further texts and notes, and COUNT / 10 damaged ones. All but the first 20 of each run
+  inside processes that are there, without a Python of their own.
 
 Go is Debian's golang-go and golang-golang-x-mod-dev; without these, a second writing of its packages in Python takes its
-place (reference.py), and the first line says so. Notes need openssl, and are skipped without it.
+place (reference.py), and the first line says so. `both` asks the two, which have to answer alike. Notes need openssl,
+and are skipped without it.
 """
 
 import json
+import math
 import os
 import re
 import shutil
@@ -27,6 +31,7 @@ import sys
 import tempfile
 from base64 import b64decode, b64encode
 from collections import Counter
+from concurrent.futures import ProcessPoolExecutor, ThreadPoolExecutor
 from pathlib import Path
 from random import Random
 
@@ -37,14 +42,15 @@ import golang
 import log_texts
 import random_logs
 import logs
-from forked import run_forked
+from inside import open_files, run_inside
 from keys import COSIGNED, Key
-from notes import Notes, Sumdb
+from notes import Notes, Sumdb, build
 from reference import Reference
 from running import Program
 
 CERTIFICATES = TOP / "tests/peers/certificates.txt"
-# Sizes of logs: all up to WHOLE, and so many up to MOST, which the model has up to SMALL.
+# Sizes of logs: all up to WHOLE, or fewer, and SIZES up to SMALL, which the model has. Of up to MOST there are SIZES too
+# for 100,000 answers, and fewer for fewer.
 WHOLE = 300
 MOST = 10**6
 SMALL = 3000
@@ -55,7 +61,30 @@ SIGNED = 200
 BYTEWISE = 3
 DAMAGED = 600
 COSIGNATURES = 20
+# A process tries so many files, or further notes.
+CHUNK = 50
 ORIGIN = "go.sum database tree"
+# Words of the command line.
+PARTS = "notes", "proofs", "both"
+
+
+class Both:
+    """Go and its second writing, which have to answer alike."""
+
+    def __init__(self, program, folder):
+        self._go, self._reference = Sumdb(program), Reference(folder)
+
+    def ask(self, *words):
+        found, expected = self._reference.ask(*words), self._go.ask(*words)
+        check(found == expected, words, "reference.py:", found, "Go:", expected)
+        return expected
+
+
+def peer(folder, program, is_both):
+    """Who answers: Go's program, its second writing if there is none, or both."""
+    if not program:
+        return Reference(folder)
+    return Both(program, folder) if is_both else Sumdb(program)
 
 
 def is_for_go(kind, first, size, *_):
@@ -83,7 +112,7 @@ def by_model(log, kind, number, size):
     return b"".join(log.inclusion([number], size) if kind == "inclusion" else log.consistency(number, size))
 
 
-def compare_answers(rng, program, go):
+def compare_answers(rng, program, go, count):
     """Roots and proofs, by Go, which has others of no entries, and for small logs by the model."""
     log, cases = logs.Log([b"%d" % number for number in range(1, SMALL + 1)]), []
 
@@ -97,21 +126,44 @@ def compare_answers(rng, program, go):
         parts = [digests[at:at + 32].hex() for at in range(0, len(digests), 32)]
         cases.append(" ".join(map(str, [*asked, "|", *parts])))
 
-    larger = [rng.randint(WHOLE, most) for most in (SMALL, MOST) for _ in range(SIZES)]
-    for size in [*range(WHOLE + 1), *larger]:
+    # A size has two proofs of each entry.
+    whole = min(WHOLE, math.isqrt(count))
+    larger = [rng.randint(WHOLE, most) for most in [SMALL] * SIZES + [MOST] * max(1, SIZES * count // 100000)]
+    for size in [*range(whole + 1), *larger]:
         ask("root", 0, size)
-        for index in range(size) if size <= WHOLE else [rng.randrange(size), rng.randrange(size), size - 1]:
+        for index in range(size) if size <= whole else [rng.randrange(size), rng.randrange(size), size - 1]:
             ask("inclusion", index, size)
             ask("consistency", index + 1, size)
-    ran = subprocess.run([program], input="\n".join([*cases, ""]), capture_output=True, text=True)
-    check(f"{len(cases)} cases, 0 wrong" in ran.stdout.splitlines(), ran.stdout[-300:], ran.stderr)
+    # The last cases take long: each processor gets some of them.
+    parts = [cases[start::os.cpu_count()] for start in range(os.cpu_count())]
+    with ThreadPoolExecutor() as pool:
+        for part, ran in zip(parts, pool.map(lambda part: answered(program, part), parts)):
+            check(f"{len(part)} cases, 0 wrong" in ran.stdout.splitlines(), ran.stdout[-300:], ran.stderr)
     return {"roots and proofs": len(cases)}
 
 
-def compare_exchange(rng, go, path, count, folder):
+def answered(program, cases):
+    return subprocess.run([program], input="\n".join([*cases, ""]), capture_output=True, text=True)
+
+
+def in_chunks(rng, call, count, *words):
+    """The counts of a call for so many, by a process for each processor. A chunk of them has a seed and a folder of its
+    own."""
+    chunks = [min(CHUNK, count - start) for start in range(0, count, CHUNK)]
+    seeds = [rng.randbytes(8) for _ in chunks]
+    with ProcessPoolExecutor() as pool:
+        return sum(pool.map(in_folder, *([word] * len(chunks) for word in (call, words)), seeds, chunks), Counter())
+
+
+def in_folder(call, words, seed, count):
+    with tempfile.TemporaryDirectory() as folder:
+        return call(Random(seed), Path(folder), count, *words)
+
+
+def exchange(rng, folder, count, path, *peers):
     """fohlazu and Go take each other's checkpoints and proofs. A signed checkpoint with a byte dropped, changed or put
     in is malformed to both or to neither."""
-    program = Program(path, folder)
+    go, program = peer(folder, *peers), Program(path, folder)
     counts = Counter()
     names = ["sum.golang.org", "witness.example"]
     signers = [Key(folder / name, name, rng.randbytes(32)).skey for name in names]
@@ -218,13 +270,13 @@ class Scripts:
         self.go = go
         self.folder = folder
         self.notes = Notes(rng, go, folder)
-        self.is_forked = False
+        self.is_inside = False
         self.counts = Counter()
 
     def run(self, name, *words, data=b""):
         """The status, what a script prints, and what it says: a refusal is one line on standard error."""
-        if self.is_forked:
-            status, printed, said = run_forked(TOP / "share" / name, words, data)
+        if self.is_inside:
+            status, printed, said = run_inside(TOP / "share" / name, words, data)
         else:
             ran = subprocess.run([sys.executable, TOP / "share" / name, *words], input=data, capture_output=True)
             status, printed, said = ran.returncode, ran.stdout, ran.stderr
@@ -269,7 +321,19 @@ class Scripts:
         self.counts["cosigned"] += 1
 
 
-def compare_notes(rng, go, folder, more):
+def further_notes(rng, folder, count, *peers):
+    """So many further texts and notes."""
+    scripts = Scripts(rng, peer(folder, *peers), folder)
+    scripts.is_inside, before = True, open_files()
+    for _ in range(count):
+        scripts.try_signing()
+    for case in scripts.notes.cases(count, 0, count // 10):
+        scripts.compare(*case)
+    check(open_files() == before, "the scripts leave files open")
+    return scripts.counts
+
+
+def compare_notes(rng, go, folder, more, peers):
     if not shutil.which("openssl"):
         return "skipped, it needs openssl"
     scripts = Scripts(rng, go, folder)
@@ -278,27 +342,25 @@ def compare_notes(rng, go, folder, more):
         scripts.try_cosigned()
     for case in scripts.notes.cases(COSIGNATURES, 0, COSIGNATURES):
         scripts.compare(*case)
-    scripts.is_forked = True
+    scripts.is_inside = True
     for _ in range(SIGNED):
         scripts.try_signing()
     for case in scripts.notes.cases(SIGNED, BYTEWISE, DAMAGED):
         scripts.compare(*case)
-    for _ in range(more):
-        scripts.try_signing()
-    for case in scripts.notes.cases(more, 0, more // 10):
-        scripts.compare(*case)
-    return scripts.counts
+    return scripts.counts + in_chunks(rng, further_notes, more, *peers)
 
 
 def main():
-    is_alone = "notes" in sys.argv[1:3]
-    sys.argv[1:] = [word for word in sys.argv[1:] if word != "notes"]
+    has_notes, has_proofs, is_both = (word in sys.argv[1:] for word in PARTS)
+    is_all = has_notes == has_proofs
+    sys.argv[1:] = [word for word in sys.argv[1:] if word not in PARTS]
     is_quick, numbers = arguments(lambda numbers: len(numbers) in (0, 2))
     count, seed = numbers or (100000, 1)
     missing = golang.skipped()
     with tempfile.TemporaryDirectory() as folder:
         folder = Path(folder)
-        go = Reference(folder) if missing else Sumdb(folder)
+        peers = None if missing else build(folder), is_both
+        go = peer(folder, *peers)
         if missing:
             print(f"peers: Go is {missing}: reference.py takes its place")
 
@@ -306,13 +368,15 @@ def main():
             found = call(Random(f"{seed} {name}"), *words)
             print(f"peers: {name}: {found if isinstance(found, str) else counted(found)}", flush=True)
 
-        if not is_alone:
-            answers, path = built(is_quick, "test_log"), built(is_quick)
+        if is_all:
             part("verdicts", compare_verdicts, go, count)
-            part("answers", compare_answers, answers, go)
-            part("fohlazu", compare_exchange, go, path, count // 50, folder)
-            part("certificates", compare_certificates, go, path, folder)
-        part("notes", compare_notes, go, folder, count if is_alone and numbers else 0)
+            part("answers", compare_answers, built(is_quick, "test_log"), go, count)
+        if has_proofs or is_all:
+            part("fohlazu", in_chunks, exchange, count // (50 if is_all else 2), built(is_quick), *peers)
+        if is_all:
+            part("certificates", compare_certificates, go, built(is_quick), folder)
+        if has_notes or is_all:
+            part("notes", compare_notes, go, folder, 0 if is_all else count, peers)
 
 
 run_script(main)

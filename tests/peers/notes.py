@@ -20,13 +20,18 @@ TEXTS = ["", "\n", "\n\n", " ", "\t", "\r", "\0", "\x7f", "+", "=", "A", "B", "â
 PIECES = [*map(str.encode, TEXTS), b"\xff", b"\xc0\x80", b"\xed\xa0\x80", b"\xf4\x90\x80\x80", b"\xe2\x80"]
 
 
-class Sumdb:
-    """The program in Go, built in a folder."""
+def build(folder):
+    """Builds the program in Go."""
+    environment = {**os.environ, **golang.ENVIRONMENT, "GOCACHE": f"{folder}/cache"}
+    subprocess.run(["go", "build", "-o", folder / "sumdb", SOURCE], cwd=folder, env=environment, check=True)
+    return folder / "sumdb"
 
-    def __init__(self, folder):
-        environment = {**os.environ, **golang.ENVIRONMENT, "GOCACHE": f"{folder}/cache"}
-        subprocess.run(["go", "build", "-o", folder / "sumdb", SOURCE], cwd=folder, env=environment, check=True)
-        self._process = subprocess.Popen([folder / "sumdb"], stdin=subprocess.PIPE, stdout=subprocess.PIPE)
+
+class Sumdb:
+    """A process of the program in Go."""
+
+    def __init__(self, program):
+        self._process = subprocess.Popen([program], stdin=subprocess.PIPE, stdout=subprocess.PIPE)
 
     def ask(self, *words):
         """The answer to a question, or None where Go refuses. A proof is a list."""

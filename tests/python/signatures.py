@@ -10,7 +10,7 @@ from collections import Counter
 import fohlazu
 import golang
 from keys import Key, is_signature
-from notes import Notes, Sumdb
+from notes import Notes, Sumdb, build
 from reference import Reference
 from script import check, counted
 
@@ -43,7 +43,7 @@ def compare_openssl(rng, work):
 def compare_go(rng, work):
     """Notes, whole and damaged. Where Go is not installed, its second writing in Python takes its place."""
     beside = "beside reference.py" if golang.skipped() else "beside Go"
-    go, counts = Reference(work) if golang.skipped() else Sumdb(work), Counter()
+    go, counts = Reference(work) if golang.skipped() else Sumdb(build(work)), Counter()
     for what, vkey, note in Notes(rng, go, work).cases(200, 2, 2000):
         expected, found = go.ask("open", vkey, note), opened(vkey.decode(errors="surrogateescape"), note)
         check(found == expected and (found or what != "whole"), what, vkey, note, found, "Go:", expected)
