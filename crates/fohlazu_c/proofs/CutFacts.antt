@@ -1,5 +1,6 @@
 -- Bytes that are cut into rows, and rows that lie one after another.
-use Rattle.std.proofs.Common.{◌≡◌, ◌∙◌, ◌+◌, ◌<◌, ◌≤◌, ℕ, suc, List, [], ◌∷◌, Some, ap, arith, drop, length, length-drop}
+use Rattle.std.proofs.Common.{◌≡◌, ◌∙◌, ◌+◌, ◌<◌, ◌≤◌, ℕ, suc, List, [], ◌∷◌, Some, ap, arith, drop, length}
+use Rattle.std.proofs.Common.{length-drop}
 use Rattle.std.proofs.Common.{map, min, refl, sym, take}
 use Rattle.std.specs.Prelude.{sum_by}
 use Rattle.std.proofs.lemmas.Bool.{ne_eqb}

@@ -1,6 +1,7 @@
 -- Why an opening is refused: the first reason that applies.
 use Rattle.std.specs.Prelude.{◌≡◌, ℕ, suc, false, slice_get, ◌==◌, ◌&&◌, nat_lt, Bool, if◌then◌else◌, List, [], ◌∷◌}
-use Rattle.std.specs.Prelude.{◌-◌, ◌^◌, length, min, filter, zip, unwrap_or, option_map, slice_index, slice_index_or, Option}
+use Rattle.std.specs.Prelude.{◌-◌, ◌^◌, length, min, filter, zip, unwrap_or, option_map, slice_index, slice_index_or}
+use Rattle.std.specs.Prelude.{Option}
 use Rattle.std.specs.Prelude.{None, Result, Decides}
 use Rattle.std.specs.List.{list_all, range_with_len, enumerate_from}
 use Rattle.std.specs.Option.{option_or}

@@ -304,8 +304,9 @@ impl<'a> Schedule<'a> {
         }
     }
 
-    /// The shape of the layer above the layer `below`. That is the number of a layer below the root; `exponent` and `len`
-    /// must be its exponent and its number of nodes. The arity must be a power of two from 2 to 2^62, and [`check_heights`] must accept the heights.
+    /// The shape of the layer above the layer `below`. That is the number of a layer below the root; `exponent` and
+    /// `len` must be its exponent and its number of nodes. The arity must be a power of two from 2 to 2^62, and
+    /// [`check_heights`] must accept the heights.
     pub fn layer_above(&self, below: usize, exponent: usize, len: usize) -> LayerShape
         requires { IsBelowTop (shape_of self.now.arity self.now.dimensions.now) below exponent len }
         ensures level { IsLevel (shape_of self.now.arity self.now.dimensions.now) result }

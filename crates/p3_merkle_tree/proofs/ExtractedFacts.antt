@@ -21,7 +21,8 @@ use Rattle.p3_merkle_core.specs.Refusals.{AnswersUnlessMemory, IsEquality}
 use Rattle.p3_merkle_core.specs.declared.cap.CapRule.{CapRule}
 use Rattle.p3_merkle_core.specs.declared.error.MerkleTreeError.{MerkleTreeError}
 use Rattle.p3_merkle_core.specs.declared.error.MerkleTreeError.TheVariants.{OutOfMemory}
-use Rattle.p3_merkle_core.proofs.Collisions.ExtractionFacts.{IsPresentation, all_authenticated, extracted, extracted_one}
+use Rattle.p3_merkle_core.proofs.Collisions.ExtractionFacts.{IsPresentation, all_authenticated, extracted}
+use Rattle.p3_merkle_core.proofs.Collisions.ExtractionFacts.{extracted_one}
 use Rattle.p3_merkle_tree.specs.Schemes.{cap_height_of, cap_rule_of, params_of}
 use Rattle.p3_merkle_tree.proofs.VerdictFacts.{verdict_by}
 use Rattle.p3_merkle_tree.specs.HidingSchemes.{plain_of}
@@ -169,7 +170,8 @@ module _ {P PW H C R X G V W : Type 0} {N D E : ℕ} {p : packed.Ghosts P V} {pd
   -- so it is to two openings of one index each
   pub one_answer : (o u : SaltedOpening V W) (r : Result (Option (InputPair V (List W))) MerkleTreeError) →
       let c = over (widened E ds) in
-      AnswersUnlessMemory r (option_or (salted_refusal_under qe.eq E ds c cap o) (salted_refusal_under qe.eq E ds c cap u)) →
+      AnswersUnlessMemory r (option_or (salted_refusal_under qe.eq E ds c cap o)
+      (salted_refusal_under qe.eq E ds c cap u)) →
       IfOk r (λ found. option_map inputs_in found ≡ difference_of pe.eq qe.eq c (joined o) (joined u)) →
       IsSaltedExtraction pe.eq qe.eq (cap_rule_of (plain_of s)) E ds c cap o u r
   one_answer o u r answer found =

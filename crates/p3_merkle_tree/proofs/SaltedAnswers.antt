@@ -1,5 +1,6 @@
 -- What is not refused of rows and salts is accepted, and the other way round.
-use Rattle.std.proofs.Common.{◌≡◌, ◌↔◌, ℕ, Bool, List, [], ◌∷◌, refl, sym, ap, ◌∙◌, arith, length, map, zip, None, eqb, Some}
+use Rattle.std.proofs.Common.{◌≡◌, ◌↔◌, ℕ, Bool, List, [], ◌∷◌, refl, sym, ap, ◌∙◌, arith, length, map, zip, None}
+use Rattle.std.proofs.Common.{eqb, Some}
 use Rattle.std.specs.Prelude.{Err, Ok}
 use Rattle.std.specs.Option.{option_or}
 use Rattle.p3_merkle_core.specs.Openings.{Opening}
@@ -144,7 +145,8 @@ module _ {T W : Type 0} (same : W → W → Bool) (e : ℕ) (ds : List Dimension
 
 -- rows and salts that are not refused are answered as the plain opening that they are joined to
 module _ {T W : Type 0} (same : W → W → Bool) (e : ℕ) (ds : List Dimensions) (c given : Params T W)
-    (cap : List (List W)) (o : SaltedOpening T W) (u : Opening T W) (none : salted_rows_refusal e ds o.rows o.salts ≡ None)
+    (cap : List (List W)) (o : SaltedOpening T W) (u : Opening T W) (none : salted_rows_refusal e ds o.rows o.salts
+    ≡ None)
     (alike : given ≡ c) (is : u ≡ joined o) where
   plain : answer_under same given cap u ≡ answer_under same c cap (joined o)
   plain i = answer_under same (alike i) cap (is i)

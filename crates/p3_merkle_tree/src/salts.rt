@@ -110,7 +110,8 @@ pub fn check_widening(dimensions: &[Dimensions], salt_elems: usize) -> Result<()
     Ok(())
 }
 
-/// The dimensions, each with `salt_elems` more columns. The new widths must fit `usize`. `AllocError` if memory runs out.
+/// The dimensions, each with `salt_elems` more columns. The new widths must fit `usize`. `AllocError` if memory runs
+/// out.
 pub fn widened_dimensions(
     alloc: Global,
     dimensions: &[Dimensions],

@@ -93,7 +93,8 @@ queried_by_firsts s indices (x ∷ xs) all =
 -- the first queries of the distinct indices are under the leaves
 pub leaf_queries : (s : Shape) (indices : List ℕ) (queried : DistinctQueries) → AreDistinctOf queried indices →
     queried.indices.items ≡ map (node_of_query s indices 0) queried.first_queries.items
-leaf_queries s indices queried are = are.indices ∙ queried_by_firsts s indices (distinct indices) (distinct_queried indices)
+leaf_queries s indices queried are = are.indices ∙ queried_by_firsts s indices (distinct indices)
+    (distinct_queried indices)
     ∙ ap (map (node_of_query s indices 0)) (sym are.first_queries)
 
 pub leaves_known : (s : Shape) (indices : List ℕ) (t : ℕ) → CanQuery s indices t → (queried : DistinctQueries) →

@@ -20,7 +20,8 @@ flat_ahead [] others = refl
 flat_ahead (word ∷ part) others = refl
 
 -- one row, which is of the exponent or not
-one_row : {T : Type 0} (b : Bool) (h : ℕ) (part : List T × List T) (others : List (List T)) (pairs : List (ℕ × List T)) →
+one_row : {T : Type 0} (b : Bool) (h : ℕ) (part : List T × List T) (others : List (List T)) (pairs : List
+    (ℕ × List T)) →
     flat others ≡ words pairs →
     flat (cond b (part.0 ∷ ahead part.1 others) others) ≡ words (cond b ((h, part.0 ++ part.1) ∷ pairs) pairs)
 one_row true h part others pairs rest =

@@ -66,7 +66,8 @@ layers_more {W = W} {f} {s} {t} {p} {l} {old} {below = below} {above} w is_below
                     let here = listed_covered s p.indices l j
                     (rw (covers (w.top x).coverage).nodes_are at (rw (← there) at c)) in
                     rw ((covers layer.coverage).nodes_are, layer.family.step_is)
-                    (covered_listed s p.indices t asked (suc l) (j / step s l) inside (covered_up s p.indices l j here));
+                    (covered_listed s p.indices t asked (suc l) (j / step s l) inside
+                    (covered_up s p.indices l j here));
               })
         ];
       };

@@ -19,7 +19,8 @@ use Rattle.p3_merkle_verifier.proofs.SharedFacts.{difference_below, shows_later}
 
 -- the checks of two openings stand at layer l, and this is the last difference below it
 pub record StandTogether {T W : Type 0} (test : Input T W → Input T W → Bool) (f : Functions T W) (s : Shape)
-    (o u : Opening T W) (l : ℕ) (first second : PathState (List W)) (last : Option (InputPair T (List W))) : Type 0 where
+    (o u : Opening T W) (l : ℕ) (first second : PathState (List W)) (last : Option (InputPair T
+    (List W))) : Type 0 where
   pub first_state : IsPathState f s o l first
   pub second_state : IsPathState f s u l second
   pub found : Shows last (difference_below test f s o u l)

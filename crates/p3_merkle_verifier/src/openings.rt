@@ -11,7 +11,8 @@ ghost use Rattle.p3_merkle_core.specs.Geometry.{height_limit, shape_of};
 ghost use Rattle.p3_merkle_core.specs.Inner.Agreement.{opened_of, AreDistinctOf};
 ghost use Rattle.p3_merkle_core.specs.Pruning.{boundary, CanQuery, IsAgreed};
 ghost use Rattle.p3_merkle_verifier.specs.Inner.OpenedRows.{opened_row, HaveRows};
-ghost use Rattle.p3_merkle_verifier.specs.Inner.Parts.{parts_left, parts_of_exponent, rows_left, salted_left, words_left};
+ghost use Rattle.p3_merkle_verifier.specs.Inner.Parts.{parts_left, parts_of_exponent, rows_left, salted_left};
+ghost use Rattle.p3_merkle_verifier.specs.Inner.Parts.{words_left};
 
 use p3_merkle_core::geometry::exponent_of;
 use p3_merkle_core::pruning::DistinctQueries;

@@ -12,7 +12,8 @@ ghost use Rattle.p3_merkle_core.specs.Geometry.{layer_exponent, shape_of, step a
 ghost use Rattle.p3_merkle_core.specs.Checks.{siblings_below, words_of_exponent};
 ghost use Rattle.p3_merkle_core.specs.Nodes.{padded};
 ghost use Rattle.p3_merkle_core.specs.Refusals.{answer_under, is_entry as is_entry_of};
-ghost use Rattle.p3_merkle_verifier.specs.Inner.Checks.{functions_of, opening_in, salted_form_refusal, salted_params_in, shape_in};
+ghost use Rattle.p3_merkle_verifier.specs.Inner.Checks.{functions_of, opening_in, salted_form_refusal};
+ghost use Rattle.p3_merkle_verifier.specs.Inner.Checks.{salted_params_in, shape_in};
 ghost use Rattle.p3_merkle_verifier.specs.Inner.Checks.{step_siblings, CanStep, IsLevelOfCheck, IsPathState};
 ghost use Rattle.p3_merkle_verifier.specs.Inner.Paths.{CanCheck, CanReach};
 
@@ -84,7 +85,8 @@ fn lemma_step<X>(
     used: usize,
     siblings: &[X],
 )
-    requires reach { CanReach (shape_of schedule.now.arity schedule.now.dimensions.now) cap_layer (length siblings.now) }
+    requires reach { CanReach (shape_of schedule.now.arity schedule.now.dimensions.now) cap_layer
+        (length siblings.now) }
     requires level { level < cap_layer }
     requires step { step ≡ step_of (shape_of schedule.now.arity schedule.now.dimensions.now) level }
     requires used { used ≡ siblings_below (shape_of schedule.now.arity schedule.now.dimensions.now) level }

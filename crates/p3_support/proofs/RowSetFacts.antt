@@ -32,7 +32,8 @@ module _ {T A B C D : Type 0} (sets : List (Vec (Vec T A) B)) (salts : List (Vec
       )
 
   -- so both are read
-  pub set_and_salts : get_or (map (λ (rows, salt). rows_in_parts (zip rows salt)) (zip (row_sets sets) (row_sets salts))) k []
+  pub set_and_salts :
+      get_or (map (λ (rows, salt). rows_in_parts (zip rows salt)) (zip (row_sets sets) (row_sets salts))) k []
       ≡ rows_in_parts (zip (get_or (row_sets sets) k []) (get_or (row_sets salts) k []))
   set_and_salts =
       pair_read (λ (rows, salt). rows_in_parts (zip rows salt)) (row_sets sets) (row_sets salts) k [] [] [] h

@@ -166,8 +166,9 @@ where
     assert_eq!(verdict, Ok(()));
     let words = opening.opened_values.concat();
     let flat = RowParts::Flat { words: &words, dimensions: &dimensions };
-    let verify = || scheme.verify_rows(cap.roots(), &dimensions, 5, flat, &opening.opening_proof);
-    assert_eq!(without_memory("verify_rows", verify), Ok(()));
+    let siblings = &opening.opening_proof;
+    let verdict = without_memory("verify_rows", || scheme.verify_rows(cap.roots(), &dimensions, 5, flat, siblings));
+    assert_eq!(verdict, Ok(()));
     each("proof_arity_schedule", || scheme.proof_arity_schedule(&dimensions));
     let count = opening.opening_proof.len();
     let path = || scheme.replay_arity_and_positions(&dimensions, 5, count);
@@ -242,9 +243,7 @@ where
     let opening = BatchOpeningRef::new(&rows, &proof);
     let verdict = without_memory("verify_batch", || scheme.verify_batch(&cap, &dimensions, 5, opening));
     assert_eq!(verdict, Ok(()));
-    let found =
-        without_memory("extract_collision", || scheme.extract_collision(&cap, &dimensions, 5, opening, 5, opening));
-    assert_eq!(found, Ok(None));
+    assert_eq!(scheme.extract_collision(&cap, &dimensions, 5, opening, 5, opening), Ok(None));
     let (rows, proof) = each("open_multi_batch", || scheme.open_multi_batch(&QUERIES, &tree));
     each("verify_multi_batch", || scheme.verify_multi_batch(&cap, &dimensions, &QUERIES, &rows, &proof));
     each("extract_collision_multi", || {
@@ -252,11 +251,28 @@ where
     });
 }
 
+/// The call that finds a collision of two salted openings, by the fold functions, with two salts a row.
+fn salted_collision<P: FoldLane, const L: usize>(name: &str) {
+    println!("salted collision {name}");
+    let (hash, compress) = (FoldHash::<L>, FoldCompress::<2, L>);
+    let mut scheme =
+        MerkleTreeHidingMmcs::<P, P, _, _, Counting, 2, 1, 2>::new(hash, compress, 0, Counting::new(10, 1));
+    let dimensions = dimensions_of(&batch::<u32>()).unwrap();
+    let (cap, tree) = scheme.commit(batch::<u32>()).unwrap();
+    let opening = scheme.open_batch(5, &tree).unwrap();
+    let twin_rows = twin(&opening.opened_values);
+    let first = BatchOpeningRef::from(&opening);
+    let second = BatchOpeningRef::new(&twin_rows, &opening.opening_proof);
+    let extract = || scheme.extract_collision(&cap, &dimensions, 5, first, 5, second);
+    assert!(each("extract_collision", extract).is_some());
+}
+
 #[test]
 fn fold_functions_one_by_one() {
     plain::<u32, u32, _, _, 2, 1>("by the fold functions", FoldHash::<1>, FoldCompress::<2, 1>);
     salted::<u32, u32, _, _, 2, 1>("by the fold functions", FoldHash::<1>, FoldCompress::<2, 1>);
     plain_collisions::<u32, 1>("by the fold functions");
+    salted_collision::<u32, 1>("by the fold functions");
 }
 
 #[test]
@@ -265,6 +281,7 @@ fn fold_functions_in_lanes() {
     plain::<u32, U32x8, _, _, 4, 2>("in eight lanes", FoldHash::<1>, FoldCompress::<4, 1>);
     salted::<u32, U32x8, _, _, 4, 2>("in eight lanes", FoldHash::<1>, FoldCompress::<4, 1>);
     plain_collisions::<U32x8, 1>("in eight lanes");
+    salted_collision::<U32x8, 1>("in eight lanes");
 }
 
 #[test]
@@ -273,6 +290,7 @@ fn fold_functions_in_batches() {
     plain::<u32, u32, _, _, 8, 1>("by three", Batched3(FoldHash::<1>), Batched3(FoldCompress::<8, 1>));
     salted::<u32, u32, _, _, 2, 1>("by eight", FoldHash::<8>, FoldCompress::<2, 8>);
     plain_collisions::<u32, 8>("by eight");
+    salted_collision::<u32, 8>("by eight");
 }
 
 #[test]

@@ -10,7 +10,8 @@ use Rattle.p3_merkle_core.specs.declared.cap.CapRule.TheVariants.{Fixed, Lowered
 use Rattle.p3_merkle_core.specs.Extraction.{difference_of, input_eq, last_difference}
 use Rattle.p3_merkle_core.specs.Checks.{inputs_at, layer_words, meeting_level, params, path_digest, shared_inputs}
 use Rattle.p3_merkle_core.specs.Checks.{siblings_below, words_at}
-use Rattle.p3_merkle_core.specs.Geometry.{ancestor, exponent, has_rows, is_bridge, layer_below_root, layer_exponent, leaves_under, levels}
+use Rattle.p3_merkle_core.specs.Geometry.{ancestor, exponent, has_rows, is_bridge, layer_below_root, layer_exponent}
+use Rattle.p3_merkle_core.specs.Geometry.{leaves_under, levels}
 use Rattle.p3_merkle_core.specs.Geometry.{least, shape_of, step}
 use Rattle.p3_merkle_core.specs.declared.collision.Place.TheVariants.{Leaf}
 use Rattle.p3_merkle_core.specs.Nodes.{Functions}
@@ -97,7 +98,8 @@ module _ (n : ℕ) (ds es : List Dimensions) (same : heights_of ds ≡ heights_o
       (o u : Opening T W) →
       difference_of eq same (params f (shape_of n ds) t) o u ≡ difference_of eq same (params f (shape_of n es) t) o u
   difference_same eq test f t o u =
-      λ k. last_difference (input_eq eq test) (shared_same f t o.index u.index o k) (shared_same f t o.index u.index u k)
+      λ k. last_difference (input_eq eq test) (shared_same f t o.index u.index o k)
+      (shared_same f t o.index u.index u k)
 
   levels_same : levels (shape_of n ds) ≡ levels (shape_of n es)
   levels_same = λ k. least (λ l. exponent_same l k == 0) (exponent (greatest (same k)))

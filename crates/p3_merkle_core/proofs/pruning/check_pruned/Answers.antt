@@ -50,7 +50,8 @@ returns-in_err-check_digest_count g c =
 inside : (g : Over) (c : After-deref-query-items g) →
     All (λ query. query < length (sets_in c.args.rows)) c.deref-query-items.result.now
 inside g c =
-    let asked = asked_from (heights_of c.args.schedule.now.dimensions.now) c.args.indices.now (length (sets_in c.args.rows))
+    let asked = asked_from (heights_of c.args.schedule.now.dimensions.now) c.args.indices.now (length
+    (sets_in c.args.rows))
     c.args.num_digests (rw c.num_sets.ensures at c.in_ok-check_queries.ensures.answer) in
     rw (c.deref-query-items.ensures.value, ← asked.pairs) (firsts_inside
     c.in_ok-queried.queried.first_queries.items c.args.indices.now c.in_ok-queried.ensures.first_queries)
@@ -112,7 +113,8 @@ check_shared_rows-requires g c =
     let indices = c.args.indices.now in
     let d = distinct indices in
     let firsts = c.in_ok-queried.queried.first_queries.items in
-    let asked = asked_from (heights_of c.args.schedule.now.dimensions.now) c.args.indices.now (length (sets_in c.args.rows))
+    let asked = asked_from (heights_of c.args.schedule.now.dimensions.now) c.args.indices.now (length
+    (sets_in c.args.rows))
     c.args.num_digests (rw c.num_sets.ensures at c.in_ok-check_queries.ensures.answer) in
     let s = shape_of c.args.schedule.now.arity c.args.schedule.now.dimensions.now in
     let m = greatest (heights_of c.args.schedule.now.dimensions.now) in

@@ -37,7 +37,8 @@ returns-then-not-same_rows g c =
     let first = c.index-first.result.now in
     let (slot, inside) = at_first g (goal.at.returns-then-not-same_rows g c).After-index-first in
     (repeat_turn eq firsts indices sets (duplicate_refusal eq (opened_of indices sets)) n
-    c.index-slot.result.now first (not c.same_rows.result) c.requires.queried.first_queries c.requires.pairs (omega arith) slot
+    c.index-slot.result.now first (not c.same_rows.result) c.requires.queried.first_queries c.requires.pairs
+    (omega arith) slot
     c.index-first.ensures
     (ap not (c.same_rows.ensures
     ∙ (λ i. pointwise (pointwise eq) (c.rows.ensures i) (c.rows-then-query-first.ensures i))))
@@ -56,7 +57,8 @@ loop-query-preserved g c =
     elim c.else-query-first.branch [
       | else-query-first-via-then-query-first+else-not-same_rows w ↦
           (repeat_turn eq firsts indices sets (duplicate_refusal eq (opened_of indices sets)) n
-          c.index-slot.result.now first (not w.same_rows.result) c.requires.queried.first_queries c.requires.pairs (omega arith)
+          c.index-slot.result.now first (not w.same_rows.result) c.requires.queried.first_queries c.requires.pairs
+          (omega arith)
           slot c.index-first.ensures
           (ap not (w.same_rows.ensures
           ∙ (λ i. pointwise (pointwise eq) (w.rows.ensures i) (w.rows-then-query-first.ensures i))))

@@ -9,6 +9,7 @@ use Rattle.p3_merkle_core.proofs.pruning.check_same_rows.Given as goal
 abbrev pub invariant-loop-matrix : goal.invariant-loop-matrix
 invariant-loop-matrix g l =
     let sets = sets_in l.rows in
-    let fault = row_fault g.T.PartialEq.eq l.slot (slice_index_or sets l.query []) (slice_index_or sets l.first_query [])
+    let fault = row_fault g.T.PartialEq.eq l.slot (slice_index_or sets l.query [])
+    (slice_index_or sets l.first_query [])
     in
     first_of fault (drop l.matrix-index l.matrices) ≡ first_of fault l.matrices

@@ -17,5 +17,6 @@ returns g c =
     let mine = ap (λ x. words_of_exponent x (zip heights o.rows)) schedule.walked.leaves in
     let theirs = ap (λ x. words_of_exponent x (zip heights u.rows)) schedule.walked.leaves in
     IfOk-weaker c.differing_words.result _ _
-    (λ found is. found_leaf g.T.PartialEq.eq g.W.PartialEq.eq (shape_of schedule.arity schedule.dimensions.now) o u found
+    (λ found is. found_leaf g.T.PartialEq.eq g.W.PartialEq.eq
+    (shape_of schedule.arity schedule.dimensions.now) o u found
     c.if-first-second.false mine theirs is) c.differing_words.ensures

@@ -31,6 +31,7 @@ returns g c =
     (run_of_loop (YieldsFirstBy (λ part. part.now) parts_left) (λ ps. words ≡ flat_map (λ part. part.now) ps)
     c.loop-part.yielded c.next.new.self c.into_iter-part-iterator.ensures.into_iter_gives c.loop-part.yielded_by
     c.in-None.is c.next.ensures.steps c.loop-part.invariant)
-    (YieldsList-from_first (λ part. part.now) parts_left (parts_of_exponent c.args.exponent hs parts) c.new-part-items.ensures)
+    (YieldsList-from_first (λ part. part.now) parts_left (parts_of_exponent c.args.exponent hs parts)
+    c.new-part-items.ensures)
     (λ ps e h. h ∙ sym (flat_map-map (λ part. part) (λ part. part.now) ps)
     ∙ ap (flat_map (λ part. part)) e ∙ words_of_parts c.args.exponent hs parts)

@@ -22,7 +22,8 @@ returns-in_err-check_heights-clause-answer g c =
     rw (
       p.1,
       p.2,
-      sized (length c.args.schedule.now.dimensions.now) c.args.rows (sym c.num_rows-got.ensures ∙ c.if-got-expected.false),
+      sized (length c.args.schedule.now.dimensions.now) c.args.rows (sym c.num_rows-got.ensures
+          ∙ c.if-got-expected.false),
       c.in_err-check_heights.ensures.answer,
     )
     refl

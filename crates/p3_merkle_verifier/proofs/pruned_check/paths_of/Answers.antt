@@ -1,6 +1,7 @@
 -- Each turn reads the path of one more leaf, or copies that of one more query; the paths out of the layers are the
 -- restored ones.
-use Rattle.std.proofs.Common.{◌≡◌, ◌∙◌, ◌<◌, ◌≤◌, ℕ, List, ap, arith, rules, get_or, inl, inr, length, map, refl, sym, take, true}
+use Rattle.std.proofs.Common.{◌≡◌, ◌∙◌, ◌<◌, ◌≤◌, ℕ, List, ap, arith, rules, get_or, inl, inr, length, map, refl, sym}
+use Rattle.std.proofs.Common.{take, true}
 use Rattle.std.proofs.lemmas.Bool.{cases_lt}
 use Rattle.std.proofs.lemmas.List.{get_or-map, get_or-set_other, get_or-take, get_or_default, length-map, length-set}
 use Rattle.std.proofs.lemmas.List.{length-take-le, take_all}
@@ -38,8 +39,10 @@ loop-leaf-preserved g c =
     let so_far = c.loop-leaf.invariant in
     record {
       places = so_far.places;
-      paths = view_more (λ path. path.items) (siblings_on_path (levels_in c.args.layers.now)) c.deref-leaf-items.result.now k
-          c.loop-leaf.of_leaves.items c.push_reserved.new.self.items c.in_ok-siblings_on_path.field-0 c.loop-leaf-test.true
+      paths = view_more (λ path. path.items) (siblings_on_path
+          (levels_in c.args.layers.now)) c.deref-leaf-items.result.now k
+          c.loop-leaf.of_leaves.items c.push_reserved.new.self.items c.in_ok-siblings_on_path.field-0
+          c.loop-leaf-test.true
           so_far.paths c.push_reserved.ensures.items c.in_ok-siblings_on_path.ensures;
       count = omega (arith, c.push_reserved.ensures.len, so_far.count);
       capacity = omega (arith, c.push_reserved.ensures.capacity, so_far.capacity);
@@ -149,7 +152,8 @@ loop-query-preserved g c =
       ];
       left = elim c.if-query-first.branch [
         | then-query-first w ↦ rw w.of_leaves-is (λ s x inside past is.
-            so_far.left s x (omega (arith, inside, length-set leaves at w.replace-siblings.new.dest)) (omega (arith, past))
+            so_far.left s x (omega (arith, inside, length-set leaves at w.replace-siblings.new.dest)) (omega
+            (arith, past))
             (is ∙ get_or-set_other leaves at s w.replace-siblings.new.dest x
             (λ same. omega (arith, past, ap (λ i. get_or firsts i 0) same, read, w.if-query-first.true))))
         | else-query-first+in_ok-siblings w ↦ rw w.of_leaves-is

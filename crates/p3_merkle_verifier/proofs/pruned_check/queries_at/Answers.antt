@@ -97,7 +97,8 @@ returns-clause-queries g c l h at =
     let half = λ (j : ℕ). j / 2 ^ bits in
     let all = take_all c.loop-slot.slot (map half leaves) (omega (arith, length-map leaves half)) in
     queries_known s indices restorable.cap_layer restorable.queried l bits h
-    (c.saturating_sub-bits.ensures ∙ rw (at, restorable.schedule.now.walked.leaves, layer_start s) refl) c.loop-slot.queries.items
+    (c.saturating_sub-bits.ensures ∙ rw (at, restorable.schedule.now.walked.leaves, layer_start s) refl)
+    c.loop-slot.queries.items
     c.loop-slot.invariant.among
     (c.loop-slot.invariant.under ∙ ap (dedup eqb) all
     ∙ ap (λ xs. dedup eqb (map half xs)) restorable.distinct.indices)

@@ -10,7 +10,8 @@ invariant-loop-slot g l =
     let node = node_of_query (tree_of l.restorable) indices 0 in
     let leaves = l.restorable.leaves.indices.items in
     record {
-      under : map (λ k. node k / 2 ^ l.bits) l.queries.items ≡ dedup eqb (take l.slot (map (λ j. j / 2 ^ l.bits) leaves));
+      under : map (λ k. node k / 2 ^ l.bits) l.queries.items ≡ dedup eqb (take l.slot (map
+          (λ j. j / 2 ^ l.bits) leaves));
       among : All (λ k. k < length indices) l.queries.items;
       before : 0 < l.slot → l.previous ≡ get_or leaves (l.slot - 1) 0 / 2 ^ l.bits;
       capacity : (l.queries.len ≤ l.slot) × (l.queries.cap ≡ length leaves);

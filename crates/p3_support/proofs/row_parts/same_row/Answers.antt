@@ -16,7 +16,8 @@ returns-then-eq g c =
     let rest = c.args.other.1.now in
     let front = c.split_at.result.0.now in
     let back = c.split_at.result.1.now in
-    let cut = sym ((λ i. c.split_at.ensures.front i ++ c.split_at.ensures.back i) ∙ take-append-drop (length first) other) in
+    let cut = sym ((λ i. c.split_at.ensures.front i ++ c.split_at.ensures.back i)
+    ∙ take-append-drop (length first) other) in
     let begins = sym c.eq-then-first-other_first.ensures ∙ c.if-eq.true in
     c.is_joined.ensures
     ∙ sym (longer_second eq first second other rest front back cut c.split_at.ensures.front_len
@@ -31,7 +32,8 @@ returns-else-eq g c =
     let rest = c.args.other.1.now in
     let front = c.split_at.result.0.now in
     let back = c.split_at.result.1.now in
-    let cut = sym ((λ i. c.split_at.ensures.front i ++ c.split_at.ensures.back i) ∙ take-append-drop (length first) other) in
+    let cut = sym ((λ i. c.split_at.ensures.front i ++ c.split_at.ensures.back i)
+    ∙ take-append-drop (length first) other) in
     let begins = sym c.eq-then-first-other_first.ensures ∙ c.if-eq.false in
     c.if-eq.false
     ∙ sym (longer_second eq first second other rest front back cut c.split_at.ensures.front_len
@@ -46,7 +48,8 @@ returns-then-eq-2 g c =
     let rest = c.args.other.1.now in
     let front = c.split_at-else-first-other_first.result.0.now in
     let back = c.split_at-else-first-other_first.result.1.now in
-    let cut = sym ((λ i. c.split_at-else-first-other_first.ensures.front i ++ c.split_at-else-first-other_first.ensures.back i) ∙ take-append-drop (length other) first) in
+    let cut = sym ((λ i. c.split_at-else-first-other_first.ensures.front i
+    ++ c.split_at-else-first-other_first.ensures.back i) ∙ take-append-drop (length other) first) in
     let begins = sym c.eq-else-first-other_first.ensures ∙ c.if-eq-2.true in
     c.is_joined-then-eq-2.ensures ∙ (lists_equiv g.met.T.Eq.laws).symm rest (back ++ second)
     ∙ sym (longer_first eq first second other rest front back cut c.split_at-else-first-other_first.ensures.front_len
@@ -61,7 +64,8 @@ returns-else-eq-2 g c =
     let rest = c.args.other.1.now in
     let front = c.split_at-else-first-other_first.result.0.now in
     let back = c.split_at-else-first-other_first.result.1.now in
-    let cut = sym ((λ i. c.split_at-else-first-other_first.ensures.front i ++ c.split_at-else-first-other_first.ensures.back i) ∙ take-append-drop (length other) first) in
+    let cut = sym ((λ i. c.split_at-else-first-other_first.ensures.front i
+    ++ c.split_at-else-first-other_first.ensures.back i) ∙ take-append-drop (length other) first) in
     let begins = sym c.eq-else-first-other_first.ensures ∙ c.if-eq-2.false in
     c.if-eq-2.false
     ∙ sym (longer_first eq first second other rest front back cut c.split_at-else-first-other_first.ensures.front_len

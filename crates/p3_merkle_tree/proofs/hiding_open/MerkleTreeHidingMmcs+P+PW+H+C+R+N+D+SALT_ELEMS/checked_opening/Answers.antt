@@ -28,7 +28,8 @@ returns-in_err-check_opening-clause-answer g c =
     rw (left.1, left.2) (refused_after g.PW.Value.PartialEq.eq e ds (salted_params_of c.args.self.now ds)
     (salted_params_in e checker) c.args.roots.now (salted_borrowed c.args.index c.args.opening) _ none
     (widened_alike (checked_functions checker) (functions_of scheme) checker.schedule.arity g.row.N
-    checker.schedule.dimensions.now ds checker.cap_layer (cap_rule_of scheme) (cap_height_of scheme) c.checker.ensures e)
+    checker.schedule.dimensions.now ds checker.cap_layer (cap_rule_of scheme)
+    (cap_height_of scheme) c.checker.ensures e)
     (λ i. opening_of c.args.index (salted_rows (rows i) (salts_lent i)) (siblings i)) c.in_err-check_opening.field-0.0
     c.in_err-check_opening.ensures.answer)
 
@@ -46,5 +47,7 @@ returns-clause-answer g c =
     passed_after g.PW.Value.PartialEq.eq e ds (salted_params_of c.args.self.now ds) (salted_params_in e checker)
     c.args.roots.now (salted_borrowed c.args.index c.args.opening) _ none
     (widened_alike (checked_functions checker) (functions_of scheme) checker.schedule.arity g.row.N
-    checker.schedule.dimensions.now ds checker.cap_layer (cap_rule_of scheme) (cap_height_of scheme) c.checker.ensures e)
-    (λ i. opening_of c.args.index (salted_rows (rows i) (salts_lent i)) (siblings i)) c.in_ok-check_opening.ensures.answer
+    checker.schedule.dimensions.now ds checker.cap_layer (cap_rule_of scheme)
+    (cap_height_of scheme) c.checker.ensures e)
+    (λ i. opening_of c.args.index (salted_rows (rows i) (salts_lent i))
+    (siblings i)) c.in_ok-check_opening.ensures.answer

@@ -5,7 +5,8 @@ use Rattle.p3_merkle_core.specs.Checks.{words_of_exponent}
 use Rattle.p3_merkle_verifier.specs.Inner.Checks.{functions_of, opening_in, shape_in}
 use Rattle.p3_merkle_verifier.proofs.AgreeFacts.{agree_more, agree_start, rows_same}
 use Rattle.p3_merkle_verifier.proofs.extraction.Checker+P+PW+H+C+array+N+array+D+PW+Value+N+D.agree.Goals as goal
-use Rattle.p3_merkle_verifier.proofs.extraction.Checker+P+PW+H+C+array+N+array+D+PW+Value+N+D.agree.Goals.{else-first-second-via-then-first-second+else-not-agree, else-first-second-via-else-first-second}
+use Rattle.p3_merkle_verifier.proofs.extraction.Checker+P+PW+H+C+array+N+array+D+PW+Value+N+D.agree.Goals.{else-first-second-via-then-first-second+else-not-agree}
+use Rattle.p3_merkle_verifier.proofs.extraction.Checker+P+PW+H+C+array+N+array+D+PW+Value+N+D.agree.Goals.{else-first-second-via-else-first-second}
 
 pub loop-level-init : goal.loop-level-init
 loop-level-init g c =

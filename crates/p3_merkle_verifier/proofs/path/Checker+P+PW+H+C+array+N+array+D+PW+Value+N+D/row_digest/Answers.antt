@@ -17,7 +17,8 @@ returns-in-Vecs g c =
     let hash = g.H.CryptographicHasher.hash c.args.self.now.hash.now in
     let hs = heights_of c.args.self.now.schedule.dimensions.now in
     let parts = whole (row_lists c.in-Vecs.rows.now) in
-    rw c.in-Vecs.is (fact_of_run (λ part. part.now) (λ ps. c.hash_iter_slices.result ≡ hash (flat_map (λ part. part.now) ps))
+    rw c.in-Vecs.is (fact_of_run (λ part. part.now) (λ ps. c.hash_iter_slices.result ≡ hash (flat_map
+    (λ part. part.now) ps))
     (c.hash_iter_slices.result ≡ hash (words_of_exponent c.args.exponent (zip hs (rows_in_parts parts))))
     c.hash_iter_slices.ensures
     (YieldsList-from_first (λ part. part.now) rows_left (parts_of_exponent c.args.exponent hs parts) refl)
@@ -29,7 +30,8 @@ returns-in-Salted g c =
     let hash = g.H.CryptographicHasher.hash c.args.self.now.hash.now in
     let hs = heights_of c.args.self.now.schedule.dimensions.now in
     let parts = zip (row_lists c.in-Salted.rows.now) (row_lists c.in-Salted.salts.now) in
-    rw c.in-Salted.is (fact_of_run (λ part. part.now) (λ ps. c.hash_iter_slices-in-Salted.result ≡ hash (flat_map (λ part. part.now) ps))
+    rw c.in-Salted.is (fact_of_run (λ part. part.now) (λ ps. c.hash_iter_slices-in-Salted.result ≡ hash (flat_map
+    (λ part. part.now) ps))
     (c.hash_iter_slices-in-Salted.result ≡ hash (words_of_exponent c.args.exponent (zip hs (rows_in_parts parts))))
     c.hash_iter_slices-in-Salted.ensures
     (YieldsList-from_first (λ part. part.now) salted_left (parts_of_exponent c.args.exponent hs parts) refl)
@@ -44,6 +46,7 @@ returns-in-Slices g c =
     fact_of_run (λ part. part.now) (λ ps. c.hash_iter_slices-in-Slices.result ≡ hash (flat_map (λ part. part.now) ps))
     (c.hash_iter_slices-in-Slices.result ≡ hash (words_of_exponent c.args.exponent (zip hs (rows_in_parts parts))))
     c.hash_iter_slices-in-Slices.ensures
-    (YieldsList-from_first (λ part. part.now) parts_left (parts_of_exponent c.args.exponent hs parts) c.new-parts.ensures)
+    (YieldsList-from_first (λ part. part.now) parts_left (parts_of_exponent c.args.exponent hs parts)
+    c.new-parts.ensures)
     (λ ps e h. h ∙ ap hash (sym (flat_map-map (λ part. part) (λ part. part.now) ps)
     ∙ ap (flat_map (λ part. part)) e ∙ words_of_parts c.args.exponent hs parts))

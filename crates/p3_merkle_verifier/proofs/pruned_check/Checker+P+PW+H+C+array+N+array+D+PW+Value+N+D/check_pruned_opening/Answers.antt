@@ -7,5 +7,6 @@ pub returns : goal.returns
 returns g c =
     let made = c.in_ok-restorable in
     cap_decides g.P.Value.PartialEq.eq g.PW.Value.PartialEq.eq (functions_of c.args.self.now) c.args.roots.now
-    made.restorable c.check_roots.result made.ensures.schedule made.ensures.layer made.ensures.opening made.ensures.answer
+    made.restorable c.check_roots.result made.ensures.schedule made.ensures.layer made.ensures.opening
+    made.ensures.answer
     c.check_roots.ensures
