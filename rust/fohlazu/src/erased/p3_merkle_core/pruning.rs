@@ -191,8 +191,8 @@ fn check_same_rows<T: Eq>(
     Ok(())
 }
 
-/// Checks that `rows` and `first_rows` have the same row of each of `matrices`, as [`check_same_rows`] does of row sets.
-/// `matrices` must be positions in both. `slot` is only reported.
+/// Checks that `rows` and `first_rows` have the same row of each of `matrices`, as [`check_same_rows`] does of row
+/// sets. `matrices` must be positions in both. `slot` is only reported.
 #[inline]
 fn check_same_vectors<T: Eq>(
     matrices: &[usize],
@@ -295,7 +295,8 @@ fn check_shared_rows<T: Eq>(
 /// - `IndexOutOfBounds`: the highest index is not below the tallest height;
 /// - `InconsistentDuplicateOpenings`: the row set of a query is not that of the first query of its index;
 /// - `SiblingCountMismatch`: the number of digests is not that of the boundary nodes;
-/// - `WrongBatchSize`, `WrongWidth`: by ascending indices, the error of [`check_row_widths`] for the first query of each;
+/// - `WrongBatchSize`, `WrongWidth`: by ascending indices, the error of [`check_row_widths`] for the first query of
+///   each;
 /// - `InconsistentGroupOpening`: layer by layer up to `cap_layer`, by ascending indices and in input order of the
 ///   layer's matrices, a row is not that of the lowest index under the same node.
 #[inline]

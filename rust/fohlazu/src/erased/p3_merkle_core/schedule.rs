@@ -214,8 +214,9 @@ impl<'a> Schedule<'a> {
         LevelStep { step, has_rows: kept.has_rows, exponent: exponent.saturating_sub(exponent_of(step)) }
     }
 
-    /// The shape of the layer above the layer `below`. That is the number of a layer below the root; `exponent` and `len`
-    /// must be its exponent and its number of nodes. The arity must be a power of two from 2 to 2^62, and [`check_heights`] must accept the heights.
+    /// The shape of the layer above the layer `below`. That is the number of a layer below the root; `exponent` and
+    /// `len` must be its exponent and its number of nodes. The arity must be a power of two from 2 to 2^62, and
+    /// [`check_heights`] must accept the heights.
     #[inline]
     pub(crate) fn layer_above(&self, below: usize, exponent: usize, len: usize) -> LayerShape {
         let arity = self.arity;

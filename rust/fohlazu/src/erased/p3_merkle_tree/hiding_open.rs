@@ -1,9 +1,9 @@
 // Made from crates/p3_merkle_tree/src/hiding_open.rt by tools/erase.
 
 //! Salted openings: those of the plain scheme, with each row split into the matrix's own words and its salts. A check
-//! reads both where they lie, one after the other. A row set has one row of each matrix, a salt set one list of salts for each row. A matrix
-//! is authenticated if the cap's digests are computed from its rows. Openings conflict in a row if both have it, with
-//! other words or salts.
+//! reads both where they lie, one after the other. A row set has one row of each matrix, a salt set one list of salts
+//! for each row. A matrix is authenticated if the cap's digests are computed from its rows. Openings conflict in a row
+//! if both have it, with other words or salts.
 
 use crate::erased::p3_merkle_core::collision::Collision;
 use crate::erased::p3_merkle_core::error::MerkleTreeError;
@@ -194,8 +194,8 @@ impl<
     /// width, and `SALT_ELEMS` salts for each row. Queries of one index have the same rows and salts. Queries under one
     /// node, at most as high as the cap, have the same rows and salts of the matrices that belong to the node's layer.
     /// `dimensions` are those of the matrices without salts, in input order; they must come from the verifier, never
-    /// from the proof. Rows and salts are read where they lie: the call allocates lists of nodes and of their digests, and
-    /// the dimensions with salts.
+    /// from the proof. Rows and salts are read where they lie: the call allocates lists of nodes and of their digests,
+    /// and the dimensions with salts.
     ///
     /// # Errors
     ///
@@ -298,8 +298,8 @@ impl<
     }
 }
 
-/// The pruned opening of these indices, row sets and proof, as the plain scheme's checker reads it: each row is followed
-/// by its salts.
+/// The pruned opening of these indices, row sets and proof, as the plain scheme's checker reads it: each row is
+/// followed by its salts.
 fn opening_with_salts<'a, T, W, const D: usize>(
     indices: &'a [usize],
     rows: &'a [Vec<Vec<T>>],

@@ -115,9 +115,9 @@ impl<
         self.verify_row_sets(commit.roots(), dimensions, indices, rows, digests)
     }
 
-    /// Verifies the openings of several leaves as [`verify_batch_pruned`](Self::verify_batch_pruned) does, with the same
-    /// errors, wherever their rows lie: see [`RowSets`]. `roots` are those of the cap, and `digests` are those of the
-    /// pruned proof, in wire order. It copies no row: it allocates lists of nodes and of their digests.
+    /// Verifies the openings of several leaves as [`verify_batch_pruned`](Self::verify_batch_pruned) does, with the
+    /// same errors, wherever their rows lie: see [`RowSets`]. `roots` are those of the cap, and `digests` are those of
+    /// the pruned proof, in wire order. It copies no row: it allocates lists of nodes and of their digests.
     pub fn verify_row_sets(
         &self,
         roots: &[[PW::Value; D]],

@@ -81,7 +81,8 @@ pub(crate) fn check_widening(dimensions: &[Dimensions], salt_elems: usize) -> Re
     Ok(())
 }
 
-/// The dimensions, each with `salt_elems` more columns. The new widths must fit `usize`. `AllocError` if memory runs out.
+/// The dimensions, each with `salt_elems` more columns. The new widths must fit `usize`. `AllocError` if memory runs
+/// out.
 pub(crate) fn widened_dimensions(dimensions: &[Dimensions], salt_elems: usize) -> Result<Vec<Dimensions>, AllocError> {
     let mut wider = Vec::with_room(dimensions.len())?;
     for matrix in dimensions {
