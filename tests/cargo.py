@@ -2,9 +2,9 @@
 """python3 tests/cargo.py [quick | edits [NAME..]]    the Cargo package in rust/, tried by `cargo test` without network
 
 With `quick`: the examples, the worked rows, the proofs of logs, rows in each form, and each request for memory refused,
-but for what takes long without optimization. `make check` runs it ahead of the proofs. Without a word: all of `cargo test` with all
-features, the stored answers of the Rust crate among them; then `cargo check` without the default features, and `cargo
-doc`, which must not warn.
+but for what takes long without optimization. `make check` runs it ahead of the proofs. Without a word: all of `cargo
+test` with all features, the stored answers of the Rust crate among them; then `cargo check` without the default
+features, and `cargo doc`, which must not warn.
 
 With `edits`: the wrong bodies of EDITS below, or those of these names. Each is put into a copy of crates/, which
 tools/erase makes a package of. Then `cargo test` has to fail, and it is said which test fails first.
