@@ -1,6 +1,6 @@
 //! The rows of openings, wherever they lie. A row set has one row of each matrix, in input order.
 
-ghost use Rattle.std.specs.Prelude.{◌≡◌, ◌++◌, ◌<◌, [], drop, length, slice_get, slice_index_or};
+ghost use Rattle.std.specs.Prelude.{◌≡◌, ◌++◌, ◌<◌, [], drop, length, map, slice_get, slice_index_or};
 ghost use Rattle.std.specs.Cmp.Lexicographic.{pointwise};
 ghost use Rattle.std.specs.Option.{option_map};
 ghost use Rattle.p3_support.specs.Batches.{widths_of};
@@ -100,6 +100,23 @@ impl<'a, T> RowParts<'a, T> {
     }
 }
 
+impl<'a, T> RowParts<'a, T> {
+    /// The row of a matrix, in its two parts. The matrix must be below the number of rows. The rows ahead of it are
+    /// passed one by one.
+    fn nth_row(mut self, matrix: usize) -> (&'a [T], &'a [T])
+        requires { matrix < length (parts_of self) }
+        ensures { (result.0.now, result.1.now) ≡ slice_index_or (parts_of self.entry) matrix ([], []) }
+    {
+        for _ in 0..matrix {
+            self.next_row();
+        }
+        match self.next_row() {
+            Some(row) => row,
+            None => (&[], &[]),
+        }
+    }
+}
+
 impl<'a, T: Eq> RowParts<'a, T> {
     /// Whether both have the same rows, however they are parted.
     pub fn same_rows(mut self, mut other: RowParts<'_, T>) -> bool
@@ -158,6 +175,8 @@ pub enum RowSets<'a, T> {
         /// The salts of each row of each set.
         salts: &'a [Vec<Vec<T>>],
     },
+    /// The rows of each query lie in a form of their own.
+    Parts(&'a [RowParts<'a, T>]),
 }
 
 impl<'a, T> RowSets<'a, T> {
@@ -168,6 +187,7 @@ impl<'a, T> RowSets<'a, T> {
         match self {
             RowSets::Vecs(sets) => sets.len(),
             RowSets::Salted { sets, salts } => sets.len().min(salts.len()),
+            RowSets::Parts(sets) => sets.len(),
         }
     }
 
@@ -182,6 +202,7 @@ impl<'a, T> RowSets<'a, T> {
                 rows: set_at(sets, query),
                 salts: set_at(salts, query),
             },
+            RowSets::Parts(sets) => parts_at(sets, query),
         }
     }
 
@@ -199,6 +220,7 @@ impl<'a, T> RowSets<'a, T> {
                 row_at(set_at(sets, query), matrix),
                 row_at(set_at(salts, query), matrix),
             ),
+            RowSets::Parts(sets) => parts_at(sets, query).nth_row(matrix),
         }
     }
 }
@@ -209,6 +231,14 @@ fn set_at<'a, T>(sets: &'a [Vec<Vec<T>>], query: usize) -> &'a [Vec<T>]
     ensures { row_lists result.now ≡ slice_index_or (row_sets sets.now) query [] }
 {
     &sets[query]
+}
+
+/// The rows of a query, which must be below the number of row sets.
+fn parts_at<'a, T>(sets: &'a [RowParts<'a, T>], query: usize) -> RowParts<'a, T>
+    requires { query < length sets.now }
+    ensures { rows_in result ≡ slice_index_or (map (λ rows. rows_in rows) sets.now) query [] }
+{
+    sets[query]
 }
 
 /// The row of a matrix, which must be below the number of rows.
