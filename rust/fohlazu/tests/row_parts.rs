@@ -119,6 +119,23 @@ fn row_sets_in_parts_have_the_verdict_of_vectors() {
             }
         }
         assert_eq!(by(RowSets::Salted { sets: &fronts, salts: &backs }), verdict);
+
+        // The rows of each query in a form of their own.
+        let slices: Vec<Vec<&[u32]>> = sets.iter().map(|rows| rows.iter().map(Vec::as_slice).collect()).collect();
+        let forms: Vec<RowParts<u32>> = (0..sets.len())
+            .map(|query| match query % 3 {
+                0 => RowParts::Vecs(&sets[query]),
+                1 => RowParts::Slices(&slices[query]),
+                _ => RowParts::Salted { rows: &fronts[query], salts: &backs[query] },
+            })
+            .collect();
+        assert_eq!(by(RowSets::Parts(&forms)), verdict);
+        let words: Vec<Vec<u32>> = sets.iter().map(|rows| rows.concat()).collect();
+        let cuts: Vec<Vec<Vec<u32>>> = words.iter().map(|words| cut(words, &dimensions)).collect();
+        let flat: Vec<RowParts<u32>> =
+            words.iter().map(|words| RowParts::Flat { words, dimensions: &dimensions }).collect();
+        let of_flat = scheme.verify_batch_pruned(&cap, &dimensions, &indices, &cuts, &proof);
+        assert_eq!(by(RowSets::Parts(&flat)), of_flat);
         match verdict {
             Ok(()) => accepted += 1,
             Err(_) => refused += 1,

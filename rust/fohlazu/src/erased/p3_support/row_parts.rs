@@ -98,6 +98,21 @@ impl<'a, T> RowParts<'a, T> {
     }
 }
 
+impl<'a, T> RowParts<'a, T> {
+    /// The row of a matrix, in its two parts. The matrix must be below the number of rows. The rows ahead of it are
+    /// passed one by one.
+    #[inline]
+    fn nth_row(mut self, matrix: usize) -> (&'a [T], &'a [T]) {
+        for _ in 0..matrix {
+            self.next_row();
+        }
+        match self.next_row() {
+            Some(row) => row,
+            None => (&[], &[]),
+        }
+    }
+}
+
 impl<'a, T: Eq> RowParts<'a, T> {
     /// Whether both have the same rows, however they are parted.
     #[inline]
@@ -152,6 +167,8 @@ pub enum RowSets<'a, T> {
         /// The salts of each row of each set.
         salts: &'a [Vec<Vec<T>>],
     },
+    /// The rows of each query lie in a form of their own.
+    Parts(&'a [RowParts<'a, T>]),
 }
 
 impl<'a, T> Clone for RowSets<'a, T> {
@@ -175,6 +192,7 @@ impl<'a, T> RowSets<'a, T> {
         match self {
             RowSets::Vecs(sets) => sets.len(),
             RowSets::Salted { sets, salts } => sets.len().min(salts.len()),
+            RowSets::Parts(sets) => sets.len(),
         }
     }
 
@@ -186,6 +204,7 @@ impl<'a, T> RowSets<'a, T> {
             RowSets::Salted { sets, salts } => {
                 RowParts::Salted { rows: set_at(sets, query), salts: set_at(salts, query) }
             }
+            RowSets::Parts(sets) => parts_at(sets, query),
         }
     }
 
@@ -198,6 +217,7 @@ impl<'a, T> RowSets<'a, T> {
             RowSets::Salted { sets, salts } => {
                 (row_at(set_at(sets, query), matrix), row_at(set_at(salts, query), matrix))
             }
+            RowSets::Parts(sets) => parts_at(sets, query).nth_row(matrix),
         }
     }
 }
@@ -206,6 +226,12 @@ impl<'a, T> RowSets<'a, T> {
 #[inline]
 fn set_at<'a, T>(sets: &'a [Vec<Vec<T>>], query: usize) -> &'a [Vec<T>] {
     &sets[query]
+}
+
+/// The rows of a query, which must be below the number of row sets.
+#[inline]
+fn parts_at<'a, T>(sets: &'a [RowParts<'a, T>], query: usize) -> RowParts<'a, T> {
+    sets[query]
 }
 
 /// The row of a matrix, which must be below the number of rows.
