@@ -37,6 +37,7 @@ def package_of_form(source):
         lane_loops={"own.lanes.one": "w, v", "own.lanes.more": "w, v"},
         derives={"own.part.SeenMore": ["Clone", "Default First"]},
         defaults={"own.part.SeenDefault.LANES": "1"},
+        unbound={"own.part.SeenBound": ["M", "B"], "own.part.Loose": ["T"]},
         known={"own.part.known": "n < 4", "own.part.seen_known": "n < 4"},
         exported={f"own.part.{name}" for name in re.findall(r"\b[Ss]een\w*", source)},
         internal={"own.part.Seen.inside"},

@@ -249,6 +249,18 @@ KNOWN = [
         "fn f<A, B: Copy, C: Copy>() where E: Copy {} trait T { type X; } fn g() {} fn h();",
     ),
     Form(
+        "bounds of ghost members",
+        """pub struct SeenBound<F, M: Matrix<F>, B: Pair<F, M> + Copy, const N: usize> {
+            m: Vec<M>,
+            ghost full: { length m ≡ N },
+        }
+
+        impl<F, M: Matrix<F>, const N: usize> SeenBound<F, M, N> {}""",
+        """use alloc::vec::Vec;
+        pub struct SeenBound<F, M, B, const N: usize> { m: Vec<M>, }
+        impl<F, M: Matrix<F>, const N: usize> SeenBound<F, M, N> {}""",
+    ),
+    Form(
         "allocators",
         """use std::alloc::Global;
 

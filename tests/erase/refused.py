@@ -156,7 +156,8 @@ REFUSED = [
     Refused("a known condition of nothing", "fn known(n: usize) {}", "a function of which nothing is known"),
     Refused("a known condition of a public function", "pub fn seen_known(n: usize) requires { n < 4 } {}",
             "a function of which nothing is known, or that users call"),
-    # Derives and defaults.
+    # Bounds, derives and defaults.
+    Refused("a bound that is not there", "struct Loose<T, U: Copy> { t: (T, U) }", "no bound of `T`"),
     Refused("a default that the source has", "pub trait SeenDefault { const LANES: usize = 2; }",
             "a default of its own"),
     Refused("an impl for a reference to a type", "impl SeenTrait for &Seen { fn f() {} }\n\ntrait SeenTrait {}",

@@ -55,6 +55,7 @@ def package_of(crates: Path) -> Package:
         lane_loops=settings["lanes"]["loops"],
         derives=settings["derives"],
         defaults=settings["defaults"],
+        unbound=settings["unbound"],
         known=settings["known"],
         exported=exported(FACADE, crates, settings["crates"]),
         renamed=renamed(FACADE.read_text(encoding="utf-8")),
@@ -101,7 +102,8 @@ def check_lists(package: Package) -> None:
         lines = "\n".join(f"  {line}" for line in package.missing)
         raise Unknown(f"package.toml does not list what is public:\n{lines}")
     listed = [package.conditions, package.laws, package.internal, package.inline, package.of_words,
-              package.lane_loops, package.derives, package.defaults, package.known]
+              package.lane_loops, package.derives, package.defaults, package.unbound,
+              package.known]
     unknown = set().union(*listed) - package.used
     if unknown:
         raise Unknown(f"package.toml names what is not there: {', '.join(sorted(unknown))}")

@@ -27,6 +27,8 @@ class Package:
     derives: dict[str, list[str]]
     # By `crate.module.Trait.CONSTANT`, what it is where a type does not say.
     defaults: dict[str, str]
+    # By `crate.module.Type`, its parameters whose bound only its ghost members need.
+    unbound: dict[str, list[str]]
     # By `crate.module.function`, what is asserted of a function that no user calls.
     known: dict[str, str]
     # Names that the package exports: `crate.module.name`.

@@ -67,6 +67,7 @@ class Eraser:
         self.rewrite_clones()
         self.rewrite_slices()
         self.cut_drop_bounds()
+        self.cut_ghost_bounds()
         self.rewrite_allocation()
         self.cut_words()
         self.rewrite_imports()
@@ -341,6 +342,24 @@ class Eraser:
                 self.sheet.cut_element(subject, at, "bound Drop")
             else:
                 self.sheet.cut(before, at, "bound Drop")
+
+    def cut_ghost_bounds(self) -> None:
+        """Cuts bounds of a struct's parameters that only its ghost members need: see the list."""
+        for path, item, _ in self.walked:
+            if item.kind != "struct" or path not in self.package.unbound:
+                continue
+            self.package.used.add(path)
+            open_ = self.code.next(self.code.next(item.head))
+            for name in self.package.unbound[path]:
+                at = next((at for at in self.places("word", open_, self.code.angle(open_))
+                           if self.code.text(at) == name and self.around(at)[0] in ("<", ",")), None)
+                colon = self.code.next(at) if at else open_
+                if self.code.text(colon) != ":":
+                    raise self.code.fail(item.head, f"no bound of `{name}`")
+                end = colon
+                while self.code.text(behind := self.code.next(end)) not in (",", ">"):
+                    end = self.code.closing(behind)
+                self.sheet.cut(colon, end, "bound of a ghost member")
 
     def cut_empty_where(self) -> None:
         """Cuts `where` where no bound is left behind it."""

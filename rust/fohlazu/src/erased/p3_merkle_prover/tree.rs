@@ -21,7 +21,7 @@ use core::marker::PhantomData;
 /// The heights of its matrices are lawful, and its layers have the lengths that those heights give. It stores the steps
 /// between them, so that no opening computes them again.
 #[derive(Debug)]
-pub struct Tree<F, X, G, M: Matrix<F>, const N: usize> {
+pub struct Tree<F, X, G, M, const N: usize> {
     pub(crate) matrices: Vec<M>,
     pub(crate) schedule: OwnedSchedule,
     pub(crate) layers: Vec<Vec<X>>,
