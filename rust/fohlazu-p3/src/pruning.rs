@@ -1,0 +1,40 @@
+//! Pruned proofs, and the paths that they restore.
+
+use alloc::vec::Vec;
+use serde::{Deserialize, Serialize};
+
+/// A leaf and the siblings on its path.
+#[derive(Debug, Clone, PartialEq, Eq, Serialize, Deserialize)]
+#[serde(bound(serialize = "[D; DIGEST_ELEMS]: Serialize"))]
+#[serde(bound(deserialize = "[D; DIGEST_ELEMS]: serde::de::DeserializeOwned"))]
+pub struct MerkleAuthPath<D, const DIGEST_ELEMS: usize> {
+    /// The index of the leaf, from 0.
+    pub leaf_index: usize,
+    /// The siblings on the leaf's path, level by level from the leaves up, ascending on each level.
+    pub siblings: Vec<[D; DIGEST_ELEMS]>,
+}
+
+/// The digests of a pruned proof, which opens several leaves at once.
+#[derive(Debug, Clone, Serialize, Deserialize)]
+#[serde(bound(serialize = "[D; DIGEST_ELEMS]: Serialize"))]
+#[serde(bound(deserialize = "[D; DIGEST_ELEMS]: serde::de::DeserializeOwned"))]
+pub struct PrunedMerklePaths<D, const DIGEST_ELEMS: usize> {
+    /// The digests that the opened rows do not give: level by level from the leaves up, ascending on each level.
+    pub sibling_hashes: Vec<[D; DIGEST_ELEMS]>,
+}
+
+/// The rows of several leaves, and one proof for all of them.
+#[derive(Debug, Clone, Serialize, Deserialize)]
+#[serde(bound(serialize = "T: Serialize, [D; DIGEST_ELEMS]: Serialize"))]
+#[serde(bound(deserialize = "T: serde::de::DeserializeOwned, [D; DIGEST_ELEMS]: serde::de::DeserializeOwned"))]
+pub struct PrunedBatchOpening<T, D, const DIGEST_ELEMS: usize> {
+    /// For each query, in query order, one row of each matrix.
+    pub opened_values: Vec<Vec<Vec<T>>>,
+    /// What proves that they were committed to.
+    pub pruned_proof: PrunedMerklePaths<D, DIGEST_ELEMS>,
+}
+
+/// Row sets as vectors. This copies each row: the proved code reads row sets of vectors alone.
+pub(crate) fn copied_sets<T: Copy, R: AsRef<[T]>>(sets: &[Vec<R>]) -> Vec<Vec<Vec<T>>> {
+    sets.iter().map(|rows| rows.iter().map(|row| row.as_ref().to_vec()).collect()).collect()
+}
