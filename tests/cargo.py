@@ -1,10 +1,10 @@
 #!/usr/bin/env python3
-"""python3 tests/cargo.py [quick | edits [NAME..]]    the Cargo package in rust/, tried by `cargo test` without network
+"""python3 tests/cargo.py [quick | edits [NAME..]]    the Cargo packages in rust/, tried by `cargo test` without network
 
 With `quick`: the examples, the worked rows, the proofs of logs, rows in each form, and each request for memory refused,
-but for what takes long without optimization. `make check` runs it ahead of the proofs. Without a word: all of `cargo
-test` with all features, the stored answers of the Rust crate among them; then `cargo check` without the default
-features, and `cargo doc`, which must not warn.
+but for what takes long without optimization; and a user's program over fohlazu-p3. `make check` runs it ahead of the
+proofs. Without a word: all of `cargo test` with all features, the stored answers of the Rust crate among them; then
+`cargo check` without the default features, and `cargo doc`, which must not warn.
 
 With `edits`: the wrong bodies of EDITS below, or those of these names. Each is put into a copy of crates/, which
 tools/erase makes a package of. Then `cargo test` has to fail, and it is said which test fails first.
@@ -26,7 +26,7 @@ sys.path.insert(0, str(Path(__file__).resolve().parents[1] / "tools"))
 from script import TOP, fail
 
 # What takes seconds, first what sees most for the least time.
-QUICK = ["examples", "logs", "worked_rows", "row_parts", "refused_memory"]
+QUICK = ["examples", "logs", "worked_rows", "row_parts", "refused_memory", "user_program"]
 SHORT = ["--", "--skip", "long::"]
 # Wrong bodies of tests/edits: each changes what a call returns.
 EDITS = [
