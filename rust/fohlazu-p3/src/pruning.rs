@@ -1,6 +1,7 @@
 //! Pruned proofs, and the paths that they restore.
 
 use alloc::vec::Vec;
+use fohlazu::support::RowParts;
 use serde::{Deserialize, Serialize};
 
 /// A leaf and the siblings on its path.
@@ -34,7 +35,17 @@ pub struct PrunedBatchOpening<T, D, const DIGEST_ELEMS: usize> {
     pub pruned_proof: PrunedMerklePaths<D, DIGEST_ELEMS>,
 }
 
-/// Row sets as vectors. This copies each row: the proved code reads row sets of vectors alone.
+/// The rows of each query as slices, where they lie.
+pub(crate) fn slices_of<T, R: AsRef<[T]>>(sets: &[Vec<R>]) -> Vec<Vec<&[T]>> {
+    sets.iter().map(|rows| rows.iter().map(AsRef::as_ref).collect()).collect()
+}
+
+/// The rows of each query, as the proved code reads rows that lie anywhere.
+pub(crate) fn parts_of<'a, T>(sets: &'a [Vec<&'a [T]>]) -> Vec<RowParts<'a, T>> {
+    sets.iter().map(|rows| RowParts::Slices(rows)).collect()
+}
+
+/// Row sets as vectors, where the proved code takes no other form. This copies each row.
 pub(crate) fn copied_sets<T: Copy, R: AsRef<[T]>>(sets: &[Vec<R>]) -> Vec<Vec<Vec<T>>> {
     sets.iter().map(|rows| rows.iter().map(|row| row.as_ref().to_vec()).collect()).collect()
 }
