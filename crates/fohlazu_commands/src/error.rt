@@ -140,7 +140,8 @@ fn entries_words(error: &EntriesError) -> &'static str {
         EntriesError::TooManyDigests => "it has too many digests: is it under another checkpoint?",
         EntriesError::TwoLeafHashes => "it has two entries of one number",
         // `RootMismatch`. The others are no reasons of a proof: a checkpoint that is read has at most 2^62 entries.
-        _ => "its entries or digests are not those of the checkpoint: some changed, or it is under another one",
+        _ =>
+            "its entries or digests are not those of the checkpoint: some changed, or it is under another one",
     }
 }
 
