@@ -36,6 +36,19 @@ pub unsafe trait PackedValue: 'static + Copy + Send + Sync {
     fn broadcast(value: Self::Value) -> Self {
         Self::from_fn(|_| value)
     }
+
+    /// Packs arrays: lane `k` of element `e` is `row_fn(k)[e]`.
+    fn pack_columns_fn<const N: usize>(row_fn: impl Fn(usize) -> [Self::Value; N]) -> [Self; N] {
+        core::array::from_fn(|e| Self::from_fn(|k| row_fn(k)[e]))
+    }
+
+    /// Unpacks arrays: `rows[k][e]` becomes lane `k` of `packed[e]`.
+    fn unpack_into<const N: usize>(packed: &[Self; N], rows: &mut [[Self::Value; N]]) {
+        assert_eq!(rows.len(), Self::WIDTH, "a row for each lane");
+        for (k, row) in rows.iter_mut().enumerate() {
+            *row = core::array::from_fn(|e| packed[e].as_slice()[k]);
+        }
+    }
 }
 
 // SAFETY: a single value has the layout of an array of one.

@@ -9,7 +9,7 @@ use proc_macro::{Delimiter, TokenStream, TokenTree};
 pub fn derive_serialize(input: TokenStream) -> TokenStream {
     let Struct { name, params, fields, bounds } = Struct::of(input);
     let (params_text, args) = (list(params.iter().map(Param::declared)), list(params.iter().map(|one| &one.name)));
-    let bound = bounds.of("serialize").unwrap_or_else(|| every(&params, "::serde::Serialize"));
+    let bound = bounds.of("serialize", &params, "::serde::Serialize");
     let writes: String = fields
         .iter()
         .map(|field| format!("::serde::ser::SerializeStruct::serialize_field(&mut to, \"{field}\", &self.{field})?;"))
@@ -33,7 +33,7 @@ pub fn derive_serialize(input: TokenStream) -> TokenStream {
 pub fn derive_deserialize(input: TokenStream) -> TokenStream {
     let Struct { name, params, fields, bounds } = Struct::of(input);
     let (params_text, args) = (list(params.iter().map(Param::declared)), list(params.iter().map(|one| &one.name)));
-    let bound = bounds.of("deserialize").unwrap_or_else(|| every(&params, "::serde::Deserialize<'de>"));
+    let bound = bounds.of("deserialize", &params, "::serde::Deserialize<'de>");
     let reads: String = fields
         .iter()
         .map(|field| format!("{field}: ::serde::de::next_field(&mut from, \"{field}\")?,"))
@@ -86,13 +86,27 @@ impl Param {
     }
 }
 
-/// What `#[serde(bound(..))]` says.
-struct Bounds(Vec<(String, String)>);
+/// What `#[serde(bound(..))]` says of the struct and of its fields, by the name of the derive.
+struct Bounds {
+    of_struct: Vec<(String, String)>,
+    of_fields: Vec<(String, String)>,
+}
 
 impl Bounds {
-    /// The bound of a trait's derive, where there is one.
-    fn of(&self, key: &str) -> Option<String> {
-        self.0.iter().find(|(name, _)| name == key).map(|(_, bound)| bound.clone())
+    /// The bounds of a derive: those of the struct, or else that each type parameter has the trait, and those of
+    /// fields.
+    fn of(&self, key: &str, params: &[Param], path: &str) -> String {
+        let of_key = |bounds: &[(String, String)]| {
+            let found = bounds.iter().filter(|(name, _)| name == key).map(|(_, bound)| bound.clone());
+            found.collect::<Vec<_>>()
+        };
+        let mut bounds = of_key(&self.of_struct);
+        if bounds.is_empty() {
+            let types = params.iter().filter(|param| !param.is_const);
+            bounds = types.map(|param| format!("{}: {path}", param.name)).collect();
+        }
+        bounds.extend(of_key(&self.of_fields));
+        bounds.join(", ")
     }
 }
 
@@ -110,10 +124,10 @@ impl Struct {
         let tokens: Vec<TokenTree> = input.into_iter().collect();
         let head = tokens.iter().position(|token| is(token, "struct")).expect("derives are for structs");
         let Some(TokenTree::Group(body)) = tokens.last() else { panic!("derives are for structs with named fields") };
-        let mut bounds = Bounds(Vec::new());
-        attributes_in(&tokens[..head], &mut bounds);
+        let mut bounds = Bounds { of_struct: Vec::new(), of_fields: Vec::new() };
+        attributes_in(&tokens[..head], &mut bounds.of_struct);
         let params = params_in(&tokens[head + 2..tokens.len() - 1]);
-        let fields = fields_in(body.stream(), &mut bounds);
+        let fields = fields_in(body.stream(), &mut bounds.of_fields);
         Struct { name: tokens[head + 1].to_string(), params, fields, bounds }
     }
 }
@@ -126,11 +140,6 @@ fn is(token: &TokenTree, text: &str) -> bool {
 /// Texts with commas between them.
 fn list<T: ToString>(texts: impl Iterator<Item = T>) -> String {
     texts.map(|text| text.to_string()).collect::<Vec<_>>().join(", ")
-}
-
-/// The bound that each type parameter has this trait.
-fn every(params: &[Param], bound: &str) -> String {
-    list(params.iter().filter(|param| !param.is_const).map(|param| format!("{}: {bound}", param.name)))
 }
 
 /// Tokens, parted at commas that no `<` and `>` surround.
@@ -161,7 +170,7 @@ fn params_in(tokens: &[TokenTree]) -> Vec<Param> {
 }
 
 /// The names of fields.
-fn fields_in(body: TokenStream, bounds: &mut Bounds) -> Vec<String> {
+fn fields_in(body: TokenStream, bounds: &mut Vec<(String, String)>) -> Vec<String> {
     let field = |part: Vec<TokenTree>| {
         let colon = part.iter().position(|token| is(token, ":")).expect("a field has a type");
         attributes_in(&part[..colon], bounds);
@@ -171,7 +180,7 @@ fn fields_in(body: TokenStream, bounds: &mut Bounds) -> Vec<String> {
 }
 
 /// Reads `#[serde(bound(KEY = "BOUND", ..), ..)]` among attributes.
-fn attributes_in(tokens: &[TokenTree], bounds: &mut Bounds) {
+fn attributes_in(tokens: &[TokenTree], bounds: &mut Vec<(String, String)>) {
     for token in tokens {
         let TokenTree::Group(attribute) = token else { continue };
         if attribute.delimiter() != Delimiter::Bracket {
@@ -186,7 +195,7 @@ fn attributes_in(tokens: &[TokenTree], bounds: &mut Bounds) {
             let [name, TokenTree::Group(texts)] = part.as_slice() else { panic!("an attribute that is not known") };
             assert!(is(name, "bound"), "an attribute that is not known");
             for text in parted(texts.stream()) {
-                bounds.0.push((text[0].to_string(), text[2].to_string().trim_matches('"').to_string()));
+                bounds.push((text[0].to_string(), text[2].to_string().trim_matches('"').to_string()));
             }
         }
     }
