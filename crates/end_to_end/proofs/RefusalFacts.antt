@@ -22,7 +22,7 @@ use Rattle.p3_merkle_tree.specs.Refusals.{pruned_refusal_under, refusal_under, w
 use Rattle.p3_answers.specs.Answers.{first_of, ok_unless}
 use Rattle.p3_merkle_tree.specs.SaltedOpenings.{HaveSalts, IsSaltedAccepted, IsSaltedPrunedAccepted}
 use Rattle.p3_merkle_tree.specs.SaltedOpenings.{SaltedOpening, SaltedPruned, joined, joined_sets}
-use Rattle.p3_merkle_tree.specs.SaltRefusals.{first_too_wide, salt_refusal, salted_refusal_under}
+use Rattle.p3_merkle_tree.specs.SaltRefusals.{first_too_wide, row_and_salt_form_refusal, salted_refusal_under}
 use Rattle.p3_merkle_tree.specs.SaltRefusals.{salted_pruned_refusal_under, widening_refusal}
 
 -- where nothing is refused, an error is for want of memory
@@ -94,7 +94,7 @@ fitting_rows n (w ∷ ws) (row ∷ rows) fit =
 
 -- rows with salts are not refused
 pub salts_unrefused : {T : Type 0} (ds : List Dimensions) (rows salts : List (List T)) → HaveSalts ds rows salts →
-    salt_refusal ds rows salts ≡ None
+    row_and_salt_form_refusal ds rows salts ≡ None
 salts_unrefused ds rows salts have =
     let long : length ds ≡ length rows = sym (length-map ds (λ (d : Dimensions). d.width))
     ∙ ap length (sym have.rows_fit) ∙ length-map rows length in
@@ -107,7 +107,7 @@ salts_unrefused ds rows salts have =
 -- nor are row sets with salt sets
 sets_unrefused : {T : Type 0} (ds : List Dimensions) (sets salts : List (List (List T))) →
     AllZip (HaveSalts ds) sets salts →
-    first_of (λ (rows, salt). salt_refusal ds rows salt) (zip sets salts) ≡ None
+    first_of (λ (rows, salt). row_and_salt_form_refusal ds rows salt) (zip sets salts) ≡ None
 sets_unrefused ds [] salts have = refl
 sets_unrefused ds (rows ∷ sets) [] have = refl
 sets_unrefused ds (rows ∷ sets) (salt ∷ salts) have =

@@ -11,7 +11,8 @@ ghost use Rattle.p3_merkle_tree.specs.MerkleTreeError.TheVariants.{OutOfMemory};
 ghost use Rattle.p3_merkle_tree.specs.Nodes.{shape};
 ghost use Rattle.p3_merkle_tree.specs.Parts.{matrices_of, tree_batch};
 ghost use Rattle.p3_merkle_tree.specs.Refusals.{AnswersUnlessMemory};
-ghost use Rattle.p3_merkle_tree.specs.Views.{heights_in, opening_made, pruned_made, opening_borrowed, pruned_borrowed};
+ghost use Rattle.p3_merkle_tree.specs.Views.{heights_in, opening_borrowed, opening_owned, pruned_borrowed};
+ghost use Rattle.p3_merkle_tree.specs.Views.{pruned_owned};
 ghost use Rattle.p3_merkle_tree.specs.Schemes.{cap_rule_of, params_of};
 ghost use Rattle.p3_support.specs.Batches.{greatest};
 ghost use Rattle.p3_support.specs.Shown.{roots_of};
@@ -112,11 +113,11 @@ pub fn commit_compare<
         AnswersUnlessMemory result (open_refusal heights (index ∷ [])) }
     ensures matrices { IfOk result (λ v. matrices_of v.tree ≡ matrices.items) }
     ensures committed { IfOk result (λ v. Commits scheme.now (roots_of v.cap) v.tree) }
-    ensures opened { IfOk result (λ v. IsHonest scheme.now v.tree (roots_of v.cap) (opening_made index v.opening)) }
+    ensures opened { IfOk result (λ v. IsHonest scheme.now v.tree (roots_of v.cap) (opening_owned index v.opening)) }
     ensures verdict { IfOk result (λ v. IsOk v.verdict) }
     ensures compared { let compares = IsComparison PW.Value.eq (cap_rule_of scheme.now) in
         IfOk result (λ v. compares (params_of scheme.now (shape (tree_batch v.tree))) (roots_of v.cap)
-        (opening_borrowed index claimed.entry) (opening_made index v.opening) v.found) }
+        (opening_borrowed index claimed.entry) (opening_owned index v.opening) v.found) }
 {
     laws::answers::<P::Value, PW::Value>();
     let (cap, tree, dimensions) = committed(alloc, scheme, matrices, &[index])?;
@@ -168,11 +169,11 @@ pub fn commit_compare_pruned<
     ensures matrices { IfOk result (λ v. matrices_of v.tree ≡ matrices.items) }
     ensures committed { IfOk result (λ v. Commits scheme.now (roots_of v.cap) v.tree) }
     ensures opened { IfOk result (λ v.
-        IsHonestPruned scheme.now v.tree (roots_of v.cap) (pruned_made indices.now v.opening)) }
+        IsHonestPruned scheme.now v.tree (roots_of v.cap) (pruned_owned indices.now v.opening)) }
     ensures verdict { IfOk result (λ v. IfErr v.verdict (λ e. e ≡ OutOfMemory)) }
     ensures compared { let compares = IsPrunedComparison P.Value.eq PW.Value.eq (cap_rule_of scheme.now) in
         IfOk result (λ v. compares (params_of scheme.now (shape (tree_batch v.tree))) (roots_of v.cap)
-        (pruned_borrowed indices.now rows.now proof.now) (pruned_made indices.now v.opening) v.found) }
+        (pruned_borrowed indices.now rows.now proof.now) (pruned_owned indices.now v.opening) v.found) }
 {
     laws::answers::<P::Value, PW::Value>();
     laws::extraction::<P::Value, PW::Value>();

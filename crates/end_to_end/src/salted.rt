@@ -6,8 +6,8 @@ ghost use Rattle.end_to_end.specs.Honest.{IsHonestSalted, IsHonestSaltedPruned};
 ghost use Rattle.end_to_end.specs.Refusals.{salted_open_refusal};
 ghost use Rattle.end_to_end.specs.Comparisons.{IsSaltedComparison, IsSaltedPrunedComparison};
 ghost use Rattle.p3_merkle_tree.specs.Geometry.{heights};
-ghost use Rattle.p3_merkle_tree.specs.HidingSchemes.{generator_of, salted_made, salted_pruned_borrowed};
-ghost use Rattle.p3_merkle_tree.specs.HidingSchemes.{salted_pruned_made, plain_of, salted_borrowed, salted_params_of};
+ghost use Rattle.p3_merkle_tree.specs.HidingSchemes.{generator_of, salted_owned, salted_pruned_borrowed};
+ghost use Rattle.p3_merkle_tree.specs.HidingSchemes.{salted_pruned_owned, plain_of, salted_borrowed, salted_params_of};
 ghost use Rattle.p3_merkle_tree.specs.MerkleTreeError.TheVariants.{OutOfMemory};
 ghost use Rattle.p3_merkle_tree.specs.Nodes.{shape};
 ghost use Rattle.p3_merkle_tree.specs.Parts.{matrices_of, tree_batch};
@@ -149,12 +149,12 @@ where
         IfOk result (λ v. tree_batch v.tree ≡ salted_batch P.Value.of_salt_word SALT_ELEMS b drawn) }
     ensures committed { IfOk result (λ v. CommitsSalted scheme.new (roots_of v.cap) v.tree) }
     ensures opened { IfOk result (λ v.
-        IsHonestSalted scheme.new v.tree (roots_of v.cap) (salted_made index v.opening)) }
+        IsHonestSalted scheme.new v.tree (roots_of v.cap) (salted_owned index v.opening)) }
     ensures verdict { IfOk result (λ v. IsOk v.verdict) }
     ensures compared { let compares = IsSaltedComparison PW.Value.eq (cap_rule_of (plain_of scheme.new)) SALT_ELEMS in
         IfOk result (λ v. let dimensions = unsalted_dimensions N (matrices_of v.tree) in
         compares dimensions (salted_params_of scheme.new dimensions) (roots_of v.cap)
-        (salted_borrowed index claimed.entry) (salted_made index v.opening) v.found) }
+        (salted_borrowed index claimed.entry) (salted_owned index v.opening) v.found) }
     ensures drawn { let b = batch_of M.height_of M.width_of M.row_of N matrices.items in
         Draws R.stream b.matrices scheme.old scheme.new result }
     ensures untouched { let b = batch_of M.height_of M.width_of M.row_of N matrices.items in
@@ -221,13 +221,13 @@ where
         IfOk result (λ v. tree_batch v.tree ≡ salted_batch P.Value.of_salt_word SALT_ELEMS b drawn) }
     ensures committed { IfOk result (λ v. CommitsSalted scheme.new (roots_of v.cap) v.tree) }
     ensures opened { IfOk result (λ v.
-        IsHonestSaltedPruned scheme.new v.tree (roots_of v.cap) (salted_pruned_made indices.now v.opening)) }
+        IsHonestSaltedPruned scheme.new v.tree (roots_of v.cap) (salted_pruned_owned indices.now v.opening)) }
     ensures verdict { IfOk result (λ v. IfErr v.verdict (λ e. e ≡ OutOfMemory)) }
     ensures compared { let rule = cap_rule_of (plain_of scheme.new) in
         let compares = IsSaltedPrunedComparison P.Value.eq PW.Value.eq rule SALT_ELEMS in
         IfOk result (λ v. let dimensions = unsalted_dimensions N (matrices_of v.tree) in
         compares dimensions (salted_params_of scheme.new dimensions) (roots_of v.cap)
-        (salted_pruned_borrowed indices.now rows.now proof.now) (salted_pruned_made indices.now v.opening) v.found) }
+        (salted_pruned_borrowed indices.now rows.now proof.now) (salted_pruned_owned indices.now v.opening) v.found) }
     ensures drawn { let b = batch_of M.height_of M.width_of M.row_of N matrices.items in
         Draws R.stream b.matrices scheme.old scheme.new result }
     ensures untouched { let b = batch_of M.height_of M.width_of M.row_of N matrices.items in

@@ -8,6 +8,7 @@ use crate::input::{Input, RunState};
 use crate::many::{MANY, Many, Range, count_of, numbers_in};
 use crate::output::is_same_file;
 use clap::{Arg, ArgMatches, Command as Syntax, arg, value_parser};
+use fohlazu_commands::command::MAX_BLOCK_BYTES;
 use fohlazu_commands::prove::MAX_ENTRIES_PER_PROOF;
 use fohlazu_commands::{
     Command, Framing, PART_ORIGIN, PartialLine, Print, Requested, SIZE_LIMIT, Source,
@@ -21,7 +22,7 @@ use thiserror::Error;
 /// The version of the programs and of the libraries. The Makefile reads it here.
 const VERSION: &str = "0.1.0";
 
-/// The commands, each with what it does, an example and its arguments.
+/// The commands, each with what it does, an example and the words of its arguments. See [`argument`].
 const COMMANDS: [(&str, &str, &str, &str); 6] = [
     (
         "seal",
@@ -153,7 +154,7 @@ pub(crate) fn parse_args<'a>(
     Ok((request, args))
 }
 
-/// Checks that a command can be run, else `Refused` says what is wrong about it.
+/// Checks that a command is well formed, else `Refused` says what is wrong about it.
 fn check_command<'a>(command: &Command<Input<'_>>) -> Result<(), ArgsError<'a>>
     ensures { IfOk result (λ ok. IsWellFormed command.now) }
 {
@@ -169,8 +170,8 @@ fn check_command<'a>(command: &Command<Input<'_>>) -> Result<(), ArgsError<'a>>
     Ok(())
 }
 
-/// Checks that each argument that begins with `-` is an option of the command, else `Word` for the first that is none.
-/// What clap says of others misleads.
+/// Checks that each of `words` that begins with `-` is an option of the command, else `Word` for the first that is
+/// none. What clap says of others misleads.
 fn check_options(words: &[String]) -> Result<(), ArgsError<'_>> {
     let command = words.get(1).map_or("", |word| word.as_str());
     let row = COMMANDS.into_iter().find(|row| row.0 == command);
@@ -187,7 +188,7 @@ fn check_options(words: &[String]) -> Result<(), ArgsError<'_>> {
     Ok(())
 }
 
-/// Whether an argument is one of these options, or asks for help.
+/// Whether `word` is one of the options `ids`, names with spaces between, or asks for help.
 fn is_option(word: &str, ids: &str) -> bool {
     let name = match word.split('=').next() {
         Some("-h") => "--help",
@@ -214,7 +215,8 @@ impl<'a> Args<'a> {
         names.and_then(|names| names.get(k).copied()).unwrap_or("")
     }
 
-    /// What the command of this name asks for, which must be one of the table, by the arguments that were found.
+    /// What the command `name`, which must be one of `COMMANDS`, asks for by the arguments that were found. The errors
+    /// are the last two of [`parse_args`]; `OutOfMemory` if memory runs out.
     fn request(&self, alloc: Global, name: &str) -> Result<Request<'a>, ArgsError<'a>>
         ensures { IfOk result (λ request. (command : _) → request ≡ Run command → IsWellFormed command) }
     {
@@ -228,8 +230,8 @@ impl<'a> Args<'a> {
         Ok(Request::Run(command))
     }
 
-    /// The command of this name, which must be one of the table, by the arguments that were found. It may be one that
-    /// cannot be run.
+    /// The command `name`, which must be one of `COMMANDS`, by the arguments that were found. It may be one that is not
+    /// well formed. The errors are those of [`request`](Self::request) without `Refused`.
     fn command(&self, alloc: Global, name: &str) -> Result<Command<Input<'a>>, ArgsError<'a>> {
         Ok(match name {
             "seal" => Command::Seal {
@@ -272,7 +274,8 @@ impl<'a> Args<'a> {
         self.found.get_str("output").filter(|name| *name != "-")
     }
 
-    /// Checks that at most one input is standard input, else `Refused`; and that no input is the output, else `Word`.
+    /// Checks that at most one input is standard input, else `Refused`; and that no input is the output, else `Word`
+    /// for the first that is; `OutOfMemory` if memory runs out.
     fn check_inputs(&self, alloc: Global) -> Result<(), ArgsError<'a>> {
         let mut names = Vec::new(alloc);
         for id in ["CHECKPOINT", "OLD", "NEW", "FILE", "PROOF", "PART"] {
@@ -299,20 +302,20 @@ impl<'a> Args<'a> {
         Ok(())
     }
 
-    /// The input of an argument. That of `FILE` shows its progress, unless `--quiet` is given.
+    /// The input of the argument `id`. That of `FILE` shows its progress, unless `--quiet` is given.
     pub(crate) fn input(&self, id: &str) -> Input<'a> {
         let shows_progress = id == "FILE" && !self.found.get_flag("quiet");
         let name = self.found.get_str(id).unwrap_or("");
         Input::new(self.rt, name, shows_progress, self.state)
     }
 
-    /// The input of an argument that is a checkpoint.
+    /// The input of the argument `id`, which is a checkpoint.
     pub(crate) fn checkpoint(&self, id: &str) -> Input<'a> {
         let name = self.found.get_str(id).unwrap_or("");
         Input::checkpoint(self.rt, name, self.state)
     }
 
-    /// The inputs of `join`.
+    /// The inputs of `join`. `AllocError` if memory runs out.
     fn parts(&self, alloc: Global) -> Result<Vec<Input<'a>>, AllocError> {
         let names = self.found.get_strs("PART").unwrap_or(&[]).iter();
         names
@@ -320,7 +323,7 @@ impl<'a> Args<'a> {
             .collect(alloc)
     }
 
-    /// The ranges of numbers of entries, or `None` for `all`.
+    /// The ranges of numbers of entries, counted from 1, or `None` for `all`. The errors are those of [`add_ranges`].
     fn ranges(&self, alloc: Global) -> Result<Option<Vec<Range>>, ArgsError<'a>> {
         let words = self.found.get_strs("NUMBER").unwrap_or(&[]);
         if words == ["all"].as_slice() {
@@ -334,7 +337,7 @@ impl<'a> Args<'a> {
         Ok(Some(ranges))
     }
 
-    /// The numbers of entries, or `None` for `all`.
+    /// The numbers of entries, counted from 1, or `None` for `all`. The errors are those of [`add_ranges`].
     fn numbers(&self, alloc: Global) -> Result<Option<Vec<usize>>, ArgsError<'a>> {
         match self.ranges(alloc)? {
             Some(ranges) => Ok(Some(numbers_in(alloc, &ranges)?)),
@@ -342,7 +345,8 @@ impl<'a> Args<'a> {
         }
     }
 
-    /// The numbers of the entries to prove, if these may be many: all of a checkpoint, or ranges of more than `MANY`.
+    /// The numbers of the entries to prove, if they may be many: all of a checkpoint, or ranges of more than `MANY`;
+    /// else `None`. The errors are those of [`add_ranges`].
     fn many(&self, alloc: Global) -> Result<Option<Many>, ArgsError<'a>> {
         let Some(ranges) = self.ranges(alloc)? else {
             return Ok(Some(Many::All));
@@ -354,7 +358,7 @@ impl<'a> Args<'a> {
         }
     }
 
-    /// The entries that are requested of a proof, or why they can't be: `Word` for a number or range that is none.
+    /// The entries that are requested of a proof. The errors are those of [`add_ranges`].
     fn requested(&self, alloc: Global) -> Result<Requested, ArgsError<'a>> {
         if self.found.get_strs("NUMBER").is_none() {
             self.state.lacks_numbers.set(true);
@@ -364,7 +368,8 @@ impl<'a> Args<'a> {
         Ok(numbers.map_or(Requested::All, Requested::Numbers))
     }
 
-    /// The origin: that of a part, the one that is given, or `localhost/` and the file's name.
+    /// The origin: that of a part, the one that is given, or `localhost/` and the file's name. `AllocError` if memory
+    /// runs out.
     fn origin(&self, alloc: Global) -> Result<String, AllocError> {
         if self.found.get_flag("part") {
             return String::from_str(alloc, PART_ORIGIN);
@@ -399,8 +404,9 @@ impl<'a> Args<'a> {
     }
 }
 
-/// Appends the ranges that a word names, numbers and ranges with commas between, to ranges that have `count` numbers.
-/// Returns how many they have then; `Word` if the word names none, or there are too many.
+/// Appends to `ranges`, which have `count` numbers, those that `word` names: numbers and ranges with commas between.
+/// Returns how many numbers there are then. `Word` if it names none, or there are more than `MAX_ENTRIES_PER_PROOF`;
+/// `OutOfMemory` if memory runs out.
 fn add_ranges<'a>(
     ranges: &mut Vec<Range>,
     count: usize,
@@ -419,7 +425,7 @@ fn add_ranges<'a>(
     Ok(count)
 }
 
-/// The first and the last number of a range, as `3-7`, or of one number; or why a text is none.
+/// The first and the last number of `range`, as `3-7`, or twice that of one number; or why it is none.
 fn range_of(range: &str) -> Result<(usize, usize), &'static str>
     ensures { IfOk result (λ (first, last). first ≤ last) }
 {
@@ -431,7 +437,7 @@ fn range_of(range: &str) -> Result<(usize, usize), &'static str>
     Ok((first, last))
 }
 
-/// The number of an entry, from 1 to 2^62, or why a word is none.
+/// The number of an entry, from 1 to 2^62; or why `word` is none.
 fn number_of(word: &str) -> Result<usize, &'static str> {
     if word.is_empty() || !word.bytes().all(|byte| byte.is_ascii_digit()) {
         return Err("no number of an entry, as 3, 3-7, 3,7 or all");
@@ -443,7 +449,7 @@ fn number_of(word: &str) -> Result<usize, &'static str> {
     }
 }
 
-/// The syntax of the arguments, by the table of commands.
+/// The syntax of the arguments, by the table `COMMANDS`. `AllocError` if memory runs out.
 fn program<'a>(alloc: Global) -> Result<Syntax<'a>, AllocError> {
     let mut program = Syntax::new(alloc, "fohlazu")
         .bin_name("fohlazu")?
@@ -464,7 +470,8 @@ fn program<'a>(alloc: Global) -> Result<Syntax<'a>, AllocError> {
     Ok(program)
 }
 
-/// The option of this name, or else the operand.
+/// The argument of the word `id` of `COMMANDS`: an option in small letters, an operand in capitals. `!` marks one that
+/// a command requires, though another does not. `AllocError` if memory runs out.
 fn argument<'a>(alloc: Global, id: &str) -> Result<Arg<'a>, AllocError> {
     Ok(match id {
         "origin" => arg!(in alloc; --origin <ORIGIN> "The log's name, if not `localhost/FILE`"),
@@ -472,7 +479,7 @@ fn argument<'a>(alloc: Global, id: &str) -> Result<Arg<'a>, AllocError> {
         "part" => arg!(in alloc; --part "Print a part, for `join`").conflicts_with("origin")?,
         "blocks" =>
             arg!(in alloc; --blocks <BYTES> "Take blocks of 1 to 1073741824 bytes as entries")
-                .value_parser(value_parser!(usize).range(1..=1073741824))
+                .value_parser(value_parser!(usize).range(1..=MAX_BLOCK_BYTES as i64))
                 .group("cut")?,
         "whole-lines" => arg!(in alloc; --"whole-lines" "Leave out a partial line").group("cut")?,
         "partial" => arg!(in alloc; --partial "Take a partial line as an entry").group("cut")?,
@@ -483,7 +490,7 @@ fn argument<'a>(alloc: Global, id: &str) -> Result<Arg<'a>, AllocError> {
     })
 }
 
-/// The operand of this name.
+/// The operand of the word `id` of `COMMANDS`. `AllocError` if memory runs out.
 fn operand<'a>(alloc: Global, id: &str) -> Result<Arg<'a>, AllocError> {
     Ok(match id {
         "CHECKPOINT" => arg!(in alloc; <CHECKPOINT> "The checkpoint"),

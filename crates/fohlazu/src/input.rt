@@ -50,7 +50,7 @@ pub(crate) struct Input<'a> {
 }
 
 impl<'a> Input<'a> {
-    /// The input of this name, not opened yet. If `shows_progress`, a terminal on standard error shows how far it is
+    /// The input called `name`, not opened yet. If `shows_progress`, a terminal on standard error shows how far it is
     /// read. `state` takes why a read fails.
     pub(crate) fn new(
         rt: &'a HostRuntime,
@@ -70,7 +70,7 @@ impl<'a> Input<'a> {
         }
     }
 
-    /// The input of this name, which is a checkpoint or a part: a line on standard error warns of a second one in it.
+    /// The input called `name`, which is a checkpoint or a part: a line on standard error warns of a second one in it.
     pub(crate) fn checkpoint(rt: &'a HostRuntime, name: &'a str, state: &'a RunState) -> Input<'a> {
         let mut input = Input::new(rt, name, false, state);
         input.watch = Some(CheckpointWatch::default());
@@ -104,7 +104,8 @@ impl<'a> Input<'a> {
     }
 
     /// Reads the next bytes of the cache to the front of `buf`, and returns how many. If there are none, it reads the
-    /// next bytes of the input, and caches them if the input is to be read again.
+    /// next bytes of the input, with the errors of [`read_next`](Self::read_next), and caches them if the input is to
+    /// be read again.
     fn read_cached(&mut self, buf: &mut [u8]) -> io::Result<usize>
         ensures { IfOk result (λ count. IsPrefixLen count buf.new) }
     {
@@ -126,7 +127,7 @@ impl<'a> Input<'a> {
     }
 
     /// Reads the next bytes of the input to the front of `buf`, and returns how many. The first call opens the file.
-    /// `UnexpectedEof` if a regular file has become shorter.
+    /// The error is that of the system call that failed; `UnexpectedEof` if a regular file has become shorter.
     fn read_next(&mut self, buf: &mut [u8]) -> io::Result<usize>
         ensures { IfOk result (λ count. IsPrefixLen count buf.new) }
     {

@@ -46,7 +46,7 @@ fn read_words(rt: &HostRuntime) -> io::Result<Vec<String>> {
     Ok(words)
 }
 
-/// Runs a command, which must be lawful. Returns the exit code.
+/// Runs a command, which must be well formed. Returns the exit code.
 fn run_command(args: &Args<'_>, command: Command<Input<'_>>) -> ExitCode
     requires { IsWellFormed command }
 {
@@ -59,7 +59,7 @@ fn run_command(args: &Args<'_>, command: Command<Input<'_>>) -> ExitCode
     }
 }
 
-/// Proves entries that may be many. Returns the exit code.
+/// Proves the entries of `many`. Returns the exit code.
 fn prove_many(args: &Args<'_>, many: &Many) -> ExitCode {
     let (rt, alloc, framing) = (args.rt, args.rt.alloc(), args.framing());
     // An output that cannot be written is refused ahead of the inputs, as it is where entries are few.
@@ -78,7 +78,7 @@ fn prove_many(args: &Args<'_>, many: &Many) -> ExitCode {
                 file,
                 numbers,
             };
-            // It is lawful, since `parse_args` has read the numbers. No contract says so.
+            // It is well formed, since `parse_args` has read the numbers. No contract says so.
             if command.is_well_formed() {
                 run_command(args, command)
             } else {
@@ -89,7 +89,8 @@ fn prove_many(args: &Args<'_>, many: &Many) -> ExitCode {
     }
 }
 
-/// Runs a command, which must be lawful, and puts its output in the place of the file `name`. Returns the exit code.
+/// Runs a command, which must be well formed, and puts its output in the place of the file `name`. Returns the exit
+/// code.
 fn run_to_file(args: &Args<'_>, command: Command<Input<'_>>, name: &str) -> ExitCode
     requires { IsWellFormed command }
 {
@@ -113,8 +114,8 @@ fn run_to_file(args: &Args<'_>, command: Command<Input<'_>>, name: &str) -> Exit
     }
 }
 
-/// Ends a run: prints why it failed and what the input is called, or that the caller has to compare numbers. Returns
-/// the exit code.
+/// Ends a run that answered `done`: prints why it failed and what the input is called, or that the caller has to
+/// compare numbers. Returns the exit code.
 fn finish(args: &Args<'_>, done: Result<(), Error>) -> ExitCode {
     let rt = args.rt;
     let state = args.state;

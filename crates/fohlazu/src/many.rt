@@ -29,7 +29,7 @@ pub(crate) enum Many {
     Ranges(Vec<Range>),
 }
 
-/// How many numbers ranges have, up to `usize::MAX`.
+/// How many numbers `ranges` have, up to `usize::MAX`.
 pub(crate) fn count_of(ranges: &[Range]) -> usize {
     let mut count = 0usize;
     for (first, last) in ranges {
@@ -40,7 +40,7 @@ pub(crate) fn count_of(ranges: &[Range]) -> usize {
     count
 }
 
-/// The numbers of ranges, one range after another. `AllocError` if memory runs out.
+/// The numbers of `ranges`, one range after another. `AllocError` if memory runs out.
 pub(crate) fn numbers_in(alloc: Global, ranges: &[Range]) -> Result<Vec<usize>, AllocError> {
     let mut numbers = Vec::with_capacity(alloc, count_of(ranges))?;
     for (first, last) in ranges {
@@ -83,7 +83,7 @@ impl Many {
     }
 }
 
-/// The first number of ranges that is past the size of a checkpoint, if there is one.
+/// The first number of `ranges`, in their order, that is above `size`, if there is one.
 fn first_past_end(ranges: &[Range], size: usize) -> Option<usize> {
     let (first, _) = ranges.iter().find(|range| range.1 > size)?;
     Some((*first).max(size.saturating_add(1)))
@@ -103,9 +103,10 @@ fn claimed_size(alloc: Global, checkpoint: &mut Input<'_>) -> usize {
     size.unwrap_or(usize::MAX)
 }
 
-/// Checks that a file has entries up to `last`, and that no requested number is past the end of the checkpoint, where
-/// `past_end` is the first that is. If that is not so, a run that proves one entry, this or the first of the file, says
-/// what is wrong. Both inputs are then at their beginning again.
+/// Checks that a file has entries up to number `last`, counted from 1, and that no requested number is past the end of
+/// the checkpoint: `past_end` is the first that is. If one of both is not so, a run that proves one entry, `past_end`
+/// or the first of the file, says by its error what is wrong; `OutOfMemory` if memory runs out. Both inputs are then at
+/// their beginning again.
 fn check_entries<'a>(
     alloc: Global,
     framing: Framing,
@@ -131,7 +132,7 @@ fn check_entries<'a>(
     Ok(())
 }
 
-/// Runs a command for its errors alone. One that is not lawful is refused later.
+/// Runs a command for its errors alone. One that is not well formed is refused later.
 fn run_unwritten(alloc: Global, command: Command<&mut Input<'_>>) -> Result<(), Error> {
     if command.is_well_formed() {
         run(alloc, command, &mut io::sink())

@@ -22,12 +22,11 @@ pub(crate) struct Replacement<'a> {
 }
 
 impl<'a> Replacement<'a> {
-    /// A file of this name, which replaces a regular one if there is one. Nothing is written yet.
+    /// A file called `name`, which replaces a regular one if there is one. Nothing is written yet.
     ///
     /// # Errors
     ///
-    /// The error of the system call that failed; `InvalidInput` if the name is that of a file which is not a regular
-    /// one.
+    /// The error of the system call that failed; `InvalidInput` if `name` is that of a file which is not a regular one.
     pub(crate) fn new(rt: &'a HostRuntime, name: &str) -> io::Result<Replacement<'a>> {
         let place = match fs::canonicalize(rt, name) {
             Err(error) if error.kind() == ErrorKind::NotFound => {
@@ -126,7 +125,7 @@ impl Write for Replacement<'_> {
     }
 }
 
-/// Whether both names lead to one regular file; false if either cannot be looked up.
+/// Whether the names `one` and `other` lead to one regular file; false if either cannot be looked up.
 pub(crate) fn is_same_file(rt: &HostRuntime, one: &str, other: &str) -> bool {
     match (fs::metadata(rt, one), fs::metadata(rt, other)) {
         (Ok(one), Ok(other)) => one.is_file()
@@ -163,11 +162,11 @@ fn folder_of(path: Path<'_>) -> Path<'_> {
     }
 }
 
-/// A new file in the folder of another one, and its name. The umask is taken from the mode.
+/// A new file in the folder of `place`, with the mode `mode` less the umask, and its name.
 ///
 /// # Errors
 ///
-/// The error of the system call that failed; `AlreadyExists` if there are too many such files.
+/// The error of the system call that failed; `AlreadyExists` if the folder has 1000 such files.
 fn create_beside(rt: &HostRuntime, place: Path<'_>, mode: u32) -> io::Result<(PathBuf, File)> {
     let mut options = OpenOptions::new();
     options.write(true).create_new(true).mode(mode);

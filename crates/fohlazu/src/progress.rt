@@ -16,7 +16,7 @@ pub(crate) struct Progress<'a> {
 }
 
 impl<'a> Progress<'a> {
-    /// The progress of an input that is read from now on. `None` if it is not to be shown, standard error is no
+    /// The progress of an input that is read from now on. `None` if `is_wanted` is false, standard error is no
     /// terminal, or the clock can't be read.
     pub(crate) fn start(rt: &'a HostRuntime, is_wanted: bool) -> Option<Progress<'a>> {
         if !is_wanted || !rt.stderr().is_terminal() {
@@ -32,7 +32,7 @@ impl<'a> Progress<'a> {
         })
     }
 
-    /// Counts bytes that were read, where at least `left` follow. Returns whether it printed a line.
+    /// Counts `count` bytes that were read, where at least `left` follow. Returns whether it printed a line.
     pub(crate) fn add(&mut self, count: usize, left: u64) -> bool {
         self.read = self.read.saturating_add(count as u64);
         self.has_size = self.has_size || left > 0;

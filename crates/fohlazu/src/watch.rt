@@ -26,7 +26,7 @@ impl CheckpointWatch {
         self.has_second
     }
 
-    /// Reads the next bytes.
+    /// Reads `bytes`, the next of the text.
     pub(crate) fn read(&mut self, bytes: &[u8]) {
         for byte in bytes {
             if *byte == b'\n' {

@@ -97,7 +97,8 @@ fn verdict<const N: usize>(
         IsOk result → IsAccepted (params_at N cap_height rule dimensions) claim.entry.roots.now
         (presented_opening dimensions claim.entry.index claim.entry.rows.now claim.entry.siblings.now) }
 {
-    if are_more_bytes(claim.sizes, claim.rows) {
+    if has_extra_bytes(claim.sizes, claim.rows) {
+        // The bytes that are left over count as one row too many.
         let expected = claim.sizes.len();
         return Err(MerkleTreeError::WrongBatchSize {
             expected,
@@ -113,19 +114,18 @@ fn verdict<const N: usize>(
     scheme.verify_rows(claim.roots, dimensions, claim.index, rows, claim.siblings)
 }
 
-/// Whether these are more bytes than the rows of matrices of these sizes have together. Then the bytes that are left
-/// would be a row too many.
-fn are_more_bytes(sizes: &[MatrixSize], bytes: &[u8]) -> bool
-    ensures { result ≡ nat_lt (sum_by (λ size. size.width) sizes.now) (length bytes.now) }
+/// Whether `rows` has more bytes than one row of each matrix: than all widths together, at a byte a value.
+fn has_extra_bytes(sizes: &[MatrixSize], rows: &[u8]) -> bool
+    ensures { result ≡ nat_lt (sum_by (λ size. size.width) sizes.now) (length rows.now) }
 {
-    let mut left = bytes.len();
+    let mut left = rows.len();
     for size in sizes {
         left = left.saturating_sub(size.width);
     }
     left > 0
 }
 
-/// The sizes as the library's `Dimensions`. `AllocError` if memory runs out.
+/// `sizes` as the library's `Dimensions`. `AllocError` if memory runs out.
 fn dimensions_of(alloc: Global, sizes: &[MatrixSize]) -> Result<Vec<Dimensions>, AllocError>
     ensures { IfOk result (λ dimensions. dimensions.items ≡ map size_shown sizes.now) }
 {

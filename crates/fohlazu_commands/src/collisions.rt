@@ -91,7 +91,9 @@ pub fn file_prefix_collision(
     Ok(prefix_collision::<Sha256, 32>(alloc, &old_entries, &new_entries, &proof.digests)?)
 }
 
-/// The entries of a file under its checkpoint.
+/// All entries of the file with the bytes `file`, under the checkpoint with the text `checkpoint`. `Line` of `source`
+/// for the checkpoint's first wrong line; else `EndsInsideLine`, `TooFewEntries` or `OtherEntries` if the checkpoint is
+/// not of the file. `OutOfMemory` may come at any time.
 fn read_entries_under(
     alloc: Global,
     source: Source,
@@ -110,7 +112,8 @@ fn read_entries_under(
     Ok(log.entries)
 }
 
-/// Reads the entries of a checkpoint from the bytes of its file.
+/// Reads the log of a checkpoint from `file`, the bytes of its file, with the entries at the indices `wanted`, counted
+/// from 0. The errors are those of [`read_file_under`] without `Read`.
 fn read_bytes(
     alloc: Global,
     framing: Framing,
@@ -129,7 +132,7 @@ fn read_bytes(
     }
 }
 
-/// The indices of entries, counted from 0.
+/// The index of each of `entries`, counted from 0. `AllocError` if memory runs out.
 fn indices_of(alloc: Global, entries: &[Entry]) -> Result<Vec<usize>, AllocError>
     ensures { IfOk result (λ indices. indices.items ≡ map (λ e. e.number - 1) (map entry_fields entries.now)) }
 {
@@ -139,7 +142,7 @@ fn indices_of(alloc: Global, entries: &[Entry]) -> Result<Vec<usize>, AllocError
         .collect(alloc)
 }
 
-/// The leaf hashes of entries.
+/// The leaf hash of each of `entries`. `AllocError` if memory runs out.
 fn leaves_of(alloc: Global, entries: &[Entry]) -> Result<Vec<[u8; 32]>, AllocError>
     ensures { IfOk result
         (λ leaves. leaves.items ≡ map (λ e. leaf_hash_by sha256 e.bytes) (map entry_fields entries.now)) }
@@ -151,8 +154,8 @@ fn leaves_of(alloc: Global, entries: &[Entry]) -> Result<Vec<[u8; 32]>, AllocErr
     Ok(leaves)
 }
 
-/// A collision, if an entry of a proof that is accepted under the root of all entries is not that of its number; else
-/// `None`.
+/// A collision, if one of the entries of `proof`, which must be accepted under the root of `entries`, is not the one of
+/// its number, counted from 1, among `entries`; else `None`. `AllocError` if memory runs out.
 fn proved_collision(
     alloc: Global,
     entries: &[Vec<u8>],
@@ -172,7 +175,8 @@ fn proved_collision(
     bytes_collision(alloc, entries, &proof.entries)
 }
 
-/// A collision, if an entry of a proof, which has the leaf hash of the one of its number, is not that one; else `None`.
+/// A collision, if one of `proved` is not the one of its number, counted from 1, among `entries`, whose leaf hash it
+/// must have; else `None`. `AllocError` if memory runs out.
 fn bytes_collision(
     alloc: Global,
     entries: &[Vec<u8>],
@@ -192,7 +196,8 @@ fn bytes_collision(
     Ok(None)
 }
 
-/// A collision, if two entries of one leaf hash are different; else `None`.
+/// A collision, if the entries `entry` and `other`, which must have one leaf hash, are different; else `None`.
+/// `AllocError` if memory runs out.
 fn entry_collision(
     alloc: Global,
     entry: &[u8],

@@ -21,6 +21,9 @@ use std::io::{ErrorKind, Read, Write};
 use tlog_files::Framing;
 use tlog_text::is_origin;
 
+/// The most bytes that a block has.
+pub const MAX_BLOCK_BYTES: usize = 1 << 30;
+
 /// A command, with the inputs that it reads.
 #[derive(Drop)]
 pub enum Command<R> {
@@ -90,24 +93,24 @@ impl<R> Command<R> {
     }
 }
 
-/// Whether a file may be cut so.
+/// Whether a file may be cut by `framing`: a block has from 1 to 2^30 bytes.
 fn is_framing(framing: Framing) -> bool
     ensures { Decides result (IsFraming framing) }
 {
     match framing {
         Framing::Lines(_) => true,
-        Framing::Blocks(size) => 1 <= size && size <= 1 << 30,
+        Framing::Blocks(size) => 1 <= size && size <= MAX_BLOCK_BYTES,
     }
 }
 
-/// Whether these are numbers of entries: at least one, each from 1 on.
+/// Whether `numbers` may be given as numbers of entries: there is at least one, and each is from 1 on.
 fn are_numbers(numbers: &[usize]) -> bool
     ensures { Decides result (AreNumbers numbers.now) }
 {
     !numbers.is_empty() && numbers.iter().all(|number| 1 <= *number)
 }
 
-/// Whether requested entries may be printed so.
+/// Whether the entries `requested` may be printed as `print` says.
 fn is_print(print: Print, requested: &Requested) -> bool
     ensures { Decides result (IsPrint print requested.now) }
 {
@@ -150,7 +153,7 @@ pub fn run<R: Read + Drop, W: Write>(
     write_text(output, &text)
 }
 
-/// What a command prints.
+/// What a command prints. The errors are those of [`run`] but `Write`.
 fn answer<R: Read + Drop>(alloc: Global, command: Command<R>) -> Result<Vec<u8>, Error>
     requires { IsWellFormed command }
     ensures { (outcome : Result (List ℕ) Error) × HasOutcome R.remaining command outcome
@@ -201,7 +204,7 @@ fn answer<R: Read + Drop>(alloc: Global, command: Command<R>) -> Result<Vec<u8>,
     }
 }
 
-/// All bytes of the parts.
+/// All bytes of each of `parts`, with the errors of [`read_note`].
 fn read_parts<R: Read + Drop>(alloc: Global, parts: Vec<R>) -> Result<Vec<Vec<u8>>, Error>
     ensures { HoldsOfInputs (map R.remaining parts.items)
         (λ texts. Gives (λ all. map bytes_in all.items) result (bytes_of_parts 0 texts)) }

@@ -35,8 +35,8 @@ const MAX_NOTE_BYTES: usize = 1_000_000;
 /// line, and a checkpoint.
 const MAX_GROWTH_BYTES: usize = 1_002_860;
 
-/// Reads the first entries of a file, up to a limit, or all, with the values of these nodes and the bytes of the wanted
-/// entries. The errors are those of [`read_log`], with the file as their source.
+/// Reads the first `limit` entries of a file, or all, with the values of the nodes `nodes` and the bytes of the entries
+/// at the indices `wanted`, counted from 0. The errors are those of [`read_log`], with the file as their source.
 pub(crate) fn read_file<R: Read>(
     alloc: Global,
     framing: Framing,
@@ -52,8 +52,8 @@ pub(crate) fn read_file<R: Read>(
     Ok(read_log(alloc, framing, limit, nodes, wanted, file)?)
 }
 
-/// Reads the first entries of a file, as [`read_file`] does, as many as its checkpoint has. `TooFewEntries` if the file
-/// has fewer, else `OtherEntries` if they have another root.
+/// Reads the first entries of a file, as [`read_file`] does, as many as its checkpoint has. The errors are those of
+/// [`read_file`]; then `TooFewEntries` if the file has fewer entries, else `OtherEntries` if they have another root.
 pub(crate) fn read_file_under<R: Read>(
     alloc: Global,
     framing: Framing,
@@ -81,8 +81,9 @@ pub(crate) fn size_and_root(log: &ReadLog) -> (usize, [u8; 32])
     (frontier.size(), frontier.root())
 }
 
-/// Checks that `size` entries with this root are those of the checkpoint: `TooFewEntries` if the checkpoint has another
-/// number of entries, which is then greater, since no more are read; `OtherEntries` if the roots differ.
+/// Checks that `size` entries under `root`, the first ones of a file, are those of the checkpoint: `TooFewEntries` if
+/// the checkpoint has another size, which is then greater, since no more entries are read; else `OtherEntries` if the
+/// roots differ.
 fn check_tree(checkpoint: &Checkpoint, size: usize, root: &[u8; 32]) -> Result<(), Error>
     ensures { Checks result (tree_refusal (checkpoint_fields checkpoint.now) size root.now) }
 {
@@ -96,7 +97,8 @@ fn check_tree(checkpoint: &Checkpoint, size: usize, root: &[u8; 32]) -> Result<(
     Ok(())
 }
 
-/// The values of the wanted nodes of a tree that are there, in order. `AllocError` if memory runs out.
+/// The values of the wanted nodes of a tree, in the order in which they were wanted, without those that are not there.
+/// `AllocError` if memory runs out.
 pub(crate) fn digests_of(alloc: Global, tree: TreeBuilder) -> Result<Vec<[u8; 32]>, AllocError>
     ensures { IfOk result (λ digests. (leaves : List (List ℕ)) (nodes : List NodeId) (all : List (List ℕ)) →
         IsBuilderOf leaves nodes tree → values_at sha256 leaves nodes ≡ all_there all → digests.items ≡ all) }

@@ -38,7 +38,8 @@ pub fn join(alloc: Global, origin: &str, texts: &[Vec<u8>]) -> Result<Vec<u8>, E
     Ok(Checkpoint { origin, size, root }.to_text(alloc)?)
 }
 
-/// The sizes and the roots of parts.
+/// The size and the root of each part, in order. `Line` of the first part that has a wrong line, for its first;
+/// `OutOfMemory` if memory runs out.
 fn read_parts(alloc: Global, texts: &[Vec<u8>]) -> Result<Vec<(usize, [u8; 32])>, Error>
     ensures { Gives (λ parts. parts.items) result (parts_in 0 (map bytes_in texts.now)) }
 {
@@ -52,7 +53,8 @@ fn read_parts(alloc: Global, texts: &[Vec<u8>]) -> Result<Vec<(usize, [u8; 32])>
     Ok(parts)
 }
 
-/// How many entries parts have together, if their sizes fit.
+/// How many entries `parts`, each with its size and root, have together. `PartSize` for the first whose size does not
+/// fit, else `TooManyEntries` of part 0 if there are more than 2^62; `OutOfMemory` if memory runs out.
 fn size_of_parts(alloc: Global, parts: &[(usize, [u8; 32])]) -> Result<usize, Error>
     ensures { let sizes = map (λ part. part.0) parts.now in
         Gives (λ size. size) result (ok_unless (join_refusal sizes) (sum sizes)) }
@@ -62,7 +64,8 @@ fn size_of_parts(alloc: Global, parts: &[(usize, [u8; 32])]) -> Result<usize, Er
     total(&sizes).ok_or(Error::Refused(Source::Part(0), Refusal::TooManyEntries))
 }
 
-/// Checks that each part has a size that fits.
+/// Checks that all but the last of `sizes` are one power of two, and that the last is from 1 to the first one, else
+/// `PartSize` for the first part whose size is another.
 fn check_part_sizes(sizes: &[usize]) -> Result<(), Error>
     ensures { Checks result (sizes_refusal sizes.now) }
 {
@@ -75,7 +78,8 @@ fn check_part_sizes(sizes: &[usize]) -> Result<(), Error>
     Ok(())
 }
 
-/// Whether part `k` has a size that fits.
+/// Whether the size of part `k`, counted from 0, fits: that of the last part is from 1 to the first one, and any other
+/// is the first one, a power of two.
 fn is_part_size(sizes: &[usize], k: usize) -> bool
     requires { k < length sizes.now }
     ensures { result ≡ is_part_size sizes.now k }
@@ -88,7 +92,7 @@ fn is_part_size(sizes: &[usize], k: usize) -> bool
     }
 }
 
-/// The sum of sizes, if it is at most 2^62.
+/// The sum of `sizes`; `None` if it is above 2^62.
 fn total(sizes: &[usize]) -> Option<usize>
     ensures { MatchOption result (size_limit < sum sizes.now)
         (λ size. (size ≡ sum sizes.now) × (size ≤ size_limit)) }
@@ -103,7 +107,7 @@ fn total(sizes: &[usize]) -> Option<usize>
     Some(total)
 }
 
-/// The roots of parts.
+/// The root of each of `parts`, sizes with roots. `AllocError` if memory runs out.
 fn roots_of(alloc: Global, parts: &[(usize, [u8; 32])]) -> Result<Vec<[u8; 32]>, AllocError>
     ensures { IfOk result (λ roots. roots.items ≡ map (λ part. part.1) parts.now) }
 {
@@ -114,7 +118,8 @@ fn roots_of(alloc: Global, parts: &[(usize, [u8; 32])]) -> Result<Vec<[u8; 32]>,
     Ok(roots)
 }
 
-/// The root of all parts.
+/// The root of the file whose parts, in order, have the sizes and roots `parts`, if all but the last have one size, a
+/// power of two, and the last has no more entries. `OutOfMemory` if memory runs out.
 fn root_of_parts(alloc: Global, parts: &[(usize, [u8; 32])]) -> Result<[u8; 32], Error>
     ensures { MatchResult result (λ root. root ≡ leaves_root sha256 (map (λ part. part.1) parts.now)) IsMemory }
 {

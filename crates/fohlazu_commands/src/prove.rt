@@ -24,8 +24,9 @@ use tlog_text::{Checkpoint, EntriesProof, Entry};
 /// The most entries that `run` proves where no numbers are given, and the most numbers that `fohlazu` takes.
 pub const MAX_ENTRIES_PER_PROOF: usize = 100_000_000;
 
-/// The proof of entries of a file under its checkpoint, by one or more numbers, counted from 1, in the order of these,
-/// also repeated. The file may have grown: of it as many entries are read as the checkpoint has, in one pass.
+/// The proof of the entries `numbers` of a file under its checkpoint: one or more, counted from 1, in any order, also
+/// repeated. The proof has them in that order. The file may have grown: of it as many entries are read as the
+/// checkpoint has, in one pass.
 ///
 /// # Errors
 ///
@@ -57,7 +58,7 @@ pub fn prove<R: Read>(
     prove_under(alloc, framing, &checkpoint, numbers, file)
 }
 
-/// The given numbers, or those of all entries of a checkpoint.
+/// `numbers`, if it is given; else the numbers of all entries of the checkpoint, counted from 1.
 ///
 /// # Errors
 ///
@@ -83,7 +84,8 @@ pub(crate) fn numbers_of(
     Ok(all_numbers(alloc, checkpoint.size)?)
 }
 
-/// The numbers of all entries of a log of so many, from 1 on. A log of none gives number 1, which is then refused.
+/// The numbers of all entries of a log of `size` entries, at most 2^62, from 1 on. A log of none gives number 1, which
+/// is then refused. `AllocError` if memory runs out.
 pub(crate) fn all_numbers(alloc: Global, size: usize) -> Result<Vec<usize>, AllocError>
     requires { size ≤ size_limit }
     ensures { IfOk result (λ numbers. (numbers.items ≡ all_numbers size) × AreNumbers numbers.items) }
@@ -91,8 +93,8 @@ pub(crate) fn all_numbers(alloc: Global, size: usize) -> Result<Vec<usize>, Allo
     (1..size.max(1) + 1).collect(alloc)
 }
 
-/// The checkpoint that a text says, which has entries of these numbers. `Line` for the text's first wrong line, else
-/// `NumberPastEnd` for the first number whose entry the checkpoint does not have.
+/// The checkpoint that `text` says, which must have the entries `numbers`, counted from 1: `Line` for the first wrong
+/// line of `text`, else `NumberPastEnd` for the first number whose entry the checkpoint does not have.
 fn checkpoint_with<'a>(text: &'a [u8], numbers: &[usize]) -> Result<Checkpoint<'a>, Error>
     ensures checkpoint { Gives checkpoint_fields result (checkpoint_with text.now numbers.now) }
     ensures numbers { IfOk result (λ c. All (λ number. number ≤ c.size) numbers.now) }
@@ -103,7 +105,8 @@ fn checkpoint_with<'a>(text: &'a [u8], numbers: &[usize]) -> Result<Checkpoint<'
     Ok(checkpoint)
 }
 
-/// Checks that a log of so many entries has these.
+/// Checks that a log of `size` entries has each of the entries `numbers`, counted from 1. `NumberPastEnd` for the first
+/// that it has not.
 fn check_numbers(size: usize, numbers: &[usize]) -> Result<(), Error>
     ensures { Checks result (first_of (number_refusal size) numbers.now) }
 {
@@ -115,7 +118,8 @@ fn check_numbers(size: usize, numbers: &[usize]) -> Result<(), Error>
     Ok(())
 }
 
-/// The proof of entries under a checkpoint that has them.
+/// The text of the proof of the entries `numbers`, counted from 1, under a checkpoint that has them. The errors are
+/// those of [`read_file_under`].
 fn prove_under<R: Read>(
     alloc: Global,
     framing: Framing,
@@ -137,7 +141,8 @@ fn prove_under<R: Read>(
     Ok(text_of(alloc, numbers, log)?)
 }
 
-/// The text of the proof of entries that were read.
+/// The text of the proof of the entries `numbers`, counted from 1, of which `log` has the bytes and the digests.
+/// `AllocError` if memory runs out.
 fn text_of(alloc: Global, numbers: &[usize], log: ReadLog) -> Result<Vec<u8>, AllocError>
     ensures { IfOk result (λ text. (entries : List (List ℕ)) → let indices = map (λ n. n - 1) numbers.now in
         HasEntries (proof_nodes (length entries) indices) indices entries log →
@@ -150,7 +155,8 @@ fn text_of(alloc: Global, numbers: &[usize], log: ReadLog) -> Result<Vec<u8>, Al
     EntriesProof { entries, digests }.to_text(alloc)
 }
 
-/// Entries of these numbers and bytes.
+/// The entries of the numbers `numbers`, counted from 1, with the bytes `bytes`, one for each. `AllocError` if memory
+/// runs out.
 fn numbered(alloc: Global, numbers: &[usize], bytes: Vec<Vec<u8>>) -> Result<Vec<Entry>, AllocError>
     ensures { IfOk result (λ numbered. map entry_fields numbered.items
         ≡ map entry_of (zip numbers.now (map bytes_in bytes.items))) }

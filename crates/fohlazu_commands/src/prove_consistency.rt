@@ -58,7 +58,8 @@ pub fn prove_consistency<R: Read>(
     prove_growth(alloc, framing, &old, &checkpoint, new, file)
 }
 
-/// The old checkpoint and the new one that texts say, if the new one may follow the old one.
+/// The checkpoints that the texts `old` and `new` say, if the new one may follow the old one. `Line` for the first
+/// wrong line of `old`, then of `new`; else the error of [`check_growth`].
 fn compared<'a, 'b>(old: &'a [u8], new: &'b [u8]) -> Result<(Checkpoint<'a>, Checkpoint<'b>), Error>
     ensures answer { Gives (λ (o, n). (checkpoint_fields o, checkpoint_fields n)) result (compared old.now new.now) }
     ensures ordered { IfOk result (λ (o, n). o.size ≤ n.size) }
@@ -69,7 +70,9 @@ fn compared<'a, 'b>(old: &'a [u8], new: &'b [u8]) -> Result<(Checkpoint<'a>, Che
     Ok((old, new))
 }
 
-/// The proof between two checkpoints, the new one with its text.
+/// The text of the proof between two checkpoints, where `checkpoint` is the text of `new`. `old` must not have more
+/// entries than `new`. The errors are those of [`read_file_under`], then `OtherOldEntries` if the file does not begin
+/// with the entries of `old`.
 fn prove_growth<R: Read>(
     alloc: Global,
     framing: Framing,
@@ -89,7 +92,8 @@ fn prove_growth<R: Read>(
     text_of(alloc, old, new, checkpoint, log)
 }
 
-/// The text of the proof between two checkpoints over the entries that were read.
+/// The text of the proof between two checkpoints, where `log` has the digests, and `checkpoint` is the text of `new`.
+/// `OtherOldEntries` if the digests do not lead to the root of `old`; `OutOfMemory` if memory runs out.
 fn text_of(
     alloc: Global,
     old: &Checkpoint,
@@ -116,7 +120,8 @@ fn text_of(
     }
 }
 
-/// The nodes whose values are the digests of a proof between two sizes.
+/// The nodes whose values are the digests of a proof between the sizes `old` and `new`: none if `old` is 0 or both are
+/// equal. `old` must be at most `new`. `AllocError` if memory runs out.
 fn growth_nodes(alloc: Global, old: usize, new: usize) -> Result<Vec<NodeId>, AllocError>
     requires { old ≤ new }
     ensures { IfOk result (λ nodes. (entries : List (List ℕ)) → length entries ≡ new →

@@ -24,7 +24,7 @@ pub(crate) struct SortedEntries<'a> {
 }
 
 impl<'a> SortedEntries<'a> {
-    /// The entries of this proof. It takes memory for an index and a place of each.
+    /// The entries of `proof`, sorted by index. It takes memory for an index and a place of each.
     ///
     /// # Errors
     ///
@@ -74,7 +74,8 @@ impl AscendingEntries for SortedEntries<'_> {
     ghost ascending = { λ sorted. sorted.ascending };
 }
 
-/// For each entry of a proof its index, counted from 0, and how many bytes of the text stand ahead of it.
+/// For each entry of a proof its index, counted from 0, and how many bytes of the text stand ahead of it. `AllocError`
+/// if memory runs out.
 fn places_of(alloc: Global, proof: &EntriesText) -> Result<Vec<(usize, usize)>, AllocError>
     ensures { IfOk result
         (λ places. ArePlaces proof.now.text.now (in_place proof.now).entries places.items) }

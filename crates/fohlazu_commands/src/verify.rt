@@ -70,14 +70,15 @@ pub fn verify(
     Ok(text_of(alloc, print, is_requested(requested), proof.entries())?)
 }
 
-/// Whether the entries of a proof are requested ones, whose numbers are compared and then not printed.
+/// Whether entries are requested, so that their numbers are compared and not printed.
 fn is_requested(requested: &Requested) -> bool
     ensures { (size : ℕ) → result ≡ is_some (numbers_in requested.now size) }
 {
     !matches!(requested, Requested::Any)
 }
 
-/// Checks that the proof's entries are the requested ones, in their order, of a log of `size` entries.
+/// Checks that the entries of `proof` are the requested ones, in their order, where the log has `size` entries. The
+/// errors are those of [`check_numbers`]; `OutOfMemory` if memory runs out.
 fn check_requested(
     alloc: Global,
     requested: &Requested,
@@ -99,7 +100,9 @@ fn check_requested(
     }
 }
 
-/// Checks that entries are those of these numbers, in their order.
+/// Checks that `entries` have the numbers `numbers`, counted from 1, in their order. For the first that differs:
+/// `OtherNumber` if it has another number, `UnrequestedEntry` if it comes after all of `numbers`, `MissingEntry` if the
+/// entries end ahead of it.
 fn check_numbers(numbers: &[usize], entries: Entries) -> Result<(), Error>
     ensures { Checks result (numbers_refusal (Some numbers.now) (entries_left entries.entry)) }
 {
@@ -120,7 +123,8 @@ fn check_numbers(numbers: &[usize], entries: Entries) -> Result<(), Error>
     Ok(())
 }
 
-/// Checks that entries can be printed.
+/// Checks that each of `entries` can be printed as `print` says, else `UnprintableEntry` for the first that cannot. The
+/// log has `size` entries.
 fn check_entries(print: Print, size: usize, entries: Entries) -> Result<(), Error>
     ensures { Checks result (first_of (entry_refusal print size) (entries_left entries.entry)) }
 {
@@ -132,7 +136,8 @@ fn check_entries(print: Print, size: usize, entries: Entries) -> Result<(), Erro
     Ok(())
 }
 
-/// Whether an entry can be printed.
+/// Whether an entry of a log of `size` entries can be printed as `print` says: a line has no line feed inside, and a
+/// block its own length, or at most that if it is the last of the log.
 fn is_printable(print: Print, size: usize, entry: &EntryText) -> bool
     ensures { result ≡ is_printable print size (entry_text_fields entry.now) }
 {
@@ -145,7 +150,8 @@ fn is_printable(print: Print, size: usize, entry: &EntryText) -> bool
     }
 }
 
-/// Checks a proof by the verifier.
+/// Checks a proof of entries against the root of a checkpoint, else `Entries` with the verifier's reason; `OutOfMemory`
+/// if memory runs out.
 fn check_proof(alloc: Global, checkpoint: &Checkpoint, proof: &EntriesText) -> Result<(), Error>
     ensures { ChecksUnlessMemory result
         (proof_refusal (checkpoint_fields checkpoint.now) (in_place proof.now)) }
@@ -155,7 +161,7 @@ fn check_proof(alloc: Global, checkpoint: &Checkpoint, proof: &EntriesText) -> R
     Ok(verify_ascending(size, &sorted, &proof.digests, root)?)
 }
 
-/// What is printed of entries: lines have their numbers ahead if they are not requested ones.
+/// What is printed of `entries`: lines have their numbers ahead unless `is_requested`. `AllocError` if memory runs out.
 fn text_of(
     alloc: Global,
     print: Print,
@@ -172,7 +178,8 @@ fn text_of(
     Ok(text)
 }
 
-/// Appends what is printed of an entry: a line has its number ahead if it is not a requested one.
+/// Appends what is printed of an entry: a line has its number ahead unless `is_requested`. `AllocError` if memory runs
+/// out.
 fn push_entry(
     alloc: Global,
     text: &mut Vec<u8>,

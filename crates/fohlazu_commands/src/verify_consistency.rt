@@ -38,7 +38,8 @@ pub fn verify_consistency(alloc: Global, old: &[u8], proof: &[u8]) -> Result<Vec
     Ok(Vec::from_slice(alloc, proof.checkpoint)?)
 }
 
-/// The new checkpoint that a proof contains.
+/// The new checkpoint that a proof contains. `CheckpointLine` for its first wrong line; `OutOfMemory` if memory runs
+/// out.
 fn read_new<'a>(proof: &ConsistencyProof<'a>) -> Result<Checkpoint<'a>, Error>
     ensures { Gives checkpoint_fields result (said_inside (checkpoint_in proof.now.checkpoint.now)) }
 {
@@ -51,7 +52,7 @@ fn read_new<'a>(proof: &ConsistencyProof<'a>) -> Result<Checkpoint<'a>, Error>
     }
 }
 
-/// Checks the digests of a proof.
+/// Checks that `digests` lead from the root of `old` to that of `new`, else `Consistency` with the verifier's reason.
 fn check_digests(old: &Checkpoint, new: &Checkpoint, digests: &[[u8; 32]]) -> Result<(), Error>
     ensures { Checks result
         (consistency_refused (checkpoint_fields old.now) (checkpoint_fields new.now) digests.now) }

@@ -103,7 +103,7 @@ impl Args {
 }
 
 impl Command {
-    /// The command of the arguments, and the arguments of its indices; `None` where they are no command.
+    /// The command of `args`, and those of its arguments that are indices; `None` if they are no command.
     fn parse(args: &[String]) -> Option<(Command, &[String])>
         ensures found { IfSome result (λ (command, index_args). All IsNumberArg (texts_of index_args.now) ×
             AreArgs (texts_of args.now) command (map (digits_value 10) (texts_of index_args.now))) }
@@ -185,7 +185,7 @@ impl Action {
         }
     }
 
-    /// Whether these arguments may follow the action: numbers, and none after `commit`.
+    /// Whether `index_args` may follow the action: numbers, and none after `commit`.
     fn may_precede(self, index_args: &[String]) -> bool
         ensures { Decides result (MayFollow self (texts_of index_args.now)) }
     {

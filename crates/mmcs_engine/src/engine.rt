@@ -105,8 +105,8 @@ fn read_all<Src: Read>(alloc: Global, input: &mut Src) -> Result<Vec<u8>, Fault>
     }
 }
 
-/// The text that a command prints for an input, at its arity, which `N` must be. The input is dropped once its matrices
-/// are read.
+/// The text that a command prints for `input`, at its arity, which `N` must be. `input` is dropped once its matrices
+/// are read. The errors are those of [`answer_to`] without `Usage` and `Read`.
 fn reply<const N: usize>(alloc: Global, args: &Args, input: Vec<u8>) -> Result<String, Fault>
     requires taken { IsTrue (is_taken_arity N) }
     requires arity { N ≡ arity_number args.now.command.arity }
@@ -141,8 +141,8 @@ fn reply<const N: usize>(alloc: Global, args: &Args, input: Vec<u8>) -> Result<S
     }
 }
 
-/// The text that a command prints for an input. `scheme` must be that of the command's hash, arity and cap. The input
-/// is dropped once its matrices are read.
+/// The text that a command prints for `input`, with the errors of [`reply`]. `scheme` must be that of the command's
+/// hash, arity and cap. `input` is dropped once its matrices are read.
 fn reply_with_scheme<
     W: Word + PackedValue<Value = W>,
     H: CryptographicHasher<W, W, D>,

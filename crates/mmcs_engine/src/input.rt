@@ -126,8 +126,9 @@ impl<W: Word> Block<W> {
         }
     }
 
-    /// Appends line number `line`, which is not blank, as a row of numbers, each at most `W::MAX`. `Number` if a part
-    /// of the line is no such number, else `Count` if there are not as many as in the first row.
+    /// Appends `text`, line number `line` of the input, which is not blank, as a row of numbers, each at most `W::MAX`.
+    /// `Number` if a part of the line is no such number, else `Count` if there are not as many as in the first row;
+    /// `Tree(OutOfMemory)` if memory runs out.
     fn push_row(&mut self, text: &[u8], line: usize) -> Result<(), Fault>
         requires full { is_blank text.now ≡ false }
         ensures row { (lines : List (List ℕ)) →

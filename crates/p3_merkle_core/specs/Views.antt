@@ -44,23 +44,23 @@ module _ {T M : Type 0} (height width : M → ℕ) (row : M → ℕ → List T) 
 
 -- ---- openings
 
--- an opening of an index, by its rows and siblings
-abbrev pub opening_made : {T W A : Type 0} → ℕ → BatchOpening T (Vec (List W) A) → Opening T W
-opening_made index opening = opening_of index (row_lists opening.opened_values.items) opening.opening_proof.items
+-- an opening of an index, by its own rows and siblings
+abbrev pub opening_owned : {T W A : Type 0} → ℕ → BatchOpening T (Vec (List W) A) → Opening T W
+opening_owned index opening = opening_of index (row_lists opening.opened_values.items) opening.opening_proof.items
 
--- the same of a borrowed one
+-- an opening of an index, by borrowed rows and siblings
 abbrev pub opening_borrowed : {T W A : Type 0} → ℕ → BatchOpeningRef T (Vec (List W) A) → Opening T W
 opening_borrowed index opening = opening_of index (row_lists opening.opened_values.now) opening.opening_proof.now.items
 
--- a pruned opening of some indices, by its row sets and digests
-abbrev pub pruned_made : {T W : Type 0} → List ℕ → PrunedRows T (List W) → PrunedOpening T W
-pruned_made indices opening =
+-- a pruned opening of some indices, by its own row sets and digests
+abbrev pub pruned_owned : {T W : Type 0} → List ℕ → PrunedRows T (List W) → PrunedOpening T W
+pruned_owned indices opening =
     pruned_of indices (row_sets opening.opened_values.items) opening.pruned_proof.sibling_hashes.items
 
--- the same of row sets and a proof
-abbrev pub multi_made : {T W A B C : Type 0} → List ℕ → Vec (Vec (Vec T A) B) C × PrunedProof (List W) →
+-- a pruned opening of some indices, by a pair of its own row sets and a proof
+abbrev pub pruned_of_pair : {T W A B C : Type 0} → List ℕ → Vec (Vec (Vec T A) B) C × PrunedProof (List W) →
     PrunedOpening T W
-multi_made indices opening = pruned_of indices (row_sets opening.0.items) opening.1.sibling_hashes.items
+pruned_of_pair indices opening = pruned_of indices (row_sets opening.0.items) opening.1.sibling_hashes.items
 
 -- a pruned opening of some indices, by borrowed row sets and a borrowed proof
 abbrev pub pruned_borrowed : {T W A B : Type 0} → List ℕ → List (Vec (Vec T A) B) → PrunedProof (List W) →
@@ -79,7 +79,7 @@ shown_pruned opening = (row_sets opening.opened_values.items, opening.pruned_pro
 abbrev pub shown_path : {X : Type 0} → AuthPath X → ℕ × List X
 shown_path path = (path.leaf_index, path.siblings.items)
 
--- the same of each of some paths
+-- the leaf and the siblings of each of some paths
 abbrev pub shown_paths : {X : Type 0} → List (AuthPath X) → List (ℕ × List X)
 shown_paths paths = map shown_path paths
 

@@ -115,8 +115,8 @@ impl<'a> Covered<'a> {
     }
 }
 
-/// Replaces ascending nodes of a layer by their parents, each once, ascending. A parent has `step` children, at least
-/// 1.
+/// Replaces `covered`, ascending nodes of a layer, by their parents in the layer above, each once, ascending. A parent
+/// has `step` children, at least 1.
 fn replace_by_parents(covered: &mut Vec<usize>, step: usize)
     requires { 0 < step }
     ensures { IsAscending covered.old.items → covered.new.items ≡ distinct (map (λ j. j / step) covered.old.items) }

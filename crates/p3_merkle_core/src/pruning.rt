@@ -120,8 +120,9 @@ pub fn check_indices(max_height: usize, indices: &[usize]) -> Result<(), MerkleT
     }
 }
 
-/// The distinct indices, ascending, and the slot of each query, in query order. `indices` has the index of each query.
-/// `sorted` must have each query once, as its index and its position, ascending. `AllocError` if memory runs out.
+/// The distinct ones of `indices`, ascending, and the slot of each query, in query order: the position of its index
+/// among the distinct ones. `indices` has the index of each query. `sorted` must have an entry for each query, its
+/// index and its position, and these must ascend. `AllocError` if memory runs out.
 fn distinct_slots(
     alloc: Global,
     sorted: &[(usize, usize)],
@@ -145,8 +146,8 @@ fn distinct_slots(
     Ok((distinct, slots))
 }
 
-/// The distinct indices of some queries, with the first query of each, and the slot of each query. `AllocError` if
-/// memory runs out.
+/// The distinct ones of `queries`, the index of each query, with the first query of each, and the slot of each query.
+/// `AllocError` if memory runs out.
 fn distinct_queries_of(alloc: Global, queries: &[usize]) -> Result<DistinctQueries, AllocError>
     ensures { IfOk result (λ queried. AreDistinctOf queried queries.now) }
 {
@@ -168,8 +169,9 @@ fn distinct_queries_of(alloc: Global, queries: &[usize]) -> Result<DistinctQueri
     })
 }
 
-/// Checks that each query has the row set of the first query of its index, else `InconsistentDuplicateOpenings` for the
-/// first that has not. `rows` must have a row set for each of `indices`, and `queried` must be of these indices.
+/// Checks that each query has the row set of the first query of its index, else `InconsistentDuplicateOpenings` with
+/// the slot of the first query that has another. `rows` must have a row set for each of `indices`, and `queried` must
+/// be what [`distinct_queries_of`] returns of `indices`.
 fn check_repeats<T: Eq>(
     indices: &[usize],
     rows: RowSets<'_, T>,
@@ -192,8 +194,9 @@ fn check_repeats<T: Eq>(
 }
 
 /// Checks that the row sets of `query` and `first_query` have the same row of each of `matrices`, else
-/// `InconsistentGroupOpening` for the first that differs. `matrices` must be positions in both. `query` is the first
-/// query of `slot`, and `first_query` that of the first slot under the same node. `slot` is only reported.
+/// `InconsistentGroupOpening` for `slot` and the first matrix whose rows differ. Both row sets must have each of
+/// `matrices`. `query` is the first query of `slot`, and `first_query` that of the first slot under the same node.
+/// `slot` is only reported.
 fn check_same_rows<T: Eq>(
     matrices: &[usize],
     slot: usize,
@@ -227,8 +230,8 @@ fn check_same_rows<T: Eq>(
     Ok(())
 }
 
-/// Checks that `rows` and `first_rows` have the same row of each of `matrices`, as [`check_same_rows`] does of row
-/// sets. `matrices` must be positions in both. `slot` is only reported.
+/// Checks that `rows` and `first_rows` have the same row of each of `matrices`, with the error of [`check_same_rows`].
+/// Both must have each of `matrices`. `slot` is only reported.
 fn check_same_vectors<T: Eq>(
     matrices: &[usize],
     slot: usize,
@@ -254,10 +257,11 @@ fn check_same_vectors<T: Eq>(
     Ok(())
 }
 
-/// Checks that slots under one node of a layer have the same rows of `matrices`, the positions of the layer's matrices,
-/// else `InconsistentGroupOpening`. Each slot is compared with the first one under its node. `indices` must be distinct
-/// and ascending. `first_queries` must have the first query of each, whose row set in `rows` is compared, and that row
-/// set must have each of `matrices`. The number of a node is an index without its lowest `bits` bits, at most 63.
+/// Checks that all slots under one node of a layer have the same rows of `matrices`, the positions of the layer's
+/// matrices, else `InconsistentGroupOpening` for the first slot that has another row. Each slot is compared with the
+/// first one under its node. `indices` has the index of each slot, and must ascend without repeats; the node above an
+/// index is the index without its lowest `bits` bits, at most 63. `first_queries` has the first query of each index,
+/// whose row set in `rows` is compared, and must have each of `matrices`.
 fn check_rows_under_nodes<T: Eq>(
     matrices: &[usize],
     indices: &[usize],
@@ -287,8 +291,8 @@ fn check_rows_under_nodes<T: Eq>(
     Ok(())
 }
 
-/// Replaces the contents of `matrices` by the positions, in input order, of the matrices of this exponent. `AllocError`
-/// if memory runs out.
+/// Replaces the contents of `matrices` by the positions, in input order, of the matrices whose height has the exponent
+/// `exponent`. `AllocError` if memory runs out.
 fn list_matrices(
     matrices: &mut Vec<usize>,
     dimensions: &[Dimensions],
@@ -306,9 +310,9 @@ fn list_matrices(
 }
 
 /// Checks that slots under one node have the same rows of the matrices of its layer, layer by layer up to layer
-/// `cap_layer`, else `InconsistentGroupOpening`. [`check_pruned`] must have found nothing to refuse before: heights and
-/// indices are in range, and the first query of each index has a row for each matrix. `cap_layer` and the arity must be
-/// as there.
+/// `cap_layer`, else `InconsistentGroupOpening`. This is the last check of [`check_pruned`], whose conditions on
+/// `cap_layer` and the arity apply. The earlier checks must have passed: heights and indices are in range, and the
+/// first query of each index has a row for each matrix. `OutOfMemory` if memory runs out.
 fn check_shared_rows<T: Eq>(
     alloc: Global,
     schedule: &Schedule<'_>,
@@ -403,8 +407,8 @@ pub fn check_pruned<T: Eq>(
 }
 
 /// Checks, in this order: the heights; that there is a row set for each index; that there is no digest if there is no
-/// index; and that each index is below the tallest height. Returns the first error that [`check_pruned`] lists for
-/// these. It does not allocate.
+/// index; and that each index is below the tallest height. The errors are the first four of [`check_pruned`]. It does
+/// not allocate.
 fn check_queries(
     schedule: &Schedule<'_>,
     indices: &[usize],
@@ -489,8 +493,9 @@ pub fn children_of<X: Copy>(
     Ok(children)
 }
 
-/// The place of `node` among ascending nodes, of which it must be one. The search begins at the place `start`, or at 0
-/// if there is no such place or `node` is ahead of it, and takes a step for each node that it passes.
+/// The position of `node` in `nodes`, which must ascend without repeats and have it. The search begins at position
+/// `start`, or at 0 if there is no such position or `node` stands ahead of it, and takes a step for each node that it
+/// passes.
 fn place_of(nodes: &[usize], start: usize, node: usize) -> usize
     requires ascending { IsStrictlyIncreasing nodes.now }
     requires among { is_among nodes.now node ≡ true }

@@ -46,8 +46,8 @@ struct MatrixExponents<'a> {
 }
 
 impl<'a> MatrixExponents<'a> {
-    /// The exponents on which the steps above a layer depend: the layer's own, `layer`, which must be at most 64, and
-    /// the next lower one that a matrix has.
+    /// The exponents on which the steps above a layer depend: `layer`, its own, which must be at most 64, and the next
+    /// lower one that a matrix has.
     fn exponents_at(&self, layer: usize) -> Exponents
         requires { layer ≤ 64 }
         ensures layer { result.layer ≡ layer }
@@ -74,9 +74,9 @@ struct LevelKind {
     pub has_rows: bool,
 }
 
-/// The step above a layer, with whether matrices belong to the layer that it leads to, and the exponents there. The
-/// layer must be below the root, `exponents` must be its own, and its exponent at most 64. The arity must be at least
-/// 2.
+/// The step from the layer of `exponents`, with whether matrices belong to the layer that it leads to; and the
+/// exponents of that layer. The step must begin below the root, at an exponent of at most 64. The arity must be at
+/// least 2.
 fn next_step(
     matrices: &MatrixExponents<'_>,
     arity: usize,

@@ -15,8 +15,9 @@ use p3_support::compress::PseudoCompressionFunction;
 use p3_support::packed::{PackedValue, lemma_row};
 use std::alloc::AllocError;
 
-/// Packs child `n` of `PW::WIDTH` nodes: lane `k` is that of node `first + k`. `below` is the layer of the children,
-/// `step` of each node. `n` must be below `step`, and the children of the last node must be in the layer.
+/// Packs child `n` of each of `PW::WIDTH` nodes: lane `k` has that of node `first + k`. `below` is the layer of the
+/// children, of which each node has `step`. `n` must be below `step`, and the children of the last node must be in
+/// `below`.
 // Inlined: a call would store the child in memory in parts of one size, and read it in parts of another, which is slow.
 #[inline(always)]
 #[tactic(auto, using(crate::proofs::LaneFacts::child_below, crate::proofs::LaneFacts::node_below))]
@@ -102,8 +103,8 @@ pub fn compress_pairs_packed<
 }
 
 /// Replaces what `groups` has by the groups of the nodes `first..end`: the children of each, then default digests.
-/// `below` is the layer of the children, `step` of each node, at least one and at most `N`; those of the last node must
-/// be in it, and `first` must be at most `end`. `AllocError` if memory runs out.
+/// `below` is the layer of the children, of which each node has `step`, from 1 to `N`. The children of the last node
+/// must be in `below`, and `first` must be at most `end`. `AllocError` if memory runs out.
 fn stage_children<W: Copy, const N: usize, const D: usize>(
     groups: &mut Vec<[[W; D]; N]>,
     default_digest: [W; D],

@@ -57,9 +57,8 @@ pub fn checked_matrices<T, M: Matrix<T> + Drop>(
     })
 }
 
-/// Builds the tree over matrices whose heights are checked, `leaves`: computes how many children the nodes of each
-/// layer have, then the layers. `N` must be a power of two from 2 to 2^62, and both packings must have equally many
-/// lanes, at least one.
+/// Builds the tree over the matrices of `checked`: computes how many children the nodes of each layer have, then the
+/// layers. `N` must be a power of two from 2 to 2^62, and both packings must have equally many lanes, at least one.
 ///
 /// # Errors
 ///
@@ -76,12 +75,12 @@ pub fn tree_over<
     alloc: Global,
     hash: &H,
     compress: &C,
-    leaves: CheckedMatrices<P::Value, M>,
+    checked: CheckedMatrices<P::Value, M>,
 ) -> Result<MerkleTree<P::Value, PW::Value, M, N, D>, AllocError>
     requires arity { IsTrue (is_arity N) }
     requires lanes { P.WIDTH ≡ PW.WIDTH }
     requires some_lane { 1 ≤ P.WIDTH }
-    ensures matrices { IfOk result (λ tree. matrices_of tree ≡ leaves.matrices.items) }
+    ensures matrices { IfOk result (λ tree. matrices_of tree ≡ checked.matrices.items) }
     ensures layers { let f = functions_of (H.hash hash.now) (C.compression compress.now)
         (replicate D PW.default_value) in
         IfOk result (λ tree. layers_of tree ≡ layers_over f (tree_batch tree)) }
@@ -90,7 +89,7 @@ pub fn tree_over<
         matrices,
         dimensions,
         ..
-    } = leaves;
+    } = checked;
     let kept = OwnedSchedule::new(dimensions, N);
     let schedule = kept.schedule();
     let builder = MerkleTreeBuilder::<P, PW, H, C, M, N, D> {

@@ -91,9 +91,10 @@ impl<T, X, G> Buffers<T, X, G> {
     }
 }
 
-/// States that the children of the `count` nodes from `first` on lie within the layer below, so that
-/// [`fill`](GenericLayerBuilder::fill) may begin to read there. The layer above, of the shape `level`, must have these
-/// nodes, and the layer below the children of each node. `arity` is how many children a node has at most.
+/// States that `below` has the children of the `count` nodes from `first` on, so that
+/// [`fill`](GenericLayerBuilder::fill) may begin to read there. The layer above `below`, of the shape `level`, must
+/// have these nodes, and `below` the children of each node of that layer. `arity` is how many children a node has at
+/// most.
 fn lemma_children_from<X>(arity: usize, level: &LayerShape, below: &[X], first: usize, count: usize)
     requires children { HasChildren arity level.now (length below.now) }
     requires nodes { first + count ≤ level.now.raw_len }
@@ -140,10 +141,10 @@ impl<
     ///
     /// Constants choose how:
     ///
-    /// - If the functions that this layer calls have `LANES` above 1, all nodes are made many a call. These functions
-    ///   are the compression, and the hasher if matrices belong to the layer.
+    /// - If the compression, and the hasher if matrices belong to the layer, have `LANES` above 1, all nodes are made
+    ///   many a call.
     /// - Else the first nodes are made one in each lane of a call ([`packed_digest`](Self::packed_digest)), as far as
-    ///   they, and the rows of these matrices, fill all lanes. With a `WIDTH` of 1 this is none.
+    ///   they, and the rows that belong to them, fill all lanes. With a `WIDTH` of 1 this is none.
     /// - Nodes that are left over are made many a call, where a function with `LANES` 1 takes one after another.
     ///
     /// # Errors

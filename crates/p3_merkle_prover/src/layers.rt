@@ -95,8 +95,8 @@ fn default_digests<PW: PackedValue, const D: usize>(
     Ok(digests)
 }
 
-/// States that a layer `below` has the children of each node of the layer above. `level` must be the shape of that
-/// layer in the tree, and `below` must have all slots of its own, padding included.
+/// States that the layer `below` has the children of each node of the layer above it. `level` must be the shape of the
+/// layer above in the tree, and `below` must have all slots of its layer, padding included.
 fn lemma_children<X>(schedule: &Schedule<'_>, level: &LayerShape, below: &[X])
     requires level { IsLevel (shape_of schedule.now.arity schedule.now.dimensions.now) level.now }
     requires slots { length below.now
@@ -139,8 +139,8 @@ impl<
         Ok(leaves)
     }
 
-    /// The layer above `below`, of the shape `level`. `below` must have the children of each of its nodes. `picked` and
-    /// `buffers` are scratch memory that all layers share. `AllocError` if memory runs out.
+    /// The layer of the shape `level`, which stands above `below`. `below` must have the children of each node of that
+    /// layer. `picked` and `buffers` are scratch memory that all layers share. `AllocError` if memory runs out.
     fn next_layer(
         &self,
         alloc: Global,

@@ -80,10 +80,10 @@ pub fn boundary_digests<F, X: Copy, G, M: Matrix<F>, const N: usize>(
     Ok(digests)
 }
 
-/// Appends the boundary's digests of one layer, ascending: of each group of `step` nodes that has a covered one, those
-/// of the nodes that are not covered. `covered` must have the covered nodes, each once, ascending, and is gone through
-/// once. `step` must be at least 1, and the layer must have the whole group of each covered node. The only error is
-/// `OutOfMemory`.
+/// Appends to `digests` those of the boundary in one layer, ascending: of each group of `step` nodes that has a covered
+/// one, the digests of the nodes that are not covered. `covered` must have the covered nodes, each once, ascending, and
+/// is gone through once. `step` must be at least 1, and `layer` must have the digests of the whole group of each
+/// covered node. The only error is `OutOfMemory`.
 fn extend_with_boundary<X: Copy>(
     digests: &mut Vec<X>,
     layer: &[X],

@@ -97,8 +97,8 @@ impl<F: Copy, W: Copy, M: Matrix<F> + Drop, const N: usize, const D: usize> Merk
             (replicate D PW.default_value) in
             IfOk result (λ tree. layers_of tree ≡ layers_over f (tree_batch tree)) }
     {
-        let leaves = checked_matrices(alloc, leaves)?;
-        let tree = tree_over::<P, PW, H, C, M, N, D>(alloc, hash, compress, leaves)?;
+        let checked = checked_matrices(alloc, leaves)?;
+        let tree = tree_over::<P, PW, H, C, M, N, D>(alloc, hash, compress, checked)?;
         Ok(tree)
     }
 }

@@ -17,7 +17,8 @@ use Rattle.p3_merkle_core.specs.declared.error.MerkleTreeError.{MerkleTreeError}
 use Rattle.p3_merkle_core.specs.declared.error.MerkleTreeError.TheVariants.{TooLarge}
 use Rattle.p3_answers.proofs.AnswerFacts.{map_none}
 use Rattle.p3_merkle_core.proofs.Pruned.Unrefused.{size_none}
-use Rattle.p3_merkle_tree.specs.SaltRefusals.{first_too_wide, salt_refusal, salt_sets_refusal, widening_refusal}
+use Rattle.p3_merkle_tree.specs.SaltRefusals.{first_too_wide, row_and_salt_form_refusal, set_and_salt_form_refusal}
+use Rattle.p3_merkle_tree.specs.SaltRefusals.{widening_refusal}
 
 -- where either list is at its end, so is either of what it shows
 pub shown_end : {A B C D : Type 0} (f : A → C) (g : B → D) (xs : List A) (ys : List B) → (xs ≡ []) ⊎ (ys ≡ []) →
@@ -60,21 +61,21 @@ module _ {A B C : Type 0} (join : A × B → C) where
 -- where there are as many sets, the first that is refused decides
 pub sets_decide : {T : Type 0} (dimensions : List Dimensions) (sets salts : List (List (List T)))
     (refusal : Option MerkleTreeError) → length salts ≡ length sets →
-    first_of (λ (rows, salt). salt_refusal dimensions rows salt) (zip sets salts) ≡ refusal →
-    salt_sets_refusal dimensions sets salts ≡ refusal
+    first_of (λ (rows, salt). row_and_salt_form_refusal dimensions rows salt) (zip sets salts) ≡ refusal →
+    set_and_salt_form_refusal dimensions sets salts ≡ refusal
 sets_decide dimensions sets salts refusal same is =
     ap (λ (o : Option MerkleTreeError).
-    option_or o (first_of (λ (rows, salt). salt_refusal dimensions rows salt) (zip sets salts)))
+    option_or o (first_of (λ (rows, salt). row_and_salt_form_refusal dimensions rows salt) (zip sets salts)))
     (size_none (length sets) (length salts) (sym same)) ∙ is
 
 -- where all sets are gone through, none is refused
 pub no_set_refused : {T A B C D : Type 0} (dimensions : List Dimensions) (xs sets : List (Vec (Vec T A) B))
     (ys salts : List (Vec (Vec T C) D)) → length (row_sets salts) ≡ length (row_sets sets) → (xs ≡ []) ⊎ (ys ≡ []) →
-    first_of (λ (rows, salt). salt_refusal dimensions rows salt) (zip (row_sets xs) (row_sets ys))
-    ≡ first_of (λ (rows, salt). salt_refusal dimensions rows salt) (zip (row_sets sets) (row_sets salts)) →
-    salt_sets_refusal dimensions (row_sets sets) (row_sets salts) ≡ None
+    first_of (λ (rows, salt). row_and_salt_form_refusal dimensions rows salt) (zip (row_sets xs) (row_sets ys))
+    ≡ first_of (λ (rows, salt). row_and_salt_form_refusal dimensions rows salt) (zip (row_sets sets) (row_sets salts)) →
+    set_and_salt_form_refusal dimensions (row_sets sets) (row_sets salts) ≡ None
 no_set_refused dimensions xs sets ys salts same end left =
-    let none = pairs_end (λ (rows, salt). salt_refusal dimensions rows salt) (row_sets xs) (row_sets ys)
+    let none = pairs_end (λ (rows, salt). row_and_salt_form_refusal dimensions rows salt) (row_sets xs) (row_sets ys)
     (shown_end (λ rows. row_lists rows.items) (λ salt. row_lists salt.items) xs ys end) in
     sets_decide dimensions (row_sets sets) (row_sets salts) None same (sym left ∙ ap first_some none)
 
@@ -82,22 +83,26 @@ no_set_refused dimensions xs sets ys salts same end left =
 module _ {T A B C D : Type 0} (dimensions : List Dimensions) (x : Vec (Vec T A) B) (y : Vec (Vec T C) D)
     (xs left : List (Vec (Vec T A) B)) (ys other : List (Vec (Vec T C) D)) (all : Option MerkleTreeError)
     (rows : left ≡ x ∷ xs) (salts : other ≡ y ∷ ys)
-    (before : first_of (λ (rows, salt). salt_refusal dimensions rows salt) (zip (row_sets left) (row_sets other)) ≡ all)
+    (before : first_of (λ (rows, salt). row_and_salt_form_refusal dimensions rows salt)
+    (zip (row_sets left) (row_sets other)) ≡ all)
   where
     -- it passes, so the others decide
-    pub set_passes : salt_refusal dimensions (row_lists x.items) (row_lists y.items) ≡ None →
-        first_of (λ (rows, salt). salt_refusal dimensions rows salt) (zip (row_sets xs) (row_sets ys)) ≡ all
+    pub set_passes : row_and_salt_form_refusal dimensions (row_lists x.items) (row_lists y.items) ≡ None →
+        first_of (λ (rows, salt). row_and_salt_form_refusal dimensions rows salt) (zip (row_sets xs) (row_sets ys))
+        ≡ all
     set_passes none =
-        let now : first_of (λ (rows, salt). salt_refusal dimensions rows salt) (zip (row_sets left) (row_sets other))
-        ≡ first_of (λ (rows, salt). salt_refusal dimensions rows salt) (zip (row_sets xs) (row_sets ys)) =
+        let now : first_of (λ (rows, salt). row_and_salt_form_refusal dimensions rows salt)
+        (zip (row_sets left) (row_sets other))
+        ≡ first_of (λ (rows, salt). row_and_salt_form_refusal dimensions rows salt) (zip (row_sets xs) (row_sets ys)) =
         rw (rows, salts, none) refl in
         sym now ∙ before
 
     -- it is refused, and so are all
     pub set_refused : (e : MerkleTreeError) →
-        salt_refusal dimensions (row_lists x.items) (row_lists y.items) ≡ Some e → all ≡ Some e
+        row_and_salt_form_refusal dimensions (row_lists x.items) (row_lists y.items) ≡ Some e → all ≡ Some e
     set_refused e is =
-        let now : first_of (λ (rows, salt). salt_refusal dimensions rows salt) (zip (row_sets left) (row_sets other))
+        let now : first_of (λ (rows, salt). row_and_salt_form_refusal dimensions rows salt)
+        (zip (row_sets left) (row_sets other))
         ≡ Some e = rw (rows, salts, is) refl in
         sym before ∙ now
 

@@ -23,8 +23,9 @@ use Rattle.p3_merkle_core.proofs.Pruned.NoneFacts.{fit_from}
 use Rattle.p3_merkle_core.proofs.Pruned.Unrefused.{each_width, size_none}
 use Rattle.p3_merkle_core.proofs.Checks.Verdicts.{accepted_answer, accepted_from, pruned_accepted}
 use Rattle.p3_merkle_tree.proofs.SaltFacts.{widening}
-use Rattle.p3_merkle_tree.specs.SaltRefusals.{salt_refusal, salt_sets_refusal, salted_sets_refusal, widening_refusal}
+use Rattle.p3_merkle_tree.specs.SaltRefusals.{row_and_salt_form_refusal, set_and_salt_form_refusal, widening_refusal}
 use Rattle.p3_merkle_tree.specs.SaltRefusals.{salted_pruned_refusal_under, salted_refusal_under, salted_rows_refusal}
+use Rattle.p3_merkle_tree.specs.SaltRefusals.{salted_sets_refusal}
 use Rattle.p3_merkle_tree.specs.SaltedOpenings.{HaveSalts, IsSaltedAccepted, IsSaltedPrunedAccepted}
 use Rattle.p3_merkle_tree.specs.SaltedOpenings.{SaltedOpening, SaltedPruned, joined, joined_sets}
 use Rattle.p3_merkle_tree.specs.SaltedPresented.{presented_salted, presented_salted_pruned}
@@ -46,7 +47,7 @@ size_from expected got none =
     sym (eqb-true expected got (unless_none (eqb expected got) (WrongBatchSize expected got) none))
 
 pub have_salts : {T : Type 0} (ds : List Dimensions) (rows salts : List (List T)) →
-    (salt_refusal ds rows salts ≡ None) ↔ HaveSalts ds rows salts
+    (row_and_salt_form_refusal ds rows salts ≡ None) ↔ HaveSalts ds rows salts
 have_salts ds rows salts =
     let size = size_refusal (length rows) (length salts) in (
       λ none.
@@ -58,22 +59,24 @@ have_salts ds rows salts =
 
 module _ {T : Type 0} (ds : List Dimensions) where
   each_from : (sets salts : List (List (List T))) → length salts ≡ length sets →
-      first_of (λ (rows, salt). salt_refusal ds rows salt) (zip sets salts) ≡ None → AllZip (HaveSalts ds) sets salts
+      first_of (λ (rows, salt). row_and_salt_form_refusal ds rows salt) (zip sets salts) ≡ None →
+      AllZip (HaveSalts ds) sets salts
   each_from [] [] same none = tt
   each_from [] (x ∷ salts) same none = absurd (omega (arith, same))
   each_from (rows ∷ sets) [] same none = absurd (omega (arith, same))
   each_from (rows ∷ sets) (salt ∷ salts) same none =
-      let both = none_parts (salt_refusal ds rows salt)
-      (first_of (λ (rows, salt). salt_refusal ds rows salt) (zip sets salts)) none in
+      let both = none_parts (row_and_salt_form_refusal ds rows salt)
+      (first_of (λ (rows, salt). row_and_salt_form_refusal ds rows salt) (zip sets salts)) none in
       ((have_salts ds rows salt).0 both.0, each_from sets salts (omega (arith, same)) both.1)
 
   each_passes : (sets salts : List (List (List T))) → AllZip (HaveSalts ds) sets salts →
-      first_of (λ (rows, salt). salt_refusal ds rows salt) (zip sets salts) ≡ None
+      first_of (λ (rows, salt). row_and_salt_form_refusal ds rows salt) (zip sets salts) ≡ None
   each_passes [] [] w = refl
   each_passes [] (x ∷ salts) w = absurd w
   each_passes (rows ∷ sets) [] w = absurd w
   each_passes (rows ∷ sets) (salt ∷ salts) w =
-      none_of_both (salt_refusal ds rows salt) (first_of (λ (rows, salt). salt_refusal ds rows salt) (zip sets salts))
+      none_of_both (row_and_salt_form_refusal ds rows salt)
+      (first_of (λ (rows, salt). row_and_salt_form_refusal ds rows salt) (zip sets salts))
       ((have_salts ds rows salt).1 w.0) (each_passes sets salts w.1)
 
 -- ---- answers
@@ -85,7 +88,7 @@ module _ {T W : Type 0} (same : W → W → Bool) (e : ℕ) (ds : List Dimension
       (salted_refusal_under same e ds c cap o ≡ None) ↔ IsSaltedAccepted e ds c cap o
   salted_accepted o =
       let first = salted_rows_refusal e ds o.rows o.salts in
-      let salt = salt_refusal ds o.rows o.salts in
+      let salt = row_and_salt_form_refusal ds o.rows o.salts in
       let wide = widening_refusal e ds in
       let plain = refusal_under same c cap (joined o) in (
         λ none.
@@ -114,9 +117,9 @@ module _ {T W : Type 0} (same : W → W → Bool) (e : ℕ) (ds : List Dimension
       (salted_pruned_refusal_under eq same e ds c cap p ≡ None) ↔ IsSaltedPrunedAccepted e ds c cap p
   salted_pruned_accepted eq dec w p =
       let first = salted_sets_refusal e ds p.rows p.salts in
-      let sets = salt_sets_refusal ds p.rows p.salts in
+      let sets = set_and_salt_form_refusal ds p.rows p.salts in
       let size = size_refusal (length p.rows) (length p.salts) in
-      let each = first_of (λ (rows, salt). salt_refusal ds rows salt) (zip p.rows p.salts) in
+      let each = first_of (λ (rows, salt). row_and_salt_form_refusal ds rows salt) (zip p.rows p.salts) in
       let wide = widening_refusal e ds in
       let plain = pruned_refusal_under eq same c cap (joined_sets p) in
       let meant = pruned_accepted eq same c.functions c.shape c.layer cap (joined_sets p) dec dec_w w in (

@@ -34,9 +34,9 @@ salted_borrowed index opening =
     }
 
 -- an owned opening of an index, with its salts
-abbrev pub salted_made : {T W A B D : Type 0} → ℕ → BatchOpening T (Vec (Vec T A) B × Vec (List W) D) →
+abbrev pub salted_owned : {T W A B D : Type 0} → ℕ → BatchOpening T (Vec (Vec T A) B × Vec (List W) D) →
     SaltedOpening T W
-salted_made index opening =
+salted_owned index opening =
     record {
       index = index;
       rows = row_lists opening.opened_values.items;
@@ -56,9 +56,9 @@ salted_pruned_borrowed indices rows proof =
     }
 
 -- an owned opening of several indices
-abbrev pub salted_pruned_made : {T W A B C D E F : Type 0} → List ℕ →
+abbrev pub salted_pruned_owned : {T W A B C D E F : Type 0} → List ℕ →
     Vec (Vec (Vec T A) B) F × (Vec (Vec (Vec T C) D) E × PrunedProof (List W)) → SaltedPruned T W
-salted_pruned_made indices opening =
+salted_pruned_owned indices opening =
     record {
       indices = indices;
       rows = row_sets opening.0.items;

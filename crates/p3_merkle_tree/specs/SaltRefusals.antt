@@ -15,22 +15,23 @@ use Rattle.p3_merkle_tree.specs.SaltedOpenings.{SaltedOpening, SaltedPruned, joi
 abbrev pub first_too_wide : ℕ → List ℕ → Option ℕ
 first_too_wide e widths = position (λ w. nat_le (2 ^ 64) (w + e)) widths
 
--- such a matrix, with its own width
+-- the first matrix whose width with e more columns does not fit usize: its place, and its width without them
 abbrev pub widening_refusal : ℕ → List Dimensions → Option MerkleTreeError
 widening_refusal e dimensions =
     option_map (λ m. TooLarge m (slice_index (widths_of dimensions) m)) (first_too_wide e (widths_of dimensions))
 
--- rows without the form that the dimensions give them, else salts that are not as many as rows
-abbrev pub salt_refusal : {T : Type 0} → List Dimensions → List (List T) → List (List T) → Option MerkleTreeError
-salt_refusal dimensions rows salts =
+-- rows that are not one for each of the dimensions, of that width; else lists of salts that are not as many as rows
+abbrev pub row_and_salt_form_refusal : {T : Type 0} → List Dimensions → List (List T) → List (List T) →
+    Option MerkleTreeError
+row_and_salt_form_refusal dimensions rows salts =
     option_or (width_refusal dimensions rows) (size_refusal (length rows) (length salts))
 
--- salt sets that are not as many as row sets, else the first row set, in query order, that is refused with its salts
-abbrev pub salt_sets_refusal : {T : Type 0} → List Dimensions → List (List (List T)) → List (List (List T)) →
+-- salt sets that are not as many as row sets; else the first row set, in query order, that is refused with its salt set
+abbrev pub set_and_salt_form_refusal : {T : Type 0} → List Dimensions → List (List (List T)) → List (List (List T)) →
     Option MerkleTreeError
-salt_sets_refusal dimensions sets salts =
+set_and_salt_form_refusal dimensions sets salts =
     option_or (size_refusal (length sets) (length salts))
-    (first_of (λ (rows, salt). salt_refusal dimensions rows salt) (zip sets salts))
+    (first_of (λ (rows, salt). row_and_salt_form_refusal dimensions rows salt) (zip sets salts))
 
 -- why a commitment to matrices with e salts for each row is refused: their heights, else a width
 abbrev pub salted_commit_refusal : ℕ → List Dimensions → Option MerkleTreeError
@@ -40,13 +41,13 @@ salted_commit_refusal e dimensions = option_or (gate_refusal (heights_of dimensi
 abbrev pub salted_rows_refusal : {T : Type 0} → ℕ → List Dimensions → List (List T) → List (List T) →
     Option MerkleTreeError
 salted_rows_refusal e dimensions rows salts =
-    option_or (salt_refusal dimensions rows salts) (widening_refusal e dimensions)
+    option_or (row_and_salt_form_refusal dimensions rows salts) (widening_refusal e dimensions)
 
 -- the same of row sets and salt sets
 abbrev pub salted_sets_refusal : {T : Type 0} → ℕ → List Dimensions → List (List (List T)) → List (List (List T)) →
     Option MerkleTreeError
 salted_sets_refusal e dimensions sets salts =
-    option_or (salt_sets_refusal dimensions sets salts) (widening_refusal e dimensions)
+    option_or (set_and_salt_form_refusal dimensions sets salts) (widening_refusal e dimensions)
 
 -- why an opening with e salts a row is refused under a cap: rows and salts, else the rows followed by their salts,
 -- under the parameters of matrices that have e more columns

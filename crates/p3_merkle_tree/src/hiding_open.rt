@@ -17,8 +17,8 @@ ghost use Rattle.p3_merkle_verifier.specs.Inner.Paths.{CanReach};
 ghost use Rattle.p3_merkle_verifier.specs.Inner.RestoredLevels.{pruned_in};
 ghost use Rattle.p3_merkle_tree.specs.Schemes.{cap_layer_of, cap_rule_of};
 ghost use Rattle.p3_merkle_tree.specs.HidingSchemes.{plain_of, presented_all, presented_one, salted_borrowed};
-ghost use Rattle.p3_merkle_tree.specs.HidingSchemes.{salted_made, salted_params_of, salted_pruned_borrowed};
-ghost use Rattle.p3_merkle_tree.specs.HidingSchemes.{salted_pruned_made};
+ghost use Rattle.p3_merkle_tree.specs.HidingSchemes.{salted_owned, salted_params_of, salted_pruned_borrowed};
+ghost use Rattle.p3_merkle_tree.specs.HidingSchemes.{salted_pruned_owned};
 ghost use Rattle.p3_merkle_tree.specs.Inner.SaltedParts.{left_widths, salt_parts, unsalted_parts};
 ghost use Rattle.p3_merkle_tree.specs.SaltRefusals.{salted_refusal_under};
 ghost use Rattle.p3_merkle_tree.specs.SaltedOpenings.{joined, joined_sets};
@@ -41,8 +41,9 @@ use p3_support::pair::HorizontalPair;
 use p3_support::row_parts::{RowParts, RowSets};
 use std::alloc::{AllocError, Global};
 
-/// Splits each row of one index into the matrix's own words and its salts, and returns the row set and the salt set.
-/// `pairs` has the matrix of each row beside its salts. Only the salts are copied. `AllocError` if memory runs out.
+/// Splits each of `rows`, those of one index, into the matrix's own words and its salts, and returns the row set and
+/// the salt set. `pairs` has the matrix of each row beside its salts. Only the salts are copied. `AllocError` if memory
+/// runs out.
 #[tactic(auto, using(crate::proofs::LoopFacts::no_value))]
 fn split_rows<F: Copy, A: Matrix<F>, B: Matrix<F>>(
     alloc: Global,
@@ -64,8 +65,8 @@ fn split_rows<F: Copy, A: Matrix<F>, B: Matrix<F>>(
     Ok((unsalted, salts))
 }
 
-/// Splits the rows of several indices, each as [`split_rows`] does, into row sets and salt sets. The rows are those of
-/// a tree's matrices beside their salts. The only error is `OutOfMemory`.
+/// Splits `sets`, the rows of several indices, each as [`split_rows`] does, and returns the row sets and the salt sets.
+/// The rows are those of the matrices of `tree` beside their salts. The only error is `OutOfMemory`.
 #[tactic(auto, using(crate::proofs::LoopFacts::no_value))]
 fn split_row_sets<F: Copy, X, G, A: Matrix<F>, B: Matrix<F>, const N: usize>(
     alloc: Global,
@@ -117,7 +118,7 @@ impl<
         tree: &SaltedTree<P::Value, PW::Value, M, N, D>,
     ) -> Result<BatchOpening<P::Value, SaltedProof<P::Value, PW::Value, D>>, MerkleTreeError>
         requires { index < greatest (heights (shape (tree_batch tree.now))) }
-        ensures opened { IfOk result (λ o. OpensSalted self.now tree.now (salted_made index o)) }
+        ensures opened { IfOk result (λ o. OpensSalted self.now tree.now (salted_owned index o)) }
         ensures memory { AnswersUnlessMemory result None }
     {
         let opening = self.plain.open_batch(alloc, index, tree)?;
@@ -150,7 +151,7 @@ impl<
         MerkleTreeError,
     >
         requires { All (λ index. index < greatest (heights (shape (tree_batch tree.now)))) indices.now }
-        ensures opened { IfOk result (λ o. OpensSaltedPruned self.now tree.now (salted_pruned_made indices.now o)) }
+        ensures opened { IfOk result (λ o. OpensSaltedPruned self.now tree.now (salted_pruned_owned indices.now o)) }
         ensures memory { AnswersUnlessMemory result None }
     {
         let opening = self.plain.open_batch_pruned(alloc, indices, tree)?;
@@ -380,8 +381,8 @@ impl<
     }
 }
 
-/// The pruned opening of these indices, row sets and proof, as the plain scheme's checker reads it: each row is
-/// followed by its salts.
+/// The pruned opening of `indices`, with the row sets `rows` and the salts and digests of `proof`, as the plain
+/// scheme's checker reads it: each row is followed by its salts.
 fn opening_with_salts<'a, T, W, const D: usize>(
     indices: &'a [usize],
     rows: &'a [Vec<Vec<T>>],

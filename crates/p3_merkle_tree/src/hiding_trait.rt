@@ -15,8 +15,8 @@ ghost use Rattle.p3_merkle_tree.specs.Schemes.{cap_layer_of, functions_of, IsSam
 ghost use Rattle.p3_support.specs.Batches.{dimensions_in, greatest, rows_in};
 ghost use Rattle.p3_support.specs.Pairs.{left_of};
 ghost use Rattle.p3_support.specs.Shown.{roots_of, row_lists, row_sets};
-ghost use Rattle.p3_merkle_tree.specs.HidingSchemes.{generator_of, plain_of, presented_all, presented_one, salted_made};
-ghost use Rattle.p3_merkle_tree.specs.HidingSchemes.{salted_params_of, salted_pruned_made};
+ghost use Rattle.p3_merkle_tree.specs.HidingSchemes.{generator_of, plain_of, presented_all, presented_one};
+ghost use Rattle.p3_merkle_tree.specs.HidingSchemes.{salted_owned, salted_params_of, salted_pruned_owned};
 ghost use Rattle.p3_merkle_tree.specs.Inner.SaltedCommitmentLaws.{each_salted_shown, left_lawful, salted_rows_fit};
 ghost use Rattle.p3_merkle_tree.specs.Inner.SaltedCommitmentLaws.{same_plain_is_equivalence};
 ghost use Rattle.p3_merkle_tree.specs.SaltedCommitments.{CanCommitSalted, HaveSaltedProof};
@@ -136,12 +136,12 @@ where
         ensures rows { let ms = map left_of (matrices_of prover_data.now) in
             IfOk result (λ o. row_lists o.opened_values.items ≡
             rows_in M.height_of M.row_of halved_index (greatest (map M.height_of ms)) ms index) }
-        ensures opened { IfOk result (λ o. OpensSalted self.now prover_data.now (salted_made index o)) }
+        ensures opened { IfOk result (λ o. OpensSalted self.now prover_data.now (salted_owned index o)) }
         ensures accepted { let dimensions = dimensions_in M.height_of M.width_of
             (map left_of (matrices_of prover_data.now)) in
             (roots : List (List PW.Value)) → CommitsSalted self.now roots prover_data.now →
             IfOk result (λ o. IsSaltedAccepted SALT_ELEMS dimensions (salted_params_of self.now dimensions) roots
-            (salted_made index o)) }
+            (salted_owned index o)) }
         ensures memory { IfErr result (λ e. e ≡ OutOfMemory) }
     {
         self.open_batch(alloc, index, prover_data)
@@ -184,13 +184,13 @@ where
         ensures rows { let ms = map left_of (matrices_of prover_data.now) in
             IfOk result (λ o. row_sets o.0.items ≡
             map (rows_in M.height_of M.row_of halved_index (greatest (map M.height_of ms)) ms) indices.now) }
-        ensures opened { let made = salted_pruned_made indices.now in
+        ensures opened { let made = salted_pruned_owned indices.now in
             IfOk result (λ o. OpensSaltedPruned self.now prover_data.now (made o)) }
         ensures accepted { let dimensions = dimensions_in M.height_of M.width_of
             (map left_of (matrices_of prover_data.now)) in
             (roots : List (List PW.Value)) → CommitsSalted self.now roots prover_data.now →
             IfOk result (λ o. IsSaltedPrunedAccepted SALT_ELEMS dimensions (salted_params_of self.now dimensions) roots
-            (salted_pruned_made indices.now o)) }
+            (salted_pruned_owned indices.now o)) }
         ensures memory { IfErr result (λ e. e ≡ OutOfMemory) }
     {
         self.open_multi_batch(alloc, indices, prover_data)

@@ -143,7 +143,7 @@ impl<
     ghost use Rattle.p3_merkle_core.specs.Nodes.{shape};
     ghost use Rattle.p3_merkle_core.specs.Presented.{IsExactVerdict};
     ghost use Rattle.p3_merkle_core.specs.Refusals.{AnswersUnlessMemory};
-    ghost use Rattle.p3_merkle_core.specs.Views.{opening_made, heights_in};
+    ghost use Rattle.p3_merkle_core.specs.Views.{opening_owned, heights_in};
     ghost use Rattle.p3_merkle_core.specs.declared.cap.CapRule.TheVariants.{Lowered};
     ghost use Rattle.p3_merkle_prover.specs.Parts.{matrices_of, tree_batch};
     ghost use Rattle.p3_merkle_tree.specs.Committed.{presented_one, presented_under, Commits, Opens};
@@ -194,7 +194,7 @@ impl<
         }
     }
 
-    /// The checker of openings of a tree over matrices of these dimensions.
+    /// The checker of openings of a tree over matrices of `dimensions`.
     pub(crate) fn checker<'a>(
         &'a self,
         dimensions: &'a [Dimensions],
@@ -242,7 +242,7 @@ impl<
         self.commit_checked(alloc, checked_matrices(alloc, matrices)?)
     }
 
-    /// Commits to matrices whose heights are checked already, `leaves`, as [`commit`](Self::commit) does.
+    /// Commits to matrices whose heights are already checked, as [`commit`](Self::commit) does.
     ///
     /// # Errors
     ///
@@ -250,7 +250,7 @@ impl<
     pub fn commit_checked<M: Matrix<P::Value> + Drop>(
         &self,
         alloc: Global,
-        leaves: CheckedMatrices<P::Value, M>,
+        checked: CheckedMatrices<P::Value, M>,
     ) -> Result<
         (
             MerkleCap<P::Value, [PW::Value; D]>,
@@ -259,11 +259,11 @@ impl<
         MerkleTreeError,
     >
         ensures memory { AnswersUnlessMemory result None }
-        ensures matrices { IfOk result (λ (cap, tree). matrices_of tree ≡ leaves.matrices.items) }
+        ensures matrices { IfOk result (λ (cap, tree). matrices_of tree ≡ checked.matrices.items) }
         ensures committed { IfOk result (λ (cap, tree). Commits self.now (roots_of cap) tree) }
     {
         lemma_arity::<N>();
-        let tree = tree_over::<P, PW, H, C, M, N, D>(alloc, &self.hash, &self.compress, leaves)?;
+        let tree = tree_over::<P, PW, H, C, M, N, D>(alloc, &self.hash, &self.compress, checked)?;
         let cap_layer = tree_schedule(&tree).cap_layer(self.cap_rule, self.cap_height);
         let cap = cap_at(alloc, &tree, cap_layer)?;
         Ok((cap, tree))
@@ -287,7 +287,7 @@ impl<
         tree: &MerkleTree<P::Value, PW::Value, M, N, D>,
     ) -> Result<BatchOpening<P::Value, Vec<[PW::Value; D]>>, MerkleTreeError>
         requires { index < greatest (heights (shape (tree_batch tree.now))) }
-        ensures opened { IfOk result (λ o. Opens self.now tree.now (opening_made index o)) }
+        ensures opened { IfOk result (λ o. Opens self.now tree.now (opening_owned index o)) }
         ensures memory { AnswersUnlessMemory result None }
     {
         let schedule = tree_schedule(tree);
@@ -355,7 +355,7 @@ impl<
     }
 }
 
-/// States that an arity passes the test of arities. It must be a power of two from 2 to 2^62.
+/// States that `N` passes the test of arities. It must be a power of two from 2 to 2^62.
 fn lemma_arity<const N: usize>()
     requires { IsArity N }
     ensures { IsTrue (is_arity N) }

@@ -12,7 +12,7 @@ ghost use Rattle.p3_merkle_core.specs.Presented.{IsExactVerdict, IsVerdict};
 ghost use Rattle.p3_merkle_core.specs.Pruning.{pruned_of, IsPrunedAccepted};
 ghost use Rattle.p3_merkle_core.specs.Refusals.{pruned_refusal_under, refusal_under, AnswersUnlessMemory};
 ghost use Rattle.p3_merkle_core.specs.declared.error.MerkleTreeError.TheVariants.{OutOfMemory};
-ghost use Rattle.p3_merkle_core.specs.Views.{heights_in, multi_made, opening_made};
+ghost use Rattle.p3_merkle_core.specs.Views.{heights_in, pruned_of_pair, opening_owned};
 ghost use Rattle.p3_merkle_tree.specs.Committed.{presented_all, presented_one, Commits, Opens, OpensPruned};
 ghost use Rattle.p3_merkle_tree.specs.Inner.CommitmentLaws.{at_same, each_shown, row_in_matrix, same_is_equivalence};
 ghost use Rattle.p3_merkle_tree.specs.Inner.CommitmentLaws.{shown_rows_fit, tallest_at_index};
@@ -115,10 +115,10 @@ impl<
         ensures rows { let ms = matrices_of prover_data.now in
             IfOk result (λ o. row_lists o.opened_values.items ≡
             rows_in M.height_of M.row_of halved_index (greatest (map M.height_of ms)) ms index) }
-        ensures opened { IfOk result (λ o. Opens self.now prover_data.now (opening_made index o)) }
+        ensures opened { IfOk result (λ o. Opens self.now prover_data.now (opening_owned index o)) }
         ensures accepted { let dimensions = dimensions_in M.height_of M.width_of (matrices_of prover_data.now) in
             (roots : List (List PW.Value)) → Commits self.now roots prover_data.now →
-            IfOk result (λ o. IsAccepted (params_of self.now (shape_of N dimensions)) roots (opening_made index o)) }
+            IfOk result (λ o. IsAccepted (params_of self.now (shape_of N dimensions)) roots (opening_owned index o)) }
         ensures memory { IfErr result (λ e. e ≡ OutOfMemory) }
     {
         lemma_index(prover_data, index);
@@ -160,11 +160,11 @@ impl<
         ensures rows { let ms = matrices_of prover_data.now in
             IfOk result (λ o. row_sets o.0.items ≡
             map (rows_in M.height_of M.row_of halved_index (greatest (map M.height_of ms)) ms) indices.now) }
-        ensures opened { IfOk result (λ o. OpensPruned self.now prover_data.now (multi_made indices.now o)) }
+        ensures opened { IfOk result (λ o. OpensPruned self.now prover_data.now (pruned_of_pair indices.now o)) }
         ensures accepted { let dimensions = dimensions_in M.height_of M.width_of (matrices_of prover_data.now) in
             let c = params_of self.now (shape_of N dimensions) in
             (roots : List (List PW.Value)) → Commits self.now roots prover_data.now →
-            IfOk result (λ o. IsPrunedAccepted c roots (multi_made indices.now o)) }
+            IfOk result (λ o. IsPrunedAccepted c roots (pruned_of_pair indices.now o)) }
         ensures memory { IfErr result (λ e. e ≡ OutOfMemory) }
     {
         lemma_indices(prover_data, indices);

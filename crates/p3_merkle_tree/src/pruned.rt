@@ -7,7 +7,7 @@ ghost use Rattle.p3_merkle_core.specs.Nodes.{shape};
 ghost use Rattle.p3_merkle_core.specs.Presented.{presented_to_restore, IsVerdict};
 ghost use Rattle.p3_merkle_core.specs.Pruning.{pruned_of, restored_paths};
 ghost use Rattle.p3_merkle_core.specs.Refusals.{AnswersUnlessMemory};
-ghost use Rattle.p3_merkle_core.specs.Views.{multi_made, pruned_borrowed, pruned_made, shown_paths};
+ghost use Rattle.p3_merkle_core.specs.Views.{pruned_of_pair, pruned_borrowed, pruned_owned, shown_paths};
 ghost use Rattle.p3_support.specs.Batches.{greatest};
 ghost use Rattle.p3_support.specs.RowSets.{sets_in};
 ghost use Rattle.p3_merkle_prover.specs.Parts.{tree_batch};
@@ -57,7 +57,7 @@ impl<
         tree: &MerkleTree<P::Value, PW::Value, M, N, D>,
     ) -> Result<PrunedBatchOpening<P::Value, PW::Value, D>, MerkleTreeError>
         requires { All (λ index. index < greatest (heights (shape (tree_batch tree.now)))) indices.now }
-        ensures opened { IfOk result (λ o. OpensPruned self.now tree.now (pruned_made indices.now o)) }
+        ensures opened { IfOk result (λ o. OpensPruned self.now tree.now (pruned_owned indices.now o)) }
         ensures memory { AnswersUnlessMemory result None }
     {
         let cap_layer = tree_schedule(tree).cap_layer(self.cap_rule, self.cap_height);
@@ -82,7 +82,7 @@ impl<
         tree: &MerkleTree<P::Value, PW::Value, M, N, D>,
     ) -> Result<(Vec<Vec<Vec<P::Value>>>, PrunedMerklePaths<PW::Value, D>), MerkleTreeError>
         requires { All (λ index. index < greatest (heights (shape (tree_batch tree.now)))) indices.now }
-        ensures opened { IfOk result (λ o. OpensPruned self.now tree.now (multi_made indices.now o)) }
+        ensures opened { IfOk result (λ o. OpensPruned self.now tree.now (pruned_of_pair indices.now o)) }
         ensures memory { AnswersUnlessMemory result None }
     {
         let PrunedRows {

@@ -4,8 +4,8 @@
 ghost use Rattle.std.specs.Prelude.{◌≡◌, IfOk, MatchResult, None, Some};
 ghost use Rattle.p3_support.specs.Batches.{widened, CanWiden};
 ghost use Rattle.p3_support.specs.Shown.{row_lists, row_sets};
-ghost use Rattle.p3_merkle_tree.specs.SaltRefusals.{salt_refusal, salted_rows_refusal, salted_sets_refusal};
-ghost use Rattle.p3_merkle_tree.specs.SaltRefusals.{widening_refusal};
+ghost use Rattle.p3_merkle_tree.specs.SaltRefusals.{row_and_salt_form_refusal, salted_rows_refusal};
+ghost use Rattle.p3_merkle_tree.specs.SaltRefusals.{salted_sets_refusal, widening_refusal};
 
 use p3_merkle_core::error::MerkleTreeError;
 use p3_merkle_core::geometry::check_widths;
@@ -78,7 +78,7 @@ fn check_rows_and_salts<T>(
     rows: &[Vec<T>],
     salts: &[Vec<T>],
 ) -> Result<(), MerkleTreeError>
-    ensures { let refusal = salt_refusal dimensions.now (row_lists rows.now) (row_lists salts.now) in
+    ensures { let refusal = row_and_salt_form_refusal dimensions.now (row_lists rows.now) (row_lists salts.now) in
         MatchResult result (λ ok. refusal ≡ None) (λ e. refusal ≡ Some e) }
 {
     check_widths(dimensions, rows)?;

@@ -10,7 +10,7 @@ use Rattle.p3_merkle_core.specs.declared.error.MerkleTreeError.TheVariants.{OutO
 use Rattle.p3_merkle_core.specs.declared.schedule.Schedule.{Schedule}
 use Rattle.p3_merkle_verifier.specs.Inner.RestoredLevels.{opened_by, pruned_in, tree_of}
 use Rattle.p3_merkle_verifier.specs.declared.openings.PrunedOpeningRef.{PrunedOpeningRef}
-use Rattle.p3_merkle_verifier.specs.declared.openings.CheckedPrunedOpening.{CheckedPrunedOpening}
+use Rattle.p3_merkle_verifier.specs.declared.openings.RestorableOpening.{RestorableOpening}
 
 -- the error that a `?` hands on answers what it answered before
 pub handed_on : {V : Type 0} (r : Result V MerkleTreeError) (e : MerkleTreeError) (refusal : Option MerkleTreeError) →
@@ -21,7 +21,7 @@ handed_on (Err x) e refusal is a = rw is a
 -- where the form is right, the answer is that of the cap
 pub cap_decides : {T W V : Type 0} (row_eq : T → T → Bool) (digest_eq : W → W → Bool) (f : Functions T W)
     (roots : List (List W)) {schedule : Schedule} {t : ℕ} {opening : PrunedOpeningRef T (List W)}
-    (restorable : CheckedPrunedOpening T (List W)) (r : Result V MerkleTreeError) → restorable.schedule.now ≡ schedule →
+    (restorable : RestorableOpening T (List W)) (r : Result V MerkleTreeError) → restorable.schedule.now ≡ schedule →
     restorable.cap_layer ≡ t → restorable.opening ≡ opening →
     pruned_refusal row_eq (shape_of schedule.arity schedule.dimensions.now) t (pruned_in opening) ≡ None →
     AnswersUnlessMemory r

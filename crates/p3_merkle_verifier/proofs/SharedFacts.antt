@@ -11,7 +11,7 @@ use Rattle.p3_merkle_core.specs.Openings.{Opening}
 use Rattle.p3_merkle_core.specs.Checks.{Input, inputs_at, meeting_level, shared_inputs, params, leaf_input}
 use Rattle.p3_answers.specs.Answers.{unless}
 use Rattle.p3_merkle_core.specs.declared.collision.InputPair.{InputPair}
-use Rattle.p3_merkle_core.proofs.Lists.ListFacts.{pieces_long}
+use Rattle.p3_merkle_core.proofs.Lists.ListFacts.{joined_same_length}
 use Rattle.p3_merkle_core.proofs.Collisions.Extraction.{anc_same, level_lengths}
 use Rattle.p3_merkle_core.proofs.Lists.ListFacts.{joined, joined_more}
 use Rattle.p3_merkle_core.proofs.Checks.PathFacts.{joined_same}
@@ -78,7 +78,7 @@ so_far_next f s i j l o =
 so_far_long : {T W : Type 0} (f : Functions T W) (s : Shape) (i j l : ℕ) (o u : Opening T W) →
     length (so_far f s i j o l) ≡ length (so_far f s i j u l)
 so_far_long f s i j l o u =
-    let rest = pieces_long (λ k. cond (meets s i j k) (inputs_at f s o k) [])
+    let rest = joined_same_length (λ k. cond (meets s i j k) (inputs_at f s o k) [])
     (λ k. cond (meets s i j k) (inputs_at f s u k) []) l
     (λ k. long_if (meets s i j k) (inputs_at f s o k) (inputs_at f s u k) (level_lengths f s o u k)) in
     elim (cases_Bool (eqb i j)) [ inl y ↦ rw y (ap suc rest) | inr n ↦ rw n rest ]

@@ -57,7 +57,8 @@ impl<'a, T: Eq> RowPair<'a, T> {
     }
 }
 
-/// The digests `first` and `second` that two checks compress at `place`, if they differ.
+/// The digests `first` and `second` that two checks compress at `place`, if they differ. `AllocError` if memory runs
+/// out.
 fn differing_digests<T, W: Copy + Eq, const D: usize>(
     alloc: Global,
     place: Place,
@@ -77,7 +78,8 @@ fn differing_digests<T, W: Copy + Eq, const D: usize>(
     }))
 }
 
-/// The words of the rows of the matrices of one exponent, one after another. `rows` has a row for each of `dimensions`.
+/// The words of the rows of the matrices of the exponent `exponent`, one after another. `rows` has a row for each of
+/// `dimensions`. `AllocError` if memory runs out.
 fn opened_words<T: Copy + Drop>(
     alloc: Global,
     dimensions: &[Dimensions],
@@ -94,7 +96,8 @@ fn opened_words<T: Copy + Drop>(
     Ok(words)
 }
 
-/// The words of rows that two checks hash at `place`, if they differ. Nothing is copied where they are the same.
+/// The words of `rows` that two checks hash at `place`, if they differ. Nothing is copied where they are the same.
+/// `AllocError` if memory runs out.
 fn differing_words<T: Copy + Eq + Drop, W, const D: usize>(
     alloc: Global,
     place: Place,
@@ -115,7 +118,8 @@ fn differing_words<T: Copy + Eq + Drop, W, const D: usize>(
     }))
 }
 
-/// The words that two checks hash at the leaf, if both openings are of one leaf and the words differ.
+/// The words that two checks hash at the leaf, if both openings are of one leaf and the words differ. `AllocError` if
+/// memory runs out.
 fn leaf_difference<T: Copy + Eq + Drop, W: Copy + Eq, const D: usize>(
     alloc: Global,
     schedule: &Schedule<'_>,
@@ -138,10 +142,10 @@ fn leaf_difference<T: Copy + Eq + Drop, W: Copy + Eq, const D: usize>(
     differing_words(alloc, Place::Leaf, &rows)
 }
 
-/// The inputs of two checks at the last place of a level above its group where these differ: the pair, which is
-/// compressed last, else the words of the rows. `None` if both are the same, or if no matrix belongs to the layer above
-/// the level. `first` and `second` are that level of each check, and must reach one node; `rows` are the rows of both
-/// openings at the layer above.
+/// The last inputs of a level in which two checks differ above their groups: the pairs, which are compressed last, else
+/// the words of the rows. `None` if all are the same, or if no matrix belongs to the layer above the level. `first` and
+/// `second` are the level in each check, and must reach one node; `rows` are the rows of both openings at the layer
+/// above. `AllocError` if memory runs out.
 fn difference_above_group<T: Copy + Eq + Drop, W: Copy + Eq, const N: usize, const D: usize>(
     alloc: Global,
     rows: &RowPair<'_, T>,
@@ -161,9 +165,9 @@ fn difference_above_group<T: Copy + Eq + Drop, W: Copy + Eq, const N: usize, con
     }
 }
 
-/// The inputs of two checks at the last place of a level where these differ: the pair, else the words of the rows, else
-/// the group. `None` if the inputs of the level are the same, or if the checks do not share the node above it. `first`
-/// and `second` are that level of each check; `rows` are the rows of both openings at the layer above it.
+/// The last inputs of a level in which two checks differ: the pairs, else the words of the rows, else the groups.
+/// `None` if all are the same, or if the checks do not share the node above the level. `first` and `second` are the
+/// level in each check; `rows` are the rows of both openings at the layer above. `AllocError` if memory runs out.
 fn level_difference<T: Copy + Eq + Drop, W: Copy + Eq, const N: usize, const D: usize>(
     alloc: Global,
     rows: &RowPair<'_, T>,
@@ -188,9 +192,9 @@ fn level_difference<T: Copy + Eq + Drop, W: Copy + Eq, const N: usize, const D: 
     }
 }
 
-/// Whether two checks have the same inputs on a level, or do not share the node above it. `first` and `second` are that
-/// level of each check, and `rows` the rows of both openings of the matrices of the layer above. Both pairs are
-/// computed from the groups and these rows, so they are not compared.
+/// Whether two checks have the same inputs on a level, or do not share the node above it. `first` and `second` are the
+/// level in each check; `rows` are the rows of both openings at the layer above. The pairs are computed from the groups
+/// and the rows, so they are not compared.
 fn levels_agree<T: Eq, W: Copy + Eq, const N: usize, const D: usize>(
     rows: &RowPair<'_, T>,
     first: &PathLevel<[W; D], [[W; D]; N]>,

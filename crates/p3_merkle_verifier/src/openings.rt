@@ -311,7 +311,7 @@ pub struct PrunedOpeningRef<'a, T, X> {
 /// A pruned opening from which the path of each query can be restored, with the steps of its tree. Its form is right,
 /// and its rows agree.
 #[derive(Drop)]
-pub struct CheckedPrunedOpening<'a, T, X> {
+pub struct RestorableOpening<'a, T, X> {
     /// The steps of the tree.
     pub schedule: &'a Schedule<'a>,
     /// The cap's layer.

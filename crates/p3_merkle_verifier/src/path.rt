@@ -75,8 +75,8 @@ pub struct PathLevel<X, G> {
     pub above: PathState<X>,
 }
 
-/// States that `siblings`, those of an opening up to layer `cap_layer`, have the `step - 1` ones of level `level` after
-/// the `used` ones of the levels below it.
+/// States that `siblings`, those of an opening up to layer `cap_layer`, have `step - 1` siblings of level `level` after
+/// the `used` siblings of the levels below it.
 fn lemma_step<X>(
     schedule: &Schedule<'_>,
     cap_layer: usize,
@@ -122,7 +122,7 @@ fn check_form<T>(
     if got != expected {
         return Err(MerkleTreeError::WrongBatchSize { expected, got });
     }
-    check_heights(schedule.dimensions)?;
+    check_heights(dimensions)?;
     let expected_proof_len = schedule.siblings_below(cap_layer);
     if num_siblings != expected_proof_len {
         return Err(MerkleTreeError::WrongHeight {
@@ -147,7 +147,8 @@ impl<
     const N: usize,
     const D: usize,
 > Checker<'a, P, PW, H, C, [[PW::Value; D]; N], N, D> {
-    /// The digest of the rows of the matrices of one exponent, as one message. `rows` has a row of each matrix.
+    /// The digest of the rows of the matrices of the exponent `exponent`, hashed as one message. `rows` has a row of
+    /// each matrix.
     fn row_digest<'x>(&'x self, rows: RowParts<'x, P::Value>, exponent: usize) -> [PW::Value; D]
         ensures { let rows = zip (heights_of self.now.schedule.dimensions.now) (rows_in rows.entry) in
             result ≡ H.hash self.now.hash.now (words_of_exponent exponent rows) }

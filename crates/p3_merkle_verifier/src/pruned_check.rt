@@ -26,7 +26,7 @@ ghost use Rattle.p3_merkle_verifier.specs.Inner.RestoredLevels.{AreLeaves, AreQu
 ghost use Rattle.p3_merkle_verifier.specs.Inner.RestoredLevels.{IsCoveredAt, IsLayer, IsLayerAbove};
 
 use crate::checker::Checker;
-use crate::openings::{CheckedPrunedOpening, OpenedMatrix, PrunedOpeningRef};
+use crate::openings::{OpenedMatrix, PrunedOpeningRef, RestorableOpening};
 use crate::path::is_entry;
 use p3_merkle_core::covered_nodes::Covered;
 use p3_merkle_core::error::MerkleTreeError;
@@ -63,10 +63,11 @@ impl<'a, T, W: Copy, const D: usize> PrunedOpeningRef<'a, T, [W; D]> {
 }
 
 /// The layer above `below`, which must be layer `level` and below the cap's layer. `digests` has the digest of each
-/// covered node of `below`; the other children of the layer above have the next digests of the proof.
+/// covered node of `below`; the other children of the layer above have the next digests of the proof. `AllocError` if
+/// memory runs out.
 fn layer_above<'a, T, X: Copy>(
     alloc: Global,
-    restorable: &CheckedPrunedOpening<'_, T, X>,
+    restorable: &RestorableOpening<'_, T, X>,
     level: usize,
     below: &CoveredLayer<'a, X>,
     digests: &[X],
@@ -96,11 +97,11 @@ fn layer_above<'a, T, X: Copy>(
     })
 }
 
-/// For each covered node of the layer of this exponent, ascending, the position of a query under it: the first one of
-/// its lowest leaf.
+/// For each covered node of the layer of the exponent `exponent`, ascending, the position of a query under it: the
+/// first query of its lowest leaf. `AllocError` if memory runs out.
 fn queries_at<T, X>(
     alloc: Global,
-    restorable: &CheckedPrunedOpening<'_, T, X>,
+    restorable: &RestorableOpening<'_, T, X>,
     exponent: usize,
 ) -> Result<Vec<usize>, AllocError>
     ensures among { IfOk result (λ queries. All (λ k. k < length restorable.now.opening.indices.now) queries.items) }
@@ -122,10 +123,11 @@ fn queries_at<T, X>(
     Ok(queries)
 }
 
-/// The matrices of this exponent, in input order, each with the rows that `queries` opened of it.
+/// The matrices of the exponent `exponent`, in input order, each with the rows that `queries` opened of it.
+/// `AllocError` if memory runs out.
 fn opened_matrices<'a, T, X>(
     alloc: Global,
-    restorable: &'a CheckedPrunedOpening<'_, T, X>,
+    restorable: &'a RestorableOpening<'_, T, X>,
     exponent: usize,
     queries: &'a [usize],
 ) -> Result<Vec<OpenedMatrix<'a, T>>, AllocError>
@@ -151,11 +153,12 @@ fn opened_matrices<'a, T, X>(
     Ok(matrices)
 }
 
-/// The path of each query of an opening, in query order, out of `layers`, its layers from the leaves to the cap's: the
-/// other children of the parent of each node on the path, ascending.
+/// The path of each query of an opening, in query order: the other children of the parent of each node on the path,
+/// level by level, ascending. `layers` has the layers of the opening, from the leaves to the cap's. `AllocError` if
+/// memory runs out.
 pub(crate) fn paths_of<T, W: Copy, const D: usize>(
     alloc: Global,
-    restorable: &CheckedPrunedOpening<'_, T, [W; D]>,
+    restorable: &RestorableOpening<'_, T, [W; D]>,
     layers: &[CoveredLayer<'_, [W; D]>],
 ) -> Result<Vec<AuthPath<[W; D]>>, AllocError>
     requires { IsClimb (tree_of restorable.now) restorable.now.opening.indices.now restorable.now.cap_layer layers.now }
@@ -193,7 +196,7 @@ pub(crate) fn paths_of<T, W: Copy, const D: usize>(
     Ok(paths)
 }
 
-/// Whether the roots of a cap have the digest of each node at its position. `digests[k]` is the digest of `nodes[k]`.
+/// Whether `roots`, those of a cap, have the digest `digests[k]` at the position `nodes[k]`, for each `k`.
 fn are_entries<X: PartialEq>(roots: &[X], nodes: &[usize], digests: &[X]) -> bool
     ensures { result ≡ list_all (λ (node, digest). is_entry_of X.eq roots.now node digest) (zip nodes.now digests.now) }
 {
@@ -221,7 +224,7 @@ impl<
         opening: PrunedOpeningRef<'b, P::Value, [PW::Value; D]>,
     ) -> Result<
         (
-            CheckedPrunedOpening<'b, P::Value, [PW::Value; D]>,
+            RestorableOpening<'b, P::Value, [PW::Value; D]>,
             CoveredLayer<'b, [PW::Value; D]>,
         ),
         MerkleTreeError,
@@ -246,7 +249,7 @@ impl<
             num_digests,
         )?;
         let nodes = Vec::from_slice(alloc, &leaves.indices)?;
-        let restorable = CheckedPrunedOpening {
+        let restorable = RestorableOpening {
             schedule,
             cap_layer,
             opening,
@@ -261,12 +264,12 @@ impl<
         Ok((restorable, leaf_layer))
     }
 
-    /// For each covered node of the layer with this exponent, ascending, the digest of the rows that the queries under
-    /// it opened of the layer's matrices.
+    /// For each covered node of the layer of the exponent `exponent`, ascending, the digest of the rows that the
+    /// queries under it opened of the layer's matrices. `AllocError` if memory runs out.
     fn row_digests(
         &self,
         alloc: Global,
-        restorable: &CheckedPrunedOpening<'_, P::Value, [PW::Value; D]>,
+        restorable: &RestorableOpening<'_, P::Value, [PW::Value; D]>,
         exponent: usize,
     ) -> Result<Vec<[PW::Value; D]>, AllocError>
         ensures { (l : ℕ) → l ≤ restorable.now.cap_layer → exponent ≡ layer_exponent (tree_of restorable.now) l →
@@ -287,7 +290,8 @@ impl<
         Ok(digests)
     }
 
-    /// The digests of the parents of `children`, parent by parent. Each parent has `step` children, from 1 to `N`.
+    /// The digests of the parents of `children`, which stand parent by parent. Each parent has `step` children, from 1
+    /// to `N`. `AllocError` if memory runs out.
     pub(crate) fn group_digests(
         &self,
         alloc: Global,
@@ -308,13 +312,14 @@ impl<
         Ok(digests)
     }
 
-    /// The digests of the covered nodes of layer `layer`, which is `here`, ascending. A leaf's is that of the rows of
-    /// its first query. Any other node's is the compression of its children; where matrices belong to the layer, it is
-    /// compressed once more with the digest of their rows, which the queries under the node share.
+    /// The digests of the covered nodes of `here`, which must be layer `layer`, by ascending nodes. The digest of a
+    /// leaf is that of the rows of its first query. The digest of any other node is the compression of its children;
+    /// where matrices belong to the layer, it is compressed once more with the digest of their rows, which the queries
+    /// under the node share. `AllocError` if memory runs out.
     pub(crate) fn node_digests(
         &self,
         alloc: Global,
-        restorable: &CheckedPrunedOpening<'_, P::Value, [PW::Value; D]>,
+        restorable: &RestorableOpening<'_, P::Value, [PW::Value; D]>,
         layer: usize,
         here: &CoveredLayer<'_, [PW::Value; D]>,
     ) -> Result<Vec<[PW::Value; D]>, AllocError>
@@ -340,11 +345,12 @@ impl<
         Ok(digests)
     }
 
-    /// Checks that the roots of a cap have the digest of each covered node of its layer, `here`, else `CapMismatch`.
+    /// Checks that `roots`, those of a cap, have the digest of each covered node of `here`, the cap's layer, else
+    /// `CapMismatch`. `OutOfMemory` if memory runs out.
     pub(crate) fn check_roots(
         &self,
         alloc: Global,
-        restorable: &CheckedPrunedOpening<'_, P::Value, [PW::Value; D]>,
+        restorable: &RestorableOpening<'_, P::Value, [PW::Value; D]>,
         here: &CoveredLayer<'_, [PW::Value; D]>,
         roots: &[[PW::Value; D]],
     ) -> Result<(), MerkleTreeError>
@@ -362,20 +368,21 @@ impl<
         Ok(())
     }
 
-    /// The cap's layer of a pruned opening, computed up from its covered leaves. Only one layer's children are stored.
+    /// The cap's layer of a pruned opening, computed up from the layer of its leaves. Only one layer's children are
+    /// stored. `AllocError` if memory runs out.
     fn top_layer<'b>(
         &self,
         alloc: Global,
-        restorable: &CheckedPrunedOpening<'_, P::Value, [PW::Value; D]>,
-        leaves: CoveredLayer<'b, [PW::Value; D]>,
+        restorable: &RestorableOpening<'_, P::Value, [PW::Value; D]>,
+        leaf_layer: CoveredLayer<'b, [PW::Value; D]>,
     ) -> Result<CoveredLayer<'b, [PW::Value; D]>, AllocError>
         requires arity { restorable.now.schedule.now.arity ≡ N }
-        requires leaves { AreLeaves (tree_of restorable.now) restorable.now.opening.indices.now leaves }
+        requires leaf_layer { AreLeaves (tree_of restorable.now) restorable.now.opening.indices.now leaf_layer }
         ensures { let f = functions_of self.now in
             let cap_layer = restorable.now.cap_layer in
             IfOk result (λ top. IsLayer f (tree_of restorable.now) cap_layer (opened_by restorable.now) cap_layer top) }
     {
-        let mut layer = leaves;
+        let mut layer = leaf_layer;
         for level in 0..restorable.cap_layer {
             let digests = self.node_digests(alloc, restorable, level, &layer)?;
             // The children are freed before those of the next layer are listed.
@@ -385,23 +392,24 @@ impl<
         Ok(layer)
     }
 
-    /// All layers of a pruned opening, from its covered leaves up to the cap's layer, with the digests of the covered
-    /// nodes' children: each is computed from the layer below, or is a digest of the proof.
+    /// All layers of a pruned opening, from its leaves up to the cap's layer, with the digests of the covered nodes'
+    /// children. The digest of a child is computed from the layer below if the child is covered; else it is one of the
+    /// proof. `AllocError` if memory runs out.
     pub(crate) fn restored_layers<'b>(
         &self,
         alloc: Global,
-        restorable: &CheckedPrunedOpening<'_, P::Value, [PW::Value; D]>,
-        leaves: CoveredLayer<'b, [PW::Value; D]>,
+        restorable: &RestorableOpening<'_, P::Value, [PW::Value; D]>,
+        leaf_layer: CoveredLayer<'b, [PW::Value; D]>,
     ) -> Result<Vec<CoveredLayer<'b, [PW::Value; D]>>, AllocError>
         requires arity { restorable.now.schedule.now.arity ≡ N }
-        requires leaves { AreLeaves (tree_of restorable.now) restorable.now.opening.indices.now leaves }
+        requires leaf_layer { AreLeaves (tree_of restorable.now) restorable.now.opening.indices.now leaf_layer }
         ensures { let f = functions_of self.now in
             let cap_layer = restorable.now.cap_layer in
             IfOk result (λ layers. AreLayers f (tree_of restorable.now) cap_layer (opened_by restorable.now) cap_layer
             layers.items) }
     {
         let mut layers = Vec::with_capacity(alloc, restorable.cap_layer + 1)?;
-        layers.push(leaves)?;
+        layers.push(leaf_layer)?;
         for level in 0..restorable.cap_layer {
             let below = &layers[level];
             let digests = self.node_digests(alloc, restorable, level, below)?;
@@ -429,8 +437,8 @@ impl<
         ensures { let refusal = pruned_refusal_under P.Value.eq PW.Value.eq (params_in self.now) roots.now in
             AnswersUnlessMemory result (refusal (pruned_in opening.entry)) }
     {
-        let (restorable, leaves) = self.check_restorable(alloc, opening)?;
-        let top = self.top_layer(alloc, &restorable, leaves)?;
+        let (restorable, leaf_layer) = self.check_restorable(alloc, opening)?;
+        let top = self.top_layer(alloc, &restorable, leaf_layer)?;
         self.check_roots(alloc, &restorable, &top, roots)
     }
 
@@ -450,8 +458,8 @@ impl<
         ensures paths { let restored = restored_paths (params_in self.now) (pruned_in opening.entry) in
             IfOk result (λ paths. shown_paths paths.items ≡ restored) }
     {
-        let (restorable, leaves) = self.check_restorable(alloc, opening)?;
-        let layers = self.restored_layers(alloc, &restorable, leaves)?;
+        let (restorable, leaf_layer) = self.check_restorable(alloc, opening)?;
+        let layers = self.restored_layers(alloc, &restorable, leaf_layer)?;
         Ok(paths_of(alloc, &restorable, &layers)?)
     }
 }

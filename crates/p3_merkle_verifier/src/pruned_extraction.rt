@@ -52,9 +52,9 @@ impl<'a, T, W, const D: usize> RestoredQueries<'a, T, [W; D]> {
         }
     }
 
-    /// The positions of the queries with the nearest indices below and above `index`, so that one of them stands
-    /// between it and any query. They are one query if `index` is queried itself, or if all queries are on one side of
-    /// it. There must be a query.
+    /// The positions of the queries with the nearest indices below and above `index`: for any query one of the two
+    /// stands between it and `index`. Both are one query if `index` is queried itself, or if all queries are on one
+    /// side of it. There must be a query.
     fn neighbours(&self, index: usize) -> (usize, usize)
         requires leaves { HasLeaves self.now }
         requires some { 0 < length self.now.paths.items }
@@ -98,8 +98,8 @@ impl<
         ensures restored { IfOk result (AreQueriesOf (params_in self.now) (pruned_in opening.entry)) }
     {
         let sets = opening.sets;
-        let (restorable, leaves) = self.check_restorable(alloc, opening)?;
-        let layers = self.restored_layers(alloc, &restorable, leaves)?;
+        let (restorable, leaf_layer) = self.check_restorable(alloc, opening)?;
+        let layers = self.restored_layers(alloc, &restorable, leaf_layer)?;
         self.check_roots(alloc, &restorable, &layers[restorable.cap_layer], roots)?;
         Ok(RestoredQueries {
             sets,
@@ -132,8 +132,9 @@ impl<
         above == below || self.agree(first, queries.opening(above))
     }
 
-    /// The first query whose check differs from that of the opening `first`: its position among the queries, and both
-    /// inputs at the last place that both checks share and at which they differ. `None` if there is no such query.
+    /// The first query whose check differs from that of the opening `first`: its position among the queries, from 0,
+    /// and both inputs at the last place that both checks share and at which they differ. `None` if there is no such
+    /// query. `AllocError` if memory runs out.
     fn differing_query(
         &self,
         alloc: Global,
@@ -150,18 +151,18 @@ impl<
         if self.agrees_with_all(first, queries) {
             return Ok(None);
         }
-        for place in 0..queries.paths.len() {
-            let found = self.last_difference(alloc, first, queries.opening(place))?;
+        for query in 0..queries.paths.len() {
+            let found = self.last_difference(alloc, first, queries.opening(query))?;
             if let Some(collision) = found {
-                return Ok(Some((place, collision)));
+                return Ok(Some((query, collision)));
             }
         }
         Ok(None)
     }
 
     /// The first pair of queries whose checks differ, in the order of `first`, then of `second`: the position of each
-    /// query in its list, and both inputs at the last place that both checks share and at which they differ. `None` if
-    /// there is no such pair.
+    /// query in its list, from 0, and both inputs at the last place that both checks share and at which they differ.
+    /// `None` if there is no such pair. `AllocError` if memory runs out.
     fn differing_pair(
         &self,
         alloc: Global,
@@ -175,10 +176,10 @@ impl<
             (length first.now.paths.items) (length second.now.paths.items) in
             IfOk result (λ found. ShowsPair found differ) }
     {
-        for place in 0..first.paths.len() {
-            let found = self.differing_query(alloc, first.opening(place), second)?;
+        for query in 0..first.paths.len() {
+            let found = self.differing_query(alloc, first.opening(query), second)?;
             if let Some((other, collision)) = found {
-                return Ok(Some((place, other, collision)));
+                return Ok(Some((query, other, collision)));
             }
         }
         Ok(None)

@@ -13,8 +13,8 @@ rows_in_parts parts = map (λ (first, second). first ++ second) parts
 abbrev pub whole : {T : Type 0} → List (List T) → List (List T × List T)
 whole rows = map (λ row. (row, [])) rows
 
--- how many of n words a row of width w has, where rows of these widths come after it: w, as far as there are so many,
--- and of the last row all of them
+-- the length of the next row, of width w, when n words are left and rows of these widths follow: w, or n if n is less;
+-- the last row takes all n
 abbrev pub first_len : ℕ → List ℕ → ℕ → ℕ
 first_len w [] n = n
 first_len w (v ∷ widths) n = min w n

@@ -38,7 +38,8 @@ pub enum RowParts<'a, T> {
     },
 }
 
-/// How many of the `left` words the row of a matrix of this width has, before those of the `others`.
+/// The length of the next row, of width `width`, when `left` words are left and rows of `others` follow: `width`, or
+/// `left` if that is less; the last row takes all `left`.
 fn first_len(width: usize, others: &[Dimensions], left: usize) -> usize
     ensures { result ≡ first_len width (widths_of others.now) left }
 {

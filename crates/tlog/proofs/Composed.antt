@@ -4,7 +4,7 @@ use Rattle.std.proofs.Common.{true, false}
 use Rattle.std.specs.Prelude.{Option, Result, Ok, Err, ◌↔◌}
 use Rattle.std.specs.Result.{IfErr, IsErrAnd}
 use Rattle.std.specs.Int.{is_power_of_two}
-use Rattle.tlog.specs.Climbs.{Begins, climb_end}
+use Rattle.tlog.specs.Climbs.{ProofBeginsAt, climb_end}
 use Rattle.tlog.specs.Fixed.{GrowthKeepsLeaf, RootFixesProof}
 use Rattle.tlog.specs.Inner.Lifts.{Lifts}
 use Rattle.tlog.specs.Rfc9162.{Hash}
@@ -41,7 +41,7 @@ module _ {hash : Hash} {old middle new : ℕ} {first second : List (List ℕ)} {
 
 grown_alone : {hash : Hash} {old new : ℕ} {path : List (List ℕ)} {old_root new_root : List ℕ} {layer node : ℕ}
     {value : List ℕ} {digests : List (List ℕ)} → 0 < old → old < new →
-    Begins old path old_root layer node value digests →
+    ProofBeginsAt old path old_root layer node value digests →
     climb_end hash layer node new value digests ≡ Some (0, old_root, new_root) →
     IsConsistent hash old new path old_root new_root
 grown_alone some more b ends = record {
@@ -53,7 +53,7 @@ grown_alone some more b ends = record {
 
 module _ {hash : Hash} {old new : ℕ} {path : List (List ℕ)} {old_root new_root : List ℕ} {layer node : ℕ}
     {value : List ℕ} {digests : List (List ℕ)} (some : 0 < old) (more : old < new)
-    (b : Begins old path old_root layer node value digests) where
+    (b : ProofBeginsAt old path old_root layer node value digests) where
   -- the old tree is all of the node where the proof begins
   pub composed_all : (out : List (List ℕ)) → old ≤ 2 ^ 62 → is_power_of_two old ≡ true →
       climb_end hash layer node new value out ≡ Some (0, old_root, new_root) →
@@ -63,7 +63,7 @@ module _ {hash : Hash} {old new : ℕ} {path : List (List ℕ)} {old_root new_ro
       bare_end hash layer node new value [] old_root new_root
       (more_nodes layer node old new (omega (arith, whole)) more) refl ends
   composed_all (c ∷ out) small power ends =
-      let from : Begins old (c ∷ out) old_root layer node value (c ∷ out) = record {
+      let from : ProofBeginsAt old (c ∷ out) old_root layer node value (c ∷ out) = record {
         some = omega arith;
         at_layer = b.at_layer;
         at_node = b.at_node;
@@ -76,7 +76,7 @@ module _ {hash : Hash} {old new : ℕ} {path : List (List ℕ)} {old_root new_ro
       climb_end hash layer node new value out ≡ Some (0, old_root, new_root) →
       IsConsistent hash old new (value ∷ out) old_root new_root
   composed_part out power ends =
-      let from : Begins old (value ∷ out) old_root layer node value out = record {
+      let from : ProofBeginsAt old (value ∷ out) old_root layer node value out = record {
         some = omega arith;
         at_layer = b.at_layer;
         at_node = b.at_node;

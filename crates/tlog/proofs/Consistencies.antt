@@ -11,7 +11,7 @@ use Rattle.std.specs.Prelude.{Bool, Result, IsOk, ◌↔◌, ◌⊎◌}
 use Rattle.std.specs.Result.{is_err}
 use Rattle.std.specs.Int.{is_power_of_two, w64}
 use Rattle.tlog.specs.Collisions.{RootsFixEntries, entries_of}
-use Rattle.tlog.specs.Climbs.{Begins, climb_end}
+use Rattle.tlog.specs.Climbs.{ProofBeginsAt, climb_end}
 use Rattle.tlog.specs.Rfc9162.{Hash, consistency_end, consistency_from, inclusion_walk, leaf_hash, proof_of, root_of}
 use Rattle.tlog.specs.Verdicts.{IsConsistent, IsIncluded, is_same, size_limit}
 use Rattle.tlog.specs.declared.error.ProofError.{ProofError}
@@ -57,7 +57,7 @@ module _ {hash : Hash} {old new : ℕ} {path : List (List ℕ)} {root new_root :
 -- ---- the node where a proof begins
 
 module _ {old : ℕ} {path : List (List ℕ)} {root : List ℕ} {layer node : ℕ} {value : List ℕ} {digests : List (List ℕ)}
-    (b : Begins old path root layer node value digests) where
+    (b : ProofBeginsAt old path root layer node value digests) where
   -- it is the last whole one
   pub begins_whole : 0 < old → old ≤ 2 ^ 62 → (node + 1) * 2 ^ layer ≡ old
   begins_whole some small =
@@ -110,8 +110,8 @@ as_leaf hash new layer node value digests a b within e =
 
 module _ {hash : Hash} {old new : ℕ} {path other_path : List (List ℕ)} {root other_root new_root : List ℕ}
     {layer node other_layer other_node : ℕ} {value other_value : List ℕ} {digests other_digests : List (List ℕ)}
-    (b : Begins old path root layer node value digests)
-    (c : Begins old other_path other_root other_layer other_node other_value other_digests) (some : 0 < old)
+    (b : ProofBeginsAt old path root layer node value digests)
+    (c : ProofBeginsAt old other_path other_root other_layer other_node other_value other_digests) (some : 0 < old)
     (small : new ≤ size_limit) (is : IsConsistent hash old new path root new_root)
     (other : IsConsistent hash old new other_path other_root new_root) where
   paths : (value ≡ other_value) × (digests ≡ other_digests) → path ≡ other_path

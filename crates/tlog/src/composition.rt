@@ -80,9 +80,10 @@ fn check_right<H: LogHash<D>, const D: usize>(
     }
 }
 
-/// The digests that lead from a node on to the root of `new_size` entries, where those of `climb` lead to the root of
-/// the first `size`, and those of `growth` from the last whole node of these to both roots. Where `climb` or `growth`
-/// does not lead there, any digests may be returned. `Collision` if the proofs differ although they have one root.
+/// The digests that lead from a node on to the root of `new_size` entries, where the digests of `climb` lead from the
+/// node to the root of the first `size` entries, and those of `growth` from the last whole node of the first `size`
+/// entries to both roots. Where `climb` or `growth` does not lead to its roots, any digests may be returned.
+/// `Collision` if the proofs differ although they have one root; `OutOfMemory` if memory runs out.
 fn lift<H: LogHash<D>, const D: usize>(
     alloc: Global,
     size: usize,

@@ -2,7 +2,7 @@
 ghost use Rattle.std.specs.Prelude.{◌≡◌, ℕ, ◌<◌, ◌≤◌, ◌↔◌, List, [], IsOk, IfOk, IfErr, MatchOption, Some};
 ghost use Rattle.std.specs.Result.{result_err};
 ghost use Rattle.sha2.specs.Sha256.{sha256};
-ghost use Rattle.tlog.specs.Climbs.{Begins, climb_end};
+ghost use Rattle.tlog.specs.Climbs.{ProofBeginsAt, climb_end};
 ghost use Rattle.tlog.specs.Verdicts.{IsConsistent};
 ghost use Rattle.tlog.specs.Verdicts.{consistency_end_refusal, consistency_refusal, growth_end, size_limit};
 
@@ -65,7 +65,7 @@ pub fn verify<H: LogHash<D>, const D: usize>(
     if new_size < old_size {
         return Err(ProofError::SmallerNewSize);
     }
-    let (old, new) = roots_by::<H, D>(old_size, new_size, proof, old_root, new_root)?;
+    let (old, new) = roots_of_proof::<H, D>(old_size, new_size, proof, old_root, new_root)?;
     if old != *old_root {
         return Err(ProofError::OldRootMismatch);
     }
@@ -75,11 +75,12 @@ pub fn verify<H: LogHash<D>, const D: usize>(
     Ok(())
 }
 
-/// The old and the new root that a proof leads to. From size 0 the new one may be any, so it is `new_root` itself. The
-/// new size must be at least the old one and at most 2^62. `TooManyDigests` or `TooFewDigests` if the proof has not as
-/// many digests as one between these sizes.
+/// The old and the new root that a proof leads to. From size 0 the old one is `H::empty_root()`, and the new one is the
+/// same at size 0, else `new_root` itself, which may be any. Between equal sizes above 0 both are `old_root`. The new
+/// size must be at least the old one and at most 2^62. `TooManyDigests` or `TooFewDigests` if the proof has not as many
+/// digests as one between these sizes.
 #[tactic(auto, unfolding(crate::specs::Verdicts::growth_end))]
-fn roots_by<H: LogHash<D>, const D: usize>(
+fn roots_of_proof<H: LogHash<D>, const D: usize>(
     old_size: usize,
     new_size: usize,
     proof: &[[u8; D]],
@@ -133,7 +134,7 @@ impl<'a, const D: usize> Climb<'a, D> {
     pub fn of_proof(old_size: usize, proof: &'a [[u8; D]], old_root: &'a [u8; D]) -> Option<Self>
         requires { 0 < old_size }
         ensures { MatchOption result (proof.now ≡ []) (λ climb.
-            Begins old_size proof.now old_root.now climb.layer climb.node climb.value.now climb.digests.now) }
+            ProofBeginsAt old_size proof.now old_root.now climb.layer climb.node climb.value.now climb.digests.now) }
     {
         let (first, rest) = proof.split_first()?;
         let layer = (old_size - 1).trailing_ones();

@@ -40,7 +40,8 @@ impl Framing {
         }
     }
 
-    /// The next bytes of an entry that has `len` bytes already, and the bytes after its end, if it ends in `bytes`.
+    /// If an entry that has `len` bytes already ends in `bytes`: its next bytes, and the bytes after its end. Else
+    /// `None`.
     pub(crate) fn split_at_end(self, len: usize, bytes: &[u8]) -> Option<(&[u8], &[u8])>
         ensures { (begun : List ℕ) → len ≡ min (length begun) usize.MAX → IsOpen self begun →
             MatchOption result (IsOpen self (begun ++ bytes.now)) (λ (more, rest).
@@ -55,8 +56,8 @@ impl Framing {
         }
     }
 
-    /// Whole entries at the head of some bytes, at most `most` and `TOGETHER`, and the bytes after them. There is one
-    /// if one is whole and `most` is not 0.
+    /// Whole entries at the head of `bytes`, at most `most` and at most `TOGETHER`, and the bytes after them. There is
+    /// one at least if `bytes` has one and `most` is not 0. `AllocError` if memory runs out.
     pub(crate) fn entries_at_head(
         self,
         alloc: Global,

@@ -72,7 +72,9 @@ pub fn read_log<R: Read>(
     Ok(ReadLog { tree, entries })
 }
 
-/// Reads a file until it ends, or until as many entries have ended as are read at most.
+/// Reads `file` until it ends, or until `splitter` is full, and returns `tree` grown by the entries that end in what
+/// was read. `Read` if a read fails, where an interrupted one is tried again; `TooManyEntries` if the tree would have
+/// more than 2^62 entries; `OutOfMemory` if memory runs out.
 fn read_through<R: Read>(
     alloc: Global,
     splitter: &mut Splitter<'_>,
@@ -110,7 +112,8 @@ fn read_through<R: Read>(
     Err(ReadError::Read)
 }
 
-/// Reads the next bytes of a file, and grows its tree by the entries that end in them.
+/// Reads `bytes`, the next of a file, and returns `tree` grown by the entries that end in them. `TooManyEntries` if it
+/// would have more than 2^62 entries; `OutOfMemory` if memory runs out.
 fn push(
     alloc: Global,
     splitter: &mut Splitter<'_>,
@@ -136,7 +139,8 @@ fn push(
     Ok(tree)
 }
 
-/// The tree with the leaf hashes of more entries.
+/// `tree` with the leaf hashes `hashes` of further entries. `TooManyEntries` if it would have more than 2^62 entries;
+/// `OutOfMemory` if memory runs out.
 fn grown(alloc: Global, tree: TreeBuilder, hashes: &[[u8; 32]]) -> Result<TreeBuilder, ReadError>
     ensures built { IfOk result (λ grown. (leaves : List (List ℕ)) (nodes : List NodeId) →
         IsBuilderOf leaves nodes tree → IsBuilderOf (leaves ++ hashes.now) nodes grown) }

@@ -36,7 +36,7 @@ impl OpenEntry {
         OpenEntry { hasher, len: 0 }
     }
 
-    /// Adds its next bytes.
+    /// Adds `more`, the next bytes of the entry.
     fn push(&mut self, more: &[u8])
         ensures { (bytes : List ℕ) → HoldsOpen self.old bytes → HoldsOpen self.new (bytes ++ more.now) }
     {
@@ -60,7 +60,7 @@ pub(crate) struct Splitter<'a> {
 }
 
 impl<'a> Splitter<'a> {
-    /// Nothing of the file has come. At most `limit` entries of it are read. A block has from 1 to 2^30 bytes.
+    /// A splitter ahead of a file, of which it reads at most `limit` entries. A block must have from 1 to 2^30 bytes.
     pub(crate) fn new(framing: Framing, limit: usize, wanted: WantedEntries<'a>) -> Splitter<'a>
         requires { IsFraming framing }
         ensures unchanged { (result.framing ≡ framing) × (result.limit ≡ limit) }
@@ -84,9 +84,9 @@ impl<'a> Splitter<'a> {
         self.count >= self.limit
     }
 
-    /// Reads whole entries from the head of the next bytes of the file, or bytes of one entry: at least one byte.
-    /// Returns the leaf hashes of the entries that end there, and the bytes that are left. `bytes` must not be empty,
-    /// and the splitter not full. After an error, which means that memory ran out, it must not be used.
+    /// Reads whole entries from the head of `bytes`, the next of the file, or bytes of one entry: at least one byte.
+    /// Returns the leaf hashes of the entries that end in what it read, and the bytes that are left. `bytes` must not
+    /// be empty, and the splitter not full. After an error, `AllocError` if memory runs out, it must not be used.
     pub(crate) fn read<'b>(
         &mut self,
         alloc: Global,
@@ -124,7 +124,7 @@ impl<'a> Splitter<'a> {
         }
     }
 
-    /// Ends the open entry, and returns its leaf hash alone.
+    /// Ends the open entry, and returns its leaf hash alone. `AllocError` if memory runs out.
     fn end(&mut self, alloc: Global) -> Result<Vec<[u8; 32]>, AllocError>
         requires places { HasPlaces self.old.wanted }
         requires room { self.old.count < self.old.limit }

@@ -8,7 +8,8 @@ ghost use Rattle.tlog_files.specs.Inner.Wanted.{is_next, places_of, HasPlaces, H
 use std::alloc::{AllocError, Global};
 use std::mem;
 
-/// The index of each wanted entry with its place among the wanted ones, in the order of the file.
+/// The index of each wanted entry, counted from 0, with its place, its position in `wanted`; ascending, in the order of
+/// the file. `AllocError` if memory runs out.
 pub(crate) fn places_in_order(
     alloc: Global,
     wanted: &[usize],
@@ -36,8 +37,8 @@ pub(crate) struct WantedEntries<'a> {
 }
 
 impl<'a> WantedEntries<'a> {
-    /// None of the wanted entries have come, which have these indices and places. The indices must ascend, perhaps with
-    /// repeats, as [`places_in_order`] has them.
+    /// The wanted entries, of which none has come. `places` has the index and the place of each. The indices must
+    /// ascend, perhaps with repeats, as [`places_in_order`] returns them. `AllocError` if memory runs out.
     pub(crate) fn new(
         alloc: Global,
         places: &'a [(usize, usize)],
@@ -59,14 +60,15 @@ impl<'a> WantedEntries<'a> {
         })
     }
 
-    /// Whether the entry with this index is the next that is wanted.
+    /// Whether the next wanted entry has the index `index`.
     fn is_next(&self, index: usize) -> bool
         ensures { result ≡ is_next index self.now.left.now }
     {
         self.left.first().is_some_and(|next| next.0 == index)
     }
 
-    /// Copies those of the next entries, each a whole one, that are wanted. The first of them has index `first`.
+    /// Copies the wanted ones of `entries`, the next whole entries of the file. The first of `entries` has the index
+    /// `first`. `AllocError` if memory runs out.
     pub(crate) fn copy(
         &mut self,
         alloc: Global,
@@ -90,7 +92,8 @@ impl<'a> WantedEntries<'a> {
         Ok(())
     }
 
-    /// Adds the next bytes of the open entry, which has this index.
+    /// Adds `more`, the next bytes of the open entry, if it is wanted. Its index is `index`. `AllocError` if memory
+    /// runs out.
     pub(crate) fn push(&mut self, index: usize, more: &[u8]) -> Result<(), AllocError>
         requires { HasPlaces self.old }
         ensures places { OnOk result (HasPlaces self.new) }
@@ -104,7 +107,7 @@ impl<'a> WantedEntries<'a> {
         Ok(())
     }
 
-    /// Ends the open entry, which has this index.
+    /// Ends the open entry, whose index is `index`. `AllocError` if memory runs out.
     pub(crate) fn end(&mut self, alloc: Global, index: usize) -> Result<(), AllocError>
         requires { HasPlaces self.old }
         ensures places { OnOk result (HasPlaces self.new) }

@@ -24,7 +24,7 @@ use Rattle.p3_merkle_core.proofs.Shapes.OneHeight.{full_group, no_rows_above}
 use Rattle.tlog.specs.Rfc9162.{Hash as HashFunction}
 use Rattle.tlog_multiproof.specs.Entries.{entries_opening, is_node, proof_nodes, with_padding}
 use Rattle.tlog_multiproof.specs.Inner.Ascents.{StandsAt, is_sent, sent_before}
-use Rattle.tlog_multiproof.specs.Instance.{leaf_row, log_functions, log_params, log_shape}
+use Rattle.tlog_multiproof.specs.Instance.{leaf_row_set, log_functions, log_params, log_shape}
 use Rattle.tlog_multiproof.specs.Nodes.{last_word, parent_digest}
 use Rattle.tlog_multiproof.specs.declared.tree.Node.{Node}
 use Rattle.tlog_multiproof.specs.declared.tree.Node.TheVariants.{Absent, Hash}
@@ -151,14 +151,14 @@ module _ (hash : HashFunction) (size : ℕ) (indices : List ℕ) (leaves proof :
       let test = λ (i : ℕ). ancestor s 0 i == j in
       let own : (i : ℕ) → ancestor s 0 i ≡ i =
       λ i. let one : i / 2 ^ 0 ≡ i = omega arith in ancestor_of_two size 0 i ∙ one in
-      let row : first_rows test p ≡ leaf_row leaf =
-      first_at test leaf_row indices leaves next [] [] inside paired
+      let row : first_rows test p ≡ leaf_row_set leaf =
+      first_at test leaf_row_set indices leaves next [] [] inside paired
       (eq-eqb (ancestor s 0 (get_or indices next 0)) j (own (get_or indices next 0) ∙ is))
       (λ a less. ne_eqb (ancestor s 0 (get_or indices a 0)) j
       (omega (arith, own (get_or indices a 0), w.passed a less))) in
       value_covered 0 j covered ∙ restored_leaf (log_functions hash) s top p j
       ∙ ap last_word (ap (λ rows. layer_words s rows 0) row
-      ∙ leaf_words s two_is_arity size (one_column size) (leaf_row leaf) refl)
+      ∙ leaf_words s two_is_arity size (one_column size) (leaf_row_set leaf) refl)
 
   -- a covered node has the parent of its children
   pub parent_value : (l j : ℕ) → l < top → is_covered s indices (suc l) j ≡ true →

@@ -15,7 +15,8 @@ use Rattle.tlog.specs.Rfc9162.{Hash as HashFunction, path}
 use Rattle.tlog.specs.Verdicts.{size_limit}
 use Rattle.tlog.proofs.Climbs.{parity, path_above}
 use Rattle.tlog.proofs.Layers.{itself, only_at, pair_at, sibling}
-use Rattle.tlog_multiproof.specs.Instance.{AreFilled, hash_in, log_batch, log_functions, log_params, log_shape, present}
+use Rattle.tlog_multiproof.specs.Instance.{AreLogDigests, hash_in, log_batch, log_functions, log_params, log_shape}
+use Rattle.tlog_multiproof.specs.Instance.{present}
 use Rattle.tlog_multiproof.specs.declared.tree.Node.{Node}
 use Rattle.tlog_tree.specs.Inner.Layers.{layer_of}
 use Rattle.tlog_tree.proofs.Paths.{layer_next, path_of_one}
@@ -83,7 +84,8 @@ module _ (hash : HashFunction) (leaves : List (List ℕ)) (i : ℕ) (inside : i 
 -- ---- several entries
 
 filled-append : (size : ℕ) (slots more : List (ℕ × ℕ)) (digests rest : List (List Node)) →
-    AreFilled size slots digests → AreFilled size more rest → AreFilled size (slots ++ more) (digests ++ rest)
+    AreLogDigests size slots digests → AreLogDigests size more rest →
+    AreLogDigests size (slots ++ more) (digests ++ rest)
 filled-append size [] more [] rest a b = b
 filled-append size [] more (digest ∷ digests) rest a b = absurd a
 filled-append size (slot ∷ slots) more [] rest a b = absurd a
@@ -95,13 +97,13 @@ module _ (hash : HashFunction) (leaves : List (List ℕ)) (some : 0 < length lea
   node_at (l, j) = node (log_functions hash) (log_batch leaves) l j
 
   layer_filled : (l : ℕ) (slots : List ℕ) → l ≤ levels (log_shape (length leaves)) →
-      AreFilled (length leaves) (map (λ j. (l, j)) slots) (map node_at (map (λ j. (l, j)) slots))
+      AreLogDigests (length leaves) (map (λ j. (l, j)) slots) (map node_at (map (λ j. (l, j)) slots))
   layer_filled l [] low = tt
   layer_filled l (j ∷ slots) low = (node_filled hash leaves some l j low, layer_filled l slots low)
 
   layers_filled : (indices : List ℕ) (l n : ℕ) → l + n ≤ levels (log_shape (length leaves)) →
       let slots = flat_map (boundary_at (log_shape (length leaves)) indices) (range_with_len l n) in
-      AreFilled (length leaves) slots (map node_at slots)
+      AreLogDigests (length leaves) slots (map node_at slots)
   layers_filled indices l zero low = tt
   layers_filled indices l (suc n) low =
       let s = log_shape (length leaves) in
@@ -114,7 +116,7 @@ module _ (hash : HashFunction) (leaves : List (List ℕ)) (some : 0 < length lea
 
   -- the digests of the honest opening
   pub honest_filled : (indices : List ℕ) → let s = log_shape (length leaves) in
-      AreFilled (length leaves) (boundary s indices (levels s))
+      AreLogDigests (length leaves) (boundary s indices (levels s))
       (honest_query (log_functions hash) (log_batch leaves) (levels s) indices).digests
   honest_filled indices = layers_filled indices 0 (levels (log_shape (length leaves))) (omega arith)
 

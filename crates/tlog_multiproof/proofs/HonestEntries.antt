@@ -17,7 +17,7 @@ use Rattle.tlog.proofs.Layers.{itself}
 use Rattle.tlog_tree.specs.Trees.{all_there, leaves_root, node_at, values_at as tree_values}
 use Rattle.tlog_tree.specs.declared.node_id.NodeId.{NodeId}
 use Rattle.tlog_multiproof.specs.Entries.{AreIncluded, entries_opening, is_node, proof_nodes, with_padding}
-use Rattle.tlog_multiproof.specs.Instance.{leaf_row, log_batch, log_functions, log_params, log_shape, nodes_at}
+use Rattle.tlog_multiproof.specs.Instance.{leaf_row_set, log_batch, log_functions, log_params, log_shape, nodes_at}
 use Rattle.tlog_multiproof.specs.Instance.{present}
 use Rattle.tlog_multiproof.specs.declared.tree.Node.{Node}
 use Rattle.tlog_multiproof.proofs.Honest.{restored_is_path}
@@ -33,7 +33,7 @@ module _ (hash : HashFunction) (leaves : List (List ℕ)) (some : 0 < length lea
   abbrev pub values_at : List NodeId → List (List ℕ)
   values_at nodes = map (λ (node : NodeId). node_at hash leaves node.layer node.slot) nodes
 
-  rows_at : (indices : List ℕ) → map (honest_rows (log_batch leaves)) indices ≡ map leaf_row (leaves_at indices)
+  rows_at : (indices : List ℕ) → map (honest_rows (log_batch leaves)) indices ≡ map leaf_row_set (leaves_at indices)
   rows_at [] = refl
   rows_at (i ∷ indices) =
       let n = length leaves in

@@ -11,7 +11,7 @@ use Rattle.p3_merkle_core.proofs.Checks.CheckFacts.{accepted_by_walk, accepted_w
 use Rattle.tlog.specs.Rfc9162.{Hash as HashFunction, inclusion_walk}
 use Rattle.tlog.specs.Verdicts.{IsIncluded, size_limit}
 use Rattle.tlog_multiproof.specs.Nodes.{parent_digest}
-use Rattle.tlog_multiproof.specs.Instance.{IsPathFilled, leaf_row, log_functions, log_params, log_shape, present}
+use Rattle.tlog_multiproof.specs.Instance.{IsLogPath, leaf_row_set, log_functions, log_params, log_shape, present}
 use Rattle.tlog_multiproof.specs.Instance.{root_cap}
 use Rattle.tlog_multiproof.specs.declared.tree.Node.{Node}
 use Rattle.tlog_multiproof.specs.declared.tree.Node.TheVariants.{Hash}
@@ -20,13 +20,13 @@ use Rattle.tlog_multiproof.proofs.Shapes.{root_covers, tallest}
 use Rattle.tlog_multiproof.proofs.Walks.{half_of, level_passed}
 
 module _ (hash : HashFunction) (size i : ℕ) (leaf : List ℕ) (path : List (List Node)) (inside : i < size)
-    (small : size ≤ size_limit) (filled : IsPathFilled size i path) where
+    (small : size ≤ size_limit) (filled : IsLogPath size i path) where
   long : length path ≡ levels (log_shape size)
   long = filled.count
 
   -- the digest that the check reaches at a layer
   abbrev reached : ℕ → List Node
-  reached l = path_digest (log_functions hash) (log_shape size) (opening_of i (leaf_row leaf) path) l
+  reached l = path_digest (log_functions hash) (log_shape size) (opening_of i (leaf_row_set leaf) path) l
 
   -- the walk of inclusion ends in the digest that the check ends in
   ends_from : (d l : ℕ) (r : List ℕ) → l + d ≡ levels (log_shape size) → reached l ≡ Hash r ∷ [] →
@@ -44,7 +44,7 @@ module _ (hash : HashFunction) (size i : ℕ) (leaf : List ℕ) (path : List (Li
       let step = level_passed hash (drop (suc l) path) (get_or path l []) size i l r inside small
       (more_below size l below) (filled.each l below) in
       let up : reached (suc l) ≡ Hash step.0 ∷ [] =
-      next_reached size hash (opening_of i (leaf_row leaf) path) l below (omega arith)
+      next_reached size hash (opening_of i (leaf_row_set leaf) path) l below (omega arith)
       ∙ ap (λ digest. parent_digest hash (insert (get_or path l [] ∷ []) (i / 2 ^ l % 2) digest)) at ∙ step.1 in
       let rest = ends_from d (suc l) step.0 (omega arith) up in
       let more : drop l path ≡ get_or path l [] ∷ drop (suc l) path =
@@ -58,18 +58,18 @@ module _ (hash : HashFunction) (size i : ℕ) (leaf : List ℕ) (path : List (Li
       (inclusion_walk hash (present path) i (size - 1) leaf ≡ Some (0, end))
   ends =
       let e = ends_from (levels (log_shape size)) 0 leaf (omega arith)
-      (leaf_reached size hash (opening_of i (leaf_row leaf) path) leaf refl) in
+      (leaf_reached size hash (opening_of i (leaf_row_set leaf) path) leaf refl) in
       let first : i / 2 ^ 0 ≡ i = omega arith in
       let last : (size - 1) / 2 ^ 0 ≡ size - 1 = omega arith in
       (e.0, e.1, rw (first, last) at e.2)
 
   pub accepted_if_included : (root : List ℕ) →
-      IsAccepted (log_params hash size) (root_cap root) (opening_of i (leaf_row leaf) path)
+      IsAccepted (log_params hash size) (root_cap root) (opening_of i (leaf_row_set leaf) path)
       ↔ IsIncluded hash i size leaf (present path) root
   accepted_if_included root =
       let s = log_shape size in
       let t = levels s in
-      let o = opening_of i (leaf_row leaf) path in
+      let o = opening_of i (leaf_row_set leaf) path in
       let top : ancestor s t i ≡ 0 =
       ancestor_of_two size t i ∙ div-eq_of_lt (omega (arith, root_covers size)) in (
         λ accepted.

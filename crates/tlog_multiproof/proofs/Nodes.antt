@@ -18,7 +18,7 @@ use Rattle.tlog.proofs.Layers.{above, itself, length-above, only_at, pair_at}
 use Rattle.tlog_tree.specs.Inner.Layers.{layer_of}
 use Rattle.tlog_tree.proofs.Paths.{layer_next, layer_value}
 use Rattle.tlog_multiproof.specs.Nodes.{parent_digest}
-use Rattle.tlog_multiproof.specs.Instance.{IsFilled, root_cap, log_batch, log_params, log_functions, log_shape}
+use Rattle.tlog_multiproof.specs.Instance.{IsLogDigest, root_cap, log_batch, log_params, log_functions, log_shape}
 use Rattle.tlog_multiproof.specs.declared.tree.Node.{Node}
 use Rattle.tlog_multiproof.specs.declared.tree.Node.TheVariants.{Absent, Hash}
 use Rattle.tlog_multiproof.proofs.Shapes.{root_covers, tallest, one_column, two_is_arity}
@@ -112,7 +112,7 @@ module _ (hash : HashFunction) (leaves : List (List ℕ)) (some : 0 < length lea
       node_in_layer l j low (slot_inside hash l j leaves inside)
       ∙ ap (λ value. Hash value ∷ []) (layer_is_mth hash l j leaves inside)
 
-  pub node_filled : (l j : ℕ) → l ≤ levels (log_shape (length leaves)) → IsFilled (length leaves) l j (node_of l j)
+  pub node_filled : (l j : ℕ) → l ≤ levels (log_shape (length leaves)) → IsLogDigest (length leaves) l j (node_of l j)
   node_filled l j low = record {
     node = λ inside. (mth hash itself (take (2 ^ l) (drop (j * 2 ^ l) leaves)), node_is_mth l j low inside);
     padding = padding_is_absent l j low;

@@ -9,7 +9,7 @@ use Rattle.std.proofs.lemmas.List.Elements.{filter-append}
 use Rattle.std.proofs.lemmas.Nat.{pow_pos}
 use Rattle.std.proofs.Math.Nat.{le-div_iff_mul-le}
 use Rattle.tlog_multiproof.specs.Entries.{digests_refusal, is_node, with_padding}
-use Rattle.tlog_multiproof.specs.Instance.{AreFilled}
+use Rattle.tlog_multiproof.specs.Instance.{AreLogDigests}
 use Rattle.tlog_multiproof.specs.declared.error.EntriesError.TheVariants.{TooFewDigests}
 use Rattle.tlog_multiproof.specs.declared.tree.Node.{Node}
 use Rattle.tlog_multiproof.specs.declared.tree.Node.TheVariants.{Absent, Hash}
@@ -128,7 +128,7 @@ too_few size slots proof i used digests h t all w =
 
 -- the digests are filled by the count, where the proof has one for each node
 pub padded_filled : (size : ℕ) (slots : List (ℕ × ℕ)) (proof : List (List ℕ)) →
-    length proof ≡ length (filter (is_node size) slots) → AreFilled size slots (with_padding size slots proof)
+    length proof ≡ length (filter (is_node size) slots) → AreLogDigests size slots (with_padding size slots proof)
 padded_filled size [] proof e = tt
 padded_filled size ((l, j) ∷ slots) proof e =
     let rest = filter (is_node size) slots in
@@ -159,7 +159,7 @@ padded_filled size ((l, j) ∷ slots) proof e =
           )
     ]
 
-pub filled_length : (size : ℕ) (slots : List (ℕ × ℕ)) (digests : List (List Node)) → AreFilled size slots digests →
+pub filled_length : (size : ℕ) (slots : List (ℕ × ℕ)) (digests : List (List Node)) → AreLogDigests size slots digests →
     length digests ≡ length slots
 filled_length size [] [] w = refl
 filled_length size [] (digest ∷ digests) w = absurd w

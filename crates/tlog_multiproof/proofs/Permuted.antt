@@ -21,7 +21,7 @@ use Rattle.tlog.specs.Rfc9162.{Hash as HashFunction}
 use Rattle.tlog_multiproof.specs.Instance.{nodes_at}
 use Rattle.tlog_multiproof.specs.Entries.{entries_opening, entries_refusal, form_refusal, is_node}
 use Rattle.tlog_multiproof.specs.Entries.{is_one_leaf_each, proof_nodes, with_padding}
-use Rattle.tlog_multiproof.specs.Instance.{leaf_row, log_functions, log_params, log_shape}
+use Rattle.tlog_multiproof.specs.Instance.{leaf_row_set, log_functions, log_params, log_shape}
 use Rattle.tlog_multiproof.specs.Nodes.{last_word, parent_digest}
 use Rattle.tlog_multiproof.specs.declared.error.EntriesError.{EntriesError}
 use Rattle.tlog_multiproof.specs.declared.tree.Node.{Node}
@@ -159,17 +159,17 @@ module _ (size : ℕ) (indices : List ℕ) (leaves : List (List ℕ)) (others : 
         × (restored_node (log_params hash size) (entries_opening size keys xs proof) 0 j ≡ Hash (get_or xs k []) ∷ [])
     leaf_of keys xs j same c =
         let p = entries_opening size keys xs proof in
-        let u = rows_under_is s keys (map leaf_row xs) 0 j (length-map xs leaf_row ∙ same) c in
+        let u = rows_under_is s keys (map leaf_row_set xs) 0 j (length-map xs leaf_row_set ∙ same) c in
         let leaf = get_or xs u.0 [] in
-        let row : first_rows (λ i. ancestor s 0 i == j) p ≡ leaf_row leaf =
-        u.3 ∙ get_or-map leaf_row xs u.0 [] [] (let k = u.1 in omega arith) in
+        let row : first_rows (λ i. ancestor s 0 i == j) p ≡ leaf_row_set leaf =
+        u.3 ∙ get_or-map leaf_row_set xs u.0 [] [] (let k = u.1 in omega arith) in
         let whole : get_or keys u.0 0 / 2 ^ 0 ≡ get_or keys u.0 0 = omega arith in (
           u.0,
           u.1,
           sym whole ∙ sym (ancestor_of_two size 0 (get_or keys u.0 0)) ∙ u.2,
           restored_leaf (log_functions hash) s (levels s) p j
               ∙ ap last_word (ap (λ rows. layer_words s rows 0) row
-              ∙ leaf_words s two_is_arity size (one_column size) (leaf_row leaf) refl),
+              ∙ leaf_words s two_is_arity size (one_column size) (leaf_row_set leaf) refl),
         )
 
     leaf_same : (j : ℕ) → is_covered s indices 0 j ≡ true → value 0 j ≡ other_value 0 j

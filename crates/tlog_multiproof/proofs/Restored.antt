@@ -22,8 +22,8 @@ use Rattle.p3_merkle_core.proofs.Shapes.OneHeight.{full_group, no_rows_above}
 use Rattle.tlog.specs.Rfc9162.{Hash as HashFunction, node_hash}
 use Rattle.tlog.specs.Verdicts.{IsIncluded, size_limit}
 use Rattle.tlog_multiproof.specs.Nodes.{last_word, parent_digest}
-use Rattle.tlog_multiproof.specs.Instance.{sibling_slot, AreFilled}
-use Rattle.tlog_multiproof.specs.Instance.{IsFilled, leaf_row, log_functions, log_params, log_shape, present, root_cap}
+use Rattle.tlog_multiproof.specs.Instance.{root_cap, sibling_slot, AreLogDigests}
+use Rattle.tlog_multiproof.specs.Instance.{IsLogDigest, leaf_row_set, log_functions, log_params, log_shape, present}
 use Rattle.tlog_multiproof.specs.declared.tree.Node.{Node}
 use Rattle.tlog_multiproof.specs.declared.tree.Node.TheVariants.{Absent, Hash}
 use Rattle.tlog_multiproof.proofs.Shapes.{ancestor_of_two, one_column, one_level_sibling, one_sibling, step_of_two}
@@ -33,8 +33,8 @@ use Rattle.tlog_multiproof.proofs.Included.{accepted_if_included}
 
 -- what is found for a slot that is listed
 found_filled : (size l j : ℕ) (slots : List (ℕ × ℕ)) (digests : List (List Node)) (d : List Node) →
-    AreFilled size slots digests → is_in slots l j ≡ true →
-    IsFilled size l j (unwrap_or (option_map (λ (slot, digest). digest)
+    AreLogDigests size slots digests → is_in slots l j ≡ true →
+    IsLogDigest size l j (unwrap_or (option_map (λ (slot, digest). digest)
     (find (λ ((m, k), digest). eqb m l && eqb k j) (zip slots digests))) d)
 found_filled size l j [] [] d w e = absurd (true≢false (sym e))
 found_filled size l j [] (digest ∷ digests) d w e = absurd (true≢false (sym e))
@@ -51,7 +51,7 @@ found_filled size l j ((m, k) ∷ slots) (digest ∷ digests) d w e =
 
 -- the parent of a group of two, the first of which is there
 parent_there : (hash : HashFunction) (size l i j : ℕ) (left right : List Node) → i * 2 ^ l < size →
-    IsFilled size l i left → IsFilled size l j right →
+    IsLogDigest size l i left → IsLogDigest size l j right →
     (value : List ℕ) × (parent_digest hash (left ∷ right ∷ []) ≡ Hash value ∷ [])
 parent_there hash size l i j left right inside first second =
     let a = first.node inside in
@@ -62,12 +62,12 @@ parent_there hash size l i j left right inside first second =
 
 module _ (hash : HashFunction) (size : ℕ) (indices : List ℕ) (leaves : List (List ℕ)) (digests : List (List Node))
     (below : All (λ i. i < size) indices) (paired : length leaves ≡ length indices)
-    (filled : AreFilled size (boundary (log_shape size) indices (levels (log_shape size))) digests) where
+    (filled : AreLogDigests size (boundary (log_shape size) indices (levels (log_shape size))) digests) where
   abbrev top : ℕ
   top = levels (log_shape size)
 
   abbrev p : PrunedOpening Node Node
-  p = pruned_of indices (map leaf_row leaves) digests
+  p = pruned_of indices (map leaf_row_set leaves) digests
 
   abbrev value : ℕ → ℕ → List Node
   value = value_of (log_params hash size) p
@@ -76,7 +76,7 @@ module _ (hash : HashFunction) (size : ℕ) (indices : List ℕ) (leaves : List 
   pub child_filled : (l j k : ℕ) → l < top → is_covered (log_shape size) indices (suc l) j ≡ true → k < 2 →
       (is_covered (log_shape size) indices l (2 * j + k) ≡ true →
       (hash_value : List ℕ) × (restored_node (log_params hash size) p l (2 * j + k) ≡ Hash hash_value ∷ [])) →
-      IsFilled size l (2 * j + k) (value l (2 * j + k))
+      IsLogDigest size l (2 * j + k) (value l (2 * j + k))
   child_filled l j k low covered two there =
       let s = log_shape size in
       let c = log_params hash size in
@@ -103,14 +103,14 @@ module _ (hash : HashFunction) (size : ℕ) (indices : List ℕ) (leaves : List 
       (hash_value : List ℕ) × (restored_node (log_params hash size) p l j ≡ Hash hash_value ∷ [])
   there zero j low covered =
       let s = log_shape size in
-      let u = rows_under_is s indices (map leaf_row leaves) 0 j (length-map leaves leaf_row ∙ paired) covered in
+      let u = rows_under_is s indices (map leaf_row_set leaves) 0 j (length-map leaves leaf_row_set ∙ paired) covered in
       let leaf = get_or leaves u.0 [] in
-      let row : first_rows (λ i. ancestor s 0 i == j) p ≡ leaf_row leaf =
-      u.3 ∙ get_or-map leaf_row leaves u.0 [] [] (let k = u.1 in omega arith) in (
+      let row : first_rows (λ i. ancestor s 0 i == j) p ≡ leaf_row_set leaf =
+      u.3 ∙ get_or-map leaf_row_set leaves u.0 [] [] (let k = u.1 in omega arith) in (
         leaf,
         restored_leaf (log_functions hash) s top p j
             ∙ ap last_word (ap (λ rows. layer_words s rows 0) row
-            ∙ leaf_words s two_is_arity size (one_column size) (leaf_row leaf) refl),
+            ∙ leaf_words s two_is_arity size (one_column size) (leaf_row_set leaf) refl),
       )
   there (suc l) j low covered =
       let s = log_shape size in
@@ -148,8 +148,8 @@ module _ (hash : HashFunction) (size : ℕ) (indices : List ℕ) (leaves : List 
       let i = get_or indices k 0 in
       let leaf = get_or leaves k [] in
       let path = restored_path (log_params hash size) p i in
-      let row : get_or (map leaf_row leaves) k [] ≡ leaf_row leaf =
-      get_or-map leaf_row leaves k [] [] (omega arith) in
+      let row : get_or (map leaf_row_set leaves) k [] ≡ leaf_row_set leaf =
+      get_or-map leaf_row_set leaves k [] [] (omega arith) in
       rw row (accepted_if_included hash size i leaf path (below k 0 inside) small
       (record {
         count = path_length (log_shape size) two_is_arity value i top ∙ one_sibling size top;

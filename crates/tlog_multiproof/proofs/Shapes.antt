@@ -22,7 +22,7 @@ use Rattle.p3_merkle_core.proofs.Checks.Completeness.{reached_leaf, reached_next
 use Rattle.tlog.specs.Rfc9162.{Hash as HashFunction}
 use Rattle.tlog.specs.Verdicts.{size_limit}
 use Rattle.tlog_multiproof.specs.Nodes.{last_word, parent_digest}
-use Rattle.tlog_multiproof.specs.Instance.{leaf_row, log_functions, log_shape, sibling_slot}
+use Rattle.tlog_multiproof.specs.Instance.{leaf_row_set, log_functions, log_shape, sibling_slot}
 use Rattle.tlog_multiproof.specs.declared.tree.Node.{Node}
 use Rattle.tlog_multiproof.specs.declared.tree.Node.TheVariants.{Hash}
 
@@ -103,12 +103,12 @@ module _ (size : ℕ) where
 
   module _ (hash : HashFunction) (o : Opening Node Node) where
     -- the leaf
-    pub leaf_reached : (leaf : List ℕ) → o.rows ≡ leaf_row leaf →
+    pub leaf_reached : (leaf : List ℕ) → o.rows ≡ leaf_row_set leaf →
         path_digest (log_functions hash) (log_shape size) o 0 ≡ Hash leaf ∷ []
     leaf_reached leaf is =
         reached_leaf (log_functions hash) (log_shape size) o
         ∙ ap last_word (ap (λ rows. layer_words (log_shape size) rows 0) is
-        ∙ leaf_words (log_shape size) two_is_arity size one_column (leaf_row leaf) refl)
+        ∙ leaf_words (log_shape size) two_is_arity size one_column (leaf_row_set leaf) refl)
 
     -- each other digest is that of a group
     pub next_reached : (l : ℕ) → l < levels (log_shape size) → l < length o.siblings →

@@ -30,7 +30,7 @@ use Rattle.tlog.specs.Rfc9162.{Hash as HashFunction}
 use Rattle.tlog.specs.Verdicts.{inclusion_refusal}
 use Rattle.tlog_multiproof.specs.Entries.{AreIncluded, entries_opening, entries_refusal, entry_path, form_refusal}
 use Rattle.tlog_multiproof.specs.Entries.{is_node, is_one_leaf_each}
-use Rattle.tlog_multiproof.specs.Instance.{AreFilled, leaf_row, log_functions, log_params, log_shape, root_cap}
+use Rattle.tlog_multiproof.specs.Instance.{AreLogDigests, leaf_row_set, log_functions, log_params, log_shape, root_cap}
 use Rattle.tlog_multiproof.specs.Inner.Meanings.{IsMeaning}
 use Rattle.tlog_multiproof.specs.declared.error.EntriesError.{EntriesError}
 use Rattle.tlog_multiproof.specs.declared.error.EntriesError.TheVariants.{TwoLeafHashes, RootMismatch}
@@ -99,16 +99,18 @@ module _ (hash : HashFunction) (size : ℕ) (indices : List ℕ) (leaves proof :
   some : 0 < size
   some = omega (arith, form.highest)
 
-  filled : AreFilled size (boundary s indices (levels s)) p.digests
+  filled : AreLogDigests size (boundary s indices (levels s)) p.digests
   filled =
       let slots = boundary s indices (levels s) in
       padded_filled size slots proof (form.count ∙ as_many (filter (is_node size) slots))
 
-  row : (a : ℕ) → a < length indices → get_or p.rows a [] ≡ leaf_row (get_or leaves a [])
-  row a h = let inside : a < length leaves = omega (arith, form.in_pairs) in get_or-map leaf_row leaves a [] [] inside
+  row : (a : ℕ) → a < length indices → get_or p.rows a [] ≡ leaf_row_set (get_or leaves a [])
+  row a h =
+      let inside : a < length leaves = omega (arith, form.in_pairs) in
+      get_or-map leaf_row_set leaves a [] [] inside
 
   -- above the leaves no rows are looked at
-  no_rows : (leaf : List ℕ) (l : ℕ) → 0 < l → l ≤ levels s → layer_rows s (leaf_row leaf) l ≡ []
+  no_rows : (leaf : List ℕ) (l : ℕ) → 0 < l → l ≤ levels s → layer_rows s (leaf_row_set leaf) l ≡ []
   no_rows leaf l up le =
       let none = or_nothing (eqb (exponent size) (layer_exponent s l))
       (no_rows_above s two_is_arity size (one_column size) l up le) in rw none refl
@@ -119,11 +121,11 @@ module _ (hash : HashFunction) (size : ℕ) (indices : List ℕ) (leaves proof :
     below = rw (tallest size) (all_below size indices form.highest);
     count = filled_length size (boundary s indices (levels s)) p.digests filled;
     rows_fit = λ k d h.
-        let inside : k < length leaves = omega (arith, length-map leaves leaf_row) in
-        rw (get_or-map leaf_row leaves k [] d inside) refl;
+        let inside : k < length leaves = omega (arith, length-map leaves leaf_row_set) in
+        rw (get_or-map leaf_row_set leaves k [] d inside) refl;
     agreed = record {
-      in_pairs = length-map leaves leaf_row ∙ form.in_pairs;
-      repeats = λ a b h g same. row a h ∙ ap leaf_row (one a b h g same) ∙ sym (row b g);
+      in_pairs = length-map leaves leaf_row_set ∙ form.in_pairs;
+      repeats = λ a b h g same. row a h ∙ ap leaf_row_set (one a b h g same) ∙ sym (row b g);
       groups = λ l. elim l as (λ l. (a b : ℕ) → l ≤ levels s → a < length indices → b < length indices →
           ancestor s l (get_or indices a 0) ≡ ancestor s l (get_or indices b 0) →
           layer_rows s (get_or p.rows a []) l ≡ layer_rows s (get_or p.rows b []) l) [
@@ -135,7 +137,7 @@ module _ (hash : HashFunction) (size : ℕ) (indices : List ℕ) (leaves proof :
                   ancestor_of_two size 0 (get_or indices a 0),
                   ancestor_of_two size 0 (get_or indices b 0),
                 ) in
-                ap (λ rows. layer_rows s rows 0) (row a h ∙ ap leaf_row (one a b h g alone) ∙ sym (row b g))
+                ap (λ rows. layer_rows s rows 0) (row a h ∙ ap leaf_row_set (one a b h g alone) ∙ sym (row b g))
             | suc l ↦ λ a b le h g same.
                 rw (row a h, row b g) (no_rows (get_or leaves a []) (suc l) (omega arith) le
                 ∙ sym (no_rows (get_or leaves b []) (suc l) (omega arith) le))
@@ -145,7 +147,7 @@ module _ (hash : HashFunction) (size : ℕ) (indices : List ℕ) (leaves proof :
 
   one_leaf : IsRestorable s (levels s) p → HaveOneLeaf indices leaves
   one_leaf w a b h g same =
-      let e : leaf_row (get_or leaves a []) ≡ leaf_row (get_or leaves b []) =
+      let e : leaf_row_set (get_or leaves a []) ≡ leaf_row_set (get_or leaves b []) =
       sym (row a h) ∙ w.agreed.repeats a b h g same ∙ row b g in cc
 
   -- ---- acceptance
@@ -181,7 +183,7 @@ module _ (hash : HashFunction) (size : ℕ) (indices : List ℕ) (leaves proof :
         let why = λ (x : ℕ × List (List Node)).
         MalformedPrunedProof (InconsistentDuplicateOpenings (slot_of indices x.0)) in
         let test = λ (x : ℕ × List (List Node)). pointwise (pointwise row_eq) x.1 (rows_of p x.0) in
-        let paired : length p.rows ≡ length indices = length-map leaves leaf_row ∙ form.in_pairs in
+        let paired : length p.rows ≡ length indices = length-map leaves leaf_row_set ∙ form.in_pairs in
         let gate = (gate_lawful (heights s)).1 (lawful size some form.small) in
         let sizes = size_none (length indices) (length p.rows) (sym paired) in
         let idle = cond-false (eqb (length indices) 0) (digest_count_refusal 0 (length p.digests)) None
@@ -199,7 +201,7 @@ module _ (hash : HashFunction) (size : ℕ) (indices : List ℕ) (leaves proof :
               (unless_none (test (get_or indices k 0, get_or p.rows k []))
               (why (get_or indices k 0, get_or p.rows k []))
               (paired_none (λ x. unless (test x) (why x)) indices p.rows k [] none paired l)) in
-              let e : leaf_row (get_or leaves a []) ≡ leaf_row (get_or leaves b []) =
+              let e : leaf_row_set (get_or leaves a []) ≡ leaf_row_set (get_or leaves b []) =
               sym (row a h) ∙ first a h ∙ ap (rows_of p) same ∙ sym (first b g) ∙ row b g in cc))
           | inr q ↦
               let is = unless_some (test q.0) (why q.0) q.1 q.2 in

@@ -7,7 +7,7 @@ use Rattle.std.proofs.Math.Nat.{div-div-eq-div-mul, div-le_self, div-mul-le_self
 use Rattle.tlog.specs.Rfc9162.{Hash as HashFunction, inclusion_walk, node_hash}
 use Rattle.tlog.proofs.Climbs.{inclusion_even, inclusion_odd, inclusion_skip}
 use Rattle.tlog_multiproof.specs.Nodes.{parent_digest}
-use Rattle.tlog_multiproof.specs.Instance.{sibling_slot, IsFilled, present}
+use Rattle.tlog_multiproof.specs.Instance.{sibling_slot, IsLogDigest, present}
 use Rattle.tlog_multiproof.specs.declared.tree.Node.{Node}
 use Rattle.tlog_multiproof.specs.declared.tree.Node.TheVariants.{Absent, Hash}
 
@@ -52,14 +52,14 @@ half_of n l = ap (λ p. n / p) (pow-suc 2 l) ∙ sym (div-div-eq-div-mul n (2 ^ 
 
 -- a level of a log of so many entries
 pub level_passed : (hash : HashFunction) (path : List (List Node)) (digest : List Node) (size i l : ℕ) (r : List ℕ) →
-    i < size → size ≤ 2 ^ 62 → 2 ^ l < size → IsFilled size l (sibling_slot i l) digest →
+    i < size → size ≤ 2 ^ 62 → 2 ^ l < size → IsLogDigest size l (sibling_slot i l) digest →
     IsPassed hash path digest (i / 2 ^ l) ((size - 1) / 2 ^ l) r
 level_passed hash path digest size i l r inside small more filled =
     let k = 2 ^ l in
     let pos : 0 < k = pow_pos l in
     let slot : sibling_slot i l ≡ 2 * (i / k / 2) + (1 - i / k % 2) =
     ap (λ j. 2 * j + (1 - i / k % 2)) (half_of i l) in
-    let w : IsFilled size l (2 * (i / k / 2) + (1 - i / k % 2)) digest = rw slot at filled in
+    let w : IsLogDigest size l (2 * (i / k / 2) + (1 - i / k % 2)) digest = rw slot at filled in
     passed hash path digest (i / k) ((size - 1) / k) r
     ((le-div_iff_mul-le pos).1 (omega arith))
     ((le-div_iff_mul-le pos).1 (omega (arith, div-mul-le_self i k)))

@@ -11,7 +11,7 @@ use Rattle.p3_answers.specs.Answers.{first_of, first_some, unless}
 use Rattle.tlog.specs.Rfc9162.{Hash as HashFunction}
 use Rattle.tlog.specs.Verdicts.{IsIncluded, inclusion_refusal, is_same, size_limit}
 use Rattle.tlog_tree.specs.declared.node_id.NodeId.{NodeId}
-use Rattle.tlog_multiproof.specs.Instance.{leaf_row, log_params, log_shape, nodes_at, present}
+use Rattle.tlog_multiproof.specs.Instance.{leaf_row_set, log_params, log_shape, nodes_at, present}
 use Rattle.tlog_multiproof.specs.declared.tree.Node.{Node}
 use Rattle.tlog_multiproof.specs.declared.tree.Node.TheVariants.{Absent, Hash}
 use Rattle.tlog_multiproof.specs.declared.error.EntriesError.{EntriesError}
@@ -41,7 +41,7 @@ with_padding size (slot ∷ slots) proof =
 abbrev pub entries_opening : ℕ → List ℕ → List (List ℕ) → List (List ℕ) → PrunedOpening Node Node
 entries_opening size indices leaves proof =
     let s = log_shape size in
-    pruned_of indices (map leaf_row leaves) (with_padding size (boundary s indices (levels s)) proof)
+    pruned_of indices (map leaf_row_set leaves) (with_padding size (boundary s indices (levels s)) proof)
 
 -- the proof of inclusion of one entry, as the leaf hashes and the digests give it
 abbrev pub entry_path : HashFunction → ℕ → List ℕ → List (List ℕ) → List (List ℕ) → ℕ → List (List ℕ)

@@ -24,14 +24,15 @@ log_dimensions size = record { width = 1; height = size } ∷ []
 abbrev pub log_shape : ℕ → Shape
 log_shape size = shape_of 2 (log_dimensions size)
 
--- a node of the log's tree as a slot of this one: its layer, and its slot there
+-- a node of the log's tree as a slot of the tree of arity 2: the layer, and the slot in it
 abbrev pub slot_of : NodeId → ℕ × ℕ
 slot_of node = (node.layer, node.slot)
 
+-- the slot of each of these nodes, in order
 abbrev pub slots_of : List NodeId → List (ℕ × ℕ)
 slots_of nodes = map slot_of nodes
 
--- slots of this tree as nodes of the log's
+-- slots of the tree of arity 2, each a layer and a slot in it, as nodes of the log's tree
 abbrev pub nodes_at : List (ℕ × ℕ) → List NodeId
 nodes_at slots = map (λ (layer, slot). id_of layer slot) slots
 
@@ -43,9 +44,9 @@ log_params hash size = params (log_functions hash) (log_shape size) (levels (log
 abbrev pub root_cap : List ℕ → List (List Node)
 root_cap root = (Hash root ∷ []) ∷ []
 
--- the row of an entry, by its leaf hash
-abbrev pub leaf_row : List ℕ → List (List Node)
-leaf_row leaf = (Hash leaf ∷ []) ∷ []
+-- the row set of an entry: one row, which has its leaf hash alone
+abbrev pub leaf_row_set : List ℕ → List (List Node)
+leaf_row_set leaf = (Hash leaf ∷ []) ∷ []
 
 -- the hash of a word, if there is one
 abbrev pub hash_in : Node → List (List ℕ)
@@ -57,25 +58,25 @@ abbrev pub present : List (List Node) → List (List ℕ)
 present digests = flat_map (λ digest. flat_map hash_in digest) digests
 
 -- a digest of slot j of layer l in a log of so many entries: one hash where the slot has entries below it, else absent
-pub record IsFilled (size l j : ℕ) (digest : List Node) : Type 0 where
+pub record IsLogDigest (size l j : ℕ) (digest : List Node) : Type 0 where
   pub node : j * 2 ^ l < size → (value : List ℕ) × (digest ≡ Hash value ∷ [])
   pub padding : size ≤ j * 2 ^ l → digest ≡ Absent ∷ []
 
 -- a digest for each of these slots (layer, slot), in order
-abbrev pub AreFilled : ℕ → List (ℕ × ℕ) → List (List Node) → Type 0
-AreFilled size [] [] = Unit {0}
-AreFilled size ((l, j) ∷ slots) (digest ∷ digests) = IsFilled size l j digest × AreFilled size slots digests
-AreFilled size slots digests = ⊥
+abbrev pub AreLogDigests : ℕ → List (ℕ × ℕ) → List (List Node) → Type 0
+AreLogDigests size [] [] = Unit {0}
+AreLogDigests size ((l, j) ∷ slots) (digest ∷ digests) = IsLogDigest size l j digest × AreLogDigests size slots digests
+AreLogDigests size slots digests = ⊥
 
 -- the slot of the sibling of leaf i's ancestor in layer l
 abbrev pub sibling_slot : ℕ → ℕ → ℕ
 sibling_slot i l = 2 * (i / 2 ^ suc l) + (1 - i / 2 ^ l % 2)
 
 -- a digest for each sibling of leaf i up to the root
-pub record IsPathFilled (size i : ℕ) (path : List (List Node)) : Type 0 where
+pub record IsLogPath (size i : ℕ) (path : List (List Node)) : Type 0 where
   pub count : length path ≡ levels (log_shape size)
   pub each : (l : ℕ) → l < levels (log_shape size) →
-      IsFilled size l (sibling_slot i l) (slice_index_or path l [])
+      IsLogDigest size l (sibling_slot i l) (slice_index_or path l [])
 
 -- a log's leaf hashes as a matrix of one column
 abbrev pub log_batch : List (List ℕ) → Batch Node

@@ -13,8 +13,8 @@ use Rattle.tlog.specs.Rfc9162.{Hash as HashFunction, leaf_hash, path_of, root_of
 use Rattle.tlog.specs.Verdicts.{IsIncluded, size_limit}
 use Rattle.std.specs.List.Sorted.{IsPermutation}
 use Rattle.tlog_multiproof.specs.Entries.{entries_refusal, proof_nodes}
-use Rattle.tlog_multiproof.specs.Instance.{AreFilled, IsPathFilled, slots_of}
-use Rattle.tlog_multiproof.specs.Instance.{leaf_row, log_batch, log_functions, log_params, log_shape, present, root_cap}
+use Rattle.tlog_multiproof.specs.Instance.{root_cap, AreLogDigests, IsLogPath, slots_of}
+use Rattle.tlog_multiproof.specs.Instance.{leaf_row_set, log_batch, log_functions, log_params, log_shape, present}
 use Rattle.tlog_multiproof.specs.declared.tree.Node.{Node}
 use Rattle.tlog_multiproof.specs.declared.tree.Node.TheVariants.{Absent, Hash}
 
@@ -50,8 +50,8 @@ SiblingsArePath = (hash : HashFunction) (D : List (List ℕ)) (m : ℕ) → m < 
 -- an opening is accepted exactly if the algorithm of 2.1.3.2 accepts its siblings that are there
 abbrev pub OpeningIsInclusion : Type 0
 OpeningIsInclusion = (hash : HashFunction) (size index : ℕ) (leaf : List ℕ) (path : List (List Node)) (root : List ℕ) →
-    index < size → size ≤ size_limit → IsPathFilled size index path →
-    IsAccepted (log_params hash size) (root_cap root) (opening_of index (leaf_row leaf) path)
+    index < size → size ≤ size_limit → IsLogPath size index path →
+    IsAccepted (log_params hash size) (root_cap root) (opening_of index (leaf_row_set leaf) path)
     ↔ IsIncluded hash index size leaf (present path) root
 
 -- ---- several entries
@@ -61,7 +61,7 @@ OpeningIsInclusion = (hash : HashFunction) (size index : ℕ) (leaf : List ℕ) 
 pub record RestoredArePaths : Type 0 where
   pub filled : (hash : HashFunction) (D : List (List ℕ)) (indices : List ℕ) → 0 < length D →
       let s = log_shape (length D) in
-      AreFilled (length D) (boundary s indices (levels s))
+      AreLogDigests (length D) (boundary s indices (levels s))
       (honest_query (log_functions hash) (entries_batch hash D) (levels s) indices).digests
   pub paths : (hash : HashFunction) (D : List (List ℕ)) (indices : List ℕ) (k : ℕ) → length D ≤ size_limit →
       All (λ i. i < length D) indices → k < length indices → let i = slice_index indices k in
@@ -75,9 +75,9 @@ abbrev pub QueryIsInclusion : Type 0
 QueryIsInclusion = (hash : HashFunction) (size : ℕ) (indices : List ℕ) (leaves : List (List ℕ))
     (digests : List (List Node)) (root : List ℕ) (k : ℕ) → size ≤ size_limit → All (λ i. i < size) indices →
     length leaves ≡ length indices →
-    AreFilled size (boundary (log_shape size) indices (levels (log_shape size))) digests → k < length indices →
+    AreLogDigests size (boundary (log_shape size) indices (levels (log_shape size))) digests → k < length indices →
     let c = log_params hash size in
-    let p = pruned_of indices (map leaf_row leaves) digests in
+    let p = pruned_of indices (map leaf_row_set leaves) digests in
     let i = slice_index indices k in
     IsAccepted c (root_cap root) (opening_at c p k)
     ↔ IsIncluded hash i size (slice_index_or leaves k []) (present (restored_path c p i)) root

@@ -30,16 +30,16 @@ pub trait AscendingEntries {
     // The leaf hashes.
     ghost leaves: { Self → List (List ℕ) };
 
-    /// How many there are.
+    /// How many entries there are.
     fn len(&self) -> usize
         ensures { result ≡ length (indices self.now) };
 
-    /// The index of entry `k` of these.
+    /// The index of entry `k`, counted from 0.
     fn index(&self, k: usize) -> usize
         requires { k < length (indices self.now) }
         ensures { result ≡ slice_index (indices self.now) k };
 
-    /// The leaf hash of entry `k` of these.
+    /// The leaf hash of entry `k`.
     fn leaf(&self, k: usize) -> [u8; 32]
         requires { k < length (indices self.now) }
         ensures { result ≡ slice_index_or (leaves self.now) k [] };
@@ -134,7 +134,7 @@ fn verify<H: LogHash<32>, E: AscendingEntries>(
     check_root(value, root)
 }
 
-/// Checks that this is the value of a root.
+/// Checks that `value`, that of the top node, is the hash `root`, else `RootMismatch`.
 fn check_root(value: Node, root: &[u8; 32]) -> Result<(), EntriesError>
     ensures { MatchResult result (λ ok. value ≡ Hash root.now)
         (λ e. (e ≡ RootMismatch) × (value ≢ Hash root.now)) }
@@ -146,7 +146,7 @@ fn check_root(value: Node, root: &[u8; 32]) -> Result<(), EntriesError>
     }
 }
 
-/// Ahead of all entries.
+/// The cursor ahead of all entries, before a digest is used.
 fn start() -> Cursor
     ensures next { result.next ≡ 0 }
     ensures used { (m : ℕ) → slice_index result.used m ≡ 0 }
@@ -166,7 +166,9 @@ fn levels_of(size: usize) -> usize
     schedule_of(&dimensions_of(size), 2).num_levels
 }
 
-/// For each layer, how many digests a proof of the entries has of those below it; and how many it has.
+/// For each layer below `top`, how many digests a proof of `entries` has of the layers below it; and how many digests
+/// it has in all. `size` is that of the log, at most 2^62, and `top` how many layers it has above the leaves. There
+/// must be an entry, and each index must be below `size`.
 fn starts_of<E: AscendingEntries>(size: usize, top: usize, entries: &E) -> ([usize; 64], usize)
     requires limit { size ≤ size_limit }
     requires some { 0 < length (E.indices entries.now) }
@@ -187,7 +189,7 @@ fn starts_of<E: AscendingEntries>(size: usize, top: usize, entries: &E) -> ([usi
     (starts, total)
 }
 
-/// Whether no index has two leaf hashes.
+/// Whether entries of one index have one leaf hash.
 fn is_one_leaf_each<E: AscendingEntries>(entries: &E) -> bool
     ensures { result ≡ is_one_leaf_each (zip (E.indices entries.now) (E.leaves entries.now)) }
 {
@@ -199,9 +201,10 @@ fn is_one_leaf_each<E: AscendingEntries>(entries: &E) -> bool
     true
 }
 
-/// The value of a node of layer `layer` that is above entries, or whose digest the proof has: the leaf hash of an
-/// entry, the hash of its children, or that digest. `Absent` without the digests: the walk then counts them. It goes
-/// from the first of the entries that are not passed, past all that are under the node.
+/// The value of the node `slot` of layer `layer`: the next digest of the layer if no entry is under the node; else at
+/// layer 0 the leaf hash of the entry, and above it the hash of the node's children. Without `sent` the value is
+/// `Absent`, and the walk only counts the digests. The node must be above an entry, or one whose digest the proof has.
+/// `cursor` must be at the first entry that is not left of the node, and is then past all entries under the node.
 fn walk<H: LogHash<32>, E: AscendingEntries>(
     size: usize,
     entries: &E,
@@ -246,7 +249,7 @@ fn walk<H: LogHash<32>, E: AscendingEntries>(
     parent_of::<H>(left, right)
 }
 
-/// The next digest of this layer, which is then used.
+/// The next digest of layer `layer`, which `cursor` then counts as used; `Absent` without `sent`.
 fn take_digest(sent: Option<Sent<'_>>, layer: usize, cursor: &mut Cursor) -> Node
     requires layer { layer < 64 }
     requires few { slice_index cursor.old.used layer < 2 ^ 63 }
@@ -266,7 +269,8 @@ fn take_digest(sent: Option<Sent<'_>>, layer: usize, cursor: &mut Cursor) -> Nod
     }
 }
 
-/// The leaf hash of the next entry, which is then passed with all others of its index.
+/// The leaf hash of the next entry, whose index is `index`; `Absent` without `sent`. `cursor` is then past all entries
+/// of that index.
 fn take_leaf<E: AscendingEntries>(
     entries: &E,
     sent: Option<Sent<'_>>,
@@ -288,7 +292,7 @@ fn take_leaf<E: AscendingEntries>(
     }
 }
 
-/// Whether entry `next` is under this node.
+/// Whether there is an entry `next`, and it is under the node `slot` of layer `layer`.
 fn is_above_next<E: AscendingEntries>(entries: &E, next: usize, layer: usize, slot: usize) -> bool
     requires { layer < 64 }
     ensures { (size : ℕ) → StandsAt (E.indices entries.now) (slot * 2 ^ layer) next →
@@ -297,7 +301,7 @@ fn is_above_next<E: AscendingEntries>(entries: &E, next: usize, layer: usize, sl
     next < entries.len() && entries.index(next) >> layer == slot
 }
 
-/// How many entries there are up to `first`, and up to the last after it with this index.
+/// How many entries stand ahead of the first one, from entry `first` on, whose index is not `index`.
 fn past<E: AscendingEntries>(entries: &E, first: usize, index: usize) -> usize
     requires { StandsAt (E.indices entries.now) index first }
     ensures { StandsAt (E.indices entries.now) (index + 1) result }

@@ -7,7 +7,7 @@ ghost use Rattle.std.specs.Result.{result_err};
 ghost use Rattle.p3_merkle_core.specs.Geometry.{levels};
 ghost use Rattle.p3_merkle_core.specs.Inner.Agreement.{IsAscending};
 ghost use Rattle.p3_merkle_core.specs.Pruning.{boundary};
-ghost use Rattle.p3_merkle_core.specs.Views.{pruned_made};
+ghost use Rattle.p3_merkle_core.specs.Views.{pruned_owned};
 ghost use Rattle.p3_answers.specs.Answers.{AnswersUnless};
 ghost use Rattle.p3_support.specs.Lists.{is_among};
 ghost use Rattle.p3_support.specs.Shown.{row_sets};
@@ -18,7 +18,7 @@ ghost use Rattle.tlog_multiproof.specs.Entries.{AreIncluded, digests_refusal, en
 ghost use Rattle.tlog_multiproof.specs.Entries.{indices_refusal, is_node as is_node_by, proof_nodes};
 ghost use Rattle.tlog_multiproof.specs.Entries.{with_padding as with_padding_of};
 ghost use Rattle.tlog_multiproof.specs.Inner.Siblings.{sibling};
-ghost use Rattle.tlog_multiproof.specs.Instance.{leaf_row, log_shape, slot_of, slots_of};
+ghost use Rattle.tlog_multiproof.specs.Instance.{leaf_row_set, log_shape, slot_of, slots_of};
 ghost use Rattle.tlog_multiproof.specs.declared.error.EntriesError.TheVariants.{OutOfMemory};
 
 use crate::error::EntriesError;
@@ -58,7 +58,7 @@ pub fn entry_nodes(alloc: Global, indices: &[usize], size: usize) -> Result<Vec<
     Ok(nodes)
 }
 
-/// Whether a node has entries below it; in the slot of any other is padding.
+/// Whether `node` has entries below it in a log of `size` entries, at least 1. If it has none, its slot has padding.
 pub(crate) fn is_node(size: usize, node: NodeId) -> bool
     requires some { 0 < size }
     requires layer { node.layer < 64 }
@@ -67,8 +67,9 @@ pub(crate) fn is_node(size: usize, node: NodeId) -> bool
     node.slot <= (size - 1) >> node.layer
 }
 
-/// The boundary of some entries, padding included: the siblings of entries and of nodes above entries that are neither
-/// themselves, layer by layer from the leaves, ascending.
+/// The boundary of the entries at `indices`, counted from 0, in a log of `size` entries, padding included: the siblings
+/// of entries and of nodes above entries that are neither themselves, layer by layer from the leaves, ascending. The
+/// size must be from 1 to 2^62, and each index below it. `AllocError` if memory runs out.
 fn boundary_nodes(alloc: Global, size: usize, indices: &[usize]) -> Result<Vec<NodeId>, AllocError>
     requires some { 0 < size }
     requires limit { size ≤ size_limit }
@@ -91,8 +92,8 @@ fn boundary_nodes(alloc: Global, size: usize, indices: &[usize]) -> Result<Vec<N
     Ok(nodes)
 }
 
-/// Appends, in order, each sibling of a covered slot that is not covered itself. The slots in `covered` are of `layer`,
-/// must ascend, and be below 2^64 - 1.
+/// Appends to `nodes`, in order, the sibling of each slot of `covered` that is not in `covered` itself. The slots are
+/// of layer `layer`, must ascend, and be below 2^64 - 1. `AllocError` if memory runs out.
 fn push_siblings(nodes: &mut Vec<NodeId>, layer: usize, covered: &[usize]) -> Result<(), AllocError>
     requires ascending { IsAscending covered.now }
     requires fits { All (λ slot. slot + 1 < 2 ^ 64) covered.now }
@@ -111,7 +112,7 @@ fn push_siblings(nodes: &mut Vec<NodeId>, layer: usize, covered: &[usize]) -> Re
     Ok(())
 }
 
-/// Replaces the covered slots of a layer, which ascend, by those of the layer above: their parents, each once.
+/// Replaces `covered`, ascending slots of a layer, by the slots of their parents in the layer above, each once.
 fn climb(covered: &mut Vec<usize>)
     ensures { covered.new.items ≡ dedup nat_eq (map (λ slot. slot / 2) covered.old.items) }
 {
@@ -121,7 +122,9 @@ fn climb(covered: &mut Vec<usize>)
     covered.dedup();
 }
 
-/// The opening of some entries by their leaf hashes and the digests of a proof, where padding is absent.
+/// The opening of the entries at `indices`, counted from 0, in a log of `size` entries: a row for each of `leaves`,
+/// their leaf hashes; and a digest for each boundary node, from `proof`, or `Node::Absent` where it is padding. The
+/// errors are those of [`check_form`], then those of [`with_padding`]; `OutOfMemory` may come once the form is checked.
 pub(crate) fn opening_of(
     alloc: Global,
     size: usize,
@@ -134,7 +137,7 @@ pub(crate) fn opening_of(
     ensures checked { IfSome (indices_refusal size indices.now (length leaves.now))
         (λ e. result_err result ≡ Some e) }
     ensures made { IfOk result (λ opening.
-        pruned_made indices.now opening ≡ entries_opening size indices.now leaves.now proof.now) }
+        pruned_owned indices.now opening ≡ entries_opening size indices.now leaves.now proof.now) }
 {
     check_form(size, indices, leaves.len())?;
     let nodes = boundary_nodes(alloc, size, indices)?;
@@ -145,7 +148,8 @@ pub(crate) fn opening_of(
     })
 }
 
-/// Checks the size, the indices and the number of leaf hashes.
+/// Checks the size, the indices and the number of leaf hashes. The error is the first of `SizeTooLarge`, `NoIndices`,
+/// `LeafCountMismatch` and `IndexPastEnd` that applies. It does not allocate.
 fn check_form(size: usize, indices: &[usize], num_leaves: usize) -> Result<(), EntriesError>
     ensures answer { let refusal = indices_refusal size indices.now num_leaves in
         MatchResult result (λ ok. refusal ≡ None) (λ e. refusal ≡ Some e) }
@@ -166,7 +170,9 @@ fn check_form(size: usize, indices: &[usize], num_leaves: usize) -> Result<(), E
     Ok(())
 }
 
-/// The digests of these nodes, padding included, where the proof has those of the others.
+/// For each of `nodes` its digest: the next of `proof`, or `Node::Absent` where the node is padding in a log of `size`
+/// entries, at least 1. `TooFewDigests` if `proof` ends ahead of a node's digest, `TooManyDigests` if digests are left
+/// over. `OutOfMemory` if memory runs out.
 fn with_padding(
     alloc: Global,
     size: usize,
@@ -198,9 +204,10 @@ fn with_padding(
     Ok(digests)
 }
 
-/// The rows of some entries, by their leaf hashes.
+/// For each of `leaves`, the row set of its entry: one row, which has the leaf hash alone. `AllocError` if memory runs
+/// out.
 fn rows_of(alloc: Global, leaves: &[[u8; 32]]) -> Result<Vec<Vec<Vec<Node>>>, AllocError>
-    ensures { IfOk result (λ rows. row_sets rows.items ≡ map leaf_row leaves.now) }
+    ensures { IfOk result (λ rows. row_sets rows.items ≡ map leaf_row_set leaves.now) }
 {
     let mut rows = Vec::with_capacity(alloc, leaves.len())?;
     for leaf in leaves {

@@ -16,7 +16,8 @@ use Rattle.tlog_text.specs.Texts.{line, signature_lines, AreLines, checkpoint_te
 use Rattle.tlog_text.specs.declared.error.Expected.TheVariants.{Blank, Digest, Extension, PartOrigin, Signature}
 use Rattle.tlog_text.specs.declared.error.Expected.TheVariants.{Size}
 use Rattle.tlog_text.specs.Lines.{is_origin, part_origin, base64, is_line}
-use Rattle.tlog_text.specs.Laws.{ThreeLinesAreSpelled, CheckpointsAreReadAgain, NotesAreSpelled, PartsAreSpelled}
+use Rattle.tlog_text.specs.Laws.{ThreeLinesArePrintedAsRead, CheckpointsAreReadAgain, NotesAreReadExactly}
+use Rattle.tlog_text.specs.Laws.{PartsAreReadExactly}
 use Rattle.tlog_text.specs.Inner.Rests.{rest_of}
 use Rattle.tlog_text.specs.Laws.{SignaturesChangeNothing}
 use Rattle.tlog_text.specs.Texts.{IsNote, IsCheckpoint}
@@ -181,7 +182,7 @@ module _ (origin_by : List ℕ → Reads (List ℕ)) (Is : List ℕ → Type 0)
 
 -- ---- notes
 
-pub notes : NotesAreSpelled
+pub notes : NotesAreReadExactly
 notes note c =
     let (read, back) = says (error_of note) (note_by log_origin_by note) c
     (note_read log_origin_by IsLogOrigin log_origin_spelled (λ o is. is.0) note) in (
@@ -192,7 +193,7 @@ notes note c =
 abbrev IsPart : List ℕ → Type 0
 IsPart origin = is_line PartOrigin origin ≡ true
 
-pub parts : PartsAreSpelled
+pub parts : PartsAreReadExactly
 parts note c =
     let part = part_decided c.origin in
     let (read, back) = says (error_of note) (note_by part_origin_by note) c
@@ -229,7 +230,7 @@ read_again c is = (
 
 -- ---- three lines
 
-pub three_lines : ThreeLinesAreSpelled
+pub three_lines : ThreeLinesArePrintedAsRead
 three_lines note c read three =
     let found = (notes note c).0 read in
     by_lines found.0 found.1 found.2.spelled

@@ -13,7 +13,7 @@ use Rattle.tlog_text.specs.Reading.{bytes_by, digests_by, digests_to_blank, entr
 use Rattle.tlog_text.specs.Reading.{at_blank}
 use Rattle.tlog_text.specs.declared.error.Expected.TheVariants.{Blank, Digest, DigestCount, DigestOrBlank}
 use Rattle.tlog_text.specs.declared.error.Expected.TheVariants.{EntryCount, OldSize, ProofVersion}
-use Rattle.tlog_text.specs.Laws.{EntriesProofsAreSpelled, ConsistencyProofsAreSpelled}
+use Rattle.tlog_text.specs.Laws.{EntriesProofsAreReadExactly, ConsistencyProofsAreReadExactly}
 use Rattle.tlog_text.specs.Lines.{base64}
 use Rattle.tlog_text.specs.Reading.{consistency_by}
 use Rattle.tlog_text.specs.Texts.{IsEntriesProof, consistency_text, IsConsistencyProof}
@@ -69,7 +69,7 @@ all_of {n} {m} few end =
 
 -- ---- proofs
 
-pub entries_proofs : EntriesProofsAreSpelled
+pub entries_proofs : EntriesProofsAreReadExactly
 unfolding entries_by digests_by
 entries_proofs text p =
     let (read, back) = says (error_of text) (entries_by text) p
@@ -128,7 +128,7 @@ digest_goes_on digest left is = by_symbols (base64 digest) (base64_plain digest 
 
 -- ---- proofs
 
-pub consistency_proofs : ConsistencyProofsAreSpelled
+pub consistency_proofs : ConsistencyProofsAreReadExactly
 unfolding consistency_by digests_to_blank
 consistency_proofs text p =
     let (read, back) = says (error_of text) (consistency_by text) p

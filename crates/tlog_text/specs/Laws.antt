@@ -7,17 +7,18 @@ use Rattle.tlog_text.specs.Texts.{IsEntriesProof, IsNote, checkpoint_text, consi
 use Rattle.tlog_text.specs.Texts.{signature_lines}
 use Rattle.tlog_text.specs.declared.error.Expected.TheVariants.{Signature}
 
--- a note is read as a checkpoint exactly if it is that checkpoint as it is published, and no part
-abbrev pub NotesAreSpelled : Type 0
-NotesAreSpelled =
+-- a note is read as a checkpoint exactly if it is that checkpoint as it is published, perhaps with extension lines and
+-- signatures, and no part
+abbrev pub NotesAreReadExactly : Type 0
+NotesAreReadExactly =
     (note : List ℕ) (c : CheckpointFields) →
     (checkpoint_in note ≡ Ok c) ↔
     ((extensions : List (List ℕ)) × (signatures : List (List ℕ)) × IsNote note c extensions signatures
     × (c.origin ≢ part_origin))
 
--- and so it is with parts
-abbrev pub PartsAreSpelled : Type 0
-PartsAreSpelled =
+-- a note is read as a part exactly if it is that part as it is published, perhaps with extension lines and signatures
+abbrev pub PartsAreReadExactly : Type 0
+PartsAreReadExactly =
     (note : List ℕ) (c : CheckpointFields) →
     (part_in note ≡ Ok c) ↔
     ((extensions : List (List ℕ)) × (signatures : List (List ℕ)) × IsNote note c extensions signatures
@@ -31,29 +32,30 @@ CheckpointsAreReadAgain =
     × (c.origin ≡ part_origin → part_in (checkpoint_text c) ≡ Ok c)
 
 -- a checkpoint of three lines is printed as it was read
-abbrev pub ThreeLinesAreSpelled : Type 0
-ThreeLinesAreSpelled =
+abbrev pub ThreeLinesArePrintedAsRead : Type 0
+ThreeLinesArePrintedAsRead =
     (note : List ℕ) (c : CheckpointFields) → checkpoint_in note ≡ Ok c → count_by (λ b. b == 10) note ≡ 3 →
     note ≡ checkpoint_text c
 
--- no line of a text is blank but its first, if that is
-abbrev pub HasNoBlankLine : List ℕ → Type 0
-HasNoBlankLine text = (front rest : List ℕ) → text ≢ front ++ (10 ∷ 10 ∷ rest)
+-- no two line feeds stand side by side: no line is blank but the first, if that is
+abbrev pub HasNoBlankLineInside : List ℕ → Type 0
+HasNoBlankLineInside text = (front rest : List ℕ) → text ≢ front ++ (10 ∷ 10 ∷ rest)
 
--- a text that is read is read with signatures as well, and as the same
+-- a text that is read as a checkpoint, and has no blank line inside, is read as the same with up to 100 signature lines
+-- after it, if all together have at most 1000000 bytes
 abbrev pub SignaturesChangeNothing : Type 0
 SignaturesChangeNothing =
     (text : List ℕ) (signatures : List (List ℕ)) (c : CheckpointFields) → checkpoint_in text ≡ Ok c →
-    HasNoBlankLine text → AreLines Signature signatures → length signatures ≤ 100 →
+    HasNoBlankLineInside text → AreLines Signature signatures → length signatures ≤ 100 →
     length (text ++ signature_lines signatures) ≤ 1000000 → checkpoint_in (text ++ signature_lines signatures) ≡ Ok c
 
 -- a text is read as a proof of entries exactly if it is the text of that proof
-abbrev pub EntriesProofsAreSpelled : Type 0
-EntriesProofsAreSpelled =
+abbrev pub EntriesProofsAreReadExactly : Type 0
+EntriesProofsAreReadExactly =
     (text : List ℕ) (p : EntriesFields) → (entries_in text ≡ Ok p) ↔ (IsEntriesProof p × (text ≡ entries_text p))
 
--- and so it is with consistency proofs
-abbrev pub ConsistencyProofsAreSpelled : Type 0
-ConsistencyProofsAreSpelled =
+-- a text is read as a consistency proof exactly if it is the text of that proof
+abbrev pub ConsistencyProofsAreReadExactly : Type 0
+ConsistencyProofsAreReadExactly =
     (text : List ℕ) (p : ConsistencyFields) →
     (consistency_in text ≡ Ok p) ↔ (IsConsistencyProof p × (text ≡ consistency_text p))

@@ -97,7 +97,7 @@ pub fn is_origin(text: &str) -> bool
     len <= MAX_ORIGIN_BYTES && bytes.iter().all(|byte| *byte >= b' ')
 }
 
-/// A line as an origin; `None` if it may not be one.
+/// `line` as an origin; `None` if [`is_origin`] says that it is none.
 fn origin_of(line: &[u8]) -> Option<&str>
     ensures { option_map (λ origin. origin.now) result ≡ passing is_origin line.now }
 {
@@ -105,8 +105,8 @@ fn origin_of(line: &[u8]) -> Option<&str>
     is_origin(text).then_some(text)
 }
 
-/// Reads past a blank line and 1 to 100 signatures, if anything is left, and returns what follows them. Else the error
-/// says what is missing.
+/// Reads past a blank line and 1 to 100 signatures, unless nothing is left, and returns what follows them. Where one is
+/// wrong, the error says what is missing.
 #[tactic(auto, unfolding(crate::specs::Reading::signatures_by))]
 fn skip_signatures(left: &[u8]) -> Result<&[u8], Stop>
     ensures { result_map_both (λ rest. rest.now) (λ stop. stop) result ≡ rest_of (signatures_by left.now) }
@@ -120,8 +120,8 @@ fn skip_signatures(left: &[u8]) -> Result<&[u8], Stop>
     skip_lines(left, Expected::Signature, 99)
 }
 
-/// Reads what stands after an origin: the size, the root, and what may follow them. Where these do not stand, the error
-/// says what is missing.
+/// Reads what stands after an origin: the size, the root, and what may follow them. Where one is wrong, the error says
+/// what is missing.
 #[tactic(auto, unfolding(crate::specs::Reading::after_origin, crate::specs::Reading::extensions_by))]
 fn after_origin<'a>(origin: &'a str, left: &[u8]) -> Result<Checkpoint<'a>, Stop>
     ensures { result_map_both checkpoint_fields (λ stop. stop) result ≡ after_origin origin.entry.now left.now }

@@ -56,7 +56,7 @@ impl<'a> ConsistencyProof<'a> {
     }
 }
 
-/// Reads a consistency proof. Where it is none, the error says what is missing.
+/// Reads a consistency proof. Where it is none, the error says what is missing. `Memory` if memory runs out.
 #[tactic(auto, unfolding(crate::specs::Reading::consistency_by))]
 fn consistency_by(alloc: Global, text: &[u8]) -> Result<ConsistencyProof<'_>, Stop>
     ensures read { IfOk result (λ proof. consistency_by text.now ≡ Ok (consistency_fields proof)) }

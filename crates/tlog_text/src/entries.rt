@@ -66,7 +66,7 @@ impl EntriesProof {
         Ok(text)
     }
 
-    /// How many bytes are printed at most.
+    /// How many bytes the text has at most.
     fn room(&self) -> usize {
         // A digest's line has 45 bytes. What stands around an entry's bytes has at most 50, all other lines at most 80.
         let mut room = self.digests.len().saturating_mul(45).saturating_add(80);
@@ -99,7 +99,8 @@ pub(crate) fn head_of(line: &[u8]) -> Option<(usize, usize)>
     (number != 0).then_some((number, len))
 }
 
-/// Reads an entry. Returns it and what follows it. Where none stands next, the error says what is missing.
+/// Reads an entry. Returns it and what follows it. Where none stands next, the error says what is missing. `Memory` if
+/// memory runs out.
 #[tactic(auto, unfolding(crate::specs::Reading::entry_by, crate::specs::Reading::bytes_by))]
 fn entry_by(alloc: Global, left: &[u8]) -> Result<(Entry, &[u8]), Stop>
     ensures read { IfOk result (λ (entry, rest). entry_by left.now ≡ Ok (entry_fields entry, rest.now)) }
@@ -116,6 +117,7 @@ fn entry_by(alloc: Global, left: &[u8]) -> Result<(Entry, &[u8]), Stop>
 }
 
 /// Reads `count` entries. Returns them and what follows them. Where one is wrong, the error says what is missing.
+/// `Memory` if memory runs out.
 fn entry_list_by(alloc: Global, left: &[u8], count: usize) -> Result<(Vec<Entry>, &[u8]), Stop>
     ensures read { IfOk result
         (λ (entries, rest). many never entry_by count left.now ≡ Ok (map entry_fields entries.items, rest.now)) }
@@ -131,7 +133,7 @@ fn entry_list_by(alloc: Global, left: &[u8], count: usize) -> Result<(Vec<Entry>
     Ok((entries, rest))
 }
 
-/// Reads a proof of entries. Where it is none, the error says what is missing.
+/// Reads a proof of entries. Where it is none, the error says what is missing. `Memory` if memory runs out.
 #[tactic(auto, unfolding(crate::specs::Reading::entries_by))]
 fn entries_by(alloc: Global, text: &[u8]) -> Result<EntriesProof, Stop>
     ensures read { IfOk result (λ proof. entries_by text.now ≡ Ok (entries_fields proof)) }

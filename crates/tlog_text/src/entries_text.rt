@@ -94,7 +94,8 @@ pub fn next_entry(text: &[u8]) -> Option<(EntryText<'_>, &[u8])>
     entry_text_by(text).ok()
 }
 
-/// Reads an entry.
+/// Reads an entry, whose bytes stay where they stand. Returns it and what follows it. Where none stands next, the error
+/// says what is missing.
 #[tactic(auto, unfolding(crate::specs::Reading::entry_by, crate::specs::Reading::bytes_by))]
 fn entry_text_by(left: &[u8]) -> Result<(EntryText<'_>, &[u8]), Stop>
     ensures { result_map_both (λ (entry, rest). (entry_text_fields entry, rest.now)) (λ stop. stop) result
@@ -110,7 +111,7 @@ fn entry_text_by(left: &[u8]) -> Result<(EntryText<'_>, &[u8]), Stop>
     Ok((EntryText { number, bytes }, &left[len + 1..]))
 }
 
-/// Reads past `count` entries.
+/// Reads past `count` entries, and returns what follows them. Where one is wrong, the error says what is missing.
 fn skip_entries(left: &[u8], count: usize) -> Result<&[u8], Stop>
     ensures { result_map_both (λ rest. rest.now) (λ stop. stop) result
         ≡ rest_of (many never entry_by count left.now) }
@@ -123,7 +124,8 @@ fn skip_entries(left: &[u8], count: usize) -> Result<&[u8], Stop>
     Ok(rest)
 }
 
-/// Reads a proof of entries.
+/// Reads a proof of entries, whose entries stay where they stand. Where it is none, the error says what is missing.
+/// `Memory` if memory runs out.
 #[tactic(auto, unfolding(crate::specs::Reading::entries_by))]
 fn entries_text_by(alloc: Global, text: &[u8]) -> Result<EntriesText<'_>, Stop>
     ensures read { IfOk result (λ proof. entries_by text.now ≡ Ok (in_place proof)) }

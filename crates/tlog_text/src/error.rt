@@ -132,7 +132,7 @@ impl<T: Drop> From<AllocFailed<T>> for Stop {
     }
 }
 
-/// The stop at what is left of a text, where `expected` is missing.
+/// The stop where `expected` is missing, and `left` is what is left of the text.
 pub(crate) fn missing(left: &[u8], expected: Expected) -> Stop
     ensures { result ≡ Missing (length left.now) expected }
 {
@@ -157,7 +157,8 @@ fn found_in(above: &[u8], below: &[u8]) -> Found
     }
 }
 
-/// The error of a text, where reading stops so.
+/// The error of `text`, where reading stops by `stop`: the line, counted from 1, what is expected there, and what is
+/// found; or that memory ran out.
 pub(crate) fn error_of(text: &[u8], stop: Stop) -> TextError
     ensures { result ≡ error_of text.now stop }
 {

@@ -32,7 +32,8 @@ pub(crate) fn cut_at(mark: u8, bytes: &[u8]) -> Option<(&[u8], &[u8])>
     Some((&bytes[..at], &bytes[at + 1..]))
 }
 
-/// The number of one or more ASCII digits, if it fits `usize`; else `None`.
+/// The number whose decimal digits are `digits`, one or more; `None` if another byte is among them, or the number does
+/// not fit `usize`.
 fn parse_number(digits: &[u8]) -> Option<usize>
     ensures { SomeIff result (IsNumeral 10 digits.now × (digits_value 10 digits.now < 2 ^ 64))
         (digits_value 10 digits.now) }
@@ -44,7 +45,8 @@ fn parse_number(digits: &[u8]) -> Option<usize>
     str::from_utf8(digits).ok()?.parse().ok()
 }
 
-/// The number up to 2^62 whose decimal digits these are, without leading zeros; else `None`.
+/// The number whose decimal digits are `digits`, without leading zeros; `None` if they are no such digits, or the
+/// number is above 2^62.
 pub(crate) fn number_of(digits: &[u8]) -> Option<usize>
     ensures { result ≡ number_of digits.now }
 {
@@ -100,7 +102,7 @@ fn digest_of(line: &[u8]) -> Option<[u8; 32]>
     Some(digest)
 }
 
-/// Whether this is UTF-8 without characters below U+0020.
+/// Whether `bytes` are UTF-8 without characters below U+0020.
 fn is_text(bytes: &[u8]) -> bool
     ensures { result ≡ is_text bytes.now }
 {
@@ -141,8 +143,8 @@ fn is_signature(line: &[u8]) -> bool
     str::from_utf8(name).is_ok_and(is_key_name) && base64_len(signature).is_some_and(|len| len >= 5)
 }
 
-/// Whether a line is what is expected, where it is compared or tested, and nothing is read from it. False for what is
-/// expected of any other line.
+/// Whether `line` is the one that `expected` names, if that is only compared or tested. False if something is read from
+/// the line that `expected` names.
 #[tactic(auto, unfolding(crate::specs::Lines::is_line))]
 fn is_line(expected: Expected, line: &[u8]) -> bool
     ensures { result ≡ is_line expected line.now }
@@ -157,8 +159,8 @@ fn is_line(expected: Expected, line: &[u8]) -> bool
     }
 }
 
-/// Reads past a line that is what is expected, and returns what follows it. If no such line stands next, the error says
-/// that `expected` is missing.
+/// Reads past a line that is what `expected` names, and returns what follows it. If no such line stands next, the error
+/// says that `expected` is missing.
 pub(crate) fn skip_line(left: &[u8], expected: Expected) -> Result<&[u8], Stop>
     ensures { result_map_both (λ rest. rest.now) (λ stop. stop) result ≡ rest_of (line_that expected left.now) }
 {
@@ -171,8 +173,8 @@ pub(crate) fn skip_line(left: &[u8], expected: Expected) -> Result<&[u8], Stop>
     }
 }
 
-/// Reads past lines that are what is expected, at most `limit`, up to a blank line or the end, and returns what follows
-/// them. The first other line is an error.
+/// Reads past lines that are what `expected` names, at most `limit`, up to a blank line or the end, and returns what
+/// follows them. At the first other line, the error says that `expected` is missing.
 pub(crate) fn skip_lines(left: &[u8], expected: Expected, limit: usize) -> Result<&[u8], Stop>
     ensures { result_map_both (λ rest. rest.now) (λ stop. stop) result
         ≡ rest_of (many at_text_end (line_that expected) limit left.now) }
@@ -187,7 +189,7 @@ pub(crate) fn skip_lines(left: &[u8], expected: Expected, limit: usize) -> Resul
     Ok(rest)
 }
 
-/// Reads a line of a word and a number up to 2^62, without leading zeros. Returns the number and what follows the line.
+/// Reads a line of `word` and a number up to 2^62, without leading zeros. Returns the number and what follows the line.
 /// If no such line stands next, the error says that `expected` is missing.
 pub(crate) fn read_number<'a>(
     left: &'a [u8],
@@ -204,8 +206,8 @@ pub(crate) fn read_number<'a>(
     Ok((number, rest))
 }
 
-/// Reads a line that is the base64 of 32 bytes. Returns these and what follows the line. If no such line stands next,
-/// the error says that `expected` is missing.
+/// Reads a line that is the base64 of 32 bytes. Returns the bytes and what follows the line. If no such line stands
+/// next, the error says that `expected` is missing.
 pub(crate) fn read_digest(left: &[u8], expected: Expected) -> Result<([u8; 32], &[u8]), Stop>
     ensures { result_map_both (λ (digest, rest). (digest, rest.now)) (λ stop. stop) result
         ≡ line_by expected digest_of left.now }
@@ -223,8 +225,8 @@ fn at_blank(left: &[u8]) -> bool
     left.first() == Some(&b'\n')
 }
 
-/// Reads `count` digests. Returns them and what follows the last one's line. The first line that is no digest is an
-/// error.
+/// Reads `count` digests. Returns them and what follows the last one's line. Where a line is no digest, the error says
+/// that one is missing. `Memory` if memory runs out.
 pub(crate) fn read_digests(
     alloc: Global,
     left: &[u8],
@@ -243,8 +245,8 @@ pub(crate) fn read_digests(
     Ok((digests, rest))
 }
 
-/// Reads the digests up to a blank line, at most `limit`. Returns them and what follows the last one's line. The first
-/// line that is neither a digest nor blank is an error.
+/// Reads the digests up to a blank line, at most `limit`. Returns them and what follows the last one's line. Where a
+/// line is neither a digest nor blank, the error says that one of both is missing. `Memory` if memory runs out.
 pub(crate) fn read_digests_to_blank(
     alloc: Global,
     left: &[u8],

@@ -94,7 +94,8 @@ impl TreeBuilder {
         Ok(values)
     }
 
-    /// The value of a wanted node.
+    /// The value of a wanted node: the hash that was kept for it, if all its leaves have come; the root of those that
+    /// have come, if the end of the log cuts it off; `None` if none have come.
     fn value(&self, node: &WantedNode) -> Option<[u8; 32]>
         ensures { (leaves : List (List ℕ)) → IsFrontierOf leaves self.now.frontier →
             HasValue sha256 leaves node.now → result ≡ value_at sha256 leaves node.now.id }

@@ -105,8 +105,9 @@ impl Frontier {
         self.push_kept(alloc, hashes, &mut [])
     }
 
-    /// Appends leaf hashes as [`push_many`](Self::push_many) does, with the same errors. Wanted nodes get their values,
-    /// if they stand in the order of their ends; after an error nothing is said of them.
+    /// Appends leaf hashes as [`push_many`](Self::push_many) does, with the same errors. Each node of `wanted` whose
+    /// last leaf comes gets its value, if `wanted` is in the order of its nodes' ends; after an error nothing is said
+    /// of them.
     pub(crate) fn push_kept(
         &mut self,
         alloc: Global,
@@ -151,8 +152,8 @@ impl Frontier {
         root_of_nodes(&self.nodes)
     }
 
-    /// The root of the leaves that follow the first `whole` nodes of a layer, if there are such leaves. `whole` must be
-    /// the number of all nodes of the layer that have all their leaves.
+    /// The root of the leaves that follow the first `whole` nodes of a layer; `None` if none follow. `whole` must be
+    /// how many nodes of the layer have all their leaves.
     pub(crate) fn root_behind(&self, whole: usize) -> Option<[u8; 32]>
         ensures { (leaves : List (List ℕ)) (layer : ℕ) → IsFrontierOf leaves self.now →
             whole ≡ length leaves / 2 ^ layer → result ≡ root_of_rest sha256 (drop (whole * 2 ^ layer) leaves) }
@@ -167,8 +168,9 @@ impl Frontier {
     }
 }
 
-/// The whole nodes of a layer and of those above, in a log where they were `nodes` and the layer had `size` nodes, once
-/// the nodes `more` follow these. Wanted nodes of this layer and of those above get their values.
+/// The whole nodes of a log whose layer `layer_number`, taken as its leaves, had `size` nodes, and which had the whole
+/// nodes `nodes`, once `more` follows in that layer. Each node of `wanted` in this layer or above it whose last leaf
+/// comes gets its value. `AllocError` if memory runs out.
 fn grown(
     alloc: Global,
     layer_number: usize,
@@ -199,7 +201,7 @@ fn grown(
     Ok(whole)
 }
 
-/// The root of a tree by its whole nodes.
+/// The root of a tree whose whole nodes, from left to right, are `nodes`.
 pub(crate) fn root_of_nodes(nodes: &[[u8; 32]]) -> [u8; 32]
     ensures { result ≡ joined sha256 nodes.now }
 {
@@ -220,7 +222,8 @@ fn node_input(left: &[u8; 32], right: &[u8; 32]) -> [u8; 65]
     input
 }
 
-/// The parents of the nodes of a layer. A last node without a sibling has none.
+/// The parents of `layer`, nodes of a layer that stand side by side from an even slot on. A last node without a sibling
+/// has none. `AllocError` if memory runs out.
 fn parents(alloc: Global, layer: &[[u8; 32]]) -> Result<Vec<[u8; 32]>, AllocError>
     ensures { IfOk result (λ parents. parents.items ≡ parents_of sha256 layer.now) }
 {

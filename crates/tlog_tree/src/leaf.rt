@@ -35,8 +35,9 @@ pub fn leaf_hashes(alloc: Global, entries: &[&[u8]]) -> Result<Vec<[u8; 32]>, Al
     Ok(hashes)
 }
 
-/// Writes the leaf hashes of the first of `places`, lengths and indices of entries, and returns how many these are:
-/// those of one length, or, if these are fewer than eight, eight that fill one number of blocks.
+/// Writes the leaf hashes of the first of `places` into `hashes`, and returns how many they are: as many of one length
+/// as are hashed together; or, if these are fewer than eight, eight that fill equally many blocks. `places`, which must
+/// not be empty, has the length of an entry and its index in `entries` and `hashes`. `AllocError` if memory runs out.
 fn hash_first(
     alloc: Global,
     entries: &[&[u8]],
@@ -65,8 +66,9 @@ fn hash_first(
     Ok(alike)
 }
 
-/// How many of the first entries, by their length and index, have the first one's length, up to a limit: eights of
-/// them, if there are as many.
+/// How many of `places`, from the first on, are hashed together: those of the first one's length, up to a limit, and
+/// only whole eights of them if there are eight. `places`, which must not be empty, has the length and the index of
+/// each entry.
 fn alike_len(places: &[(usize, usize)]) -> usize
     requires { 0 < length places.now }
     ensures some { 0 < result }
@@ -84,7 +86,7 @@ fn alike_len(places: &[(usize, usize)]) -> usize
     whole_eights(places.len())
 }
 
-/// The greatest multiple of eight up to a count, or the count itself if it is less than eight.
+/// The greatest multiple of eight up to `count`, or `count` itself if it is less than eight.
 fn whole_eights(count: usize) -> usize
     ensures some { 0 < count → 0 < result }
     ensures within { result ≤ count }
@@ -92,14 +94,14 @@ fn whole_eights(count: usize) -> usize
     if count < 8 { count } else { count / 8 * 8 }
 }
 
-/// Whether entries of these lengths and indices fill so many blocks each.
+/// Whether each entry of `places`, its length and its index, fills `count` blocks.
 fn all_fill(places: &[(usize, usize)], count: usize) -> bool
     ensures { Decides result (All (Fills count) places.now) }
 {
     places.iter().all(|place| block_count(place.0) == count)
 }
 
-/// How many blocks of SHA-256 the input of the leaf hash of an entry of this length fills.
+/// How many blocks of SHA-256 the input of the leaf hash of an entry of `length` bytes fills.
 fn block_count(length: usize) -> usize
     ensures { result ≡ block_count length }
 {
@@ -107,7 +109,8 @@ fn block_count(length: usize) -> usize
     length / 64 + (length % 64 + 73) / 64
 }
 
-/// The leaf hashes of entries of one length.
+/// The leaf hashes of the entries of `places`, lengths and indices of entries. All must have one length. `AllocError`
+/// if memory runs out.
 fn hash_alike(
     alloc: Global,
     entries: &[&[u8]],
@@ -129,7 +132,8 @@ fn hash_alike(
     Ok(values)
 }
 
-/// The leaf hashes of eight entries that fill `count` blocks each.
+/// The leaf hashes of the eight entries of `places`, lengths and indices of entries, of which each fills `count`
+/// blocks. `AllocError` if memory runs out.
 fn hash_eight(
     alloc: Global,
     entries: &[&[u8]],

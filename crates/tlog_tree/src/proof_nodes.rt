@@ -63,7 +63,8 @@ pub fn consistency_nodes(
     Ok(nodes)
 }
 
-/// Adds the siblings on the way up from a node of a layer, whose last slot is `last`.
+/// Appends to `nodes` the siblings on the way up from the node `slot` of layer `layer`, but for those past the end of
+/// their layer. `last` is the last slot of layer `layer`, at least `slot`. `AllocError` if memory runs out.
 fn add_path(
     nodes: &mut Vec<NodeId>,
     layer: usize,

@@ -21,7 +21,7 @@ use Rattle.p3_merkle_core.specs.declared.collision.Place.TheVariants.{Leaf, Grou
 use Rattle.p3_answers.proofs.AnswerFacts.{none_unless, map_none, none_map, range_none}
 use Rattle.p3_merkle_core.proofs.Collisions.Extraction.{collides, level_lengths}
 use Rattle.p3_merkle_core.proofs.Checks.InputFacts.{of_last_difference, shared_full, at_one_place}
-use Rattle.p3_merkle_core.proofs.Lists.ListFacts.{pieces_long}
+use Rattle.p3_merkle_core.proofs.Lists.ListFacts.{joined_same_length}
 use Rattle.p3_merkle_core.proofs.Pruned.Unrefused.{all_in_range}
 
 -- ---- the test on inputs
@@ -94,7 +94,7 @@ differs (x ∷ xs) (y ∷ ys) a b (inr d) = d.3
 
 pub shared_long : {T W : Type 0} (f : Functions T W) (s : Shape) (t : ℕ) (o u : Opening T W) →
     length (shared_inputs (params f s t) o.index u.index o) ≡ length (shared_inputs (params f s t) o.index u.index u)
-shared_long f s t o u = grind (arith, common_steps, eq-eqb, cases_eq, ne_eqb, level_lengths, pieces_long)
+shared_long f s t o u = grind (arith, common_steps, eq-eqb, cases_eq, ne_eqb, level_lengths, joined_same_length)
 
 -- two checks have no difference exactly where they agree wherever they share a place
 pub no_difference : {T W : Type 0} (row_eq : T → T → Bool) (digest_eq : W → W → Bool) (c : Params T W)

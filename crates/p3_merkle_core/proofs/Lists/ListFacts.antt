@@ -8,7 +8,7 @@ use Rattle.std.proofs.lemmas.List.{drop_at, drop-append-le, take-append-le, take
 use Rattle.std.proofs.lemmas.List.Recursion.{is_count_by}
 use Rattle.std.specs.List.{count_by, flat_map, range_with_len}
 
--- values from s on
+-- the values of v at n numbers from s + a on, by those numbers less s
 pub map_shift : {Y : Type 0} (v : ℕ → Y) (s a n : ℕ) → map (λ i. v (s + i)) (range_with_len a n)
     ≡ map v (range_with_len (s + a) n)
 map_shift v s a zero = refl
@@ -20,6 +20,7 @@ map_shift v s a (suc n) = grind (arith, common_steps, map_shift v s (a + 1) n)
 abbrev pub joined : {A : Type 0} → (ℕ → List A) → ℕ → List A
 joined g n = flat_map g (range_with_len 0 n)
 
+-- of pieces that are joined from a on, the last one stands behind the others
 more_from : {A : Type 0} (g : ℕ → List A) (a n : ℕ) → flat_map g (range_with_len a (suc n))
     ≡ flat_map g (range_with_len a n) ++ g (a + n)
 more_from g a zero = let z : a + 0 ≡ a = omega arith in rw z (append-nil (g a))
@@ -29,6 +30,7 @@ more_from g a (suc n) = grind (arith, common_steps, more_from g (a + 1) n)
 pub joined_more : {A : Type 0} (g : ℕ → List A) (n : ℕ) → joined g (suc n) ≡ joined g n ++ g n
 joined_more g n = let z : 0 + n ≡ n = omega arith in rw z at (more_from g 0 n)
 
+-- what is joined up to t has room for what is joined up to l, and for piece l
 pub length-joined_le : {A : Type 0} (g : ℕ → List A) (l t : ℕ) → l < t →
     length (joined g l) + length (g l) ≤ length (joined g t)
 length-joined_le g l zero h = absurd (omega arith)
@@ -69,12 +71,12 @@ same_ends (x ∷ xs) (y ∷ ys) cs ds long same =
     let heads : x ≡ y = cc in
     ((let r = rest.0 in cc), rest.1)
 
--- pieces of the same lengths join to lists of one length
-pub pieces_long : {A : Type 0} (g h : ℕ → List A) (n : ℕ) → ((k : ℕ) → length (g k) ≡ length (h k)) →
+-- pieces that have the same lengths one by one join to lists of one length
+pub joined_same_length : {A : Type 0} (g h : ℕ → List A) (n : ℕ) → ((k : ℕ) → length (g k) ≡ length (h k)) →
     length (joined g n) ≡ length (joined h n)
-pieces_long g h zero long = refl
-pieces_long g h (suc n) long = rw (joined_more g n, joined_more h n) (length-append (joined g n) (g n)
-    ∙ (let before = pieces_long g h n long in let last = long n in omega arith)
+joined_same_length g h zero long = refl
+joined_same_length g h (suc n) long = rw (joined_more g n, joined_more h n) (length-append (joined g n) (g n)
+    ∙ (let before = joined_same_length g h n long in let last = long n in omega arith)
     ∙ sym (length-append (joined h n) (h n)))
 
 -- and are equal where these lists are
@@ -82,7 +84,7 @@ pub pieces_same : {A : Type 0} (g h : ℕ → List A) (n : ℕ) → ((k : ℕ) �
     ≡ joined h n → (k : ℕ) → k < n → g k ≡ h k
 pieces_same g h zero long same k below = absurd (omega arith)
 pieces_same g h (suc n) long same k below =
-    let ends = same_ends (joined g n) (joined h n) (g n) (h n) (pieces_long g h n long)
+    let ends = same_ends (joined g n) (joined h n) (g n) (h n) (joined_same_length g h n long)
     (sym (joined_more g n) ∙ same ∙ joined_more h n) in
     elim (cases_eq k n) [
       | inl last ↦ rw last ends.1
@@ -115,11 +117,12 @@ length-remove xs p h = simp (length-append, length-take, length-drop) (omega ari
 
 -- ---- how many elements pass
 
--- counted from the last on
+-- how many elements pass, by recursion: the first, and those of the rest
 unfoldable pub tally : {X : Type 0} → (X → Bool) → List X → ℕ
 tally p [] = 0
 tally p (x ∷ xs) = cond (p x) 1 0 + tally p xs
 
+-- that is how many the count of the standard library gives
 pub tally_is : {X : Type 0} (p : X → Bool) (xs : List X) → tally p xs ≡ count_by p xs
 unfolding tally
 tally_is p xs =

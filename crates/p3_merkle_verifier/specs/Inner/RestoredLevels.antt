@@ -11,18 +11,18 @@ use Rattle.p3_merkle_core.specs.Pruning.{PrunedOpening, pruned_of, restored_node
 use Rattle.p3_merkle_core.specs.declared.pruning.CoveredLayer.{CoveredLayer}
 use Rattle.p3_support.specs.RowSets.{sets_in}
 use Rattle.p3_merkle_verifier.specs.declared.openings.PrunedOpeningRef.{PrunedOpeningRef}
-use Rattle.p3_merkle_verifier.specs.declared.openings.CheckedPrunedOpening.{CheckedPrunedOpening}
+use Rattle.p3_merkle_verifier.specs.declared.openings.RestorableOpening.{RestorableOpening}
 
 -- the borrowed pruned opening
 abbrev pub pruned_in : {T W : Type 0} → PrunedOpeningRef T (List W) → PrunedOpening T W
 pruned_in opening = pruned_of opening.indices.now (sets_in opening.sets) opening.sent.now
 
 -- the shape of the tree that an opening is of
-abbrev pub tree_of : {T X : Type 0} → CheckedPrunedOpening T X → Shape
+abbrev pub tree_of : {T X : Type 0} → RestorableOpening T X → Shape
 tree_of restorable = shape_of restorable.schedule.now.arity restorable.schedule.now.dimensions.now
 
 -- the opening itself
-abbrev pub opened_by : {T W : Type 0} → CheckedPrunedOpening T (List W) → PrunedOpening T W
+abbrev pub opened_by : {T W : Type 0} → RestorableOpening T (List W) → PrunedOpening T W
 opened_by restorable = pruned_in restorable.opening
 
 -- the node of layer l above the index of query k

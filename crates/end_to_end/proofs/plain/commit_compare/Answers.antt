@@ -9,7 +9,7 @@ use Rattle.p3_merkle_tree.specs.Openings.{Opening, opening_of}
 use Rattle.p3_merkle_tree.specs.Parts.{tree_batch}
 use Rattle.p3_merkle_tree.specs.Presented.{presented, IsExactVerdict}
 use Rattle.p3_merkle_tree.specs.Schemes.{cap_rule_of, params_of}
-use Rattle.p3_merkle_tree.specs.Views.{found_alone, opening_borrowed, opening_made}
+use Rattle.p3_merkle_tree.specs.Views.{found_alone, opening_borrowed, opening_owned}
 use Rattle.end_to_end.proofs.ComparisonFacts.{compared}
 use Rattle.end_to_end.proofs.RefusalFacts.{accepted_unrefused}
 use Rattle.end_to_end.proofs.plain.commit_compare.Goals as goal
@@ -44,7 +44,7 @@ returns-clause-compared g c =
     let p = params_of scheme (shape (tree_batch c.in_ok-cap.tree)) in
     let cap = roots_of c.in_ok-cap.cap in
     let o = opening_borrowed c.args.index c.args.claimed in
-    let u = opening_made c.args.index c.in_ok-opening.opening in
+    let u = opening_owned c.args.index c.in_ok-opening.opening in
     let r = c.extract_collision-found.result in
     let accepted = c.in_ok-opening.ensures.opened.is_accepted cap c.in_ok-cap.ensures.committed in
     let same = c.deref-2.ensures.value ∙ c.in_ok-cap.ensures.dimensions in

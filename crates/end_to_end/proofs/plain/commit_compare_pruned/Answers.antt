@@ -9,7 +9,7 @@ use Rattle.p3_merkle_tree.specs.Parts.{tree_batch}
 use Rattle.p3_merkle_tree.specs.Presented.{presented_pruned, IsVerdict}
 use Rattle.p3_merkle_tree.specs.Pruning.{PrunedOpening, pruned_of}
 use Rattle.p3_merkle_tree.specs.Schemes.{cap_rule_of, params_of}
-use Rattle.p3_merkle_tree.specs.Views.{found_pair, pruned_borrowed, pruned_made}
+use Rattle.p3_merkle_tree.specs.Views.{found_pair, pruned_borrowed, pruned_owned}
 use Rattle.end_to_end.proofs.ComparisonFacts.{compared_pruned}
 use Rattle.end_to_end.proofs.RefusalFacts.{pruned_unrefused}
 use Rattle.end_to_end.proofs.SaltedFacts.{memory_left}
@@ -34,7 +34,7 @@ returns-clause-verdict g c =
     let same = c.deref.ensures.value ∙ c.in_ok-cap.ensures.dimensions in
     let sets = c.deref-2.ensures.value in
     let r = c.verify_batch_pruned-verdict.result in
-    memory_left (shows (shape (tree_batch c.in_ok-cap.tree)).dimensions (pruned_made indices opening)) r
+    memory_left (shows (shape (tree_batch c.in_ok-cap.tree)).dimensions (pruned_owned indices opening)) r
     (subst (λ (z : List Dimensions × PrunedOpening _ _). IsVerdict (shows z.0 z.1) r)
     (λ i. (same i, pruned_of indices (row_sets (sets i)) opening.pruned_proof.sibling_hashes.items))
     c.verify_batch_pruned-verdict.ensures)
@@ -51,7 +51,7 @@ returns-clause-compared g c =
     let cap = roots_of c.in_ok-cap.cap in
     let indices = c.args.indices.now in
     let p = pruned_borrowed indices c.args.rows.now c.args.proof.now in
-    let q = pruned_made indices c.in_ok-opening.opening in
+    let q = pruned_owned indices c.in_ok-opening.opening in
     let r = c.extract_collision_multi-found.result in
     let accepted = c.in_ok-opening.ensures.opened.is_accepted cap c.in_ok-cap.ensures.committed in
     let same = c.deref-3.ensures.value ∙ c.in_ok-cap.ensures.dimensions in

@@ -2,7 +2,7 @@
 use Rattle.std.proofs.Common.{◌∙◌, List, refl, subst}
 use Rattle.p3_support.specs.Shown.{roots_of, row_lists}
 use Rattle.p3_support.specs.declared.matrix.Dimensions.{Dimensions}
-use Rattle.p3_merkle_tree.specs.HidingSchemes.{plain_of, salted_borrowed, salted_made, salted_params_of}
+use Rattle.p3_merkle_tree.specs.HidingSchemes.{plain_of, salted_borrowed, salted_owned, salted_params_of}
 use Rattle.p3_merkle_tree.specs.Parts.{matrices_of}
 use Rattle.p3_merkle_tree.specs.SaltedExtraction.{IsSaltedExtraction}
 use Rattle.p3_merkle_tree.specs.SaltedOpenings.{SaltedOpening, salted_of}
@@ -53,7 +53,7 @@ returns-clause-compared g c =
     let k = salted_params_of scheme ds in
     let cap = roots_of c.in_ok-cap.cap in
     let o = salted_borrowed c.args.index c.args.claimed in
-    let u = salted_made c.args.index c.in_ok-opening.opening in
+    let u = salted_owned c.args.index c.in_ok-opening.opening in
     let accepted = (returns-clause-opened g c).accepted in
     let same = c.deref-2.ensures.value ∙ c.in_ok-cap.ensures.dimensions in
     let lent = c.from-honest.ensures in

@@ -2,7 +2,7 @@
 use Rattle.std.proofs.Common.{◌∙◌, List, refl, subst}
 use Rattle.p3_support.specs.Shown.{roots_of, row_sets}
 use Rattle.p3_support.specs.declared.matrix.Dimensions.{Dimensions}
-use Rattle.p3_merkle_tree.specs.HidingSchemes.{plain_of, salted_params_of, salted_pruned_borrowed, salted_pruned_made}
+use Rattle.p3_merkle_tree.specs.HidingSchemes.{plain_of, salted_params_of, salted_pruned_borrowed, salted_pruned_owned}
 use Rattle.p3_merkle_tree.specs.Parts.{matrices_of}
 use Rattle.p3_merkle_tree.specs.SaltedExtraction.{IsSaltedPrunedExtraction}
 use Rattle.p3_merkle_tree.specs.SaltedOpenings.{SaltedPruned, salted_pruned_of}
@@ -43,7 +43,7 @@ returns-clause-verdict g c =
     ))
     c.verify_multi_batch-verdict.ensures in
     memory_left (presented (unsalted_dimensions g.row.N (matrices_of c.in_ok-cap.tree))
-    (salted_pruned_made c.args.indices.now c.in_ok-opening.opening)) c.verify_multi_batch-verdict.result is
+    (salted_pruned_owned c.args.indices.now c.in_ok-opening.opening)) c.verify_multi_batch-verdict.result is
     (returns-clause-opened g c).accepted
 
 pub returns-clause-compared : goal.returns-clause-compared
@@ -58,7 +58,7 @@ returns-clause-compared g c =
     let k = salted_params_of scheme ds in
     let cap = roots_of c.in_ok-cap.cap in
     let p = salted_pruned_borrowed c.args.indices.now c.args.rows.now c.args.proof.now in
-    let q = salted_pruned_made c.args.indices.now c.in_ok-opening.opening in
+    let q = salted_pruned_owned c.args.indices.now c.in_ok-opening.opening in
     let accepted = (returns-clause-opened g c).accepted in
     let same = c.deref-3.ensures.value ∙ c.in_ok-cap.ensures.dimensions in
     let lent = c.deref-4.ensures.value in

@@ -10,14 +10,14 @@ use Rattle.fohlazu_c.proofs.opening.verdict.Goals as goal
 both : {A B : Type 0} → A → B → A × B
 both a b = (a, b)
 
-pub returns-then-are_more_bytes-clause-answer : goal.returns-then-are_more_bytes-clause-answer
-returns-then-are_more_bytes-clause-answer g c =
+pub returns-then-has_extra_bytes-clause-answer : goal.returns-then-has_extra_bytes-clause-answer
+returns-then-has_extra_bytes-clause-answer g c =
     let claim = c.args.claim in
     let sizes = claim.sizes.now in
     let bytes = claim.rows.now in
     let dimensions = map size_shown sizes in
     let more = ltb-true (sum_by (λ size. size.width) sizes) (length bytes)
-    (sym c.are_more_bytes.ensures ∙ c.if-are_more_bytes.true) in
+    (sym c.has_extra_bytes.ensures ∙ c.if-has_extra_bytes.true) in
     inr (ap (λ refusal. ok_unless refusal tt) (sym (longer_refused
     (params_at g.row.N c.args.cap_height c.args.rule dimensions) claim.roots.now
     (presented_opening dimensions claim.index bytes claim.siblings.now) sizes bytes more refl refl)))
@@ -27,7 +27,7 @@ returns g c =
     let sizes = c.args.claim.sizes.now in
     let bytes = c.args.claim.rows.now in
     let fit : length bytes ≤ sum_by (λ size. size.width) sizes = ltb-false (sum_by (λ size. size.width) sizes)
-    (length bytes) (sym c.are_more_bytes.ensures ∙ c.if-are_more_bytes.false) in
+    (length bytes) (sym c.has_extra_bytes.ensures ∙ c.if-has_extra_bytes.false) in
     let found = rw (
       c.deref.ensures.value,
       c.deref-2.ensures.value,

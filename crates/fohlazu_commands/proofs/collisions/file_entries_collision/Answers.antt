@@ -1,4 +1,5 @@
--- The verdict is on the entries of the file.
+-- A refusal shows that the checkpoint is not of the file, or is the verifier's; else the entries that are compared are
+-- those that the checkpoint seals.
 use Rattle.std.proofs.Common.{inl, inr, ⊎_elim}
 use Rattle.std.proofs.lemmas.Result.{err_from_is_err_and}
 use Rattle.tlog.specs.Collisions.{entries_of}

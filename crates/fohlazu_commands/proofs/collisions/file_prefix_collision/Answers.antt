@@ -1,4 +1,5 @@
--- The verdict is on the entries of both files.
+-- A refusal shows that a checkpoint is not of its file; else the entries that are compared are those that the old and
+-- the new checkpoint seal.
 use Rattle.std.proofs.Common.{◌∙◌, inl, inr, subst, sym, ⊎_elim}
 use Rattle.std.proofs.lemmas.Result.{err_from_is_err_and}
 use Rattle.tlog.specs.Collisions.{entries_of}

@@ -1,4 +1,4 @@
--- Each command reads its inputs and is answered by its own call.
+-- The outcome of each command is that of its own call, on what was read of its inputs.
 use Rattle.std.proofs.Common.{ap, inl, inr, ⊎_elim, None, Some, refl, string_bytes, subst, sym, List, ℕ, Result}
 use Rattle.std.proofs.Common.{Err, Global, Option, Vec}
 use Rattle.std.proofs.lemmas.Result.{err_from_is_err_and}

@@ -1,4 +1,5 @@
--- Each turn reads the next part.
+-- What is read of the parts that are left makes all, after the texts so far (`makes`); none of these is too long
+-- (`short`).
 use Rattle.std.proofs.Common.{◌≡◌, ◌+◌, length, ◌∙◌, [], ◌∷◌, ◌++◌, append-nil, arith, ap, inl, inr, map}
 use Rattle.std.proofs.Common.{subst, sym, List, Option, Some, ℕ, ⊎_elim}
 use Rattle.std.proofs.lemmas.Result.{err_from_is_err_and}

@@ -1,4 +1,4 @@
--- Each turn writes the next bytes.
+-- The output has what it had and the bytes before the rest, so at the end the whole text.
 use Rattle.std.proofs.Common.{List, ap, subst, sym, ℕ}
 use Rattle.fohlazu_commands.proofs.RunFacts.{Wrote, step_err, step_ok, wrote_same}
 use Rattle.fohlazu_commands.proofs.command.write_text.Goals.{in-Ok, in-Err}

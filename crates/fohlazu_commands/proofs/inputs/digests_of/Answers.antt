@@ -1,4 +1,4 @@
--- Each turn is one digest more: all are there.
+-- If all values are there, the digests so far are the first of them.
 use Rattle.std.proofs.Common.{◌∙◌, ap}
 use Rattle.fohlazu_commands.proofs.OutcomeFacts.{there_at, there_more}
 use Rattle.fohlazu_commands.proofs.inputs.digests_of.Goals as goal

@@ -1,4 +1,4 @@
--- Each turn checks one size.
+-- The sizes so far fit, so the refusal is that of the others.
 use Rattle.std.proofs.Common.{◌≡◌, ◌<◌, ◌+◌, ◌-◌, ap, arith, get_or, length, suc, sym, ℕ, Option}
 use Rattle.std.specs.List.{range_with_len}
 use Rattle.std.specs.Option.{option_or}

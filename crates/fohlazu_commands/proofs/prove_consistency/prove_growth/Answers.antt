@@ -1,4 +1,4 @@
--- The entries of the new checkpoint are read, and their growth is proved.
+-- The tree that is read is that of the new checkpoint's entries, so its digests are those of their growth.
 use Rattle.std.proofs.Common.{◌∙◌, Err, [], ap, map}
 use Rattle.std.proofs.lemmas.Result.{err_from_is_err_and}
 use Rattle.sha2.specs.Sha256.{sha256}

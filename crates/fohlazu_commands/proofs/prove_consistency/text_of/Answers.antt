@@ -1,3 +1,4 @@
+-- The digests are those of the growth of the entries, so the verdict on them is the definition's.
 use Rattle.std.proofs.Common.{◌≡◌, rules, inr}
 use Rattle.fohlazu_commands.specs.Outcomes.{growth_digests}
 use Rattle.fohlazu_commands.proofs.prove_consistency.text_of.Goals as goal

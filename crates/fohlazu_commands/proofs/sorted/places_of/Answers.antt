@@ -1,3 +1,4 @@
+-- The places so far are those of the entries so far, and the other entries stand in what is left of the text.
 use Rattle.std.proofs.Common.{◌≡◌, ◌-◌, ◌∙◌, arith, ap, option_map, rules}
 use Rattle.tlog_text.specs.InPlace.{entries_from, entry_text_fields}
 use Rattle.tlog_text.proofs.InPlaceFacts.{from_stops, none_from}

@@ -10,7 +10,7 @@ use Rattle.p3_merkle_core.specs.Geometry.{heights, shape_of, Shape}
 use Rattle.p3_merkle_core.specs.Nodes.{shape, Batch}
 use Rattle.p3_merkle_core.specs.Openings.{honest_rows}
 use Rattle.p3_merkle_core.specs.Pruning.{pruned_len, pruned_of, PrunedOpening}
-use Rattle.p3_merkle_core.specs.Views.{pruned_borrowed, pruned_made}
+use Rattle.p3_merkle_core.specs.Views.{pruned_borrowed, pruned_owned}
 use Rattle.p3_merkle_core.specs.Refusals.{pruned_len_refusal, queries_refusal}
 use Rattle.p3_merkle_prover.specs.Parts.{layers_of, tree_batch}
 use Rattle.p3_merkle_tree.specs.Schemes.{cap_layer_of, params_of}
@@ -137,7 +137,7 @@ returns-in_err-verify_batch_pruned-clause-answer g c =
     let told = c.verify_batch_pruned.ensures.accepted_is_ok
     (accepted_lent params (shape_of g.row.N c.deref-2.result.now) (shape b) (roots_of c.in_ok-roots.roots)
     (cap_over (params (shape b)) b) (pruned_borrowed is c.deref-3.result.now opening.pruned_proof)
-    (pruned_made is opening) shapes committed.own_cap
+    (pruned_owned is opening) shapes committed.own_cap
     (ap (λ sets. pruned_of is (row_sets sets) opening.pruned_proof.sibling_hashes.items)
     c.deref-3.ensures.value)
     (c.in_ok-opening.ensures.opened.is_accepted (cap_over (params (shape b)) b)

@@ -1,4 +1,4 @@
--- Each turn appends the rows of one index.
+-- The text has the lines of the indices so far, if each row set is that of its index.
 use Rattle.std.proofs.Common.{◌++◌, ◌∙◌, [], ap, sym, map, length, append_assoc, refl, arith}
 use Rattle.std.specs.Prelude.{codes, flat_map}
 use Rattle.std.proofs.lemmas.List.{length-map, take_all}

@@ -1,4 +1,4 @@
--- Each turn reads one byte of the line.
+-- The bytes so far are the numbers that were appended, and the digits of one that may go on.
 use Rattle.std.proofs.Common.{◌+◌, ◌≡◌, ◌≤◌, ◌++◌, Option, ℕ, length, map, sym, refl, ◌∙◌, subst, arith}
 use Rattle.std.specs.Prelude.{All}
 use Rattle.std.proofs.lemmas.List.{length-map}

@@ -1,4 +1,4 @@
--- Each turn is one line of the input.
+-- The lines so far are the matrices and the rows of the open block (`lines`), and the others are left (`left`).
 use Rattle.std.proofs.Common.{◌≡◌, ◌+◌, ◌==◌, ◌<◌, ◌≤◌, List, ℕ, length, drop, get_or, map, sym, refl, ◌∙◌, subst, inl}
 use Rattle.std.proofs.Common.{arith, rules}
 use Rattle.std.proofs.lemmas.Result.{err_from_is_err_and}

@@ -1,4 +1,4 @@
--- Each turn is one line more.
+-- The text has what it had, and the lines of the digests so far.
 use Rattle.std.proofs.Common.{◌++◌, ◌∙◌, ap, sym, map, append-nil, string_bytes}
 use Rattle.std.proofs.lemmas.List.{take_all}
 use Rattle.mmcs_engine.specs.Text.{hex_line, hex_lines}

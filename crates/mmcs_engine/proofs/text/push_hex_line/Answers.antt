@@ -1,4 +1,4 @@
--- Each turn appends one word.
+-- The text has what it had, and the digits of the words so far.
 use Rattle.std.proofs.Common.{◌∙◌, ◌++◌, ◌∷◌, [], ap, append_assoc, arith, map, string_bytes}
 use Rattle.std.proofs.lemmas.Str.{encode_ascii}
 use Rattle.std.specs.Prelude.{flat_map}

@@ -1,4 +1,4 @@
--- Each turn is one number more.
+-- The text has the first number, and a space and a number for each word so far.
 use Rattle.std.proofs.Common.{◌++◌, ◌∷◌, ◌∙◌, ap, sym, append-nil, string_bytes}
 use Rattle.std.specs.Prelude.{decimal}
 use Rattle.mmcs_engine.proofs.TextFacts.{texts_more}

@@ -1,4 +1,4 @@
--- Each turn adds one other digest.
+-- The digests so far are the first of the group without the one at the position (`so_far`).
 use Rattle.std.proofs.Common.{arith}
 use Rattle.std.proofs.lemmas.Bool.{le-leb, lt-leb}
 use Rattle.p3_merkle_core.proofs.Covered.KeptFacts.{other_more}

@@ -1,4 +1,4 @@
--- Each turn writes one of the siblings.
+-- The slots up to the next sibling's are those of the group, and the others have default digests.
 use Rattle.std.proofs.Common.{arith, ◌≡◌, ◌<◌, length, replicate}
 use Rattle.std.proofs.lemmas.List.{length-replicate}
 use Rattle.p3_merkle_core.proofs.Lists.GroupFacts.{group_around_is, put_before, put_behind, put_all}

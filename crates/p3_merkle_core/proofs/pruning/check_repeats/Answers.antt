@@ -1,4 +1,4 @@
--- Each turn compares a query with the first one of its index.
+-- The queries so far have the row sets of the first ones of their indices, so the refusal is that of the others.
 use Rattle.std.proofs.Common.{◌<◌, ◌∙◌, Some, not, false, refl, ap, sym, arith, get_or, length}
 use Rattle.std.specs.Cmp.Lexicographic.{pointwise}
 use Rattle.p3_merkle_core.specs.Refusals.{duplicate_refusal}

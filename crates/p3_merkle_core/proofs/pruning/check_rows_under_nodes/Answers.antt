@@ -1,4 +1,4 @@
--- Each turn compares a slot with the first one under its node, if that is another.
+-- The slots so far have the rows of the first ones under their nodes, so the refusal is that of the others (`so_far`).
 use Rattle.std.proofs.Common.{◌≡◌, ◌<◌, ◌-◌, ◌+◌, ◌/◌, ◌^◌, ◌∙◌, All, length, refl, subst, arith, None, Some, ap, sym}
 use Rattle.std.proofs.Common.{map}
 use Rattle.std.proofs.lemmas.List.{get_or-map, length-map}

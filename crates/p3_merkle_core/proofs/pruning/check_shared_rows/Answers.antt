@@ -1,8 +1,10 @@
--- Each turn is one level. No two slots are under one leaf.
-use Rattle.std.proofs.Common.{◌≡◌, ◌-◌, ◌+◌, ◌/◌, ◌^◌, ◌∙◌, suc, map, arith, refl, None, Some, add-one, ap, sym, inr}
+-- Up to the level reached, no layer has a fault, so the refusal is that of the layers above (`so_far`). It begins above
+-- the leaves, since no two slots are under one leaf.
+use Rattle.std.proofs.Common.{◌≡◌, ◌-◌, ◌+◌, ◌/◌, ◌^◌, ◌∙◌, ◌<◌, ℕ, suc, map, arith, refl, None, Some, add-one, ap, sym}
+use Rattle.std.proofs.Common.{inr, All, List}
 use Rattle.std.specs.List.{range_with_len}
 use Rattle.std.proofs.lemmas.Result.{err_from_is_err_and}
-use Rattle.p3_merkle_core.specs.Geometry.{ancestor, heights, layer_exponent, shape_of}
+use Rattle.p3_merkle_core.specs.Geometry.{ancestor, heights, layer_exponent, shape_of, IsArity, Shape}
 use Rattle.p3_merkle_core.specs.Inner.Agreement.{layers_refusal}
 use Rattle.p3_answers.specs.Answers.{first_of}
 use Rattle.p3_support.specs.Batches.{greatest}
@@ -18,6 +20,13 @@ use Rattle.p3_merkle_core.proofs.Shapes.StepFacts.{layer_start}
 use Rattle.p3_merkle_core.proofs.pruning.check_shared_rows.Goals.{then-up+in_ok-list_matrices+in_ok-check_rows_under_nodes}
 use Rattle.p3_merkle_core.proofs.pruning.check_shared_rows.Goals.{else-up}
 use Rattle.p3_merkle_core.proofs.pruning.check_shared_rows.Goals as goal
+
+-- the nodes of layer l: the leaves without the bits by which its exponent x is below the exponent t of the leaves
+nodes_above : (s : Shape) → IsArity s.arity → (l t x : ℕ) → t ≡ layer_exponent s 0 → x ≡ layer_exponent s l →
+    (leaves : List ℕ) → All (λ i. i < greatest (heights s)) leaves →
+    map (λ i. i / 2 ^ (t - x)) leaves ≡ map (ancestor s l) leaves
+nodes_above s w l t x start at leaves below =
+    nodes_by_bits s w l (t - x) (rw (at, start, layer_start s) refl) leaves below
 
 pub loop-level-init : goal.loop-level-init
 loop-level-init g c =
@@ -84,11 +93,10 @@ returns-in_err-check_rows_under_nodes g c =
     let total = layers_refusal eq s t leaves firsts sets in
     let e = c.in_err-check_rows_under_nodes.field-0.0 in
     let at : c.step_up-up.result.exponent ≡ layer_exponent s (l + 1) = rw add-one c.step_up-up.ensures.exponent in
-    let bits = c.args.schedule.now.exponent - c.step_up-up.result.exponent in
-    let nodes = map (λ i. i / 2 ^ bits) c.deref-then-up.result.now in
+    let x = c.args.schedule.now.exponent in
+    let nodes = map (λ i. i / 2 ^ (x - c.step_up-up.result.exponent)) c.deref-then-up.result.now in
     let above : nodes ≡ map (ancestor s (l + 1)) leaves = rw c.deref-then-up.ensures.value
-    (nodes_by_bits s c.requires.arity (l + 1) bits
-    (rw (at, c.args.schedule.now.walked.leaves, layer_start s) refl) leaves
+    (nodes_above s c.requires.arity (l + 1) x c.step_up-up.result.exponent c.args.schedule.now.walked.leaves at leaves
     c.requires.below) in
     let some = layer_read eq s leaves firsts c.deref-then-up-2.result.now c.deref.result.now
     nodes sets (l + 1) c.step_up-up.result.exponent (Some e) at
@@ -112,15 +120,14 @@ loop-level-preserved g c =
     let h = layer_fault eq s leaves firsts sets in
     let total = layers_refusal eq s t leaves firsts sets in
     let at : c.step_up-up.result.exponent ≡ layer_exponent s (l + 1) = rw add-one c.step_up-up.ensures.exponent in
-    let bits = c.args.schedule.now.exponent - c.step_up-up.result.exponent in
-    let above : map (λ i. i / 2 ^ bits) leaves ≡ map (ancestor s (l + 1)) leaves =
-    nodes_by_bits s c.requires.arity (l + 1) bits
-    (rw (at, c.args.schedule.now.walked.leaves, layer_start s) refl) leaves
-    c.requires.below in
+    let x = c.args.schedule.now.exponent in
+    let above = nodes_above s c.requires.arity (l + 1) x c.step_up-up.result.exponent c.args.schedule.now.walked.leaves
+    at leaves c.requires.below in
     let none : h (l + 1) ≡ None = elim c.if-up.branch [
       | then-up+in_ok-list_matrices+in_ok-check_rows_under_nodes w ↦
           layer_read eq s leaves firsts w.deref-then-up-2.result.now w.deref.result.now
-          (map (λ i. i / 2 ^ bits) w.deref-then-up.result.now) sets (l + 1) c.step_up-up.result.exponent None at
+          (map (λ i. i / 2 ^ (x - c.step_up-up.result.exponent)) w.deref-then-up.result.now) sets (l + 1)
+          c.step_up-up.result.exponent None at
           (w.deref.ensures.value ∙ w.in_ok-list_matrices.ensures)
           (rw w.deref-then-up.ensures.value above)
           w.deref-then-up-2.ensures.value w.in_ok-check_rows_under_nodes.ensures

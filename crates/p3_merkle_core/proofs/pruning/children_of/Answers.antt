@@ -1,4 +1,5 @@
--- Each turn is one child: the next covered node, or another.
+-- The children so far have their digests: the first `known` of those that are covered, and as many of the proof as the
+-- others are (`walked`).
 use Rattle.std.proofs.Common.{◌≡◌, ◌+◌, ◌-◌, ◌*◌, ◌/◌, ◌%◌, ◌<◌, ◌∙◌, ap, sym, arith, get_or, length, refl}
 use Rattle.std.specs.declared.vec.Vec.{Vec}
 use Rattle.p3_merkle_core.specs.Inner.Children.{children_under}

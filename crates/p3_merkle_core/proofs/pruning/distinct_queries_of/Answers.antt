@@ -1,4 +1,5 @@
--- The queries are sorted by their indices; then each turn writes a query to the slot of its index.
+-- The queries, sorted by their indices, give the slots; and each index has the first of its queries among those that
+-- were gone through, from the last on.
 use Rattle.std.proofs.Common.{◌≡◌, ◌-◌, ◌∙◌, ℕ, ◌++◌, ◌∷◌, [], List, ap, arith, get_or, length, map, replicate, rules}
 use Rattle.std.proofs.Common.{sym}
 use Rattle.std.proofs.lemmas.List.{map-append, take_all, take_more}

@@ -1,4 +1,4 @@
--- Each turn writes the slot of one more query.
+-- The distinct indices so far are those of the queries so far, each of which has its slot among them (`slotted`).
 use Rattle.std.proofs.Common.{◌≡◌, ◌∙◌, arith, ap, get_or, inl, inr, length}
 use Rattle.std.specs.declared.vec.Vec.{Vec}
 use Rattle.p3_merkle_core.proofs.Pruned.SortedFacts.{slots_all, slotted_next}

@@ -1,4 +1,4 @@
--- Each turn takes a matrix, or passes it by.
+-- The matrices so far, and those of the exponent among the rest, are all of the exponent.
 use Rattle.std.proofs.Common.{◌-◌, ◌+◌, ◌++◌, ◌∙◌, ap, arith, eqb, filter, get_or, length, ℕ, List}
 use Rattle.std.specs.List.{range_with_len}
 use Rattle.p3_support.specs.Batches.{heights_of}

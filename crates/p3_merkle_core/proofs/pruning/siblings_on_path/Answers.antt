@@ -1,4 +1,5 @@
--- Each turn adds the siblings of one level.
+-- The path has the siblings of the levels so far (`walked`), and its node in the layer that is reached is covered
+-- (`covered`).
 use Rattle.std.proofs.Common.{◌≡◌, ◌∙◌, ◌+◌, ◌-◌, ◌*◌, sym, arith}
 use Rattle.std.proofs.lemmas.List.{get_or_default, length-set}
 use Rattle.p3_merkle_core.proofs.Covered.KeptFacts.{group_at_place, link_at, path_turn}

@@ -1,4 +1,5 @@
--- Each turn keeps one step of the walk.
+-- The bits tell which exponents the matrices so far have; the steps that are kept are those of the walk up to the layer
+-- that it has reached, and no matrix belongs above the last.
 use Rattle.std.proofs.Common.{◌≡◌, ◌<◌, ◌≤◌, ◌+◌, ap, arith, eqb, get_or, length, length-set, refl, sym, ◌∙◌}
 use Rattle.std.proofs.lemmas.List.{get_or-replicate, get_or-map, get_or-set_other, length-map}
 use Rattle.std.proofs.lemmas.Nat.Bits.{bit_at-zero}

@@ -1,4 +1,4 @@
--- Each turn compresses the groups of one call.
+-- The slots so far have the compressions of their children, which are in the layer below.
 use Rattle.std.proofs.Common.{arith, ◌≡◌, ℕ, ◌+◌, ◌-◌, ◌*◌, ◌≤◌, List, ◌++◌, ◌∙◌, ap, sym, refl, length, map, drop}
 use Rattle.std.proofs.Common.{length-drop, replicate, take}
 use Rattle.std.proofs.lemmas.List.{length-take-le}

@@ -1,4 +1,4 @@
--- Each turn puts one child into its place, and the places after the children keep their default digests.
+-- In each lane the group has the children so far of one node, and default digests after them.
 use Rattle.std.proofs.Common.{arith, ◌≡◌, ◌+◌, ◌-◌, ◌*◌, ◌<◌, ◌++◌, ◌∙◌, [], ap, length, take, drop, map, set, sym}
 use Rattle.std.proofs.Common.{List, length-set, replicate}
 use Rattle.std.proofs.lemmas.List.{map-set, length-map, length-replicate, take_all, drop-replicate}

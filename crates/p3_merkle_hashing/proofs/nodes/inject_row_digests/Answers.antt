@@ -1,4 +1,4 @@
--- Each turn compresses the groups of one call.
+-- The slots so far have their digests compressed with those of their rows, and the others are as they were.
 use Rattle.std.proofs.Common.{arith, ◌≡◌, ℕ, ◌+◌, ◌-◌, ◌≤◌, List, ◌∷◌, ◌∙◌, [], ap, length, map, take, drop, replicate}
 use Rattle.std.proofs.Common.{slice_index_or}
 use Rattle.std.specs.List.{range_with_len}

@@ -1,4 +1,4 @@
--- Each turn stages the children of one node.
+-- The groups so far are the children of the nodes so far, then default digests.
 use Rattle.std.proofs.Common.{arith, ◌≡◌, ℕ, ◌+◌, ◌-◌, ◌*◌, ◌<◌, ◌≤◌, List, ◌∷◌, ◌++◌, ◌∙◌, [], ap, sym, length, map}
 use Rattle.std.proofs.Common.{drop, replicate, take}
 use Rattle.std.proofs.lemmas.List.FromFn.{map-range_with_len_more}

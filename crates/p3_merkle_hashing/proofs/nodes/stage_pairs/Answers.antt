@@ -1,4 +1,4 @@
--- Each turn stages one group.
+-- The groups so far are the pairs of the nodes so far, then default digests.
 use Rattle.std.proofs.Common.{arith, ◌≡◌, ℕ, ◌-◌, ◌<◌, ◌∷◌, ◌++◌, ◌∙◌, [], ap, sym, length, map, replicate}
 use Rattle.std.proofs.Common.{slice_index_or}
 use Rattle.std.proofs.lemmas.List.{get_or_read}

@@ -1,4 +1,5 @@
--- A lone matrix lends its own rows; else each turn appends that of one more matrix.
+-- A lone matrix may lend its own rows; else the words so far are those of the rows so far, and of the next row in the
+-- matrices so far.
 use Rattle.std.proofs.Common.{arith, ℕ, ◌≡◌, ◌+◌, ◌-◌, ◌*◌, ◌^◌, ◌++◌, ◌∙◌, add-one, ap, append_assoc, sym}
 use Rattle.std.proofs.Common.{take}
 use Rattle.std.proofs.lemmas.List.{take_all}

@@ -15,11 +15,11 @@ new-kept-requires g c = omega (arith, (arity_from g.row.N c.requires.arity).abov
 
 pub invariant_of-builder-clause-build : goal.invariant_of-builder-clause-build
 invariant_of-builder-clause-build g c =
-    let own = c.args.leaves.own
-    ∙ sym (dimensions_are g.M.Matrix.height_of g.M.Matrix.width_of g.M.Matrix.row_of c.args.leaves.matrices.items) in
+    let own = c.args.checked.own
+    ∙ sym (dimensions_are g.M.Matrix.height_of g.M.Matrix.width_of g.M.Matrix.row_of c.args.checked.matrices.items) in
     rw c.deref.ensures.value (record {
       arity = arity_from g.row.N c.requires.arity;
-      lawful = subst (λ (ds : List Dimensions). IsLawful (heights_of ds)) own c.args.leaves.lawful;
+      lawful = subst (λ (ds : List Dimensions). IsLawful (heights_of ds)) own c.args.checked.lawful;
       same = c.schedule-schedule.ensures.dimensions ∙ c.new-kept.ensures.dimensions ∙ own;
     })
 
@@ -37,9 +37,9 @@ invariant_of-result-clause-arity g c = arity_from g.row.N c.requires.arity
 
 pub invariant_of-result-clause-lawful : goal.invariant_of-result-clause-lawful
 invariant_of-result-clause-lawful g c =
-    let own = c.args.leaves.own
-    ∙ sym (dimensions_are g.M.Matrix.height_of g.M.Matrix.width_of g.M.Matrix.row_of c.args.leaves.matrices.items) in
-    subst (λ (ds : List Dimensions). IsLawful (heights_of ds)) own c.args.leaves.lawful
+    let own = c.args.checked.own
+    ∙ sym (dimensions_are g.M.Matrix.height_of g.M.Matrix.width_of g.M.Matrix.row_of c.args.checked.matrices.items) in
+    subst (λ (ds : List Dimensions). IsLawful (heights_of ds)) own c.args.checked.lawful
 
 pub invariant_of-result-clause-layer_lengths : goal.invariant_of-result-clause-layer_lengths
 invariant_of-result-clause-layer_lengths g c =
@@ -47,13 +47,13 @@ invariant_of-result-clause-layer_lengths g c =
     (g.C.PseudoCompressionFunction.compression c.args.compress.now)
     (replicate g.row.D g.PW.PackedValue.default_value) in
     lengths_from (λ nodes. nodes.items) c.in_ok-layers.layers.items f
-    (batch_of g.M.Matrix.height_of g.M.Matrix.width_of g.M.Matrix.row_of g.row.N c.args.leaves.matrices.items)
+    (batch_of g.M.Matrix.height_of g.M.Matrix.width_of g.M.Matrix.row_of g.row.N c.args.checked.matrices.items)
     (c.in_ok-layers.ensures
     ∙ ap (λ ms. layers f (batch_of g.M.Matrix.height_of g.M.Matrix.width_of g.M.Matrix.row_of g.row.N ms))
     c.deref.ensures.value)
 
 pub invariant_of-result-clause-own_shape : goal.invariant_of-result-clause-own_shape
 invariant_of-result-clause-own_shape g c =
-    let own = c.args.leaves.own
-    ∙ sym (dimensions_are g.M.Matrix.height_of g.M.Matrix.width_of g.M.Matrix.row_of c.args.leaves.matrices.items) in
+    let own = c.args.checked.own
+    ∙ sym (dimensions_are g.M.Matrix.height_of g.M.Matrix.width_of g.M.Matrix.row_of c.args.checked.matrices.items) in
     rw c.new-kept.ensures.arity (ap (shape_of g.row.N) (c.new-kept.ensures.dimensions ∙ own))

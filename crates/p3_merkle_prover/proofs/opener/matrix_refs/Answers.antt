@@ -1,4 +1,4 @@
--- One more matrix.
+-- The references so far are to the first matrices.
 use Rattle.std.proofs.Common.{sym, ap, ◌∙◌, ◌++◌, ◌∷◌, [], take, refl}
 use Rattle.std.proofs.lemmas.{List.take_more, List.map-append, List.take_all}
 use Rattle.p3_merkle_prover.proofs.opener.matrix_refs.Goals as goal

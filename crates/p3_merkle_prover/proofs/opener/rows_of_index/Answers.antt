@@ -1,4 +1,4 @@
--- Each turn reads one more row.
+-- The rows so far are the honest ones of the first matrices (`read`).
 use Rattle.std.proofs.Common.{◌∙◌, arith, refl}
 use Rattle.std.proofs.lemmas.{List.take_all}
 use Rattle.p3_merkle_core.specs.Openings.{honest_rows}

@@ -1,4 +1,5 @@
--- Each turn opens the group of one level.
+-- The siblings so far are those of the levels below the one that is reached, where the ancestor of the index is the
+-- node.
 use Rattle.std.proofs.Common.{◌≡◌, ◌≤◌, ◌∙◌, ℕ, ap, arith, sym, subst, length, refl}
 use Rattle.p3_support.specs.Batches.{greatest}
 use Rattle.p3_merkle_core.specs.Geometry.{Shape, height_limit, heights, levels, step}

@@ -1,4 +1,5 @@
--- Each turn is one level.
+-- The digests so far are those of the boundary below the layer that is reached (`so_far`), of which the covered nodes
+-- are known.
 use Rattle.std.proofs.Common.{◌≡◌, ◌∙◌, ◌≤◌, arith, add-one, ap, length, subst, sym}
 use Rattle.p3_support.specs.Batches.{greatest}
 use Rattle.p3_merkle_core.specs.Geometry.{Shape, height_limit, heights, levels, step}

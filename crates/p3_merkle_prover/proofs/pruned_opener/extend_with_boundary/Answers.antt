@@ -1,4 +1,5 @@
--- Each turn adds what lies beside one covered node.
+-- The digests so far are those of the boundary below `next` (`so_far`), where the groups of the covered nodes so far
+-- end (`gone`).
 use Rattle.std.proofs.Common.{◌+◌, ◌-◌, ◌%◌, ◌≤◌, ◌++◌, ◌∙◌, ap, arith, sym, append-nil, get_or, length, refl}
 use Rattle.p3_merkle_prover.proofs.BoundaryFacts.{EndsAt, gone_start, others_end, others_without, turned}
 use Rattle.p3_merkle_prover.proofs.pruned_opener.extend_with_boundary.Goals as goal

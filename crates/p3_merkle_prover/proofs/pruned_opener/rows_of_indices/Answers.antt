@@ -1,4 +1,4 @@
--- Each turn reads one more row set.
+-- The row sets so far are the honest ones of the indices so far.
 use Rattle.std.proofs.Common.{arith, refl, ◌∙◌, ap, map}
 use Rattle.std.proofs.lemmas.{List.take_all}
 use Rattle.p3_merkle_core.specs.Openings.{honest_rows}

@@ -1,4 +1,4 @@
--- One more copy.
+-- The copies so far have the digests of the layers so far.
 use Rattle.std.proofs.Common.{◌≡◌, refl, sym, ap, ◌+◌, ◌∙◌, ◌++◌, ◌∷◌, [], take}
 use Rattle.std.proofs.lemmas.List.{take_more, map-append}
 use Rattle.p3_merkle_prover.proofs.tree.copies_of.Goals as goal

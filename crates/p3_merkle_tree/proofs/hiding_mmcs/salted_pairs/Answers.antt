@@ -1,4 +1,5 @@
--- Each turn draws the salts of one more matrix.
+-- The pairs so far, and those that the matrices which are left will be with the words still to be drawn, are the salted
+-- matrices (`salted`).
 use Rattle.std.proofs.Common.{◌≡◌, ◌∙◌, ◌+◌, ◌*◌, List, [], ◌∷◌, ◌++◌, ap, append-nil, arith, map, refl, subst, sym}
 use Rattle.std.proofs.lemmas.List.Elements.{All-push}
 use Rattle.std.proofs.lemmas.List.{map-append, nil_from_length}

@@ -1,4 +1,5 @@
--- Each turn adds the parts of one more set; the pairs are the matrices of the tree.
+-- The parts of the sets so far, and those of the sets that are left, are those of all sets; the pairs are the matrices
+-- of the tree.
 use Rattle.std.proofs.Common.{◌∙◌, ap, append-nil, arith, map, refl}
 use Rattle.std.proofs.lemmas.List.{nil_from_length}
 use Rattle.std.specs.Vec.Iter.{into_iter_items}

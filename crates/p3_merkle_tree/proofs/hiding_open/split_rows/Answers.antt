@@ -1,4 +1,5 @@
--- Each turn cuts one more row; where either list is at its end, all rows are taken apart.
+-- The parts of the rows so far, and those of the rows that are left, are those of all rows; nothing is left where
+-- either list is at its end.
 use Rattle.std.proofs.Common.{◌≡◌, ◌⊎◌, ◌∙◌, ℕ, [], ap, arith, drop, inl, inr, length, map, min, sym, take}
 use Rattle.std.proofs.lemmas.{List.drop_min, List.nil_from_length, List.take_min}
 use Rattle.std.specs.Iterator.Adapters.{zip_first, zip_second}

@@ -11,7 +11,7 @@ use Rattle.std.specs.Slice.Iter.{iter_rest}
 use Rattle.p3_merkle_core.specs.Refusals.{AnswersUnlessMemory}
 use Rattle.p3_support.specs.Shown.{row_lists, row_sets}
 use Rattle.p3_merkle_tree.proofs.SaltFacts.{no_set_refused, set_passes, set_refused, sets_decide}
-use Rattle.p3_merkle_tree.specs.SaltRefusals.{salt_refusal, widening_refusal}
+use Rattle.p3_merkle_tree.specs.SaltRefusals.{row_and_salt_form_refusal, widening_refusal}
 use Rattle.p3_merkle_tree.proofs.salts.check_salted_sets.Goals as goal
 
 pub loop-rows-preserved : goal.loop-rows-preserved
@@ -22,7 +22,7 @@ loop-rows-preserved g c =
     let salt = c.in-Some.salt_set in
     let ds = c.args.dimensions.now in
     let turn = Zip-more it new c.next.result (rows, salt) c.in-Some.is c.next.ensures.steps in
-    let pass : salt_refusal ds (row_lists rows.now.items) (row_lists salt.now.items) ≡ None =
+    let pass : row_and_salt_form_refusal ds (row_lists rows.now.items) (row_lists salt.now.items) ≡ None =
     rw (c.deref.ensures.value, c.deref-in-loop-rows.ensures.value) at c.in_ok-check_rows_and_salts.ensures in
     set_passes ds rows.now salt.now (iter_rest (zip_first new)) (iter_rest (zip_first it)) (iter_rest (zip_second new))
     (iter_rest (zip_second it)) _ turn.0 turn.1 c.loop-rows.invariant pass
@@ -36,7 +36,7 @@ returns-in_err-check_rows_and_salts g c =
     let ds = c.args.dimensions.now in
     let e = c.in_err-check_rows_and_salts.field-0.0 in
     let turn = Zip-more it new c.next.result (rows, salt) c.in-Some.is c.next.ensures.steps in
-    let refused : salt_refusal ds (row_lists rows.now.items) (row_lists salt.now.items) ≡ Some e =
+    let refused : row_and_salt_form_refusal ds (row_lists rows.now.items) (row_lists salt.now.items) ≡ Some e =
     rw (c.deref.ensures.value, c.deref-in-loop-rows.ensures.value) at c.in_err-check_rows_and_salts.ensures in
     let first = sets_decide ds (row_sets c.args.sets.now) (row_sets c.args.salts.now) (Some e)
     (simp length-map c.if-salts-sets.false) (set_refused ds rows.now salt.now (iter_rest (zip_first new))

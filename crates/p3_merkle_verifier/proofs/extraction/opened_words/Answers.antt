@@ -1,4 +1,4 @@
--- Each iteration adds one part, and all parts are read.
+-- The words so far are those of the parts so far, and the parts of all rows are all parts.
 use Rattle.std.proofs.Common.{◌≡◌, ◌∙◌, ◌++◌, ◌∷◌, [], ap, append-nil, sym, zip}
 use Rattle.std.proofs.lemmas.Grind.{flat_map-append}
 use Rattle.std.proofs.lemmas.Iterator.Consumers.{YieldsList-from_first}

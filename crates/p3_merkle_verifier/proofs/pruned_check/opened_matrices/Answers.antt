@@ -1,4 +1,4 @@
--- Each turn looks at one more matrix.
+-- The rows of the matrices so far are those that the queries opened of them (`rows`).
 use Rattle.std.proofs.Common.{◌≡◌, ◌∙◌, ℕ, ◌<◌, [], All, ap, arith, get_or, length, refl, subst, sym, zip}
 use Rattle.std.proofs.lemmas.List.{get_or-map, length-map, take_all}
 use Rattle.std.proofs.lemmas.List.Elements.{All-push}

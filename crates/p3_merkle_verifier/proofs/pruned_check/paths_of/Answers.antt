@@ -1,5 +1,5 @@
--- Each turn reads the path of one more leaf, or copies that of one more query; the paths out of the layers are the
--- restored ones.
+-- The paths out of the layers are the restored ones; each leaf whose first query is still to come has its own (`left`),
+-- and each query so far has that of its leaf (`shown`).
 use Rattle.std.proofs.Common.{◌≡◌, ◌∙◌, ◌<◌, ◌≤◌, ℕ, List, ap, arith, rules, get_or, inl, inr, length, map, refl, sym}
 use Rattle.std.proofs.Common.{take, true}
 use Rattle.std.proofs.lemmas.Bool.{cases_lt}

@@ -1,4 +1,4 @@
--- Each turn is one more leaf: its first query is kept if it is the first one under its node.
+-- The queries so far stand under the nodes of the leaves so far, one under each (`under`).
 use Rattle.std.proofs.Common.{◌≡◌, ◌∙◌, ℕ, ◌+◌, ◌-◌, ◌/◌, ◌^◌, ◌<◌, ◌++◌, ◌∷◌, [], List, arith, ap, eqb, sym, get_or}
 use Rattle.std.proofs.Common.{inl, inr, length, map, refl}
 use Rattle.std.proofs.lemmas.List.{get_or_default, length-map, take_all}

@@ -1,4 +1,4 @@
--- One step after another, until nothing is left or enough entries have ended.
+-- Splitter and tree are those of the bytes so far (`built`), until none are left or enough entries have ended.
 use Rattle.std.proofs.Common.{length-append, ◌<◌, ◌^◌, ◌≡◌, ◌+◌, ℕ, List, nat_lt, true, length, ◌∙◌, ◌++◌, ap}
 use Rattle.std.proofs.Common.{append_assoc, arith, inl, inr, leb-true, subst, sym, ltb-true}
 use Rattle.std.proofs.lemmas.Result.{err_from_is_err_and}

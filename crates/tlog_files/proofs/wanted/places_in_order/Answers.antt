@@ -1,3 +1,4 @@
+-- The places so far have their indices; once sorted, they are all places, and the indices ascend.
 use Rattle.std.proofs.Common.{◌≡◌, ℕ, List, ◌∙◌, ap, arith, length, map, refl, subst}
 use Rattle.std.specs.List.{range_with_len}
 use Rattle.std.specs.List.Sorted.{IsPermutation}

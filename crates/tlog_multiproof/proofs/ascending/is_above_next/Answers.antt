@@ -1,3 +1,4 @@
+-- The next entry is under the node exactly if the node is covered and the cursor is not past it.
 use Rattle.std.proofs.Common.{◌<◌, ◌/◌, ◌^◌, ap, arith, eq-eqb, inl, inr, length, ltb-true, nat_lt, ne_eqb, sym, ◌∙◌}
 use Rattle.std.proofs.lemmas.Bool.{cases_eq, false_from_ne_true}
 use Rattle.p3_merkle_core.specs.Pruning.{is_covered}

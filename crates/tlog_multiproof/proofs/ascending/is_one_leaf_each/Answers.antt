@@ -1,3 +1,4 @@
+-- If neighbours of one index have one leaf hash, so have all entries of one index, since they stand side by side.
 use Rattle.std.proofs.Common.{◌≡◌, ◌∙◌, ◌-◌, Bool, true, false, not, [], ap, refl, arith, eqb, get_or, inl, inr, suc}
 use Rattle.std.proofs.Common.{sym}
 use Rattle.std.proofs.lemmas.Bool.{cases_eq, not-true, true≢false}

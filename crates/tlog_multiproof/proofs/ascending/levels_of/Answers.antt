@@ -1,3 +1,4 @@
+-- The levels of the schedule are those of the log's shape.
 use Rattle.std.proofs.Common.{◌≡◌, ◌∙◌, arith}
 use Rattle.p3_merkle_core.specs.Geometry.{levels}
 use Rattle.tlog_multiproof.specs.Instance.{log_shape}

@@ -1,3 +1,4 @@
+-- The entries so far have the index, and those after the first that has not are of greater indices.
 use Rattle.std.proofs.Common.{◌≤◌, ◌∙◌, arith, length}
 use Rattle.tlog_multiproof.proofs.AscentStands.{stands_past}
 use Rattle.tlog_multiproof.proofs.ascending.past.Goals as goal

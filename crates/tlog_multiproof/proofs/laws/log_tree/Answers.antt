@@ -1,3 +1,4 @@
+-- Each clause is a lemma on the log's tree as a tree of arity 2: its shape, its nodes and what is accepted in it.
 use Rattle.std.proofs.Common.{◌*◌, ◌^◌, ◌<◌, length, [], ◌∷◌, map, take, drop, sym, ap, subst, ◌∙◌, arith, get_or}
 use Rattle.std.proofs.lemmas.List.{drop-map, length-map, take-map}
 use Rattle.p3_merkle_core.specs.Geometry.{levels}
@@ -6,7 +7,7 @@ use Rattle.p3_merkle_core.specs.Commitments.{cap_over}
 use Rattle.p3_merkle_core.specs.Pruning.{boundary, honest_query, restored_path}
 use Rattle.tlog.specs.Rfc9162.{leaf_hash, mth}
 use Rattle.tlog.proofs.Layers.{itself}
-use Rattle.tlog_multiproof.specs.Instance.{AreFilled, log_functions, log_params, log_shape, present, root_cap}
+use Rattle.tlog_multiproof.specs.Instance.{AreLogDigests, log_functions, log_params, log_shape, present, root_cap}
 use Rattle.tlog_multiproof.specs.Laws.{entries_batch}
 use Rattle.tlog_multiproof.specs.declared.tree.Node.TheVariants.{Hash}
 use Rattle.tlog_multiproof.proofs.Honest.{honest_filled, honest_is_path, restored_is_path}
@@ -53,7 +54,7 @@ pub returns-clause-restored : goal.returns-clause-restored
 returns-clause-restored c = record {
   filled = λ hash D indices some.
       let len = length-map D (leaf_hash hash) in
-      subst (λ n. let s = log_shape n in AreFilled n (boundary s indices (levels s))
+      subst (λ n. let s = log_shape n in AreLogDigests n (boundary s indices (levels s))
       (honest_query (log_functions hash) (entries_batch hash D) (levels s) indices).digests) len
       (honest_filled hash (map (leaf_hash hash) D) (rw len some) indices);
   paths = λ hash D indices k small below inside.

@@ -1,4 +1,5 @@
--- Each turn is one layer.
+-- The nodes so far are the boundary below the layer that is reached (`so_far`), of which the covered slots are known;
+-- above the last layer there is none.
 use Rattle.std.proofs.Common.{◌≡◌, ℕ, ◌<◌, ◌≤◌, ◌-◌, ◌/◌, ◌^◌, ◌∙◌, ap, arith, filter, map, not, sym}
 use Rattle.p3_support.specs.Lists.{is_among}
 use Rattle.p3_merkle_core.specs.Geometry.{levels}

@@ -1,4 +1,4 @@
--- Each turn is one slot. Then repeats are dropped.
+-- The slots so far have become their parents; repeats among these stand side by side, and are dropped.
 use Rattle.std.proofs.Common.{◌≡◌, ◌<◌, ◌≤◌, ℕ, List, ◌∙◌, ◌/◌, ◌++◌, ap, append-nil, arith, drop, eqb}
 use Rattle.std.proofs.Common.{get_or, length, map}
 use Rattle.std.proofs.lemmas.List.{drop_all, get_or_default, take_all, with_items_is}

@@ -1,3 +1,4 @@
+-- The nodes so far are those of the boundary that have entries below them; their values prove the entries of any log.
 use Rattle.std.proofs.Common.{◌≡◌, ◌<◌, ◌≤◌, ◌∙◌, All, ap, filter, length, map, get_or, sym, subst, [], ℕ, List}
 use Rattle.std.proofs.lemmas.List.{take_all}
 use Rattle.p3_merkle_core.specs.Geometry.{levels}

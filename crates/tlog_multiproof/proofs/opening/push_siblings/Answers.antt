@@ -1,4 +1,4 @@
--- Each turn is one node.
+-- The nodes so far are the siblings of the slots so far, without those that are covered.
 use Rattle.std.proofs.Common.{◌≡◌, ◌++◌, ◌∷◌, [], ℕ, ap, arith, filter, get_or, map, not, sym, ◌∙◌, append-nil}
 use Rattle.p3_support.specs.Lists.{is_among}
 use Rattle.tlog_tree.specs.Trees.{id_of}

@@ -1,4 +1,5 @@
--- Each turn is one node.
+-- The digests so far are padding or the first `used` ones of the proof, so that the proof has too few or too many
+-- exactly if one is missing or left over.
 use Rattle.std.proofs.Common.{◌≡◌, ◌<◌, ◌++◌, ◌∷◌, [], ◌∙◌, ℕ, List, Bool, ap, arith, get_or, inr, length, sym}
 use Rattle.std.proofs.lemmas.List.{length-map}
 use Rattle.tlog_tree.specs.Trees.{id_of}

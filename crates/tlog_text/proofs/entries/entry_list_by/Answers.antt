@@ -1,4 +1,4 @@
--- Each turn reads one entry.
+-- What is read of the text is the entries so far, and then what is read of the rest.
 use Rattle.std.proofs.Common.{⊎_elim, ◌+◌, ◌-◌, ◌∷◌, [], ap, inl, inr, map, refl, sym, ◌∙◌}
 use Rattle.std.proofs.lemmas.List.{map-append}
 use Rattle.std.proofs.lemmas.Result.{err_from_is_err_and}

@@ -1,3 +1,4 @@
+-- The proof is read as one whose entries are copied, and its entries stand where the text says.
 use Rattle.std.proofs.Common.{◌≡◌, ℕ, List, [], ◌∷◌, Err, sym, inr, rules}
 use Rattle.std.proofs.lemmas.Result.{err_from_is_err_and}
 use Rattle.tlog_text.specs.Reading.{ended, entries_by}

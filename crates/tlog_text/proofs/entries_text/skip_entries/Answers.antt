@@ -1,3 +1,4 @@
+-- What is read of the text is the entries so far, and then what is read of the rest.
 use Rattle.std.proofs.Common.{◌∷◌, ◌++◌, [], refl, sym, ap, ◌∙◌}
 use Rattle.std.proofs.lemmas.Result.{err_from_is_err_and}
 use Rattle.tlog_text.specs.Inner.Rests.{rest_of}

@@ -1,4 +1,4 @@
--- Each turn reads one digest.
+-- What is read of the text is the digests so far, and then what is read of the rest.
 use Rattle.std.proofs.Common.{◌+◌, ◌-◌, List, ℕ, ap, inr, refl, sym, ◌∙◌}
 use Rattle.std.proofs.lemmas.Result.{err_from_is_err_and}
 use Rattle.tlog_text.specs.Lines.{digest_of}

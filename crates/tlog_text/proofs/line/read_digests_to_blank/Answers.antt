@@ -1,4 +1,4 @@
--- Each turn reads one digest, if no blank line stands next.
+-- What is read of the text is the digests so far, and then what is read of the rest up to its blank line.
 use Rattle.std.proofs.Common.{◌+◌, ◌-◌, List, ℕ, ap, inr, sym, ◌∙◌}
 use Rattle.std.proofs.lemmas.Result.{err_from_is_err_and}
 use Rattle.tlog_text.specs.Lines.{digest_of}

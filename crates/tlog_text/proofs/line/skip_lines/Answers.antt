@@ -1,4 +1,4 @@
--- Each turn reads past one line.
+-- What is read of the text is the lines so far, and then what is read of the rest up to its blank line or its end.
 use Rattle.std.proofs.Common.{◌∷◌, ◌++◌, [], refl, sym, ap, ◌∙◌}
 use Rattle.std.proofs.lemmas.Bool.{or_from, or_left, or_right}
 use Rattle.std.proofs.lemmas.Result.{err_from_is_err_and}

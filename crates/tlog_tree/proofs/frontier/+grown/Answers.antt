@@ -1,3 +1,4 @@
+-- The whole nodes of a layer are those of the layer above, and its last node if that has no sibling.
 use Rattle.std.proofs.Common.{arith, length, sym, ap, ◌∙◌, List, ℕ, [], ◌++◌, ◌≡◌, ◌≤◌, ◌<◌, ◌+◌, ◌*◌, ◌/◌, ◌%◌}
 use Rattle.std.proofs.Common.{length-append, drop, vec_len}
 use Rattle.std.proofs.lemmas.List.{append-nil, nil_from_length}

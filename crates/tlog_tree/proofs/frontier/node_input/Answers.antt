@@ -1,3 +1,4 @@
+-- A byte 1 and both children, put into their places, are the input of the definition.
 use Rattle.std.proofs.Common.{◌≡◌, ℕ, List, [], ◌∷◌, ◌++◌, take, drop, length, length-append, ap, ◌∙◌, arith, refl}
 use Rattle.std.proofs.lemmas.List.{append-nil, length-drop, nil_from_length, take_at}
 use Rattle.tlog_tree.proofs.frontier.node_input.Goals as goal

@@ -1,3 +1,4 @@
+-- The inputs so far are those of the first pairs of siblings.
 use Rattle.std.proofs.Common.{arith, length, sym, ap, ◌∙◌, List, ℕ, ◌≡◌, ◌*◌, ◌/◌}
 use Rattle.std.specs.List.{flat_map}
 use Rattle.std.proofs.lemmas.List.{take_at}

@@ -1,3 +1,4 @@
+-- The inputs of the entries so far stand one after another, all of one length.
 use Rattle.std.proofs.Common.{◌≡◌, suc, ◌∙◌, List, ℕ, [], Bor, ap, arith, get_or, length, map}
 use Rattle.std.specs.List.{flat_map}
 use Rattle.std.proofs.lemmas.List.{take_all, take_at}

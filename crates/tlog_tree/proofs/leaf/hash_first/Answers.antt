@@ -1,3 +1,4 @@
+-- Each index that a batch names has the leaf hash of its entry, and the others keep what they have.
 use Rattle.std.proofs.Common.{ℕ, List, Bor, arith, get_or, map}
 use Rattle.std.proofs.lemmas.List.{length-map}
 use Rattle.std.proofs.lemmas.List.Elements.{All-take}

@@ -1,3 +1,4 @@
+-- The places that are done have their leaf hashes (`hashed`); done and left, they are all entries in another order.
 use Rattle.std.proofs.Common.{◌≡◌, ◌++◌, [], ℕ, ◌∙◌, All, List, Bor, ap, append_assoc, append-nil, arith, drop, get_or}
 use Rattle.std.proofs.Common.{length, map, refl, subst, sym, take}
 use Rattle.std.proofs.lemmas.List.{get_or-map, length-map, nil_from_length, take-append-drop, take_at, take_rest}

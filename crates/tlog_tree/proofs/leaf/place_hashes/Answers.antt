@@ -1,3 +1,4 @@
+-- The indices of the places so far have their leaf hashes (`hashed`), and no hash that was there is lost (`kept`).
 use Rattle.std.proofs.Common.{ℕ, ◌<◌, [], arith, below_more, get_or, length, set, subst}
 use Rattle.std.proofs.lemmas.List.{get_or_default}
 use Rattle.tlog_tree.specs.Inner.Leaves.{IsHashed}

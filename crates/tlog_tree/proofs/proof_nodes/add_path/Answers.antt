@@ -1,3 +1,4 @@
+-- The siblings so far, and the path from the node that is reached, are the whole path (`path`).
 use Rattle.std.proofs.Common.{arith, sym, ap, ◌∙◌, ◌++◌, List, ℕ}
 use Rattle.std.proofs.lemmas.List.{append-nil}
 use Rattle.tlog_tree.specs.Inner.Layers.{layer_of}

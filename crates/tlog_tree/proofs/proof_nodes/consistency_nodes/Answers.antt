@@ -1,3 +1,5 @@
+-- The proof from the `old` first nodes of the layer that is reached is that from the old size (`proof`): the last old
+-- node, unless that is all, and then the path from it.
 use Rattle.std.proofs.Common.{arith, length, ap, ◌∙◌, ◌≡◌, ◌<◌, ◌-◌, ◌/◌, ◌++◌, ◌∷◌, inl, inr, List, ℕ, []}
 use Rattle.std.specs.Prelude.{true, ◌⊎◌}
 use Rattle.tlog.specs.Rfc9162.{subproof}

@@ -1,3 +1,4 @@
+-- The path of a leaf is that of a node of layer 0.
 use Rattle.std.proofs.Common.{arith, length, ap, ◌∙◌, ◌≡◌, ◌+◌, ◌-◌, ◌++◌, List, ℕ}
 use Rattle.tlog.specs.Rfc9162.{path}
 use Rattle.tlog_tree.specs.Trees.{all_there, values_at}

@@ -78,8 +78,8 @@ impl<'a> Covered<'a> {
     }
 }
 
-/// Replaces ascending nodes of a layer by their parents, each once, ascending. A parent has `step` children, at least
-/// 1.
+/// Replaces `covered`, ascending nodes of a layer, by their parents in the layer above, each once, ascending. A parent
+/// has `step` children, at least 1.
 #[inline]
 fn replace_by_parents(covered: &mut Vec<usize>, step: usize) {
     if covered.is_empty() {

@@ -143,7 +143,8 @@ pub(crate) fn check_row_widths<T>(
     Ok(())
 }
 
-/// Whether two parts of a row have `width` words together, which may be more than `usize` can count.
+/// Whether a row in two parts, of `first` and of `second` words, has `width` words. Both together may be more than
+/// `usize` can count.
 #[inline]
 fn has_width(width: usize, first: usize, second: usize) -> bool {
     first <= width && second == width - first

@@ -60,7 +60,7 @@ impl<'a, P: PackedValue, PW: PackedValue, H: CryptographicHasher<P, PW, D>, M: M
         self.fill_batched(staged, first + done, &mut digests[done..])
     }
 
-    /// The digest of one row, by a call for it alone. The row must be below the height, and `len` the number of its
+    /// The digest of row `row`, by a call for it alone. `row` must be below the height, and `len` the number of its
     /// words. A row that a lone matrix stores in two pieces is hashed where it lies, any other as [`contiguous_rows`]
     /// gives it. `staged` is a buffer for a row. `AllocError` if memory runs out.
     fn row_digest(&self, staged: &mut Vec<P::Value>, len: usize, row: usize) -> Result<[PW::Value; D], AllocError> {
@@ -137,8 +137,8 @@ impl<'a, P: PackedValue, PW: PackedValue, H: CryptographicHasher<P, PW, D>, M: M
 
 /// The words of `count` rows from `first` on, one row after another, where a row is the row of each matrix, in order.
 /// They are borrowed from the matrix if there is only one and it stores them in one piece, else copied into `staged`.
-/// All matrices must have this height, and `len` words a row in all. `count` must be at least 1, and `first + count` at
-/// most the height. `AllocError` if memory runs out, or if there are 2^64 words or more.
+/// All matrices must have the height `height`, and a row `len` words in all of them together. `count` must be at least
+/// 1, and `first + count` at most the height. `AllocError` if memory runs out, or if there are 2^64 words or more.
 fn contiguous_rows<'b, T: Copy, M: Matrix<T>>(
     staged: &'b mut Vec<T>,
     matrices: &'b [M],

@@ -37,9 +37,8 @@ pub(crate) fn checked_matrices<T, M: Matrix<T>>(matrices: Vec<M>) -> Result<Chec
     Ok(CheckedMatrices { matrices, dimensions, item: PhantomData })
 }
 
-/// Builds the tree over matrices whose heights are checked, `leaves`: computes how many children the nodes of each
-/// layer have, then the layers. `N` must be a power of two from 2 to 2^62, and both packings must have equally many
-/// lanes, at least one.
+/// Builds the tree over the matrices of `checked`: computes how many children the nodes of each layer have, then the
+/// layers. `N` must be a power of two from 2 to 2^62, and both packings must have equally many lanes, at least one.
 ///
 /// # Errors
 ///
@@ -55,9 +54,9 @@ pub(crate) fn tree_over<
 >(
     hash: &H,
     compress: &C,
-    leaves: CheckedMatrices<P::Value, M>,
+    checked: CheckedMatrices<P::Value, M>,
 ) -> Result<MerkleTree<P::Value, PW::Value, M, N, D>, AllocError> {
-    let CheckedMatrices { matrices, dimensions, .. } = leaves;
+    let CheckedMatrices { matrices, dimensions, .. } = checked;
     let kept = OwnedSchedule::new(dimensions, N);
     let schedule = kept.schedule();
     let builder = MerkleTreeBuilder::<P, PW, H, C, M, N, D> {

@@ -104,10 +104,10 @@ impl<
     ///
     /// Constants choose how:
     ///
-    /// - If the functions that this layer calls have `LANES` above 1, all nodes are made many a call. These functions
-    ///   are the compression, and the hasher if matrices belong to the layer.
+    /// - If the compression, and the hasher if matrices belong to the layer, have `LANES` above 1, all nodes are made
+    ///   many a call.
     /// - Else the first nodes are made one in each lane of a call ([`packed_digest`](Self::packed_digest)), as far as
-    ///   they, and the rows of these matrices, fill all lanes. With a `WIDTH` of 1 this is none.
+    ///   they, and the rows that belong to them, fill all lanes. With a `WIDTH` of 1 this is none.
     /// - Nodes that are left over are made many a call, where a function with `LANES` 1 takes one after another.
     ///
     /// # Errors

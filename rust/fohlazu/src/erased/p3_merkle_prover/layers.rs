@@ -102,8 +102,8 @@ impl<
         Ok(leaves)
     }
 
-    /// The layer above `below`, of the shape `level`. `below` must have the children of each of its nodes. `picked` and
-    /// `buffers` are scratch memory that all layers share. `AllocError` if memory runs out.
+    /// The layer of the shape `level`, which stands above `below`. `below` must have the children of each node of that
+    /// layer. `picked` and `buffers` are scratch memory that all layers share. `AllocError` if memory runs out.
     fn next_layer(
         &self,
         picked: &mut Vec<&'a M>,

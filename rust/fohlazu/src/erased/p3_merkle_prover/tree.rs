@@ -78,8 +78,8 @@ impl<F: Copy, W: Copy, M: Matrix<F>, const N: usize, const D: usize> MerkleTree<
         const { assert!(N.is_power_of_two() && 2 <= N && N <= 1 << 62, "arity") };
         const { assert!(P::WIDTH == PW::WIDTH, "lanes") };
         const { assert!(1 <= P::WIDTH, "some_lane") };
-        let leaves = checked_matrices(leaves)?;
-        let tree = tree_over::<P, PW, H, C, M, N, D>(hash, compress, leaves)?;
+        let checked = checked_matrices(leaves)?;
+        let tree = tree_over::<P, PW, H, C, M, N, D>(hash, compress, checked)?;
         Ok(tree)
     }
 }

@@ -192,9 +192,9 @@ impl<
     }
 }
 
-/// Checks that a tree can be built over matrices of these heights, and that each width fits `usize` with `salt_elems`
-/// more columns. Returns the dimensions of the matrices with these columns. The errors are those of [`check_heights`],
-/// then those of [`check_widening`]. `OutOfMemory` may come at any time.
+/// The dimensions of `matrices` with `salt_elems` more columns each. It checks that a tree can be built over their
+/// heights, and that each width fits `usize` with the further columns: the errors are those of [`check_heights`], then
+/// those of [`check_widening`]. `OutOfMemory` may come at any time.
 fn salted_dimensions<T, M: Matrix<T>>(matrices: &[M], salt_elems: usize) -> Result<Vec<Dimensions>, MerkleTreeError> {
     let dimensions = dimensions_of(matrices)?;
     check_heights(&dimensions)?;
@@ -202,7 +202,7 @@ fn salted_dimensions<T, M: Matrix<T>>(matrices: &[M], salt_elems: usize) -> Resu
     Ok(widened_dimensions(&dimensions, salt_elems)?)
 }
 
-/// Draws `salt_elems` salts for each row of the matrices, at least 1, and returns each matrix beside its salts. Each
+/// Draws `salt_elems` salts, at least 1, for each row of `matrices`, and returns each matrix beside its salts. Each
 /// salt takes one call of `next_u64`: matrix by matrix in input order, row by row. `dimensions` must be what
 /// [`salted_dimensions`] returns of the matrices. `AllocError` if memory runs out.
 fn salted_pairs<T: SaltWord, M: Matrix<T>, R: Rng>(

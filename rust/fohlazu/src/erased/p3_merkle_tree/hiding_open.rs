@@ -22,8 +22,9 @@ use crate::erased::p3_support::row_parts::{RowParts, RowSets};
 use crate::fallible::{AllocError, VecExt};
 use alloc::vec::Vec;
 
-/// Splits each row of one index into the matrix's own words and its salts, and returns the row set and the salt set.
-/// `pairs` has the matrix of each row beside its salts. Only the salts are copied. `AllocError` if memory runs out.
+/// Splits each of `rows`, those of one index, into the matrix's own words and its salts, and returns the row set and
+/// the salt set. `pairs` has the matrix of each row beside its salts. Only the salts are copied. `AllocError` if memory
+/// runs out.
 fn split_rows<F: Copy, A: Matrix<F>, B: Matrix<F>>(
     pairs: &[&HorizontalPair<F, A, B>],
     rows: Vec<Vec<F>>,
@@ -38,8 +39,8 @@ fn split_rows<F: Copy, A: Matrix<F>, B: Matrix<F>>(
     Ok((unsalted, salts))
 }
 
-/// Splits the rows of several indices, each as [`split_rows`] does, into row sets and salt sets. The rows are those of
-/// a tree's matrices beside their salts. The only error is `OutOfMemory`.
+/// Splits `sets`, the rows of several indices, each as [`split_rows`] does, and returns the row sets and the salt sets.
+/// The rows are those of the matrices of `tree` beside their salts. The only error is `OutOfMemory`.
 fn split_row_sets<F: Copy, X, G, A: Matrix<F>, B: Matrix<F>, const N: usize>(
     tree: &Tree<F, X, G, HorizontalPair<F, A, B>, N>,
     sets: Vec<Vec<Vec<F>>>,
@@ -298,8 +299,8 @@ impl<
     }
 }
 
-/// The pruned opening of these indices, row sets and proof, as the plain scheme's checker reads it: each row is
-/// followed by its salts.
+/// The pruned opening of `indices`, with the row sets `rows` and the salts and digests of `proof`, as the plain
+/// scheme's checker reads it: each row is followed by its salts.
 fn opening_with_salts<'a, T, W, const D: usize>(
     indices: &'a [usize],
     rows: &'a [Vec<Vec<T>>],

@@ -42,7 +42,8 @@ impl<'a, T: Eq> RowPair<'a, T> {
     }
 }
 
-/// The digests `first` and `second` that two checks compress at `place`, if they differ.
+/// The digests `first` and `second` that two checks compress at `place`, if they differ. `AllocError` if memory runs
+/// out.
 fn differing_digests<T, W: Copy + Eq, const D: usize>(
     place: Place,
     first: &[[W; D]],
@@ -54,7 +55,8 @@ fn differing_digests<T, W: Copy + Eq, const D: usize>(
     Ok(Some(InputPair::Digests { place, first: Vec::try_from_slice(first)?, second: Vec::try_from_slice(second)? }))
 }
 
-/// The words of the rows of the matrices of one exponent, one after another. `rows` has a row for each of `dimensions`.
+/// The words of the rows of the matrices of the exponent `exponent`, one after another. `rows` has a row for each of
+/// `dimensions`. `AllocError` if memory runs out.
 fn opened_words<T: Copy>(
     dimensions: &[Dimensions],
     rows: RowParts<'_, T>,
@@ -67,7 +69,8 @@ fn opened_words<T: Copy>(
     Ok(words)
 }
 
-/// The words of rows that two checks hash at `place`, if they differ. Nothing is copied where they are the same.
+/// The words of `rows` that two checks hash at `place`, if they differ. Nothing is copied where they are the same.
+/// `AllocError` if memory runs out.
 fn differing_words<T: Copy + Eq, W, const D: usize>(
     place: Place,
     rows: &RowPair<'_, T>,
@@ -82,7 +85,8 @@ fn differing_words<T: Copy + Eq, W, const D: usize>(
     }))
 }
 
-/// The words that two checks hash at the leaf, if both openings are of one leaf and the words differ.
+/// The words that two checks hash at the leaf, if both openings are of one leaf and the words differ. `AllocError` if
+/// memory runs out.
 fn leaf_difference<T: Copy + Eq, W: Copy + Eq, const D: usize>(
     schedule: &Schedule<'_>,
     first: OpeningRef<'_, T, [W; D]>,
@@ -100,10 +104,10 @@ fn leaf_difference<T: Copy + Eq, W: Copy + Eq, const D: usize>(
     differing_words(Place::Leaf, &rows)
 }
 
-/// The inputs of two checks at the last place of a level above its group where these differ: the pair, which is
-/// compressed last, else the words of the rows. `None` if both are the same, or if no matrix belongs to the layer above
-/// the level. `first` and `second` are that level of each check, and must reach one node; `rows` are the rows of both
-/// openings at the layer above.
+/// The last inputs of a level in which two checks differ above their groups: the pairs, which are compressed last, else
+/// the words of the rows. `None` if all are the same, or if no matrix belongs to the layer above the level. `first` and
+/// `second` are the level in each check, and must reach one node; `rows` are the rows of both openings at the layer
+/// above. `AllocError` if memory runs out.
 fn difference_above_group<T: Copy + Eq, W: Copy + Eq, const N: usize, const D: usize>(
     rows: &RowPair<'_, T>,
     first: &PathLevel<[W; D], [[W; D]; N]>,
@@ -118,9 +122,9 @@ fn difference_above_group<T: Copy + Eq, W: Copy + Eq, const N: usize, const D: u
     }
 }
 
-/// The inputs of two checks at the last place of a level where these differ: the pair, else the words of the rows, else
-/// the group. `None` if the inputs of the level are the same, or if the checks do not share the node above it. `first`
-/// and `second` are that level of each check; `rows` are the rows of both openings at the layer above it.
+/// The last inputs of a level in which two checks differ: the pairs, else the words of the rows, else the groups.
+/// `None` if all are the same, or if the checks do not share the node above the level. `first` and `second` are the
+/// level in each check; `rows` are the rows of both openings at the layer above. `AllocError` if memory runs out.
 fn level_difference<T: Copy + Eq, W: Copy + Eq, const N: usize, const D: usize>(
     rows: &RowPair<'_, T>,
     first: &PathLevel<[W; D], [[W; D]; N]>,
@@ -135,9 +139,9 @@ fn level_difference<T: Copy + Eq, W: Copy + Eq, const N: usize, const D: usize>(
     }
 }
 
-/// Whether two checks have the same inputs on a level, or do not share the node above it. `first` and `second` are that
-/// level of each check, and `rows` the rows of both openings of the matrices of the layer above. Both pairs are
-/// computed from the groups and these rows, so they are not compared.
+/// Whether two checks have the same inputs on a level, or do not share the node above it. `first` and `second` are the
+/// level in each check; `rows` are the rows of both openings at the layer above. The pairs are computed from the groups
+/// and the rows, so they are not compared.
 fn levels_agree<T: Eq, W: Copy + Eq, const N: usize, const D: usize>(
     rows: &RowPair<'_, T>,
     first: &PathLevel<[W; D], [[W; D]; N]>,

@@ -231,7 +231,7 @@ impl<'a, T, X> Copy for PrunedOpeningRef<'a, T, X> {}
 
 /// A pruned opening from which the path of each query can be restored, with the steps of its tree. Its form is right,
 /// and its rows agree.
-pub(crate) struct CheckedPrunedOpening<'a, T, X> {
+pub(crate) struct RestorableOpening<'a, T, X> {
     /// The steps of the tree.
     pub schedule: &'a Schedule<'a>,
     /// The cap's layer.

@@ -73,7 +73,7 @@ fn check_form<T>(
     if got != expected {
         return Err(MerkleTreeError::WrongBatchSize { expected, got });
     }
-    check_heights(schedule.dimensions)?;
+    check_heights(dimensions)?;
     let expected_proof_len = schedule.siblings_below(cap_layer);
     if num_siblings != expected_proof_len {
         return Err(MerkleTreeError::WrongHeight { expected_proof_len, num_siblings });
@@ -96,7 +96,8 @@ impl<
     const D: usize,
 > Checker<'a, P, PW, H, C, [[PW::Value; D]; N], N, D>
 {
-    /// The digest of the rows of the matrices of one exponent, as one message. `rows` has a row of each matrix.
+    /// The digest of the rows of the matrices of the exponent `exponent`, hashed as one message. `rows` has a row of
+    /// each matrix.
     fn row_digest<'x>(&'x self, rows: RowParts<'x, P::Value>, exponent: usize) -> [PW::Value; D] {
         let dimensions = self.schedule.dimensions;
         match rows {

@@ -17,7 +17,7 @@ use crate::erased::p3_merkle_core::schedule::LevelStep;
 use crate::erased::p3_merkle_hashing::nodes::{compress_children, inject_row_digests};
 use crate::erased::p3_merkle_hashing::rows::LayerRows;
 use crate::erased::p3_merkle_verifier::checker::Checker;
-use crate::erased::p3_merkle_verifier::openings::{CheckedPrunedOpening, OpenedMatrix, PrunedOpeningRef};
+use crate::erased::p3_merkle_verifier::openings::{OpenedMatrix, PrunedOpeningRef, RestorableOpening};
 use crate::erased::p3_merkle_verifier::path::is_entry;
 use crate::erased::p3_support::compress::PseudoCompressionFunction;
 use crate::erased::p3_support::hasher::CryptographicHasher;
@@ -40,9 +40,10 @@ impl<'a, T, W: Copy, const D: usize> PrunedOpeningRef<'a, T, [W; D]> {
 }
 
 /// The layer above `below`, which must be layer `level` and below the cap's layer. `digests` has the digest of each
-/// covered node of `below`; the other children of the layer above have the next digests of the proof.
+/// covered node of `below`; the other children of the layer above have the next digests of the proof. `AllocError` if
+/// memory runs out.
 fn layer_above<'a, T, X: Copy>(
-    restorable: &CheckedPrunedOpening<'_, T, X>,
+    restorable: &RestorableOpening<'_, T, X>,
     level: usize,
     below: &CoveredLayer<'a, X>,
     digests: &[X],
@@ -54,9 +55,9 @@ fn layer_above<'a, T, X: Copy>(
     Ok(CoveredLayer { covered, step, has_rows, children })
 }
 
-/// For each covered node of the layer of this exponent, ascending, the position of a query under it: the first one of
-/// its lowest leaf.
-fn queries_at<T, X>(restorable: &CheckedPrunedOpening<'_, T, X>, exponent: usize) -> Result<Vec<usize>, AllocError> {
+/// For each covered node of the layer of the exponent `exponent`, ascending, the position of a query under it: the
+/// first query of its lowest leaf. `AllocError` if memory runs out.
+fn queries_at<T, X>(restorable: &RestorableOpening<'_, T, X>, exponent: usize) -> Result<Vec<usize>, AllocError> {
     let bits = restorable.schedule.exponent.saturating_sub(exponent);
     let leaves = &restorable.leaves.indices;
     let mut queries = Vec::with_room(leaves.len())?;
@@ -71,9 +72,10 @@ fn queries_at<T, X>(restorable: &CheckedPrunedOpening<'_, T, X>, exponent: usize
     Ok(queries)
 }
 
-/// The matrices of this exponent, in input order, each with the rows that `queries` opened of it.
+/// The matrices of the exponent `exponent`, in input order, each with the rows that `queries` opened of it.
+/// `AllocError` if memory runs out.
 fn opened_matrices<'a, T, X>(
-    restorable: &'a CheckedPrunedOpening<'_, T, X>,
+    restorable: &'a RestorableOpening<'_, T, X>,
     exponent: usize,
     queries: &'a [usize],
 ) -> Result<Vec<OpenedMatrix<'a, T>>, AllocError> {
@@ -92,10 +94,11 @@ fn opened_matrices<'a, T, X>(
     Ok(matrices)
 }
 
-/// The path of each query of an opening, in query order, out of `layers`, its layers from the leaves to the cap's: the
-/// other children of the parent of each node on the path, ascending.
+/// The path of each query of an opening, in query order: the other children of the parent of each node on the path,
+/// level by level, ascending. `layers` has the layers of the opening, from the leaves to the cap's. `AllocError` if
+/// memory runs out.
 pub(crate) fn paths_of<T, W: Copy, const D: usize>(
-    restorable: &CheckedPrunedOpening<'_, T, [W; D]>,
+    restorable: &RestorableOpening<'_, T, [W; D]>,
     layers: &[CoveredLayer<'_, [W; D]>],
 ) -> Result<Vec<AuthPath<[W; D]>>, AllocError> {
     let mut capacity = 0usize;
@@ -125,7 +128,7 @@ pub(crate) fn paths_of<T, W: Copy, const D: usize>(
     Ok(paths)
 }
 
-/// Whether the roots of a cap have the digest of each node at its position. `digests[k]` is the digest of `nodes[k]`.
+/// Whether `roots`, those of a cap, have the digest `digests[k]` at the position `nodes[k]`, for each `k`.
 fn are_entries<X: PartialEq>(roots: &[X], nodes: &[usize], digests: &[X]) -> bool {
     nodes.iter().zip(digests).all(|(node, digest)| is_entry(roots, *node, digest))
 }
@@ -146,7 +149,7 @@ impl<
     pub(crate) fn check_restorable<'b>(
         &'b self,
         opening: PrunedOpeningRef<'b, P::Value, [PW::Value; D]>,
-    ) -> Result<(CheckedPrunedOpening<'b, P::Value, [PW::Value; D]>, CoveredLayer<'b, [PW::Value; D]>), MerkleTreeError>
+    ) -> Result<(RestorableOpening<'b, P::Value, [PW::Value; D]>, CoveredLayer<'b, [PW::Value; D]>), MerkleTreeError>
     {
         let schedule = &self.schedule;
         let cap_layer = self.cap_layer;
@@ -154,7 +157,7 @@ impl<
         let num_digests = opening.sent.len();
         let leaves = check_pruned(schedule, cap_layer, indices, opening.sets, num_digests)?;
         let nodes = Vec::try_from_slice(&leaves.indices)?;
-        let restorable = CheckedPrunedOpening { schedule, cap_layer, opening, leaves };
+        let restorable = RestorableOpening { schedule, cap_layer, opening, leaves };
         let leaf_layer = CoveredLayer {
             covered: Covered::new(schedule, indices, nodes),
             step: 0,
@@ -164,11 +167,11 @@ impl<
         Ok((restorable, leaf_layer))
     }
 
-    /// For each covered node of the layer with this exponent, ascending, the digest of the rows that the queries under
-    /// it opened of the layer's matrices.
+    /// For each covered node of the layer of the exponent `exponent`, ascending, the digest of the rows that the
+    /// queries under it opened of the layer's matrices. `AllocError` if memory runs out.
     fn row_digests(
         &self,
-        restorable: &CheckedPrunedOpening<'_, P::Value, [PW::Value; D]>,
+        restorable: &RestorableOpening<'_, P::Value, [PW::Value; D]>,
         exponent: usize,
     ) -> Result<Vec<[PW::Value; D]>, AllocError> {
         let queries = queries_at(restorable, exponent)?;
@@ -185,7 +188,8 @@ impl<
         Ok(digests)
     }
 
-    /// The digests of the parents of `children`, parent by parent. Each parent has `step` children, from 1 to `N`.
+    /// The digests of the parents of `children`, which stand parent by parent. Each parent has `step` children, from 1
+    /// to `N`. `AllocError` if memory runs out.
     pub(crate) fn group_digests(
         &self,
         children: &[[PW::Value; D]],
@@ -198,12 +202,13 @@ impl<
         Ok(digests)
     }
 
-    /// The digests of the covered nodes of layer `layer`, which is `here`, ascending. A leaf's is that of the rows of
-    /// its first query. Any other node's is the compression of its children; where matrices belong to the layer, it is
-    /// compressed once more with the digest of their rows, which the queries under the node share.
+    /// The digests of the covered nodes of `here`, which must be layer `layer`, by ascending nodes. The digest of a
+    /// leaf is that of the rows of its first query. The digest of any other node is the compression of its children;
+    /// where matrices belong to the layer, it is compressed once more with the digest of their rows, which the queries
+    /// under the node share. `AllocError` if memory runs out.
     pub(crate) fn node_digests(
         &self,
-        restorable: &CheckedPrunedOpening<'_, P::Value, [PW::Value; D]>,
+        restorable: &RestorableOpening<'_, P::Value, [PW::Value; D]>,
         layer: usize,
         here: &CoveredLayer<'_, [PW::Value; D]>,
     ) -> Result<Vec<[PW::Value; D]>, AllocError> {
@@ -220,10 +225,11 @@ impl<
         Ok(digests)
     }
 
-    /// Checks that the roots of a cap have the digest of each covered node of its layer, `here`, else `CapMismatch`.
+    /// Checks that `roots`, those of a cap, have the digest of each covered node of `here`, the cap's layer, else
+    /// `CapMismatch`. `OutOfMemory` if memory runs out.
     pub(crate) fn check_roots(
         &self,
-        restorable: &CheckedPrunedOpening<'_, P::Value, [PW::Value; D]>,
+        restorable: &RestorableOpening<'_, P::Value, [PW::Value; D]>,
         here: &CoveredLayer<'_, [PW::Value; D]>,
         roots: &[[PW::Value; D]],
     ) -> Result<(), MerkleTreeError> {
@@ -234,13 +240,14 @@ impl<
         Ok(())
     }
 
-    /// The cap's layer of a pruned opening, computed up from its covered leaves. Only one layer's children are stored.
+    /// The cap's layer of a pruned opening, computed up from the layer of its leaves. Only one layer's children are
+    /// stored. `AllocError` if memory runs out.
     fn top_layer<'b>(
         &self,
-        restorable: &CheckedPrunedOpening<'_, P::Value, [PW::Value; D]>,
-        leaves: CoveredLayer<'b, [PW::Value; D]>,
+        restorable: &RestorableOpening<'_, P::Value, [PW::Value; D]>,
+        leaf_layer: CoveredLayer<'b, [PW::Value; D]>,
     ) -> Result<CoveredLayer<'b, [PW::Value; D]>, AllocError> {
-        let mut layer = leaves;
+        let mut layer = leaf_layer;
         for level in 0..restorable.cap_layer {
             let digests = self.node_digests(restorable, level, &layer)?;
             // The children are freed before those of the next layer are listed.
@@ -250,15 +257,16 @@ impl<
         Ok(layer)
     }
 
-    /// All layers of a pruned opening, from its covered leaves up to the cap's layer, with the digests of the covered
-    /// nodes' children: each is computed from the layer below, or is a digest of the proof.
+    /// All layers of a pruned opening, from its leaves up to the cap's layer, with the digests of the covered nodes'
+    /// children. The digest of a child is computed from the layer below if the child is covered; else it is one of the
+    /// proof. `AllocError` if memory runs out.
     pub(crate) fn restored_layers<'b>(
         &self,
-        restorable: &CheckedPrunedOpening<'_, P::Value, [PW::Value; D]>,
-        leaves: CoveredLayer<'b, [PW::Value; D]>,
+        restorable: &RestorableOpening<'_, P::Value, [PW::Value; D]>,
+        leaf_layer: CoveredLayer<'b, [PW::Value; D]>,
     ) -> Result<Vec<CoveredLayer<'b, [PW::Value; D]>>, AllocError> {
         let mut layers = Vec::with_room(restorable.cap_layer + 1)?;
-        layers.try_push(leaves)?;
+        layers.try_push(leaf_layer)?;
         for level in 0..restorable.cap_layer {
             let below = &layers[level];
             let digests = self.node_digests(restorable, level, below)?;
@@ -282,8 +290,8 @@ impl<
         roots: &[[PW::Value; D]],
         opening: PrunedOpeningRef<'_, P::Value, [PW::Value; D]>,
     ) -> Result<(), MerkleTreeError> {
-        let (restorable, leaves) = self.check_restorable(opening)?;
-        let top = self.top_layer(&restorable, leaves)?;
+        let (restorable, leaf_layer) = self.check_restorable(opening)?;
+        let top = self.top_layer(&restorable, leaf_layer)?;
         self.check_roots(&restorable, &top, roots)
     }
 
@@ -297,8 +305,8 @@ impl<
         &self,
         opening: PrunedOpeningRef<'_, P::Value, [PW::Value; D]>,
     ) -> Result<Vec<AuthPath<[PW::Value; D]>>, MerkleTreeError> {
-        let (restorable, leaves) = self.check_restorable(opening)?;
-        let layers = self.restored_layers(&restorable, leaves)?;
+        let (restorable, leaf_layer) = self.check_restorable(opening)?;
+        let layers = self.restored_layers(&restorable, leaf_layer)?;
         Ok(paths_of(&restorable, &layers)?)
     }
 }

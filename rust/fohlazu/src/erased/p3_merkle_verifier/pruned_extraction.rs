@@ -33,9 +33,9 @@ impl<'a, T, W, const D: usize> RestoredQueries<'a, T, [W; D]> {
         OpeningRef { index: path.leaf_index, rows: self.sets.rows(k), siblings: &path.siblings }
     }
 
-    /// The positions of the queries with the nearest indices below and above `index`, so that one of them stands
-    /// between it and any query. They are one query if `index` is queried itself, or if all queries are on one side of
-    /// it. There must be a query.
+    /// The positions of the queries with the nearest indices below and above `index`: for any query one of the two
+    /// stands between it and `index`. Both are one query if `index` is queried itself, or if all queries are on one
+    /// side of it. There must be a query.
     fn neighbours(&self, index: usize) -> (usize, usize) {
         let queries = &self.leaves.first_queries;
         match self.leaves.indices.binary_search(&index) {
@@ -67,8 +67,8 @@ impl<
         opening: PrunedOpeningRef<'b, P::Value, [PW::Value; D]>,
     ) -> Result<RestoredQueries<'b, P::Value, [PW::Value; D]>, MerkleTreeError> {
         let sets = opening.sets;
-        let (restorable, leaves) = self.check_restorable(opening)?;
-        let layers = self.restored_layers(&restorable, leaves)?;
+        let (restorable, leaf_layer) = self.check_restorable(opening)?;
+        let layers = self.restored_layers(&restorable, leaf_layer)?;
         self.check_roots(&restorable, &layers[restorable.cap_layer], roots)?;
         Ok(RestoredQueries { sets, paths: paths_of(&restorable, &layers)?, leaves: restorable.leaves })
     }
@@ -92,8 +92,9 @@ impl<
         above == below || self.agree(first, queries.opening(above))
     }
 
-    /// The first query whose check differs from that of the opening `first`: its position among the queries, and both
-    /// inputs at the last place that both checks share and at which they differ. `None` if there is no such query.
+    /// The first query whose check differs from that of the opening `first`: its position among the queries, from 0,
+    /// and both inputs at the last place that both checks share and at which they differ. `None` if there is no such
+    /// query. `AllocError` if memory runs out.
     fn differing_query(
         &self,
         first: OpeningRef<'_, P::Value, [PW::Value; D]>,
@@ -102,27 +103,27 @@ impl<
         if self.agrees_with_all(first, queries) {
             return Ok(None);
         }
-        for place in 0..queries.paths.len() {
-            let found = self.last_difference(first, queries.opening(place))?;
+        for query in 0..queries.paths.len() {
+            let found = self.last_difference(first, queries.opening(query))?;
             if let Some(collision) = found {
-                return Ok(Some((place, collision)));
+                return Ok(Some((query, collision)));
             }
         }
         Ok(None)
     }
 
     /// The first pair of queries whose checks differ, in the order of `first`, then of `second`: the position of each
-    /// query in its list, and both inputs at the last place that both checks share and at which they differ. `None` if
-    /// there is no such pair.
+    /// query in its list, from 0, and both inputs at the last place that both checks share and at which they differ.
+    /// `None` if there is no such pair. `AllocError` if memory runs out.
     fn differing_pair(
         &self,
         first: &RestoredQueries<'_, P::Value, [PW::Value; D]>,
         second: &RestoredQueries<'_, P::Value, [PW::Value; D]>,
     ) -> Result<Option<(usize, usize, Collision<P::Value, PW::Value, D>)>, AllocError> {
-        for place in 0..first.paths.len() {
-            let found = self.differing_query(first.opening(place), second)?;
+        for query in 0..first.paths.len() {
+            let found = self.differing_query(first.opening(query), second)?;
             if let Some((other, collision)) = found {
-                return Ok(Some((place, other, collision)));
+                return Ok(Some((query, other, collision)));
             }
         }
         Ok(None)

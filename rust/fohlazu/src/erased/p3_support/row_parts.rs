@@ -47,7 +47,8 @@ impl<'a, T> TryClone for RowParts<'a, T> {
     }
 }
 
-/// How many of the `left` words the row of a matrix of this width has, before those of the `others`.
+/// The length of the next row, of width `width`, when `left` words are left and rows of `others` follow: `width`, or
+/// `left` if that is less; the last row takes all `left`.
 #[inline]
 fn first_len(width: usize, others: &[Dimensions], left: usize) -> usize {
     if others.is_empty() { left } else { width.min(left) }

@@ -50,7 +50,7 @@ pub fn verify<H: LogHash<D>, const D: usize>(
     if new_size < old_size {
         return Err(ProofError::SmallerNewSize);
     }
-    let (old, new) = roots_by::<H, D>(old_size, new_size, proof, old_root, new_root)?;
+    let (old, new) = roots_of_proof::<H, D>(old_size, new_size, proof, old_root, new_root)?;
     if old != *old_root {
         return Err(ProofError::OldRootMismatch);
     }
@@ -60,10 +60,11 @@ pub fn verify<H: LogHash<D>, const D: usize>(
     Ok(())
 }
 
-/// The old and the new root that a proof leads to. From size 0 the new one may be any, so it is `new_root` itself. The
-/// new size must be at least the old one and at most 2^62. `TooManyDigests` or `TooFewDigests` if the proof has not as
-/// many digests as one between these sizes.
-fn roots_by<H: LogHash<D>, const D: usize>(
+/// The old and the new root that a proof leads to. From size 0 the old one is `H::empty_root()`, and the new one is the
+/// same at size 0, else `new_root` itself, which may be any. Between equal sizes above 0 both are `old_root`. The new
+/// size must be at least the old one and at most 2^62. `TooManyDigests` or `TooFewDigests` if the proof has not as many
+/// digests as one between these sizes.
+fn roots_of_proof<H: LogHash<D>, const D: usize>(
     old_size: usize,
     new_size: usize,
     proof: &[[u8; D]],

@@ -35,7 +35,8 @@ pub fn entries_collision<H: LogHash<32>>(
     path_collision::<H>(entries, indices, leaves, &paths)
 }
 
-/// The path of each leaf hash, as the leaf hashes and the proof give it, if they are accepted under the root.
+/// The path of each of `leaves`, as `leaves` and `proof` give it, if they are accepted under `root` as the leaf hashes
+/// at `indices`, counted from 0, of a log of `size` entries; else `None`. `AllocError` if memory runs out.
 fn accepted_paths<H: LogHash<32>>(
     size: usize,
     indices: &[usize],
@@ -63,8 +64,9 @@ fn accepted_paths<H: LogHash<32>>(
     }
 }
 
-/// A collision, if one of some leaf hashes is accepted with its path under the root of the entries, and it is not that
-/// of the entry at its index; else `None`.
+/// A collision, if one of `leaves` is accepted with its path under the root of `entries`, and is not the leaf hash of
+/// the entry at its index, counted from 0; else `None`. `indices` and `paths` have the index and the path of each of
+/// `leaves`. `AllocError` if memory runs out.
 fn path_collision<H: LogHash<32>>(
     entries: &[Vec<u8>],
     indices: &[usize],
@@ -81,7 +83,7 @@ fn path_collision<H: LogHash<32>>(
     Ok(None)
 }
 
-/// The hashes of the digests that are there.
+/// The hashes among `digests`, in order, without those that are absent. `AllocError` if memory runs out.
 fn present(digests: &[[Node; 1]]) -> Result<Vec<[u8; 32]>, AllocError> {
     let mut hashes = Vec::new();
     for digest in digests {

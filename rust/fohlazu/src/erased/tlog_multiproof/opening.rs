@@ -38,13 +38,14 @@ pub fn entry_nodes(indices: &[usize], size: usize) -> Result<Vec<NodeId>, AllocE
     Ok(nodes)
 }
 
-/// Whether a node has entries below it; in the slot of any other is padding.
+/// Whether `node` has entries below it in a log of `size` entries, at least 1. If it has none, its slot has padding.
 pub(crate) fn is_node(size: usize, node: NodeId) -> bool {
     node.slot <= (size - 1) >> node.layer
 }
 
-/// The boundary of some entries, padding included: the siblings of entries and of nodes above entries that are neither
-/// themselves, layer by layer from the leaves, ascending.
+/// The boundary of the entries at `indices`, counted from 0, in a log of `size` entries, padding included: the siblings
+/// of entries and of nodes above entries that are neither themselves, layer by layer from the leaves, ascending. The
+/// size must be from 1 to 2^62, and each index below it. `AllocError` if memory runs out.
 fn boundary_nodes(size: usize, indices: &[usize]) -> Result<Vec<NodeId>, AllocError> {
     let mut covered = distinct_indices(indices)?;
     let mut nodes = Vec::new();
@@ -60,8 +61,8 @@ fn boundary_nodes(size: usize, indices: &[usize]) -> Result<Vec<NodeId>, AllocEr
     Ok(nodes)
 }
 
-/// Appends, in order, each sibling of a covered slot that is not covered itself. The slots in `covered` are of `layer`,
-/// must ascend, and be below 2^64 - 1.
+/// Appends to `nodes`, in order, the sibling of each slot of `covered` that is not in `covered` itself. The slots are
+/// of layer `layer`, must ascend, and be below 2^64 - 1. `AllocError` if memory runs out.
 fn push_siblings(nodes: &mut Vec<NodeId>, layer: usize, covered: &[usize]) -> Result<(), AllocError> {
     for slot in covered {
         let sibling = if *slot % 2 == 0 { *slot + 1 } else { *slot - 1 };
@@ -72,7 +73,7 @@ fn push_siblings(nodes: &mut Vec<NodeId>, layer: usize, covered: &[usize]) -> Re
     Ok(())
 }
 
-/// Replaces the covered slots of a layer, which ascend, by those of the layer above: their parents, each once.
+/// Replaces `covered`, ascending slots of a layer, by the slots of their parents in the layer above, each once.
 fn climb(covered: &mut Vec<usize>) {
     for slot in covered.iter_mut() {
         *slot /= 2;
@@ -80,7 +81,9 @@ fn climb(covered: &mut Vec<usize>) {
     covered.dedup();
 }
 
-/// The opening of some entries by their leaf hashes and the digests of a proof, where padding is absent.
+/// The opening of the entries at `indices`, counted from 0, in a log of `size` entries: a row for each of `leaves`,
+/// their leaf hashes; and a digest for each boundary node, from `proof`, or `Node::Absent` where it is padding. The
+/// errors are those of [`check_form`], then those of [`with_padding`]; `OutOfMemory` may come once the form is checked.
 pub(crate) fn opening_of(
     size: usize,
     indices: &[usize],
@@ -93,7 +96,8 @@ pub(crate) fn opening_of(
     Ok(PrunedRows { opened_values: rows_of(leaves)?, pruned_proof: PrunedProof { sibling_hashes } })
 }
 
-/// Checks the size, the indices and the number of leaf hashes.
+/// Checks the size, the indices and the number of leaf hashes. The error is the first of `SizeTooLarge`, `NoIndices`,
+/// `LeafCountMismatch` and `IndexPastEnd` that applies. It does not allocate.
 fn check_form(size: usize, indices: &[usize], num_leaves: usize) -> Result<(), EntriesError> {
     if size > SIZE_LIMIT {
         return Err(EntriesError::SizeTooLarge);
@@ -110,7 +114,9 @@ fn check_form(size: usize, indices: &[usize], num_leaves: usize) -> Result<(), E
     Ok(())
 }
 
-/// The digests of these nodes, padding included, where the proof has those of the others.
+/// For each of `nodes` its digest: the next of `proof`, or `Node::Absent` where the node is padding in a log of `size`
+/// entries, at least 1. `TooFewDigests` if `proof` ends ahead of a node's digest, `TooManyDigests` if digests are left
+/// over. `OutOfMemory` if memory runs out.
 fn with_padding(size: usize, nodes: &[NodeId], proof: &[[u8; 32]]) -> Result<Vec<[Node; 1]>, EntriesError> {
     let mut digests = Vec::new();
     let mut used = 0;
@@ -131,7 +137,8 @@ fn with_padding(size: usize, nodes: &[NodeId], proof: &[[u8; 32]]) -> Result<Vec
     Ok(digests)
 }
 
-/// The rows of some entries, by their leaf hashes.
+/// For each of `leaves`, the row set of its entry: one row, which has the leaf hash alone. `AllocError` if memory runs
+/// out.
 fn rows_of(leaves: &[[u8; 32]]) -> Result<Vec<Vec<Vec<Node>>>, AllocError> {
     let mut rows = Vec::with_room(leaves.len())?;
     for leaf in leaves {

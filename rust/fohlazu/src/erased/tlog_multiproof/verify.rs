@@ -59,7 +59,8 @@ pub(crate) fn verify<H: LogHash<32>>(
     ))
 }
 
-/// The verdict on entries whose form is right, by that on their opening.
+/// The verdict on entries whose form is right, where `verdict` is that on their opening: `RootMismatch` for
+/// `CapMismatch`, and `TwoLeafHashes` for any other error but `OutOfMemory`.
 fn from_opening_verdict(verdict: Result<(), MerkleTreeError>) -> Result<(), EntriesError> {
     match verdict {
         Ok(()) => Ok(()),

@@ -67,7 +67,8 @@ impl TreeBuilder {
         Ok(values)
     }
 
-    /// The value of a wanted node.
+    /// The value of a wanted node: the hash that was kept for it, if all its leaves have come; the root of those that
+    /// have come, if the end of the log cuts it off; `None` if none have come.
     fn value(&self, node: &WantedNode) -> Option<[u8; 32]> {
         let whole = whole_count(self.frontier.size(), node.id.layer);
         if node.id.slot < whole {

@@ -31,8 +31,9 @@ pub fn leaf_hashes(entries: &[&[u8]]) -> Result<Vec<[u8; 32]>, AllocError> {
     Ok(hashes)
 }
 
-/// Writes the leaf hashes of the first of `places`, lengths and indices of entries, and returns how many these are:
-/// those of one length, or, if these are fewer than eight, eight that fill one number of blocks.
+/// Writes the leaf hashes of the first of `places` into `hashes`, and returns how many they are: as many of one length
+/// as are hashed together; or, if these are fewer than eight, eight that fill equally many blocks. `places`, which must
+/// not be empty, has the length of an entry and its index in `entries` and `hashes`. `AllocError` if memory runs out.
 fn hash_first(entries: &[&[u8]], places: &[(usize, usize)], hashes: &mut [[u8; 32]]) -> Result<usize, AllocError> {
     let alike = alike_len(places);
     let count = block_count(places[0].0);
@@ -46,8 +47,9 @@ fn hash_first(entries: &[&[u8]], places: &[(usize, usize)], hashes: &mut [[u8; 3
     Ok(alike)
 }
 
-/// How many of the first entries, by their length and index, have the first one's length, up to a limit: eights of
-/// them, if there are as many.
+/// How many of `places`, from the first on, are hashed together: those of the first one's length, up to a limit, and
+/// only whole eights of them if there are eight. `places`, which must not be empty, has the length and the index of
+/// each entry.
 fn alike_len(places: &[(usize, usize)]) -> usize {
     let length = places[0].0;
     let most = (BATCH_BYTES / length.saturating_add(1)).max(8);
@@ -59,23 +61,24 @@ fn alike_len(places: &[(usize, usize)]) -> usize {
     whole_eights(places.len())
 }
 
-/// The greatest multiple of eight up to a count, or the count itself if it is less than eight.
+/// The greatest multiple of eight up to `count`, or `count` itself if it is less than eight.
 fn whole_eights(count: usize) -> usize {
     if count < 8 { count } else { count / 8 * 8 }
 }
 
-/// Whether entries of these lengths and indices fill so many blocks each.
+/// Whether each entry of `places`, its length and its index, fills `count` blocks.
 fn all_fill(places: &[(usize, usize)], count: usize) -> bool {
     places.iter().all(|place| block_count(place.0) == count)
 }
 
-/// How many blocks of SHA-256 the input of the leaf hash of an entry of this length fills.
+/// How many blocks of SHA-256 the input of the leaf hash of an entry of `length` bytes fills.
 fn block_count(length: usize) -> usize {
     // A byte goes ahead of the entry, nine bytes of padding at least follow it.
     length / 64 + (length % 64 + 73) / 64
 }
 
-/// The leaf hashes of entries of one length.
+/// The leaf hashes of the entries of `places`, lengths and indices of entries. All must have one length. `AllocError`
+/// if memory runs out.
 fn hash_alike(entries: &[&[u8]], places: &[(usize, usize)]) -> Result<Vec<[u8; 32]>, AllocError> {
     // The inputs of the hashes, each a byte 0 and the entry, one after another.
     let mut inputs = Vec::with_room(BATCH_BYTES)?;
@@ -88,7 +91,8 @@ fn hash_alike(entries: &[&[u8]], places: &[(usize, usize)]) -> Result<Vec<[u8; 3
     Ok(values)
 }
 
-/// The leaf hashes of eight entries that fill `count` blocks each.
+/// The leaf hashes of the eight entries of `places`, lengths and indices of entries, of which each fills `count`
+/// blocks. `AllocError` if memory runs out.
 fn hash_eight(entries: &[&[u8]], places: &[(usize, usize)], count: usize) -> Result<[[u8; 32]; 8], AllocError> {
     let mut blocks = Vec::with_room(count.saturating_mul(512))?;
     for (_, index) in places {

@@ -57,7 +57,8 @@ pub fn consistency_nodes(old_size: usize, new_size: usize) -> Result<Vec<NodeId>
     Ok(nodes)
 }
 
-/// Adds the siblings on the way up from a node of a layer, whose last slot is `last`.
+/// Appends to `nodes` the siblings on the way up from the node `slot` of layer `layer`, but for those past the end of
+/// their layer. `last` is the last slot of layer `layer`, at least `slot`. `AllocError` if memory runs out.
 fn add_path(nodes: &mut Vec<NodeId>, layer: usize, slot: usize, last: usize) -> Result<(), AllocError> {
     let mut layer = layer;
     let mut slot = slot;

@@ -1,4 +1,4 @@
--- Each turn parses one index, and no argument is refused after the command is found.
+-- The indices are those of the arguments so far, each of which is a number, since the command was found.
 use Rattle.std.proofs.Common.{◌++◌, ◌∷◌, ◌∙◌, [], List, ℕ, string_bytes, map, refl, sym, ap, subst, inr}
 use Rattle.std.proofs.lemmas.List.{map_more, take_all}
 use Rattle.std.proofs.lemmas.List.Elements.{All-get_or}

@@ -1,4 +1,4 @@
--- Each turn is one level.
+-- The positions so far are those below the level that is reached (`so_far`), where the ancestor stands (`place`).
 use Rattle.std.proofs.Common.{add-one, arith, sym}
 use Rattle.std.proofs.lemmas.List.FromFn.{map-range_with_len_more}
 use Rattle.p3_merkle_core.specs.Geometry.{shape_of, position_in_group}

@@ -1,4 +1,4 @@
--- Each turn is one level.
+-- The steps so far are those below the level that is reached (`so_far`).
 use Rattle.std.proofs.Common.{arith, sym}
 use Rattle.std.proofs.lemmas.List.FromFn.{map-range_with_len_more}
 use Rattle.p3_merkle_core.specs.Geometry.{shape_of, step}

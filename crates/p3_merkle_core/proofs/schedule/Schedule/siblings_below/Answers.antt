@@ -1,4 +1,4 @@
--- Each turn is one level.
+-- The count is that of the siblings below the level that is reached.
 use Rattle.std.proofs.Common.{◌<◌, arith, sym, add-one}
 use Rattle.p3_merkle_core.specs.Geometry.{levels, shape_of}
 use Rattle.p3_merkle_core.proofs.Shapes.SiblingFacts.{siblings_next, siblings_start, step_is, siblings_halved}

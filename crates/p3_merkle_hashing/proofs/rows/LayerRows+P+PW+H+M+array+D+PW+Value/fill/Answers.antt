@@ -1,4 +1,5 @@
--- Each turn writes the slots of one block; the rest up to the height is written then, and the others stay.
+-- The slots of the blocks so far have the digests of their rows; those of the rest up to the height follow, and the
+-- others stay.
 use Rattle.std.proofs.Common.{arith, ◌≡◌, ℕ, ◌+◌, ◌-◌, ◌*◌, ◌<◌, ◌≤◌, ◌∙◌, [], ap, length, refl, replicate}
 use Rattle.std.proofs.Common.{slice_index_or}
 use Rattle.std.proofs.lemmas.Bool.{le-ltb, lt-ltb}

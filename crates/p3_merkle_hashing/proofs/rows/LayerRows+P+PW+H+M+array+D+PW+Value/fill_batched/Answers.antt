@@ -1,4 +1,4 @@
--- Each turn writes the slots of one call.
+-- The length of a row is the sum of all widths, and the slots so far have the digests of their rows.
 use Rattle.std.proofs.Common.{arith, ℕ, ◌≡◌, ◌+◌, ◌-◌, ◌≤◌, ◌∙◌, [], length, length-set}
 use Rattle.std.proofs.lemmas.List.FromFn.{fill_by_all}
 use Rattle.p3_support.proofs.Fills.{filled_more}

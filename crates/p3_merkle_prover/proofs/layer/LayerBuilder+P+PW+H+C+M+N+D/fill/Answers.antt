@@ -1,4 +1,4 @@
--- Each turn writes the slots of one block; the rest of the nodes is written then, and the padding slots stay.
+-- The slots of the blocks so far have their nodes; those of the rest follow, and the padding keeps its default digests.
 use Rattle.std.proofs.Common.{arith, ◌≡◌, ℕ, ◌+◌, ◌-◌, ◌*◌, ◌<◌, ◌≤◌, ◌∙◌, List, [], ap, drop, length, length-drop, map}
 use Rattle.std.proofs.Common.{refl, replicate, slice_index_or, take, ◌++◌}
 use Rattle.std.proofs.lemmas.Bool.{le-ltb}

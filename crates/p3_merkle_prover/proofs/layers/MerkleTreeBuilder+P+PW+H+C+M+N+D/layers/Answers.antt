@@ -1,4 +1,4 @@
--- Each turn builds the layer above the last one.
+-- The layers so far are those of the definition, and the exponent and the number of nodes are the last one's.
 use Rattle.std.proofs.Common.{◌≡◌, ◌∙◌, arith}
 use Rattle.std.proofs.lemmas.List.{map-append}
 use Rattle.p3_merkle_core.specs.Geometry.{levels, shape_of}

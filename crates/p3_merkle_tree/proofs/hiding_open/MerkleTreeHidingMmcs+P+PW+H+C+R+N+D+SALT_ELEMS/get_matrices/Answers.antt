@@ -1,4 +1,4 @@
--- Each turn adds one more left matrix; the pairs are the matrices of the tree.
+-- The matrices so far are the left ones of the pairs so far, which are the matrices of the tree.
 use Rattle.std.proofs.Common.{◌∙◌, ap, map, sym}
 use Rattle.std.proofs.lemmas.Simd.{map-map}
 use Rattle.p3_support.specs.Pairs.{left_of}

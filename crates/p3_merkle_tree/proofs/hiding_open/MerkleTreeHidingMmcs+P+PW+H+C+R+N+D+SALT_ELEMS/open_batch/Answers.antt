@@ -9,7 +9,7 @@ use Rattle.p3_merkle_tree.specs.Schemes.{params_of}
 use Rattle.p3_support.specs.Shown.{row_lists}
 use Rattle.p3_support.specs.declared.matrix.Dimensions.{Dimensions}
 use Rattle.p3_merkle_tree.proofs.SplitFacts.{left_is, right_is, salted_from}
-use Rattle.p3_merkle_tree.specs.HidingSchemes.{plain_of, salted_made}
+use Rattle.p3_merkle_tree.specs.HidingSchemes.{plain_of, salted_owned}
 use Rattle.p3_merkle_tree.specs.Inner.SaltedParts.{left_widths, salt_parts, unsalted_parts}
 use Rattle.p3_merkle_tree.proofs.hiding_open.MerkleTreeHidingMmcs+P+PW+H+C+R+N+D+SALT_ELEMS.open_batch.Goals as goal
 
@@ -35,7 +35,7 @@ returns-clause-opened g c =
       siblings = siblings ∙ ap (λ (z : Opening _ _). z.siblings) opened.in_layers;
       is_honest = λ own. siblings ∙ ap (λ (z : Opening _ _). z.siblings) (opened.is_honest own);
       is_accepted = λ cap own. salted_from n pairs law tree.lawful
-          (λ (ds : List Dimensions). params_of plain (shape_of n ds)) cap g.row.SALT_ELEMS (salted_made i c.new.result)
+          (λ (ds : List Dimensions). params_of plain (shape_of n ds)) cap g.row.SALT_ELEMS (salted_owned i c.new.result)
           c.requires own.columns rows salts
           (subst (IsAccepted (params_of plain (shape (tree_batch tree))) cap)
           (λ k. opening_of i (joined k) (sym siblings k)) (opened.is_accepted cap own.committed));

@@ -7,7 +7,7 @@ use Rattle.p3_support.specs.declared.matrix.Dimensions.{Dimensions}
 use Rattle.p3_merkle_prover.specs.Parts.{matrices_of}
 use Rattle.p3_merkle_tree.specs.Inner.CommitmentLaws.{greatest_is, rows_are}
 use Rattle.p3_merkle_core.proofs.Lists.ViewFacts.{dimensions_are}
-use Rattle.p3_merkle_tree.specs.HidingSchemes.{salted_made, salted_params_of}
+use Rattle.p3_merkle_tree.specs.HidingSchemes.{salted_owned, salted_params_of}
 use Rattle.p3_merkle_tree.specs.Inner.SaltedCommitmentLaws.{left_lawful}
 use Rattle.p3_merkle_tree.specs.SaltedOpenings.{IsSaltedAccepted}
 use Rattle.p3_merkle_tree.proofs.hiding_trait.MerkleTreeHidingMmcsMmcsValue.open_batch.Goals as goal
@@ -25,6 +25,6 @@ returns-clause-rows g c =
 pub returns-clause-accepted : goal.returns-clause-accepted
 returns-clause-accepted g c = λ roots own.
     IfOk-weaker c.open_batch.result _ _ (λ o opened. subst (λ (ds : List Dimensions).
-    IsSaltedAccepted g.row.SALT_ELEMS ds (salted_params_of c.args.self.now ds) roots (salted_made c.args.index o))
+    IsSaltedAccepted g.row.SALT_ELEMS ds (salted_params_of c.args.self.now ds) roots (salted_owned c.args.index o))
     (dimensions_are g.M.Matrix.height_of g.M.Matrix.width_of g.M.Matrix.row_of
     (map left_of (matrices_of c.args.prover_data.now))) (opened.is_accepted roots own)) c.open_batch.ensures.opened

@@ -4,7 +4,7 @@ use Rattle.std.proofs.lemmas.Result.{IfOk-weaker}
 use Rattle.p3_support.specs.declared.matrix.Dimensions.{Dimensions}
 use Rattle.p3_merkle_core.specs.Geometry.{shape_of}
 use Rattle.p3_merkle_core.specs.Pruning.{IsPrunedAccepted}
-use Rattle.p3_merkle_core.specs.Views.{multi_made}
+use Rattle.p3_merkle_core.specs.Views.{pruned_of_pair}
 use Rattle.p3_merkle_core.proofs.Lists.ViewFacts.{dimensions_are}
 use Rattle.p3_merkle_prover.specs.Parts.{matrices_of}
 use Rattle.p3_merkle_tree.specs.Inner.CommitmentLaws.{sets_are}
@@ -22,6 +22,6 @@ returns-clause-rows g c =
 pub returns-clause-accepted : goal.returns-clause-accepted
 returns-clause-accepted g c = λ roots own.
     IfOk-weaker c.open_multi_batch.result _ _ (λ o opened. subst (λ (ds : List Dimensions).
-    IsPrunedAccepted (params_of c.args.self.now (shape_of g.row.N ds)) roots (multi_made c.args.indices.now o))
+    IsPrunedAccepted (params_of c.args.self.now (shape_of g.row.N ds)) roots (pruned_of_pair c.args.indices.now o))
     (dimensions_are g.M.Matrix.height_of g.M.Matrix.width_of g.M.Matrix.row_of (matrices_of c.args.prover_data.now))
     (opened.is_accepted roots own)) c.open_multi_batch.ensures.opened

@@ -1,4 +1,4 @@
--- Each turn compares one level of both checks.
+-- Both checks stand at the level, and agree on all places below it that they share (`agree`).
 use Rattle.std.proofs.Common.{◌∙◌, add-one, ap, sym, zip}
 use Rattle.p3_support.specs.Batches.{heights_of}
 use Rattle.p3_merkle_core.specs.Checks.{words_of_exponent}

@@ -1,4 +1,4 @@
--- Each turn is one level of both checks.
+-- Both checks stand at the level, and the last difference of the places below it is known.
 use Rattle.std.proofs.Common.{◌≡◌, add-one, ap, arith, zip}
 use Rattle.p3_support.specs.Batches.{heights_of}
 use Rattle.p3_merkle_core.specs.Checks.{words_of_exponent}

@@ -1,4 +1,4 @@
--- The form, then each turn is one level of the check, then the cap's entry.
+-- What the form does not refuse can be checked up to the cap, and the check stands at the level that is reached.
 use Rattle.std.proofs.Common.{◌≡◌, arith, length, refl}
 use Rattle.std.proofs.lemmas.Result.{err_from_is_err_and}
 use Rattle.p3_merkle_verifier.specs.Inner.Checks.{opening_in}

@@ -1,4 +1,4 @@
--- Each turn is one layer more.
+-- The layers so far are those that the definition restores.
 use Rattle.std.proofs.Common.{◌∙◌, ◌++◌, ◌∷◌, [], List, ap}
 use Rattle.p3_merkle_core.specs.declared.pruning.CoveredLayer.{CoveredLayer}
 use Rattle.p3_merkle_verifier.proofs.LayerFacts.{layer_rises}
@@ -8,7 +8,8 @@ use Rattle.p3_merkle_verifier.proofs.pruned_check.Checker+P+PW+H+C+array+N+array
 pub loop-level-init : goal.loop-level-init
 loop-level-init g c =
     layers_start (c.in_ok-push.ensures.items
-    ∙ ap (λ (xs : List (CoveredLayer _)). xs ++ c.args.leaves ∷ []) c.in_ok-layers.ensures.items) c.requires.leaves
+    ∙ ap (λ (xs : List (CoveredLayer _)). xs ++ c.args.leaf_layer ∷ []) c.in_ok-layers.ensures.items)
+    c.requires.leaf_layer
 
 pub loop-level-preserved : goal.loop-level-preserved
 loop-level-preserved g c =

@@ -1,10 +1,10 @@
--- Each turn is one layer more.
+-- The layer that is reached is the one that the definition restores.
 use Rattle.std.proofs.Common.{◌≡◌, add-one, arith}
 use Rattle.p3_merkle_verifier.proofs.LayerFacts.{layer_rises, leaves_are}
 use Rattle.p3_merkle_verifier.proofs.pruned_check.Checker+P+PW+H+C+array+N+array+D+PW+Value+N+D.top_layer.Goals as goal
 
 pub loop-level-init : goal.loop-level-init
-loop-level-init g c = leaves_are c.requires.leaves
+loop-level-init g c = leaves_are c.requires.leaf_layer
 
 pub loop-level-preserved : goal.loop-level-preserved
 loop-level-preserved g c =

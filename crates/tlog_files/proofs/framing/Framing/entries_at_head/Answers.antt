@@ -1,4 +1,4 @@
--- One more entry stands at the head of the bytes.
+-- The entries so far and the bytes that are left are all bytes (`at_head`).
 use Rattle.std.proofs.Common.{◌∷◌, [], map, ap, arith, sym, subst, length, length-append, ◌∙◌, refl}
 use Rattle.std.proofs.lemmas.List.{map-append}
 use Rattle.tlog_files.specs.Inner.Splitting.{AreAtHead}

@@ -1,3 +1,4 @@
+-- The leaf hash is that of all bytes of the open entry, and nothing is open after it.
 use Rattle.std.proofs.Common.{[], ◌∷◌, ◌∙◌, ap, arith, length-append, subst, sym}
 use Rattle.tlog_files.specs.Inner.Splitting.{HoldsOpen}
 use Rattle.tlog_files.proofs.splitter.Splitter.end.Goals as goal

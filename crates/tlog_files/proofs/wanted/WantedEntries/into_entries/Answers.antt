@@ -1,3 +1,4 @@
+-- If no place is left, each has its entry.
 use Rattle.std.proofs.Common.{◌∙◌, ap, eqb-true, length, map, sym}
 use Rattle.std.proofs.lemmas.Bool.{eqb-false}
 use Rattle.tlog_files.proofs.WantedFacts.{all_wanted, one_missing}

@@ -1,3 +1,4 @@
+-- There is an entry, still empty, for each place.
 use Rattle.std.proofs.Common.{ℕ, ◌<◌, ◌∙◌, length, arith, sym}
 use Rattle.std.proofs.lemmas.List.{length-map}
 use Rattle.std.proofs.lemmas.List.Elements.{All-weaker}

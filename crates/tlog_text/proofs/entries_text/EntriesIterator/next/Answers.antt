@@ -1,3 +1,4 @@
+-- The next entry is the first of those that are left, and the others are left then.
 use Rattle.std.proofs.Common.{ap, arith, length, ◌∙◌}
 use Rattle.std.specs.Option.{option_map}
 use Rattle.tlog_text.specs.InPlace.{entries_from, entry_text_fields}

@@ -1,3 +1,4 @@
+-- The wanted nodes have the positions in which they were named, also once they are sorted by their ends.
 use Rattle.std.proofs.Common.{arith, sym, ap, ◌∙◌, ◌++◌, ◌∷◌, [], ◌≡◌, List, ℕ, length, map, get_or, rules, subst}
 use Rattle.std.proofs.lemmas.List.{map_push}
 use Rattle.std.proofs.lemmas.List.FromFn.{map-range_with_len_more}

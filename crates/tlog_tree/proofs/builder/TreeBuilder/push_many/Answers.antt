@@ -1,3 +1,4 @@
+-- The builder of more leaves has their frontier, and the values of its wanted nodes among them.
 use Rattle.std.proofs.Common.{arith, length, map, ap, sym, subst, ◌∙◌, ◌++◌, ◌≡◌}
 use Rattle.std.proofs.lemmas.List.{with_items_is}
 use Rattle.std.proofs.lemmas.List.Elements.{All-same}

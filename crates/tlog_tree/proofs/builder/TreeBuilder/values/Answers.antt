@@ -1,3 +1,4 @@
+-- Each wanted node so far has its value at its position (`answered`), and the nodes have all positions.
 use Rattle.std.proofs.Common.{arith, length, ap, ◌∙◌, ◌<◌, []}
 use Rattle.std.proofs.lemmas.List.{length-set}
 use Rattle.sha2.specs.Sha256.{sha256}

@@ -1,3 +1,5 @@
+-- The nodes are the frontier of the log with the hashes so far (`grown`), and the wanted nodes are those of that log
+-- (`wanted`).
 use Rattle.std.proofs.Common.{arith, length, take, drop, sym, ap, ◌∙◌, List, ℕ, ◌++◌, ◌≡◌, ◌-◌, append_assoc}
 use Rattle.std.proofs.Common.{leb, length-append, rules, ◌+◌}
 use Rattle.std.proofs.lemmas.List.{append-nil, length-take-le}

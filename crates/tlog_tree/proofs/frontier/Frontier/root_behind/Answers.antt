@@ -1,3 +1,4 @@
+-- The frontier behind its first nodes, as many as `whole` has ones, is that of the leaves behind the whole nodes.
 use Rattle.std.proofs.Common.{arith, length, drop, sym, ap, ◌∙◌, List, ℕ, ◌≡◌, ◌*◌, ◌/◌, ◌^◌, min, Some}
 use Rattle.std.specs.Prelude.{count_ones}
 use Rattle.std.proofs.lemmas.Bool.Decides.{nat_tests}

@@ -1,3 +1,4 @@
+-- A node is whole in the longest log if its last leaf is among 2^62, and only then is the shift exact.
 use Rattle.std.proofs.Common.{arith, inl, inr, ◌∙◌, ◌≡◌, ◌+◌, ◌*◌, ◌^◌, ◌<◌, ◌≤◌, ℕ, min}
 use Rattle.std.proofs.Math.Nat.{div-lt_iff_lt-mul, le-div_iff_mul-le, mod-eq_of_lt, mul-le-mul_right, pow-le-pow_right}
 use Rattle.std.proofs.lemmas.Bool.Decides.{leb_tells}

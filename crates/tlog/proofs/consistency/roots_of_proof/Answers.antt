@@ -5,7 +5,7 @@ use Rattle.std.specs.Prelude.{◌==◌}
 use Rattle.tlog.specs.Verdicts.{consistency_end_refusal}
 use Rattle.tlog.proofs.Accepted.{grown_end, nothing_grows, nothing_stays}
 use Rattle.tlog.proofs.Consistencies.{begun}
-use Rattle.tlog.proofs.consistency.roots_by.Goals as goal
+use Rattle.tlog.proofs.consistency.roots_of_proof.Goals as goal
 
 pub returns-in_default-clause-refused : goal.returns-in_default-clause-refused
 returns-in_default-clause-refused g c =

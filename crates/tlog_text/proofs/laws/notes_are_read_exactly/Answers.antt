@@ -1,5 +1,5 @@
 use Rattle.tlog_text.proofs.NoteLaws.{notes}
-use Rattle.tlog_text.proofs.laws.notes_are_spelled.Goals as goal
+use Rattle.tlog_text.proofs.laws.notes_are_read_exactly.Goals as goal
 
 pub returns : goal.returns
 returns c = notes

@@ -1,5 +1,5 @@
 use Rattle.tlog_text.proofs.ProofLaws.{entries_proofs}
-use Rattle.tlog_text.proofs.laws.entries_proofs_are_spelled.Goals as goal
+use Rattle.tlog_text.proofs.laws.entries_proofs_are_read_exactly.Goals as goal
 
 pub returns : goal.returns
 returns c = entries_proofs
