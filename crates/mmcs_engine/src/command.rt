@@ -126,7 +126,8 @@ impl Command {
 }
 
 impl CapChoice {
-    /// The cap of an argument: a cap height, followed by `f` for the fixed rule; `None` if it is no cap.
+    /// The cap of an argument: a cap height, and after it `f` for the rule `Fixed`, or nothing for `Lowered`. `None` if
+    /// it is no cap.
     pub fn parse(arg: &[u8]) -> Option<CapChoice>
         ensures found { IfSome result (IsCapArg arg.now) }
         ensures none { IfNone result ((cap : CapChoice) → IsCapArg arg.now cap → ⊥) }

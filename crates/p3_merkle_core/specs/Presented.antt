@@ -9,8 +9,9 @@ use Rattle.p3_answers.specs.Answers.{ok_unless}
 use Rattle.p3_merkle_core.specs.Refusals.{refusal_under}
 use Rattle.p3_merkle_core.specs.declared.error.MerkleTreeError.{MerkleTreeError}
 
--- an opening of one index or of several, in a form that both have: when it is accepted, why it is refused, and the
--- queries that are checked, each an opening of one index; `IsVerdict` says that a call keeps to both
+-- an opening of one index or of several, in a form that both have: when it is accepted, why it is refused, how many
+-- queries are checked, and each of them as an opening of one index; `IsVerdict` says that what a call returns agrees
+-- with when it is accepted and why it is refused
 pub record Presented (T W : Type 0) : Type 1 where
   pub is_accepted : Type 0
   pub refusal : Option MerkleTreeError

@@ -43,9 +43,9 @@ unfolding exponent layer_exponent raw_len leaves_under
 leaves_of_four_queries = refl
 
 -- two queries under one node cover it once
-parents_of_four_queries : covered_at eight_rows (5 ∷ 1 ∷ 2 ∷ 0 ∷ []) 1 ≡ 0 ∷ 1 ∷ 2 ∷ []
+parents_where_two_queries_share_one : covered_at eight_rows (5 ∷ 1 ∷ 2 ∷ 0 ∷ []) 1 ≡ 0 ∷ 1 ∷ 2 ∷ []
 unfolding exponent layer_exponent raw_len leaves_under
-parents_of_four_queries = refl
+parents_where_two_queries_share_one = refl
 
 boundary_of_four_queries : boundary eight_rows four_queries 3 ≡ (0, 0) ∷ (0, 3) ∷ (0, 4) ∷ (1, 3) ∷ []
 unfolding exponent layer_exponent raw_len leaves_under

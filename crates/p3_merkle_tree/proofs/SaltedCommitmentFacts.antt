@@ -18,9 +18,9 @@ use Rattle.p3_merkle_tree.specs.SaltedCommitments.{CanCommitSalted}
 
 module _ {T M : Type 0} (height width : M → ℕ) (row : M → ℕ → List T) (e : ℕ) (ms : List M) where
   -- matrices are refused exactly if they can't be committed to
-  none_when : salted_commit_refusal e (dimensions_of (map (matrix_of height width row) ms)) ≡ None →
+  can_when_none : salted_commit_refusal e (dimensions_of (map (matrix_of height width row) ms)) ≡ None →
       CanCommitSalted height width row e ms
-  none_when none =
+  can_when_none none =
       let ds = dimensions_of (map (matrix_of height width row) ms) in
       let both = none_parts (gate_refusal (heights_of ds)) (widening_refusal e ds) none in
       record {
@@ -28,24 +28,24 @@ module _ {T M : Type 0} (height width : M → ℕ) (row : M → ℕ → List T) 
         can_widen = subst (CanWiden e) (dimensions_are height width row ms) ((widening e ds).0 both.1);
       }
 
-  when_none : CanCommitSalted height width row e ms →
+  none_when_can : CanCommitSalted height width row e ms →
       salted_commit_refusal e (dimensions_of (map (matrix_of height width row) ms)) ≡ None
-  when_none w =
+  none_when_can w =
       let ds = dimensions_of (map (matrix_of height width row) ms) in
       none_of_both (gate_refusal (heights_of ds)) (widening_refusal e ds) ((gate_lawful (heights_of ds)).1 w.lawful)
       ((widening e ds).1 (subst (CanWiden e) (sym (dimensions_are height width row ms)) w.can_widen))
 
-  -- Ok is answered of such matrices alone
+  -- Ok is answered of matrices alone that can be committed to
   pub can_when_ok : {A : Type 0} (r : Result A MerkleTreeError) →
       AnswersUnlessMemory r (salted_commit_refusal e (dimensions_of (map (matrix_of height width row) ms))) →
       IfOk r (λ made. CanCommitSalted height width row e ms)
-  can_when_ok (Ok made) answer = none_when answer
+  can_when_ok (Ok made) answer = can_when_none answer
   can_when_ok (Err x) answer = tt
 
-  -- of these an error is for want of memory
+  -- of matrices that can be committed to, an error is for want of memory
   pub memory_when_can : {A : Type 0} (r : Result A MerkleTreeError) →
       AnswersUnlessMemory r (salted_commit_refusal e (dimensions_of (map (matrix_of height width row) ms))) →
       CanCommitSalted height width row e ms → IfErr r (λ x. x ≡ OutOfMemory)
   memory_when_can (Ok made) answer w = tt
   memory_when_can (Err x) (inl memory) w = memory
-  memory_when_can (Err x) (inr refused) w = let none = when_none w in absurd cc
+  memory_when_can (Err x) (inr refused) w = let none = none_when_can w in absurd cc

@@ -13,14 +13,15 @@ use Rattle.p3_merkle_core.specs.Checks.{Params}
 use Rattle.p3_merkle_tree.specs.SaltedOpenings.{IsSaltedAccepted, salted_of}
 use Rattle.p3_merkle_tree.specs.SaltedTrees.{HaveSaltColumns}
 
--- matrices that can be committed to with e salts a row: their heights are lawful, and their widths with the salts are
--- sizes
+-- matrices that can be committed to with e salts a row: their heights are lawful, and each width with the salts fits
+-- usize
 pub record CanCommitSalted {T M : Type 0} (height width : M → ℕ) (row : M → ℕ → List T) (e : ℕ)
     (matrices : List M) : Type 0 where
   pub lawful : IsLawful (heights_in height width row matrices)
   pub can_widen : CanWiden e (dimensions_in height width matrices)
 
--- a commitment to a batch, which is that of pairs with e salts a row
+-- a tree is built over a batch, this is its cap, and each of some pairs has e salts a row; that the batch is that of
+-- the pairs is not said here: `CommitsSalted` takes both from one tree
 pub record IsSaltedCommitment {T W A B : Type 0} {a : Ghosts A T} {b : Ghosts B T} (e : ℕ) (c : Params T W)
     (cap : List (List W)) (batch : Batch T) (stored : List (List (List W)))
     (pairs : List (HorizontalPair T A B a b)) : Type 0 where

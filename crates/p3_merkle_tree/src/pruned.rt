@@ -205,7 +205,33 @@ impl<
             let p = pruned_borrowed indices.now rows.now proof.now in
             IfOk result (λ paths. shown_paths paths.items ≡ restored_paths c p) }
     {
-        let opening = PrunedOpeningRef::new(indices, rows, proof);
+        let rows = RowSets::Vecs(rows);
+        self.restore_row_sets(alloc, dimensions, indices, rows, &proof.sibling_hashes)
+    }
+
+    /// Restores the path of each query as [`restore_and_recompute_paths`](Self::restore_and_recompute_paths) does, with
+    /// the same errors, wherever their rows lie: see [`RowSets`]. `digests` are those of the pruned proof, in wire
+    /// order. It copies no row.
+    pub fn restore_row_sets(
+        &self,
+        alloc: Global,
+        dimensions: &[Dimensions],
+        indices: &[usize],
+        rows: RowSets<'_, P::Value>,
+        digests: &[[PW::Value; D]],
+    ) -> Result<Vec<MerkleAuthPath<PW::Value, D>>, MerkleTreeError>
+        ensures verdict { let s = shape_of N dimensions.now in
+            let p = pruned_of indices.now (sets_in rows.entry) digests.now in
+            IsVerdict (presented_to_restore P.Value.eq s (cap_layer_of self.now s) p) result }
+        ensures paths { let c = params_of self.now (shape_of N dimensions.now) in
+            let p = pruned_of indices.now (sets_in rows.entry) digests.now in
+            IfOk result (λ paths. shown_paths paths.items ≡ restored_paths c p) }
+    {
+        let opening = PrunedOpeningRef {
+            indices,
+            sets: rows,
+            sent: digests,
+        };
         self.checker(dimensions).restored_paths(alloc, opening)
     }
 }

@@ -149,6 +149,7 @@ impl<
 > Checker<'a, P, PW, H, C, [[PW::Value; D]; N], N, D> {
     /// The digest of the rows of the matrices of the exponent `exponent`, hashed as one message. `rows` has a row of
     /// each matrix.
+    #[inline(always)]
     fn row_digest<'x>(&'x self, rows: RowParts<'x, P::Value>, exponent: usize) -> [PW::Value; D]
         ensures { let rows = zip (heights_of self.now.schedule.dimensions.now) (rows_in rows.entry) in
             result ≡ H.hash self.now.hash.now (words_of_exponent exponent rows) }
@@ -167,7 +168,7 @@ impl<
                 exponent,
                 due: &[],
             }),
-            RowParts::Slices(_) | RowParts::Flat { .. } => {
+            RowParts::Slices(_) | RowParts::SaltedSlices { .. } | RowParts::Flat { .. } => {
                 let parts = OpenedParts::new(dimensions, rows, exponent);
                 self.hash.hash_iter_slices(parts)
             }
@@ -175,6 +176,7 @@ impl<
     }
 
     /// The start of the check of an opening: the leaf, with the digest of its rows.
+    #[inline(always)]
     pub(crate) fn start(
         &self,
         opening: OpeningRef<'_, P::Value, [PW::Value; D]>,
@@ -284,15 +286,59 @@ impl<
             opening.rows,
             num_siblings,
         )?;
-        let mut state = self.start(opening);
-        for level in 0..self.cap_layer {
-            state = self.compute_level(level, opening, &state).above;
-        }
-        if is_entry(roots, state.node, &state.digest) {
+        let reached = self.climb(opening);
+        if is_entry(roots, reached.node, &reached.digest) {
             Ok(())
         } else {
             Err(MerkleTreeError::CapMismatch)
         }
+    }
+
+    /// Climbs from the leaf of an opening to its ancestor in the cap's layer. The opening must have the siblings of the
+    /// whole path.
+    // A climb for each form of rows: one for all would choose the form anew at each layer, and takes a tenth longer.
+    fn climb(&self, opening: OpeningRef<'_, P::Value, [PW::Value; D]>) -> PathState<[PW::Value; D]>
+        requires { CanReach (shape_in self.now) self.now.cap_layer (length opening.siblings.now) }
+        ensures { let f = functions_of self.now in
+            IsPathState f (shape_in self.now) (opening_in opening.entry) self.now.cap_layer result }
+    {
+        let OpeningRef {
+            index,
+            rows,
+            siblings,
+        } = opening;
+        match rows {
+            RowParts::Vecs(vecs) => self.climb_over(OpeningRef {
+                index,
+                rows: RowParts::Vecs(vecs),
+                siblings,
+            }),
+            RowParts::Salted { rows, salts } => self.climb_over(OpeningRef {
+                index,
+                rows: RowParts::Salted { rows, salts },
+                siblings,
+            }),
+            RowParts::Slices(_) | RowParts::SaltedSlices { .. } | RowParts::Flat { .. } => {
+                self.climb_over(opening)
+            }
+        }
+    }
+
+    /// The climb of [`climb`](Checker::climb), which is compiled for one form of rows where the caller names it.
+    #[inline(always)]
+    fn climb_over(
+        &self,
+        opening: OpeningRef<'_, P::Value, [PW::Value; D]>,
+    ) -> PathState<[PW::Value; D]>
+        requires { CanReach (shape_in self.now) self.now.cap_layer (length opening.siblings.now) }
+        ensures { let f = functions_of self.now in
+            IsPathState f (shape_in self.now) (opening_in opening.entry) self.now.cap_layer result }
+    {
+        let mut state = self.start(opening);
+        for level in 0..self.cap_layer {
+            state = self.compute_level(level, opening, &state).above;
+        }
+        state
     }
 }
 

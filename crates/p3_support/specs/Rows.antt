@@ -3,7 +3,7 @@ use Rattle.p3_support.specs.Shown.{row_lists}
 use Rattle.std.specs.Prelude.{ℕ, List, [], ◌∷◌, ◌++◌, length, map, min, take, drop, zip}
 use Rattle.p3_support.specs.Batches.{widths_of}
 use Rattle.p3_support.specs.declared.row_parts.RowParts.{RowParts}
-use Rattle.p3_support.specs.declared.row_parts.RowParts.TheVariants.{Vecs, Slices, Salted, Flat}
+use Rattle.p3_support.specs.declared.row_parts.RowParts.TheVariants.{Vecs, Slices, Salted, SaltedSlices, Flat}
 
 -- the rows whose parts these are: each first part followed by its second
 abbrev pub rows_in_parts : {T : Type 0} → List (List T × List T) → List (List T)
@@ -31,6 +31,7 @@ abbrev pub parts_of : {T : Type 0} → RowParts T → List (List T × List T)
 parts_of (Vecs rows) = whole (row_lists rows.now)
 parts_of (Slices rows) = whole (map (λ row. row.now) rows.now)
 parts_of (Salted rows salts) = zip (row_lists rows.now) (row_lists salts.now)
+parts_of (SaltedSlices rows salts) = zip (map (λ row. row.now) rows.now) (row_lists salts.now)
 parts_of (Flat words dimensions) = whole (flat_rows (widths_of dimensions.now) words.now)
 
 -- the rows that are left, each in one piece

@@ -75,6 +75,13 @@ impl<F, X> MerkleCap<F, X> {
     {
         self.roots.as_slice()
     }
+
+    /// The digests, in order, without a copy.
+    pub fn into_roots(self) -> Vec<X>
+        ensures { result.items ≡ roots_of self }
+    {
+        self.roots
+    }
 }
 
 /// `cap[i]` is digest `i`, where `i < cap.num_roots()`.

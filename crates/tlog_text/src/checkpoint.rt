@@ -48,7 +48,7 @@ impl<'a> Checkpoint<'a> {
     pub fn parse(note: &'a [u8]) -> Result<Checkpoint<'a>, TextError>
         ensures { result_map_both checkpoint_fields (λ error. error) result ≡ checkpoint_in note.now }
     {
-        log_by(note).map_err(|stop| error_of(note, stop))
+        checkpoint_by(note).map_err(|stop| error_of(note, stop))
     }
 
     /// Reads a part of a file: a text of the form that [`parse`](Self::parse) reads, with the origin `PART_ORIGIN`.
@@ -136,7 +136,7 @@ fn after_origin<'a>(origin: &'a str, left: &[u8]) -> Result<Checkpoint<'a>, Stop
 
 /// Reads the checkpoint of a log. Where it is none, the error says what is missing.
 #[tactic(auto, unfolding(crate::specs::Reading::log_origin_by))]
-fn log_by(note: &[u8]) -> Result<Checkpoint<'_>, Stop>
+fn checkpoint_by(note: &[u8]) -> Result<Checkpoint<'_>, Stop>
     ensures { result_map_both checkpoint_fields (λ stop. stop) result ≡ note_by log_origin_by note.now }
 {
     if note.len() > MAX_BYTES {

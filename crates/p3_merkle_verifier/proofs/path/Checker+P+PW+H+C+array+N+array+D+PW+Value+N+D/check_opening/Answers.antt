@@ -1,5 +1,5 @@
 -- What the form does not refuse can be checked up to the cap, and the check stands at the level that is reached.
-use Rattle.std.proofs.Common.{◌≡◌, arith, length, refl}
+use Rattle.std.proofs.Common.{length, refl}
 use Rattle.std.proofs.lemmas.Result.{err_from_is_err_and}
 use Rattle.p3_merkle_verifier.specs.Inner.Checks.{opening_in}
 use Rattle.p3_merkle_verifier.proofs.FormFacts.{answered_by_entry, form_widened}
@@ -7,15 +7,13 @@ use Rattle.p3_merkle_verifier.proofs.path.Checker+P+PW+H+C+array+N+array+D+PW+Va
 
 pub returns-then-is_entry-clause-answer : goal.returns-then-is_entry-clause-answer
 returns-then-is_entry-clause-answer g c =
-    let here : c.loop-level.level ≡ c.args.self.now.cap_layer = omega arith in
     answered_by_entry g.PW.Value.PartialEq.eq c.args.roots.now c.args.salt_elems c.in_ok-check_form.ensures.answer
-    (rw here at c.loop-level.invariant) c.is_entry.ensures c.if-is_entry.true
+    c.climb-reached.ensures c.is_entry.ensures c.if-is_entry.true
 
 pub returns-else-is_entry-clause-answer : goal.returns-else-is_entry-clause-answer
 returns-else-is_entry-clause-answer g c =
-    let here : c.loop-level.level ≡ c.args.self.now.cap_layer = omega arith in
     answered_by_entry g.PW.Value.PartialEq.eq c.args.roots.now c.args.salt_elems c.in_ok-check_form.ensures.answer
-    (rw here at c.loop-level.invariant) c.is_entry.ensures c.if-is_entry.false
+    c.climb-reached.ensures c.is_entry.ensures c.if-is_entry.false
 
 pub returns-in_err-check_form-clause-answer : goal.returns-in_err-check_form-clause-answer
 returns-in_err-check_form-clause-answer g c =

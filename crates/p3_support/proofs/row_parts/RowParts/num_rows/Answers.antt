@@ -1,5 +1,5 @@
 -- There is a row for each pair of a row and its salts, or for each width.
-use Rattle.std.proofs.Common.{◌≡◌, ◌∙◌, arith, sym, []}
+use Rattle.std.proofs.Common.{◌≡◌, ◌∙◌, arith, map, sym, []}
 use Rattle.std.proofs.lemmas.List.{length-map}
 use Rattle.std.proofs.lemmas.Slice.Zip.{length-zip}
 use Rattle.p3_support.specs.Batches.{widths_of}
@@ -17,6 +17,18 @@ returns-in-Salted g c =
       c.min.ensures,
       length-zip (row_lists rows) (row_lists salts),
       length-map rows (λ row. row.items),
+      length-map salts (λ row. row.items),
+    ))
+
+pub returns-in-SaltedSlices : goal.returns-in-SaltedSlices
+returns-in-SaltedSlices g c =
+    let rows = c.in-SaltedSlices.rows.now in
+    let salts = c.in-SaltedSlices.salts.now in
+    rw c.in-SaltedSlices.is (omega (
+      arith,
+      c.min-in-SaltedSlices.ensures,
+      length-zip (map (λ row. row.now) rows) (row_lists salts),
+      length-map rows (λ row. row.now),
       length-map salts (λ row. row.items),
     ))
 

@@ -1,5 +1,5 @@
 use Rattle.p3_merkle_verifier.specs.Inner.Checks.{functions_of, opening_in, shape_in, IsPathState}
-use Rattle.p3_merkle_verifier.proofs.path.Checker+P+PW+H+C+array+N+array+D+PW+Value+N+D.check_opening.Given as goal
+use Rattle.p3_merkle_verifier.proofs.path.Checker+P+PW+H+C+array+N+array+D+PW+Value+N+D.climb_over.Given as goal
 
 abbrev pub invariant-loop-level : goal.invariant-loop-level
 invariant-loop-level g l =
