@@ -166,7 +166,21 @@ impl<
         rows: &[Vec<Vec<P::Value>>],
         proof: &PrunedMerklePaths<PW::Value, D>,
     ) -> Result<Vec<MerkleAuthPath<PW::Value, D>>, MerkleTreeError> {
-        let opening = PrunedOpeningRef::new(indices, rows, proof);
+        let rows = RowSets::Vecs(rows);
+        self.restore_row_sets(dimensions, indices, rows, &proof.sibling_hashes)
+    }
+
+    /// Restores the path of each query as [`restore_and_recompute_paths`](Self::restore_and_recompute_paths) does, with
+    /// the same errors, wherever their rows lie: see [`RowSets`]. `digests` are those of the pruned proof, in wire
+    /// order. It copies no row.
+    pub fn restore_row_sets(
+        &self,
+        dimensions: &[Dimensions],
+        indices: &[usize],
+        rows: RowSets<'_, P::Value>,
+        digests: &[[PW::Value; D]],
+    ) -> Result<Vec<MerkleAuthPath<PW::Value, D>>, MerkleTreeError> {
+        let opening = PrunedOpeningRef { indices, sets: rows, sent: digests };
         self.checker(dimensions).restored_paths(opening)
     }
 }

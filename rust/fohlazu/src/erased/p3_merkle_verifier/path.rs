@@ -98,6 +98,7 @@ impl<
 {
     /// The digest of the rows of the matrices of the exponent `exponent`, hashed as one message. `rows` has a row of
     /// each matrix.
+    #[inline(always)]
     fn row_digest<'x>(&'x self, rows: RowParts<'x, P::Value>, exponent: usize) -> [PW::Value; D] {
         let dimensions = self.schedule.dimensions;
         match rows {
@@ -105,7 +106,7 @@ impl<
             RowParts::Salted { rows, salts } => {
                 self.hash.hash_iter_slices(SaltedRows { dimensions, rows, salts, exponent, due: &[] })
             }
-            RowParts::Slices(_) | RowParts::Flat { .. } => {
+            RowParts::Slices(_) | RowParts::SaltedSlices { .. } | RowParts::Flat { .. } => {
                 let parts = OpenedParts::new(dimensions, rows, exponent);
                 self.hash.hash_iter_slices(parts)
             }
@@ -113,6 +114,7 @@ impl<
     }
 
     /// The start of the check of an opening: the leaf, with the digest of its rows.
+    #[inline(always)]
     pub(crate) fn start(&self, opening: OpeningRef<'_, P::Value, [PW::Value; D]>) -> PathState<[PW::Value; D]> {
         let exponent = self.schedule.exponent;
         PathState { exponent, node: opening.index, used: 0, digest: self.row_digest(opening.rows, exponent) }
@@ -170,11 +172,32 @@ impl<
     ) -> Result<(), MerkleTreeError> {
         let (index, num_siblings) = (opening.index, opening.siblings.len());
         check_form(&self.schedule, self.cap_layer, salt_elems, index, opening.rows, num_siblings)?;
+        let reached = self.climb(opening);
+        if is_entry(roots, reached.node, &reached.digest) { Ok(()) } else { Err(MerkleTreeError::CapMismatch) }
+    }
+
+    /// Climbs from the leaf of an opening to its ancestor in the cap's layer. The opening must have the siblings of the
+    /// whole path.
+    // A climb for each form of rows: one for all would choose the form anew at each layer, and takes a tenth longer.
+    fn climb(&self, opening: OpeningRef<'_, P::Value, [PW::Value; D]>) -> PathState<[PW::Value; D]> {
+        let OpeningRef { index, rows, siblings } = opening;
+        match rows {
+            RowParts::Vecs(vecs) => self.climb_over(OpeningRef { index, rows: RowParts::Vecs(vecs), siblings }),
+            RowParts::Salted { rows, salts } => {
+                self.climb_over(OpeningRef { index, rows: RowParts::Salted { rows, salts }, siblings })
+            }
+            RowParts::Slices(_) | RowParts::SaltedSlices { .. } | RowParts::Flat { .. } => self.climb_over(opening),
+        }
+    }
+
+    /// The climb of [`climb`](Checker::climb), which is compiled for one form of rows where the caller names it.
+    #[inline(always)]
+    fn climb_over(&self, opening: OpeningRef<'_, P::Value, [PW::Value; D]>) -> PathState<[PW::Value; D]> {
         let mut state = self.start(opening);
         for level in 0..self.cap_layer {
             state = self.compute_level(level, opening, &state).above;
         }
-        if is_entry(roots, state.node, &state.digest) { Ok(()) } else { Err(MerkleTreeError::CapMismatch) }
+        state
     }
 }
 

@@ -109,6 +109,12 @@ impl<F, X> MerkleCap<F, X> {
     pub fn roots(&self) -> &[X] {
         self.roots.as_slice()
     }
+
+    /// The digests, in order, without a copy.
+    #[inline]
+    pub fn into_roots(self) -> Vec<X> {
+        self.roots
+    }
 }
 
 /// `cap[i]` is digest `i`, where `i < cap.num_roots()`.

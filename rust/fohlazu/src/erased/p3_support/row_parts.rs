@@ -23,6 +23,13 @@ pub enum RowParts<'a, T> {
         /// The salts of each row.
         salts: &'a [Vec<T>],
     },
+    /// Each row is a slice, and is followed by its salts. Rows and lists of salts are paired as in `Salted`.
+    SaltedSlices {
+        /// The rows.
+        rows: &'a [&'a [T]],
+        /// The salts of each row.
+        salts: &'a [Vec<T>],
+    },
     /// The rows lie one after another in one slice, each as long as its matrix is wide. The last row has all words that
     /// are left, so that a slice of another length has a row of another length than its matrix.
     Flat {
@@ -62,6 +69,7 @@ impl<'a, T> RowParts<'a, T> {
             RowParts::Vecs(rows) => rows.len(),
             RowParts::Slices(rows) => rows.len(),
             RowParts::Salted { rows, salts } => rows.len().min(salts.len()),
+            RowParts::SaltedSlices { rows, salts } => rows.len().min(salts.len()),
             RowParts::Flat { dimensions, .. } => dimensions.len(),
         }
     }
@@ -87,6 +95,12 @@ impl<'a, T> RowParts<'a, T> {
                 let (salt, salts) = salts.split_first()?;
                 *self = RowParts::Salted { rows, salts };
                 Some((row.as_slice(), salt.as_slice()))
+            }
+            RowParts::SaltedSlices { rows, salts } => {
+                let (row, rows) = rows.split_first()?;
+                let (salt, salts) = salts.split_first()?;
+                *self = RowParts::SaltedSlices { rows, salts };
+                Some((*row, salt.as_slice()))
             }
             RowParts::Flat { words, dimensions } => {
                 let (matrix, dimensions) = dimensions.split_first()?;
