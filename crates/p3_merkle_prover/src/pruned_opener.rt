@@ -98,8 +98,8 @@ fn extend_with_boundary<X: Copy>(
         IfOk result (λ done. digests.new.items ≡ digests.old.items ++ others) }
     ensures memory { AnswersUnlessMemory result None }
 {
-    // A slice of the layer has one covered node. It starts with the node's group, or where the slice before it ended. It
-    // ends with the group, or ahead of the next covered node.
+    // A slice of the layer has one covered node. It starts with the node's group, or where the slice before it ended.
+    // It ends with the group, or ahead of the next covered node.
     let mut next = 0;
     for place in 0..covered.len() {
         let node = covered[place];

@@ -66,8 +66,8 @@ fn extend_with_boundary<X: Copy>(
     covered: &[usize],
     step: usize,
 ) -> Result<(), MerkleTreeError> {
-    // A slice of the layer has one covered node. It starts with the node's group, or where the slice before it ended. It
-    // ends with the group, or ahead of the next covered node.
+    // A slice of the layer has one covered node. It starts with the node's group, or where the slice before it ended.
+    // It ends with the group, or ahead of the next covered node.
     let mut next = 0;
     for place in 0..covered.len() {
         let node = covered[place];
