@@ -83,12 +83,19 @@ fn each_form_has_the_verdict_of_vectors() {
             })
             .unzip();
         assert_eq!(by(RowParts::Salted { rows: &fronts, salts: &backs }), verdict);
+        let fronts: Vec<&[u32]> = fronts.iter().map(Vec::as_slice).collect();
+        assert_eq!(by(RowParts::SaltedSlices { rows: &fronts, salts: &backs }), verdict);
         match verdict {
             Ok(()) => accepted += 1,
             Err(_) => refused += 1,
         }
     }
     assert!(accepted > 300 && refused > 300, "{accepted} accepted, {refused} refused");
+}
+
+/// Each row as a slice, where it lies.
+fn slices_of(sets: &[Vec<Vec<u32>>]) -> Vec<Vec<&[u32]>> {
+    sets.iter().map(|rows| rows.iter().map(Vec::as_slice).collect()).collect()
 }
 
 #[test]
@@ -121,15 +128,23 @@ fn row_sets_in_parts_have_the_verdict_of_vectors() {
         assert_eq!(by(RowSets::Salted { sets: &fronts, salts: &backs }), verdict);
 
         // The rows of each query in a form of their own.
-        let slices: Vec<Vec<&[u32]>> = sets.iter().map(|rows| rows.iter().map(Vec::as_slice).collect()).collect();
+        let (slices, slices_of_fronts) = (slices_of(&sets), slices_of(&fronts));
         let forms: Vec<RowParts<u32>> = (0..sets.len())
-            .map(|query| match query % 3 {
+            .map(|query| match query % 4 {
                 0 => RowParts::Vecs(&sets[query]),
                 1 => RowParts::Slices(&slices[query]),
-                _ => RowParts::Salted { rows: &fronts[query], salts: &backs[query] },
+                2 => RowParts::Salted { rows: &fronts[query], salts: &backs[query] },
+                _ => RowParts::SaltedSlices { rows: &slices_of_fronts[query], salts: &backs[query] },
             })
             .collect();
         assert_eq!(by(RowSets::Parts(&forms)), verdict);
+
+        // Paths are restored from rows in any form as from vectors.
+        let restored = scheme.restore_and_recompute_paths(&dimensions, &indices, &sets, &proof);
+        let restore = |rows| scheme.restore_row_sets(&dimensions, &indices, rows, digests);
+        assert_eq!(restore(RowSets::Vecs(&sets)), restored);
+        assert_eq!(restore(RowSets::Salted { sets: &fronts, salts: &backs }), restored);
+        assert_eq!(restore(RowSets::Parts(&forms)), restored);
         let words: Vec<Vec<u32>> = sets.iter().map(|rows| rows.concat()).collect();
         let cuts: Vec<Vec<Vec<u32>>> = words.iter().map(|words| cut(words, &dimensions)).collect();
         let flat: Vec<RowParts<u32>> =
