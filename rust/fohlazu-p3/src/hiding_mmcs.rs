@@ -5,7 +5,7 @@
 //! lie.
 
 use crate::geometry::{check_len, check_rows_and_salts, verdict, widened};
-use crate::pruning::copied_sets;
+use crate::pruning::slices_of;
 use crate::{MerkleTree, MerkleTreeError, MerkleTreeMmcs, PrunedMerklePaths};
 use alloc::vec::Vec;
 use fohlazu::support::{RowParts, RowSets};
@@ -151,8 +151,10 @@ where
         for (rows, salts) in opened_values.iter().zip(salts) {
             check_rows_and_salts(dimensions, rows, salts)?;
         }
-        let (dimensions, sets) = (widened(dimensions, SALT_ELEMS), copied_sets(opened_values));
-        let (sets, digests) = (RowSets::Salted { sets: &sets, salts }, &proof.sibling_hashes);
+        let (dimensions, slices) = (widened(dimensions, SALT_ELEMS), slices_of(opened_values));
+        let sets: Vec<_> =
+            slices.iter().zip(salts).map(|(rows, salts)| RowParts::SaltedSlices { rows, salts }).collect();
+        let (sets, digests) = (RowSets::Parts(&sets), &proof.sibling_hashes);
         verdict(self.inner.proved().verify_row_sets(commit.roots(), &dimensions, indices, sets, digests))
     }
 }

@@ -73,7 +73,7 @@ where
     pub fn cap(&self, cap_height: usize) -> MerkleCap<F, [W; DIGEST_ELEMS]> {
         let num_layers = self.num_layers();
         assert!(cap_height < num_layers, "cap_height {cap_height} exceeds tree depth {num_layers}");
-        cap_of(&built(self.proved.cap(cap_height)))
+        cap_of(built(self.proved.cap(cap_height)))
     }
 
     /// The number of layers, leaves and root included.
@@ -83,7 +83,7 @@ where
     }
 }
 
-/// A cap in Plonky3's type. This copies its digests: the proved code gives them by reference alone.
-pub(crate) fn cap_of<F, X: Copy>(cap: &fohlazu::merkle_tree::MerkleCap<F, X>) -> MerkleCap<F, X> {
-    MerkleCap::new(cap.roots().to_vec())
+/// A cap in Plonky3's type.
+pub(crate) fn cap_of<F, X>(cap: fohlazu::merkle_tree::MerkleCap<F, X>) -> MerkleCap<F, X> {
+    MerkleCap::new(cap.into_roots())
 }

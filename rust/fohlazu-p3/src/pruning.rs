@@ -44,8 +44,3 @@ pub(crate) fn slices_of<T, R: AsRef<[T]>>(sets: &[Vec<R>]) -> Vec<Vec<&[T]>> {
 pub(crate) fn parts_of<'a, T>(sets: &'a [Vec<&'a [T]>]) -> Vec<RowParts<'a, T>> {
     sets.iter().map(|rows| RowParts::Slices(rows)).collect()
 }
-
-/// Row sets as vectors, where the proved code takes no other form. This copies each row.
-pub(crate) fn copied_sets<T: Copy, R: AsRef<[T]>>(sets: &[Vec<R>]) -> Vec<Vec<Vec<T>>> {
-    sets.iter().map(|rows| rows.iter().map(|row| row.as_ref().to_vec()).collect()).collect()
-}
