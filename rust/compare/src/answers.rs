@@ -59,8 +59,9 @@ impl<T: Word, const D: usize> Run<'_, T, D> {
     /// The answers to all of the script.
     pub fn answers(mut self) -> Vec<Answer> {
         let (subject, script) = (self.subject, self.script);
-        if let Some(committed) = self.ask(Call::Commit, &script.sizes, || subject.commit(script.matrices())) {
-            self.more_of_matrices();
+        let committed = self.ask(Call::Commit, &script.sizes, || subject.commit(script.matrices()));
+        self.more_of_matrices();
+        if let Some(committed) = committed {
             for step in &script.steps {
                 self.step(step, &*committed);
             }
