@@ -26,6 +26,11 @@ impl Random {
         (self.number() % bound as u64) as usize
     }
 
+    /// One of some items.
+    pub fn choice<T: Copy>(&mut self, items: &[T]) -> T {
+        items[self.below(items.len())]
+    }
+
     /// Whether one of so many chances comes true.
     pub fn one_in(&mut self, chances: usize) -> bool {
         self.below(chances) == 0

@@ -1,6 +1,6 @@
 //! A stand-in for `p3-field` 0.8, for tests where no registry is reached: packed values, as far as this repository uses
-//! them. The names, the signatures and what each call returns are those that p3-merkle-tree 0.8.0 relies on; the crate
-//! has fields and much else besides.
+//! them, and fields, as far as the tests of p3-merkle-tree 0.8.0 do. The names, the signatures and what each call returns
+//! are those that p3-merkle-tree 0.8.0 relies on; the crate has much else besides.
 #![no_std]
 
 /// A type that may be in a lane of a packed value.
@@ -11,6 +11,30 @@ macro_rules! packable {
 }
 
 packable!(u8 u16 u32 u64 u128);
+
+/// A ring with numbers in it.
+pub trait PrimeCharacteristicRing: Sized + Default + Clone {
+    /// The number 1.
+    const ONE: Self;
+
+    /// The number of a byte.
+    fn from_u8(int: u8) -> Self;
+
+    /// The number of a word.
+    fn from_u32(int: u32) -> Self;
+}
+
+/// A value that can be written as bytes.
+pub trait RawDataSerializable: Sized {
+    /// The bytes.
+    fn into_bytes(self) -> impl IntoIterator<Item = u8>;
+}
+
+/// A field, whose elements can be packed.
+pub trait Field: PrimeCharacteristicRing + RawDataSerializable + Packable {
+    /// Elements that are worked on together.
+    type Packing: PackedValue<Value = Self>;
+}
 
 /// A list of `WIDTH` values of one type, the lanes, that are worked on together.
 ///

@@ -1,10 +1,16 @@
 //! A stand-in for `p3-symmetric` 0.8, for tests where no registry is reached: hashers, compressions, digests and caps,
-//! as far as this repository uses them. The names, the signatures and what each call returns are those that
-//! p3-merkle-tree 0.8.0 relies on.
+//! as far as this repository and the tests of p3-merkle-tree 0.8.0 use them. The names, the signatures and what each call
+//! returns are those that p3-merkle-tree 0.8.0 relies on.
 #![no_std]
 #![forbid(unsafe_code)]
 
 extern crate alloc;
+
+mod permutation;
+mod serializing;
+
+pub use permutation::{CryptographicPermutation, PaddingFreeSponge, TruncatedPermutation};
+pub use serializing::{CompressionFunctionFromHasher, SerializingHasher};
 
 use alloc::vec::Vec;
 use core::iter::once;

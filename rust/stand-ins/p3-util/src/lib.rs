@@ -7,6 +7,9 @@ pub const fn log2_ceil_usize(n: usize) -> usize {
     if n <= 1 { 0 } else { (n - 1).ilog2() as usize + 1 }
 }
 
+/// Compiles for types that threads may share.
+pub const fn assert_sync<T: Sync>() {}
+
 /// Pairs of two lists of one length.
 pub mod zip_eq {
     use core::iter::Zip;

@@ -89,4 +89,14 @@ pub trait SeedableRng: Sized {
         rng.fill_bytes(seed.as_mut());
         Self::from_seed(seed)
     }
+
+    /// The generator of a number. The crate has other bytes for it.
+    fn seed_from_u64(state: u64) -> Self {
+        let mut seed = Self::Seed::default();
+        for (place, bytes) in seed.as_mut().chunks_mut(8).enumerate() {
+            let word = state.wrapping_add(place as u64).wrapping_mul(0x9e37_79b9_7f4a_7c15);
+            bytes.copy_from_slice(&word.to_le_bytes()[..bytes.len()]);
+        }
+        Self::from_seed(seed)
+    }
 }

@@ -1,0 +1,90 @@
+#!/usr/bin/env python3
+"""python3 rust/compare UPSTREAM COUNT SEED    p3-merkle-tree 0.8.0 and fohlazu-p3 beside each other, in one process
+python3 rust/compare tests UPSTREAM    the original's own tests over fohlazu-p3
+python3 rust/compare self UPSTREAM    the tests of this program
+
+UPSTREAM is a folder with the original's files: its Cargo package, its sources alone, or flat files, in whose names `--`
+stands for `/` and to whose ends `.txt` may be added. A package is compiled where it is, if its Cargo.toml names no other
+folder; all else is copied to a temporary folder first, and nothing is ever copied to the repository.
+
+- With COUNT and SEED, random operations are asked of both, COUNT or a few more. Known differences are counted, any other
+  one is printed with its smallest case, and the status is 1.
+- `tests` runs the original's own tests that touch no private part of it, and names the others.
+
+It needs Cargo, and takes the stand-ins of rust/stand-ins for the crates that the original imports. The status is 1 if
+something is wrong, 2 if the words are, 3 if Cargo is missing.
+"""
+
+import os
+import shutil
+import subprocess
+import sys
+import tempfile
+from pathlib import Path
+
+sys.path.insert(0, str(Path(__file__).resolve().parents[2] / "tools"))
+from script import TOP, fail  # first: without it Python would write the modules below as bytecode
+
+import own_tests
+import upstream
+
+HERE = TOP / "rust/compare"
+
+
+def cargo(*words, output=None):
+    """Runs Cargo here, where its configuration names the stand-ins. Output goes where it goes, or is returned."""
+    settings = {"CARGO_TERM_COLOR": "never", "CARGO_TARGET_DIR": os.environ.get("CARGO_TARGET_DIR", HERE / "target")}
+    return subprocess.run(["cargo", *words], cwd=HERE, stdin=subprocess.DEVNULL, stdout=output, text=True, check=False,
+                          stderr=subprocess.STDOUT if output else None, env=os.environ | settings)
+
+
+def over(folder, original):
+    """The words of Cargo by which this package takes the original, which is laid out in a folder if it has to be."""
+    package = original.package_in(folder)
+    return "--offline", "--quiet", "--config", f'patch.crates-io.p3-merkle-tree.path="{package}"'
+
+
+def compare(folder, original, count, seed):
+    """Random operations by both."""
+    return cargo("run", *over(folder, original), "--release", "--", count, seed).returncode
+
+
+def test_this(folder, original):
+    """The tests of this program."""
+    return cargo("test", *over(folder, original)).returncode
+
+
+def run_tests(folder, original):
+    """The original's own tests over fohlazu-p3."""
+    def test(*words):
+        done = cargo("test", "--offline", *words, output=subprocess.PIPE)
+        return done.returncode, done.stdout
+
+    return own_tests.run(folder, original, test)
+
+
+def main():
+    words = sys.argv[1:]
+    match words:
+        case ["tests", where]:
+            task, rest = run_tests, []
+        case ["self", where]:
+            task, rest = test_this, []
+        case [where, *rest] if len(rest) == 2 and all(word.isascii() and word.isdecimal() for word in rest):
+            task = compare
+        case _:
+            fail("usage: python3 rust/compare UPSTREAM COUNT SEED, or rust/compare tests UPSTREAM, "
+                 "or rust/compare self UPSTREAM", 2)
+    if not Path(where).is_dir():
+        fail(f"{where} is no folder", 2)
+    try:
+        original = upstream.read(where)
+    except upstream.NoSources as why:
+        fail(why, 2)
+    if not shutil.which("cargo"):
+        fail("cargo is not installed", 3)
+    with tempfile.TemporaryDirectory() as folder:
+        sys.exit(task(Path(folder), original, *rest))
+
+
+main()
