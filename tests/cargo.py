@@ -26,7 +26,7 @@ sys.path.insert(0, str(Path(__file__).resolve().parents[1] / "tools"))
 from script import TOP, fail
 
 # What takes seconds, first what sees most for the least time.
-QUICK = ["examples", "logs", "worked_rows", "row_parts", "refused_memory", "user_program"]
+QUICK = ["examples", "logs", "worked_rows", "row_parts", "refused_memory", "user_program", "byte_hashers"]
 SHORT = ["--", "--skip", "long::"]
 # Wrong bodies of tests/edits: each changes what a call returns.
 EDITS = [
