@@ -1,13 +1,14 @@
 -- The paths are those of the checker's walk.
 use Rattle.std.proofs.Common.{subst}
 use Rattle.std.specs.Prelude.{◌≡◌, IfOk}
+use Rattle.p3_support.specs.RowSets.{sets_in}
 use Rattle.p3_merkle_core.specs.Geometry.{shape_of}
-use Rattle.p3_merkle_core.specs.Pruning.{restored_paths}
+use Rattle.p3_merkle_core.specs.Pruning.{pruned_of, restored_paths}
 use Rattle.p3_merkle_core.specs.Refusals.{AnswersUnlessMemory, pruned_refusal}
-use Rattle.p3_merkle_core.specs.Views.{pruned_borrowed, shown_paths}
+use Rattle.p3_merkle_core.specs.Views.{shown_paths}
 use Rattle.p3_merkle_tree.specs.Schemes.{cap_layer_of}
 use Rattle.p3_merkle_tree.proofs.VerdictFacts.{restoring_verdict}
-use Rattle.p3_merkle_tree.proofs.pruned.MerkleTreeMmcs+P+PW+H+C+N+D.restore_and_recompute_paths.Goals as goal
+use Rattle.p3_merkle_tree.proofs.pruned.MerkleTreeMmcs+P+PW+H+C+N+D.restore_row_sets.Goals as goal
 
 pub returns : goal.returns
 returns g c =
@@ -16,13 +17,11 @@ returns g c =
     let s = shape_of g.row.N c.args.dimensions.now in
     let alike = c.checker.ensures in
     let restored = c.restored_paths.result in
+    let opening = pruned_of c.args.indices.now (sets_in c.args.rows) c.args.digests.now in
     record {
-      verdict = restoring_verdict eq s (cap_layer_of scheme s)
-          (pruned_borrowed c.args.indices.now c.args.rows.now c.args.proof.now)
-          g.met.P.PackedValue.eq_is_equality restored
-          (subst (AnswersUnlessMemory restored)
-          (λ i. pruned_refusal eq (alike i).shape (alike i).layer (c.new-opening.ensures i))
+      verdict = restoring_verdict eq s (cap_layer_of scheme s) opening g.met.P.PackedValue.eq_is_equality restored
+          (subst (AnswersUnlessMemory restored) (λ i. pruned_refusal eq (alike i).shape (alike i).layer opening)
           c.restored_paths.ensures.answer);
       paths = subst (λ (ps : _). IfOk restored (λ paths. shown_paths paths.items ≡ ps))
-          (λ i. restored_paths (alike i) (c.new-opening.ensures i)) c.restored_paths.ensures.paths;
+          (λ i. restored_paths (alike i) opening) c.restored_paths.ensures.paths;
     }
