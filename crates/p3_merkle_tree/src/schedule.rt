@@ -1,7 +1,9 @@
 //! What dimensions alone say: the steps and positions on paths, level by level, the size of pruned proofs, and which
 //! matrices a cap authenticates; and the matrices of a tree. A level's step is how many children a node above it has.
 
-ghost use Rattle.std.specs.Prelude.{◌≡◌, ◌<◌, ◌≤◌, IfOk, IsTrue, MatchResult, length, map, take, vec_len, None, Some};
+ghost use Rattle.std.specs.Prelude.{◌≡◌, ◌<◌, ◌≤◌, IfOk, IfSome, IsTrue, MatchResult, None, Some};
+ghost use Rattle.std.specs.Prelude.{length, map, take, vec_len};
+ghost use Rattle.std.specs.Result.{result_err};
 ghost use Rattle.p3_support.specs.Batches.{heights_of};
 ghost use Rattle.p3_merkle_core.specs.Gate.{gate_refusal};
 ghost use Rattle.p3_merkle_core.specs.Geometry.{positions_below, schedule_below, shape_of};
@@ -46,7 +48,7 @@ impl<
     ///
     /// # Errors
     ///
-    /// The first of these that applies, where `OutOfMemory` may come at any time:
+    /// The first of these that applies, or `OutOfMemory` if none of them does:
     ///
     /// - `EmptyBatch` if no matrix has a row;
     /// - `TooLarge` for the first height above 2^62;
@@ -58,6 +60,7 @@ impl<
         dimensions: &[Dimensions],
     ) -> Result<Vec<usize>, MerkleTreeError>
         ensures answer { AnswersUnlessMemory result (gate_refusal (heights_of dimensions.now)) }
+        ensures checked { IfSome (gate_refusal (heights_of dimensions.now)) (λ e. result_err result ≡ Some e) }
         ensures steps { let s = shape_of N dimensions.now in
             IfOk result (λ v. v.items ≡ schedule_below s (cap_layer_of self.now s)) }
         ensures first { let s = shape_of N dimensions.now in
@@ -76,7 +79,7 @@ impl<
     ///
     /// # Errors
     ///
-    /// The first of these that applies, where `OutOfMemory` may come at any time:
+    /// The first of these that applies, or `OutOfMemory` if none of them does:
     ///
     /// - `EmptyBatch`, `TooLarge` or `IncompatibleHeights`: [`commit`](Self::commit) refuses such heights;
     /// - `IndexOutOfBounds`: the index is not below the tallest height;
@@ -90,6 +93,9 @@ impl<
     ) -> Result<ArityAndPositions, MerkleTreeError>
         ensures answer { let s = shape_of N dimensions.now in
             AnswersUnlessMemory result (replay_refusal s (cap_layer_of self.now s) index num_siblings) }
+        ensures checked { let s = shape_of N dimensions.now in
+            IfSome (replay_refusal s (cap_layer_of self.now s) index num_siblings)
+            (λ e. result_err result ≡ Some e) }
         ensures schedule { let s = shape_of N dimensions.now in
             IfOk result (λ r. r.arity_schedule.items ≡ schedule_below s (cap_layer_of self.now s)) }
         ensures positions { let s = shape_of N dimensions.now in
@@ -124,7 +130,7 @@ impl<
     ///
     /// # Errors
     ///
-    /// The first of these that applies, where `OutOfMemory` may come at any time:
+    /// The first of these that applies, or `OutOfMemory` if none of them does:
     ///
     /// - `EmptyBatch`, `TooLarge` or `IncompatibleHeights`: [`commit`](Self::commit) refuses such heights;
     /// - `IndexOutOfBounds`, for the highest index: it is not below the tallest height.
@@ -135,6 +141,8 @@ impl<
         indices: &[usize],
     ) -> Result<usize, MerkleTreeError>
         ensures answer { AnswersUnlessMemory result (pruned_len_refusal (shape_of N dimensions.now) indices.now) }
+        ensures checked { IfSome (pruned_len_refusal (shape_of N dimensions.now) indices.now)
+            (λ e. result_err result ≡ Some e) }
         ensures least { let s = shape_of N dimensions.now in
             IfOk result (λ count. IsLeast s indices.now (cap_layer_of self.now s) count) }
     {

@@ -34,7 +34,7 @@ impl<
     ///
     /// # Errors
     ///
-    /// The first of these that applies, where `OutOfMemory` may come at any time:
+    /// The first of these that applies, or `OutOfMemory` if none of them does:
     ///
     /// - `EmptyBatch` if no matrix has a row;
     /// - `TooLarge` for the first height above 2^62;
@@ -53,7 +53,7 @@ impl<
     ///
     /// # Errors
     ///
-    /// The first of these that applies, where `OutOfMemory` may come at any time:
+    /// The first of these that applies, or `OutOfMemory` if none of them does:
     ///
     /// - `EmptyBatch`, `TooLarge` or `IncompatibleHeights`: [`commit`](Self::commit) refuses such heights;
     /// - `IndexOutOfBounds`: the index is not below the tallest height;
@@ -90,7 +90,7 @@ impl<
     ///
     /// # Errors
     ///
-    /// The first of these that applies, where `OutOfMemory` may come at any time:
+    /// The first of these that applies, or `OutOfMemory` if none of them does:
     ///
     /// - `EmptyBatch`, `TooLarge` or `IncompatibleHeights`: [`commit`](Self::commit) refuses such heights;
     /// - `IndexOutOfBounds`, for the highest index: it is not below the tallest height.
