@@ -4,11 +4,11 @@ python3 rust/compare tests UPSTREAM    the original's own tests over fohlazu-p3
 python3 rust/compare self UPSTREAM    the tests of this program
 
 UPSTREAM is a folder with the original's files: its Cargo package, its sources alone, or flat files, in whose names `--`
-stands for `/` and to whose ends `.txt` may be added. A package is compiled where it is, if its Cargo.toml names no other
-folder; all else is copied to a temporary folder first, and nothing is ever copied to the repository.
+stands for `/` and to whose ends `.txt` may be added. A package is compiled where it is, if its Cargo.toml names no
+other folder; all else is copied to a temporary folder first, and nothing is ever copied to the repository.
 
-- With COUNT and SEED, random operations are asked of both, COUNT or a few more. Known differences are counted, any other
-  one is printed with its smallest case, and the status is 1.
+- With COUNT and SEED, random operations are asked of both, COUNT or a few more. Known differences are counted, any
+  other one is printed with its smallest case, and the status is 1.
 - `tests` runs the original's own tests that touch no private part of it, and names the others.
 
 It needs Cargo, and takes the stand-ins of rust/stand-ins for the crates that the original imports. The status is 1 if

@@ -1,8 +1,8 @@
 """The original's own tests over fohlazu-p3.
 
 Its test modules are laid out in a package of their own, which takes fohlazu-p3 as any program does: so a test that
-compiles touches no private part. The tests of PRIVATE do, and are left out. A test that is neither run nor in PRIVATE is
-an error, and so is one that is there and does not touch what is said.
+compiles touches no private part. The tests of PRIVATE do, and are left out. A test that is neither run nor in PRIVATE
+is an error, and so is one that is there and does not touch what is said.
 """
 
 import re

@@ -165,7 +165,7 @@ impl Display for Script {
     }
 }
 
-/// The sizes of matrices. Most heights are those of a tree: the tallest one halved some number of times, and rounded up.
+/// The sizes of matrices. Most heights are those of a tree: the tallest one halved some times, each time rounded up.
 fn sizes(random: &mut Random) -> Vec<Dimensions> {
     if random.one_in(200) {
         return Vec::new();

@@ -1,6 +1,6 @@
 //! A stand-in for `p3-field` 0.8, for tests where no registry is reached: packed values, as far as this repository uses
-//! them, and fields, as far as the tests of p3-merkle-tree 0.8.0 do. The names, the signatures and what each call returns
-//! are those that p3-merkle-tree 0.8.0 relies on; the crate has much else besides.
+//! them, and fields, as far as the tests of p3-merkle-tree 0.8.0 do. The names, the signatures and what each call
+//! returns are those that p3-merkle-tree 0.8.0 relies on; the crate has much else besides.
 #![no_std]
 
 /// A type that may be in a lane of a packed value.

@@ -1,5 +1,5 @@
-//! A stand-in for `p3-keccak` 0.8, where no registry is reached: a hasher of bytes that takes four messages together, as
-//! far as the tests of p3-merkle-tree 0.8.0 use it. It is SHA-256, not Keccak.
+//! A stand-in for `p3-keccak` 0.8, where no registry is reached: a hasher of bytes that takes four messages together,
+//! as far as the tests of p3-merkle-tree 0.8.0 use it. It is SHA-256, not Keccak.
 #![no_std]
 #![forbid(unsafe_code)]
 

@@ -1,6 +1,6 @@
 //! A stand-in for `p3-symmetric` 0.8, for tests where no registry is reached: hashers, compressions, digests and caps,
-//! as far as this repository and the tests of p3-merkle-tree 0.8.0 use them. The names, the signatures and what each call
-//! returns are those that p3-merkle-tree 0.8.0 relies on.
+//! as far as this repository and the tests of p3-merkle-tree 0.8.0 use them. The names, the signatures and what each
+//! call returns are those that p3-merkle-tree 0.8.0 relies on.
 #![no_std]
 #![forbid(unsafe_code)]
 

@@ -1,6 +1,6 @@
-//! A stand-in for `proptest` 1, where no registry is reached: random cases from ranges and from tuples of them, as far as
-//! the tests of p3-merkle-tree 0.8.0 that run over fohlazu-p3 use it. A case that fails is not made smaller, and each run
-//! has the same cases.
+//! A stand-in for `proptest` 1, where no registry is reached: random cases from ranges and from tuples of them, as far
+//! as the tests of p3-merkle-tree 0.8.0 that run over fohlazu-p3 use it. A case that fails is not made smaller, and each
+//! run has the same cases.
 #![no_std]
 #![forbid(unsafe_code)]
 
