@@ -1,6 +1,7 @@
 //! p3-merkle-tree 0.8.0 and fohlazu-p3 beside each other: random operations, each by both, in one process. README.md
 //! says how to run it.
 
+mod bench;
 #[path = "../../fohlazu-p3/tests/rust_answers/hashes.rs"]
 #[allow(dead_code)]
 mod hashes;
@@ -11,7 +12,13 @@ use random::Random;
 use scripts::Tally;
 
 fn main() {
-    let numbers: Vec<u64> = std::env::args().skip(1).map(|word| word.parse().expect("a number")).collect();
+    let words: Vec<String> = std::env::args().skip(1).collect();
+    if let [first, parts @ ..] = words.as_slice()
+        && first == "bench"
+    {
+        std::process::exit(i32::from(bench::run(parts) > 0));
+    }
+    let numbers: Vec<u64> = words.iter().map(|word| word.parse().expect("a number")).collect();
     let (count, seed) = match numbers.as_slice() {
         [] => (1000, 1),
         [count] => (*count, 1),
