@@ -1,6 +1,7 @@
 #!/usr/bin/env python3
 """python3 rust/compare UPSTREAM COUNT SEED    p3-merkle-tree 0.8.0 and fohlazu-p3 beside each other, in one process
 python3 rust/compare tests UPSTREAM    the original's own tests over fohlazu-p3
+python3 rust/compare bench UPSTREAM [PART..]    how long both take
 python3 rust/compare self UPSTREAM    the tests of this program
 
 UPSTREAM is a folder with the original's files: its Cargo package, its sources alone, or flat files, in whose names `--`
@@ -10,6 +11,8 @@ other folder; all else is copied to a temporary folder first, and nothing is eve
 - With COUNT and SEED, random operations are asked of both, COUNT or a few more. Known differences are counted, any
   other one is printed with its smallest case, and the status is 1.
 - `tests` runs the original's own tests that touch no private part of it, and names the others.
+- `bench` times both, line by line, of all parts or of those that are named. The status is 1 if a line takes more than it
+  may.
 
 It needs Cargo, and takes the stand-ins of rust/stand-ins for the crates that the original imports. The status is 1 if
 something is wrong, 2 if the words are, 3 if Cargo is missing.
@@ -49,6 +52,14 @@ def compare(folder, original, count, seed):
     return cargo("run", *over(folder, original), "--release", "--", count, seed).returncode
 
 
+def bench(folder, original, *parts):
+    """How long both take."""
+    # The C library keeps what is freed: else it depends on earlier lines whether a commit waits for pages of the system.
+    os.environ.setdefault("GLIBC_TUNABLES",
+                          "glibc.malloc.trim_threshold=1073741824:glibc.malloc.mmap_threshold=33554432")
+    return cargo("run", *over(folder, original), "--profile", "bench", "--", "bench", *parts).returncode
+
+
 def test_this(folder, original):
     """The tests of this program."""
     return cargo("test", *over(folder, original)).returncode
@@ -70,11 +81,13 @@ def main():
             task, rest = run_tests, []
         case ["self", where]:
             task, rest = test_this, []
+        case ["bench", where, *rest]:
+            task = bench
         case [where, *rest] if len(rest) == 2 and all(word.isascii() and word.isdecimal() for word in rest):
             task = compare
         case _:
             fail("usage: python3 rust/compare UPSTREAM COUNT SEED, or rust/compare tests UPSTREAM, "
-                 "or rust/compare self UPSTREAM", 2)
+                 "or rust/compare bench UPSTREAM [PART..], or rust/compare self UPSTREAM", 2)
     if not Path(where).is_dir():
         fail(f"{where} is no folder", 2)
     try:

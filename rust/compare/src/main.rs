@@ -2,6 +2,7 @@
 //! says how to run it.
 
 mod answers;
+mod bench;
 mod both;
 mod endless;
 #[path = "../../fohlazu-p3/tests/rust_answers/hashes.rs"]
@@ -29,9 +30,15 @@ use tally::Tally;
 const MOST_DIFFERENCES: usize = 20;
 
 fn main() -> ExitCode {
-    let numbers: Vec<u64> = std::env::args().skip(1).filter_map(|word| word.parse().ok()).collect();
+    let words: Vec<String> = std::env::args().skip(1).collect();
+    if let [first, parts @ ..] = words.as_slice()
+        && first == "bench"
+    {
+        return ExitCode::from(u8::from(bench::run(parts) > 0));
+    }
+    let numbers: Vec<u64> = words.iter().filter_map(|word| word.parse().ok()).collect();
     let &[count, seed] = numbers.as_slice() else {
-        eprintln!("usage: compare COUNT SEED");
+        eprintln!("usage: compare COUNT SEED, or compare bench [PART..]");
         return ExitCode::from(2);
     };
     // Both are asked what makes them panic.
