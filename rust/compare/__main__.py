@@ -1,6 +1,7 @@
 #!/usr/bin/env python3
 """python3 rust/compare UPSTREAM COUNT SEED    p3-merkle-tree 0.8.0 and fohlazu-p3 beside each other, in one process
 python3 rust/compare tests UPSTREAM    the original's own tests over fohlazu-p3
+python3 rust/compare program UPSTREAM    a user's program over both
 python3 rust/compare bench UPSTREAM [PART..]    how long both take
 python3 rust/compare self UPSTREAM    the tests of this program
 
@@ -11,6 +12,7 @@ other folder; all else is copied to a temporary folder first, and nothing is eve
 - With COUNT and SEED, random operations are asked of both, COUNT or a few more. Known differences are counted, any
   other one is printed with its smallest case, and the status is 1.
 - `tests` runs the original's own tests that touch no private part of it, and names the others.
+- `program` runs the example `both_schemes` of fohlazu-p3 over both, and compares what it prints.
 - `bench` times both, line by line, of all parts or of those that are named. The status is 1 if a line takes more than it
   may.
 
@@ -29,6 +31,7 @@ sys.path.insert(0, str(Path(__file__).resolve().parents[2] / "tools"))
 from script import TOP, fail  # first: without it Python would write the modules below as bytecode
 
 import own_tests
+import program
 import upstream
 
 HERE = TOP / "rust/compare"
@@ -74,6 +77,16 @@ def run_tests(folder, original):
     return own_tests.run(folder, original, test)
 
 
+def run_program(folder, original):
+    """A user's program over both."""
+    def run(*words):
+        done = subprocess.run(["cargo", "run", "--offline", "--quiet", *words], cwd=HERE, stdin=subprocess.DEVNULL,
+                              capture_output=True, text=True, check=False)
+        return done.returncode, done.stdout if done.returncode == 0 else done.stdout + done.stderr
+
+    return program.run(folder, original.package_in(folder / "package"), run)
+
+
 def main():
     words = sys.argv[1:]
     match words:
@@ -81,13 +94,16 @@ def main():
             task, rest = run_tests, []
         case ["self", where]:
             task, rest = test_this, []
+        case ["program", where]:
+            task, rest = run_program, []
         case ["bench", where, *rest]:
             task = bench
         case [where, *rest] if len(rest) == 2 and all(word.isascii() and word.isdecimal() for word in rest):
             task = compare
         case _:
             fail("usage: python3 rust/compare UPSTREAM COUNT SEED, or rust/compare tests UPSTREAM, "
-                 "or rust/compare bench UPSTREAM [PART..], or rust/compare self UPSTREAM", 2)
+                 "or rust/compare program UPSTREAM, or rust/compare bench UPSTREAM [PART..], "
+                 "or rust/compare self UPSTREAM", 2)
     if not Path(where).is_dir():
         fail(f"{where} is no folder", 2)
     try:
