@@ -54,7 +54,7 @@ where
         H: CryptographicHasher<F, [W; DIGEST_ELEMS]> + CryptographicHasher<P, [PW; DIGEST_ELEMS]> + Sync,
         C: PseudoCompressionFunction<[W; DIGEST_ELEMS], N> + PseudoCompressionFunction<[PW; DIGEST_ELEMS], N> + Sync,
     {
-        let leaves = leaves.into_iter().map(Owned).collect();
+        let leaves = leaves.into_iter().map(Owned::new).collect();
         MerkleTree { proved: built(Tree::new::<Packed<P>, Packed<PW>, _, _>(&Hasher(h), &Compression(c), leaves)) }
     }
 
