@@ -35,7 +35,7 @@ impl<P: PackedValue> support::PackedValue for Packed<P> {
     }
 
     // The same lanes as by the provided call, which replaces one lane after another.
-    #[inline]
+    #[inline(always)]
     fn from_fn<F: Fn(usize) -> P::Value>(f: F) -> Self {
         Packed(P::from_fn(f))
     }
@@ -130,31 +130,46 @@ where
     }
 }
 
-/// A matrix that a tree owns.
+/// A matrix that a tree owns, with its height and its width: a matrix of Plonky3 may compute its height by a division,
+/// and the proved code asks for it at each row.
 #[derive(Clone, Debug)]
-#[repr(transparent)]
-pub(crate) struct Owned<M>(pub(crate) M);
+pub(crate) struct Owned<M> {
+    pub(crate) matrix: M,
+    height: usize,
+    width: usize,
+}
+
+impl<M> Owned<M> {
+    /// The matrix, as a tree owns it.
+    pub(crate) fn new<T: Send + Sync + Clone>(matrix: M) -> Self
+    where
+        M: Matrix<T>,
+    {
+        Owned { height: matrix.height(), width: matrix.width(), matrix }
+    }
+}
 
 impl<T: Copy + Send + Sync, M: Matrix<T>> support::Matrix<T> for Owned<M> {
     #[inline]
     fn height(&self) -> usize {
-        self.0.height()
+        self.height
     }
 
     #[inline]
     fn width(&self) -> usize {
-        self.0.width()
+        self.width
     }
 
     #[inline]
     fn get(&self, row: usize, column: usize) -> T {
-        self.0.get(row, column).expect("an element of the matrix")
+        self.matrix.get(row, column).expect("an element of the matrix")
     }
 
     // The same elements as by the provided call, which reads them one by one.
+    #[inline]
     fn append_row(&self, row: usize, words: &mut Vec<T>) -> Result<(), AllocError> {
-        words.try_reserve(self.0.width()).map_err(|_| AllocError)?;
-        words.extend(self.0.row(row).expect("a row of the matrix"));
+        words.try_reserve(self.width).map_err(|_| AllocError)?;
+        words.extend(self.matrix.row(row).expect("a row of the matrix"));
         Ok(())
     }
 }

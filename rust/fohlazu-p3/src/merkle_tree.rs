@@ -55,7 +55,7 @@ where
         C: PseudoCompressionFunction<[W; DIGEST_ELEMS], N> + PseudoCompressionFunction<[PW; DIGEST_ELEMS], N> + Sync,
     {
         assert!(!leaves.is_empty(), "No matrices given?");
-        let leaves = leaves.into_iter().map(Owned).collect();
+        let leaves = leaves.into_iter().map(Owned::new).collect();
         MerkleTree { proved: built(Tree::new::<Packed<P>, Packed<PW>, _, _>(&Hasher(h), &Compression(c), leaves)) }
     }
 
