@@ -7,7 +7,8 @@ use Rattle.p3_merkle_tree.specs.CapRule.{CapRule}
 use Rattle.p3_merkle_tree.specs.CapRule.TheVariants.{Lowered}
 use Rattle.p3_merkle_tree.specs.Checks.{AgreeWhereShared, IsAccepted, Params}
 use Rattle.p3_merkle_tree.specs.Extraction.{EachPair, RowsConflictSomewhere, RowsConflictWhereAuthenticated, SomePair}
-use Rattle.p3_merkle_tree.specs.Extraction.{IsCollision, IsExtraction, IsFirstCollision, RowsAgreeWhereAuthenticated}
+use Rattle.p3_merkle_tree.specs.Extraction.{IsCollision, IsExtraction, IsFirstCollision, IsOnlyOpening}
+use Rattle.p3_merkle_tree.specs.Extraction.{RowsAgreeWhereAuthenticated}
 use Rattle.p3_merkle_tree.specs.Geometry.{halved_index, heights, IsArity}
 use Rattle.p3_merkle_tree.specs.InputPair.{InputPair}
 use Rattle.p3_merkle_tree.specs.Laws.{OneIndexIsBound}
@@ -17,7 +18,7 @@ use Rattle.p3_merkle_tree.specs.Openings.{Opening}
 use Rattle.p3_merkle_tree.specs.Presented.{Presented, presented, presented_pruned}
 use Rattle.p3_merkle_tree.specs.Pruning.{IsPrunedAccepted, PrunedOpening, opening_at}
 use Rattle.p3_merkle_tree.specs.Refusals.{AnswersUnlessMemory, pruned_refusal_under, refusal_under}
-use Rattle.p3_merkle_tree.specs.SaltedExtraction.{ConflictWhereAuthenticated, IsSaltedExtraction}
+use Rattle.p3_merkle_tree.specs.SaltedExtraction.{ConflictWhereAuthenticated, IsOnlySaltedOpening, IsSaltedExtraction}
 use Rattle.p3_merkle_tree.specs.SaltedExtraction.{IsSaltedPrunedExtraction, SomeSaltedPair, salted_opening_at}
 use Rattle.p3_merkle_tree.specs.SaltedOpenings.{IsSaltedAccepted, IsSaltedPrunedAccepted, SaltedOpening, SaltedPruned}
 use Rattle.p3_merkle_tree.specs.SaltedOpenings.{joined_sets}
@@ -187,8 +188,8 @@ module _ {T W : Type 0} (row_eq : T → T → Bool) (digest_eq : W → W → Boo
   pub compared_pruned : OneIndexIsBound T W → IsArity c.shape.arity →
       pruned_refusal_under row_eq digest_eq c cap q ≡ None → IsPrunedAccepted c cap q →
       (r : Result (Option (ℕ × ℕ × InputPair T (List W))) MerkleTreeError) → ArePruned r →
-      IsPrunedComparison row_eq digest_eq rule c cap p q r
-  compared_pruned bound arity unrefused honest (Ok found) is =
+      IsOnlyOpening rule c p q r → IsPrunedComparison row_eq digest_eq rule c cap p q r
+  compared_pruned bound arity unrefused honest (Ok found) is one =
       let first = presented_pruned row_eq digest_eq c cap p in
       let second = presented_pruned row_eq digest_eq c cap q in
       let both = none_pair row_eq digest_eq rule c first second unrefused found is in
@@ -201,12 +202,14 @@ module _ {T W : Type 0} (row_eq : T → T → Bool) (digest_eq : W → W → Boo
         agree = λ none i below. (bound c cap (opening_at c p i) (opening_at c q i) arity
             (is.both_accepted.0.each_accepted i below) (honest.each_accepted i (same_place i below))
             (same_index i)).0 (both.0 none i i below (same_place i below));
+        only = one.one_list one_list;
+        lowered_only = λ lowered. one.lowered_one_list lowered one_list;
         bound = λ accepted another.
             some_pair row_eq digest_eq rule c first second unrefused found is (conflict another);
         lowered = λ lowered accepted conflicting.
             lowered_pair row_eq digest_eq rule c first second unrefused found is lowered conflicting;
       }
-  compared_pruned bound arity unrefused honest (Err e) is =
+  compared_pruned bound arity unrefused honest (Err e) is one =
       let first = presented_pruned row_eq digest_eq c cap p in
       let second = presented_pruned row_eq digest_eq c cap q in
       record {
@@ -216,6 +219,8 @@ module _ {T W : Type 0} (row_eq : T → T → Bool) (digest_eq : W → W → Boo
         collision = tt;
         none = tt;
         agree = tt;
+        only = tt;
+        lowered_only = λ lowered. tt;
         bound = λ accepted another. memory_alone e None refl (is.answered accepted honest);
         lowered = λ lowered accepted conflicting. memory_alone e None refl (is.answered accepted honest);
       }
@@ -287,9 +292,9 @@ module _ {T W : Type 0} (row_eq : T → T → Bool) (digest_eq : W → W → Boo
         (presented_salted_pruned row_eq digest_eq e ds c cap q).refusal ≡ None →
         IsSaltedPrunedAccepted e ds c cap q →
         (r : Result (Option (ℕ × ℕ × InputPair T (List W))) MerkleTreeError) →
-        IsSaltedPrunedExtraction row_eq digest_eq rule e ds c cap p q r →
+        IsSaltedPrunedExtraction row_eq digest_eq rule e ds c cap p q r → IsOnlySaltedOpening rule c p q r →
         IsSaltedPrunedComparison row_eq digest_eq rule e ds c cap p q r
-    compared_salted_pruned bound arity unrefused honest (Ok found) of_salts =
+    compared_salted_pruned bound arity unrefused honest (Ok found) of_salts one =
         let is = of_salts.extraction in
         let first = presented_salted_pruned row_eq digest_eq e ds c cap p in
         let second = presented_salted_pruned row_eq digest_eq e ds c cap q in
@@ -304,10 +309,12 @@ module _ {T W : Type 0} (row_eq : T → T → Bool) (digest_eq : W → W → Boo
               (is.both_accepted.0.accepted.each_accepted i below)
               (honest.accepted.each_accepted i (same_salted_place i below)) (same_salted_index i)).0
               (both.0 none i i below (same_salted_place i below));
+          only = one.one_list one_list;
+          lowered_only = λ lowered. one.lowered_one_list lowered one_list;
           bound = λ accepted another. of_salts.two_ways (salted_conflict_set another);
           lowered = λ lowered accepted conflicting. of_salts.lowered_two_ways lowered conflicting;
         }
-    compared_salted_pruned bound arity unrefused honest (Err x) of_salts =
+    compared_salted_pruned bound arity unrefused honest (Err x) of_salts one =
         let is = of_salts.extraction in
         let first = presented_salted_pruned row_eq digest_eq e ds c cap p in
         let second = presented_salted_pruned row_eq digest_eq e ds c cap q in
@@ -318,6 +325,8 @@ module _ {T W : Type 0} (row_eq : T → T → Bool) (digest_eq : W → W → Boo
           collision = tt;
           none = tt;
           agree = tt;
+          only = tt;
+          lowered_only = λ lowered. tt;
           bound = λ accepted another. memory_alone x None refl (is.answered accepted honest);
           lowered = λ lowered accepted conflicting. memory_alone x None refl (is.answered accepted honest);
         }

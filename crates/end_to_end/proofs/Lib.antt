@@ -1,3 +1,4 @@
 mod RefusalFacts
 mod SaltedFacts
 mod ComparisonFacts
+mod PathFacts

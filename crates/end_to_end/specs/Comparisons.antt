@@ -5,7 +5,8 @@ use Rattle.p3_support.specs.declared.matrix.Dimensions.{Dimensions}
 use Rattle.p3_merkle_tree.specs.CapRule.{CapRule}
 use Rattle.p3_merkle_tree.specs.CapRule.TheVariants.{Lowered}
 use Rattle.p3_merkle_tree.specs.Checks.{AgreeWhereShared, IsAccepted, Params, is_authenticated}
-use Rattle.p3_merkle_tree.specs.Extraction.{IsCollision, IsFirstCollision, RowsAgreeWhereAuthenticated}
+use Rattle.p3_merkle_tree.specs.Extraction.{IsCollision, IsFirstCollision, ProofsAgreeWhereAuthenticated}
+use Rattle.p3_merkle_tree.specs.Extraction.{RowsAgreeWhereAuthenticated}
 use Rattle.p3_merkle_tree.specs.Extraction.{RowsConflictSomewhere, SomePair}
 use Rattle.p3_merkle_tree.specs.Geometry.{heights}
 use Rattle.p3_merkle_tree.specs.InputPair.{InputPair}
@@ -15,7 +16,8 @@ use Rattle.p3_merkle_tree.specs.Openings.{Opening}
 use Rattle.p3_merkle_tree.specs.Presented.{presented_pruned}
 use Rattle.p3_merkle_tree.specs.Pruning.{IsPrunedAccepted, PrunedOpening, opening_at}
 use Rattle.p3_merkle_tree.specs.Refusals.{AnswersUnlessMemory, pruned_refusal_under, refusal_under}
-use Rattle.p3_merkle_tree.specs.SaltedExtraction.{AgreeWhereAuthenticated, ConflictSomewhere, SomeSaltedPair}
+use Rattle.p3_merkle_tree.specs.SaltedExtraction.{AgreeWhereAuthenticated, ConflictSomewhere, SaltedProofsAgree}
+use Rattle.p3_merkle_tree.specs.SaltedExtraction.{SomeSaltedPair}
 use Rattle.p3_merkle_tree.specs.SaltedOpenings.{IsSaltedAccepted, IsSaltedPrunedAccepted, SaltedOpening, SaltedPruned}
 use Rattle.p3_merkle_tree.specs.SaltedOpenings.{joined, joined_sets}
 use Rattle.p3_merkle_tree.specs.SaltedPresented.{presented_salted_pruned}
@@ -97,6 +99,10 @@ pub record IsPrunedComparison {T W : Type 0} (row_eq : T → T → Bool) (digest
   pub none : IfOk found (λ pair. IsNone pair ↔ AgreeWhereBothCheck c claimed honest)
   pub agree : IfOk found (λ pair. IsNone pair → (i : ℕ) → i < length claimed.indices →
       RowsAgreeWhereAuthenticated c (opening_at c claimed i) (opening_at c honest i))
+  -- nothing is found exactly where the digests and authenticated rows are the honest ones
+  pub only : IfOk found (λ pair. IsNone pair ↔ ProofsAgreeWhereAuthenticated c claimed honest)
+  -- under the lowered rule, exactly where the opening is the honest one
+  pub lowered_only : rule ≡ Lowered → IfOk found (λ pair. IsNone pair ↔ (claimed ≡ honest))
   -- an accepted opening that claims another row gives a collision, unless memory runs out
   pub bound : IsPrunedAccepted c cap claimed →
       ClaimsAnotherRowSet c (length claimed.indices) claimed.rows honest.rows →
@@ -121,6 +127,10 @@ pub record IsSaltedPrunedComparison {T W : Type 0} (row_eq : T → T → Bool) (
   -- then each query has the honest siblings, and the honest rows and salts of authenticated matrices
   pub agree : IfOk found (λ pair. IsNone pair → (i : ℕ) → i < length claimed.indices →
       RowsAgreeWhereAuthenticated c (opening_at c (joined_sets claimed) i) (opening_at c (joined_sets honest) i))
+  -- nothing is found exactly where the digests, and the rows and salts of authenticated matrices, are the honest ones
+  pub only : IfOk found (λ pair. IsNone pair ↔ SaltedProofsAgree c claimed honest)
+  -- under the lowered rule, exactly where the opening is the honest one
+  pub lowered_only : rule ≡ Lowered → IfOk found (λ pair. IsNone pair ↔ (claimed ≡ honest))
   pub bound : IsSaltedPrunedAccepted e dimensions c cap claimed →
       ClaimsAnotherRowSet c (length claimed.indices) claimed.rows honest.rows →
       MatchResult found (λ pair. IsSome pair) (λ e. e ≡ OutOfMemory)

@@ -2,3 +2,5 @@
 pub mod Refusals
 pub mod Honest
 pub mod Comparisons
+pub mod Paths
+pub mod Inner

@@ -7,6 +7,7 @@
 //! `verify_batch` is proved, too. So read the bodies: they are these calls, and `laws` whose contracts the proofs need.
 #![tactic(auto)]
 
+pub mod by_paths;
 pub mod plain;
 pub mod salted;
 

@@ -1,5 +1,5 @@
 -- Errors and their exit codes.
-use Rattle.std.specs.Prelude.{ℕ}
+use Rattle.std.specs.Prelude.{ℕ, None, Option, Some}
 use Rattle.tlog_files.specs.declared.error.ReadError.{ReadError}
 use Rattle.tlog_files.specs.declared.error.ReadError.TheVariants.{EndsInsideLine, OutOfMemory as NoFileMemory}
 use Rattle.tlog_files.specs.declared.error.ReadError.TheVariants.{Read as FailedRead, TooManyEntries}
@@ -27,6 +27,12 @@ exit_code_of (Refused New (TooLong most)) = 2
 exit_code_of (Refused (Part k) (TooLong most)) = 2
 exit_code_of (Refused source refusal) = 1
 exit_code_of error = 2
+
+-- the input that is refused or cannot be read
+abbrev pub source_of : Error → Option Source
+source_of (Refused source refusal) = Some source
+source_of (Read source) = Some source
+source_of error = None
 
 -- the error of an input whose text is wrong
 abbrev pub text_error : Source → TextError → Error

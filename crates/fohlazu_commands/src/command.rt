@@ -17,9 +17,10 @@ use crate::seal::seal;
 use crate::verify::{Print, Requested, verify};
 use crate::verify_consistency::verify_consistency;
 use std::alloc::Global;
-use std::io::{ErrorKind, Read, Write};
+use std::io::{Read, Write};
 use tlog_files::Framing;
 use tlog_text::is_origin;
+use whole_writes::write_whole;
 
 /// The most bytes that a block has.
 pub const MAX_BLOCK_BYTES: usize = 1 << 30;
@@ -222,17 +223,5 @@ fn write_text<W: Write>(output: &mut W, text: &[u8]) -> Result<(), Error>
     ensures ends { EndsIn (W.contents output.old) (W.contents output.new) (Ok text.now) result }
     ensures failed { IfErr result (λ error. error ≡ FailedWrite) }
 {
-    let mut rest = text;
-    for _turn in 0..u64::MAX {
-        if rest.is_empty() {
-            return output.flush().map_err(|_| Error::Write);
-        }
-        match output.write(rest) {
-            Ok(0) => return Err(Error::Write),
-            Ok(count) => rest = &rest[count..],
-            Err(error) if error.kind() == ErrorKind::Interrupted => {}
-            Err(_) => return Err(Error::Write),
-        }
-    }
-    Err(Error::Write)
+    write_whole(output, text).map_err(|_| Error::Write)
 }

@@ -1,7 +1,7 @@
 //! Why a command stops.
 
 ghost use Rattle.std.specs.Prelude.{◌≡◌};
-ghost use Rattle.fohlazu_commands.specs.Errors.{entries_error, exit_code_of, read_error, text_error};
+ghost use Rattle.fohlazu_commands.specs.Errors.{entries_error, exit_code_of, read_error, source_of, text_error};
 ghost use Rattle.fohlazu_commands.specs.declared.error.Error.TheVariants.{OutOfMemory};
 
 use std::alloc::{AllocError, AllocFailed};
@@ -158,7 +158,9 @@ fn consistency_words(error: &ProofError) -> &'static str {
 
 impl Error {
     /// The input that is refused or cannot be read, if there is one.
-    pub fn source(&self) -> Option<Source> {
+    pub fn source(&self) -> Option<Source>
+        ensures { result ≡ source_of self.now }
+    {
         match self {
             Error::Refused(source, _) | Error::Read(source) => Some(*source),
             Error::Write | Error::OutOfMemory => None,

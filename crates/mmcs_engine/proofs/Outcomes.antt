@@ -15,7 +15,8 @@ use Rattle.mmcs_engine.specs.declared.fault.Fault.TheVariants.{Usage, Read, Numb
 use Rattle.mmcs_engine.specs.Input.{pieces_of, runs_between, is_blank, IsFirstFault, IsMatrix, StandsFor}
 use Rattle.mmcs_engine.specs.Args.{max_word, AreNoCommand, AreArgs, arity_number}
 use Rattle.mmcs_engine.specs.Program.{batch_of_command, output_of, refusal_of, AreTaken, EndsIn, IsOutcome, IsReply}
-use Rattle.mmcs_engine.specs.Program.{IsReported, Prints}
+use Rattle.mmcs_engine.specs.Program.{HoldsOfInput, IsReported, Prints}
+use Rattle.whole_writes.specs.Prefixes.{AppendsPrefix}
 use Rattle.mmcs_engine.proofs.ArgFacts.{same_command}
 use Rattle.mmcs_engine.proofs.FaultFacts.{fault_excludes, one_first_fault}
 use Rattle.mmcs_engine.proofs.GateFacts.{heights_are, taken_unrefused}
@@ -133,27 +134,27 @@ after_memory (Err fault) = inr (inr refl)
 module _ (args : List (List ℕ)) (known old new : Option (List ℕ)) (input : List ℕ) (known_is : known ≡ Some input)
     (outcome : Result (List ℕ) Fault) (told : IsOutcome args input outcome) where
   -- a fault that is the outcome
-  same_fault : (fault : Fault) → IfSome known (λ bytes. IsOutcome args bytes (Err fault)) → EndsIn outcome (Err fault)
-  same_fault fault there =
-      let known_told = subst (λ (k : Option (List ℕ)). IfSome k (λ bytes. IsOutcome args bytes (Err fault))) known_is
-      there in
+  same_fault : (fault : Fault) → HoldsOfInput known (λ bytes. IsOutcome args bytes (Err fault)) →
+      EndsIn outcome (Err fault)
+  same_fault fault (bytes, is, there) =
+      let same : bytes ≡ input = subst (λ (k : Option (List ℕ)). IfSome k (λ all. bytes ≡ all)) known_is is in
+      let known_told = subst (λ (read : List ℕ). IsOutcome args read (Err fault)) same there in
       subst (λ (o : Result (List ℕ) Fault). EndsIn o (Err fault))
       (one_outcome args input (Err fault) outcome known_told told) (inl refl)
 
   -- a text that is the outcome
   same_text : (H : List ℕ → Type 0) (result : Result (Unit {0}) Fault) → Prints args known H →
       ((text : List ℕ) → EndsIn (Ok text) result) → EndsIn outcome result
-  same_text H result there ends =
-      let known_told =
-      subst (λ (k : Option (List ℕ)). IfSome k (λ bytes. (text : List ℕ) × IsOutcome args bytes (Ok text) ×
-      H text)) known_is there in
+  same_text H result (bytes, is, text, there, holds) ends =
+      let same : bytes ≡ input = subst (λ (k : Option (List ℕ)). IfSome k (λ all. bytes ≡ all)) known_is is in
+      let known_told = subst (λ (read : List ℕ). IsOutcome args read (Ok text)) same there in
       subst (λ (o : Result (List ℕ) Fault). EndsIn o result)
-      (one_outcome args input (Ok known_told.0) outcome known_told.1 told) (ends known_told.0)
+      (one_outcome args input (Ok text) outcome known_told told) (ends text)
 
   pub ends_in : (result : Result (Unit {0}) Fault) → (result ≡ Err Usage → AreNoCommand args) →
       OnOk result (Prints args known (λ text. Appends old new text)) →
-      (result ≡ Err Write → Prints args known (λ text. Unit {0})) → IfErr result (IsReported args known) →
-      EndsIn outcome result
+      (result ≡ Err Write → Prints args known (λ text. AppendsPrefix old new text)) →
+      IfErr result (IsReported args known) → EndsIn outcome result
   ends_in (Ok tt) usage ok last fault = same_text (λ text. Appends old new text) (Ok tt) ok (λ text. inr (inl refl))
   ends_in (Err Usage) usage ok last fault = subst (λ (o : Result (List ℕ) Fault). EndsIn o (Err Usage))
       (one_outcome args input (Err Usage) outcome (usage refl) told) (inl refl)
@@ -163,4 +164,5 @@ module _ (args : List (List ℕ)) (known old new : Option (List ℕ)) (input : L
   ends_in (Err (Tree e)) usage ok last fault =
       ⊎_elim (λ memory. subst (λ (d : MerkleTreeError). EndsIn outcome (Err (Tree d))) (sym memory)
       (after_memory outcome)) (λ there. same_fault (Tree e) there) fault
-  ends_in (Err Write) usage ok last fault = same_text (λ text. Unit {0}) (Err Write) (last refl) (λ text. inl refl)
+  ends_in (Err Write) usage ok last fault =
+      same_text (λ text. AppendsPrefix old new text) (Err Write) (last refl) (λ text. inl refl)

@@ -3,6 +3,7 @@ use Rattle.std.proofs.Common.{◌≡◌, ◌⊎◌, ⊎_elim, inl, inr, ℕ, ◌
 use Rattle.std.proofs.Common.{ap, ◌∙◌, subst}
 use Rattle.std.specs.Prelude.{◌↔◌, ◌<◌, All}
 use Rattle.std.specs.Io.KnownBytes.{Appends}
+use Rattle.whole_writes.specs.Prefixes.{AppendsPrefix}
 use Rattle.p3_merkle_core.specs.Geometry.{IsLawful, Shape}
 use Rattle.p3_merkle_core.specs.Refusals.{pruned_len_refusal}
 use Rattle.p3_merkle_core.specs.Checks.{Params}
@@ -78,7 +79,7 @@ module _ {S D V : Type 0} (remaining : S → Option (List ℕ)) (contents : D �
       let told_usage : ◌≡◌ {A = Result (Unit {0}) Fault} (Err fault) (Err Usage) →
       AreNoCommand args = λ is. usage.0 (is_usage is) in
       let last : ◌≡◌ {A = Result (Unit {0}) Fault} (Err fault) (Err Write) →
-      Prints args (remaining input) (λ text. Unit {0}) =
+      Prints args (remaining input) (λ text. AppendsPrefix (contents output) (contents output) text) =
       λ is. absurd (told.0 (let same : fault ≡ Write = cc in same)) in
       record {
         usage = (
@@ -104,8 +105,7 @@ module _ {S D V : Type 0} (remaining : S → Option (List ℕ)) (contents : D �
     -- what is printed has each property that follows from being this text
     printed : (known : Option (List ℕ)) (H : List ℕ → Type 0) → (((t : List ℕ) → text ≡ t → H t)) →
         Prints args known (λ t. text ≡ t) → Prints args known H
-    printed None H holds there = tt
-    printed (Some bytes) H holds there = (there.0, there.1, holds there.0 there.2)
+    printed known H holds (bytes, is, t, told, same) = (bytes, is, t, told, holds t same)
 
     pub written : Appends (contents output) (contents output_left) text →
         IsAnswer remaining contents args input input_left output output_left (Ok tt)
@@ -125,10 +125,12 @@ module _ {S D V : Type 0} (remaining : S → Option (List ℕ)) (contents : D �
               (λ is. absurd cc) tt;
         }
 
-    pub unwritten : IsAnswer remaining contents args input input_left output output_left (Err Write)
-    unwritten =
-        let told : Prints args (remaining input) (λ t. Unit {0}) =
-        printed (remaining input) (λ t. Unit {0}) (λ t same. tt) prints in
+    pub unwritten : AppendsPrefix (contents output) (contents output_left) text →
+        IsAnswer remaining contents args input input_left output output_left (Err Write)
+    unwritten wrote =
+        let told : Prints args (remaining input) (λ t. AppendsPrefix (contents output) (contents output_left) t) =
+        printed (remaining input) (λ t. AppendsPrefix (contents output) (contents output_left) t)
+        (λ t same. subst (λ (s : List ℕ). AppendsPrefix (contents output) (contents output_left) s) same wrote) prints in
         let never : ◌≡◌ {A = Result (Unit {0}) Fault} (Err Write) (Err Usage) → ⊥ = λ is. cc in
         record {
           usage = no_usage (Err Write) never;

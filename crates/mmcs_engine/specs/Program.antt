@@ -2,6 +2,7 @@
 use Rattle.std.specs.Prelude.{◌≡◌, ◌⊎◌, ◌↔◌, ℕ, ◌+◌, ◌<◌, List, [], ◌∷◌, ◌++◌, length, map, replicate, flat_map, All}
 use Rattle.std.specs.Prelude.{Option, Some, IfSome, IfErr, OnOk, OnErr, Result, Ok, Err}
 use Rattle.std.specs.Io.KnownBytes.{Appends}
+use Rattle.whole_writes.specs.Prefixes.{AppendsPrefix}
 use Rattle.p3_hashes.specs.Fold.{fold_hash, fold_compress}
 use Rattle.p3_hashes.specs.Sha.{sha256_rows, sha256_nodes}
 use Rattle.p3_support.specs.Batches.{greatest}
@@ -103,16 +104,21 @@ IsOutcome args input (Err Usage) = AreNoCommand args
 IsOutcome args input outcome =
     (command : Command) × (indices : List ℕ) × AreArgs args command indices × IsReply command indices input outcome
 
--- an error is the outcome for the bytes of the input, where they are known, unless memory, a read or a write failed
+-- a fact holds of the bytes of the input, which are the known ones if any are known
+abbrev pub HoldsOfInput : Option (List ℕ) → (List ℕ → Type 0) → Type 0
+HoldsOfInput known Holds = (input : List ℕ) × IfSome known (λ all. input ≡ all) × Holds input
+
+-- an error is the outcome for the bytes of the input, unless memory, a read or a write failed
 abbrev pub IsReported : List (List ℕ) → Option (List ℕ) → Fault → Type 0
 IsReported args known Read = Unit {0}
 IsReported args known Write = Unit {0}
-IsReported args known (Tree e) = (e ≡ OutOfMemory) ⊎ IfSome known (λ input. IsOutcome args input (Err (Tree e)))
-IsReported args known fault = IfSome known (λ input. IsOutcome args input (Err fault))
+IsReported args known (Tree e) = (e ≡ OutOfMemory) ⊎ HoldsOfInput known (λ input. IsOutcome args input (Err (Tree e)))
+IsReported args known fault = HoldsOfInput known (λ input. IsOutcome args input (Err fault))
 
--- the outcome is a text, and Holds holds of it, where the bytes of the input are known
+-- the outcome for the bytes of the input is a text, and Holds holds of it
 abbrev pub Prints : List (List ℕ) → Option (List ℕ) → (List ℕ → Type 0) → Type 0
-Prints args known Holds = IfSome known (λ input. (text : List ℕ) × IsOutcome args input (Ok text) × Holds text)
+Prints args known Holds =
+    HoldsOfInput known (λ input. (text : List ℕ) × IsOutcome args input (Ok text) × Holds text)
 
 -- the result is this one, unless a read failed or memory ran out
 abbrev pub IsUnlessFailed : Result (Unit {0}) Fault → Result (Unit {0}) Fault → Type 0
@@ -135,8 +141,9 @@ pub record IsAnswer {S D : Type 0} (remaining : S → Option (List ℕ)) (conten
   pub silent : OnErr result ((result ≡ Err Write) ⊎ (output_left ≡ output))
   -- at Ok the outcome is a text, and it was written and nothing else
   pub ok : OnOk result (Prints args (remaining input) (λ text. Appends (contents output) (contents output_left) text))
-  -- a write comes last: it fails only where the outcome is a text
-  pub last : result ≡ Err Write → Prints args (remaining input) (λ text. Unit {0})
+  -- a write comes last: it fails only where the outcome is a text, and then the first bytes of it were written
+  pub last : result ≡ Err Write →
+      Prints args (remaining input) (λ text. AppendsPrefix (contents output) (contents output_left) text)
   -- an error is the outcome
   pub fault : IfErr result (IsReported args (remaining input))
   -- the outcome is what the call ends in

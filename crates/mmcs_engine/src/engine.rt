@@ -31,6 +31,7 @@ use p3_support::matrix::{RowMajorMatrix, dimensions_of};
 use p3_support::packed::PackedValue;
 use std::alloc::{AllocError, Global};
 use std::io::{ErrorKind, Read, Write};
+use whole_writes::write_whole;
 
 /// Runs the command of `args`, the arguments after the program's name. It reads the whole input, and writes the output
 /// once all else has succeeded.
@@ -43,8 +44,9 @@ use std::io::{ErrorKind, Read, Write};
 /// `commit` writes the cap of the matrices' tree, a line for each digest in hexadecimal. `open` writes for each index a
 /// line `index I` and the rows that belong to it, a line for each matrix, and then `digests K` and the `K` digests of
 /// one pruned proof for all of them. `check` opens the same, verifies it, and writes `ok K` for the `K` digests of the
-/// proof. After `Ok` the output has what it had, followed by exactly this text. The streams are borrowed, so that the
-/// contract can say what is left of the input and what the output holds.
+/// proof. After `Ok` the output has what it had, followed by exactly this text; after a failed write, followed by the
+/// first bytes of it. The streams are borrowed, so that the contract can say what is left of the input and what the
+/// output holds. Where the bytes of the input are not known, the contract says all this of some bytes.
 ///
 /// # Errors
 ///
@@ -67,7 +69,7 @@ pub fn run<Src: Read, Dst: Write>(
         result }
 {
     let text = answer_to(alloc, args, input)?;
-    if output.write_all(text.as_bytes()).is_err() || output.flush().is_err() {
+    if write_whole(output, text.as_bytes()).is_err() {
         return Err(Fault::Write);
     }
     Ok(())

@@ -9,3 +9,6 @@ pub mod Sufficient
 pub mod Minimal
 pub mod Restoration
 pub mod Equivalence
+pub mod SizeFacts
+pub mod Alone
+pub mod OnlyFacts

@@ -1,6 +1,7 @@
 -- What two openings of one cap lead to: the last difference of two of their checks, which is a collision.
 use Rattle.std.specs.Prelude.{◌≡◌, ◌≢◌, ◌⊎◌, ◌↔◌, ◌<◌, ℕ, ◌==◌, ◌&&◌, Bool, true, false, IsTrue, IsNone, IsSome, IfOk}
-use Rattle.std.specs.Prelude.{IfSome, List, [], ◌∷◌, Option, None, Result, length, slice_index, option_map}
+use Rattle.std.specs.Prelude.{IfSome, List, [], ◌∷◌, Option, None, Result, length, slice_index, slice_index_or}
+use Rattle.std.specs.Prelude.{option_map}
 use Rattle.std.specs.List.{range_with_len}
 use Rattle.std.specs.Option.{option_or}
 use Rattle.std.specs.Cmp.Lexicographic.{pointwise}
@@ -10,6 +11,7 @@ use Rattle.p3_merkle_core.specs.Checks.{AgreeWhereShared, Content, Digests, HasD
 use Rattle.p3_merkle_core.specs.Checks.{IsLastShared, Params, Words, input_digest, is_authenticated, opened_row}
 use Rattle.p3_merkle_core.specs.Checks.{shared_inputs}
 use Rattle.p3_merkle_core.specs.Presented.{Presented}
+use Rattle.p3_merkle_core.specs.Pruning.{PrunedOpening}
 use Rattle.p3_merkle_core.specs.Refusals.{AnswersUnlessMemory}
 use Rattle.p3_answers.specs.Answers.{first_of, ok_unless, unless}
 use Rattle.p3_merkle_core.specs.declared.cap.CapRule.{CapRule}
@@ -64,6 +66,10 @@ pub record IsCollision {T W : Type 0} (c : Params T W) (o u : Opening T W)
 
 -- ---- rows in which two openings conflict
 
+-- the row that query a of a pruned opening has for matrix k
+abbrev pub row_at : {T W : Type 0} → PrunedOpening T W → ℕ → ℕ → List T
+row_at p a k = slice_index_or (slice_index_or p.rows a []) k []
+
 -- two openings have the same siblings, and the same row of each authenticated matrix
 pub record RowsAgreeWhereAuthenticated {T W : Type 0} (c : Params T W) (o u : Opening T W) : Type 0 where
   pub siblings : o.siblings ≡ u.siblings
@@ -85,6 +91,12 @@ RowsConflictWhereAuthenticated c o u =
 -- two openings conflict in some matrix
 abbrev pub RowsConflictSomewhere : {T W : Type 0} → Params T W → Opening T W → Opening T W → Type 0
 RowsConflictSomewhere c o u = (k : ℕ) × RowsConflictAt c.shape o u k
+
+-- two pruned openings have the same digests, and in each row set the same row of each authenticated matrix
+pub record ProofsAgreeWhereAuthenticated {T W : Type 0} (c : Params T W) (p q : PrunedOpening T W) : Type 0 where
+  pub digests : p.digests ≡ q.digests
+  pub rows : (a k : ℕ) → a < length p.indices → k < length (heights c.shape) →
+      IsTrue (is_authenticated c.shape c.layer k) → row_at p a k ≡ row_at q a k
 
 -- ---- pairs of queries
 
@@ -159,3 +171,11 @@ pub record IsExtraction {T W : Type 0} (row_eq : T → T → Bool) (digest_eq : 
   pub answer : AnswersUnlessMemory result (option_or first.refusal second.refusal)
   -- what is found is the first difference, by tests on words
   pub found : IfOk result (λ found. found ≡ first_difference row_eq digest_eq c first second)
+
+-- what such a call also says of two pruned openings, one of which is thus the only one: of one list of indices, nothing
+-- is found exactly where their digests and authenticated rows agree
+pub record IsOnlyOpening {T W Found : Type 0} (rule : CapRule) (c : Params T W) (p q : PrunedOpening T W)
+    (result : Result (Option Found) MerkleTreeError) : Type 0 where
+  pub one_list : p.indices ≡ q.indices → IfOk result (λ found. IsNone found ↔ ProofsAgreeWhereAuthenticated c p q)
+  -- under the lowered rule, exactly where they are the same
+  pub lowered_one_list : rule ≡ Lowered → p.indices ≡ q.indices → IfOk result (λ found. IsNone found ↔ (p ≡ q))

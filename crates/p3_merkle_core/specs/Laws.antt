@@ -19,6 +19,7 @@ use Rattle.p3_merkle_core.specs.Pruning.{IsPrunedAccepted, restored_paths, prune
 use Rattle.p3_merkle_core.specs.Refusals.{IsEquality, answer_under, pruned_answer, pruned_answer_under}
 use Rattle.p3_merkle_core.specs.Extraction.{IsExtraction, extraction, RowsAgreeWhereAuthenticated}
 use Rattle.p3_merkle_core.specs.Presented.{presented, presented_pruned}
+use Rattle.p3_merkle_core.specs.Sizes.{IsFew}
 use Rattle.p3_merkle_core.specs.Views.{batch_of}
 use Rattle.p3_merkle_core.specs.declared.error.MerkleTreeError.{MerkleTreeError}
 use Rattle.p3_merkle_core.specs.declared.error.MerkleTreeError.TheVariants.{CapMismatch}
@@ -132,6 +133,12 @@ BoundaryIsAlone =
 abbrev pub BoundaryIsLeast : Type 0
 BoundaryIsLeast =
     (s : Shape) (queries : List ℕ) (t : ℕ) → CanQuery s queries t → IsLeast s queries t (pruned_len s queries t)
+
+-- the boundary has at most as many nodes as the openings of the distinct indices have siblings, and just as many for
+-- one index
+abbrev pub BoundaryIsFew : Type 0
+BoundaryIsFew =
+    (s : Shape) (queries : List ℕ) (t : ℕ) → CanQuery s queries t → IsFew s queries t (pruned_len s queries t)
 
 -- no node is under two boundary nodes
 abbrev pub BoundaryNodesAreApart : Type 0

@@ -8,6 +8,7 @@ pub mod Openings
 pub mod Checks
 pub mod Pruning
 pub mod Refusals
+pub mod Sizes
 pub mod Presented
 pub mod Extraction
 pub mod Views

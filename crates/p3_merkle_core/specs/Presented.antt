@@ -52,6 +52,11 @@ pub record IsVerdict {T W V : Type 0} (presented : Presented T W) (result : Resu
   pub ok_is_accepted : IsOk result → presented.is_accepted
   pub accepted_is_ok : presented.is_accepted → AnswersUnlessMemory result None
 
+-- Ok means that another opening is accepted, and for an accepted one the result is Ok unless memory runs out
+pub record IsAcceptedAs {T W V : Type 0} (presented : Presented T W) (result : Result V MerkleTreeError) : Type 0 where
+  pub ok_is_accepted : IsOk result → presented.is_accepted
+  pub accepted_is_ok : presented.is_accepted → AnswersUnlessMemory result None
+
 -- what a verifier returns that takes no memory: an error is the definition's refusal, and Ok means that the opening is
 -- accepted, and the other way round
 pub record IsExactVerdict {T W : Type 0} (presented : Presented T W) (result : Result (Unit {0}) MerkleTreeError) :

@@ -142,6 +142,10 @@ restored_paths c p = map (λ i. (i, restored_path c p i)) p.indices
 abbrev pub opening_at : {T W : Type 0} → Params T W → PrunedOpening T W → ℕ → Opening T W
 opening_at c p k = let i = slice_index p.indices k in opening_of i (slice_index_or p.rows k []) (restored_path c p i)
 
+-- the first query with the digests of the proof as its siblings: an opening of one index, where there is one query
+abbrev pub as_single : {T W : Type 0} → PrunedOpening T W → Opening T W
+as_single p = opening_of (slice_index p.indices 0) (slice_index_or p.rows 0 []) p.digests
+
 -- ---- agreed, accepted
 
 -- queries of one index have one row set, and queries under one node, up to layer t, the same rows of the matrices of

@@ -1,5 +1,5 @@
 //! Laws of the definitions, each as the contract of a function that does nothing; and functions whose contracts say
-//! that `==` on errors, openings, proofs, paths and collisions is equality of values. The laws hold for every hash,
+//! that `==` on digests, caps, rules, dimensions, errors, openings, proofs, paths and collisions is equality of values. The laws hold for every hash,
 //! every compression, every batch of lawful heights and every opening. The contracts of the crates above cite the same
 //! definitions.
 //!
@@ -11,11 +11,13 @@
 //!   share a place if they reach one node there.
 
 ghost use Rattle.std.specs.Prelude.{◌≡◌, ◌↔◌, IsTrue};
+ghost use Rattle.p3_support.specs.Shown.{digest_of_ref, roots_of};
 ghost use Rattle.p3_merkle_core.specs.Refusals.{IsEquality};
 ghost use Rattle.p3_merkle_core.specs.Views.{IsSamePair, shown_opening, shown_path, shown_pruned};
 ghost use Rattle.p3_merkle_core.specs.Laws.{AnswerIsExtraction, TestedIsArity, UnrefusedIsLawful, WalkEnds};
 ghost use Rattle.p3_merkle_core.specs.Laws.{AnsweredAsEachPath, BatchHasDimensions, BoundaryIsAlone, BoundaryIsLeast};
-ghost use Rattle.p3_merkle_core.specs.Laws.{BoundaryIsSmallest, BoundaryNodesAreApart, BoundaryNodesAreHeld};
+ghost use Rattle.p3_merkle_core.specs.Laws.{BoundaryIsFew, BoundaryIsSmallest, BoundaryNodesAreApart};
+ghost use Rattle.p3_merkle_core.specs.Laws.{BoundaryNodesAreHeld};
 ghost use Rattle.p3_merkle_core.specs.Laws.{BoundarySuffices, CappedIsEachAccepted, FixedIsBelowRoot, HonestIsAccepted};
 ghost use Rattle.p3_merkle_core.specs.Laws.{HonestNodesAreRestored, HonestPathsAreRestored, HonestPathsInOrder};
 ghost use Rattle.p3_merkle_core.specs.Laws.{HonestQueryIsAccepted, HonestQueryIsCapped, InputsAreFull};
@@ -26,12 +28,46 @@ ghost use Rattle.p3_merkle_core.specs.Laws.{OwnPrunedOpeningIsHonest, PrunedAnsw
 ghost use Rattle.p3_merkle_core.specs.Laws.{OneHeightIsEnough, OneHeightNodesAreChildren, RootIsAlone};
 ghost use Rattle.p3_merkle_core.specs.Laws.{RowsAreAncestors, RowsAreBound, RulesAgree, ScheduleStopsAtCap};
 
+use crate::cap::CapRule;
 use crate::collision::{Collision, InputPair, Place};
 use crate::error::{MerkleTreeError, PrunedProofError};
 use crate::pruning::{MerkleAuthPath, PrunedBatchOpening, PrunedMerklePaths};
-use p3_support::matrix::Matrix;
-use p3_support::opening::BatchOpening;
+use p3_support::matrix::{Dimensions, Matrix};
+use p3_support::opening::{BatchOpening, Hash, MerkleCap};
 use p3_support::packed::PackedValue;
+/// `==` holds of two borrowed digests exactly if they are the same digest.
+pub fn hash_eq<F, PW: PackedValue, const D: usize>(
+    a: &Hash<'_, F, PW::Value, D>,
+    b: &Hash<'_, F, PW::Value, D>,
+) -> bool
+    ensures { IsTrue result ↔ (digest_of_ref a.now ≡ digest_of_ref b.now) }
+{
+    *a == *b
+}
+
+/// `==` holds of two caps exactly if they have the same digests.
+pub fn merkle_cap_eq<F, PW: PackedValue, const D: usize>(
+    a: &MerkleCap<F, [PW::Value; D]>,
+    b: &MerkleCap<F, [PW::Value; D]>,
+) -> bool
+    ensures { IsTrue result ↔ (roots_of a.now ≡ roots_of b.now) }
+{
+    *a == *b
+}
+
+/// `==` holds of two rules of caps exactly if they are the same value.
+pub fn cap_rule_eq(a: &CapRule, b: &CapRule) -> bool
+    ensures { IsTrue result ↔ (a.now ≡ b.now) }
+{
+    *a == *b
+}
+
+/// `==` holds of two dimensions exactly if they have the same width and the same height.
+pub fn dimensions_eq(a: &Dimensions, b: &Dimensions) -> bool
+    ensures { IsTrue result ↔ (a.now ≡ b.now) }
+{
+    *a == *b
+}
 
 /// `==` holds of two errors exactly if they are the same value.
 pub fn error_eq(a: &MerkleTreeError, b: &MerkleTreeError) -> bool
@@ -231,6 +267,8 @@ pub fn extraction<T, W>()
 /// - `smallest`: no list of uncovered nodes that suffices is shorter than the boundary;
 /// - `alone`: one that is as short has the boundary's nodes;
 /// - `least`: the boundary suffices, and every other list of uncovered nodes that suffices is longer;
+/// - `few`: the boundary has at most as many nodes as the openings of the distinct indices have siblings, and just as
+///   many for one index;
 /// - `apart`: no node is under two boundary nodes;
 /// - `held`: a list of uncovered nodes that suffices has each boundary node, or two different nodes under it.
 pub fn boundary()
@@ -238,6 +276,7 @@ pub fn boundary()
     ensures smallest { BoundaryIsSmallest }
     ensures alone { BoundaryIsAlone }
     ensures least { BoundaryIsLeast }
+    ensures few { BoundaryIsFew }
     ensures apart { BoundaryNodesAreApart }
     ensures held { BoundaryNodesAreHeld }
 {}

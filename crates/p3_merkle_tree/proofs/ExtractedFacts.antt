@@ -25,18 +25,18 @@ use Rattle.p3_merkle_core.proofs.Collisions.ExtractionFacts.{IsPresentation, all
 use Rattle.p3_merkle_core.proofs.Collisions.ExtractionFacts.{extracted_one}
 use Rattle.p3_merkle_tree.specs.Schemes.{cap_height_of, cap_rule_of, params_of}
 use Rattle.p3_merkle_tree.proofs.VerdictFacts.{verdict_by}
-use Rattle.p3_merkle_tree.specs.HidingSchemes.{plain_of}
+use Rattle.p3_merkle_tree.specs.HidingSchemes.{plain_of, salted_params_of}
 use Rattle.p3_merkle_tree.specs.SaltedOpenings.{IsSaltedPrunedAccepted, SaltedOpening}
 use Rattle.p3_merkle_tree.specs.SaltedOpenings.{SaltedPruned, joined, joined_sets}
 use Rattle.p3_merkle_tree.specs.SaltRefusals.{salted_refusal_under, salted_sets_refusal}
-use Rattle.p3_merkle_tree.specs.SaltedExtraction.{IsSaltedExtraction}
+use Rattle.p3_merkle_tree.specs.SaltedExtraction.{IsOnlySaltedOpening, IsSaltedExtraction, IsSaltedPrunedExtraction}
 use Rattle.p3_merkle_tree.specs.SaltedPresented.{presented_salted}
-use Rattle.p3_merkle_tree.proofs.SaltedExtractionFacts.{salted_told}
+use Rattle.p3_merkle_tree.proofs.SaltedExtractionFacts.{only_salted, salted_told}
 use Rattle.p3_merkle_tree.specs.declared.hiding_mmcs.HidingScheme.{HidingScheme}
 use Rattle.p3_merkle_tree.proofs.SaltedAnswers.{salted_presentation, salted_pruned_presentation}
 
 -- what is refused before rows and salts are joined is the refusal
-refused_before : {V : Type 0} (r : Result V MerkleTreeError) (first after : Option MerkleTreeError) → IsErr r →
+pub refused_before : {V : Type 0} (r : Result V MerkleTreeError) (first after : Option MerkleTreeError) → IsErr r →
     AnswersUnlessMemory r first → AnswersUnlessMemory r (option_or first after)
 refused_before (Ok v) first after err a = absurd cc
 refused_before (Err x) first after err (inl m) = inl m
@@ -196,3 +196,17 @@ module _ {P PW H C R X G V W : Type 0} {N D E : ℕ} {p : packed.Ghosts P V} {pd
         decided = λ o. (is o).decided;
         extracts = λ o u. by_answer _ _ (is o) (is u);
       }
+
+module _ {P PW H C R X G V W : Type 0} {N D E : ℕ} {p : packed.Ghosts P V} {pd : default.Ghosts V}
+    {pe : equality.Ghosts V} {q : packed.Ghosts PW W} {qd : default.Ghosts W} {qe : equality.Ghosts W}
+    {h : hasher.Ghosts H P PW D V W} {c : compressor.Ghosts C PW N D W}
+    (s : HidingScheme P PW H C R X G N D E V W p pd pe q qd qe h c) (ds : List Dimensions) (cap : List (List W)) where
+  -- what a scheme's extraction from openings of one list of indices says
+  pub only_of : (o u : SaltedPruned V W) (r : Result (Option (ℕ × ℕ × InputPair V (List W))) MerkleTreeError) →
+      let c = salted_params_of s ds in
+      IsSaltedPrunedExtraction pe.eq qe.eq (cap_rule_of (plain_of s)) E ds c cap o u r →
+      IsOnlySaltedOpening (cap_rule_of (plain_of s)) c o u r
+  only_of o u r told =
+      only_salted pe.eq qe.eq (cap_rule_of (plain_of s)) E ds (salted_params_of s ds) cap (plain_of s).arity
+      (all_authenticated (shape_of N (widened E ds)) (cap_rule_of (plain_of s)) (cap_height_of (plain_of s))
+      (plain_of s).arity) o u r told

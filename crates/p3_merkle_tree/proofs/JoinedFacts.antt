@@ -7,10 +7,10 @@ use Rattle.p3_merkle_tree.specs.Inner.SaltedCommitmentLaws.{pair_at}
 use Rattle.p3_merkle_tree.specs.SaltedOpenings.{salted_rows}
 
 -- of equal joined lists whose fronts are equally long, the fronts are equal, and the rests
-front_same : {T : Type 0} (x y v w : List T) → length x ≡ length v → x ++ y ≡ v ++ w → x ≡ v
+pub front_same : {T : Type 0} (x y v w : List T) → length x ≡ length v → x ++ y ≡ v ++ w → x ≡ v
 front_same x y v w long same = sym (take_at x y (length v) long) ∙ ap (take (length v)) same ∙ take_at v w _ refl
 
-rest_same : {T : Type 0} (x y v w : List T) → length x ≡ length v → x ++ y ≡ v ++ w → y ≡ w
+pub rest_same : {T : Type 0} (x y v w : List T) → length x ≡ length v → x ++ y ≡ v ++ w → y ≡ w
 rest_same x y v w long same = sym (drop_at x y (length v) long) ∙ ap (drop (length v)) same ∙ drop_at v w _ refl
 
 -- the row of a place followed by its salts

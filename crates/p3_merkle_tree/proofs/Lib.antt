@@ -5,10 +5,14 @@ mod CommitFacts
 mod ExtractedFacts
 mod SaltedCommitmentFacts
 mod SchemeFacts
+mod BindingFacts
+mod SameNodes
+mod SaltedBindingFacts
 mod LoopFacts
 pub mod SaltFacts
 mod DrawFacts
 pub mod JoinedFacts
+mod OnlyFacts
 pub mod SaltedExtractionFacts
 pub mod VerdictFacts
 pub mod OpenedFacts

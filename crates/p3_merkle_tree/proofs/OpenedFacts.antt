@@ -1,6 +1,6 @@
 -- What is opened of a tree: of an own tree it is honest, and accepted, and a pruned opening restores.
-use Rattle.std.proofs.Common.{◌≡◌, ◌∙◌, ℕ, ◌<◌, ◌≤◌, List, ap, length, subst, sym}
-use Rattle.std.specs.Prelude.{All}
+use Rattle.std.proofs.Common.{◌≡◌, ◌∙◌, ℕ, ◌<◌, ◌≤◌, List, [], ◌∷◌, ap, arith, length, refl, subst, sym}
+use Rattle.std.specs.Prelude.{All, slice_index}
 use Rattle.std.proofs.lemmas.List.{length-map}
 use Rattle.p3_support.specs.Batches.{greatest}
 use Rattle.p3_support.specs.declared.matrix.Matrix as matrix
@@ -9,12 +9,14 @@ use Rattle.p3_merkle_core.specs.Commitments.{IsOwn, cap_over}
 use Rattle.p3_merkle_core.specs.Geometry.{heights, levels}
 use Rattle.p3_merkle_core.specs.Nodes.{Functions, shape}
 use Rattle.p3_merkle_core.specs.Opened.{IsOpened, IsPrunedOpened}
-use Rattle.p3_merkle_core.specs.Openings.{Opening, honest, opening_in_layers}
+use Rattle.p3_merkle_core.specs.Openings.{Opening, honest, honest_rows, node_in, opening_in_layers, opening_of}
+use Rattle.p3_merkle_core.specs.Pruning.{CanQuery, as_single}
 use Rattle.p3_merkle_core.specs.Pruning.{IsHonestQuery, IsPrunedAccepted, PrunedOpening, boundary, honest_query}
 use Rattle.p3_merkle_core.specs.Pruning.{pruned_in_layers, restored_paths}
 use Rattle.p3_merkle_core.proofs.Checks.CheckFacts.{honest_accepted}
 use Rattle.p3_merkle_core.proofs.Checks.Completeness.{IsHonest}
 use Rattle.p3_merkle_core.proofs.Checks.OwnNodes.{honest_restored_paths, own_opening_is, own_pruned_opening_is}
+use Rattle.p3_merkle_core.proofs.Covered.Alone.{boundary_alone, one_there}
 use Rattle.p3_merkle_core.proofs.Covered.Equivalence.{equivalent}
 use Rattle.p3_merkle_core.proofs.Covered.Restoration.{honest_capped}
 use Rattle.p3_merkle_core.proofs.Covered.Sufficient.{count_least}
@@ -22,6 +24,12 @@ use Rattle.p3_merkle_core.proofs.Pruned.HonestAnswered.{honest_restorable}
 use Rattle.p3_merkle_prover.proofs.RowFacts.{full_rows}
 use Rattle.p3_merkle_prover.specs.Parts.{layers_of, tree_batch}
 use Rattle.p3_merkle_prover.specs.declared.tree.Tree.{Tree}
+
+-- a list of one number
+one_of : (xs : List ℕ) → length xs ≡ 1 → xs ≡ slice_index xs 0 ∷ []
+one_of [] one = absurd (omega arith)
+one_of (x ∷ []) one = refl
+one_of (x ∷ y ∷ xs) one = absurd (omega arith)
 
 module _ {T W M B : Type 0} {n : ℕ} {m : matrix.Ghosts M T} (f : Functions T W) (tree : Tree T (List W) B M n m)
     (t : ℕ) (in_tree : t ≤ levels (shape (tree_batch tree)))
@@ -75,3 +83,20 @@ module _ {T W M B : Type 0} {n : ℕ} {m : matrix.Ghosts M T} (f : Functions T W
             (subst (IsPrunedAccepted c (cap_over c b)) (sym (is own.own_layers)) accepted);
         is_restored = λ own. ap (restored_paths c) (is own) ∙ honest_restored_paths f b t p.indices w;
       }
+
+  -- a pruned one of one index is, by its digests, that of the index
+  pub is_single_opened : (p : PrunedOpening T W) → All (λ i. i < greatest (heights (shape (tree_batch tree)))) p.indices
+      → p ≡ pruned_in_layers (tree_batch tree) (layers_of tree) t p.indices → length p.indices ≡ 1 →
+      IsOpened (params f (shape (tree_batch tree)) t) (tree_batch tree) (layers_of tree) (as_single p)
+  is_single_opened p below opened one =
+      let b = tree_batch tree in
+      let i = slice_index p.indices 0 in
+      let inside = below 0 0 (omega arith) in
+      let w : CanQuery (shape b) (i ∷ []) t = record {
+        well_shaped = tree.arity;
+        below = one_there (λ q. q < greatest (heights (shape b))) i inside;
+        in_tree = in_tree;
+      } in
+      is_opened (as_single p) inside
+      (ap as_single opened ∙ ap (λ z. as_single (pruned_in_layers b (layers_of tree) t z)) (one_of p.indices one)
+      ∙ ap (λ z. opening_of i (honest_rows b i) z) (boundary_alone (node_in [] (layers_of tree)) (shape b) i t w))

@@ -12,21 +12,23 @@ use Rattle.std.proofs.lemmas.List.{length-map}
 use Rattle.std.specs.{List.AllZip}
 use Rattle.p3_support.specs.declared.matrix.Dimensions.{Dimensions}
 use Rattle.p3_support.specs.Batches.{widths_of}
-use Rattle.p3_merkle_core.specs.{Geometry.IsArity}
-use Rattle.p3_merkle_core.specs.Refusals.{IsEquality, pruned_refusal_under}
+use Rattle.p3_merkle_core.specs.Geometry.{IsArity, Shape}
+use Rattle.p3_merkle_core.specs.Refusals.{IsEquality, pruned_refusal, pruned_refusal_under}
 use Rattle.p3_answers.specs.Answers.{first_of, ok_unless}
 use Rattle.p3_merkle_core.specs.Refusals.{refusal_under, row_width_refusal, size_refusal, width_refusal}
 use Rattle.p3_merkle_core.specs.declared.error.MerkleTreeError.{TheVariants.WrongBatchSize}
 use Rattle.p3_merkle_core.specs.Checks.{Params}
 use Rattle.p3_answers.proofs.AnswerFacts.{none_of_both, none_parts, unless_none, verdict_ok}
 use Rattle.p3_merkle_core.proofs.Pruned.NoneFacts.{fit_from}
-use Rattle.p3_merkle_core.proofs.Pruned.Unrefused.{each_width, size_none}
+use Rattle.p3_merkle_core.proofs.Pruned.Answered.{restorable}
+use Rattle.p3_merkle_core.proofs.Pruned.Unrefused.{each_width, size_none, unrefused}
 use Rattle.p3_merkle_core.proofs.Checks.Verdicts.{accepted_answer, accepted_from, pruned_accepted}
 use Rattle.p3_merkle_tree.proofs.SaltFacts.{widening}
 use Rattle.p3_merkle_tree.specs.SaltRefusals.{row_and_salt_form_refusal, set_and_salt_form_refusal, widening_refusal}
 use Rattle.p3_merkle_tree.specs.SaltRefusals.{salted_pruned_refusal_under, salted_refusal_under, salted_rows_refusal}
-use Rattle.p3_merkle_tree.specs.SaltRefusals.{salted_sets_refusal}
+use Rattle.p3_merkle_tree.specs.SaltRefusals.{salted_pruned_refusal, salted_sets_refusal}
 use Rattle.p3_merkle_tree.specs.SaltedOpenings.{HaveSalts, IsSaltedAccepted, IsSaltedPrunedAccepted}
+use Rattle.p3_merkle_tree.specs.SaltedOpenings.{IsSaltedRestorable}
 use Rattle.p3_merkle_tree.specs.SaltedOpenings.{SaltedOpening, SaltedPruned, joined, joined_sets}
 use Rattle.p3_merkle_tree.specs.SaltedPresented.{presented_salted, presented_salted_pruned}
 use Rattle.p3_merkle_core.proofs.Collisions.ExtractionFacts.{IsPresentation}
@@ -145,6 +147,35 @@ module _ {T W : Type 0} (same : W → W → Bool) (e : ℕ) (ds : List Dimension
       (p : SaltedPruned T W) → IsPresentation c cap (presented_salted_pruned eq same e ds c cap p)
   salted_pruned_presentation eq dec w p =
       record { decided = salted_pruned_accepted eq dec w p; each = λ a. a.accepted.each_accepted }
+
+-- a salted pruned opening restores exactly if it is not refused
+pub salted_restorable : {T W : Type 0} (eq : T → T → Bool) (e : ℕ) (ds : List Dimensions) (s : Shape) (t : ℕ) →
+    IsEquality eq → (p : SaltedPruned T W) →
+    (salted_pruned_refusal eq e ds s t p ≡ None) ↔ IsSaltedRestorable e ds s t p
+salted_restorable eq e ds s t dec p =
+    let first = salted_sets_refusal e ds p.rows p.salts in
+    let sets = set_and_salt_form_refusal ds p.rows p.salts in
+    let size = size_refusal (length p.rows) (length p.salts) in
+    let each = first_of (λ (rows, salt). row_and_salt_form_refusal ds rows salt) (zip p.rows p.salts) in
+    let wide = widening_refusal e ds in
+    let plain = pruned_refusal eq s t (joined_sets p) in (
+      λ none.
+          let both = none_parts first plain none in
+          let form = none_parts sets wide both.0 in
+          let salts = none_parts size each form.0 in
+          let paired = size_from (length p.rows) (length p.salts) salts.0 in
+          record {
+            in_pairs = paired;
+            salted = each_from ds p.rows p.salts paired salts.1;
+            can_widen = (widening e ds).0 form.1;
+            restorable = restorable eq s t (joined_sets p) dec (ap (λ refusal. ok_unless refusal (tt {0})) both.1);
+          },
+      λ a.
+          let salts = none_of_both size each (size_none (length p.rows) (length p.salts) (sym a.in_pairs))
+          (each_passes ds p.rows p.salts a.salted) in
+          let form = none_of_both sets wide salts ((widening e ds).1 a.can_widen) in
+          none_of_both first plain form (verdict_ok plain (unrefused eq s t (joined_sets p) dec a.restorable)),
+    )
 
 -- rows and salts that are not refused are answered as the plain opening that they are joined to
 module _ {T W : Type 0} (same : W → W → Bool) (e : ℕ) (ds : List Dimensions) (c given : Params T W)

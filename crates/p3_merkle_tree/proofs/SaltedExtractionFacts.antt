@@ -1,30 +1,35 @@
 -- What the answer to two salted openings says of their rows and salts.
 use Rattle.std.proofs.Common.{◌≡◌, ◌↔◌, ◌∙◌, ◌++◌, ⊎_elim, ℕ, ◌<◌, Bool, List, [], ap, arith, length, refl, subst, sym}
 use Rattle.std.proofs.Common.{None, Some, Option, Result}
+use Rattle.std.proofs.lemmas.List.{ext_get_or}
 use Rattle.std.proofs.lemmas.List.Elements.{AllZip-get_or}
 use Rattle.std.specs.Prelude.{Ok, Err, IfOk, IsNone, IsSome, slice_index}
 use Rattle.std.specs.Option.{option_map}
 use Rattle.std.specs.Result.{result_map_both}
 use Rattle.p3_support.specs.declared.matrix.Dimensions.{Dimensions}
 use Rattle.p3_merkle_core.specs.Checks.{Input, Params, opened_row}
-use Rattle.p3_merkle_core.specs.Extraction.{RowsAgreeWhereAuthenticated, RowsConflictAt, IsExtraction}
-use Rattle.p3_merkle_core.specs.Geometry.{Shape}
+use Rattle.p3_merkle_core.specs.Extraction.{ProofsAgreeWhereAuthenticated, RowsAgreeWhereAuthenticated, RowsConflictAt}
+use Rattle.p3_merkle_core.specs.Extraction.{IsExtraction, row_at}
+use Rattle.p3_merkle_core.specs.Geometry.{IsArity, Shape}
 use Rattle.p3_merkle_core.specs.Openings.{Opening, opening_of}
 use Rattle.p3_merkle_core.specs.Presented.{Presented}
-use Rattle.p3_merkle_core.specs.Pruning.{restored_path}
+use Rattle.p3_merkle_core.specs.Pruning.{PrunedOpening, opening_at, restored_path}
 use Rattle.p3_merkle_core.specs.Views.{found_alone, found_pair, inputs_in}
 use Rattle.p3_merkle_core.specs.declared.cap.CapRule.{CapRule}
 use Rattle.p3_merkle_core.specs.declared.cap.CapRule.TheVariants.{Lowered}
 use Rattle.p3_merkle_core.specs.declared.collision.InputPair.{InputPair}
 use Rattle.p3_merkle_core.specs.declared.error.MerkleTreeError.{MerkleTreeError}
+use Rattle.p3_merkle_core.proofs.Collisions.ExtractionFacts.{AllAuthenticated}
 use Rattle.p3_merkle_tree.specs.SaltedExtraction.{AgreeWhereAuthenticated, ConflictAt, ConflictSomewhere}
+use Rattle.p3_merkle_tree.specs.SaltedExtraction.{IsOnlySaltedOpening, SaltedProofsAgree, salted_row_at, salts_at}
 use Rattle.p3_merkle_tree.specs.SaltedExtraction.{ConflictWhereAuthenticated, IsSaltedExtraction, row_in}
 use Rattle.p3_merkle_tree.specs.SaltedExtraction.{IsSaltedPrunedExtraction, salted_opening_at, salts_in}
 use Rattle.p3_merkle_tree.specs.SaltedOpenings.{HaveSalts, IsSaltedPrunedAccepted, SaltedOpening, SaltedPruned}
-use Rattle.p3_merkle_tree.specs.SaltedOpenings.{joined, joined_sets, salted_of, salted_rows}
+use Rattle.p3_merkle_tree.specs.SaltedOpenings.{joined, joined_sets, salted_of, salted_pruned_of, salted_rows}
 use Rattle.p3_merkle_tree.specs.SaltedPresented.{presented_salted, presented_salted_pruned}
 use Rattle.p3_merkle_tree.specs.Inner.SaltedCommitmentLaws.{length_pairs, pair_at}
 use Rattle.p3_merkle_tree.proofs.JoinedFacts.{joined_at, parts_alike, parts_same}
+use Rattle.p3_merkle_tree.proofs.OnlyFacts.{only_openings}
 
 -- ---- one query of each
 
@@ -216,3 +221,88 @@ module _ {T W : Type 0} (eq : T → T → Bool) (same : W → W → Bool) (rule 
             none_shown view _ _ r (λ x. x, λ x. x) (told.lowered_one_index lowered each);
         lowered_two_ways = λ lowered some. some_shown view r (told.lowered_two_ways lowered some);
       }
+
+  -- openings of one list that agree where they are joined agree in rows and salts, and the other way round
+  module _ (p q : SaltedPruned T W) (a : IsSaltedPrunedAccepted e ds c cap p) (b : IsSaltedPrunedAccepted e ds c cap q)
+      (one : p.indices ≡ q.indices) where
+    -- a query of the one is a query of the other
+    as_many : (k : ℕ) → k < length p.indices → k < length q.indices
+    as_many k h = omega (arith, ap length one)
+
+    -- the parts of each row
+    both_parts : (k m : ℕ) → k < length p.indices → row_at (joined_sets p) k m ≡ row_at (joined_sets q) k m →
+        (salted_row_at p k m ≡ salted_row_at q k m) × (salts_at p k m ≡ salts_at q k m)
+    both_parts k m h same =
+        let x = sets_joined p a in
+        let y = sets_joined q b in
+        same_parts ds (salted_opening_at c p k) (salted_opening_at c q k) (x.salted k h) (y.salted k (as_many k h)) m
+        (sym (ap (λ o. opened_row o m) (x.is k)) ∙ same ∙ ap (λ o. opened_row o m) (y.is k))
+
+    both_joined : (k m : ℕ) → k < length p.indices → salted_row_at p k m ≡ salted_row_at q k m →
+        salts_at p k m ≡ salts_at q k m → row_at (joined_sets p) k m ≡ row_at (joined_sets q) k m
+    both_joined k m h row salt =
+        let x = sets_joined p a in
+        let y = sets_joined q b in
+        ap (λ o. opened_row o m) (x.is k)
+        ∙ same_joined ds (salted_opening_at c p k) (salted_opening_at c q k) (x.salted k h)
+        (y.salted k (as_many k h)) m row salt ∙ sym (ap (λ o. opened_row o m) (y.is k))
+
+    agree_in_parts : ProofsAgreeWhereAuthenticated c (joined_sets p) (joined_sets q) ↔ SaltedProofsAgree c p q
+    agree_in_parts = (
+      λ agree. record {
+        digests = agree.digests;
+        rows = λ k m h inside there. (both_parts k m h (agree.rows k m h inside there)).0;
+        salts = λ k m h inside there. (both_parts k m h (agree.rows k m h inside there)).1;
+      },
+      λ agree. record {
+        digests = agree.digests;
+        rows = λ k m h inside there. both_joined k m h (agree.rows k m h inside there) (agree.salts k m h inside there);
+      },
+    )
+
+    -- openings that are joined alike are one
+    one_in_parts : (joined_sets p ≡ joined_sets q) ↔ (p ≡ q)
+    one_in_parts = (
+      λ same.
+          let x = sets_joined p a in
+          let y = sets_joined q b in
+          let at = λ (k : ℕ) (h : k < length p.indices).
+          (one_joined ds (salted_opening_at c p k) (salted_opening_at c q k) (x.salted k h) (y.salted k (as_many k h))
+          (ap (λ indices. slice_index indices k) one)).0
+          (sym (x.is k) ∙ ap (λ z. opening_at c z k) same ∙ y.is k) in
+          let many : length p.rows ≡ length p.indices =
+          sym (length_pairs (λ (rows, salts). salted_rows rows salts) p.rows p.salts a.in_pairs)
+          ∙ a.accepted.restorable.agreed.in_pairs in
+          let many_too : length q.rows ≡ length q.indices =
+          sym (length_pairs (λ (rows, salts). salted_rows rows salts) q.rows q.salts b.in_pairs)
+          ∙ b.accepted.restorable.agreed.in_pairs in
+          let long = ap length one in
+          let rows : p.rows ≡ q.rows = ext_get_or [] p.rows q.rows (omega arith)
+          (λ k h. ap (λ (o : SaltedOpening T W). o.rows) (at k (omega arith))) in
+          let salts : p.salts ≡ q.salts = ext_get_or [] p.salts q.salts (omega (arith, a.in_pairs, b.in_pairs))
+          (λ k h. ap (λ (o : SaltedOpening T W). o.salts) (at k (omega (arith, a.in_pairs)))) in
+          let digests = ap (λ (z : PrunedOpening T W). z.digests) same in
+          λ i. salted_pruned_of (one i) (rows i) (salts i) (digests i),
+      λ same. ap joined_sets same,
+    )
+
+  -- so nothing is found exactly where the digests, and the rows and salts of authenticated matrices, agree
+  pub only_salted : IsArity c.shape.arity → (rule ≡ Lowered → AllAuthenticated c.shape c.layer) →
+      (p q : SaltedPruned T W) (r : Result (Option (ℕ × ℕ × InputPair T (List W))) MerkleTreeError) →
+      IsSaltedPrunedExtraction eq same rule e ds c cap p q r → IsOnlySaltedOpening rule c p q r
+  only_salted w all p q (Ok found) told =
+      let is = told.extraction in
+      let a = is.both_accepted.0 in
+      let b = is.both_accepted.1 in
+      let meant = only_openings rule c cap w all (joined_sets p) (joined_sets q) a.accepted b.accepted found is.none in
+      record {
+        one_list = λ one.
+            let parts = agree_in_parts p q a b one in
+            let joined = meant.one_list one in
+            (λ none. parts.0 (joined.0 none), λ agree. joined.1 (parts.1 agree));
+        lowered_one_list = λ lowered one.
+            let parts = one_in_parts p q a b one in
+            let joined = meant.lowered_one_list lowered one in
+            (λ none. parts.0 (joined.0 none), λ same. joined.1 (parts.1 same));
+      }
+  only_salted w all p q (Err x) told = record { one_list = λ one. tt; lowered_one_list = λ lowered one. tt }

@@ -93,7 +93,7 @@ module _ {T A B : Type 0} {a : Ghosts A T} {b : Ghosts B T} where
   width_in p = a.width_of (left_of p)
 
   -- pairs, seen as matrices
-  abbrev pair_batch : ℕ → List (HorizontalPair T A B a b) → Batch T
+  abbrev pub pair_batch : ℕ → List (HorizontalPair T A B a b) → Batch T
   pair_batch n pairs = record { arity = n; matrices = map pair_matrix pairs }
 
   -- with e salts a row, pairs are so much wider than their left matrices

@@ -20,6 +20,7 @@ use Rattle.p3_merkle_tree.specs.Schemes.{params_of}
 use Rattle.p3_merkle_tree.specs.declared.mmcs.Scheme.{Scheme}
 use Rattle.p3_merkle_tree.specs.SaltedOpenings.{SaltedOpening, SaltedPruned}
 use Rattle.p3_merkle_tree.specs.SaltedPresented.{presented_salted, presented_salted_pruned}
+use Rattle.p3_merkle_tree.specs.SaltedPresented.{presented_salted_to_restore}
 use Rattle.p3_merkle_tree.specs.declared.hiding_mmcs.HidingScheme.{HidingScheme}
 
 -- a borrowed opening of an index, with its salts
@@ -96,3 +97,11 @@ module _ {P PW H C R X G V W : Type 0} {N D E : ℕ} {p : packed.Ghosts P V} {pd
   presented_all scheme dimensions cap indices rows proof =
       presented_salted_pruned pe.eq qe.eq E dimensions (salted_params_of scheme dimensions) (roots_of cap)
       (salted_pruned_borrowed indices rows proof)
+
+  -- the paths of such indices, restored whatever the cap
+  abbrev pub presented_to_restore : {A B F S U : Type 0} → HidingScheme P PW H C R X G N D E V W p pd pe q qd qe h c →
+      List Dimensions → List ℕ → List (Vec (Vec V A) B) → Vec (Vec (Vec V F) S) U × PrunedProof (List W) →
+      Presented V W
+  presented_to_restore scheme dimensions indices rows proof =
+      let k = salted_params_of scheme dimensions in
+      presented_salted_to_restore pe.eq E dimensions k.shape k.layer (salted_pruned_borrowed indices rows proof)

@@ -2,3 +2,4 @@
 pub mod SaltedCommitmentLaws
 pub mod SaltedParts
 pub mod CommitmentLaws
+pub mod IndexBinding

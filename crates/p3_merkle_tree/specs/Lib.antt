@@ -8,6 +8,7 @@ pub use Rattle.p3_merkle_core.specs.Openings
 pub use Rattle.p3_merkle_core.specs.Checks
 pub use Rattle.p3_merkle_core.specs.Pruning
 pub use Rattle.p3_merkle_core.specs.Refusals
+pub use Rattle.p3_merkle_core.specs.Sizes
 pub use Rattle.p3_merkle_core.specs.Presented
 pub use Rattle.p3_merkle_core.specs.Extraction
 pub use Rattle.p3_merkle_core.specs.Views
@@ -19,6 +20,7 @@ pub use Rattle.p3_merkle_core.specs.declared.collision.InputPair
 pub use Rattle.p3_merkle_core.specs.declared.collision.Place
 pub use Rattle.p3_merkle_core.specs.declared.error.MerkleTreeError
 pub use Rattle.p3_merkle_core.specs.declared.error.PrunedProofError
+pub use Rattle.p3_merkle_core.specs.declared.pruning.AuthPath
 pub use Rattle.p3_merkle_prover.specs.Parts
 pub use Rattle.p3_merkle_prover.specs.declared.tree.Tree
 pub mod Schemes
@@ -32,6 +34,8 @@ pub mod SaltedExtraction
 pub mod HidingSchemes
 pub mod SaltedCommitments
 pub mod SaltedOpened
+pub mod Binding
+pub mod SaltedBinding
 pub mod SaltExamples
 pub mod SaltedExamples
 pub mod Inner

@@ -5,7 +5,9 @@ use Rattle.p3_support.specs.declared.matrix.Dimensions.{Dimensions}
 use Rattle.p3_support.specs.Batches.{heights_of, widths_of}
 use Rattle.p3_merkle_core.specs.Gate.{gate_refusal}
 use Rattle.p3_merkle_core.specs.Checks.{Params}
-use Rattle.p3_merkle_core.specs.Refusals.{pruned_refusal_under, refusal_under, size_refusal, width_refusal}
+use Rattle.p3_merkle_core.specs.Geometry.{Shape}
+use Rattle.p3_merkle_core.specs.Refusals.{pruned_refusal, pruned_refusal_under, refusal_under, size_refusal}
+use Rattle.p3_merkle_core.specs.Refusals.{width_refusal}
 use Rattle.p3_answers.specs.Answers.{first_of}
 use Rattle.p3_merkle_core.specs.declared.error.MerkleTreeError.{MerkleTreeError}
 use Rattle.p3_merkle_core.specs.declared.error.MerkleTreeError.TheVariants.{TooLarge}
@@ -62,3 +64,9 @@ abbrev pub salted_pruned_refusal_under : {T W : Type 0} → (T → T → Bool) �
 salted_pruned_refusal_under row_eq digest_eq e dimensions c cap p =
     option_or (salted_sets_refusal e dimensions p.rows p.salts)
     (pruned_refusal_under row_eq digest_eq c cap (joined_sets p))
+
+-- the same whatever the cap, which is layer t of a shape
+abbrev pub salted_pruned_refusal : {T W : Type 0} → (T → T → Bool) → ℕ → List Dimensions → Shape → ℕ →
+    SaltedPruned T W → Option MerkleTreeError
+salted_pruned_refusal row_eq e dimensions s t p =
+    option_or (salted_sets_refusal e dimensions p.rows p.salts) (pruned_refusal row_eq s t (joined_sets p))

@@ -98,3 +98,28 @@ pub record IsSaltedPrunedExtraction {T W : Type 0} (row_eq : T → T → Bool) (
       IfOk result (λ found. IsNone found ↔ EachSaltedPair c p q (λ o u. o ≡ u))
   pub lowered_two_ways : rule ≡ Lowered → SomeSaltedPair c p q (ConflictSomewhere c) →
       IfOk result (λ found. IsSome found)
+
+-- ---- two openings of one list of indices
+
+-- the row that query a has for matrix k
+abbrev pub salted_row_at : {T W : Type 0} → SaltedPruned T W → ℕ → ℕ → List T
+salted_row_at p a k = slice_index_or (slice_index_or p.rows a []) k []
+
+-- the salts of that row
+abbrev pub salts_at : {T W : Type 0} → SaltedPruned T W → ℕ → ℕ → List T
+salts_at p a k = slice_index_or (slice_index_or p.salts a []) k []
+
+-- two openings have the same digests, and for each query the same row and salts of each authenticated matrix
+pub record SaltedProofsAgree {T W : Type 0} (c : Params T W) (p q : SaltedPruned T W) : Type 0 where
+  pub digests : p.digests ≡ q.digests
+  pub rows : (a k : ℕ) → a < length p.indices → k < length (heights c.shape) →
+      IsTrue (is_authenticated c.shape c.layer k) → salted_row_at p a k ≡ salted_row_at q a k
+  pub salts : (a k : ℕ) → a < length p.indices → k < length (heights c.shape) →
+      IsTrue (is_authenticated c.shape c.layer k) → salts_at p a k ≡ salts_at q a k
+
+-- of one list of indices nothing is found exactly where the digests, and the rows and salts of authenticated matrices,
+-- agree; under the lowered rule, exactly where both openings are the same
+pub record IsOnlySaltedOpening {T W Found : Type 0} (rule : CapRule) (c : Params T W) (p q : SaltedPruned T W)
+    (result : Result (Option Found) MerkleTreeError) : Type 0 where
+  pub one_list : p.indices ≡ q.indices → IfOk result (λ found. IsNone found ↔ SaltedProofsAgree c p q)
+  pub lowered_one_list : rule ≡ Lowered → p.indices ≡ q.indices → IfOk result (λ found. IsNone found ↔ (p ≡ q))

@@ -1,12 +1,13 @@
 -- Rows followed by their salts, and when openings of such rows are accepted.
-use Rattle.std.specs.Prelude.{◌≡◌, ℕ, ◌+◌, ◌<◌, ◌^◌, List, ◌++◌, map, length, zip, All}
+use Rattle.std.specs.Prelude.{◌≡◌, ℕ, List, ◌++◌, map, length, zip}
 use Rattle.std.specs.List.{AllZip}
 use Rattle.p3_support.specs.Batches.{CanWiden}
 use Rattle.p3_support.specs.declared.matrix.Dimensions.{Dimensions}
 use Rattle.p3_support.specs.Batches.{widths_of}
 use Rattle.p3_merkle_core.specs.Openings.{Opening, opening_of}
 use Rattle.p3_merkle_core.specs.Checks.{IsAccepted, Params}
-use Rattle.p3_merkle_core.specs.Pruning.{IsPrunedAccepted, PrunedOpening, pruned_of}
+use Rattle.p3_merkle_core.specs.Geometry.{Shape}
+use Rattle.p3_merkle_core.specs.Pruning.{IsPrunedAccepted, IsRestorable, PrunedOpening, pruned_of}
 
 -- ---- what is hashed
 
@@ -75,3 +76,11 @@ pub record IsSaltedPrunedAccepted {T W : Type 0} (e : ℕ) (dimensions : List Di
   pub salted : AllZip (HaveSalts dimensions) p.rows p.salts
   pub can_widen : CanWiden e dimensions
   pub accepted : IsPrunedAccepted c cap (joined_sets p)
+
+-- an opening of several indices with e salts a row restores, up to layer t of a shape: the same, without a cap
+pub record IsSaltedRestorable {T W : Type 0} (e : ℕ) (dimensions : List Dimensions) (s : Shape) (t : ℕ)
+    (p : SaltedPruned T W) : Type 0 where
+  pub in_pairs : length p.salts ≡ length p.rows
+  pub salted : AllZip (HaveSalts dimensions) p.rows p.salts
+  pub can_widen : CanWiden e dimensions
+  pub restorable : IsRestorable s t (joined_sets p)

@@ -2,9 +2,9 @@
 //! level, and has an input of the hash or of the compression at each place. Openings conflict in a row if both have it
 //! and its words differ.
 
-ghost use Rattle.p3_merkle_core.specs.Extraction.{IsExtraction};
+ghost use Rattle.p3_merkle_core.specs.Extraction.{IsExtraction, IsOnlyOpening};
 ghost use Rattle.p3_merkle_core.specs.Geometry.{shape_of};
-ghost use Rattle.p3_merkle_core.specs.Views.{found_alone, found_pair};
+ghost use Rattle.p3_merkle_core.specs.Views.{found_alone, found_pair, pruned_borrowed};
 ghost use Rattle.p3_merkle_verifier.specs.Inner.RestoredLevels.{pruned_in};
 ghost use Rattle.p3_merkle_tree.specs.Committed.{presented_all, presented_one, presented_pruned_under};
 ghost use Rattle.p3_merkle_tree.specs.Schemes.{cap_rule_of, params_of};
@@ -81,6 +81,10 @@ impl<
     /// query in its list, from 0, and the collision. Not every pair is compared: beside both verifications the call
     /// takes the time of at most four checks for each query of the first opening, and two for each of the second.
     ///
+    /// Two openings of one list of indices give a collision exactly if they differ in a digest of the proof, or in a
+    /// row of an [authenticated](Self::is_authenticated) matrix. Under the rule `Lowered` every matrix is
+    /// authenticated, so any two different openings of one list give a collision.
+    ///
     /// # Errors
     ///
     /// The first of these that applies, where `OutOfMemory` may come at any time:
@@ -99,10 +103,13 @@ impl<
         rows2: &[Vec<Vec<P::Value>>],
         proof2: &PrunedMerklePaths<PW::Value, D>,
     ) -> Result<Option<(usize, usize, Collision<P::Value, PW::Value, D>)>, MerkleTreeError>
-        ensures { let c = params_of self.now (shape_of N dimensions.now) in
+        ensures extraction { let c = params_of self.now (shape_of N dimensions.now) in
             let presented = presented_all self.now dimensions.now commit.now in
             IsExtraction P.Value.eq PW.Value.eq (cap_rule_of self.now) c (presented indices1.now rows1.now proof1.now)
             (presented indices2.now rows2.now proof2.now) (found_pair result) }
+        ensures only { let c = params_of self.now (shape_of N dimensions.now) in
+            IsOnlyOpening (cap_rule_of self.now) c (pruned_borrowed indices1.now rows1.now proof1.now)
+            (pruned_borrowed indices2.now rows2.now proof2.now) result }
     {
         let first = PrunedOpeningRef::new(indices1, rows1, proof1);
         let second = PrunedOpeningRef::new(indices2, rows2, proof2);

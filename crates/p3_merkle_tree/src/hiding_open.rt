@@ -7,7 +7,9 @@ ghost use Rattle.std.specs.Prelude.{◌≡◌, ◌<◌, All, IfOk, MatchResult, 
 ghost use Rattle.p3_merkle_core.specs.Geometry.{heights, shape_of};
 ghost use Rattle.p3_merkle_core.specs.Nodes.{shape};
 ghost use Rattle.p3_merkle_core.specs.Presented.{IsExactVerdict, IsVerdict};
+ghost use Rattle.p3_merkle_core.specs.Pruning.{restored_paths};
 ghost use Rattle.p3_merkle_core.specs.Refusals.{AnswersUnlessMemory};
+ghost use Rattle.p3_merkle_core.specs.Views.{shown_paths};
 ghost use Rattle.p3_support.specs.Batches.{greatest};
 ghost use Rattle.p3_support.specs.Pairs.{left_of};
 ghost use Rattle.p3_support.specs.Shown.{roots_of, row_lists, row_sets};
@@ -16,19 +18,23 @@ ghost use Rattle.p3_merkle_verifier.specs.Inner.Checks.{opening_in};
 ghost use Rattle.p3_merkle_verifier.specs.Inner.Paths.{CanReach};
 ghost use Rattle.p3_merkle_verifier.specs.Inner.RestoredLevels.{pruned_in};
 ghost use Rattle.p3_merkle_tree.specs.Schemes.{cap_layer_of, cap_rule_of};
-ghost use Rattle.p3_merkle_tree.specs.HidingSchemes.{plain_of, presented_all, presented_one, salted_borrowed};
-ghost use Rattle.p3_merkle_tree.specs.HidingSchemes.{salted_owned, salted_params_of, salted_pruned_borrowed};
-ghost use Rattle.p3_merkle_tree.specs.HidingSchemes.{salted_pruned_owned};
+ghost use Rattle.p3_merkle_tree.specs.HidingSchemes.{plain_of, presented_all, presented_one, presented_to_restore};
+ghost use Rattle.p3_merkle_tree.specs.HidingSchemes.{salted_borrowed, salted_owned, salted_params_of};
+ghost use Rattle.p3_merkle_tree.specs.HidingSchemes.{salted_pruned_borrowed, salted_pruned_owned};
 ghost use Rattle.p3_merkle_tree.specs.Inner.SaltedParts.{left_widths, salt_parts, unsalted_parts};
 ghost use Rattle.p3_merkle_tree.specs.SaltRefusals.{salted_refusal_under};
 ghost use Rattle.p3_merkle_tree.specs.SaltedOpenings.{joined, joined_sets};
 ghost use Rattle.p3_merkle_tree.specs.SaltedOpened.{OpensSalted, OpensSaltedPruned};
+ghost use Rattle.p3_merkle_tree.specs.SaltedExtraction.{IsOnlySaltedOpening, IsSaltedExtraction};
+ghost use Rattle.p3_merkle_tree.specs.SaltedExtraction.{IsSaltedPrunedExtraction};
+ghost use Rattle.p3_merkle_tree.specs.SaltedBinding.{BindsSalted};
 ghost use Rattle.p3_merkle_tree.specs.SaltedExtraction.{IsSaltedExtraction, IsSaltedPrunedExtraction};
 
 use crate::hiding_mmcs::{MerkleTreeHidingMmcs, SaltedMultiProof, SaltedProof, SaltedTree};
 use crate::salts::{check_salted_rows, check_salted_sets, widened_dimensions};
 use p3_merkle_core::collision::Collision;
 use p3_merkle_core::error::MerkleTreeError;
+use p3_merkle_core::pruning::MerkleAuthPath;
 use p3_merkle_prover::opener::matrix_refs;
 use p3_merkle_prover::tree::Tree;
 use p3_merkle_verifier::openings::{OpeningRef, PrunedOpeningRef};
@@ -293,6 +299,41 @@ impl<
             .verify_row_sets(alloc, commit.roots(), &wider, indices, rows, digests)
     }
 
+    /// Restores the path of each query, in query order, with its index: its siblings, computed from the rows and salts
+    /// of all queries and the digests of a pruned proof. It is the plain scheme's
+    /// [`restore_and_recompute_paths`](crate::mmcs::Scheme::restore_and_recompute_paths) of the rows followed by their
+    /// salts. The parameters are as in [`verify_multi_batch`](Self::verify_multi_batch).
+    ///
+    /// No cap is compared, so a restored path proves nothing by itself. `verify_multi_batch` accepts an opening under a
+    /// cap exactly if its paths are restored and [`verify_batch`](Self::verify_batch) accepts each query with its rows,
+    /// its salts and its path. `dimensions` must come from the verifier, never from the proof.
+    ///
+    /// # Errors
+    ///
+    /// Those of `verify_multi_batch`, in the same order, without `CapMismatch`.
+    pub fn restore_and_recompute_paths(
+        &self,
+        alloc: Global,
+        dimensions: &[Dimensions],
+        indices: &[usize],
+        rows: &[Vec<Vec<P::Value>>],
+        proof: &SaltedMultiProof<P::Value, PW::Value, D>,
+    ) -> Result<Vec<MerkleAuthPath<PW::Value, D>>, MerkleTreeError>
+        ensures verdict { let restores = presented_to_restore self.now dimensions.now in
+            IsVerdict (restores indices.now rows.now proof.now) result }
+        ensures paths { let c = salted_params_of self.now dimensions.now in
+            let p = salted_pruned_borrowed indices.now rows.now proof.now in
+            IfOk result (λ paths. shown_paths paths.items ≡ restored_paths c (joined_sets p)) }
+    {
+        let (salts, pruned) = proof;
+        check_salted_sets(dimensions, SALT_ELEMS, rows, salts)?;
+        let wider = widened_dimensions(alloc, dimensions, SALT_ELEMS)?;
+        let rows = RowSets::Salted { sets: rows, salts };
+        let digests = &pruned.sibling_hashes;
+        self.plain
+            .restore_row_sets(alloc, &wider, indices, rows, digests)
+    }
+
     /// Extracts a collision from two accepted openings of one cap: two different inputs of the hasher or of the
     /// compression with one digest, or `None` if the openings agree.
     ///
@@ -337,8 +378,9 @@ impl<
     /// for each index, and a proof with a salt set for each. Both are verified as by
     /// [`verify_multi_batch`](Self::verify_multi_batch). The call is the plain scheme's
     /// [`extract_collision_multi`](crate::mmcs::Scheme::extract_collision_multi) of the rows followed by their
-    /// salts. It finds a collision wherever two queries conflict in a row of an authenticated matrix. Under the rule
-    /// `Lowered` every matrix is authenticated.
+    /// salts. It finds a collision wherever two queries conflict in a row of an authenticated matrix. Two openings of
+    /// one list of indices give a collision exactly if they differ in a digest of the proof, or in a row or the salts
+    /// of an authenticated matrix. Under the rule `Lowered` every matrix is authenticated.
     ///
     /// # Errors
     ///
@@ -358,9 +400,14 @@ impl<
         rows2: &[Vec<Vec<P::Value>>],
         proof2: &SaltedMultiProof<P::Value, PW::Value, D>,
     ) -> Result<Option<(usize, usize, Collision<P::Value, PW::Value, D>)>, MerkleTreeError>
-        ensures { let extracts = IsSaltedPrunedExtraction P.Value.eq PW.Value.eq (cap_rule_of (plain_of self.now))
-            SALT_ELEMS dimensions.now (salted_params_of self.now dimensions.now) (roots_of commit.now) in
+        ensures extraction { let rule = cap_rule_of (plain_of self.now) in
+            let extracts = IsSaltedPrunedExtraction P.Value.eq PW.Value.eq rule SALT_ELEMS dimensions.now
+            (salted_params_of self.now dimensions.now) (roots_of commit.now) in
             extracts (salted_pruned_borrowed indices1.now rows1.now proof1.now)
+            (salted_pruned_borrowed indices2.now rows2.now proof2.now) result }
+        ensures only { IsOnlySaltedOpening (cap_rule_of (plain_of self.now))
+            (salted_params_of self.now dimensions.now)
+            (salted_pruned_borrowed indices1.now rows1.now proof1.now)
             (salted_pruned_borrowed indices2.now rows2.now proof2.now) result }
     {
         let roots = commit.roots();
@@ -378,6 +425,29 @@ impl<
         let second = opening_with_salts(indices2, rows2, proof2);
         self.plain
             .pruned_extraction(alloc, roots, &wider, first, second)
+    }
+
+    /// Compares two trees with one cap, over matrices of the same dimensions, with `SALT_ELEMS` salts a row. Returns
+    /// `None` if each authenticated matrix has the same rows and salts in both; else a collision: two different inputs
+    /// of the hasher or of the compression with one digest. Under the rule `Lowered` every matrix is authenticated.
+    ///
+    /// It is the plain scheme's comparison of the rows followed by their salts, and takes as much time and memory. For
+    /// trees that [`commit`](Self::commit) returned with this cap no opening is refused.
+    ///
+    /// # Errors
+    ///
+    /// Those of the plain [`commitment_collision`](crate::mmcs::Scheme::commitment_collision).
+    pub fn commitment_collision<A: Matrix<P::Value>, B: Matrix<P::Value>>(
+        &self,
+        alloc: Global,
+        commit: &MerkleCap<P::Value, [PW::Value; D]>,
+        first: &SaltedTree<P::Value, PW::Value, A, N, D>,
+        second: &SaltedTree<P::Value, PW::Value, B, N, D>,
+    ) -> Result<Option<(usize, Collision<P::Value, PW::Value, D>)>, MerkleTreeError>
+        ensures { BindsSalted self.now (roots_of commit.now) first.now second.now result }
+    {
+        self.plain
+            .commitment_collision(alloc, commit, first, second)
     }
 }
 

@@ -12,6 +12,7 @@
 //! `PrunedProof`, `PrunedRows`, `AuthPath` and `InputPair`.
 #![tactic(auto)]
 
+mod binding;
 mod extract;
 mod hiding_mmcs;
 mod hiding_open;

@@ -1,17 +1,19 @@
 //! Pruned openings: the rows of several leaves by one proof. A query is one index of a list, and its row set has one
 //! row of each matrix. Its restored path is its siblings, each from the proof or computed.
 
-ghost use Rattle.std.specs.Prelude.{◌≡◌, ◌<◌, All, IfOk, None};
+ghost use Rattle.std.specs.Prelude.{◌≡◌, ◌<◌, All, IfOk, None, length};
 ghost use Rattle.p3_merkle_core.specs.Geometry.{heights, shape_of};
 ghost use Rattle.p3_merkle_core.specs.Nodes.{shape};
-ghost use Rattle.p3_merkle_core.specs.Presented.{presented_to_restore, IsVerdict};
-ghost use Rattle.p3_merkle_core.specs.Pruning.{pruned_of, restored_paths};
+ghost use Rattle.p3_merkle_core.specs.Presented.{presented_to_restore, IsAcceptedAs, IsVerdict};
+ghost use Rattle.p3_merkle_core.specs.Pruning.{as_single, pruned_of, restored_paths};
 ghost use Rattle.p3_merkle_core.specs.Refusals.{AnswersUnlessMemory};
 ghost use Rattle.p3_merkle_core.specs.Views.{pruned_of_pair, pruned_borrowed, pruned_owned, shown_paths};
 ghost use Rattle.p3_support.specs.Batches.{greatest};
 ghost use Rattle.p3_support.specs.RowSets.{sets_in};
+ghost use Rattle.p3_support.specs.Shown.{roots_of};
 ghost use Rattle.p3_merkle_prover.specs.Parts.{tree_batch};
-ghost use Rattle.p3_merkle_tree.specs.Committed.{presented_all, presented_pruned_under, OpensPruned};
+ghost use Rattle.p3_merkle_tree.specs.Committed.{presented_all, presented_pruned_under, presented_under, Opens};
+ghost use Rattle.p3_merkle_tree.specs.Committed.{OpensPruned};
 ghost use Rattle.p3_merkle_tree.specs.Schemes.{cap_layer_of, params_of};
 
 use crate::mmcs::MerkleTreeMmcs;
@@ -45,7 +47,8 @@ impl<
     ///
     /// The indices count rows of the tallest matrix and must be below its height, in any order; repeats are allowed.
     /// The digests are read from the tree. If the tree was built with this scheme's hasher and compression, the opening
-    /// is accepted under its cap, and its restored paths are those that [`open_batch`](Self::open_batch) opens.
+    /// is accepted under its cap, and its restored paths are those that [`open_batch`](Self::open_batch) opens. Of one
+    /// index the digests are the siblings that `open_batch` opens, in their order.
     ///
     /// # Errors
     ///
@@ -58,6 +61,8 @@ impl<
     ) -> Result<PrunedBatchOpening<P::Value, PW::Value, D>, MerkleTreeError>
         requires { All (λ index. index < greatest (heights (shape (tree_batch tree.now)))) indices.now }
         ensures opened { IfOk result (λ o. OpensPruned self.now tree.now (pruned_owned indices.now o)) }
+        ensures single { length indices.now ≡ 1 →
+            IfOk result (λ o. Opens self.now tree.now (as_single (pruned_owned indices.now o))) }
         ensures memory { AnswersUnlessMemory result None }
     {
         let cap_layer = tree_schedule(tree).cap_layer(self.cap_rule, self.cap_height);
@@ -94,7 +99,8 @@ impl<
 
     /// Verifies the openings of several leaves by one pruned proof against a cap: computes the digests above the leaves
     /// from the rows and the digests of the proof, and compares the last ones with the cap's entries. If the opening is
-    /// accepted, [`verify_batch`](Self::verify_batch) accepts each query with its restored path.
+    /// accepted, [`verify_batch`](Self::verify_batch) accepts each query with its restored path. An opening of one
+    /// index is accepted exactly if `verify_batch` accepts its row set with the digests of the proof as siblings.
     ///
     /// An accepted opening has a row set for each index: one row for each of `dimensions`, of that width. Queries of
     /// one index have the same rows. Queries under one node, at most as high as the cap, have the same rows of the
@@ -127,7 +133,10 @@ impl<
         rows: &[Vec<Vec<P::Value>>],
         proof: &PrunedMerklePaths<PW::Value, D>,
     ) -> Result<(), MerkleTreeError>
-        ensures { IsVerdict (presented_all self.now dimensions.now commit.now indices.now rows.now proof.now) result }
+        ensures verdict { IsVerdict (presented_all self.now dimensions.now commit.now indices.now rows.now proof.now) result }
+        ensures single { let p = pruned_borrowed indices.now rows.now proof.now in
+            let single = presented_under self.now dimensions.now (roots_of commit.now) (as_single p) in
+            length indices.now ≡ 1 → length rows.now ≡ 1 → IsAcceptedAs single result }
     {
         let rows = RowSets::Vecs(rows);
         let digests = &proof.sibling_hashes;

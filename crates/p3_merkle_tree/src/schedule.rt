@@ -4,6 +4,9 @@
 ghost use Rattle.std.specs.Prelude.{◌≡◌, ◌<◌, ◌≤◌, IfOk, IfSome, IsTrue, MatchResult, None, Some};
 ghost use Rattle.std.specs.Prelude.{length, map, take, vec_len};
 ghost use Rattle.std.specs.Result.{result_err};
+ghost use Rattle.std.specs.Prelude.{◌≡◌, ◌<◌, ◌≤◌, ◌-◌, ◌*◌, IfOk, IsTrue, MatchResult, length, map, take, vec_len};
+ghost use Rattle.std.specs.Prelude.{None, Some};
+ghost use Rattle.std.specs.List.{sum_by};
 ghost use Rattle.p3_support.specs.Batches.{heights_of};
 ghost use Rattle.p3_merkle_core.specs.Gate.{gate_refusal};
 ghost use Rattle.p3_merkle_core.specs.Geometry.{positions_below, schedule_below, shape_of};
@@ -35,16 +38,18 @@ impl<
     const D: usize,
 > Scheme<P, PW, H, C, X, G, N, D> {
     ghost use Rattle.p3_support.specs.Batches.{greatest};
-    ghost use Rattle.p3_merkle_core.specs.Checks.{is_authenticated as authenticates};
+    ghost use Rattle.p3_merkle_core.specs.Checks.{is_authenticated as authenticates, siblings_below};
     ghost use Rattle.p3_merkle_core.specs.Geometry.{arity_schedule as schedule_in, exponent, heights};
     ghost use Rattle.p3_merkle_core.specs.Nodes.{shape};
     ghost use Rattle.p3_merkle_core.specs.Pruning.{IsLeast};
+    ghost use Rattle.p3_merkle_core.specs.Sizes.{IsFew};
     ghost use Rattle.p3_merkle_core.specs.declared.cap.CapRule.TheVariants.{Lowered};
     ghost use Rattle.p3_merkle_prover.specs.Parts.{matrices_of, tree_batch};
     ghost use Rattle.p3_merkle_tree.specs.Schemes.{cap_layer_of, cap_rule_of};
 
     /// The step of each level below the cap, from the leaves up: how many children a node above it has, in the tree
-    /// over matrices of these dimensions.
+    /// over matrices of these dimensions. An opening of one index has one sibling less than the step on each level, so
+    /// at most `N - 1` for each of the steps.
     ///
     /// # Errors
     ///
@@ -66,6 +71,10 @@ impl<
         ensures first { let s = shape_of N dimensions.now in
             IfOk result (λ v. v.items ≡ take (cap_layer_of self.now s) (schedule_in s)) }
         ensures few { IfOk result (λ v. vec_len v ≤ exponent (greatest (heights_of dimensions.now))) }
+        ensures siblings { let s = shape_of N dimensions.now in
+            IfOk result (λ v. siblings_below s (cap_layer_of self.now s) ≡ sum_by (λ step. step - 1) v.items) }
+        ensures few_siblings { let s = shape_of N dimensions.now in
+            IfOk result (λ v. siblings_below s (cap_layer_of self.now s) ≤ (N - 1) * vec_len v) }
     {
         let schedule = schedule_of(dimensions, N);
         check_heights(schedule.dimensions)?;
@@ -126,7 +135,8 @@ impl<
     /// node is covered if it is a queried leaf or above one. If padding counts as unknown, no smaller set of digests of
     /// uncovered nodes is enough to compute the covered nodes of the cap's layer.
     ///
-    /// The indices may be in any order, with repeats.
+    /// The indices may be in any order, with repeats. The digests are at most as many as the siblings in an opening of
+    /// one index, times the number of distinct indices; for one index they are as many as its siblings.
     ///
     /// # Errors
     ///
@@ -145,6 +155,8 @@ impl<
             (λ e. result_err result ≡ Some e) }
         ensures least { let s = shape_of N dimensions.now in
             IfOk result (λ count. IsLeast s indices.now (cap_layer_of self.now s) count) }
+        ensures few { let s = shape_of N dimensions.now in
+            IfOk result (λ count. IsFew s indices.now (cap_layer_of self.now s) count) }
     {
         let schedule = schedule_of(dimensions, N);
         check_heights(schedule.dimensions)?;

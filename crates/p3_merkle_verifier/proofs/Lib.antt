@@ -14,6 +14,7 @@ mod RootFacts
 mod PlaceFacts
 mod QueryFacts
 mod AgreeFacts
+pub mod OnlyFacts
 mod NeighbourFacts
 mod EqualRuns
 mod RefusalFacts

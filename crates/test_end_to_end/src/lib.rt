@@ -3,3 +3,5 @@
 
 #[cfg(test)]
 mod accepted;
+#[cfg(test)]
+mod by_paths;

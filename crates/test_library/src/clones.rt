@@ -2,11 +2,11 @@
 
 use p3_hashes::fold::{FoldCompress, FoldHash};
 use p3_merkle_tree::{
-    ArityAndPositions, BatchOpening, CapRule, Collision, InputPair, MerkleAuthPath, MerkleTree,
-    MerkleTreeError, MerkleTreeHidingMmcs, MerkleTreeMmcs, Place, PrunedBatchOpening,
-    PrunedMerklePaths, PrunedProofError, laws,
+    ArityAndPositions, BatchOpening, CapRule, Collision, Hash, InputPair, MerkleAuthPath,
+    MerkleCap, MerkleTree, MerkleTreeError, MerkleTreeHidingMmcs, MerkleTreeMmcs, Place,
+    PrunedBatchOpening, PrunedMerklePaths, PrunedProofError, laws,
 };
-use p3_support::matrix::{Matrix, RowMajorMatrix};
+use p3_support::matrix::{Dimensions, Matrix, RowMajorMatrix};
 use std::alloc::{AllocError, Global};
 use std::test::Fail;
 use test_support::compared::{
@@ -18,6 +18,9 @@ use test_support::matrices::{numbered, two_rows};
 
 /// A tree of two children over the fold functions.
 type Tree<M> = MerkleTree<u32, u32, M, 2, 1>;
+
+/// A cap of its digests.
+type Cap = MerkleCap<u32, [u32; 1]>;
 
 /// The tree over matrices.
 fn tree_over<M: Matrix<u32> + Drop>(
@@ -269,7 +272,30 @@ fn opening_of(
     Ok(BatchOpening::new(rows, vec![in alloc; [sibling]]?))
 }
 
-/// Whether the laws of errors hold of an equal pair, and not of a different one.
+/// Whether the laws of digests and caps hold of an equal pair, and not of a different one.
+fn laws_tell_caps_apart(alloc: Global) -> Result<bool, AllocError> {
+    let cap: Cap = MerkleCap::new(vec![in alloc; [35], [1026]]?);
+    let other: Cap = MerkleCap::new(vec![in alloc; [35]]?);
+    let digests: [Hash<'_, u32, u32, 1>; 2] = [Hash::from(&[35]), Hash::from(&[36])];
+    Ok(
+        laws::merkle_cap_eq::<u32, u32, 1>(&cap, &cap)
+            && !laws::merkle_cap_eq::<u32, u32, 1>(&cap, &other)
+            && laws::hash_eq::<u32, u32, 1>(&digests[0], &digests[0])
+            && !laws::hash_eq::<u32, u32, 1>(&digests[0], &digests[1]),
+    )
+}
+
+/// The same of the laws of rules and dimensions.
+fn laws_tell_shapes_apart() -> bool {
+    let of = |width, height| Dimensions { width, height };
+    laws::cap_rule_eq(&CapRule::Fixed, &CapRule::Fixed)
+        && !laws::cap_rule_eq(&CapRule::Fixed, &CapRule::Lowered)
+        && laws::dimensions_eq(&of(2, 3), &of(2, 3))
+        && !laws::dimensions_eq(&of(2, 3), &of(2, 4))
+        && !laws::dimensions_eq(&of(2, 3), &of(1, 3))
+}
+
+/// The same of the laws of errors.
 fn laws_tell_errors_apart() -> bool {
     let (error, other) = (MerkleTreeError::EmptyBatch, MerkleTreeError::CapMismatch);
     let slots = [1, 2].map(|slot| PrunedProofError::InconsistentDuplicateOpenings { slot });
@@ -329,6 +355,8 @@ fn law_tells_collisions_apart(alloc: Global) -> Result<bool, AllocError> {
 #[test]
 fn laws_of_equality_tell_values_apart(rt: HostRuntime) -> Result<(), Fail> {
     let alloc = rt.alloc();
+    assert!(rt; laws_tell_caps_apart(alloc)?);
+    assert!(rt; laws_tell_shapes_apart());
     assert!(rt; laws_tell_errors_apart());
     assert!(rt; law_tells_openings_apart(alloc)?);
     assert!(rt; law_tells_proofs_apart(alloc)?);

@@ -33,7 +33,7 @@ fn first_byte<I: Iterator<Item = u8>>(input: I) -> u8
 
 /// The hash whose digest is the first byte of a row, repeated 32 times; 0 where a row has none.
 #[derive(Clone, Copy)]
-struct RepeatHash;
+pub struct RepeatHash;
 
 impl CryptographicHasher<u8, u8, 32> for RepeatHash {
     const LANES: usize = 1;
@@ -76,7 +76,7 @@ fn exclusive_or(left: &[u8; 32], right: &[u8; 32]) -> [u8; 32]
 
 /// The compression of two digests by exclusive or.
 #[derive(Clone, Copy)]
-struct XorNodes;
+pub struct XorNodes;
 
 impl PseudoCompressionFunction<u8, 2, 32> for XorNodes {
     const LANES: usize = 1;

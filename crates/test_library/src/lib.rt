@@ -4,6 +4,8 @@
 #[cfg(test)]
 mod any_scheme;
 #[cfg(test)]
+mod bound;
+#[cfg(test)]
 mod calls;
 #[cfg(test)]
 mod clones;

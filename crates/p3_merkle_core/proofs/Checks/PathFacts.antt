@@ -30,7 +30,7 @@ group_values s v l j = map (λ k. v l (step s l * j + k)) (range_with_len 0 (ste
 abbrev pub piece : {X : Type 0} → Shape → (ℕ → ℕ → X) → ℕ → ℕ → List X
 piece s v i l = remove (group_values s v l (ancestor s (suc l) i)) (position_in_group s l i)
 
-piece_length : {X : Type 0} (s : Shape) → IsArity s.arity → (v : ℕ → ℕ → X) (i l : ℕ) → length (piece s v i l)
+pub piece_length : {X : Type 0} (s : Shape) → IsArity s.arity → (v : ℕ → ℕ → X) (i l : ℕ) → length (piece s v i l)
     ≡ step s l - 1
 piece_length s w v i l = grind (arith, common_steps, length-map-range_with_len, step_above_1, length-remove)
 

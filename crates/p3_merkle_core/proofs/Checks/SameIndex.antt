@@ -64,7 +64,7 @@ siblings_alike {T} f s t o u w a b same l h e =
 
 -- ---- from equal siblings and rows
 
-words_same : {T : Type 0} (s : Shape) (us vs : List (List T)) (l : ℕ) → layer_rows s us l ≡ layer_rows s vs l →
+pub words_same : {T : Type 0} (s : Shape) (us vs : List (List T)) (l : ℕ) → layer_rows s us l ≡ layer_rows s vs l →
     layer_words s us l ≡ layer_words s vs l
 words_same s us vs l e = ap (λ rs. flat_map (λ (h, row). row) rs) e
 
@@ -83,8 +83,8 @@ reached_same f s t o u same sent rows (suc n) h =
     let words = words_same s o.rows u.rows (suc n) (rows (suc n) h) in
     reached_next f s o n ∙ rw (group, words) (sym (reached_next f s u n))
 
-level_same : {T W : Type 0} (f : Functions T W) (s : Shape) (t : ℕ) (o u : Opening T W) → o.index ≡ u.index → o.siblings
-    ≡ u.siblings → ((l : ℕ) → l ≤ t → layer_rows s o.rows l ≡ layer_rows s u.rows l) →
+pub level_same : {T W : Type 0} (f : Functions T W) (s : Shape) (t : ℕ) (o u : Opening T W) → o.index ≡ u.index →
+    o.siblings ≡ u.siblings → ((l : ℕ) → l ≤ t → layer_rows s o.rows l ≡ layer_rows s u.rows l) →
     (l : ℕ) → l < t → inputs_at f s o l ≡ inputs_at f s u l
 level_same f s t o u same sent rows l h = grind (arith, common_steps, words_same, group_same, reached_same)
 
@@ -113,7 +113,7 @@ same_at_one_index f s t cap o u w a b same = (
 )
 
 -- an accepted opening has a row for each matrix
-rows_in_pairs : {T W : Type 0} (f : Functions T W) (s : Shape) (t : ℕ) (cap : List (List W)) (o : Opening T W) →
+pub rows_in_pairs : {T W : Type 0} (f : Functions T W) (s : Shape) (t : ℕ) (cap : List (List W)) (o : Opening T W) →
     IsAccepted (params f s t) cap o → length o.rows ≡ length (heights s)
 rows_in_pairs f s t cap o a = sym (length-map o.rows length) ∙ ap length a.rows_fit ∙ widths_in_pairs s
 
@@ -137,7 +137,7 @@ authenticated_bound f s t cap o u w a b e k inside here same =
     grind (arith, common_steps, leb-true, rows_bound, row_is_anc, rows_in_pairs, row_alike)
 
 -- the matrices of a layer up to the cap are authenticated
-layer_authenticated : (s : Shape) (t l k : ℕ) → l ≤ t → eqb (exponent (get_or (heights s) k 0)) (layer_exponent s l)
+pub layer_authenticated : (s : Shape) (t l k : ℕ) → l ≤ t → eqb (exponent (get_or (heights s) k 0)) (layer_exponent s l)
     ≡ true → IsTrue (is_authenticated s t k)
 layer_authenticated s t l k low here =
     let h = get_or (heights s) k 0 in

@@ -2,9 +2,10 @@
 -- nodes, in order.
 use Rattle.std.proofs.Common.{◌≡◌, ℕ, ◌+◌, ◌<◌, ◌≤◌, true, false, cond, eqb, ◌&&◌, List, [], ◌∷◌, map, refl, ap, sym}
 use Rattle.std.proofs.Common.{◌∙◌, arith, inl, inr, length, filter, take, drop, zip, eq-eqb, suc, ◌-◌, ◌*◌, Bool, not}
-use Rattle.std.proofs.Common.{◌++◌, get_or}
+use Rattle.std.proofs.Common.{◌++◌, ◌/◌, get_or}
 use Rattle.std.proofs.lemmas.Grind.{common_steps}
-use Rattle.std.proofs.lemmas.Bool.{cases_Bool, and_from, or_cases, true≢false, false_from_ne_true}
+use Rattle.std.proofs.lemmas.Bool.{cases_Bool, and_from, and_parts, cond-false, not-true, or_cases, true≢false}
+use Rattle.std.proofs.lemmas.Bool.{false_from_ne_true}
 use Rattle.std.proofs.lemmas.List.{length-map, map-append}
 use Rattle.std.proofs.lemmas.List.Elements.{filter-append, filter_agree}
 use Rattle.std.specs.List.{find, range_with_len, take-map, drop-map, flat_map}
@@ -15,9 +16,10 @@ use Rattle.p3_merkle_core.specs.Inner.Covered.{covered_at}
 use Rattle.p3_merkle_core.specs.Checks.{params}
 use Rattle.p3_merkle_core.specs.Nodes.{Functions}
 use Rattle.p3_merkle_core.specs.Pruning.{PrunedOpening, is_boundary, boundary_at, boundary, is_in, sent_digest}
-use Rattle.p3_merkle_core.specs.Pruning.{CanQuery, is_covered, restored_node, value_of}
+use Rattle.p3_merkle_core.specs.Pruning.{CanQuery, boundary_by, is_covered, restored_node, value_of}
 use Rattle.p3_merkle_core.specs.Geometry.{Shape, layer_len, step, heights, height_limit}
 use Rattle.p3_merkle_core.proofs.Lists.ListFacts.{tally, joined_piece, length-joined_le}
+use Rattle.p3_merkle_core.proofs.Covered.Minimal.{in_boundary}
 use Rattle.p3_merkle_core.proofs.Covered.Sufficient.{same, listed_once}
 use Rattle.p3_merkle_core.proofs.Covered.ChildFacts.{children_length}
 use Rattle.p3_merkle_core.proofs.Lists.RisingFacts.{by_groups, listed_at}
@@ -60,8 +62,8 @@ abbrev pub sent_for : {Y : Type 0} → List (ℕ × ℕ) → List Y → Y → �
 sent_for given ds d (l, j) =
     unwrap_or (option_map (λ (place, digest). digest) (find (λ ((m, k), digest). eqb m l && eqb k j) (zip given ds))) d
 
-same_on : {Y : Type 0} (f g : ℕ × ℕ → Y) (xs : List (ℕ × ℕ)) → ((l j : ℕ) → is_in xs l j ≡ true → f (l, j) ≡ g (l, j)) →
-    map f xs ≡ map g xs
+pub same_on : {Y : Type 0} (f g : ℕ × ℕ → Y) (xs : List (ℕ × ℕ)) →
+    ((l j : ℕ) → is_in xs l j ≡ true → f (l, j) ≡ g (l, j)) → map f xs ≡ map g xs
 same_on f g [] h = refl
 same_on f g ((m, k) ∷ xs) h =
     let own : (eqb m m && eqb k k) ≡ true = and_from (eqb m m) (eqb k k) (eq-eqb m m refl) (eq-eqb k k refl) in
@@ -99,6 +101,19 @@ sent_level f s t p count l h =
     sym (map_pairs look l row) ∙ ap (map look) (sym (joined_piece (boundary_at s p.indices) l t h))
     ∙ sym (take-map look n (drop m all)) ∙ ap (take n) (sym (drop-map look m all))
     ∙ ap (λ ds. take n (drop m ds)) each
+
+-- all digests are the values of the boundary nodes
+pub digests_are : {T W : Type 0} (f : Functions T W) (s : Shape) (t : ℕ) (p : PrunedOpening T W) → length p.digests
+    ≡ length (boundary s p.indices t) → boundary_by (value_of (params f s t) p) s p.indices t ≡ p.digests
+digests_are f s t p count =
+    let all = boundary s p.indices t in
+    same_on (λ (l, j). value_of (params f s t) p l j) (sent_for all p.digests f.default_digest) all
+    (λ l j e.
+    let b = in_boundary s p.indices t l j e in
+    cond-false (is_covered s p.indices l j) (restored_node (params f s t) p l j) (sent_digest (params f s t) p l j)
+    (not-true (is_covered s p.indices l j)
+    (and_parts (is_covered s p.indices (suc l) (j / step s l)) (not (is_covered s p.indices l j)) b.1).1))
+    ∙ all_sent all p.digests f.default_digest (once_from all (listed_once s p.indices t)) count
 
 -- ---- lists
 

@@ -2,7 +2,7 @@
 use Rattle.std.proofs.Common.{◌∙◌, List, refl, subst}
 use Rattle.p3_support.specs.Shown.{roots_of, row_sets}
 use Rattle.p3_support.specs.declared.matrix.Dimensions.{Dimensions}
-use Rattle.p3_merkle_tree.specs.Extraction.{IsExtraction}
+use Rattle.p3_merkle_tree.specs.Extraction.{IsExtraction, IsOnlyOpening}
 use Rattle.p3_merkle_tree.specs.Geometry.{shape_of}
 use Rattle.p3_merkle_tree.specs.Nodes.{shape}
 use Rattle.p3_merkle_tree.specs.Parts.{tree_batch}
@@ -37,7 +37,7 @@ returns-clause-verdict g c =
     memory_left (shows (shape (tree_batch c.in_ok-cap.tree)).dimensions (pruned_owned indices opening)) r
     (subst (λ (z : List Dimensions × PrunedOpening _ _). IsVerdict (shows z.0 z.1) r)
     (λ i. (same i, pruned_of indices (row_sets (sets i)) opening.pruned_proof.sibling_hashes.items))
-    c.verify_batch_pruned-verdict.ensures)
+    c.verify_batch_pruned-verdict.ensures.verdict)
     (returns-clause-opened g c).accepted
 
 pub returns-clause-compared : goal.returns-clause-compared
@@ -60,8 +60,11 @@ returns-clause-compared g c =
     (presented_pruned row_eq digest_eq (at z.0) cap p) (presented_pruned row_eq digest_eq (at z.0) cap z.1)
     (found_pair r))
     (λ i. (same i, pruned_of indices (row_sets (lent i)) c.in_ok-opening.opening.pruned_proof.sibling_hashes.items))
-    c.extract_collision_multi-found.ensures in
+    c.extract_collision_multi-found.ensures.extraction in
+    let one = subst (λ (z : List Dimensions × PrunedOpening _ _). IsOnlyOpening rule (at z.0) p z.1 r)
+    (λ i. (same i, pruned_of indices (row_sets (lent i)) c.in_ok-opening.opening.pruned_proof.sibling_hashes.items))
+    c.extract_collision_multi-found.ensures.only in
     let unrefused = pruned_unrefused row_eq digest_eq k cap g.met.P.PackedValue.eq_is_equality
     g.met.PW.PackedValue.eq_is_equality c.answers.ensures.each_path scheme.arity q accepted in
     compared_pruned row_eq digest_eq rule k cap p q refl c.extraction.ensures.one_index scheme.arity unrefused accepted
-    r is
+    r is one

@@ -4,7 +4,7 @@ use Rattle.p3_support.specs.Shown.{roots_of, row_sets}
 use Rattle.p3_support.specs.declared.matrix.Dimensions.{Dimensions}
 use Rattle.p3_merkle_tree.specs.HidingSchemes.{plain_of, salted_params_of, salted_pruned_borrowed, salted_pruned_owned}
 use Rattle.p3_merkle_tree.specs.Parts.{matrices_of}
-use Rattle.p3_merkle_tree.specs.SaltedExtraction.{IsSaltedPrunedExtraction}
+use Rattle.p3_merkle_tree.specs.SaltedExtraction.{IsOnlySaltedOpening, IsSaltedPrunedExtraction}
 use Rattle.p3_merkle_tree.specs.SaltedOpenings.{SaltedPruned, salted_pruned_of}
 use Rattle.p3_merkle_tree.specs.SaltedTrees.{unsalted_dimensions}
 use Rattle.p3_merkle_tree.specs.Schemes.{cap_rule_of}
@@ -69,8 +69,14 @@ returns-clause-compared g c =
     (λ i. (
       same i,
       salted_pruned_of c.args.indices.now (row_sets (lent i)) (row_sets proof.0.items) proof.1.sibling_hashes.items,
-    )) c.extract_collision_multi-found.ensures in
+    )) c.extract_collision_multi-found.ensures.extraction in
+    let one = subst (λ (z : List Dimensions × SaltedPruned _ _).
+    IsOnlySaltedOpening rule (salted_params_of scheme z.0) p z.1 r)
+    (λ i. (
+      same i,
+      salted_pruned_of c.args.indices.now (row_sets (lent i)) (row_sets proof.0.items) proof.1.sibling_hashes.items,
+    )) c.extract_collision_multi-found.ensures.only in
     let unrefused = salted_pruned_unrefused row_eq digest_eq e ds k cap g.met.P.PackedValue.eq_is_equality
     g.met.PW.PackedValue.eq_is_equality c.answers.ensures.each_path arity q accepted in
     compared_salted_pruned row_eq digest_eq rule e ds k cap p q refl c.extraction.ensures.one_index arity unrefused
-    accepted r is
+    accepted r is one

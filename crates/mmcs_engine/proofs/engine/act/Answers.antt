@@ -134,7 +134,7 @@ returns-in_err-verify_batch_pruned-clause-answer g c =
     let shapes = stored_shape c.deref.result.now c.args.matrices.items c.in_ok-dimensions.dimensions.items
     c.deref-2.result.now g.row.N c.deref-2.ensures.value c.in_ok-dimensions.ensures
     c.deref.ensures.value ∙ ap shape (sym (same_batch g at)) in
-    let told = c.verify_batch_pruned.ensures.accepted_is_ok
+    let told = c.verify_batch_pruned.ensures.verdict.accepted_is_ok
     (accepted_lent params (shape_of g.row.N c.deref-2.result.now) (shape b) (roots_of c.in_ok-roots.roots)
     (cap_over (params (shape b)) b) (pruned_borrowed is c.deref-3.result.now opening.pruned_proof)
     (pruned_owned is opening) shapes committed.own_cap
@@ -164,7 +164,7 @@ returns-clause-text g c =
     rw (check_left c.args.args.now.command.action c.in_default.not-Commit c.in_default-action.not-Open)
     (c.in_ok-format.ensures.ok
     ∙ ap ok_line (c.len-count.ensures ∙ opening.pruned_proof.sibling_hashes.ok.0
-    ∙ (c.in_ok-verify_batch_pruned.ensures.ok_is_accepted refl).restorable.count ∙ ap count_of shapes)
+    ∙ (c.in_ok-verify_batch_pruned.ensures.verdict.ok_is_accepted refl).restorable.count ∙ ap count_of shapes)
     ∙ (λ i. ok_line (pruned_len (shape (batch_given g at)) (c.as_slice-indices.ensures.value i)
     (cap_layer_of c.args.scheme.now (shape (batch_given g at)))))
     ∙ check_printed g.W.Word.value w.some_word w.one_word c.requires.scheme (batch_given g at)

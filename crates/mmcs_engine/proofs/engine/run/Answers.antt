@@ -3,6 +3,7 @@ use Rattle.std.proofs.Common.{arith, string_bytes}
 use Rattle.std.proofs.lemmas.Result.{err_from_is_err_and}
 use Rattle.std.proofs.lemmas.Grind.{common_steps}
 use Rattle.std.specs.Io.KnownBytes.{Appends}
+use Rattle.whole_writes.specs.Prefixes.{AppendsPrefix}
 use Rattle.mmcs_engine.proofs.ReplyFacts.{failed, unwritten, written}
 use Rattle.mmcs_engine.proofs.engine.run.Goals as goal
 
@@ -16,14 +17,16 @@ returns-in_err-text g c =
 
 pub returns-then-is_err : goal.returns-then-is_err
 returns-then-is_err g c =
+    let wrote : AppendsPrefix (g.Dst.Write.contents c.args.output.now) (g.Dst.Write.contents c.write_whole.new.output)
+    (string_bytes c.in_ok-text.text) = grind (arith, common_steps) in
     unwritten g.Src.Read.remaining g.Dst.Write.contents _ c.args.input.now c.answer_to.new.input c.args.output.now
-    c.answer_to.result c.answer_to.ensures.usage c.answer_to.ensures.unread c.then-is_err.output c.in_ok-text.text
-    (string_bytes c.in_ok-text.text) c.in_ok-text.was c.in_ok-text.ensures.text
+    c.answer_to.result c.answer_to.ensures.usage c.answer_to.ensures.unread c.write_whole.new.output c.in_ok-text.text
+    (string_bytes c.in_ok-text.text) c.in_ok-text.was c.in_ok-text.ensures.text wrote
 
 pub returns : goal.returns
 returns g c =
-    let wrote : Appends (g.Dst.Write.contents c.args.output.now) (g.Dst.Write.contents c.flush.new.self)
+    let wrote : Appends (g.Dst.Write.contents c.args.output.now) (g.Dst.Write.contents c.write_whole.new.output)
     (string_bytes c.in_ok-text.text) = grind (arith, common_steps) in
     written g.Src.Read.remaining g.Dst.Write.contents _ c.args.input.now c.answer_to.new.input c.args.output.now
-    c.answer_to.result c.answer_to.ensures.usage c.answer_to.ensures.unread c.flush.new.self c.in_ok-text.text
+    c.answer_to.result c.answer_to.ensures.usage c.answer_to.ensures.unread c.write_whole.new.output c.in_ok-text.text
     (string_bytes c.in_ok-text.text) c.in_ok-text.was c.in_ok-text.ensures.text wrote

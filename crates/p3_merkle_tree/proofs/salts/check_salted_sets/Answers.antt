@@ -1,5 +1,5 @@
 -- Each turn's pair passes or is refused, and where either slice is at its end, no set is refused.
-use Rattle.std.proofs.Common.{None, Option, Some, sym, ap, ◌∙◌, ◌≡◌, inr, rules, subst}
+use Rattle.std.proofs.Common.{None, Option, Some, sym, ap, ◌≡◌, subst}
 use Rattle.std.proofs.lemmas.List.{length-map}
 use Rattle.std.proofs.lemmas.Result.{err_from_is_err_and}
 use Rattle.std.proofs.lemmas.Slice.Zip.{Zip-more, either_empty_from_Zip}
@@ -8,7 +8,6 @@ use Rattle.std.specs.Option.{option_or}
 use Rattle.p3_merkle_core.specs.declared.error.MerkleTreeError.{MerkleTreeError}
 use Rattle.std.specs.Iterator.Adapters.{zip_first, zip_second}
 use Rattle.std.specs.Slice.Iter.{iter_rest}
-use Rattle.p3_merkle_core.specs.Refusals.{AnswersUnlessMemory}
 use Rattle.p3_support.specs.Shown.{row_lists, row_sets}
 use Rattle.p3_merkle_tree.proofs.SaltFacts.{no_set_refused, set_passes, set_refused, sets_decide}
 use Rattle.p3_merkle_tree.specs.SaltRefusals.{row_and_salt_form_refusal, widening_refusal}

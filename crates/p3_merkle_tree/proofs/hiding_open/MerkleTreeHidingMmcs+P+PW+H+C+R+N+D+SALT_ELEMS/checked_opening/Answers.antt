@@ -1,5 +1,5 @@
 -- Rows and salts by themselves, then the checker's answer to rows followed by their salts.
-use Rattle.std.proofs.Common.{◌≡◌, ◌∙◌, ap, rules, sym, None}
+use Rattle.std.proofs.Common.{◌∙◌, ap, sym}
 use Rattle.std.proofs.lemmas.Result.{err_from_is_err_and}
 use Rattle.p3_support.specs.Shown.{row_lists}
 use Rattle.p3_merkle_core.specs.Openings.{opening_of}

@@ -8,13 +8,14 @@ use Rattle.p3_merkle_core.specs.Views.{inputs_in, found_pair}
 use Rattle.p3_merkle_core.specs.declared.collision.InputPair.{InputPair}
 use Rattle.p3_merkle_tree.specs.HidingSchemes.{salted_pruned_borrowed}
 use Rattle.p3_merkle_tree.specs.SaltRefusals.{salted_sets_refusal}
-use Rattle.p3_merkle_tree.proofs.ExtractedFacts.{answer_of, both_joined, first_refused, second_refused, several}
+use Rattle.p3_merkle_tree.proofs.ExtractedFacts.{answer_of, both_joined, first_refused, only_of, second_refused}
+use Rattle.p3_merkle_tree.proofs.ExtractedFacts.{several}
 use Rattle.p3_merkle_tree.proofs.SaltedExtractionFacts.{salted_pruned_told}
 use Rattle.p3_merkle_verifier.specs.Inner.RestoredLevels.{pruned_in}
 use Rattle.p3_merkle_tree.proofs.hiding_open.MerkleTreeHidingMmcs+P+PW+H+C+R+N+D+SALT_ELEMS.extract_collision_multi.Goals as goal
 
-pub returns-in_err-check_salted_sets : goal.returns-in_err-check_salted_sets
-returns-in_err-check_salted_sets g c =
+pub returns-in_err-check_salted_sets-clause-extraction : goal.returns-in_err-check_salted_sets-clause-extraction
+returns-in_err-check_salted_sets-clause-extraction g c =
     let ds = c.args.dimensions.now in
     let at = several c.args.self.now ds (roots_of c.args.commit.now) g.met.P.PackedValue.eq_is_equality
     g.met.PW.PackedValue.eq_is_equality in
@@ -29,8 +30,8 @@ returns-in_err-check_salted_sets g c =
     (inr (sym (λ i. salted_sets_refusal g.row.SALT_ELEMS ds o.rows (salts i))
     ∙ rw left.2 c.in_err-check_salted_sets.ensures.answer))))
 
-pub returns-in_err-wider : goal.returns-in_err-wider
-returns-in_err-wider g c =
+pub returns-in_err-wider-clause-extraction : goal.returns-in_err-wider-clause-extraction
+returns-in_err-wider-clause-extraction g c =
     let ds = c.args.dimensions.now in
     let at = several c.args.self.now ds (roots_of c.args.commit.now) g.met.P.PackedValue.eq_is_equality
     g.met.PW.PackedValue.eq_is_equality in
@@ -42,8 +43,8 @@ returns-in_err-wider g c =
     (λ (z : ℕ × ℕ × InputPair _ (List _)). (z.0, z.1, inputs_in z.2)) r c.from_residual-in_err-wider.ensures.0
     (answer_of r left.0 (at.before o) left.1 (inl left.2)))
 
-pub returns-in-Err : goal.returns-in-Err
-returns-in-Err g c =
+pub returns-in-Err-clause-extraction : goal.returns-in-Err-clause-extraction
+returns-in-Err-clause-extraction g c =
     let ds = c.args.dimensions.now in
     let at = several c.args.self.now ds (roots_of c.args.commit.now) g.met.P.PackedValue.eq_is_equality
     g.met.PW.PackedValue.eq_is_equality in
@@ -63,8 +64,8 @@ returns-in-Err g c =
     (inr (sym (λ i. salted_sets_refusal g.row.SALT_ELEMS ds u.rows (salts2 i)) ∙ c.in-Err.ensures.answer))
     (c.unwrap_or.ensures ∙ ap (λ z. unwrap_or z c.in-Err.error) c.err.ensures.value))
 
-pub returns : goal.returns
-returns g c =
+pub returns-clause-extraction : goal.returns-clause-extraction
+returns-clause-extraction g c =
     let ds = c.args.dimensions.now in
     let at = several c.args.self.now ds (roots_of c.args.commit.now) g.met.P.PackedValue.eq_is_equality
     g.met.PW.PackedValue.eq_is_equality in
@@ -87,3 +88,31 @@ returns g c =
       is_wide = wide;
       is = c.opening_with_salts-second.ensures;
     }) (found_pair r) (rw c.roots-roots.ensures at c.pruned_extraction.ensures))
+
+pub returns-in_err-check_salted_sets-clause-only : goal.returns-in_err-check_salted_sets-clause-only
+returns-in_err-check_salted_sets-clause-only g c =
+    only_of c.args.self.now c.args.dimensions.now (roots_of c.args.commit.now)
+    (salted_pruned_borrowed c.args.indices1.now c.args.rows1.now c.args.proof1.now)
+    (salted_pruned_borrowed c.args.indices2.now c.args.rows2.now c.args.proof2.now) c.from_residual.result
+    (returns-in_err-check_salted_sets-clause-extraction g c)
+
+pub returns-in_err-wider-clause-only : goal.returns-in_err-wider-clause-only
+returns-in_err-wider-clause-only g c =
+    only_of c.args.self.now c.args.dimensions.now (roots_of c.args.commit.now)
+    (salted_pruned_borrowed c.args.indices1.now c.args.rows1.now c.args.proof1.now)
+    (salted_pruned_borrowed c.args.indices2.now c.args.rows2.now c.args.proof2.now) c.from_residual-in_err-wider.result
+    (returns-in_err-wider-clause-extraction g c)
+
+pub returns-in-Err-clause-only : goal.returns-in-Err-clause-only
+returns-in-Err-clause-only g c =
+    only_of c.args.self.now c.args.dimensions.now (roots_of c.args.commit.now)
+    (salted_pruned_borrowed c.args.indices1.now c.args.rows1.now c.args.proof1.now)
+    (salted_pruned_borrowed c.args.indices2.now c.args.rows2.now c.args.proof2.now) (Err c.unwrap_or.result)
+    (returns-in-Err-clause-extraction g c)
+
+pub returns-clause-only : goal.returns-clause-only
+returns-clause-only g c =
+    only_of c.args.self.now c.args.dimensions.now (roots_of c.args.commit.now)
+    (salted_pruned_borrowed c.args.indices1.now c.args.rows1.now c.args.proof1.now)
+    (salted_pruned_borrowed c.args.indices2.now c.args.rows2.now c.args.proof2.now) c.pruned_extraction.result
+    (returns-clause-extraction g c)

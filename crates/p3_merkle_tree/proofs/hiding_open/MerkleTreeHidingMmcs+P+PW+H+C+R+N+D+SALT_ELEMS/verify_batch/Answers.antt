@@ -1,5 +1,5 @@
 -- The answer to rows and salts, and what it says of the opening.
-use Rattle.std.proofs.Common.{◌∙◌, ap, refl, sym}
+use Rattle.std.proofs.Common.{◌∙◌, ap, sym}
 use Rattle.std.proofs.lemmas.Result.{err_from_is_err_and}
 use Rattle.std.specs.Prelude.{Err}
 use Rattle.p3_answers.specs.Answers.{ok_unless}

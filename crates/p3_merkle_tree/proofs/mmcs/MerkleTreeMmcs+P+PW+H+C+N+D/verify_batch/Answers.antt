@@ -1,6 +1,6 @@
 -- The answer is that of the rows and the siblings.
 use Rattle.std.proofs.Common.{◌∙◌, ap, subst}
-use Rattle.p3_support.specs.Shown.{roots_of, row_lists}
+use Rattle.p3_support.specs.Shown.{row_lists}
 use Rattle.p3_support.proofs.RowFacts.{whole_in_parts}
 use Rattle.p3_merkle_core.specs.Openings.{opening_of}
 use Rattle.p3_merkle_core.specs.Presented.{IsExactVerdict}

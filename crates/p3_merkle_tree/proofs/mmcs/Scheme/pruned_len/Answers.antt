@@ -4,6 +4,7 @@ use Rattle.std.proofs.lemmas.Result.{IfOk-from_err, err_from_is_err_and}
 use Rattle.p3_support.specs.Batches.{heights_of}
 use Rattle.p3_merkle_core.specs.Geometry.{shape_of, IsArity}
 use Rattle.p3_merkle_core.specs.Pruning.{pruned_len}
+use Rattle.p3_merkle_core.proofs.Covered.SizeFacts.{few}
 use Rattle.p3_merkle_core.proofs.Covered.Sufficient.{count_least}
 use Rattle.p3_merkle_core.proofs.Shapes.GateFacts.{none_large_from_lawful, tallest_fits}
 use Rattle.p3_merkle_tree.specs.Schemes.{cap_layer_of}
@@ -19,6 +20,17 @@ returns-in_err-check_indices-clause-least g c =
 
 pub returns-in_err-leaves-clause-least : goal.returns-in_err-leaves-clause-least
 returns-in_err-leaves-clause-least g c =
+    IfOk-from_err c.from_residual-in_err-leaves.result _ c.from_residual-in_err-leaves.ensures.0
+
+pub returns-in_err-check_heights-clause-few : goal.returns-in_err-check_heights-clause-few
+returns-in_err-check_heights-clause-few g c = IfOk-from_err c.from_residual.result _ c.from_residual.ensures.0
+
+pub returns-in_err-check_indices-clause-few : goal.returns-in_err-check_indices-clause-few
+returns-in_err-check_indices-clause-few g c =
+    IfOk-from_err c.from_residual-in_err-check_indices.result _ c.from_residual-in_err-check_indices.ensures.0
+
+pub returns-in_err-leaves-clause-few : goal.returns-in_err-leaves-clause-few
+returns-in_err-leaves-clause-few g c =
     IfOk-from_err c.from_residual-in_err-leaves.result _ c.from_residual-in_err-leaves.ensures.0
 
 pub returns-in_err-leaves-clause-answer : goal.returns-in_err-leaves-clause-answer
@@ -54,3 +66,16 @@ returns-clause-least g c =
     ∙ (λ i. pruned_len (shape_of (own.schedule i).arity (own.schedule i).dimensions.now) (own.indices i)
     c.cap_layer-cap_layer.result)
     ∙ (λ i. pruned_len (schedule.tree i) c.args.indices.now (schedule.at_cap i)))
+
+pub returns-clause-few : goal.returns-clause-few
+returns-clause-few g c =
+    let scheme = c.args.self.now in
+    let made = c.schedule_of-schedule in
+    let s = shape_of g.row.N c.args.dimensions.now in
+    let below = rw made.result.walked.tallest at c.in_ok-check_indices.ensures.below in
+    few s c.args.indices.now (cap_layer_of scheme s)
+    (record {
+      well_shaped = scheme.arity;
+      below = rw made.ensures.dimensions at below;
+      in_tree = omega arith;
+    }) c.boundary_len.result (returns-clause-least g c).counted

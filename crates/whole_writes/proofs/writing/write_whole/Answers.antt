@@ -1,8 +1,8 @@
 -- The output has what it had and the bytes before the rest, so at the end the whole text.
 use Rattle.std.proofs.Common.{List, ap, subst, sym, ℕ}
-use Rattle.fohlazu_commands.proofs.RunFacts.{Wrote, step_err, step_ok, wrote_same}
-use Rattle.fohlazu_commands.proofs.command.write_text.Goals.{in-Ok, in-Err}
-use Rattle.fohlazu_commands.proofs.command.write_text.Goals as goal
+use Rattle.whole_writes.proofs.WriteFacts.{Wrote, step_err, step_ok, wrote_same}
+use Rattle.whole_writes.proofs.writing.write_whole.Goals.{in-Ok, in-Err}
+use Rattle.whole_writes.proofs.writing.write_whole.Goals as goal
 
 pub loop-turn-preserved : goal.loop-turn-preserved
 loop-turn-preserved g c =

@@ -1,0 +1,2 @@
+-- Definitions that only proofs, and calls that no public contract mentions, use.
+pub mod QueryVerdicts
