@@ -1,5 +1,6 @@
 -- The lemmas of this crate.
 mod SaltedAnswers
+mod SaltedAlone
 mod SplitFacts
 mod CommitFacts
 mod ExtractedFacts

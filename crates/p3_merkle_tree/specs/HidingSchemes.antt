@@ -83,12 +83,17 @@ module _ {P PW H C R X G V W : Type 0} {N D E : ℕ} {p : packed.Ghosts P V} {pd
   abbrev pub salted_params_of : HidingScheme P PW H C R X G N D E V W p pd pe q qd qe h c → List Dimensions → Params V W
   salted_params_of scheme dimensions = params_of scheme.plain (shape_of N (widened E dimensions))
 
-  -- an opening of an index with its salts, under a cap over matrices of these dimensions without salts
+  -- an opening of an index with its salts, under the roots of a cap over matrices of these dimensions without salts
+  abbrev pub presented_under : HidingScheme P PW H C R X G N D E V W p pd pe q qd qe h c → List Dimensions →
+      List (List W) → SaltedOpening V W → Presented V W
+  presented_under scheme dimensions roots opening =
+      presented_salted qe.eq E dimensions (salted_params_of scheme dimensions) roots opening
+
+  -- a borrowed opening of an index, under such a cap
   abbrev pub presented_one : {A B F : Type 0} → HidingScheme P PW H C R X G N D E V W p pd pe q qd qe h c →
       List Dimensions → MerkleCap V (List W) → ℕ → BatchOpeningRef V (Vec (Vec V A) B × Vec (List W) F) → Presented V W
   presented_one scheme dimensions cap index opening =
-      presented_salted qe.eq E dimensions (salted_params_of scheme dimensions) (roots_of cap)
-      (salted_borrowed index opening)
+      presented_under scheme dimensions (roots_of cap) (salted_borrowed index opening)
 
   -- an opening of some indices, by row sets and a proof with their salts, under such a cap
   abbrev pub presented_all : {A B F S U : Type 0} → HidingScheme P PW H C R X G N D E V W p pd pe q qd qe h c →

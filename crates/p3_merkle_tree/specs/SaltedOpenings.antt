@@ -1,5 +1,5 @@
 -- Rows followed by their salts, and when openings of such rows are accepted.
-use Rattle.std.specs.Prelude.{◌≡◌, ℕ, List, ◌++◌, map, length, zip}
+use Rattle.std.specs.Prelude.{◌≡◌, ℕ, List, [], ◌++◌, map, length, slice_index, slice_index_or, zip}
 use Rattle.std.specs.List.{AllZip}
 use Rattle.p3_support.specs.Batches.{CanWiden}
 use Rattle.p3_support.specs.declared.matrix.Dimensions.{Dimensions}
@@ -53,6 +53,11 @@ salted_pruned_of indices rows salts digests =
 -- the plain pruned opening that a check sees
 abbrev pub joined_sets : {T W : Type 0} → SaltedPruned T W → PrunedOpening T W
 joined_sets p = pruned_of p.indices (salted_sets p.rows p.salts) p.digests
+
+-- the first query with the digests of the proof as its siblings: an opening of one index, where there is one query
+abbrev pub salted_as_single : {T W : Type 0} → SaltedPruned T W → SaltedOpening T W
+salted_as_single p =
+    salted_of (slice_index p.indices 0) (slice_index_or p.rows 0 []) (slice_index_or p.salts 0 []) p.digests
 
 -- ---- accepted
 

@@ -6,7 +6,7 @@
 ghost use Rattle.std.specs.Prelude.{◌≡◌, ◌<◌, All, IfOk, MatchResult, None, Some, length, map};
 ghost use Rattle.p3_merkle_core.specs.Geometry.{heights, shape_of};
 ghost use Rattle.p3_merkle_core.specs.Nodes.{shape};
-ghost use Rattle.p3_merkle_core.specs.Presented.{IsExactVerdict, IsVerdict};
+ghost use Rattle.p3_merkle_core.specs.Presented.{IsAcceptedAs, IsExactVerdict, IsVerdict};
 ghost use Rattle.p3_merkle_core.specs.Pruning.{restored_paths};
 ghost use Rattle.p3_merkle_core.specs.Refusals.{AnswersUnlessMemory};
 ghost use Rattle.p3_merkle_core.specs.Views.{shown_paths};
@@ -19,16 +19,15 @@ ghost use Rattle.p3_merkle_verifier.specs.Inner.Paths.{CanReach};
 ghost use Rattle.p3_merkle_verifier.specs.Inner.RestoredLevels.{pruned_in};
 ghost use Rattle.p3_merkle_tree.specs.Schemes.{cap_layer_of, cap_rule_of};
 ghost use Rattle.p3_merkle_tree.specs.HidingSchemes.{plain_of, presented_all, presented_one, presented_to_restore};
-ghost use Rattle.p3_merkle_tree.specs.HidingSchemes.{salted_borrowed, salted_owned, salted_params_of};
+ghost use Rattle.p3_merkle_tree.specs.HidingSchemes.{presented_under, salted_borrowed, salted_owned, salted_params_of};
 ghost use Rattle.p3_merkle_tree.specs.HidingSchemes.{salted_pruned_borrowed, salted_pruned_owned};
 ghost use Rattle.p3_merkle_tree.specs.Inner.SaltedParts.{left_widths, salt_parts, unsalted_parts};
 ghost use Rattle.p3_merkle_tree.specs.SaltRefusals.{salted_refusal_under};
-ghost use Rattle.p3_merkle_tree.specs.SaltedOpenings.{joined, joined_sets};
+ghost use Rattle.p3_merkle_tree.specs.SaltedOpenings.{joined, joined_sets, salted_as_single};
 ghost use Rattle.p3_merkle_tree.specs.SaltedOpened.{OpensSalted, OpensSaltedPruned};
 ghost use Rattle.p3_merkle_tree.specs.SaltedExtraction.{IsOnlySaltedOpening, IsSaltedExtraction};
 ghost use Rattle.p3_merkle_tree.specs.SaltedExtraction.{IsSaltedPrunedExtraction};
 ghost use Rattle.p3_merkle_tree.specs.SaltedBinding.{BindsSalted};
-ghost use Rattle.p3_merkle_tree.specs.SaltedExtraction.{IsSaltedExtraction, IsSaltedPrunedExtraction};
 
 use crate::hiding_mmcs::{MerkleTreeHidingMmcs, SaltedMultiProof, SaltedProof, SaltedTree};
 use crate::salts::{check_salted_rows, check_salted_sets, widened_dimensions};
@@ -158,6 +157,8 @@ impl<
     >
         requires { All (λ index. index < greatest (heights (shape (tree_batch tree.now)))) indices.now }
         ensures opened { IfOk result (λ o. OpensSaltedPruned self.now tree.now (salted_pruned_owned indices.now o)) }
+        ensures single { let owned = salted_pruned_owned indices.now in length indices.now ≡ 1 →
+            IfOk result (λ o. OpensSalted self.now tree.now (salted_as_single (owned o))) }
         ensures memory { AnswersUnlessMemory result None }
     {
         let opening = self.plain.open_batch_pruned(alloc, indices, tree)?;
@@ -288,7 +289,10 @@ impl<
         rows: &[Vec<Vec<P::Value>>],
         proof: &SaltedMultiProof<P::Value, PW::Value, D>,
     ) -> Result<(), MerkleTreeError>
-        ensures { IsVerdict (presented_all self.now dimensions.now commit.now indices.now rows.now proof.now) result }
+        ensures verdict { IsVerdict (presented_all self.now dimensions.now commit.now indices.now rows.now proof.now) result }
+        ensures single { let p = salted_pruned_borrowed indices.now rows.now proof.now in
+            let single = presented_under self.now dimensions.now (roots_of commit.now) (salted_as_single p) in
+            length indices.now ≡ 1 → length rows.now ≡ 1 → length proof.now.0.items ≡ 1 → IsAcceptedAs single result }
     {
         let (salts, pruned) = proof;
         check_salted_sets(dimensions, SALT_ELEMS, rows, salts)?;

@@ -88,6 +88,8 @@ impl<
     ) -> Result<(Vec<Vec<Vec<P::Value>>>, PrunedMerklePaths<PW::Value, D>), MerkleTreeError>
         requires { All (λ index. index < greatest (heights (shape (tree_batch tree.now)))) indices.now }
         ensures opened { IfOk result (λ o. OpensPruned self.now tree.now (pruned_of_pair indices.now o)) }
+        ensures single { length indices.now ≡ 1 →
+            IfOk result (λ o. Opens self.now tree.now (as_single (pruned_of_pair indices.now o))) }
         ensures memory { AnswersUnlessMemory result None }
     {
         let PrunedRows {
@@ -181,7 +183,10 @@ impl<
         rows: &[Vec<Vec<P::Value>>],
         proof: &PrunedMerklePaths<PW::Value, D>,
     ) -> Result<(), MerkleTreeError>
-        ensures { IsVerdict (presented_all self.now dimensions.now commit.now indices.now rows.now proof.now) result }
+        ensures verdict { IsVerdict (presented_all self.now dimensions.now commit.now indices.now rows.now proof.now) result }
+        ensures single { let p = pruned_borrowed indices.now rows.now proof.now in
+            let single = presented_under self.now dimensions.now (roots_of commit.now) (as_single p) in
+            length indices.now ≡ 1 → length rows.now ≡ 1 → IsAcceptedAs single result }
     {
         self.verify_batch_pruned(alloc, commit, dimensions, indices, rows, proof)
     }

@@ -1,12 +1,10 @@
 //! What dimensions alone say: the steps and positions on paths, level by level, the size of pruned proofs, and which
 //! matrices a cap authenticates; and the matrices of a tree. A level's step is how many children a node above it has.
 
-ghost use Rattle.std.specs.Prelude.{◌≡◌, ◌<◌, ◌≤◌, IfOk, IfSome, IsTrue, MatchResult, None, Some};
+ghost use Rattle.std.specs.Prelude.{◌≡◌, ◌<◌, ◌≤◌, ◌-◌, ◌*◌, IfOk, IfSome, IsTrue, MatchResult, None, Some};
 ghost use Rattle.std.specs.Prelude.{length, map, take, vec_len};
-ghost use Rattle.std.specs.Result.{result_err};
-ghost use Rattle.std.specs.Prelude.{◌≡◌, ◌<◌, ◌≤◌, ◌-◌, ◌*◌, IfOk, IsTrue, MatchResult, length, map, take, vec_len};
-ghost use Rattle.std.specs.Prelude.{None, Some};
 ghost use Rattle.std.specs.List.{sum_by};
+ghost use Rattle.std.specs.Result.{result_err};
 ghost use Rattle.p3_support.specs.Batches.{heights_of};
 ghost use Rattle.p3_merkle_core.specs.Gate.{gate_refusal};
 ghost use Rattle.p3_merkle_core.specs.Geometry.{positions_below, schedule_below, shape_of};
