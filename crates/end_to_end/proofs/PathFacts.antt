@@ -1,10 +1,11 @@
 -- A pruned opening is accepted exactly if it restores and each query is accepted with its restored path.
-use Rattle.std.proofs.Common.{◌≡◌, ◌∙◌, ℕ, zero, suc, ◌<◌, List, [], ◌∷◌, ◌++◌, None, Some, Option, ap, append-nil, append_assoc}
-use Rattle.std.proofs.Common.{arith, inl, inr, length, map, refl, subst, sym, zip, get_or}
+use Rattle.std.proofs.Common.{◌≡◌, ◌∙◌, ℕ, zero, suc, ◌<◌, List, [], ◌∷◌, ◌++◌, None, Some, Option, ap, append-nil}
+use Rattle.std.proofs.Common.{append_assoc, arith, inl, inr, length, map, refl, subst, sym, zip, get_or}
 use Rattle.std.proofs.lemmas.List.{get_or-map, get_or_default, length-map}
 use Rattle.std.proofs.lemmas.List.Elements.{AllZip-get_or}
 use Rattle.std.specs.List.{AllZip}
-use Rattle.std.specs.Prelude.{◌↔◌, ◌≢◌, ◌⊎◌, All, Bool, Err, IfErr, IfOk, IsErr, IsOk, Ok, Result, slice_index, slice_index_or}
+use Rattle.std.specs.Prelude.{◌↔◌, ◌≢◌, ◌⊎◌, All, Bool, Err, IfErr, IfOk, IsErr, IsOk, Ok, Result, slice_index}
+use Rattle.std.specs.Prelude.{slice_index_or}
 use Rattle.std.specs.declared.vec.Vec.{Vec}
 use Rattle.p3_answers.specs.Answers.{ok_unless}
 use Rattle.p3_support.specs.declared.matrix.Dimensions.{Dimensions}
@@ -44,7 +45,10 @@ ok_is_accepted p (Err e) is other = (
 exact : {T W : Type 0} (p : Presented T W) (r : Result (Unit {0}) MerkleTreeError) → IsVerdict p r →
     IfErr r (λ e. e ≢ OutOfMemory) → IsExactVerdict p r
 exact p (Ok v) is other =
-    record { answer = ap (λ refusal. ok_unless refusal (tt {0})) (sym is.answer); accepted = ok_is_accepted p (Ok v) is other }
+    record {
+      answer = ap (λ refusal. ok_unless refusal (tt {0})) (sym is.answer);
+      accepted = ok_is_accepted p (Ok v) is other;
+    }
 exact p (Err e) is other =
     record {
       answer = elim is.answer [

@@ -1,6 +1,7 @@
 -- What a pruned opening comes to as a whole, and by its restored paths: it is accepted exactly if it restores and each
 -- query is accepted with its restored path.
-use Rattle.std.specs.Prelude.{◌≡◌, ◌↔◌, ◌<◌, ℕ, All, Bool, IfOk, IsErr, IsOk, List, [], Ok, Result, length, slice_index_or}
+use Rattle.std.specs.Prelude.{◌≡◌, ◌↔◌, ◌<◌, ℕ, All, Bool, IfOk, IsErr, IsOk, List, [], Ok, Result, length}
+use Rattle.std.specs.Prelude.{slice_index_or}
 use Rattle.std.specs.Result.{result_map_both}
 use Rattle.std.specs.declared.vec.Vec.{Vec}
 use Rattle.p3_answers.specs.Answers.{ok_unless}

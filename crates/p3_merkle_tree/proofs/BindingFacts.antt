@@ -1,6 +1,7 @@
 -- Each row of a matrix belongs to some leaf, so openings of all leaves tell all rows.
 use Rattle.std.proofs.Common.{◌≡◌, ◌∙◌, ℕ, zero, suc, ◌+◌, ◌-◌, ◌*◌, ◌/◌, ◌^◌, ◌<◌, List, [], ◌∷◌, ap, arith, get_or}
-use Rattle.std.proofs.Common.{Bool, None, Option, Result, Some, add-zero, inl, inr, length, lit<, map, refl, subst, sym, ◌≤◌}
+use Rattle.std.proofs.Common.{Bool, None, Option, Result, Some, add-zero, inl, inr, length, lit<, map, refl, subst}
+use Rattle.std.proofs.Common.{sym, ◌≤◌}
 use Rattle.std.proofs.Math.Nat.{mul_comm, mul-le-mul_left}
 use Rattle.std.proofs.lemmas.Nat.{div-add-mod', div-mul-add, pow_pos}
 use Rattle.std.specs.Prelude.{Err, Ok, slice_index, slice_index_or}

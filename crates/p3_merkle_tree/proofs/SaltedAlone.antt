@@ -30,7 +30,8 @@ module _ {T W : Type 0} (f : Functions T W) (s : Shape) (t : ℕ) (cap : List (L
   alone indices (rows ∷ []) [] digests one many too = absurd (omega arith)
   alone indices (rows ∷ []) (salt ∷ others ∷ salts) digests one many too = absurd (omega arith)
   alone indices (rows ∷ []) (salt ∷ []) digests one many too =
-      let plain = accepted_alone f s t cap w in_tree (pruned_of indices (salted_rows rows salt ∷ []) digests) one refl in (
+      let p = pruned_of indices (salted_rows rows salt ∷ []) digests in
+      let plain = accepted_alone f s t cap w in_tree p one refl in (
         λ a. record { salted = a.salted.0; can_widen = a.can_widen; accepted = plain.0 a.accepted },
         λ a. record {
           in_pairs = refl;

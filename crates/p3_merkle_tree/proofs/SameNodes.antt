@@ -10,7 +10,8 @@ use Rattle.p3_support.specs.Batches.{greatest, heights_of}
 use Rattle.p3_support.specs.declared.matrix.Dimensions.{Dimensions}
 use Rattle.p3_merkle_core.specs.Checks.{params}
 use Rattle.p3_merkle_core.specs.Geometry.{IsArity, IsLawful, Shape, ancestor, bits_reduced, exponent, halved_index}
-use Rattle.p3_merkle_core.specs.Geometry.{has_rows, heights, layer_exponent, layer_of, levels, position_in_group, raw_len}
+use Rattle.p3_merkle_core.specs.Geometry.{has_rows, heights, layer_exponent, layer_of, levels, position_in_group}
+use Rattle.p3_merkle_core.specs.Geometry.{raw_len}
 use Rattle.p3_merkle_core.specs.Geometry.{step}
 use Rattle.p3_merkle_core.specs.Nodes.{Batch, Functions, Matrix, at_layer, compress_padded, dimensions_of, joined_rows}
 use Rattle.p3_merkle_core.specs.Nodes.{layers, node, row_digest, shape, with_rows}
@@ -194,7 +195,8 @@ module _ {T W : Type 0} (f : Functions T W) (a b : Batch T) (t : ℕ) (one_shape
             let high : j < slice_index (heights s) k =
             row_below s (slice_index (heights s) k) i (lawful.on_ladder k 0 inside) below in
             opened_at a k i ∙ same k inside there j high
-            ∙ ap (λ (s : Shape). row_at b k (halved_index (greatest (heights s)) (slice_index (heights s) k) i)) one_shape
+            ∙ ap (λ (s : Shape). row_at b k (halved_index (greatest (heights s)) (slice_index (heights s) k) i))
+            one_shape
             ∙ sym (opened_at b k i);
       }
 

@@ -1,5 +1,5 @@
-//! What a cap binds: two trees with one cap have the same rows in each authenticated matrix, or a collision is extracted
-//! from their openings. A matrix is authenticated if the cap's digests are computed from its rows.
+//! What a cap binds: two trees with one cap have the same rows in each authenticated matrix, or a collision is
+//! extracted from their openings. A matrix is authenticated if the cap's digests are computed from its rows.
 
 ghost use Rattle.std.specs.Prelude.{◌≡◌, ◌<◌};
 ghost use Rattle.p3_merkle_core.specs.Geometry.{heights};

@@ -289,7 +289,8 @@ impl<
         rows: &[Vec<Vec<P::Value>>],
         proof: &SaltedMultiProof<P::Value, PW::Value, D>,
     ) -> Result<(), MerkleTreeError>
-        ensures verdict { IsVerdict (presented_all self.now dimensions.now commit.now indices.now rows.now proof.now) result }
+        ensures verdict { let presented = presented_all self.now dimensions.now commit.now in
+            IsVerdict (presented indices.now rows.now proof.now) result }
         ensures single { let p = salted_pruned_borrowed indices.now rows.now proof.now in
             let single = presented_under self.now dimensions.now (roots_of commit.now) (salted_as_single p) in
             length indices.now ≡ 1 → length rows.now ≡ 1 → length proof.now.0.items ≡ 1 → IsAcceptedAs single result }

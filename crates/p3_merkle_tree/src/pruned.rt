@@ -135,7 +135,8 @@ impl<
         rows: &[Vec<Vec<P::Value>>],
         proof: &PrunedMerklePaths<PW::Value, D>,
     ) -> Result<(), MerkleTreeError>
-        ensures verdict { IsVerdict (presented_all self.now dimensions.now commit.now indices.now rows.now proof.now) result }
+        ensures verdict { let presented = presented_all self.now dimensions.now commit.now in
+            IsVerdict (presented indices.now rows.now proof.now) result }
         ensures single { let p = pruned_borrowed indices.now rows.now proof.now in
             let single = presented_under self.now dimensions.now (roots_of commit.now) (as_single p) in
             length indices.now ≡ 1 → length rows.now ≡ 1 → IsAcceptedAs single result }
@@ -183,7 +184,8 @@ impl<
         rows: &[Vec<Vec<P::Value>>],
         proof: &PrunedMerklePaths<PW::Value, D>,
     ) -> Result<(), MerkleTreeError>
-        ensures verdict { IsVerdict (presented_all self.now dimensions.now commit.now indices.now rows.now proof.now) result }
+        ensures verdict { let presented = presented_all self.now dimensions.now commit.now in
+            IsVerdict (presented indices.now rows.now proof.now) result }
         ensures single { let p = pruned_borrowed indices.now rows.now proof.now in
             let single = presented_under self.now dimensions.now (roots_of commit.now) (as_single p) in
             length indices.now ≡ 1 → length rows.now ≡ 1 → IsAcceptedAs single result }

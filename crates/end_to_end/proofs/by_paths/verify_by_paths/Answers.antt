@@ -54,7 +54,8 @@ returns-clause-answers g c =
     let restores = subst (IsVerdict restoration) is c.restore_and_recompute_paths-restored.ensures.verdict in
     let shown = subst (λ (r : Result _ MerkleTreeError). IfOk r (λ ps. shown_paths ps.items ≡ restored_paths k p)) is
     c.restore_and_recompute_paths-restored.ensures.paths in
-    let verdicts = subst (λ (ps : List _). AllZip (IsVerdictOn digest_eq k cap) (zip ps (row_sets c.args.rows.now)) each)
+    let verdicts = subst
+    (λ (ps : List _). AllZip (IsVerdictOn digest_eq k cap) (zip ps (row_sets c.args.rows.now)) each)
     (ap shown_paths c.deref.ensures.value ∙ shown) c.in_ok-each.ensures in
     let restorable = restores.ok_is_accepted refl in
     restored_answers whole restoration (restored_paths k p) (length p.indices) query (plain_parts digest_eq k cap p)

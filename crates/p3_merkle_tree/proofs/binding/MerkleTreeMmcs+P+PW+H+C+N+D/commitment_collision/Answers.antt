@@ -50,7 +50,8 @@ returns-in-Some g c one_shape =
     let stored = layers_of c.args.first.now in
     let others = layers_of c.args.second.now in
     let i = c.loop-index.index in
-    binds_some (params_of scheme (shape a)) cap a stored b others (cap_rule_of scheme) i c.in-Some.collision (omega arith)
+    binds_some (params_of scheme (shape a)) cap a stored b others (cap_rule_of scheme) i c.in-Some.collision
+    (omega arith)
     (λ both same. committed_alike (functions_of scheme) a b (cap_layer_of scheme (shape a)) one_shape scheme.arity
     c.args.first.now.lawful (omega arith) same cap stored others both i (omega arith))
     (rw c.in-Some.is at (c.in_ok-found.ensures one_shape))
