@@ -8,7 +8,7 @@ from notation import numbers
 from salts import Counting
 
 SHARED = ["commit", "open_batch", "open_multi_batch", "get_matrices", "verify_batch", "verify_multi_batch",
-          "extract_collision", "extract_collision_multi"]
+          "extract_collision", "extract_collision_multi", "commitment_collision"]
 CLONES = ["clone_matrices", "clone_cap", "clone_opening", "clone_multi"]
 PLAIN = ["open_batch_pruned", "verify_batch_pruned", "restore_and_recompute_paths", "pruned_len",
          "proof_arity_schedule", "replay_arity_and_positions", "clone_pruned", "clone_paths", "clone_positions"]
@@ -123,6 +123,8 @@ class Call:
             return "()"
         if name.startswith("extract"):
             return self.extracted(name.endswith("multi"))
+        if name == "commitment_collision":
+            return "None"
         pruned = struct("PrunedProof", sibling_hashes=digests(tree.proof(queries)))
         return shown({
             "commit": self.committed, "fork": lambda: self.committed(1),

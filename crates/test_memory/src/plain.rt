@@ -144,6 +144,10 @@ pub fn call_plain<
                 ),
             )
         }
+        "commitment_collision" => {
+            let tree = &held.tree;
+            shown(rt, scheme.commitment_collision(alloc, cap, tree, tree))
+        }
         _ => make_call(rt, case, held, generator, scheme),
     }
 }

@@ -92,6 +92,10 @@ pub fn call_salted<
                 ),
             )
         }
+        "commitment_collision" => {
+            let tree = &held.tree;
+            shown(rt, scheme.commitment_collision(alloc, cap, tree, tree))
+        }
         _ => make_call(rt, case, held, generator, scheme),
     }
 }
