@@ -5,7 +5,7 @@ ghost use Rattle.p3_merkle_tree.specs.Geometry.{shape_of};
 ghost use Rattle.p3_merkle_tree.specs.Pruning.{IsPrunedAccepted, PrunedOpening};
 ghost use Rattle.p3_merkle_tree.specs.Schemes.{params_of};
 
-use anyhow::Result;
+use anyhow::{Result, bail};
 use p3_hashes::fold::{FoldCompress, FoldHash};
 use p3_merkle_tree::{MerkleTreeError, MerkleTreeMmcs, check_indices, laws};
 use p3_support::matrix::{Dimensions, RowMajorMatrix};
@@ -45,11 +45,15 @@ pub fn run(rt: &HostRuntime) -> Result<()> {
     check_indices(scheme.get_max_height(&tree), &indices)?;
     let opening = scheme.open_batch_pruned(alloc, &indices, &tree)?;
     let (rows, proof) = (&opening.opened_values, &opening.pruned_proof);
+
+    let most = most_digests(alloc, &scheme, indices.len())?;
+    if most.is_some_and(|most| proof.sibling_hashes.len() > most) {
+        bail!("the proof is too long");
+    }
     scheme.verify_batch_pruned(alloc, &cap, &DIMENSIONS, &indices, rows, proof)?;
 
     let paths = scheme.restore_and_recompute_paths(alloc, &DIMENSIONS, &indices, rows, proof)?;
     let sent = &proof.sibling_hashes;
-    let most = most_digests(alloc, &scheme, indices.len())?;
     println!(rt; "rows {rows:?}, digests {sent:?}")?;
     println!(rt; "digests at most {most:?}")?;
     for path in &paths {

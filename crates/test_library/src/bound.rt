@@ -1,7 +1,7 @@
 //! What two trees with one cap lead to, and two openings, under functions of eight bits: a digest is one byte,
-//! repeated, which is a row's first byte, or the exclusive or of two children. So a collision of each form can be worked
-//! out in one's head: of the rows of a leaf, of a group, of the rows of a layer above, and of a group beside their
-//! digest.
+//! repeated, which is a row's first byte, or the exclusive or of two children. So a collision of each form can be
+//! worked out in one's head: of the rows of a leaf, of a group, of the rows of a layer above, and of a group beside
+//! their digest.
 
 use crate::exclusive_or::{RepeatHash, XorNodes};
 use p3_merkle_tree::{
