@@ -5,6 +5,7 @@
 // The other callers of docs/CALLING.md, and that of README.md.
 mod coins;
 mod conflict;
+mod copies;
 mod growing_log;
 mod messages;
 mod readme;
@@ -69,6 +70,7 @@ fn main(rt: HostRuntime) -> Result<()> {
     salted::run(&rt)?;
     growing_log::run(&rt)?;
     coins::run(&rt)?;
+    copies::run(&rt)?;
     let alloc = rt.alloc();
     let scheme = Sha::new(Sha256RowsInEights, Sha256NodesInEights::<2>, 0);
     let table = RowMajorMatrix::try_new(numbers(&rt)?, 3)?;
