@@ -213,6 +213,7 @@ fn plain_collisions<P: FoldLane, const L: usize>(name: &str) {
         || scheme.extract_collision_multi(&cap, &dimensions, &QUERIES, &rows, &proof, &QUERIES, &twins, &proof);
     let (query1, query2, _) = each("extract_collision_multi", extract).expect("there is a collision");
     assert_eq!((query1, query2), (1, 1));
+    assert_eq!(each("commitment_collision", || scheme.commitment_collision(&cap, &tree, &tree)), None);
 }
 
 /// All calls of the salted scheme of a hasher and a compression, with two salts a row.
@@ -249,6 +250,7 @@ where
     each("extract_collision_multi", || {
         scheme.extract_collision_multi(&cap, &dimensions, &QUERIES, &rows, &proof, &QUERIES, &rows, &proof)
     });
+    each("commitment_collision", || scheme.commitment_collision(&cap, &tree, &tree));
 }
 
 /// The call that finds a collision of two salted openings, by the fold functions, with two salts a row.
