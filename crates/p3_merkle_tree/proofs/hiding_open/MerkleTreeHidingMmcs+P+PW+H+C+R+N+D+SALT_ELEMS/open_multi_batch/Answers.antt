@@ -53,7 +53,6 @@ returns-clause-single g c one =
     let pairs = matrices_of tree in
     let law = g.met.M.Matrix.length_row_of in
     let single = c.in_ok-opening.ensures.single one in
-    let made = (c.in_ok-rows.rows, (c.in_ok-rows.salts, c.in_ok-opening.opening.pruned_proof)) in
     let opened = returns-clause-opened g c in
     let digests = c.in_ok-opening.opening.pruned_proof.sibling_hashes.items in
     let joined = ap (λ (z : Opening _ _). z.rows) single.in_layers in
@@ -67,7 +66,9 @@ returns-clause-single g c one =
       is_honest = λ own. ap (λ (z : Opening _ _). z.siblings) (single.is_honest own);
       is_accepted = λ cap own. salted_from n pairs law tree.lawful
           (λ (ds : List Dimensions). params_of plain (shape_of n ds)) cap g.row.SALT_ELEMS
-          (salted_as_single (salted_pruned_owned is made)) (c.requires 0 0 (omega arith)) own.columns rows salts
+          (salted_as_single (salted_pruned_owned is
+          (c.in_ok-rows.rows, (c.in_ok-rows.salts, c.in_ok-opening.opening.pruned_proof))))
+          (c.requires 0 0 (omega arith)) own.columns rows salts
           (subst (IsAccepted (params_of plain (shape (tree_batch tree))) cap)
           (λ k. opening_of i (joined k) digests) (single.is_accepted cap own.committed));
     }
