@@ -18,32 +18,6 @@ use Rattle.end_to_end.proofs.PathFacts.{refused_answers, restored_answers, resto
 use Rattle.end_to_end.proofs.PathFacts.{salted_parts, salts_count}
 use Rattle.end_to_end.proofs.by_paths.salted_verify_by_paths.Goals as goal
 
-pub salted_verify_each-requires : goal.salted_verify_each-requires
-salted_verify_each-requires g c =
-    let row_eq = g.P.Value.PartialEq.eq in
-    let digest_eq = g.PW.Value.PartialEq.eq in
-    let e = g.row.SALT_ELEMS in
-    let ds = c.args.dimensions.now in
-    let k = salted_params_of c.args.scheme.now ds in
-    let cap = roots_of c.args.commit.now in
-    let p = salted_pruned_borrowed c.args.indices.now c.args.rows.now c.args.proof.now in
-    let restoration = presented_salted_to_restore row_eq e ds k.shape k.layer p in
-    let restored = restored_paths k (joined_sets p) in
-    let is = sym c.in_ok-paths.ensures.same ∙ c.in-Ok.is in
-    let restores = subst (IsVerdict restoration) is c.restore_and_recompute_paths-restored.ensures.verdict in
-    let shown = subst (λ (r : Result _ MerkleTreeError). IfOk r (λ ps. shown_paths ps.items ≡ restored)) is
-    c.restore_and_recompute_paths-restored.ensures.paths in
-    let lent = c.deref.result.now in
-    let all_shown : shown_paths lent ≡ restored = ap shown_paths c.deref.ensures.value ∙ shown in
-    let many : length lent ≡ length restored = sym (length-map lent shown_path) ∙ ap length all_shown in
-    let restorable = restores.ok_is_accepted refl in
-    record {
-      rows = sym (length-map c.args.rows.now (λ set. row_lists set.items))
-          ∙ rows_count digest_eq e ds k cap p restorable ∙ sym many;
-      salts = ap length c.deref-2.ensures.value ∙ sym (length-map c.args.proof.now.0.items (λ set. row_lists set.items))
-          ∙ salts_count digest_eq e ds k cap p restorable ∙ sym many;
-    }
-
 pub returns-in-Err-clause-answers : goal.returns-in-Err-clause-answers
 returns-in-Err-clause-answers g c =
     let row_eq = g.P.Value.PartialEq.eq in
@@ -91,12 +65,18 @@ returns-clause-answers g c =
     let lent = c.deref.result.now in
     let all_shown : shown_paths lent ≡ restored = ap shown_paths c.deref.ensures.value ∙ shown in
     let many : length lent ≡ length restored = sym (length-map lent shown_path) ∙ ap length all_shown in
+    let restorable = restores.ok_is_accepted refl in
+    let as_many = sym (length-map c.args.rows.now (λ set. row_lists set.items))
+    ∙ rows_count digest_eq e ds k cap p restorable ∙ sym many in
+    let as_many_salts = ap length c.deref-2.ensures.value
+    ∙ sym (length-map c.args.proof.now.0.items (λ set. row_lists set.items))
+    ∙ salts_count digest_eq e ds k cap p restorable ∙ sym many in
     let salts = ap row_sets c.deref-2.ensures.value in
     let verdicts = λ (i : ℕ) (below : i < length restored).
     subst (λ (z : List (ℕ × List (List _)) × List (List (List _))).
     IsSaltedVerdictOn digest_eq e ds k cap (query_at z.0 p.rows z.1 i) (slice_index_or each i (Ok tt)))
-    (λ j. (all_shown j, salts j)) (c.in_ok-each.ensures.each i (omega (arith, many, below))) in
+    (λ j. (all_shown j, salts j)) (c.in_ok-each.ensures.each as_many as_many_salts i (omega (arith, many, below))) in
     restored_answers whole restoration restored (length p.indices) query (salted_parts digest_eq e ds k cap p)
     c.in_ok-verdict.verdict answered c.in_ok-verdict.ensures.other c.in-Ok.paths each restores shown
-    (c.in_ok-each.ensures.count ∙ many ∙ restored_count digest_eq e ds k cap p)
+    (c.in_ok-each.ensures.count as_many as_many_salts ∙ many ∙ restored_count digest_eq e ds k cap p)
     (salted_each digest_eq e ds k cap p each verdicts)

@@ -33,9 +33,9 @@ loop-query-preserved g c =
     let salt_set = c.index-salts-query.result in
     let inside : at < length paths = omega arith in
     let of_path = get_or-map shown_path paths at path (0, []) inside ∙ ap shown_path (sym c.index-paths-query.is) in
-    let of_rows = get_or-map (λ set. row_lists set.items) rows at set [] (omega (arith, c.requires.rows))
+    let of_rows = get_or-map (λ set. row_lists set.items) rows at set [] (omega arith)
     ∙ ap (λ set. row_lists set.items) (sym c.index-rows-query.is) in
-    let of_salts = get_or-map (λ set. row_lists set.items) salts at salt_set [] (omega (arith, c.requires.salts))
+    let of_salts = get_or-map (λ set. row_lists set.items) salts at salt_set [] (omega arith)
     ∙ ap (λ set. row_lists set.items) (sym c.index-salts-query.is) in
     let proof = c.from-lent.ensures.1 ∙ c.new-opening.ensures.proof in
     let rows_are = ap row_lists (c.from-lent.ensures.0 ∙ ap (λ v. v.items) c.new-opening.ensures.values)
