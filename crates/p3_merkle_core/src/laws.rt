@@ -1,7 +1,7 @@
 //! Laws of the definitions, each as the contract of a function that does nothing; and functions whose contracts say
-//! that `==` on digests, caps, rules, dimensions, errors, openings, proofs, paths and collisions is equality of values. The laws hold for every hash,
-//! every compression, every batch of lawful heights and every opening. The contracts of the crates above cite the same
-//! definitions.
+//! that `==` on digests, caps, rules, dimensions, errors, openings, proofs, paths and collisions is equality of values.
+//! The laws hold for every hash, every compression, every batch of lawful heights and every opening. The contracts of
+//! the crates above cite the same definitions.
 //!
 //! - The honest opening of an index has the rows and siblings that the batch's own tree has.
 //! - A pruned opening restores if its form is right and its rows agree: then it gives the digest of each covered node,

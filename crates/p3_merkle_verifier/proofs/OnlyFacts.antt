@@ -1,5 +1,5 @@
--- Two accepted pruned openings of one list of indices: all their checks agree exactly if their digests and authenticated
--- rows do.
+-- Two accepted pruned openings of one list of indices: all their checks agree exactly if their digests and
+-- authenticated rows do.
 use Rattle.std.proofs.Common.{◌≡◌, ◌∙◌, ◌↔◌, ℕ, ◌+◌, ◌-◌, ◌<◌, ◌≤◌, ◌==◌, eqb, List, [], ap, sym, refl, subst, arith}
 use Rattle.std.proofs.Common.{inl, inr, length, get_or}
 use Rattle.std.proofs.lemmas.Bool.{cases_Bool}
