@@ -114,7 +114,7 @@ pub trait Matrix<T> {
     where
         T: Drop,
         requires row_in { row < height_of self.now }
-        requires long { column + length out.old ≡ width_of self.now }
+        requires row_fills { column + length out.old ≡ width_of self.now }
         ensures { out.new ≡ drop column (row_of self.now row) }
     {
         // Only the proof in Rattle needs this line: the width fits `usize`, and so does the index of each column.
@@ -157,7 +157,7 @@ pub trait Matrix<T> {
     where
         T: Copy,
         requires row_in { row < height_of self.now }
-        requires long { length out.old ≡ width_of self.now }
+        requires row_fills { length out.old ≡ width_of self.now }
         ensures { out.new ≡ row_of self.now row }
     {
         let width = out.len();

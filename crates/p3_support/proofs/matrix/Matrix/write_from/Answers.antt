@@ -27,7 +27,7 @@ returns g c =
     ∙ take_all i rest (omega (
       arith,
       c.loop-i-test.false,
-      c.requires.long,
+      c.requires.row_fills,
       long,
       length-drop c.args.column (g.Self.Matrix.row_of c.args.self.now c.args.row),
     ))

@@ -24,7 +24,7 @@ loop-piece-preserved g c =
     let made : part ≡ take count (drop column (row c.args.row)) =
     c.copy_from_slice.ensures.after
     ∙ piece_read row (g.Self.Matrix.width_of m) (g.Self.Matrix.height_of m) c.args.row column count piece
-    (g.met.Self.Matrix.length_row_of m) c.requires.row_in (omega (arith, within, c.requires.long))
+    (g.met.Self.Matrix.length_row_of m) c.requires.row_in (omega (arith, within, c.requires.row_fills))
     (omega (arith, c.min-count.ensures)) c.piece-piece.ensures in
     let same : length part ≡ count =
     ap length c.copy_from_slice.ensures.after
