@@ -1,6 +1,7 @@
 //! How the rows of one layer's matrices are hashed: one row a call, one in each lane of a call, or many a call.
 
-ghost use Rattle.std.specs.Prelude.{◌≡◌, ℕ, ◌+◌, ◌-◌, ◌*◌, ◌<◌, ◌≤◌, ◌++◌, length, map, replicate, sum_by, All, IfOk};
+ghost use Rattle.std.specs.Prelude.{◌≡◌, ℕ, ◌+◌, ◌-◌, ◌*◌, ◌<◌, ◌≤◌, ◌++◌, drop, length, map, replicate, sum_by, take};
+ghost use Rattle.std.specs.Prelude.{All, IfOk};
 ghost use Rattle.std.specs.List.{flat_map, range_with_len};
 ghost use Rattle.p3_support.specs.Lists.{lane_of};
 ghost use Rattle.p3_merkle_hashing.specs.Inner.Slots.{leaf_over, rows_over, IsStaged};
@@ -215,6 +216,7 @@ fn contiguous_rows<'b, T: Copy + Default, M: Matrix<T>>(
 /// Writes `count` rows from `first` on into `out`, one after another, where a row is the row of each matrix, in order.
 /// All matrices must have the height `height`, and a row `len` words in all of them together. `first + count` must be
 /// at most the height, and `out` as long as these rows are together.
+// Matrix by matrix: the compiler then tests the form of a matrix once, and not at each row.
 fn write_rows<T: Copy, M: Matrix<T>>(
     matrices: &[M],
     height: usize,
@@ -227,37 +229,40 @@ fn write_rows<T: Copy, M: Matrix<T>>(
     requires len { len ≡ sum_by M.width_of matrices.now }
     requires inside { first + count ≤ height }
     requires long { length out.old ≡ count * len }
-    ensures { out.new ≡ flat_map (λ j. rows_over M.row_of matrices.now (first + j)) (range_with_len 0 count) }
-{
-    for j in 0..count {
-        write_row_of_each(
-            matrices,
-            height,
-            first + j,
-            &mut out[j * len..(j + 1) * len],
-        );
-    }
-}
-
-/// Writes row `row` of each matrix into `out`, in order. All matrices must have the height `height`, which is above
-/// `row`, and `out` must be as long as these rows are together.
-#[inline(always)]
-fn write_row_of_each<T: Copy, M: Matrix<T>>(
-    matrices: &[M],
-    height: usize,
-    row: usize,
-    out: &mut [T],
-)
-    requires heights { All (λ m. M.height_of m ≡ height) matrices.now }
-    requires row { row < height }
-    requires long { length out.old ≡ sum_by M.width_of matrices.now }
-    ensures { out.new ≡ rows_over M.row_of matrices.now row }
+    ensures { IsStaged (λ j. rows_over M.row_of matrices.now (first + j)) count out.new }
 {
     let mut start = 0;
     for matrix in matrices {
-        let end = start + matrix.width();
-        matrix.write_row(row, &mut out[start..end]);
-        start = end;
+        write_columns(matrix, len, start, first, count, out);
+        start += matrix.width();
+    }
+}
+
+/// Writes `count` rows of a matrix, from `first` on, into the rows of `len` words that `out` has: each from place
+/// `start` of such a row on. `first + count` must be at most the height, `start` and the width together at most `len`,
+/// and `out` must have `count` rows.
+#[inline(always)]
+fn write_columns<T: Copy, M: Matrix<T>>(
+    matrix: &M,
+    len: usize,
+    start: usize,
+    first: usize,
+    count: usize,
+    out: &mut [T],
+)
+    requires inside { first + count ≤ M.height_of matrix.now }
+    requires fits { start + M.width_of matrix.now ≤ len }
+    requires long { length out.old ≡ count * len }
+    ensures long { length out.new ≡ length out.old }
+    ensures written { (j : ℕ) → j < count → take (start + M.width_of matrix.now) (drop (j * len) out.new)
+        ≡ take start (drop (j * len) out.old) ++ M.row_of matrix.now (first + j) }
+{
+    // Only the proof in Rattle needs this line: the height fits `usize`, and so does the index of each row.
+    let _height = matrix.height();
+    let end = start + matrix.width();
+    for j in 0..count {
+        let row = &mut out[j * len..(j + 1) * len];
+        matrix.write_row(first + j, &mut row[start..end]);
     }
 }
 

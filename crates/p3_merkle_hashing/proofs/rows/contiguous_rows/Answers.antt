@@ -1,15 +1,13 @@
 -- A lone matrix may lend its own rows; else they are written one after another.
-use Rattle.std.proofs.Common.{arith, ℕ, ◌≡◌, ◌+◌, ◌-◌, ◌*◌, ◌^◌, ◌++◌, ◌∙◌, add-one, ap, append_assoc, sym}
+use Rattle.std.proofs.Common.{arith, ◌≡◌, ◌+◌, ◌-◌, ◌*◌, ◌^◌, ◌∙◌, ap, sym}
 use Rattle.std.proofs.Common.{take}
-use Rattle.std.proofs.lemmas.List.{take_all}
 use Rattle.std.specs.List.{flat_map, range_with_len}
 use Rattle.std.specs.Prelude.{sum_by}
 use Rattle.p3_support.proofs.Draws.{product_made}
 use Rattle.p3_support.proofs.RowReads.{cut_piece, whole_rows}
-use Rattle.p3_merkle_core.proofs.Lists.ListFacts.{joined_more}
 use Rattle.p3_merkle_hashing.specs.Inner.Slots.{rows_over}
-use Rattle.p3_merkle_hashing.proofs.LaneFacts.{height_at, one_element, rows_alone, rows_more}
-use Rattle.p3_merkle_hashing.proofs.StageFacts.{length-all, staged_rows}
+use Rattle.p3_merkle_hashing.proofs.LaneFacts.{height_at, one_element, rows_alone}
+use Rattle.p3_merkle_hashing.proofs.StageFacts.{staged_rows}
 use Rattle.p3_merkle_hashing.proofs.rows.contiguous_rows.Goals as goal
 
 pub returns-then-words-piece : goal.returns-then-words-piece
@@ -36,13 +34,3 @@ returns-then-words-piece g c =
     rw words (staged_rows row w (λ j. rows_over g.M.Matrix.row_of ms (first + j)) first n
     (λ r below. g.met.M.Matrix.length_row_of m r (omega (arith, high, below, c.requires.inside)))
     (λ j below. sym (rows_alone g.M.Matrix.row_of (first + j) ms m (omega arith) c.matrix-item.is)))
-
-pub returns : goal.returns
-returns g c =
-    let ms = c.args.matrices.now in
-    let rows = λ (j : ℕ). rows_over g.M.Matrix.row_of ms (c.args.first + j) in
-    rw c.write_rows.ensures (staged_rows rows c.args.len rows 0 c.args.count
-    (λ j below. length-all g.M.Matrix.height_of g.M.Matrix.width_of g.M.Matrix.row_of c.args.height
-    g.met.M.Matrix.length_row_of (c.args.first + j) (omega (arith, below, c.requires.inside)) ms c.requires.heights
-    ∙ sym c.requires.len)
-    (λ j below. ap rows (omega arith)))

@@ -166,6 +166,7 @@ fn contiguous_rows<'b, T: Copy + Default, M: Matrix<T>>(
 /// Writes `count` rows from `first` on into `out`, one after another, where a row is the row of each matrix, in order.
 /// All matrices must have the height `height`, and a row `len` words in all of them together. `first + count` must be
 /// at most the height, and `out` as long as these rows are together.
+// Matrix by matrix: the compiler then tests the form of a matrix once, and not at each row.
 fn write_rows<T: Copy, M: Matrix<T>>(
     matrices: &[M],
     height: usize,
@@ -174,20 +175,29 @@ fn write_rows<T: Copy, M: Matrix<T>>(
     count: usize,
     out: &mut [T],
 ) {
-    for j in 0..count {
-        write_row_of_each(matrices, height, first + j, &mut out[j * len..(j + 1) * len]);
+    let mut start = 0;
+    for matrix in matrices {
+        write_columns(matrix, len, start, first, count, out);
+        start += matrix.width();
     }
 }
 
-/// Writes row `row` of each matrix into `out`, in order. All matrices must have the height `height`, which is above
-/// `row`, and `out` must be as long as these rows are together.
+/// Writes `count` rows of a matrix, from `first` on, into the rows of `len` words that `out` has: each from place
+/// `start` of such a row on. `first + count` must be at most the height, `start` and the width together at most `len`,
+/// and `out` must have `count` rows.
 #[inline(always)]
-fn write_row_of_each<T: Copy, M: Matrix<T>>(matrices: &[M], height: usize, row: usize, out: &mut [T]) {
-    let mut start = 0;
-    for matrix in matrices {
-        let end = start + matrix.width();
-        matrix.write_row(row, &mut out[start..end]);
-        start = end;
+fn write_columns<T: Copy, M: Matrix<T>>(
+    matrix: &M,
+    len: usize,
+    start: usize,
+    first: usize,
+    count: usize,
+    out: &mut [T],
+) {
+    let end = start + matrix.width();
+    for j in 0..count {
+        let row = &mut out[j * len..(j + 1) * len];
+        matrix.write_row(first + j, &mut row[start..end]);
     }
 }
 
