@@ -1,6 +1,6 @@
 -- Each turn writes into one row, and into no other.
-use Rattle.std.proofs.Common.{arith, ◌≡◌, ◌≤◌, ℕ, ◌+◌, ◌-◌, ◌*◌, ◌++◌, ◌∙◌, List, ap, drop, inl, inr, length, length-drop}
-use Rattle.std.proofs.Common.{sym, take}
+use Rattle.std.proofs.Common.{arith, ◌≡◌, ◌≤◌, ℕ, ◌+◌, ◌-◌, ◌*◌, ◌++◌, ◌∙◌, List, ap, drop, inl, inr, length}
+use Rattle.std.proofs.Common.{length-drop, sym, take}
 use Rattle.std.proofs.lemmas.Bool.{cases_lt}
 use Rattle.std.proofs.lemmas.List.{drop-take, length-take-le, take-take}
 use Rattle.std.proofs.lemmas.Slice.{drop-put_mid, take-put_mid, take-put_mid_below}

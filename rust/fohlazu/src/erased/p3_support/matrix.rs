@@ -78,7 +78,8 @@ pub trait Matrix<T> {
     }
 
     /// Appends the elements of a row from `column` on to `words`, by ascending columns. The row must be below the
-    /// height, and the column at most the width. Each is read by [`get`](Self::get), unless the matrix has its own call.
+    /// height, and the column at most the width. Each is read by [`get`](Self::get), unless the matrix has a call of
+    /// its own.
     ///
     /// # Errors
     ///

@@ -26,7 +26,8 @@ loop-next-preserved g c =
       appended = c.in_ok-push.ensures.items
           ∙ ap (λ l. l ++ (word ∷ [])) c.loop-next.invariant.appended
           ∙ append_assoc xs (take n (drop column row)) (word ∷ [])
-          ∙ ap (λ l. xs ++ l) (sym (take_one_more row column n word at) ∙ ap (λ k. take k (drop column row)) (sym more));
+          ∙ ap (λ l. xs ++ l) (sym (take_one_more row column n word at)
+          ∙ ap (λ k. take k (drop column row)) (sym more));
     }
 
 pub returns : goal.returns
