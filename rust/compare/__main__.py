@@ -60,7 +60,7 @@ def bench(folder, original, *parts):
     # The C library keeps what is freed: else it depends on earlier lines whether a commit waits for pages of the system.
     os.environ.setdefault("GLIBC_TUNABLES",
                           "glibc.malloc.trim_threshold=1073741824:glibc.malloc.mmap_threshold=33554432")
-    return cargo("run", *over(folder, original), "--profile", "bench", "--", "bench", *parts).returncode
+    return cargo("run", *over(folder, original), "--bin", "bench", "--profile", "bench", "--", *parts).returncode
 
 
 def test_this(folder, original):

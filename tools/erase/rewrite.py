@@ -186,7 +186,7 @@ class Eraser:
                 last = first
                 while self.code.text(last) not in (";", "{", "}", ""):
                     last = self.code.next(last)
-                if not re.fullmatch(r"let _\w+ = \w+\.(height|len)\(\);", self.code.texts(first, last)):
+                if not re.fullmatch(r"let _\w+ = \w+\.(height|len|width)\(\);", self.code.texts(first, last)):
                     raise self.code.fail(first, "a statement for the proof alone that may do something")
             self.sheet.cut(at, last, "statement for the proof")
 

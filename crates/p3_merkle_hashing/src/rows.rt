@@ -1,6 +1,7 @@
 //! How the rows of one layer's matrices are hashed: one row a call, one in each lane of a call, or many a call.
 
-ghost use Rattle.std.specs.Prelude.{◌≡◌, ℕ, ◌+◌, ◌-◌, ◌<◌, ◌≤◌, ◌++◌, length, map, replicate, sum_by, All, IfOk};
+ghost use Rattle.std.specs.Prelude.{◌≡◌, ℕ, ◌+◌, ◌-◌, ◌*◌, ◌<◌, ◌≤◌, ◌++◌, drop, length, map, replicate, sum_by, take};
+ghost use Rattle.std.specs.Prelude.{All, IfOk};
 ghost use Rattle.std.specs.List.{flat_map, range_with_len};
 ghost use Rattle.p3_support.specs.Lists.{lane_of};
 ghost use Rattle.p3_merkle_hashing.specs.Inner.Slots.{leaf_over, rows_over, IsStaged};
@@ -149,10 +150,15 @@ impl<
             len = len.checked_add(matrix.width()).ok_or(AllocError)?;
         }
         let bytes = len.saturating_mul(std::mem::size_of_val(&P::Value::default()));
-        // Rows that lie apart are hashed one by one where they lie, if the hasher takes one message at a time.
-        let rows = match self.matrices {
-            [matrix] if H::LANES == 1 && matrix.piece(first, 0).len() / 2 < len => 1,
-            _ => messages_per_call(bytes, H::LANES),
+        let stored = match self.matrices {
+            [matrix] => matrix.piece(first, 0).len(),
+            _ => 0,
+        };
+        // Stored rows that lie apart are hashed one by one where they lie, if the hasher takes one message at a time.
+        let rows = if H::LANES == 1 && stored > 0 && stored / 2 < len {
+            1
+        } else {
+            messages_per_call(bytes, H::LANES)
         };
         // Only the proof in Rattle needs that it is read first: the height bounds the sum in the loop.
         let height = self.height;
@@ -177,7 +183,7 @@ impl<
 /// They are borrowed from the matrix if there is only one and it stores them in one piece, else copied into `staged`.
 /// All matrices must have the height `height`, and a row `len` words in all of them together. `count` must be at least
 /// 1, and `first + count` at most the height. `AllocError` if memory runs out, or if there are 2^64 words or more.
-fn contiguous_rows<'b, T: Copy, M: Matrix<T>>(
+fn contiguous_rows<'b, T: Copy + Default, M: Matrix<T>>(
     staged: &'b mut Vec<T>,
     matrices: &'b [M],
     height: usize,
@@ -199,14 +205,65 @@ fn contiguous_rows<'b, T: Copy, M: Matrix<T>>(
             return Ok(&piece[..words]);
         }
     }
-    staged.clear();
-    staged.reserve(words)?;
-    for j in 0..count {
-        for matrix in matrices {
-            matrix.append_row(first + j, staged)?;
-        }
+    if staged.len() < words {
+        staged.resize(words, T::default())?;
     }
-    Ok(staged.as_slice())
+    let rows = &mut staged.as_mut_slice()[..words];
+    write_rows(matrices, height, len, first, count, rows);
+    Ok(rows)
+}
+
+/// Writes `count` rows from `first` on into `out`, one after another, where a row is the row of each matrix, in order.
+/// All matrices must have the height `height`, and a row `len` words in all of them together. `first + count` must be
+/// at most the height, and `out` as long as these rows are together.
+// Matrix by matrix: the compiler then tests the form of a matrix once, and not at each row.
+fn write_rows<T: Copy, M: Matrix<T>>(
+    matrices: &[M],
+    height: usize,
+    len: usize,
+    first: usize,
+    count: usize,
+    out: &mut [T],
+)
+    requires heights { All (λ m. M.height_of m ≡ height) matrices.now }
+    requires len { len ≡ sum_by M.width_of matrices.now }
+    requires inside { first + count ≤ height }
+    requires long { length out.old ≡ count * len }
+    ensures { IsStaged (λ j. rows_over M.row_of matrices.now (first + j)) count out.new }
+{
+    let mut start = 0;
+    for matrix in matrices {
+        write_columns(matrix, len, start, first, count, out);
+        start += matrix.width();
+    }
+}
+
+/// Writes `count` rows of a matrix, from `first` on, into the rows of `len` words that `out` has: each from place
+/// `start` of such a row on. `first + count` must be at most the height, `start` and the width together at most `len`,
+/// and `out` must have `count` rows.
+#[inline(always)]
+fn write_columns<T: Copy, M: Matrix<T>>(
+    matrix: &M,
+    len: usize,
+    start: usize,
+    first: usize,
+    count: usize,
+    out: &mut [T],
+)
+    requires inside { first + count ≤ M.height_of matrix.now }
+    requires fits { start + M.width_of matrix.now ≤ len }
+    requires long { length out.old ≡ count * len }
+    ensures long { length out.new ≡ length out.old }
+    ensures written { (j : ℕ) → j < count → take (start + M.width_of matrix.now) (drop (j * len) out.new)
+        ≡ take start (drop (j * len) out.old) ++ M.row_of matrix.now (first + j) }
+{
+    // Only the proof in Rattle needs this line: the height fits `usize`, and so does the index of each row.
+    let _height = matrix.height();
+    let end = start + matrix.width();
+    for j in 0..count {
+        let row = &mut out[j * len..(j + 1) * len];
+        matrix.write_row(first + j, &mut row[start..end]);
+    }
 }
 
 /// Both slices, with one lifetime, as an array of them needs.

@@ -1,9 +1,11 @@
 -- Rows in parts, and matrices that are no wider.
-use Rattle.std.proofs.Common.{◌≡◌, ◌∙◌, ◌+◌, Bool, List, [], ◌∷◌, ◌++◌, ap, append_assoc, arith, length, refl, sym}
+use Rattle.std.proofs.Common.{◌≡◌, ◌∙◌, ◌+◌, ◌<◌, Bool, ℕ, List, [], ◌∷◌, ◌++◌, ap, append_assoc, arith, get_or}
+use Rattle.std.proofs.Common.{length, refl, sym, zip}
 use Rattle.std.specs.Prelude.{◌&&◌}
 use Rattle.std.specs.Cmp.Lexicographic.{pointwise}
 use Rattle.std.proofs.Math.Bool.{and_assoc}
-use Rattle.std.proofs.lemmas.List.{append-nil}
+use Rattle.std.proofs.lemmas.List.{append-nil, get_or-map, length-map}
+use Rattle.std.proofs.lemmas.Slice.Zip.{get_or-zip, length-zip}
 use Rattle.p3_support.specs.declared.matrix.Dimensions.{Dimensions}
 use Rattle.p3_support.specs.Batches.{widened}
 use Rattle.p3_support.specs.Rows.{rows_in_parts, whole}
@@ -53,3 +55,24 @@ pub longer_first : {T : Type 0} (eq : T → T → Bool) (first second other rest
 longer_first eq first second other rest front back cut long =
     ap (λ r. pointwise eq r (other ++ rest)) (ap (λ r. r ++ second) cut ∙ append_assoc front back second)
     ∙ pointwise-append eq front (back ++ second) other rest long
+
+-- ---- one row of several
+
+-- the parts of one of the rows in one piece
+pub whole_within : {T : Type 0} (rows : List (List T)) (k : ℕ) → k < length (whole rows) → k < length rows
+whole_within {T} rows k inside = omega (arith, inside, length-map {B = List T × List T} rows (λ row. (row, [])))
+
+pub whole_read : {T : Type 0} (rows : List (List T)) (k : ℕ) → k < length (whole rows) →
+    get_or (whole rows) k ([], []) ≡ (get_or rows k [], [])
+whole_read rows k inside = get_or-map (λ row. (row, [])) rows k [] ([], []) (whole_within rows k inside)
+
+-- the parts of one of the rows that are paired with salts
+pub salted_within : {T : Type 0} (rows salts : List (List T)) (k : ℕ) → k < length (zip rows salts) →
+    (k < length rows) × (k < length salts)
+salted_within rows salts k inside =
+    (omega (arith, inside, length-zip rows salts), omega (arith, inside, length-zip rows salts))
+
+pub salted_read : {T : Type 0} (rows salts : List (List T)) (k : ℕ) → k < length (zip rows salts) →
+    get_or (zip rows salts) k ([], []) ≡ (get_or rows k [], get_or salts k [])
+salted_read rows salts k inside =
+    let both = salted_within rows salts k inside in get_or-zip rows salts k ([], []) both.0 both.1

@@ -1,7 +1,7 @@
 -- What is left of a row, of columns and of the rows of several matrices, once one more element is read.
 use Rattle.std.proofs.Common.{◌≡◌, ℕ, zero, suc, take, ◌+◌, ◌-◌, ◌*◌, ◌<◌, ◌≤◌, List, [], ◌∷◌, ◌++◌, length, drop, map}
 use Rattle.std.proofs.Common.{All, get_or, refl, sym, ap, ◌∙◌, arith, true, add-one}
-use Rattle.std.proofs.Math.Seq.{drop-append-add, drop-cons, take-append-add}
+use Rattle.std.proofs.Math.Seq.{drop-append-add, drop-cons, drop-drop as drop_drop, take-add, take-append-add}
 use Rattle.std.proofs.lemmas.List.Folds.{drop_split}
 use Rattle.std.proofs.lemmas.Option.{slice_get_within, slice_get_read, get_or_from_slice_get}
 use Rattle.std.proofs.lemmas.List.Edits.{get_or-between}
@@ -20,6 +20,13 @@ use Rattle.p3_support.specs.Inner.RowLengths.{next_start, length-message}
 -- what is left from an element on
 pub drop_at : {A : Type 0} (xs : List A) (c : ℕ) (x : A) → slice_get xs c ≡ Some x → drop c xs ≡ x ∷ drop (c + 1) xs
 drop_at xs c x at = drop-cons xs c x (slice_get_within xs c x at) ∙ rw (add-one, get_or_from_slice_get xs c x x at) refl
+
+-- one more of the elements from c on
+pub take_one_more : {A : Type 0} (xs : List A) (c n : ℕ) (x : A) → slice_get xs (c + n) ≡ Some x →
+    take (n + 1) (drop c xs) ≡ take n (drop c xs) ++ x ∷ []
+take_one_more xs c n x at =
+    let more = drop_drop n c xs ∙ drop_at xs (c + n) x at in
+    take-add n 1 (drop c xs) ∙ ap (λ l. take n (drop c xs) ++ take 1 l) more
 
 -- the same where the list is made from indices
 pub drop_column : {A : Type 0} (f : ℕ → A) (c w : ℕ) → c < w → drop c (map f (range_with_len 0 w))

@@ -88,13 +88,49 @@ pub trait Matrix<T> {
         }
     }
 
-    /// Appends the elements of a row to `words`, by ascending columns. The row must be below the height.
+    /// Appends the elements of a row from `column` on to `words`, by ascending columns. The row must be below the
+    /// height, and the column at most the width. Each is read by [`get`](Self::get), unless the matrix has a call of
+    /// its own.
+    ///
+    /// # Errors
+    ///
+    /// `AllocError` if memory runs out. `words` may then have a part of the elements.
+    fn append_from(&self, row: usize, column: usize, words: &mut Vec<T>) -> Result<(), AllocError>
+    where
+        T: Drop,
+        requires row_in { row < height_of self.now }
+        requires column_in { column ≤ width_of self.now }
+        ensures { IfOk result (λ done. words.new.items ≡ words.old.items ++ drop column (row_of self.now row)) }
+    {
+        for next in column..self.width() {
+            words.push(self.get(row, next))?;
+        }
+        Ok(())
+    }
+
+    /// Writes the elements of a row from `column` on into `out`, by ascending columns. The row must be below the
+    /// height, the column at most the width, and `out` as long as these elements are many. Each is read by
+    /// [`get`](Self::get), unless the matrix has its own call.
+    fn write_from(&self, row: usize, column: usize, out: &mut [T])
+    where
+        T: Drop,
+        requires row_in { row < height_of self.now }
+        requires row_fills { column + length out.old ≡ width_of self.now }
+        ensures { out.new ≡ drop column (row_of self.now row) }
+    {
+        // Only the proof in Rattle needs this line: the width fits `usize`, and so does the index of each column.
+        let _width = self.width();
+        for (i, word) in out.iter_mut().enumerate() {
+            *word = self.get(row, column + i);
+        }
+    }
+
+    /// Appends the elements of a row to `words`, by ascending columns. The row must be below the height. It copies what
+    /// the matrix stores, and takes what is left by [`append_from`](Self::append_from).
     ///
     /// # Errors
     ///
     /// `AllocError` if memory runs out. `words` may then have a part of the row.
-    // Not inlined: callers copy most rows without it.
-    #[inline(never)]
     final fn append_row(&self, row: usize, words: &mut Vec<T>) -> Result<(), AllocError>
     where
         T: Copy,
@@ -103,18 +139,40 @@ pub trait Matrix<T> {
     {
         let width = self.width();
         let mut column = 0;
-        while column < width {
+        while width > FEW_WORDS && column < width {
             let piece = self.piece(row, column);
-            if width <= FEW_WORDS || piece.is_empty() {
-                words.push(self.get(row, column))?;
-                column += 1;
-            } else {
-                let count = piece.len().min(width - column);
-                words.extend_from_slice(&piece[..count])?;
-                column += count;
+            if piece.is_empty() {
+                break;
             }
+            let count = piece.len().min(width - column);
+            words.extend_from_slice(&piece[..count])?;
+            column += count;
         }
-        Ok(())
+        self.append_from(row, column, words)
+    }
+
+    /// Writes the elements of a row into `out`, by ascending columns. The row must be below the height, and `out` as
+    /// long as the matrix is wide. It copies what the matrix stores, and takes what is left by
+    /// [`write_from`](Self::write_from).
+    final fn write_row(&self, row: usize, out: &mut [T])
+    where
+        T: Copy,
+        requires row_in { row < height_of self.now }
+        requires row_fills { length out.old ≡ width_of self.now }
+        ensures { out.new ≡ row_of self.now row }
+    {
+        let width = out.len();
+        let mut column = 0;
+        while width > FEW_WORDS && column < width {
+            let piece = self.piece(row, column);
+            if piece.is_empty() {
+                break;
+            }
+            let count = piece.len().min(width - column);
+            out[column..column + count].copy_from_slice(&piece[..count]);
+            column += count;
+        }
+        self.write_from(row, column, &mut out[column..]);
     }
 
     /// `P::WIDTH` rows from `row` on, packed column by column: lane `k` of an item is the element of row `row + k`.
@@ -162,6 +220,20 @@ impl<T, M: Matrix<T>> Matrix<T> for &M {
 
     fn piece(&self, row: usize, column: usize) -> &[T] {
         (**self).piece(row, column)
+    }
+
+    fn append_from(&self, row: usize, column: usize, words: &mut Vec<T>) -> Result<(), AllocError>
+    where
+        T: Drop,
+    {
+        (**self).append_from(row, column, words)
+    }
+
+    fn write_from(&self, row: usize, column: usize, out: &mut [T])
+    where
+        T: Drop,
+    {
+        (**self).write_from(row, column, out)
     }
 
     ghost length_row_of = { λ m r h. M.length_row_of m.now r h };

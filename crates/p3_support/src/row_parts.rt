@@ -116,9 +116,25 @@ impl<'a, T> RowParts<'a, T> {
 }
 
 impl<'a, T> RowParts<'a, T> {
-    /// The row of a matrix, in its two parts. The matrix must be below the number of rows. The rows ahead of it are
-    /// passed one by one.
-    fn nth_row(mut self, matrix: usize) -> (&'a [T], &'a [T])
+    /// The row of a matrix, in its two parts. The matrix must be below the number of rows.
+    fn nth_row(self, matrix: usize) -> (&'a [T], &'a [T])
+        requires { matrix < length (parts_of self) }
+        ensures { (result.0.now, result.1.now) ≡ slice_index_or (parts_of self.entry) matrix ([], []) }
+    {
+        match self {
+            RowParts::Vecs(rows) => (row_at(rows, matrix), &[]),
+            RowParts::Slices(rows) => (slice_at(rows, matrix), &[]),
+            RowParts::Salted { rows, salts } => (row_at(rows, matrix), row_at(salts, matrix)),
+            RowParts::SaltedSlices { rows, salts } => {
+                (slice_at(rows, matrix), row_at(salts, matrix))
+            }
+            RowParts::Flat { .. } => self.row_after(matrix),
+        }
+    }
+
+    /// The row that follows `matrix` rows, in its two parts. There must be more rows than these, which are passed one
+    /// by one: where a row begins in one slice depends on all before it.
+    fn row_after(mut self, matrix: usize) -> (&'a [T], &'a [T])
         requires { matrix < length (parts_of self) }
         ensures { (result.0.now, result.1.now) ≡ slice_index_or (parts_of self.entry) matrix ([], []) }
     {
@@ -262,4 +278,12 @@ fn row_at<'a, T>(rows: &'a [Vec<T>], matrix: usize) -> &'a [T]
     ensures { result.now ≡ slice_index_or (row_lists rows.now) matrix [] }
 {
     &rows[matrix]
+}
+
+/// The row of a matrix, which must be below the number of rows.
+fn slice_at<'a, T>(rows: &'a [&'a [T]], matrix: usize) -> &'a [T]
+    requires { matrix < length rows.now }
+    ensures { result.now ≡ slice_index_or (map (λ row. row.now) rows.now) matrix [] }
+{
+    rows[matrix]
 }

@@ -2,7 +2,6 @@
 //! says how to run it.
 
 mod answers;
-mod bench;
 mod both;
 mod endless;
 #[path = "../../fohlazu-p3/tests/rust_answers/hashes.rs"]
@@ -31,14 +30,9 @@ const MOST_DIFFERENCES: usize = 20;
 
 fn main() -> ExitCode {
     let words: Vec<String> = std::env::args().skip(1).collect();
-    if let [first, parts @ ..] = words.as_slice()
-        && first == "bench"
-    {
-        return ExitCode::from(u8::from(bench::run(parts) > 0));
-    }
     let numbers: Vec<u64> = words.iter().filter_map(|word| word.parse().ok()).collect();
     let &[count, seed] = numbers.as_slice() else {
-        eprintln!("usage: compare COUNT SEED, or compare bench [PART..]");
+        eprintln!("usage: compare COUNT SEED");
         return ExitCode::from(2);
     };
     // Both are asked what makes them panic.

@@ -147,6 +147,19 @@ impl<M> Owned<M> {
     {
         Owned { height: matrix.height(), width: matrix.width(), matrix }
     }
+
+    /// The elements of a row from a column on.
+    #[inline]
+    fn row_from<T: Send + Sync + Clone>(&self, row: usize, column: usize) -> impl Iterator<Item = T>
+    where
+        M: Matrix<T>,
+    {
+        let mut elements = self.matrix.row(row).expect("a row of the matrix").into_iter();
+        if column > 0 {
+            elements.nth(column - 1);
+        }
+        elements
+    }
 }
 
 impl<T: Copy + Send + Sync, M: Matrix<T>> support::Matrix<T> for Owned<M> {
@@ -167,10 +180,18 @@ impl<T: Copy + Send + Sync, M: Matrix<T>> support::Matrix<T> for Owned<M> {
 
     // The same elements as by the provided call, which reads them one by one.
     #[inline]
-    fn append_row(&self, row: usize, words: &mut Vec<T>) -> Result<(), AllocError> {
-        words.try_reserve(self.width).map_err(|_| AllocError)?;
-        words.extend(self.matrix.row(row).expect("a row of the matrix"));
+    fn append_from(&self, row: usize, column: usize, words: &mut Vec<T>) -> Result<(), AllocError> {
+        words.try_reserve(self.width - column).map_err(|_| AllocError)?;
+        words.extend(self.row_from(row, column));
         Ok(())
+    }
+
+    // As above.
+    #[inline]
+    fn write_from(&self, row: usize, column: usize, out: &mut [T]) {
+        for (word, element) in out.iter_mut().zip(self.row_from(row, column)) {
+            *word = element;
+        }
     }
 }
 

@@ -186,6 +186,11 @@ fn hash_many(trial: &mut Trial) {
     });
 }
 
+/// A place for so many words, or for another number of them.
+fn words_for(trial: &mut Trial, count: usize) -> Vec<u32> {
+    vec![0; if trial.random.below(2) == 0 { count } else { trial.random.below(6) }]
+}
+
 /// The calls of one matrix. `has_own` says whether `get` is a call of this package.
 fn matrix_calls<M: Matrix<u32>>(trial: &mut Trial, matrix: &M, has_own: bool) {
     let row = trial.random.about(matrix.height());
@@ -197,6 +202,14 @@ fn matrix_calls<M: Matrix<u32>>(trial: &mut Trial, matrix: &M, has_own: bool) {
     }
     let conditions = [("row_in", in_row), ("column_in", column <= matrix.width())];
     trial.call("p3_support.matrix.Matrix.piece", &conditions, || matrix.piece(row, column).len());
+    trial.call("p3_support.matrix.Matrix.append_from", &conditions, || matrix.append_from(row, column, &mut Vec::new()));
+    let left = matrix.width().checked_sub(column);
+    let mut out = words_for(trial, left.unwrap_or(0));
+    let conditions = [("row_in", in_row), ("row_fills", left == Some(out.len()))];
+    trial.call("p3_support.matrix.Matrix.write_from", &conditions, || matrix.write_from(row, column, &mut out));
+    let mut out = words_for(trial, matrix.width());
+    let conditions = [("row_in", in_row), ("row_fills", out.len() == matrix.width())];
+    trial.call("p3_support.matrix.Matrix.write_row", &conditions, || matrix.write_row(row, &mut out));
     let conditions = [("row_in", in_row)];
     trial.call("p3_support.matrix.Matrix.row", &conditions, || matrix.row(row).count());
     trial.call("p3_support.matrix.Matrix.append_row", &conditions, || matrix.append_row(row, &mut Vec::new()));

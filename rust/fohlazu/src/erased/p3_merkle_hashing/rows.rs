@@ -111,11 +111,12 @@ impl<'a, P: PackedValue, PW: PackedValue, H: CryptographicHasher<P, PW, D>, M: M
             len = len.checked_add(matrix.width()).ok_or(AllocError)?;
         }
         let bytes = len.saturating_mul(core::mem::size_of_val(&P::Value::default()));
-        // Rows that lie apart are hashed one by one where they lie, if the hasher takes one message at a time.
-        let rows = match self.matrices {
-            [matrix] if H::LANES == 1 && matrix.piece(first, 0).len() / 2 < len => 1,
-            _ => messages_per_call(bytes, H::LANES),
+        let stored = match self.matrices {
+            [matrix] => matrix.piece(first, 0).len(),
+            _ => 0,
         };
+        // Stored rows that lie apart are hashed one by one where they lie, if the hasher takes one message at a time.
+        let rows = if H::LANES == 1 && stored > 0 && stored / 2 < len { 1 } else { messages_per_call(bytes, H::LANES) };
         // Only the proof in Rattle needs that it is read first: the height bounds the sum in the loop.
         let height = self.height;
         let mut done = 0;
@@ -139,7 +140,7 @@ impl<'a, P: PackedValue, PW: PackedValue, H: CryptographicHasher<P, PW, D>, M: M
 /// They are borrowed from the matrix if there is only one and it stores them in one piece, else copied into `staged`.
 /// All matrices must have the height `height`, and a row `len` words in all of them together. `count` must be at least
 /// 1, and `first + count` at most the height. `AllocError` if memory runs out, or if there are 2^64 words or more.
-fn contiguous_rows<'b, T: Copy, M: Matrix<T>>(
+fn contiguous_rows<'b, T: Copy + Default, M: Matrix<T>>(
     staged: &'b mut Vec<T>,
     matrices: &'b [M],
     height: usize,
@@ -154,14 +155,50 @@ fn contiguous_rows<'b, T: Copy, M: Matrix<T>>(
             return Ok(&piece[..words]);
         }
     }
-    staged.clear();
-    staged.try_room(words)?;
-    for j in 0..count {
-        for matrix in matrices {
-            matrix.append_row(first + j, staged)?;
-        }
+    if staged.len() < words {
+        staged.try_resize(words, T::default())?;
     }
-    Ok(staged.as_slice())
+    let rows = &mut staged.as_mut_slice()[..words];
+    write_rows(matrices, height, len, first, count, rows);
+    Ok(rows)
+}
+
+/// Writes `count` rows from `first` on into `out`, one after another, where a row is the row of each matrix, in order.
+/// All matrices must have the height `height`, and a row `len` words in all of them together. `first + count` must be
+/// at most the height, and `out` as long as these rows are together.
+// Matrix by matrix: the compiler then tests the form of a matrix once, and not at each row.
+fn write_rows<T: Copy, M: Matrix<T>>(
+    matrices: &[M],
+    height: usize,
+    len: usize,
+    first: usize,
+    count: usize,
+    out: &mut [T],
+) {
+    let mut start = 0;
+    for matrix in matrices {
+        write_columns(matrix, len, start, first, count, out);
+        start += matrix.width();
+    }
+}
+
+/// Writes `count` rows of a matrix, from `first` on, into the rows of `len` words that `out` has: each from place
+/// `start` of such a row on. `first + count` must be at most the height, `start` and the width together at most `len`,
+/// and `out` must have `count` rows.
+#[inline(always)]
+fn write_columns<T: Copy, M: Matrix<T>>(
+    matrix: &M,
+    len: usize,
+    start: usize,
+    first: usize,
+    count: usize,
+    out: &mut [T],
+) {
+    let end = start + matrix.width();
+    for j in 0..count {
+        let row = &mut out[j * len..(j + 1) * len];
+        matrix.write_row(first + j, &mut row[start..end]);
+    }
 }
 
 /// Both slices, with one lifetime, as an array of them needs.

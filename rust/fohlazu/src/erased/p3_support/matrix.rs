@@ -77,7 +77,47 @@ pub trait Matrix<T> {
         Row { matrix: self, row, next: 0, item: PhantomData }
     }
 
-    /// Appends the elements of a row to `words`, by ascending columns. The row must be below the height.
+    /// Appends the elements of a row from `column` on to `words`, by ascending columns. The row must be below the
+    /// height, and the column at most the width. Each is read by [`get`](Self::get), unless the matrix has a call of
+    /// its own.
+    ///
+    /// # Errors
+    ///
+    /// `AllocError` if memory runs out. `words` may then have a part of the elements.
+    ///
+    /// # Panics
+    ///
+    /// - By `row_in` unless `row < self.height()`.
+    /// - By `column_in` unless `column <= self.width()`.
+    #[inline]
+    fn append_from(&self, row: usize, column: usize, words: &mut Vec<T>) -> Result<(), AllocError> {
+        assert!(row < self.height(), "row_in");
+        assert!(column <= self.width(), "column_in");
+        for next in column..self.width() {
+            words.try_push(self.get(row, next))?;
+        }
+        Ok(())
+    }
+
+    /// Writes the elements of a row from `column` on into `out`, by ascending columns. The row must be below the
+    /// height, the column at most the width, and `out` as long as these elements are many. Each is read by
+    /// [`get`](Self::get), unless the matrix has its own call.
+    ///
+    /// # Panics
+    ///
+    /// - By `row_in` unless `row < self.height()`.
+    /// - By `row_fills` unless `column <= self.width() && out.len() == self.width() - column`.
+    #[inline]
+    fn write_from(&self, row: usize, column: usize, out: &mut [T]) {
+        assert!(row < self.height(), "row_in");
+        assert!(column <= self.width() && out.len() == self.width() - column, "row_fills");
+        for (i, word) in out.iter_mut().enumerate() {
+            *word = self.get(row, column + i);
+        }
+    }
+
+    /// Appends the elements of a row to `words`, by ascending columns. The row must be below the height. It copies what
+    /// the matrix stores, and takes what is left by [`append_from`](Self::append_from).
     ///
     /// # Errors
     ///
@@ -86,8 +126,7 @@ pub trait Matrix<T> {
     /// # Panics
     ///
     /// - By `row_in` unless `row < self.height()`.
-    // Not inlined: callers copy most rows without it.
-    #[inline(never)]
+    #[inline]
     fn append_row(&self, row: usize, words: &mut Vec<T>) -> Result<(), AllocError>
     where
         T: Copy,
@@ -95,18 +134,45 @@ pub trait Matrix<T> {
         assert!(row < self.height(), "row_in");
         let width = self.width();
         let mut column = 0;
-        while column < width {
+        while width > FEW_WORDS && column < width {
             let piece = self.piece(row, column);
-            if width <= FEW_WORDS || piece.is_empty() {
-                words.try_push(self.get(row, column))?;
-                column += 1;
-            } else {
-                let count = piece.len().min(width - column);
-                words.try_extend_from_slice(&piece[..count])?;
-                column += count;
+            if piece.is_empty() {
+                break;
             }
+            let count = piece.len().min(width - column);
+            words.try_extend_from_slice(&piece[..count])?;
+            column += count;
         }
-        Ok(())
+        self.append_from(row, column, words)
+    }
+
+    /// Writes the elements of a row into `out`, by ascending columns. The row must be below the height, and `out` as
+    /// long as the matrix is wide. It copies what the matrix stores, and takes what is left by
+    /// [`write_from`](Self::write_from).
+    ///
+    /// # Panics
+    ///
+    /// - By `row_in` unless `row < self.height()`.
+    /// - By `row_fills` unless `out.len() == self.width()`.
+    #[inline]
+    fn write_row(&self, row: usize, out: &mut [T])
+    where
+        T: Copy,
+    {
+        assert!(row < self.height(), "row_in");
+        assert!(out.len() == self.width(), "row_fills");
+        let width = out.len();
+        let mut column = 0;
+        while width > FEW_WORDS && column < width {
+            let piece = self.piece(row, column);
+            if piece.is_empty() {
+                break;
+            }
+            let count = piece.len().min(width - column);
+            out[column..column + count].copy_from_slice(&piece[..count]);
+            column += count;
+        }
+        self.write_from(row, column, &mut out[column..]);
     }
 
     /// `P::WIDTH` rows from `row` on, packed column by column: lane `k` of an item is the element of row `row + k`.
@@ -145,6 +211,16 @@ impl<T, M: ?Sized + Matrix<T>> Matrix<T> for &M {
     #[inline]
     fn piece(&self, row: usize, column: usize) -> &[T] {
         (**self).piece(row, column)
+    }
+
+    #[inline]
+    fn append_from(&self, row: usize, column: usize, words: &mut Vec<T>) -> Result<(), AllocError> {
+        (**self).append_from(row, column, words)
+    }
+
+    #[inline]
+    fn write_from(&self, row: usize, column: usize, out: &mut [T]) {
+        (**self).write_from(row, column, out)
     }
 }
 

@@ -114,10 +114,22 @@ impl<'a, T> RowParts<'a, T> {
 }
 
 impl<'a, T> RowParts<'a, T> {
-    /// The row of a matrix, in its two parts. The matrix must be below the number of rows. The rows ahead of it are
-    /// passed one by one.
+    /// The row of a matrix, in its two parts. The matrix must be below the number of rows.
     #[inline]
-    fn nth_row(mut self, matrix: usize) -> (&'a [T], &'a [T]) {
+    fn nth_row(self, matrix: usize) -> (&'a [T], &'a [T]) {
+        match self {
+            RowParts::Vecs(rows) => (row_at(rows, matrix), &[]),
+            RowParts::Slices(rows) => (slice_at(rows, matrix), &[]),
+            RowParts::Salted { rows, salts } => (row_at(rows, matrix), row_at(salts, matrix)),
+            RowParts::SaltedSlices { rows, salts } => (slice_at(rows, matrix), row_at(salts, matrix)),
+            RowParts::Flat { .. } => self.row_after(matrix),
+        }
+    }
+
+    /// The row that follows `matrix` rows, in its two parts. There must be more rows than these, which are passed one
+    /// by one: where a row begins in one slice depends on all before it.
+    #[inline]
+    fn row_after(mut self, matrix: usize) -> (&'a [T], &'a [T]) {
         for _ in 0..matrix {
             self.next_row();
         }
@@ -253,4 +265,10 @@ fn parts_at<'a, T>(sets: &'a [RowParts<'a, T>], query: usize) -> RowParts<'a, T>
 #[inline]
 fn row_at<'a, T>(rows: &'a [Vec<T>], matrix: usize) -> &'a [T] {
     &rows[matrix]
+}
+
+/// The row of a matrix, which must be below the number of rows.
+#[inline]
+fn slice_at<'a, T>(rows: &'a [&'a [T]], matrix: usize) -> &'a [T] {
+    rows[matrix]
 }

@@ -1,5 +1,5 @@
 -- There is a row for each pair of a row and its salts, or for each width.
-use Rattle.std.proofs.Common.{◌≡◌, ◌∙◌, arith, map, sym, []}
+use Rattle.std.proofs.Common.{◌∙◌, arith, map, sym, []}
 use Rattle.std.proofs.lemmas.List.{length-map}
 use Rattle.std.proofs.lemmas.Slice.Zip.{length-zip}
 use Rattle.p3_support.specs.Batches.{widths_of}

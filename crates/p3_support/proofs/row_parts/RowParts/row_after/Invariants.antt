@@ -1,6 +1,6 @@
 use Rattle.std.proofs.Common.{◌≡◌, drop}
 use Rattle.p3_support.specs.Rows.{parts_of}
-use Rattle.p3_support.proofs.row_parts.RowParts.nth_row.Given as goal
+use Rattle.p3_support.proofs.row_parts.RowParts.row_after.Given as goal
 
 -- as many rows are passed as there were turns
 abbrev pub invariant-loop : goal.invariant-loop

@@ -1,4 +1,4 @@
-//! The speed of both, line by line: `compare bench [PART ..]`. README.md says how to run it.
+//! The speed of both, line by line: `bench [PART ..]`. README.md says how to run it.
 
 mod functions;
 mod lines;
@@ -7,6 +7,7 @@ mod work;
 
 use functions::{Eight, Fold, Sha256};
 use lines::{Form, Hash, LINES, Lines, Shape, Work};
+use std::process::ExitCode;
 use times::Times;
 
 /// What is timed of one line.
@@ -84,17 +85,18 @@ fn lines_of(parts: &[String]) -> Vec<(Line, [f64; 2])> {
     found
 }
 
-/// Times the lines of parts, or all where no part is named, and prints them. Returns how many are above their limits.
-pub fn run(parts: &[String]) -> usize {
+/// Times the lines of the parts that are named, or all, and prints them. It fails if one is above its limit.
+fn main() -> ExitCode {
+    let parts: Vec<String> = std::env::args().skip(1).collect();
     println!(
         "{:<14} {:>7} {:<10} {:<7} {:<13} N {:>11} {:>11} {:>6} {:>5}",
         "work", "queries", "hash", "form", "matrices", "here us", "original us", "ratio", "limit"
     );
-    let mut over = 0;
-    for (line, limits) in lines_of(parts) {
+    let mut all_within = true;
+    for (line, limits) in lines_of(&parts) {
         for (arity, limit) in [2, 4].into_iter().zip(limits) {
-            over += usize::from(!line.is_within(arity, limit));
+            all_within &= line.is_within(arity, limit);
         }
     }
-    over
+    if all_within { ExitCode::SUCCESS } else { ExitCode::FAILURE }
 }
