@@ -3,6 +3,8 @@
 use alloc::vec::Vec;
 use core::array;
 use core::iter;
+#[cfg(feature = "parallel")]
+use fohlazu::parallel::Parallel;
 use fohlazu::support::{self, AllocError, TryClone};
 use p3_field::PackedValue;
 use p3_matrix::Matrix;
@@ -128,6 +130,27 @@ where
         let group: [[PW; D]; N] = input.map(|digest| digest.map(|packed| packed.0));
         self.0.compress(group).map(Packed)
     }
+}
+
+/// A hasher and a compression, as builders of trees take them: with the feature `parallel` their calls for many
+/// messages split their work among threads.
+pub(crate) fn for_builders<P, PW, H, C, const N: usize, const D: usize>(
+    hash: &H,
+    compress: &C,
+) -> (
+    impl support::CryptographicHasher<Packed<P>, Packed<PW>, D>,
+    impl support::PseudoCompressionFunction<Packed<PW>, N, D>,
+)
+where
+    P: PackedValue,
+    PW: PackedValue,
+    H: CryptographicHasher<P::Value, [PW::Value; D]> + CryptographicHasher<P, [PW; D]> + Sync,
+    C: PseudoCompressionFunction<[PW::Value; D], N> + PseudoCompressionFunction<[PW; D], N> + Sync,
+{
+    let (hash, compress) = (Hasher(hash), Compression(compress));
+    #[cfg(feature = "parallel")]
+    let (hash, compress) = (Parallel(hash), Parallel(compress));
+    (hash, compress)
 }
 
 /// A matrix that a tree owns, with its height and its width: a matrix of Plonky3 may compute its height by a division,

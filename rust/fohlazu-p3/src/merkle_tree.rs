@@ -1,6 +1,6 @@
 //! The tree over a batch of matrices.
 
-use crate::adapt::{Compression, Hasher, Owned, Packed};
+use crate::adapt::{Owned, Packed, for_builders};
 use crate::error::built;
 use alloc::vec::Vec;
 use core::fmt;
@@ -55,8 +55,9 @@ where
         C: PseudoCompressionFunction<[W; DIGEST_ELEMS], N> + PseudoCompressionFunction<[PW; DIGEST_ELEMS], N> + Sync,
     {
         assert!(!leaves.is_empty(), "No matrices given?");
+        let (hash, compress) = for_builders::<P, PW, H, C, N, DIGEST_ELEMS>(h, c);
         let leaves = leaves.into_iter().map(Owned::new).collect();
-        MerkleTree { proved: built(Tree::new::<Packed<P>, Packed<PW>, _, _>(&Hasher(h), &Compression(c), leaves)) }
+        MerkleTree { proved: built(Tree::new::<Packed<P>, Packed<PW>, _, _>(&hash, &compress, leaves)) }
     }
 
     /// The root.
