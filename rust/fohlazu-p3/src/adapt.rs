@@ -1,10 +1,10 @@
 //! Packed values, hashers, compressions and matrices of Plonky3, as the proved code takes them.
 
+use crate::mmcs::Proved;
 use alloc::vec::Vec;
 use core::array;
 use core::iter;
-#[cfg(feature = "parallel")]
-use fohlazu::parallel::Parallel;
+use fohlazu::merkle_tree::{MerkleCap, MerkleTree, MerkleTreeError};
 use fohlazu::support::{self, AllocError, TryClone};
 use p3_field::PackedValue;
 use p3_matrix::Matrix;
@@ -132,25 +132,44 @@ where
     }
 }
 
-/// A hasher and a compression, as builders of trees take them: with the feature `parallel` their calls for many
-/// messages split their work among threads.
-pub(crate) fn for_builders<P, PW, H, C, const N: usize, const D: usize>(
-    hash: &H,
-    compress: &C,
-) -> (
-    impl support::CryptographicHasher<Packed<P>, Packed<PW>, D>,
-    impl support::PseudoCompressionFunction<Packed<PW>, N, D>,
-)
+/// Commits to matrices by a scheme: on the threads of rayon with the feature `parallel`, else on this one.
+pub(crate) fn commit<P, PW, H, C, M, const N: usize, const D: usize>(
+    scheme: &Proved<'_, P, PW, H, C, N, D>,
+    matrices: Vec<M>,
+) -> Result<(MerkleCap<P::Value, [PW::Value; D]>, MerkleTree<P::Value, PW::Value, Owned<M>, N, D>), MerkleTreeError>
 where
     P: PackedValue,
     PW: PackedValue,
     H: CryptographicHasher<P::Value, [PW::Value; D]> + CryptographicHasher<P, [PW; D]> + Sync,
     C: PseudoCompressionFunction<[PW::Value; D], N> + PseudoCompressionFunction<[PW; D], N> + Sync,
+    M: Matrix<P::Value>,
 {
-    let (hash, compress) = (Hasher(hash), Compression(compress));
+    let matrices = matrices.into_iter().map(Owned::new).collect();
     #[cfg(feature = "parallel")]
-    let (hash, compress) = (Parallel(hash), Parallel(compress));
-    (hash, compress)
+    return fohlazu::parallel::commit(scheme, matrices);
+    #[cfg(not(feature = "parallel"))]
+    scheme.commit(matrices)
+}
+
+/// Builds the tree over matrices: on the threads of rayon with the feature `parallel`, else on this one.
+pub(crate) fn tree<P, PW, H, C, M, const N: usize, const D: usize>(
+    hash: &H,
+    compress: &C,
+    matrices: Vec<M>,
+) -> Result<MerkleTree<P::Value, PW::Value, Owned<M>, N, D>, MerkleTreeError>
+where
+    P: PackedValue,
+    PW: PackedValue,
+    H: CryptographicHasher<P::Value, [PW::Value; D]> + CryptographicHasher<P, [PW; D]> + Sync,
+    C: PseudoCompressionFunction<[PW::Value; D], N> + PseudoCompressionFunction<[PW; D], N> + Sync,
+    M: Matrix<P::Value>,
+{
+    let (hash, compress) = (&Hasher(hash), &Compression(compress));
+    let matrices = matrices.into_iter().map(Owned::new).collect();
+    #[cfg(feature = "parallel")]
+    return fohlazu::parallel::tree::<Packed<P>, Packed<PW>, _, _, _, N, D>(hash, compress, matrices);
+    #[cfg(not(feature = "parallel"))]
+    MerkleTree::new::<Packed<P>, Packed<PW>, _, _>(hash, compress, matrices)
 }
 
 /// A matrix that a tree owns, with its height and its width: a matrix of Plonky3 may compute its height by a division,

@@ -1,6 +1,6 @@
 //! The tree over a batch of matrices.
 
-use crate::adapt::{Owned, Packed, for_builders};
+use crate::adapt::{self, Owned};
 use crate::error::built;
 use alloc::vec::Vec;
 use core::fmt;
@@ -55,9 +55,7 @@ where
         C: PseudoCompressionFunction<[W; DIGEST_ELEMS], N> + PseudoCompressionFunction<[PW; DIGEST_ELEMS], N> + Sync,
     {
         assert!(!leaves.is_empty(), "No matrices given?");
-        let (hash, compress) = for_builders::<P, PW, H, C, N, DIGEST_ELEMS>(h, c);
-        let leaves = leaves.into_iter().map(Owned::new).collect();
-        MerkleTree { proved: built(Tree::new::<Packed<P>, Packed<PW>, _, _>(&hash, &compress, leaves)) }
+        MerkleTree { proved: built(adapt::tree::<P, PW, H, C, M, N, DIGEST_ELEMS>(h, c, leaves)) }
     }
 
     /// The root.

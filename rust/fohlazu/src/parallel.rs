@@ -26,6 +26,11 @@
 use crate::fallible::{AllocError, TryClone};
 use crate::support::{CryptographicHasher, PackedValue, PseudoCompressionFunction, pack_columns_fn, unpack_at};
 use core::array::from_fn;
+use core::convert::Infallible;
+
+mod trees;
+
+pub use trees::{commit, tree};
 
 /// How many messages the builders give to one call, where a layer has as many.
 // Enough that threads which wake for a call find work for far longer than they take to wake.
@@ -89,22 +94,22 @@ fn piece_of(count: usize, bytes: usize, lanes: usize) -> usize {
     piece.checked_next_multiple_of(lanes.max(1)).unwrap_or(count)
 }
 
-/// Runs `work` on pieces of the messages, each with the places of its digests, by the threads of the pool. There is a
-/// message of `width` items for each place of `out`, and a piece has `piece` messages, but for the last one.
-fn in_pieces<T: Sync, X: Send>(
-    messages: &[T],
-    width: usize,
+/// Runs `work` on pieces of `out` that follow one another, each with the place of its first item, by the threads of the
+/// pool. The places begin with `first`, and a piece has `piece` items, but for the last one.
+fn in_pieces<X: Send, E: Send>(
     out: &mut [X],
+    first: usize,
     piece: usize,
-    work: &(impl Fn(&[T], &mut [X]) + Sync),
-) {
+    work: &(impl Fn(usize, &mut [X]) -> Result<(), E> + Sync),
+) -> Result<(), E> {
     if out.len() <= piece {
-        return work(messages, out);
+        return work(first, out);
     }
     let half = out.len().div_ceil(piece) / 2 * piece;
-    let (front, back) = messages.split_at(half * width);
-    let (front_out, back_out) = out.split_at_mut(half);
-    rayon::join(|| in_pieces(front, width, front_out, piece, work), || in_pieces(back, width, back_out, piece, work));
+    let (front, back) = out.split_at_mut(half);
+    let (front, back) =
+        rayon::join(|| in_pieces(front, first, piece, work), || in_pieces(back, first + half, piece, work));
+    front.and(back)
 }
 
 /// Writes the digest of message `i` into `out[i]`, for messages of `width` words: by `hash_many`, or packed where the
@@ -181,8 +186,9 @@ where
         let bytes = size_of_val(&messages[..width]);
         let lanes = if H::LANES > 1 { H::LANES } else { P::WIDTH };
         let piece = piece_of(out.len(), bytes, lanes);
-        in_pieces(messages, width, out, piece, &|messages: &[P::Value], out: &mut [[PW::Value; D]]| {
-            hash_piece(&self.0, messages, width, out);
+        let Ok(()) = in_pieces(out, 0, piece, &|first, out: &mut [[PW::Value; D]]| {
+            hash_piece(&self.0, &messages[first * width..][..out.len() * width], width, out);
+            Ok::<_, Infallible>(())
         });
     }
 
@@ -206,8 +212,9 @@ where
         assert!(groups.len() == out.len(), "equal_lengths");
         let lanes = if C::LANES > 1 { C::LANES } else { PW::WIDTH };
         let piece = piece_of(out.len(), size_of::<[[PW::Value; D]; N]>(), lanes);
-        in_pieces(groups, 1, out, piece, &|groups: &[[[PW::Value; D]; N]], out: &mut [[PW::Value; D]]| {
-            compress_piece(&self.0, groups, out);
+        let Ok(()) = in_pieces(out, 0, piece, &|first, out: &mut [[PW::Value; D]]| {
+            compress_piece(&self.0, &groups[first..][..out.len()], out);
+            Ok::<_, Infallible>(())
         });
     }
 
