@@ -1,10 +1,8 @@
 //! Packed values, hashers, compressions and matrices of Plonky3, as the proved code takes them.
 
-use crate::mmcs::Proved;
 use alloc::vec::Vec;
 use core::array;
 use core::iter;
-use fohlazu::merkle_tree::{MerkleCap, MerkleTree, MerkleTreeError};
 use fohlazu::support::{self, AllocError, TryClone};
 use p3_field::PackedValue;
 use p3_matrix::Matrix;
@@ -130,46 +128,6 @@ where
         let group: [[PW; D]; N] = input.map(|digest| digest.map(|packed| packed.0));
         self.0.compress(group).map(Packed)
     }
-}
-
-/// Commits to matrices by a scheme: on the threads of rayon with the feature `parallel`, else on this one.
-pub(crate) fn commit<P, PW, H, C, M, const N: usize, const D: usize>(
-    scheme: &Proved<'_, P, PW, H, C, N, D>,
-    matrices: Vec<M>,
-) -> Result<(MerkleCap<P::Value, [PW::Value; D]>, MerkleTree<P::Value, PW::Value, Owned<M>, N, D>), MerkleTreeError>
-where
-    P: PackedValue,
-    PW: PackedValue,
-    H: CryptographicHasher<P::Value, [PW::Value; D]> + CryptographicHasher<P, [PW; D]> + Sync,
-    C: PseudoCompressionFunction<[PW::Value; D], N> + PseudoCompressionFunction<[PW; D], N> + Sync,
-    M: Matrix<P::Value>,
-{
-    let matrices = matrices.into_iter().map(Owned::new).collect();
-    #[cfg(feature = "parallel")]
-    return fohlazu::parallel::commit(scheme, matrices);
-    #[cfg(not(feature = "parallel"))]
-    scheme.commit(matrices)
-}
-
-/// Builds the tree over matrices: on the threads of rayon with the feature `parallel`, else on this one.
-pub(crate) fn tree<P, PW, H, C, M, const N: usize, const D: usize>(
-    hash: &H,
-    compress: &C,
-    matrices: Vec<M>,
-) -> Result<MerkleTree<P::Value, PW::Value, Owned<M>, N, D>, MerkleTreeError>
-where
-    P: PackedValue,
-    PW: PackedValue,
-    H: CryptographicHasher<P::Value, [PW::Value; D]> + CryptographicHasher<P, [PW; D]> + Sync,
-    C: PseudoCompressionFunction<[PW::Value; D], N> + PseudoCompressionFunction<[PW; D], N> + Sync,
-    M: Matrix<P::Value>,
-{
-    let (hash, compress) = (&Hasher(hash), &Compression(compress));
-    let matrices = matrices.into_iter().map(Owned::new).collect();
-    #[cfg(feature = "parallel")]
-    return fohlazu::parallel::tree::<Packed<P>, Packed<PW>, _, _, _, N, D>(hash, compress, matrices);
-    #[cfg(not(feature = "parallel"))]
-    MerkleTree::new::<Packed<P>, Packed<PW>, _, _>(hash, compress, matrices)
 }
 
 /// A matrix that a tree owns, with its height and its width: a matrix of Plonky3 may compute its height by a division,

@@ -3,7 +3,7 @@
 use super::{in_pieces, piece_of};
 use crate::erased::p3_merkle_core::geometry::padded_len;
 use crate::erased::p3_merkle_core::layer_shape::LayerShape;
-use crate::erased::p3_merkle_core::schedule::OwnedSchedule;
+use crate::erased::p3_merkle_core::schedule::{OwnedSchedule, Schedule};
 use crate::erased::p3_merkle_hashing::rows::LayerRows;
 use crate::erased::p3_merkle_prover::checked::{CheckedMatrices, checked_matrices};
 use crate::erased::p3_merkle_prover::layer::{Buffers, LayerBuilder};
@@ -114,6 +114,19 @@ where
         })?;
         Ok(slots)
     }
+
+    /// All layers, from the leaves to the root.
+    fn layers(&self, schedule: &Schedule<'_>) -> Result<Vec<Vec<[PW::Value; D]>>, AllocError> {
+        let mut layers = Vec::with_room(schedule.num_levels + 1)?;
+        layers.try_push(self.leaf_layer(schedule.max_height)?)?;
+        let (mut exponent, mut len) = (schedule.exponent, schedule.max_height);
+        for below in 0..schedule.num_levels {
+            let level = schedule.layer_above(below, exponent, len);
+            layers.try_push(self.next_layer(level, &layers[below])?)?;
+            (exponent, len) = (level.exponent, level.raw_len);
+        }
+        Ok(layers)
+    }
 }
 
 /// So many default digests.
@@ -149,19 +162,15 @@ where
     let kept = OwnedSchedule::new(dimensions, N);
     let schedule = kept.schedule();
     let builder = Builder::<P, PW, H, C, M, N, D> { hash, compress, matrices: &matrices, item: PhantomData };
-    let mut layers = Vec::with_room(schedule.num_levels + 1)?;
-    layers.try_push(builder.leaf_layer(schedule.max_height)?)?;
-    let (mut exponent, mut len) = (schedule.exponent, schedule.max_height);
-    for below in 0..schedule.num_levels {
-        let level = schedule.layer_above(below, exponent, len);
-        layers.try_push(builder.next_layer(level, &layers[below])?)?;
-        (exponent, len) = (level.exponent, level.raw_len);
-    }
+    // A call from outside the pool waits for one of its threads, so there is one such call, not one for each layer.
+    let (layers, ()) = rayon::join(|| builder.layers(&schedule), || ());
+    let layers = layers?;
     Ok(Tree { matrices, schedule: kept, layers, item: PhantomData })
 }
 
 /// Commits as [`MerkleTreeMmcs::commit`] does, with the same errors, on the threads of `rayon`'s current pool: see
 /// [`tree`].
+#[allow(clippy::type_complexity)]
 pub fn commit<P, PW, H, C, M, const N: usize, const D: usize>(
     scheme: &MerkleTreeMmcs<P, PW, H, C, N, D>,
     matrices: Vec<M>,
