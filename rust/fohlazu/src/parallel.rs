@@ -1,6 +1,11 @@
-//! Threads: a hasher and a compression whose calls for many messages split their work among the threads of `rayon`.
+//! Threads: trees that the threads of `rayon` build, and a hasher and a compression whose calls for many messages split
+//! their work among them.
 //!
-//! The builders of trees run on the thread that calls them. What they hash they give to
+//! [`commit`] and [`tree`] split each layer, and the threads read the rows that they hash. They build what
+//! [`MerkleTreeMmcs::commit`](crate::merkle_tree::MerkleTreeMmcs::commit) and
+//! [`MerkleTree::new`](crate::merkle_tree::MerkleTree::new) build.
+//!
+//! All other builders of trees run on the thread that calls them. What they hash they give to
 //! [`hash_many`](CryptographicHasher::hash_many) and [`compress_many`](PseudoCompressionFunction::compress_many), many
 //! messages a call. [`Parallel`] splits those calls, and nothing else: a scheme of wrapped functions has the caps, the
 //! trees and the openings of the scheme of the functions themselves, and its verifier hashes on one thread.
@@ -8,7 +13,7 @@
 //! ```
 //! use fohlazu::hashes::{FoldCompress, FoldHash};
 //! use fohlazu::merkle_tree::MerkleTreeMmcs;
-//! use fohlazu::parallel::Parallel;
+//! use fohlazu::parallel::{self, Parallel};
 //! use fohlazu::support::RowMajorMatrix;
 //!
 //! let words: Vec<u32> = (0..80_000).collect();
@@ -16,6 +21,8 @@
 //! let (hash, compress) = (FoldHash::<8>, FoldCompress::<2, 8>);
 //! let serial = MerkleTreeMmcs::<u32, u32, _, _, 2, 1>::new(hash, compress, 0);
 //! let parallel = MerkleTreeMmcs::<u32, u32, _, _, 2, 1>::new(Parallel(hash), Parallel(compress), 0);
+//! let (cap, _) = parallel::commit(&serial, vec![&matrix])?;
+//! assert_eq!(cap.roots(), serial.commit(vec![&matrix])?.0.roots());
 //! let (cap, tree) = parallel.commit(vec![&matrix])?;
 //! assert_eq!(cap.roots(), serial.commit(vec![&matrix])?.0.roots());
 //! let opening = parallel.open_batch(17, &tree)?;

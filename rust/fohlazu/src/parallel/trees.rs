@@ -139,10 +139,14 @@ fn default_digests<PW: PackedValue, const D: usize>(count: usize) -> Result<Vec<
 /// Builds the tree that [`MerkleTree::new`] builds, with the same errors, on the threads of `rayon`'s current pool.
 ///
 /// Each layer is split into pieces, and a thread reads, copies and hashes the rows of its pieces. The functions are
-/// called as by `MerkleTree::new`, and need not be wrapped in [`Parallel`](super::Parallel). A panic of theirs or of a
-/// matrix is a panic of this call.
+/// called as by `MerkleTree::new`, and need not be wrapped in [`Parallel`](super::Parallel).
 ///
 /// The compiler refuses a call that breaks one of the conditions of `MerkleTree::new`.
+///
+/// # Panics
+///
+/// A panic of a function or of a matrix is a panic of this call. `rayon` panics where it cannot start its threads, and
+/// allocates what it needs itself: want of memory there is not the error `OutOfMemory`, but ends the program.
 pub fn tree<P, PW, H, C, M, const N: usize, const D: usize>(
     hash: &H,
     compress: &C,
