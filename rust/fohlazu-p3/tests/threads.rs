@@ -114,3 +114,22 @@ fn a_salted_commit_is_on_threads() {
     let here = HashSet::from([thread::current().id()]);
     assert_eq!(noting.take(), [here.clone(), here]);
 }
+
+/// A hasher that refuses rows which begin with a word.
+#[derive(Clone, Copy, Debug)]
+struct Refusing(u32);
+
+impl CryptographicHasher<u32, [u32; 2]> for Refusing {
+    fn hash_iter<I: IntoIterator<Item = u32>>(&self, input: I) -> [u32; 2] {
+        let first = input.into_iter().next().unwrap();
+        assert!(first != self.0, "a refused row");
+        [first, 0]
+    }
+}
+
+#[test]
+#[should_panic(expected = "a refused row")]
+fn a_panic_of_a_hasher_is_a_panic_of_the_commit() {
+    let refusing = Refusing(words(0)[3 * 39_999]);
+    MerkleTreeMmcs::<u32, u32, _, _, 2, 2>::new(refusing, Noting::default(), 0).commit(matrices());
+}
