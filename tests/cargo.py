@@ -3,8 +3,8 @@
 
 With `quick`: the examples, the worked rows, the proofs of logs, rows in each form, and each request for memory refused,
 but for what takes long without optimization; and a user's program over fohlazu-p3. `make check` runs it ahead of the
-proofs. Without a word: all of `cargo test` with all features, the stored answers of the Rust crate among them; then
-`cargo check` without the default features, and `cargo doc`, which must not warn.
+proofs. Without a word: all of `cargo test` with all features, the stored answers of the Rust crate among them, and of
+fohlazu-p3 also without features; then `cargo check` without the default features, and `cargo doc`, which must not warn.
 
 With `edits`: the wrong bodies of EDITS below, or those of these names. Each is put into a copy of crates/, which
 tools/erase makes a package of. Then `cargo test` has to fail, and it is said which test fails first.
@@ -143,7 +143,8 @@ def try_quick():
 
 def try_all():
     """Tries everything."""
-    count = passed(["--all-features"])
+    # All features, and what fohlazu-p3 does without its own.
+    count = passed(["--all-features"]) + passed(["--package", "fohlazu-p3"])
     silent(["check", "--all-targets", "--no-default-features"])
     silent(["doc", "--no-deps"], RUSTDOCFLAGS="-D warnings")
     return count

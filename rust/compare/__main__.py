@@ -3,6 +3,7 @@
 python3 rust/compare tests UPSTREAM    the original's own tests over fohlazu-p3
 python3 rust/compare program UPSTREAM    a user's program over both
 python3 rust/compare bench UPSTREAM [PART..]    how long both take
+python3 rust/compare threads UPSTREAM [PART..]    how long both take to commit on all processors
 python3 rust/compare self UPSTREAM    the tests of this program
 
 UPSTREAM is a folder with the original's files: its Cargo package, its sources alone, or flat files, in whose names `--`
@@ -15,6 +16,7 @@ other folder; all else is copied to a temporary folder first, and nothing is eve
 - `program` runs the example `both_schemes` of fohlazu-p3 over both, and compares what it prints.
 - `bench` times both, line by line, of all parts or of those that are named. The status is 1 if a line takes more than it
   may.
+- `threads` does so for commits with the feature `parallel` of both, by rayon as Debian's librust-rayon-dev installs it.
 
 It needs Cargo, and takes the stand-ins of rust/stand-ins for the crates that the original imports. The status is 1 if
 something is wrong, 2 if the words are, 3 if Cargo is missing.
@@ -35,6 +37,8 @@ import program
 import upstream
 
 HERE = TOP / "rust/compare"
+# Where Debian installs crates: rayon and what it needs.
+CRATES = Path("/usr/share/cargo/registry")
 
 
 def cargo(*words, output=None):
@@ -55,12 +59,29 @@ def compare(folder, original, count, seed):
     return cargo("run", *over(folder, original), "--release", "--", count, seed).returncode
 
 
-def bench(folder, original, *parts):
-    """How long both take."""
+def timed(folder, original, parts, *words):
+    """How long both take, compiled by these words of Cargo."""
     # The C library keeps what is freed: else it depends on earlier lines whether a commit waits for pages of the system.
     os.environ.setdefault("GLIBC_TUNABLES",
                           "glibc.malloc.trim_threshold=1073741824:glibc.malloc.mmap_threshold=33554432")
-    return cargo("run", *over(folder, original), "--bin", "bench", "--profile", "bench", "--", *parts).returncode
+    words = [*over(folder, original), *words, "--bin", "bench", "--profile", "bench"]
+    return cargo("run", *words, "--", *parts).returncode
+
+
+def bench(folder, original, *parts):
+    """How long both take."""
+    return timed(folder, original, parts)
+
+
+def threads(folder, original, *parts):
+    """How long both take to commit on all processors."""
+    found = sorted(CRATES.glob("rayon-1.*"))
+    if not found:
+        fail(f"{CRATES} has no rayon", 3)
+    settings = f'patch.crates-io.rayon.path="{found[-1]}"', f'source.crates.directory="{CRATES}"', \
+        'source.crates-io.replace-with="crates"'
+    words = [word for setting in settings for word in ("--config", setting)]
+    return timed(folder, original, parts, *words, "--features", "parallel")
 
 
 def test_this(folder, original):
@@ -98,12 +119,14 @@ def main():
             task, rest = run_program, []
         case ["bench", where, *rest]:
             task = bench
+        case ["threads", where, *rest]:
+            task = threads
         case [where, *rest] if len(rest) == 2 and all(word.isascii() and word.isdecimal() for word in rest):
             task = compare
         case _:
             fail("usage: python3 rust/compare UPSTREAM COUNT SEED, or rust/compare tests UPSTREAM, "
                  "or rust/compare program UPSTREAM, or rust/compare bench UPSTREAM [PART..], "
-                 "or rust/compare self UPSTREAM", 2)
+                 "or rust/compare threads UPSTREAM [PART..], or rust/compare self UPSTREAM", 2)
     if not Path(where).is_dir():
         fail(f"{where} is no folder", 2)
     try:

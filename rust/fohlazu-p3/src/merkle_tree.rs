@@ -55,8 +55,7 @@ where
         C: PseudoCompressionFunction<[W; DIGEST_ELEMS], N> + PseudoCompressionFunction<[PW; DIGEST_ELEMS], N> + Sync,
     {
         assert!(!leaves.is_empty(), "No matrices given?");
-        let leaves = leaves.into_iter().map(Owned::new).collect();
-        MerkleTree { proved: built(Tree::new::<Packed<P>, Packed<PW>, _, _>(&Hasher(h), &Compression(c), leaves)) }
+        tree_over::<P, PW, H, C, M, N, DIGEST_ELEMS>(h, c, leaves)
     }
 
     /// The root.
@@ -82,6 +81,28 @@ where
     pub fn num_layers(&self) -> usize {
         self.proved.num_layers()
     }
+}
+
+/// Builds the tree over matrices: on the threads of rayon with the feature `parallel`, else on this one.
+fn tree_over<P, PW, H, C, M, const N: usize, const D: usize>(
+    hash: &H,
+    compress: &C,
+    leaves: Vec<M>,
+) -> MerkleTree<P::Value, PW::Value, M, N, D>
+where
+    P: PackedValue,
+    PW: PackedValue,
+    H: CryptographicHasher<P::Value, [PW::Value; D]> + CryptographicHasher<P, [PW; D]> + Sync,
+    C: PseudoCompressionFunction<[PW::Value; D], N> + PseudoCompressionFunction<[PW; D], N> + Sync,
+    M: Matrix<P::Value>,
+{
+    let (hash, compress, leaves) =
+        (&Hasher(hash), &Compression(compress), leaves.into_iter().map(Owned::new).collect());
+    #[cfg(feature = "parallel")]
+    let tree = fohlazu::parallel::tree::<Packed<P>, Packed<PW>, _, _, _, N, D>(hash, compress, leaves);
+    #[cfg(not(feature = "parallel"))]
+    let tree = Tree::new::<Packed<P>, Packed<PW>, _, _>(hash, compress, leaves);
+    MerkleTree { proved: built(tree) }
 }
 
 /// A cap in Plonky3's type.

@@ -1,6 +1,11 @@
-//! Threads: a hasher and a compression whose calls for many messages split their work among the threads of `rayon`.
+//! Threads: trees that the threads of `rayon` build, and a hasher and a compression whose calls for many messages split
+//! their work among them.
 //!
-//! The builders of trees run on the thread that calls them. What they hash they give to
+//! [`commit`] and [`tree`] split each layer, and the threads read the rows that they hash. They build what
+//! [`MerkleTreeMmcs::commit`](crate::merkle_tree::MerkleTreeMmcs::commit) and
+//! [`MerkleTree::new`](crate::merkle_tree::MerkleTree::new) build.
+//!
+//! All other builders of trees run on the thread that calls them. What they hash they give to
 //! [`hash_many`](CryptographicHasher::hash_many) and [`compress_many`](PseudoCompressionFunction::compress_many), many
 //! messages a call. [`Parallel`] splits those calls, and nothing else: a scheme of wrapped functions has the caps, the
 //! trees and the openings of the scheme of the functions themselves, and its verifier hashes on one thread.
@@ -8,7 +13,7 @@
 //! ```
 //! use fohlazu::hashes::{FoldCompress, FoldHash};
 //! use fohlazu::merkle_tree::MerkleTreeMmcs;
-//! use fohlazu::parallel::Parallel;
+//! use fohlazu::parallel::{self, Parallel};
 //! use fohlazu::support::RowMajorMatrix;
 //!
 //! let words: Vec<u32> = (0..80_000).collect();
@@ -16,6 +21,8 @@
 //! let (hash, compress) = (FoldHash::<8>, FoldCompress::<2, 8>);
 //! let serial = MerkleTreeMmcs::<u32, u32, _, _, 2, 1>::new(hash, compress, 0);
 //! let parallel = MerkleTreeMmcs::<u32, u32, _, _, 2, 1>::new(Parallel(hash), Parallel(compress), 0);
+//! let (cap, _) = parallel::commit(&serial, vec![&matrix])?;
+//! assert_eq!(cap.roots(), serial.commit(vec![&matrix])?.0.roots());
 //! let (cap, tree) = parallel.commit(vec![&matrix])?;
 //! assert_eq!(cap.roots(), serial.commit(vec![&matrix])?.0.roots());
 //! let opening = parallel.open_batch(17, &tree)?;
@@ -26,6 +33,11 @@
 use crate::fallible::{AllocError, TryClone};
 use crate::support::{CryptographicHasher, PackedValue, PseudoCompressionFunction, pack_columns_fn, unpack_at};
 use core::array::from_fn;
+use core::convert::Infallible;
+
+mod trees;
+
+pub use trees::{commit, tree};
 
 /// How many messages the builders give to one call, where a layer has as many.
 // Enough that threads which wake for a call find work for far longer than they take to wake.
@@ -89,22 +101,22 @@ fn piece_of(count: usize, bytes: usize, lanes: usize) -> usize {
     piece.checked_next_multiple_of(lanes.max(1)).unwrap_or(count)
 }
 
-/// Runs `work` on pieces of the messages, each with the places of its digests, by the threads of the pool. There is a
-/// message of `width` items for each place of `out`, and a piece has `piece` messages, but for the last one.
-fn in_pieces<T: Sync, X: Send>(
-    messages: &[T],
-    width: usize,
+/// Runs `work` on pieces of `out` that follow one another, each with the place of its first item, by the threads of the
+/// pool. The places begin with `first`, and a piece has `piece` items, but for the last one.
+fn in_pieces<X: Send, E: Send>(
     out: &mut [X],
+    first: usize,
     piece: usize,
-    work: &(impl Fn(&[T], &mut [X]) + Sync),
-) {
+    work: &(impl Fn(usize, &mut [X]) -> Result<(), E> + Sync),
+) -> Result<(), E> {
     if out.len() <= piece {
-        return work(messages, out);
+        return work(first, out);
     }
     let half = out.len().div_ceil(piece) / 2 * piece;
-    let (front, back) = messages.split_at(half * width);
-    let (front_out, back_out) = out.split_at_mut(half);
-    rayon::join(|| in_pieces(front, width, front_out, piece, work), || in_pieces(back, width, back_out, piece, work));
+    let (front, back) = out.split_at_mut(half);
+    let (front, back) =
+        rayon::join(|| in_pieces(front, first, piece, work), || in_pieces(back, first + half, piece, work));
+    front.and(back)
 }
 
 /// Writes the digest of message `i` into `out[i]`, for messages of `width` words: by `hash_many`, or packed where the
@@ -181,8 +193,9 @@ where
         let bytes = size_of_val(&messages[..width]);
         let lanes = if H::LANES > 1 { H::LANES } else { P::WIDTH };
         let piece = piece_of(out.len(), bytes, lanes);
-        in_pieces(messages, width, out, piece, &|messages: &[P::Value], out: &mut [[PW::Value; D]]| {
-            hash_piece(&self.0, messages, width, out);
+        let Ok(()) = in_pieces(out, 0, piece, &|first, out: &mut [[PW::Value; D]]| {
+            hash_piece(&self.0, &messages[first * width..][..out.len() * width], width, out);
+            Ok::<_, Infallible>(())
         });
     }
 
@@ -206,8 +219,9 @@ where
         assert!(groups.len() == out.len(), "equal_lengths");
         let lanes = if C::LANES > 1 { C::LANES } else { PW::WIDTH };
         let piece = piece_of(out.len(), size_of::<[[PW::Value; D]; N]>(), lanes);
-        in_pieces(groups, 1, out, piece, &|groups: &[[[PW::Value; D]; N]], out: &mut [[PW::Value; D]]| {
-            compress_piece(&self.0, groups, out);
+        let Ok(()) = in_pieces(out, 0, piece, &|first, out: &mut [[PW::Value; D]]| {
+            compress_piece(&self.0, &groups[first..][..out.len()], out);
+            Ok::<_, Infallible>(())
         });
     }
 

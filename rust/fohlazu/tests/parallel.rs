@@ -1,5 +1,6 @@
 //! Trees that several threads build beside those of one thread, over random batches: each layer, cap and opening is the
-//! same. Then the calls that `Parallel` makes of the functions that it wraps.
+//! same, by the calls that split layers and by functions in `Parallel`. Then the calls that `Parallel` makes of the
+//! functions that it wraps.
 
 use core::convert::Infallible;
 use core::fmt::Debug;
@@ -7,7 +8,7 @@ use fohlazu::hashes::{
     Batched3, FoldCompress, FoldHash, Lanes, Sha256Nodes, Sha256NodesInEights, Sha256Rows, Sha256RowsInEights, U32x8,
 };
 use fohlazu::merkle_tree::{BatchOpeningRef, MerkleTreeHidingMmcs, MerkleTreeMmcs};
-use fohlazu::parallel::Parallel;
+use fohlazu::parallel::{Parallel, commit, tree as tree_on_threads};
 use fohlazu::support::{
     CryptographicHasher, Matrix, PackedValue, PseudoCompressionFunction, RowMajorMatrix, SaltWord, dimensions_of,
 };
@@ -125,12 +126,16 @@ fn plain_agrees<P, PW, H, C, const N: usize, const D: usize>(
     let serial = MerkleTreeMmcs::<P, PW, _, _, N, D>::new(hash, compress, cap_height);
     let parallel = MerkleTreeMmcs::<P, PW, _, _, N, D>::new(Parallel(hash), Parallel(compress), cap_height);
     let (cap, tree) = serial.commit(batch.iter().collect()).unwrap();
-    let (same_cap, same_tree) = parallel.commit(batch.iter().collect()).unwrap();
-    assert_eq!(same_cap, cap, "caps of {dimensions:?}");
-    assert_eq!(same_tree.num_layers(), tree.num_layers());
-    for below_root in 0..tree.num_layers() {
-        assert_eq!(same_tree.cap(below_root).unwrap(), tree.cap(below_root).unwrap(), "a layer of {dimensions:?}");
+    for (same_cap, same_tree) in
+        [parallel.commit(batch.iter().collect()).unwrap(), commit(&serial, batch.iter().collect()).unwrap()]
+    {
+        assert_eq!(same_cap, cap, "caps of {dimensions:?}");
+        assert_eq!(same_tree.num_layers(), tree.num_layers());
+        for below_root in 0..tree.num_layers() {
+            assert_eq!(same_tree.cap(below_root).unwrap(), tree.cap(below_root).unwrap(), "a layer of {dimensions:?}");
+        }
     }
+    let same_tree = tree_on_threads::<P, PW, _, _, _, N, D>(&hash, &compress, batch.iter().collect()).unwrap();
     let height = serial.get_max_height(&tree);
     let indices: Vec<usize> = (0..8).map(|_| random.below(height)).collect();
     for &index in &indices {

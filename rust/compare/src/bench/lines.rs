@@ -17,6 +17,8 @@ pub enum Shape {
     Heights,
     /// A matrix of width 8, and beside it 256 of one row and one word.
     Short,
+    /// A matrix of two to this power rows, of a width.
+    Tall { power: u32, width: usize },
 }
 
 impl Shape {
@@ -33,6 +35,7 @@ impl Shape {
                 dimensions[0] = Dimensions { width: 8, height: ROWS };
                 dimensions
             }
+            Shape::Tall { power, width } => vec![Dimensions { width, height: 1 << power }],
         }
     }
 
@@ -43,6 +46,7 @@ impl Shape {
             Shape::Equal { count, width } => format!("{count} of width {width}"),
             Shape::Heights => "eight heights".into(),
             Shape::Short => "256 short".into(),
+            Shape::Tall { power, width } => format!("2^{power} of {width}"),
         }
     }
 }
@@ -120,7 +124,7 @@ const HALF: [f64; 2] = [0.55, 0.55];
 /// The limit of the verification of openings of one matrix of width 8 by one proof.
 const PRUNED: [f64; 2] = [0.7, 0.7];
 
-/// All lines.
+/// All lines on one thread.
 pub const LINES: &[Lines] = &[
     Lines {
         part: "sizes",
@@ -301,5 +305,38 @@ pub const LINES: &[Lines] = &[
         works: &[Work::OpenTogether, Work::VerifyTogether, Work::Restore],
         queries: &[64, 1024],
         limits: LEVEL,
+    },
+];
+
+/// The limit of a commit on threads.
+const ON_THREADS: [f64; 2] = [1.15, 1.15];
+
+/// What is committed to on threads.
+const TALL: &[Shape] = &[
+    Shape::Tall { power: 16, width: 8 },
+    Shape::Tall { power: 18, width: 8 },
+    Shape::Tall { power: 16, width: 64 },
+    Shape::Tall { power: 18, width: 64 },
+];
+
+/// All lines with the feature `parallel`.
+pub const THREADS: &[Lines] = &[
+    Lines {
+        part: "fold",
+        hashes: &[Hash::OneWord, Hash::EightWords],
+        forms: &[Form::Scalar, Form::Packed, Form::Batched],
+        shapes: TALL,
+        works: &[Work::Commit],
+        queries: &[0],
+        limits: ON_THREADS,
+    },
+    Lines {
+        part: "sha256",
+        hashes: &[Hash::Sha256],
+        forms: &[Form::Scalar, Form::Batched, Form::Salted],
+        shapes: TALL,
+        works: &[Work::Commit],
+        queries: &[0],
+        limits: ON_THREADS,
     },
 ];

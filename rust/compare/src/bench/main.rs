@@ -6,7 +6,7 @@ mod times;
 mod work;
 
 use functions::{Eight, Fold, Sha256};
-use lines::{Form, Hash, LINES, Lines, Shape, Work};
+use lines::{Form, Hash, LINES, Lines, Shape, THREADS, Work};
 use std::process::ExitCode;
 use times::Times;
 
@@ -31,6 +31,7 @@ impl Line {
             (Work::Commit, Hash::EightWords, Form::Scalar) => work::commit::<u32, _, N, 8>(Fold::<1>, dimensions),
             (Work::Commit, Hash::EightWords, Form::Packed) => work::commit::<Eight, _, N, 8>(Fold::<1>, dimensions),
             (Work::Commit, Hash::EightWords, Form::Batched) => work::commit::<u32, _, N, 8>(Fold::<8>, dimensions),
+            (Work::Commit, Hash::Sha256, Form::Scalar) => work::commit::<u8, _, N, 32>(Sha256::<1>, dimensions),
             (Work::Commit, Hash::Sha256, Form::Batched) => work::commit::<u8, _, N, 32>(Sha256::<8>, dimensions),
             (Work::Commit, Hash::Sha256, Form::Salted) => work::commit_salted::<u8, _, N, 32>(Sha256::<1>, dimensions),
             (_, Hash::OneWord, Form::Scalar) => work::open::<u32, _, N, 1>(Fold::<1>, work, queries, dimensions),
@@ -67,7 +68,8 @@ impl Line {
 /// The lines of parts, or all where no part is named, each with its limits at the arities 2 and 4.
 fn lines_of(parts: &[String]) -> Vec<(Line, [f64; 2])> {
     let mut found = Vec::new();
-    for &Lines { part, hashes, forms, shapes, works, queries, limits } in LINES {
+    let table = if cfg!(feature = "parallel") { THREADS } else { LINES };
+    for &Lines { part, hashes, forms, shapes, works, queries, limits } in table {
         if !parts.is_empty() && !parts.iter().any(|name| name == part) {
             continue;
         }

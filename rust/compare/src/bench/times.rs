@@ -1,8 +1,8 @@
-//! The times of two calls that do the same, by the processor's clock.
+//! The times of two calls that do the same: of the processor, or with the feature `parallel` of the clock on the wall.
 
 use std::time::Duration;
 
-/// How long both calls of a line are repeated, in processor time.
+/// How long both calls of a line are repeated.
 const SPENT: Duration = Duration::from_millis(800);
 
 /// How often both calls are run, at least and at most.
@@ -20,15 +20,16 @@ unsafe extern "C" {
     fn clock_gettime(clock: std::ffi::c_int, time: *mut Timespec) -> std::ffi::c_int;
 }
 
-/// The clock of what the process has had of the processors, by Linux's number.
-const CLOCK_PROCESS_CPUTIME_ID: std::ffi::c_int = 2;
+/// The clock of what the process has had of the processors, by Linux's number, or the one that never stops: what
+/// threads do at once counts once.
+const CLOCK: std::ffi::c_int = if cfg!(feature = "parallel") { 1 } else { 2 };
 
-/// The processor time that this process has taken.
-fn processor_time() -> Duration {
+/// What the clock shows.
+fn now() -> Duration {
     let mut time = Timespec { seconds: 0, nanoseconds: 0 };
     // SAFETY: the call writes a `timespec`, which has these two fields where `long` has the width of a pointer.
-    let status = unsafe { clock_gettime(CLOCK_PROCESS_CPUTIME_ID, &mut time) };
-    assert_eq!(status, 0, "a clock of processor time");
+    let status = unsafe { clock_gettime(CLOCK, &mut time) };
+    assert_eq!(status, 0, "a clock");
     Duration::new(time.seconds as u64, time.nanoseconds as u32)
 }
 
@@ -51,9 +52,9 @@ impl Times {
 
 /// Runs a call on an input that is made before, and returns its time. What it returns is dropped after.
 fn timed<I, O>(input: I, call: &mut impl FnMut(I) -> O) -> Duration {
-    let start = processor_time();
+    let start = now();
     let output = call(std::hint::black_box(input));
-    let time = processor_time() - start;
+    let time = now() - start;
     drop(std::hint::black_box(output));
     time
 }

@@ -1,9 +1,16 @@
 //! A stand-in for `p3-maybe-rayon` 0.8, where no registry is reached: the calls that p3-merkle-tree 0.8.0 makes, in one
-//! thread.
+//! thread, or with the feature `parallel` those of rayon.
 #![no_std]
 #![forbid(unsafe_code)]
 
 /// What p3-merkle-tree takes, by names that it does not write.
+#[cfg(feature = "parallel")]
+pub mod prelude {
+    pub use rayon::prelude::*;
+}
+
+/// What p3-merkle-tree takes, by names that it does not write.
+#[cfg(not(feature = "parallel"))]
 pub mod prelude {
     use core::slice::{Chunks, ChunksExactMut, ChunksMut};
 
