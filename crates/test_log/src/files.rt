@@ -59,8 +59,8 @@ impl Read for Pieces<'_> {
 
 /// `file CUT LIMIT NODES ENTRIES READS FILE`: what is read of a file, up to LIMIT entries, or to its end where LIMIT is
 /// `-`. It has the size, the first four bytes of the root and of each node, and the length of each entry with the first
-/// four bytes of its SHA-256. A read gives READS bytes at most, and is interrupted first; with `!` after it a read fails
-/// where the bytes end, which `!would-block` and `!timed-out` say how.
+/// four bytes of its SHA-256. A read gives READS bytes at most, and is interrupted first; with `!`, `!would-block` or
+/// `!timed-out` after it a read fails so where the bytes end.
 pub fn file(case: &mut Case<'_>) -> Result<()> {
     let (framing, limit) = (case.framing()?, case.word().parse().ok());
     let (nodes, entries) = (case.nodes()?, case.numbers()?);
