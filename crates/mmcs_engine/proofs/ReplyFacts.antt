@@ -130,7 +130,8 @@ module _ {S D V : Type 0} (remaining : S → Option (List ℕ)) (contents : D �
     unwritten wrote =
         let told : Prints args (remaining input) (λ t. AppendsPrefix (contents output) (contents output_left) t) =
         printed (remaining input) (λ t. AppendsPrefix (contents output) (contents output_left) t)
-        (λ t same. subst (λ (s : List ℕ). AppendsPrefix (contents output) (contents output_left) s) same wrote) prints in
+        (λ t same. subst (λ (s : List ℕ). AppendsPrefix (contents output) (contents output_left) s) same wrote)
+        prints in
         let never : ◌≡◌ {A = Result (Unit {0}) Fault} (Err Write) (Err Usage) → ⊥ = λ is. cc in
         record {
           usage = no_usage (Err Write) never;

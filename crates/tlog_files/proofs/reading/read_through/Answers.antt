@@ -1,6 +1,6 @@
 -- What was read so far has been built.
 use Rattle.std.proofs.Common.{◌⊎◌, ℕ, List, ◌≡◌, ◌++◌, ◌∙◌, [], append-nil, arith, inl, inr, leb-true, refl, subst, sym}
-use Rattle.std.proofs.Common.{length-take, take}
+use Rattle.std.proofs.Common.{length-take, take, ⊎_elim}
 use Rattle.std.proofs.lemmas.Result.{err_from_is_err_and}
 use Rattle.std.specs.Io.KnownBytes.{Consumes, ReadConsumes}
 use Rattle.tlog_files.specs.Inner.Splitting.{AreTooMany, IsReady}
@@ -9,7 +9,7 @@ use Rattle.tlog_files.specs.declared.error.ReadError.{ReadError}
 use Rattle.tlog_files.specs.declared.error.ReadError.TheVariants.{OutOfMemory, TooManyEntries}
 use Rattle.tlog_files.proofs.ReaderFacts.{grown_on, read_on, refused_reading, whole_read}
 use Rattle.std.proofs.KnownBytes.{Consumes-kept, Consumes-nil, Consumes-trans}
-use Rattle.tlog_files.proofs.reading.read_through.Goals.{in-Ok+in_ok-tree-in-Ok, in-Err}
+use Rattle.tlog_files.proofs.reading.read_through.Goals.{in-Ok+in_ok-tree-in-Ok, in-Err+in_default}
 use Rattle.tlog_files.proofs.reading.read_through.Goals as goal
 
 pub loop-turn-init : goal.loop-turn-init
@@ -92,7 +92,7 @@ loop-turn-preserved g c =
                       )),
                 );
           }
-      | in-Err w ↦
+      | in-Err+in_default w ↦
           record {
             wide = omega (arith, c.read.auto.buf, c.loop-turn.invariant.wide);
             ready = subst IsReady (sym w.splitter-is) c.loop-turn.invariant.ready;
@@ -106,6 +106,10 @@ loop-turn-preserved g c =
                 );
           }
     ]
+
+pub returns-in-Some-clause-refused : goal.returns-in-Some-clause-refused
+returns-in-Some-clause-refused g c =
+    λ nodes wanted b. ⊎_elim inl (λ failed. inr (inl failed)) c.in-Some.ensures.either
 
 abbrev IsRefused : ReadError → Framing → ℕ → List ℕ → Type 0
 IsRefused e framing limit bytes = (e ≡ OutOfMemory) ⊎ ((e ≡ TooManyEntries) × AreTooMany framing limit bytes)
