@@ -1,4 +1,4 @@
--- Inputs are read one after another, and a text is written piece by piece.
+-- Inputs are read one after another, and an error ends a run.
 use Rattle.std.proofs.Common.{◌≡◌, ◌⊎◌, ◌∙◌, ◌+◌, List, [], ◌∷◌, ◌++◌, ℕ, Option, None, Some, Result, Ok, Err, Vec}
 use Rattle.std.proofs.Common.{Global, ap, arith, inl, inr, ⊎_elim, length, map, refl, subst, sym, add-zero}
 use Rattle.std.proofs.Common.{take, take_all, Bool, true, false}

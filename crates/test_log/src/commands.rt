@@ -86,10 +86,9 @@ pub fn seal(case: &mut Case<'_>) -> Result<()> {
         file: bytes.as_slice(),
     };
     ensure!(command.is_well_formed(), "no command");
-    let mut output = Output {
-        taken: Vec::new(case.alloc),
-        calls_left,
-    };
+    // So that no write fails for want of memory.
+    let taken = Vec::with_capacity(case.alloc, calls_left)?;
+    let mut output = Output { taken, calls_left };
     if let Err(error) = run(case.alloc, command, &mut output) {
         write!(case.answer, "{error} ")?;
     }
