@@ -3,14 +3,12 @@ use Rattle.std.specs.Prelude.{ℕ, ◌*◌, ◌/◌, ◌^◌, ◌≤◌, ◌<◌
 use Rattle.std.specs.Prelude.{List, [], ◌∷◌, ◌++◌, length, take, drop, map, slice_index_or, Option, None, Some, IfSome}
 use Rattle.std.specs.Prelude.{◌≡◌, ◌⊎◌, if◌then◌else◌}
 use Rattle.std.specs.List.{list_all, range_with_len, slice_split}
-use Rattle.std.specs.declared.io.ErrorKind.{ErrorKind}
-use Rattle.std.specs.declared.io.ErrorKind.TheVariants.{Interrupted, OutOfMemory as NoMemory}
 use Rattle.tlog_files.specs.declared.framing.Framing.{Framing}
 use Rattle.tlog_files.specs.declared.framing.Framing.TheVariants.{Lines, Blocks}
 use Rattle.tlog_files.specs.declared.framing.PartialLine.{PartialLine}
 use Rattle.tlog_files.specs.declared.framing.PartialLine.TheVariants.{Refuse, LeaveOut, Include}
 use Rattle.tlog_files.specs.declared.error.ReadError.{ReadError}
-use Rattle.tlog_files.specs.declared.error.ReadError.TheVariants.{EndsInsideLine, OutOfMemory, Read, TooManyEntries}
+use Rattle.tlog_files.specs.declared.error.ReadError.TheVariants.{EndsInsideLine, TooManyEntries}
 
 -- the size of a block, from 1 byte to 2^30
 abbrev pub IsFraming : Framing → Type 0
@@ -94,12 +92,6 @@ abbrev pub read_refusal : Framing → Option ℕ → List ℕ → Option ReadErr
 read_refusal framing limit bytes =
     if nat_le (length (first_entries limit (entries_in framing bytes))) (2 ^ 62)
     then (if is_refused framing limit bytes then Some EndsInsideLine else None) else Some TooManyEntries
-
--- what ends the reading after a read that failed so: nothing if it was interrupted, and is tried again
-abbrev pub failure_of : ErrorKind → Option ReadError
-failure_of Interrupted = None
-failure_of NoMemory = Some OutOfMemory
-failure_of kind = Some Read
 
 -- what is read of a file, no further than its first entries: no bytes, or bytes that without the last 2^20, or fewer,
 -- do not have all of these

@@ -1,7 +1,7 @@
 //! Why a file is not read.
 
 ghost use Rattle.std.specs.Prelude.{◌≡◌, ◌⊎◌, IfSome};
-ghost use Rattle.tlog_files.specs.Entries.{failure_of};
+ghost use Rattle.tlog_files.specs.Inner.Failures.{failure_of};
 ghost use Rattle.tlog_files.specs.declared.error.ReadError.TheVariants.{OutOfMemory, Read};
 
 use std::alloc::AllocError;
