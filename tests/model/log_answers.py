@@ -141,7 +141,7 @@ def file(cut, limit, nodes, wanted, reads, data):
     limit = None if limit == "-" else int(limit)
     if limit is None or len(found) < limit:
         # The reader comes to the end.
-        if reads.endswith("!"):
+        if "!" in reads:
             return "cannot be read"
         if is_refused:
             return "ends inside a line"
@@ -156,9 +156,20 @@ def file(cut, limit, nodes, wanted, reads, data):
 
 def read(limit, reads, data):
     found = data[: limit + 1]
-    if len(data) <= limit and reads.endswith("!"):
+    if len(data) <= limit and "!" in reads:
         return "cannot be read 0"
     return f"{len(found)} {short(sha256(found).digest())} {len(data) - len(found)}"
+
+
+def seal(calls, origin, cut, data):
+    found, is_refused = fohlazu_commands.cut_entries(cut, data)
+    if is_refused:
+        return f"ends inside a line 0 {short(sha256().digest())}"
+    log = logs.Log(found)
+    text = log_texts.checkpoint_text(origin.encode(), len(found), root_of(log))
+    # The flush is a call more.
+    failed = "the output cannot be written " if calls <= len(text) else ""
+    return f"{failed}{len(text[:calls])} {short(sha256(text[:calls]).digest())}"
 
 
 def text(said):
@@ -332,6 +343,7 @@ KINDS = {
     "read": ("nwb", read),
     "file_entries": ("wbbb", by_commands(file_entries)),
     "file_prefix": ("wbbbb", by_commands(file_prefix)),
+    "seal": ("nwwb", seal),
     "checkpoint": ("b", text(checkpoint)),
     "part": ("b", text(lambda text: checkpoint(text, True))),
     "entries_proof": ("b", text(entries_proof)),

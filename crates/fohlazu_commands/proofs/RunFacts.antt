@@ -1,14 +1,12 @@
--- Inputs are read one after another, and a text is written piece by piece.
+-- Inputs are read one after another, and an error ends a run.
 use Rattle.std.proofs.Common.{◌≡◌, ◌⊎◌, ◌∙◌, ◌+◌, List, [], ◌∷◌, ◌++◌, ℕ, Option, None, Some, Result, Ok, Err, Vec}
 use Rattle.std.proofs.Common.{Global, ap, arith, inl, inr, ⊎_elim, length, map, refl, subst, sym, add-zero}
-use Rattle.std.proofs.Common.{append_assoc, drop, ◌-◌, take, take-append-drop, length-drop, take_all, Bool, true, false}
+use Rattle.std.proofs.Common.{take, take_all, Bool, true, false}
 use Rattle.std.proofs.Common.{◌≤◌, ◌<◌, All, le-leb, length-take, nat_le}
 use Rattle.tlog_files.specs.Entries.{HoldsOfFile}
 use Rattle.std.proofs.lemmas.Bool.{lt-leb}
 use Rattle.std.proofs.lemmas.List.Elements.{All-head, All-tail}
 use Rattle.p3_answers.specs.Answers.{ok_unless, unless}
-use Rattle.std.proofs.KnownBytes.{Appends-kept, Appends-trans}
-use Rattle.std.specs.Io.KnownBytes.{Appends, Keeps, WriteAppends}
 use Rattle.fohlazu_commands.specs.Commands.{AreReadAs, EndsIn, HoldsOfInput, IsReadAs, bytes_of_parts, note_from}
 use Rattle.fohlazu_commands.specs.Commands.{limited_from, max_note_bytes}
 use Rattle.fohlazu_commands.specs.Outcomes.{bytes_in, Gives, and_then}

@@ -145,7 +145,7 @@ module _ (args : List (List ℕ)) (known old new : Option (List ℕ)) (input : L
   -- a text that is the outcome
   same_text : (H : List ℕ → Type 0) (result : Result (Unit {0}) Fault) → Prints args known H →
       ((text : List ℕ) → EndsIn (Ok text) result) → EndsIn outcome result
-  same_text H result (bytes, is, text, there, holds) ends =
+  same_text H result (bytes, is, (text, there, holds)) ends =
       let same : bytes ≡ input = subst (λ (k : Option (List ℕ)). IfSome k (λ all. bytes ≡ all)) known_is is in
       let known_told = subst (λ (read : List ℕ). IsOutcome args read (Ok text)) same there in
       subst (λ (o : Result (List ℕ) Fault). EndsIn o result)

@@ -1,7 +1,7 @@
 -- What is said of a batch is said of the input's matrices, and what is told of them is the outcome.
 use Rattle.std.proofs.Common.{◌≡◌, ◌⊎◌, ⊎_elim, inl, inr, ℕ, ◌+◌, List, Option, Some, None, Result, Ok, Err, sym, refl}
 use Rattle.std.proofs.Common.{ap, ◌∙◌, subst}
-use Rattle.std.specs.Prelude.{◌↔◌, ◌<◌, All}
+use Rattle.std.specs.Prelude.{[], ◌↔◌, ◌<◌, All, IfSome}
 use Rattle.std.specs.Io.KnownBytes.{Appends}
 use Rattle.whole_writes.specs.Prefixes.{AppendsPrefix}
 use Rattle.p3_merkle_core.specs.Geometry.{IsLawful, Shape}
@@ -67,6 +67,25 @@ usage_told args fault told = (
   λ none. ⊎_elim (λ usage. ap Err usage.0) (λ memory. absurd (memory.1 none)) told,
 )
 
+-- bytes that may be read
+some_input : (known : Option (List ℕ)) → (input : List ℕ) × IfSome known (λ all. input ≡ all)
+some_input None = ([], tt)
+some_input (Some all) = (all, refl)
+
+-- so it is reported, whatever would be read
+pub usage_reported : (args : List (List ℕ)) (known : Option (List ℕ)) (fault : Fault) →
+    ((fault ≡ Usage) × AreNoCommand args) ⊎ ((fault ≡ Tree OutOfMemory) × (AreNoCommand args → ⊥)) →
+    (fault ≡ Write → ⊥) × IsReported args known fault
+usage_reported args known fault (inl (is, none)) =
+    let input = some_input known in (
+      λ write. let apart : Usage ≡ Write = sym is ∙ write in cc,
+      subst (IsReported args known) (sym is) (input.0, input.1, none),
+    )
+usage_reported args known fault (inr (is, some)) = (
+  λ write. let apart : Tree OutOfMemory ≡ Write = sym is ∙ write in cc,
+  subst (IsReported args known) (sym is) (inl refl),
+)
+
 module _ {S D V : Type 0} (remaining : S → Option (List ℕ)) (contents : D → Option (List ℕ)) (args : List (List ℕ))
     (input input_left : S) (output : D) (answer : Result V Fault)
     (usage : (answer ≡ Err Usage) ↔ AreNoCommand args) (unread : answer ≡ Err Usage → input_left ≡ input) where
@@ -105,7 +124,7 @@ module _ {S D V : Type 0} (remaining : S → Option (List ℕ)) (contents : D �
     -- what is printed has each property that follows from being this text
     printed : (known : Option (List ℕ)) (H : List ℕ → Type 0) → (((t : List ℕ) → text ≡ t → H t)) →
         Prints args known (λ t. text ≡ t) → Prints args known H
-    printed known H holds (bytes, is, t, told, same) = (bytes, is, t, told, holds t same)
+    printed known H holds (bytes, is, (t, told, same)) = (bytes, is, (t, told, holds t same))
 
     pub written : Appends (contents output) (contents output_left) text →
         IsAnswer remaining contents args input input_left output output_left (Ok tt)
@@ -130,7 +149,8 @@ module _ {S D V : Type 0} (remaining : S → Option (List ℕ)) (contents : D �
     unwritten wrote =
         let told : Prints args (remaining input) (λ t. AppendsPrefix (contents output) (contents output_left) t) =
         printed (remaining input) (λ t. AppendsPrefix (contents output) (contents output_left) t)
-        (λ t same. subst (λ (s : List ℕ). AppendsPrefix (contents output) (contents output_left) s) same wrote) prints in
+        (λ t same. subst (λ (s : List ℕ). AppendsPrefix (contents output) (contents output_left) s) same wrote)
+        prints in
         let never : ◌≡◌ {A = Result (Unit {0}) Fault} (Err Write) (Err Usage) → ⊥ = λ is. cc in
         record {
           usage = no_usage (Err Write) never;

@@ -1,30 +1,38 @@
 //! Logs in files.
 
 use crate::case::Case;
-use anyhow::{Result, ensure};
+use anyhow::{Result, bail, ensure};
 use sha2::{Digest, Sha256};
 use std::fmt::Write;
 use std::io;
 use std::io::{Error, ErrorKind, Read};
 use tlog_files::{read_log, read_up_to};
 
-/// Gives its bytes in pieces, and is interrupted before each. It may fail where they end.
+/// Gives its bytes in pieces, and is interrupted before each. It may fail once where they end.
 #[derive(Drop)]
 struct Pieces<'a> {
     rest: &'a [u8],
     /// How many bytes a read gives at most.
     most: usize,
-    fails: bool,
+    /// How the first read fails where the bytes end, if it does.
+    failure: Option<ErrorKind>,
     is_interrupted: bool,
 }
 
 impl<'a> Pieces<'a> {
-    /// Bytes by a word of a case: how many of them a read gives, with `!` after it if reads fail where they end.
+    /// Bytes by a word of a case: how many of them a read gives, and `!` with how a read fails where they end.
     fn new(reads: &str, bytes: &'a [u8]) -> Result<Pieces<'a>> {
+        let (most, failure) = match reads.split_once('!') {
+            None => (reads, None),
+            Some((most, "")) => (most, Some(ErrorKind::ConnectionReset)),
+            Some((most, "would-block")) => (most, Some(ErrorKind::WouldBlock)),
+            Some((most, "timed-out")) => (most, Some(ErrorKind::TimedOut)),
+            Some((_, failure)) => bail!("no failure of reads: {failure}"),
+        };
         Ok(Pieces {
             rest: bytes,
-            most: reads.trim_end_matches('!').parse()?,
-            fails: reads.ends_with('!'),
+            most: most.parse()?,
+            failure,
             is_interrupted: false,
         })
     }
@@ -36,8 +44,10 @@ impl Read for Pieces<'_> {
         if self.is_interrupted {
             return Err(Error::from(ErrorKind::Interrupted));
         }
-        if self.rest.is_empty() && self.fails {
-            return Err(Error::from(ErrorKind::ConnectionReset));
+        if self.rest.is_empty() {
+            if let Some(failure) = self.failure.take() {
+                return Err(Error::from(failure));
+            }
         }
         let count = self.rest.len().min(self.most).min(buf.len());
         let (piece, rest) = self.rest.split_at(count);
@@ -49,7 +59,8 @@ impl Read for Pieces<'_> {
 
 /// `file CUT LIMIT NODES ENTRIES READS FILE`: what is read of a file, up to LIMIT entries, or to its end where LIMIT is
 /// `-`. It has the size, the first four bytes of the root and of each node, and the length of each entry with the first
-/// four bytes of its SHA-256. A read gives READS bytes at most; with `!` after it reads fail where the bytes end.
+/// four bytes of its SHA-256. A read gives READS bytes at most, and is interrupted first; with `!`, `!would-block` or
+/// `!timed-out` after it a read fails so where the bytes end.
 pub fn file(case: &mut Case<'_>) -> Result<()> {
     let (framing, limit) = (case.framing()?, case.word().parse().ok());
     let (nodes, entries) = (case.nodes()?, case.numbers()?);

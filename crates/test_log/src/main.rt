@@ -37,6 +37,7 @@ fn answer(case: &mut Case<'_>) -> Result<()> {
         "read" => files::text(case),
         "file_entries" => commands::file_entries(case),
         "file_prefix" => commands::file_prefix(case),
+        "seal" => commands::seal(case),
         "checkpoint" => texts::checkpoint(case, false),
         "part" => texts::checkpoint(case, true),
         "entries_proof" => texts::entries_proof(case),

@@ -195,7 +195,7 @@ module _ (framing : Framing) (file : List ℕ) (ended : List (List ℕ)) (open_b
       ap (rest_of framing) (sym (append-nil file)) ∙ at.rest [] ∙ ap (rest_of framing) (append-nil open_bytes)
       ∙ all_rest framing open_bytes at.opens
 
-  whole_is : whole_entries framing file ≡ ended
+  pub whole_is : whole_entries framing file ≡ ended
   whole_is =
       ap (whole_entries framing) (sym (append-nil file)) ∙ at.whole []
       ∙ ap (λ xs. ended ++ whole_entries framing xs) (append-nil open_bytes)

@@ -15,7 +15,8 @@ use Rattle.tlog_tree.specs.declared.node_id.NodeId.{NodeId}
 use Rattle.tlog_files.specs.Entries.{entries_in, is_refused, read_refusal, wanted_of, first_entries, is_short}
 use Rattle.tlog_files.specs.Entries.{partial_of}
 use Rattle.tlog_files.specs.Inner.Splitting.{AreAll, AreTooMany, HasBuilt, HasGrown, ReadsTooMany}
-use Rattle.tlog_files.specs.Entries.{refuses, rest_of, HoldsOfFile}
+use Rattle.tlog_files.specs.Entries.{refuses, rest_of, whole_entries, HoldsOfFile, IsReadNoFurther}
+use Rattle.tlog_files.proofs.FramingFacts.{whole_is}
 use Rattle.tlog_files.specs.Inner.Wanted.{HoldsWanted}
 use Rattle.tlog_files.specs.Logs.{IsLogOf}
 use Rattle.tlog_files.specs.declared.framing.Framing.{Framing}
@@ -56,6 +57,29 @@ grown_on nodes wanted s t tree grown bytes more room g step =
       built = step.built;
       all_read = step.all_read;
     }
+
+-- so one more piece of it is read
+pub read_on : (nodes : List NodeId) (wanted : List ℕ) (s : Splitter) (tree : TreeBuilder) (bytes more : List ℕ)
+    (framing : Framing) (limit : ℕ) → nat_le s.limit s.count ≡ false → HasGrown nodes wanted s tree [] bytes →
+    (s.framing ≡ framing) × (s.limit ≡ limit) → length more ≤ 2 ^ 20 →
+    IsReadNoFurther framing (Some limit) (bytes ++ more)
+read_on nodes wanted s tree bytes more framing limit room g same short =
+    let b = g.built in
+    let whole = ap (whole_entries s.framing) (whole_read nodes wanted s tree [] bytes room g)
+    ∙ whole_is s.framing g.read b.ended b.at.open_bytes b.at.at in
+    let few : length (whole_entries s.framing bytes) < limit =
+    omega (arith, leb-false s.limit s.count room, b.at.holds.counted, ap length whole, same.1) in
+    inr (bytes, more, refl, short, subst (λ k. length (whole_entries k bytes) < limit) same.0 few)
+
+-- without a limit all is read
+pub no_further_with : (was framing : Framing) (limit : Option ℕ) (n : ℕ) (bytes : List ℕ) → was ≡ framing →
+    n ≡ unwrap_or limit (2 ^ 64 - 1) → IsReadNoFurther was (Some n) bytes → IsReadNoFurther framing limit bytes
+no_further_with was framing limit n bytes same is (inl none) = inl none
+no_further_with was framing None n bytes same is (inr (front, last, parts, short, few)) =
+    inr (front, last, parts, short, tt)
+no_further_with was framing (Some m) n bytes same is (inr (front, last, parts, short, few)) =
+    let fewer : length (whole_entries was front) < m = omega (arith, few, is) in
+    inr (front, last, parts, short, subst (λ k. length (whole_entries k front) < m) same fewer)
 
 pub log_of : (log : ReadLog) (framing : Framing) (limit : ℕ) (nodes : List NodeId) (wanted bytes : List ℕ)
     (w : WantedEntries)

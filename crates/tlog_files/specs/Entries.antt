@@ -1,6 +1,7 @@
 -- The entries of a file.
-use Rattle.std.specs.Prelude.{ℕ, ◌*◌, ◌/◌, ◌^◌, ◌≤◌, ◌==◌, ◌&&◌, nat_le, nat_lt, not, Bool, true, false, if◌then◌else◌}
-use Rattle.std.specs.Prelude.{List, [], ◌∷◌, ◌++◌, length, take, drop, map, slice_index_or, Option, None, Some}
+use Rattle.std.specs.Prelude.{ℕ, ◌*◌, ◌/◌, ◌^◌, ◌≤◌, ◌<◌, ◌==◌, ◌&&◌, nat_le, nat_lt, not, Bool, true, false}
+use Rattle.std.specs.Prelude.{List, [], ◌∷◌, ◌++◌, length, take, drop, map, slice_index_or, Option, None, Some, IfSome}
+use Rattle.std.specs.Prelude.{◌≡◌, ◌⊎◌, if◌then◌else◌}
 use Rattle.std.specs.List.{list_all, range_with_len, slice_split}
 use Rattle.tlog_files.specs.declared.framing.Framing.{Framing}
 use Rattle.tlog_files.specs.declared.framing.Framing.TheVariants.{Lines, Blocks}
@@ -91,6 +92,13 @@ abbrev pub read_refusal : Framing → Option ℕ → List ℕ → Option ReadErr
 read_refusal framing limit bytes =
     if nat_le (length (first_entries limit (entries_in framing bytes))) (2 ^ 62)
     then (if is_refused framing limit bytes then Some EndsInsideLine else None) else Some TooManyEntries
+
+-- what is read of a file, no further than its first entries: no bytes, or bytes that without the last 2^20, or fewer,
+-- do not have all of these
+abbrev pub IsReadNoFurther : Framing → Option ℕ → List ℕ → Type 0
+IsReadNoFurther framing limit bytes =
+    (bytes ≡ []) ⊎ ((front : List ℕ) × (last : List ℕ) × (bytes ≡ front ++ last) × (length last ≤ 2 ^ 20)
+    × IfSome limit (λ most. length (whole_entries framing front) < most))
 
 -- the entry of this index, counted from 0
 abbrev pub entry_at : List (List ℕ) → ℕ → List ℕ

@@ -1,9 +1,11 @@
 //! Why a file is not read.
 
-ghost use Rattle.std.specs.Prelude.{◌≡◌};
-ghost use Rattle.tlog_files.specs.declared.error.ReadError.TheVariants.{OutOfMemory};
+ghost use Rattle.std.specs.Prelude.{◌≡◌, ◌⊎◌, IfSome};
+ghost use Rattle.tlog_files.specs.Inner.Failures.{failure_of};
+ghost use Rattle.tlog_files.specs.declared.error.ReadError.TheVariants.{OutOfMemory, Read};
 
 use std::alloc::AllocError;
+use std::io::ErrorKind;
 use thiserror::Error;
 
 /// Why the entries of a file are not read. It prints as one line.
@@ -28,5 +30,17 @@ impl From<AllocError> for ReadError {
 
     fn from(_error: AllocError) -> ReadError {
         ReadError::OutOfMemory
+    }
+}
+
+/// What ends the reading after a read that failed so; `None` if it was interrupted, and is tried again.
+pub(crate) fn failure_of(kind: ErrorKind) -> Option<ReadError>
+    ensures by_kind { result ≡ failure_of kind }
+    ensures either { IfSome result (λ error. (error ≡ OutOfMemory) ⊎ (error ≡ Read)) }
+{
+    match kind {
+        ErrorKind::Interrupted => None,
+        ErrorKind::OutOfMemory => Some(ReadError::OutOfMemory),
+        _ => Some(ReadError::Read),
     }
 }

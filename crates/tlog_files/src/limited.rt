@@ -5,9 +5,9 @@ ghost use Rattle.std.specs.Io.KnownBytes.{Consumes};
 ghost use Rattle.tlog_files.specs.Entries.{HoldsOfFile};
 ghost use Rattle.tlog_files.specs.declared.error.ReadError.TheVariants.{OutOfMemory, Read as FailedRead};
 
-use crate::error::ReadError;
+use crate::error::{ReadError, failure_of};
 use std::alloc::Global;
-use std::io::{ErrorKind, Read};
+use std::io::Read;
 
 /// How many bytes are read at a time.
 const CHUNK: usize = 8192;
@@ -42,11 +42,11 @@ pub fn read_up_to<R: Read>(alloc: Global, limit: usize, input: &mut R) -> Result
         match input.read(&mut window[..room]) {
             Ok(0) => return Ok(bytes),
             Ok(count) => bytes.extend_from_slice(&window[..count])?,
-            Err(error) if error.kind() == ErrorKind::Interrupted => {}
-            Err(error) if error.kind() == ErrorKind::OutOfMemory => {
-                return Err(ReadError::OutOfMemory);
+            Err(error) => {
+                if let Some(failure) = failure_of(error.kind()) {
+                    return Err(failure);
+                }
             }
-            Err(_) => return Err(ReadError::Read),
         }
     }
     Err(ReadError::Read)

@@ -6,18 +6,18 @@ ghost use Rattle.std.specs.Io.KnownBytes.{Consumes, IsAtEnd};
 ghost use Rattle.tlog.specs.Verdicts.{size_limit};
 ghost use Rattle.tlog_tree.specs.Builders.{IsBuilderOf};
 ghost use Rattle.tlog_tree.specs.declared.node_id.NodeId.{NodeId};
-ghost use Rattle.tlog_files.specs.Entries.{read_refusal, HoldsOfFile, IsFraming};
+ghost use Rattle.tlog_files.specs.Entries.{read_refusal, HoldsOfFile, IsFraming, IsReadNoFurther};
 ghost use Rattle.tlog_files.specs.Logs.{IsLogOf};
 ghost use Rattle.tlog_files.specs.Inner.Splitting.{AreTooMany, HasBuilt, HasGrown, IsReady, ReadsTooMany};
 ghost use Rattle.tlog_files.specs.declared.error.ReadError.TheVariants.{OutOfMemory, Read as FailedRead};
 ghost use Rattle.tlog_files.specs.declared.error.ReadError.TheVariants.{TooManyEntries};
 
-use crate::error::ReadError;
+use crate::error::{ReadError, failure_of};
 use crate::framing::Framing;
 use crate::splitter::Splitter;
 use crate::wanted::{WantedEntries, places_in_order};
 use std::alloc::Global;
-use std::io::{ErrorKind, Read};
+use std::io::Read;
 use tlog_tree::{NodeId, TreeBuilder, TreeError};
 
 /// How many bytes are read at a time.
@@ -60,6 +60,8 @@ pub fn read_log<R: Read>(
         (IsLogOf log framing limit wanted_nodes.now wanted_entries.now)) }
     ensures refused { IfErr result (λ e. (e ≡ OutOfMemory) ⊎ ((e ≡ FailedRead)
         ⊎ HoldsOfFile (R.remaining file.old) (λ bytes. read_refusal framing limit bytes ≡ Some e))) }
+    ensures no_further { IfOk result (λ log. (bytes : List ℕ)
+        × Consumes (R.remaining file.old) (R.remaining file.new) bytes × IsReadNoFurther framing limit bytes) }
 {
     let places = places_in_order(alloc, wanted_entries)?;
     let wanted = WantedEntries::new(alloc, &places)?;
@@ -88,7 +90,8 @@ fn read_through<R: Read>(
     ensures built { (nodes : List NodeId) (wanted : List ℕ) → HasBuilt nodes wanted splitter.old tree [] →
         IfOk result (λ read. (bytes : List ℕ) × Consumes (R.remaining file.old) (R.remaining file.new) bytes
         × HasGrown nodes wanted splitter.new read [] bytes
-        × (IsAtEnd (R.remaining file.new) ⊎ (splitter.new.limit ≤ splitter.new.count))) }
+        × (IsAtEnd (R.remaining file.new) ⊎ (splitter.new.limit ≤ splitter.new.count))
+        × IsReadNoFurther splitter.old.framing (Some splitter.old.limit) bytes) }
     ensures refused { (nodes : List NodeId) (wanted : List ℕ) → HasBuilt nodes wanted splitter.old tree [] →
         IfErr result (λ e. (e ≡ OutOfMemory) ⊎ ((e ≡ FailedRead) ⊎ ((e ≡ TooManyEntries)
         × ReadsTooMany splitter.old.framing splitter.old.limit (R.remaining file.old) (R.remaining file.new)))) }
@@ -102,11 +105,11 @@ fn read_through<R: Read>(
         match file.read(window) {
             Ok(0) => return Ok(tree),
             Ok(count) => tree = push(alloc, splitter, tree, &window[..count])?,
-            Err(error) if error.kind() == ErrorKind::Interrupted => {}
-            Err(error) if error.kind() == ErrorKind::OutOfMemory => {
-                return Err(ReadError::OutOfMemory);
+            Err(error) => {
+                if let Some(failure) = failure_of(error.kind()) {
+                    return Err(failure);
+                }
             }
-            Err(_) => return Err(ReadError::Read),
         }
     }
     Err(ReadError::Read)

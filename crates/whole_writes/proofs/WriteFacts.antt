@@ -1,6 +1,6 @@
 -- How an output grows, write by write.
-use Rattle.std.proofs.Common.{◌≡◌, ◌∙◌, ℕ, ◌-◌, ◌++◌, List, Option, Result, Ok, Err, ap, append_assoc, arith, drop, length}
-use Rattle.std.proofs.Common.{subst, sym, take}
+use Rattle.std.proofs.Common.{◌≡◌, ◌∙◌, ℕ, ◌-◌, ◌++◌, List, Option, Result, Ok, Err, ap, append_assoc, arith, drop}
+use Rattle.std.proofs.Common.{length, subst, sym, take}
 use Rattle.std.proofs.KnownBytes.{Appends-kept, Appends-trans}
 use Rattle.std.proofs.lemmas.List.{length-drop, take-append-drop, take_all}
 use Rattle.std.specs.Io.KnownBytes.{Appends, Keeps, WriteAppends}

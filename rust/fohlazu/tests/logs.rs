@@ -420,7 +420,7 @@ fn every_kind_is_tried() {
     let tried = "root inclusion consistency proof_nodes digests frontier included consistent verify root_collision \
                  leaf_collision entry_collision entries_collision prefix_collision proof_collision \
                  consistency_collision growth_collision compose";
-    let left_out = "file read file_entries file_prefix checkpoint part entries_proof consistency_proof";
+    let left_out = "file read seal file_entries file_prefix checkpoint part entries_proof consistency_proof";
     let known: Vec<_> = tried.split_whitespace().chain(left_out.split_whitespace()).collect();
     for (number, line) in common::cases(&common::stored("crates/test_log/stdin")) {
         let kind = line.split(' ').next().unwrap_or_default();

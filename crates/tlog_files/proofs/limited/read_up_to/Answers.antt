@@ -1,12 +1,12 @@
 -- What was read so far is what the reader gave.
-use Rattle.std.proofs.Common.{◌∙◌, ◌+◌, ◌++◌, ◌<◌, ◌≤◌, ◌≡◌, [], append-nil, ap, arith, inr, length, length-append}
-use Rattle.std.proofs.Common.{◌-◌, drop, length-drop, length-take, min, refl, subst, sym, take}
+use Rattle.std.proofs.Common.{◌∙◌, ◌+◌, ◌++◌, ◌<◌, ◌≤◌, ◌≡◌, [], append-nil, ap, arith, inl, inr, length}
+use Rattle.std.proofs.Common.{◌-◌, drop, length-append, length-drop, length-take, min, subst, sym, take, ⊎_elim}
 use Rattle.std.proofs.Math.Nat.{le-min, min-le_left, min-le_right}
 use Rattle.std.proofs.lemmas.List.{take-append-le}
 use Rattle.std.proofs.KnownBytes.{Consumes-kept, Consumes-nil, Consumes-trans}
 use Rattle.std.specs.Io.KnownBytes.{Consumes, ReadConsumes}
 use Rattle.tlog_files.proofs.LimitedFacts.{all_read, full_read}
-use Rattle.tlog_files.proofs.limited.read_up_to.Goals.{in-Ok+in_ok-extend_from_slice-in-Ok, in-Err}
+use Rattle.tlog_files.proofs.limited.read_up_to.Goals.{in-Ok+in_ok-extend_from_slice-in-Ok, in-Err+in_default}
 use Rattle.tlog_files.proofs.limited.read_up_to.Goals as goal
 
 pub loop-turn-init : goal.loop-turn-init
@@ -56,20 +56,14 @@ returns-in-Ok-eq0-clause-reader_after g c =
           (Consumes-trans begun before after bytes [] c.loop-turn.invariant.consumed none),
     )
 
-pub returns-in-Err-3-clause-failed : goal.returns-in-Err-3-clause-failed
-returns-in-Err-3-clause-failed g c =
+pub returns-in-Some-clause-failed : goal.returns-in-Some-clause-failed
+returns-in-Some-clause-failed g c =
     let begun = g.R.Read.remaining c.args.input.now in
     let before = g.R.Read.remaining c.loop-turn.input in
     let after = g.R.Read.remaining c.read.new.self in
     let bytes = c.loop-turn.bytes.items in
-    inr (
-      refl,
-      (
-        bytes,
-        Consumes-kept begun before after bytes c.loop-turn.invariant.consumed c.in-Err-3.ensures.bytes,
-        c.loop-turn.invariant.few,
-      ),
-    )
+    let kept = Consumes-kept begun before after bytes c.loop-turn.invariant.consumed c.in-Err.ensures.bytes in
+    ⊎_elim inl (λ failed. inr (failed, (bytes, kept, c.loop-turn.invariant.few))) c.in-Some.ensures.either
 
 pub loop-turn-preserved : goal.loop-turn-preserved
 loop-turn-preserved g c =
@@ -121,7 +115,7 @@ loop-turn-preserved g c =
             consumed = subst (Consumes begun after) (sym items)
                 (Consumes-trans begun before after bytes more c.loop-turn.invariant.consumed w.in-Ok.ensures.bytes.0);
           }
-      | in-Err w ↦
+      | in-Err+in_default w ↦
           let same : c.match-read.bytes.items ≡ bytes = ap (λ v. v.items) w.bytes-is in
           record {
             wide = wide;

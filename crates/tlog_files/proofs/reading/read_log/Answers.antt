@@ -12,7 +12,7 @@ use Rattle.tlog_files.specs.declared.error.ReadError.TheVariants.{OutOfMemory, R
 use Rattle.tlog_files.specs.Inner.Splitting.{AreTooMany, HasBuilt, ReadsTooMany}
 use Rattle.tlog_files.specs.Inner.Wanted.{places_of, IsAscending}
 use Rattle.tlog_files.proofs.ReaderFacts.{leaves, log_of, many_at_end, refused_by, refused_far, refused_inside}
-use Rattle.tlog_files.proofs.ReaderFacts.{log_with, of_file, refused_either, refused_file}
+use Rattle.tlog_files.proofs.ReaderFacts.{log_with, no_further_with, of_file, refused_either, refused_file}
 use Rattle.tlog_files.proofs.reading.read_log.Given.{Over}
 use Rattle.tlog_files.proofs.reading.read_log.Goals.{After-deref, In_ok-tree, In_ok-tree-2}
 use Rattle.tlog_files.proofs.reading.read_log.Goals as goal
@@ -53,7 +53,7 @@ told g c b =
     let before = g.R.Read.remaining c.args.file.now in
     let after = g.R.Read.remaining c.read_through.new.file in
     let s = c.read_through.new.splitter in
-    let (bytes, consumed, grown, end) =
+    let (bytes, consumed, grown, end, _) =
     c.in_ok-tree-2.ensures.built c.args.wanted_nodes.now c.args.wanted_entries.now b in
     let (more, far, holds) = of_file before after grown.read grown.left (s.limit ≤ s.count)
     (subst (Consumes before after) grown.parts consumed) grown.all_read end in
@@ -77,6 +77,19 @@ returns-clause-read g c =
     (c.in_ok-tree-2.ensures.unchanged.0 ∙ c.new-splitter.ensures.unchanged.0)
     (log_of log s.framing s.limit nodes wanted (front ++ rest) c.end_file.new.self.wanted b.ended _ all built
     (c.into_entries-entries.ensures wanted))))
+
+pub returns-clause-no_further : goal.returns-clause-no_further
+returns-clause-no_further g c =
+    let at = goal.at.returns-clause-no_further g c in
+    let s = c.new-splitter.result in
+    let (bytes, consumed, grown, end, near) =
+    c.in_ok-tree-2.ensures.built c.args.wanted_nodes.now c.args.wanted_entries.now
+    (start g at.In_ok-tree (places g at.After-deref)) in (
+      bytes,
+      consumed,
+      no_further_with s.framing c.args.framing c.args.limit s.limit bytes c.new-splitter.ensures.unchanged.0
+          (c.new-splitter.ensures.unchanged.1 ∙ c.unwrap_or.ensures) near,
+    )
 
 pub returns-in_err-hashes-clause-refused : goal.returns-in_err-hashes-clause-refused
 returns-in_err-hashes-clause-refused g c =

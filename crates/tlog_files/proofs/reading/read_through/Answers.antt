@@ -1,15 +1,15 @@
 -- What was read so far has been built.
 use Rattle.std.proofs.Common.{◌⊎◌, ℕ, List, ◌≡◌, ◌++◌, ◌∙◌, [], append-nil, arith, inl, inr, leb-true, refl, subst, sym}
-use Rattle.std.proofs.Common.{take}
+use Rattle.std.proofs.Common.{length-take, take, ⊎_elim}
 use Rattle.std.proofs.lemmas.Result.{err_from_is_err_and}
 use Rattle.std.specs.Io.KnownBytes.{Consumes, ReadConsumes}
 use Rattle.tlog_files.specs.Inner.Splitting.{AreTooMany, IsReady}
 use Rattle.tlog_files.specs.declared.framing.Framing.{Framing}
 use Rattle.tlog_files.specs.declared.error.ReadError.{ReadError}
 use Rattle.tlog_files.specs.declared.error.ReadError.TheVariants.{OutOfMemory, TooManyEntries}
-use Rattle.tlog_files.proofs.{ReaderFacts.grown_on, ReaderFacts.whole_read, ReaderFacts.refused_reading}
+use Rattle.tlog_files.proofs.ReaderFacts.{grown_on, read_on, refused_reading, whole_read}
 use Rattle.std.proofs.KnownBytes.{Consumes-kept, Consumes-nil, Consumes-trans}
-use Rattle.tlog_files.proofs.reading.read_through.Goals.{in-Ok+in_ok-tree-in-Ok, in-Err}
+use Rattle.tlog_files.proofs.reading.read_through.Goals.{in-Ok+in_ok-tree-in-Ok, in-Err+in_default}
 use Rattle.tlog_files.proofs.reading.read_through.Goals as goal
 
 pub loop-turn-init : goal.loop-turn-init
@@ -21,6 +21,7 @@ loop-turn-init g c = record {
     [],
     Consumes-nil (g.R.Read.remaining c.args.file.now),
     record { read = []; left = []; parts = refl; built = b; all_read = inl refl },
+    inl refl,
   );
 }
 
@@ -31,8 +32,8 @@ returns-then-is_full g c =
       ready = c.loop-turn.invariant.ready;
       unchanged = c.loop-turn.invariant.same;
       built = λ nodes wanted b.
-          let (bytes, consumed, now) = c.loop-turn.invariant.built nodes wanted b in
-          (bytes, consumed, now, inr (leb-true s.limit s.count (sym c.is_full.ensures ∙ c.if-is_full.true)));
+          let (bytes, consumed, now, near) = c.loop-turn.invariant.built nodes wanted b in
+          (bytes, consumed, now, inr (leb-true s.limit s.count (sym c.is_full.ensures ∙ c.if-is_full.true)), near);
       refused = λ nodes wanted b. tt;
     }
 
@@ -48,11 +49,12 @@ returns-in-Ok-eq0 g c =
       ready = c.loop-turn.invariant.ready;
       unchanged = c.loop-turn.invariant.same;
       built = λ nodes wanted b.
-          let (bytes, consumed, now) = c.loop-turn.invariant.built nodes wanted b in (
+          let (bytes, consumed, now, near) = c.loop-turn.invariant.built nodes wanted b in (
             bytes,
             subst (Consumes begun after) (append-nil bytes) (Consumes-trans begun before after bytes [] consumed none),
             now,
             inl at_end,
+            near,
           );
       refused = λ nodes wanted b. tt;
     }
@@ -74,28 +76,40 @@ loop-turn-preserved g c =
             same = subst (λ s. (s.framing ≡ first.framing) × (s.limit ≡ first.limit)) (sym w.splitter-is)
                 (pushed.unchanged.0 ∙ before_same.0, pushed.unchanged.1 ∙ before_same.1);
             built = λ nodes wanted b.
-                let (bytes, consumed, now) = c.loop-turn.invariant.built nodes wanted b in
-                let more = take w.in-Ok.count c.read.new.buf in (
+                let (bytes, consumed, now, near) = c.loop-turn.invariant.built nodes wanted b in
+                let more = take w.in-Ok.count c.read.new.buf in
+                let room = sym c.is_full.ensures ∙ c.if-is_full.false in (
                   bytes ++ more,
                   Consumes-trans begun before after bytes more consumed w.in-Ok.ensures.bytes.0,
                   rw (w.splitter-is, w.tree-is) (grown_on nodes wanted c.loop-turn.splitter w.push.new.splitter
-                      c.loop-turn.tree _ bytes more (sym c.is_full.ensures ∙ c.if-is_full.false) now
-                      (pushed.built nodes wanted now.read now.built)),
+                      c.loop-turn.tree _ bytes more room now (pushed.built nodes wanted now.read now.built)),
+                  read_on nodes wanted c.loop-turn.splitter c.loop-turn.tree bytes more first.framing first.limit room
+                      now before_same (omega (
+                        arith,
+                        length-take w.in-Ok.count c.read.new.buf,
+                        c.read.auto.buf,
+                        c.loop-turn.invariant.wide,
+                      )),
                 );
           }
-      | in-Err w ↦
+      | in-Err+in_default w ↦
           record {
             wide = omega (arith, c.read.auto.buf, c.loop-turn.invariant.wide);
             ready = subst IsReady (sym w.splitter-is) c.loop-turn.invariant.ready;
             same = subst (λ s. (s.framing ≡ first.framing) × (s.limit ≡ first.limit)) (sym w.splitter-is) before_same;
             built = λ nodes wanted b.
-                let (bytes, consumed, now) = c.loop-turn.invariant.built nodes wanted b in (
+                let (bytes, consumed, now, near) = c.loop-turn.invariant.built nodes wanted b in (
                   bytes,
                   Consumes-kept begun before after bytes consumed w.in-Err.ensures.bytes,
                   rw (w.splitter-is, w.tree-is) now,
+                  near,
                 );
           }
     ]
+
+pub returns-in-Some-clause-refused : goal.returns-in-Some-clause-refused
+returns-in-Some-clause-refused g c =
+    λ nodes wanted b. ⊎_elim inl (λ failed. inr (inl failed)) c.in-Some.ensures.either
 
 abbrev IsRefused : ReadError → Framing → ℕ → List ℕ → Type 0
 IsRefused e framing limit bytes = (e ≡ OutOfMemory) ⊎ ((e ≡ TooManyEntries) × AreTooMany framing limit bytes)
@@ -111,7 +125,7 @@ returns-in_err-tree-in-Ok-clause-refused g c =
     let more = take c.in-Ok.count c.read.new.buf in
     let p = err_from_is_err_and c.from_residual-in_err-tree-in-Ok.result c.from_residual-in_err-tree-in-Ok.ensures.1 in
     λ nodes wanted b.
-    let (bytes, consumed, now) = c.loop-turn.invariant.built nodes wanted b in
+    let (bytes, consumed, now, _) = c.loop-turn.invariant.built nodes wanted b in
     let whole = whole_read nodes wanted s c.loop-turn.tree [] bytes (sym c.is_full.ensures ∙ c.if-is_full.false) now in
     rw (p.1, p.2) (refused_reading c.in_err-tree-in-Ok.field-0.0 first.framing first.limit begun after now.read more
     (subst (λ xs. Consumes begun after (xs ++ more)) whole
