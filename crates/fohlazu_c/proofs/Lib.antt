@@ -1,1 +1,2 @@
 mod CutFacts
+mod FrontierFacts
