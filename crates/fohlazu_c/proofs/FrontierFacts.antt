@@ -1,5 +1,5 @@
 -- The whole nodes of a layer, and of the layer with one node more.
-use Rattle.std.proofs.Common.{◌≡◌, ◌∙◌, ◌+◌, ◌-◌, ◌*◌, ◌%◌, ◌/◌, ◌^◌, ◌<◌, ◌≤◌, ℕ, suc, List, [], ◌∷◌, ◌++◌, ap, arith, drop}
+use Rattle.std.proofs.Common.{◌≡◌, ◌∙◌, ◌+◌, ◌-◌, ◌*◌, ◌%◌, ◌/◌, ◌^◌, ◌≤◌, ℕ, List, [], ◌∷◌, ◌++◌, ap, arith, drop}
 use Rattle.std.proofs.Common.{inl, inr, length, length-append, refl, sym, take}
 use Rattle.std.specs.Prelude.{count_ones, slice_index_or}
 use Rattle.std.proofs.lemmas.Bool.Decides.{leb_tells}

@@ -20,13 +20,13 @@ status_of (Some RootMismatch) = pos 7
 abbrev pub texts : List (List ℕ)
 texts =
     codes "no error"
-    ∷ codes "a size or a height is above 2^62"
+    ∷ codes "the size is above 2^62"
     ∷ codes "the index is not below the size"
     ∷ codes "the new size is below the old size"
     ∷ codes "the proof has too few digests"
     ∷ codes "the proof has too many digests"
     ∷ codes "the proof is of another old root"
-    ∷ codes "the proof is of another root or cap"
+    ∷ codes "the proof is of another root"
     ∷ codes "no tree has this arity or this rule"
     ∷ codes "no matrix has a row"
     ∷ codes "no tree is over these heights"

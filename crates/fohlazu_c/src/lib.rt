@@ -1,6 +1,6 @@
-//! The verifiers of logs (RFC 9162) and of openings of matrices, and logs that grow, as a library for C, on plain bytes:
-//! `include/fohlazu.h` declares its calls. They keep nothing. Of those of logs only the one that hashes many entries
-//! takes memory.
+//! The verifiers of logs (RFC 9162) and of openings of matrices, and logs that grow, as a library for C, on plain
+//! bytes: `include/fohlazu.h` declares its calls. They keep nothing. Of those of logs only the one that hashes many
+//! entries takes memory.
 #![tactic(auto)]
 
 pub mod growing;

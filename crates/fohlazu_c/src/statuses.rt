@@ -10,8 +10,8 @@ pub(crate) const OUT_OF_MEMORY: i32 = 12;
 pub(crate) const WRONG_COUNT: i32 = 13;
 pub(crate) const WRONG_LENGTHS: i32 = 14;
 
-/// Writes what a status says to `text`, in ASCII, and a zero behind it. With less room it writes the first bytes and the
-/// zero, and with none nothing. It returns how many bytes the whole text has, without its zero: fewer than 64.
+/// Writes what a status says to `text`, in ASCII, and a zero behind it. With less room it writes the first bytes and
+/// the zero, and with none nothing. It returns how many bytes the whole text has, without its zero: fewer than 64.
 #[unsafe(no_mangle)]
 pub extern "C" fn fohlazu_error_text(status: i32, text: &mut [u8]) -> usize
     ensures length { result ≡ length (status_text status) }
@@ -33,13 +33,13 @@ fn words_of(status: i32) -> &'static str
 {
     match status {
         0 => "no error",
-        1 => "a size or a height is above 2^62",
+        1 => "the size is above 2^62",
         2 => "the index is not below the size",
         3 => "the new size is below the old size",
         4 => "the proof has too few digests",
         5 => "the proof has too many digests",
         6 => "the proof is of another old root",
-        7 => "the proof is of another root or cap",
+        7 => "the proof is of another root",
         8 => "no tree has this arity or this rule",
         9 => "no matrix has a row",
         10 => "no tree is over these heights",
