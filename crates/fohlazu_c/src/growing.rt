@@ -80,6 +80,19 @@ fn hashes_of(alloc: Global, bytes: &[u8], lengths: &[usize]) -> Result<Vec<[u8; 
     requires { sum lengths.now ≡ length bytes.now }
     ensures { IfOk result (λ hashes. hashes.items ≡ map (leaf_hash sha256) (cut_entries lengths.now bytes.now)) }
 {
+    let entries = entries_of(alloc, bytes, lengths)?;
+    leaf_hashes(alloc, &entries)
+}
+
+/// The entries that `bytes` is cut into. The lengths must add up to that of `bytes`. `AllocError` if memory runs out.
+fn entries_of<'a>(
+    alloc: Global,
+    bytes: &'a [u8],
+    lengths: &[usize],
+) -> Result<Vec<&'a [u8]>, AllocError>
+    requires { sum lengths.now ≡ length bytes.now }
+    ensures { IfOk result (λ entries. map (λ entry. entry.now) entries.items ≡ cut_entries lengths.now bytes.now) }
+{
     let mut entries = Vec::with_capacity(alloc, lengths.len())?;
     let mut rest = bytes;
     for length in lengths {
@@ -87,7 +100,7 @@ fn hashes_of(alloc: Global, bytes: &[u8], lengths: &[usize]) -> Result<Vec<[u8; 
         entries.push(entry)?;
         rest = behind;
     }
-    leaf_hashes(alloc, &entries)
+    Ok(entries)
 }
 
 /// Appends an entry, by its leaf hash, to the log of `frontier`. It takes no memory.
