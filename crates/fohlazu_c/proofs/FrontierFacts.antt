@@ -1,15 +1,17 @@
 -- The whole nodes of a layer, and of the layer with one node more.
 use Rattle.std.proofs.Common.{◌≡◌, ◌∙◌, ◌+◌, ◌-◌, ◌*◌, ◌%◌, ◌/◌, ◌^◌, ◌≤◌, ℕ, List, [], ◌∷◌, ◌++◌, ap, arith, drop}
 use Rattle.std.proofs.Common.{inl, inr, length, length-append, refl, sym, take}
-use Rattle.std.specs.Prelude.{count_ones, slice_index_or}
+use Rattle.std.specs.Prelude.{count_ones, slice_index_or, slice_set}
 use Rattle.std.proofs.lemmas.Bool.Decides.{leb_tells}
 use Rattle.std.proofs.lemmas.List.{append-nil, drop_at, length-take-le, nil_from_length, take_at, take_more}
+use Rattle.std.proofs.lemmas.List.{take_more_set}
+use Rattle.std.proofs.lemmas.Nat.{ones_le_self}
 use lib.Count.{ones-le, ones_cat, ones_step}
 use Rattle.tlog.specs.Rfc9162.{Hash, node_hash}
 use Rattle.tlog_tree.specs.Inner.Layers.{parents_of}
 use Rattle.tlog_tree.specs.Trees.{whole_nodes}
 use Rattle.tlog_tree.proofs.Whole.{count_whole, cut_whole, length-parents, length-single, single, whole_by_layers}
-use Rattle.tlog_tree.proofs.Whole.{whole_grows}
+use Rattle.tlog_tree.proofs.Whole.{whole_grows, whole_none}
 
 -- a node after an even number of them is one whole node more
 pub whole_after_even : (hash : Hash) (L : List (List ℕ)) (node : List ℕ) → length L % 2 ≡ 0 →
@@ -77,3 +79,39 @@ pub ones_even : (n : ℕ) → n % 2 ≡ 0 → count_ones (n + 1) ≡ count_ones 
 ones_even n even =
     let half : (n + 1) / 2 ≡ n / 2 = omega arith in
     omega (arith, ones_step n, ones_step (n + 1), ap count_ones half)
+
+-- a node after an even number of them is put behind their whole nodes
+pub put_even : (hash : Hash) (L digests : List (List ℕ)) (node : List ℕ) (n : ℕ) → n % 2 ≡ 0 → length L ≡ n →
+    count_ones (n + 1) ≤ length digests → take (count_ones n) digests ≡ whole_nodes hash L →
+    take (count_ones (n + 1)) (slice_set digests (count_ones n) node) ≡ whole_nodes hash (L ++ node ∷ [])
+put_even hash L digests node n even long room are =
+    let more = ones_even n even in
+    ap (λ k. take k (slice_set digests (count_ones n) node)) more
+    ∙ take_more_set digests (count_ones n) node (omega (arith, more))
+    ∙ ap (λ nodes. nodes ++ node ∷ []) are
+    ∙ sym (whole_after_even hash L node (ap (λ k. k % 2) long ∙ even))
+
+-- after an odd number, what is put into the layer above is their parent
+pub put_odd : (hash : Hash) (L digests new : List (List ℕ)) (last node parent d : List ℕ) (n : ℕ) → n % 2 ≡ 1 →
+    length L ≡ n → count_ones n ≤ length digests → take (count_ones n) digests ≡ whole_nodes hash L →
+    last ≡ slice_index_or digests (count_ones n - 1) d → parent ≡ node_hash hash last node →
+    ((M : List (List ℕ)) → length M ≡ n / 2 → take (count_ones (n / 2)) digests ≡ whole_nodes hash M →
+        take (count_ones (n / 2 + 1)) new ≡ whole_nodes hash (M ++ parent ∷ [])) →
+    take (count_ones (n + 1)) new ≡ whole_nodes hash (L ++ node ∷ [])
+put_odd hash L digests new last node parent d n odd long room are is parent_is deep =
+    let c = ap count_ones long in
+    let up = whole_after_odd hash L digests last node d (ap (λ k. k % 2) long ∙ odd) (omega (arith, c))
+    (ap (λ k. take k digests) c ∙ are) (is ∙ ap (λ k. slice_index_or digests (k - 1) d) (sym c)) in
+    let half = ap (λ k. k / 2) long in
+    ap (λ k. take k new) (ones_above n odd)
+    ∙ deep (parents_of hash L) (up.long ∙ half)
+    (ap (λ k. take (count_ones k) digests) (sym half) ∙ up.front)
+    ∙ ap (λ p. whole_nodes hash (parents_of hash L ++ p ∷ [])) parent_is
+    ∙ sym up.grown
+
+-- no digests are the whole nodes of nothing
+pub whole_first : (hash : Hash) (digests : List (List ℕ)) (n : ℕ) → n ≡ 0 →
+    take (count_ones n) digests ≡ whole_nodes hash []
+whole_first hash digests n none =
+    let no_ones : count_ones n ≡ 0 = omega (arith, ap count_ones none, ones_le_self 0) in
+    ap (λ k. take k digests) no_ones ∙ sym (whole_none hash)
