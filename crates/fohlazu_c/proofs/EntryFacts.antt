@@ -25,10 +25,11 @@ pub cut_step : (ns rest : List ℕ) (done : List (List ℕ)) (i : ℕ) → i < l
 cut_step ns rest done i within fits =
     let n = slice_index_or ns i 0 in
     let more = drop_more ns i 0 within in
-    let total = ap sum more ∙ sum_by-cons (λ (x : ℕ). x) n (drop (i + 1) ns) in
-    (omega (arith, fits, total, length-drop n rest),
-    ap (λ ms. done ++ cut_entries ms rest) more ∙ ap (λ es. done ++ es) (cut_cons n (drop (i + 1) ns) rest)
-    ∙ sym (append_assoc done (take n rest ∷ []) (cut_entries (drop (i + 1) ns) (drop n rest))))
+    let total = ap sum more ∙ sum_by-cons (λ (x : ℕ). x) n (drop (i + 1) ns) in (
+      omega (arith, fits, total, length-drop n rest),
+      ap (λ ms. done ++ cut_entries ms rest) more ∙ ap (λ es. done ++ es) (cut_cons n (drop (i + 1) ns) rest)
+          ∙ sym (append_assoc done (take n rest ∷ []) (cut_entries (drop (i + 1) ns) (drop n rest))),
+    )
 
 -- all entries are cut off
 pub cut_end : (ns rest : List ℕ) (done : List (List ℕ)) (i : ℕ) → length ns ≤ i →

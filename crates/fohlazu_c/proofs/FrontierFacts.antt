@@ -64,7 +64,7 @@ pub few_ones : (n : ℕ) → n ≤ 2 ^ 62 → count_ones n ≤ 62
 few_ones n h = elim (leb_tells (2 ^ 62) n) [
   | inl (t, top) ↦
       let all : n ≡ 1 * 2 ^ 62 + 0 = omega arith in
-      rw all (omega (arith, ones_cat 62 1 0 (omega arith)))
+      rw all (omega (arith, ones_cat 62 1 0 (omega arith), ones-le 1 1 (omega arith), ones-le 0 0 (omega arith)))
   | inr (t, less) ↦ ones-le 62 n (omega arith)
 ]
 
@@ -96,7 +96,7 @@ pub put_odd : (hash : Hash) (L digests new : List (List ℕ)) (last node parent 
     length L ≡ n → count_ones n ≤ length digests → take (count_ones n) digests ≡ whole_nodes hash L →
     last ≡ slice_index_or digests (count_ones n - 1) d → parent ≡ node_hash hash last node →
     ((M : List (List ℕ)) → length M ≡ n / 2 → take (count_ones (n / 2)) digests ≡ whole_nodes hash M →
-        take (count_ones (n / 2 + 1)) new ≡ whole_nodes hash (M ++ parent ∷ [])) →
+    take (count_ones (n / 2 + 1)) new ≡ whole_nodes hash (M ++ parent ∷ [])) →
     take (count_ones (n + 1)) new ≡ whole_nodes hash (L ++ node ∷ [])
 put_odd hash L digests new last node parent d n odd long room are is parent_is deep =
     let c = ap count_ones long in

@@ -1,5 +1,5 @@
 -- A text at the head of a buffer.
-use Rattle.std.proofs.Common.{◌≡◌, ◌∙◌, ◌+◌, ◌-◌, ◌<◌, ◌≤◌, ℕ, List, [], ◌∷◌, ◌++◌, ap, arith, drop, inl, inr, length, min}
+use Rattle.std.proofs.Common.{◌≡◌, ◌∙◌, ◌+◌, ◌-◌, ◌<◌, ◌≤◌, ℕ, suc, List, [], ◌∷◌, ◌++◌, ap, arith, drop, inl, inr, length, min}
 use Rattle.std.proofs.Common.{refl, sym, take}
 use Rattle.std.specs.Prelude.{slice_index_or, slice_set}
 use Rattle.std.proofs.lemmas.Bool.Decides.{leb_tells}
@@ -19,7 +19,10 @@ placed_is text kept [] n least is some = absurd (omega (arith, some))
 placed_is text kept (byte ∷ rest) n least is some =
     let fits : n ≤ length text = omega (arith, least) in
     let room : n ≤ length rest = omega (arith, least) in
-    let set = zero_behind kept (byte ∷ rest) n (ap length is ∙ length-take-le n text fits) (omega (arith, room)) in
+    let next : n + 1 ≡ suc n = omega arith in
+    let set : slice_set (kept ++ drop n (byte ∷ rest)) n 0 ≡ kept ++ 0 ∷ drop n rest =
+    zero_behind kept (byte ∷ rest) n (ap length is ∙ length-take-le n text fits) (omega (arith, room))
+    ∙ ap (λ k. kept ++ 0 ∷ drop k (byte ∷ rest)) next in
     elim (leb_tells (length text) (length rest)) [
       | inl (t, whole) ↦
           let all : n ≡ length text = omega (arith, least, whole) in

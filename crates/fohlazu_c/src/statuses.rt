@@ -4,14 +4,20 @@ ghost use Rattle.std.specs.Prelude.{◌≡◌, ◌<◌, length};
 ghost use Rattle.fohlazu_c.specs.Statuses.{placed, status_text};
 
 pub(crate) const OK: i32 = 0;
+
 pub(crate) const SIZE_TOO_LARGE: i32 = 1;
+
 pub(crate) const NO_SUCH_TREE: i32 = 8;
+
 pub(crate) const OUT_OF_MEMORY: i32 = 12;
+
 pub(crate) const WRONG_COUNT: i32 = 13;
+
 pub(crate) const WRONG_LENGTHS: i32 = 14;
 
 /// Writes what a status says to `text`, in ASCII, and a zero behind it. With less room it writes the first bytes and
 /// the zero, and with none nothing. It returns how many bytes the whole text has, without its zero: fewer than 64.
+// A call for C may not return a pointer, so the text goes into a buffer of the caller's.
 #[unsafe(no_mangle)]
 pub extern "C" fn fohlazu_error_text(status: i32, text: &mut [u8]) -> usize
     ensures length { result ≡ length (status_text status) }

@@ -24,9 +24,13 @@ bounds-digests-count-2 t c = omega (arith, ones_step c.args.size, c.if-size-eq0.
 pub put-requires : goal.put-requires
 put-requires t c =
     let odd : c.args.size % 2 ≡ 1 = omega (arith, c.if-size-eq0.false) in
-    let less : c.args.size / 2 < c.args.size = omega (arith, odd) in
-    (omega (arith, less, c.decreases), (omega (arith, ones_step c.args.size, c.requires.before),
-    omega (arith, ones_above c.args.size odd, c.requires.after)))
+    let less : c.args.size / 2 < c.args.size = omega (arith, odd) in (
+      omega (arith, less, c.decreases),
+      (
+        omega (arith, ones_step c.args.size, c.requires.before),
+        omega (arith, ones_above c.args.size odd, c.requires.after),
+      ),
+    )
 
 pub returns-clause-whole : goal.returns-clause-whole
 returns-clause-whole t c = λ layer long are.
