@@ -1,5 +1,5 @@
 -- Bytes that are cut into entries one by one.
-use Rattle.std.proofs.Common.{◌≡◌, ◌∙◌, ◌+◌, ◌-◌, ◌<◌, ◌≤◌, ℕ, List, [], ◌∷◌, ◌++◌, ap, append_assoc, arith, drop, length}
+use Rattle.std.proofs.Common.{◌≡◌, ◌∙◌, ◌+◌, ◌-◌, ◌<◌, ◌≤◌, ℕ, suc, List, [], ◌∷◌, ◌++◌, ap, append_assoc, arith, drop, length}
 use Rattle.std.proofs.Common.{Bor, length-drop, map, refl, sym, take}
 use Rattle.std.specs.Prelude.{slice_index_or, sum}
 use Rattle.std.proofs.lemmas.List.{append-nil, drop_all, drop_more}
@@ -42,7 +42,7 @@ cut_end ns rest done i all =
 pub length-cut : (ns bytes : List ℕ) → length (cut_entries ns bytes) ≡ length ns
 unfolding cut_entries
 length-cut [] bytes = refl
-length-cut (n ∷ ns) bytes = ap (λ k. k + 1) (length-cut ns (drop n bytes))
+length-cut (n ∷ ns) bytes = ap suc (length-cut ns (drop n bytes))
 
 -- the leaf hashes of entries as they are lent
 pub hashes_lent : (entries : List (Bor (List ℕ))) →
