@@ -10,4 +10,4 @@ returns-then-not-is_empty-clause-text c =
     placed_is c.as_bytes-words.result.now c.copy_from_slice.new.self c.args.text.now c.min-count.result
     c.min-count.ensures c.copy_from_slice.ensures.after (grind (arith, nat_tests))
     ∙ ap (λ text. placed text c.args.text.now) (c.as_bytes-words.ensures.value ∙ c.words_of.ensures
-    ∙ ap status_text (to_z-of_z w32 c.args.status c.ranges.status.sfits))
+    ∙ ap status_text (to_z-of_z w32 c.args.status c.ranges.status))
