@@ -1,5 +1,5 @@
 -- Bytes that are cut into entries one by one.
-use Rattle.std.proofs.Common.{◌≡◌, ◌∙◌, ◌+◌, ◌-◌, ◌<◌, ◌≤◌, ℕ, suc, List, [], ◌∷◌, ◌++◌, Bor, ap, append_assoc, arith}
+use Rattle.std.proofs.Common.{◌≡◌, ◌∙◌, ◌+◌, ◌<◌, ◌≤◌, ℕ, suc, List, [], ◌∷◌, ◌++◌, Bor, ap, append_assoc, arith}
 use Rattle.std.proofs.Common.{drop, length, length-drop, map, refl, sym, take}
 use Rattle.std.specs.Prelude.{slice_index_or, sum}
 use Rattle.std.proofs.lemmas.List.{append-nil, drop_all, drop_more}

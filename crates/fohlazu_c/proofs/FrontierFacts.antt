@@ -1,6 +1,6 @@
 -- The whole nodes of a layer, and of the layer with one node more.
 use Rattle.std.proofs.Common.{◌≡◌, ◌∙◌, ◌+◌, ◌-◌, ◌*◌, ◌%◌, ◌/◌, ◌^◌, ◌≤◌, ℕ, List, [], ◌∷◌, ◌++◌, ap, arith, drop}
-use Rattle.std.proofs.Common.{inl, inr, length, length-append, refl, sym, take}
+use Rattle.std.proofs.Common.{inl, inr, length, refl, sym, take}
 use Rattle.std.specs.Prelude.{count_ones, slice_index_or, slice_set}
 use Rattle.std.proofs.lemmas.Bool.Decides.{leb_tells}
 use Rattle.std.proofs.lemmas.List.{append-nil, drop_at, length-take-le, nil_from_length, take_at, take_more}

@@ -1,4 +1,4 @@
-use Rattle.std.proofs.Common.{◌≡◌, ◌-◌, ◌<◌, ◌/◌, ◌%◌, [], arith, length, refl}
+use Rattle.std.proofs.Common.{◌≡◌, ◌-◌, ◌<◌, ◌/◌, ◌%◌, [], arith, refl}
 use Rattle.std.specs.Prelude.{count_ones, slice_index_or}
 use Rattle.sha2.specs.Sha256.{sha256}
 use lib.Count.{ones_step}
