@@ -87,8 +87,8 @@ void fohlazu_leaf_hash(const uint8_t *entry, size_t length, uint8_t leaf[32]);
 
 /* Writes the leaf hash of each entry, in their order. bytes has the entries one after another, and lengths the length
  * of each in bytes; leaves_length has to be lengths_length, and all lengths together bytes_length. Entries of one
- * length, or nearly, are hashed eight at a time, wherever they stand. It takes memory, about 100 bytes for each entry,
- * and gives it back. Where it does not return 0 it has written nothing. */
+ * length, or nearly, are hashed eight at a time, wherever they stand. It takes memory, some 64 bytes for each entry and
+ * room for eight of the longest, and gives it back. Where it does not return 0 it has written nothing. */
 int fohlazu_leaf_hashes(const uint8_t *bytes, size_t bytes_length, const size_t *lengths, size_t lengths_length,
                         uint8_t (*leaves)[32], size_t leaves_length);
 
