@@ -105,3 +105,43 @@ func TestErrors(t *testing.T) {
 		t.Error("another leaf hash")
 	}
 }
+
+// The roots of tlog, of a log as it grows. Go has no root of no entries.
+func TestGrowing(t *testing.T) {
+	var entries [][]byte
+	for n := 1; n <= 300; n++ {
+		entries = append(entries, []byte(strconv.Itoa(n)))
+	}
+	_, roots := logOf(300)
+	leaves := must(LeafHashes(entries))
+	var log Log
+	if log.Root() != sha256.Sum256(nil) {
+		t.Error("another root of no entries")
+	}
+	for n, leaf := range leaves {
+		if leaf != Digest(tlog.RecordHash(entries[n])) {
+			t.Fatalf("another leaf hash of %s", entries[n])
+		}
+		if err := log.Push(leaf); err != nil {
+			t.Fatal(err)
+		}
+		if log.Size() != uint64(n+1) || log.Root() != Digest(roots[n+1]) {
+			t.Fatalf("another root of %d entries", n+1)
+		}
+	}
+	if none := must(LeafHashes(nil)); len(none) != 0 {
+		t.Error("a leaf hash of nothing")
+	}
+}
+
+// What each error says.
+func TestTexts(t *testing.T) {
+	for err, text := range map[ProofError]string{
+		SizeTooLarge: "the size is above 2^62", RootMismatch: "the proof is of another root",
+		OutOfMemory: "out of memory",
+	} {
+		if err.Error() != text {
+			t.Errorf("%q in place of %q", err.Error(), text)
+		}
+	}
+}

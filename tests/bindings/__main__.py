@@ -1,10 +1,11 @@
 """python3 tests/bindings    builds libfohlazu.a and libfohlazu.so by make, and calls them from C, C++, Rust and Go
 
-- The library has its four calls and no variable, and needs nothing of the C library but memmove, malloc, realloc and
-  free.
-- examples/c/log.c, linked to the one and to the other, answers as the model does, of logs of up to nine entries, and
-  examples/c/opening.c of random openings, whole and damaged; with the archive each request for memory is refused, and
-  an opening may be answered so.
+- The library has the calls of its header and no variable, and needs nothing of the C library but memmove, malloc,
+  realloc and free.
+- examples/c/log.c, linked to the one and to the other, answers as the model does, of logs of up to nine entries,
+  examples/c/opening.c of random openings, whole and damaged, and examples/c/grow.c of logs that grow; with the archive
+  each request for memory is refused, and an opening or entries may be answered so.
+- The assertions of calls.c hold: refusals that leave what they are handed as it was, sizes at the limit, and texts.
 - The header is C++ as well. The program of docs/CALLING.md that calls the library from Rust compiles without a warning,
   and its assertions hold. The tests of bindings/go pass. What has no compiler here is skipped.
 
@@ -12,6 +13,7 @@ A wrong answer ends with status 1; where the library or a C compiler is missing 
 """
 
 import os
+import random
 import re
 import shutil
 import subprocess
@@ -28,12 +30,16 @@ import openings  # noqa: E402
 
 LIBRARIES = [TOP / "build" / name for name in ("libfohlazu.a", "libfohlazu.so")]
 INCLUDE = f"-I{TOP / 'include'}"
-CALLS = ["fohlazu_leaf_hash", "fohlazu_verify_consistency", "fohlazu_verify_inclusion", "fohlazu_verify_opening"]
+HEADER = (TOP / "include/fohlazu.h").read_text()
+CALLS = sorted(re.findall(r"^(?:int|size_t|void) (fohlazu_\w+)\(", HEADER, re.M))
 NEEDED = {"memmove", "malloc", "realloc", "free"}
 # The toolchain's layer over malloc, with a local constant.
 HEAP = {"rattle_alloc", "rattle_dealloc", "rattle_realloc", "nothing"}
 MOST = 9
 OUT_OF_MEMORY = 12
+FLAGS = ["-std=c11", "-Wall", "-Wextra", "-Werror", "-pedantic", "-O2", INCLUDE]
+# Of random logs: how they are drawn, and how many.
+SEED, LOGS = 93, 40
 
 
 def fail(why, status=1):
@@ -86,25 +92,56 @@ def questions():
                 yield ["consistency", old, size, first, root, *path], verdict
 
 
+def logs_that_grow():
+    """Entries, words of the example, and the root of their log by the model: of up to nine entries, and of more, many of
+    one length."""
+    source = random.Random(SEED)
+    for count in [*range(MOST + 1), *(source.randrange(10, 400) for _ in range(LOGS))]:
+        lengths = source.choices([source.randrange(200) for _ in range(3)], k=count)
+        entries = [bytes(source.choices(range(ord("!"), ord("~") + 1), k=length)) for length in lengths]
+        yield entries, logs.Log(entries).root(0, count)
+
+
+def compile_c(*words):
+    compiler = shutil.which(os.environ.get("CC", "cc")) or fail("a C compiler is needed", 3)
+    run(compiler, *FLAGS, "-o", *words)
+
+
+def built(work, name):
+    """Two programs of an example: over libfohlazu.so, and over libfohlazu.a with every request for memory refused."""
+    archive, shared = LIBRARIES
+    plain, refused, source = work / name, work / f"{name}-refused", TOP / f"examples/c/{name}.c"
+    compile_c(plain, source, shared, f"-Wl,-rpath,{shared.parent}")
+    compile_c(refused, source, TOP / "tests/bindings/refuse_all.c", archive)
+    return plain, refused
+
+
 def try_c(work):
     """Calls the library from C."""
-    compiler = shutil.which(os.environ.get("CC", "cc")) or fail("a C compiler is needed", 3)
-    flags = [compiler, "-std=c11", "-Wall", "-Wextra", "-Werror", "-pedantic", "-O2", INCLUDE]
-    archive, shared = LIBRARIES
     answers = 0
     for name, asked in {"log": questions(), "opening": openings.questions()}.items():
-        plain = work / name
-        refused = work / f"{name}-refused"
-        source = TOP / f"examples/c/{name}.c"
-        run(*flags, "-o", plain, source, shared, f"-Wl,-rpath,{shared.parent}")
-        run(*flags, "-o", refused, source, TOP / "tests/bindings/refuse_all.c", archive)
+        programs = built(work, name)
         for question, verdict in asked:
             words = [word.hex() if isinstance(word, bytes) else str(word) for word in question]
-            for program in (plain, refused):
+            for program in programs:
                 answers += 1
                 status = subprocess.run([program, *words]).returncode
                 if status != verdict and (program.name, status) != ("opening-refused", OUT_OF_MEMORY):
                     fail(f"{program.name} {' '.join(words)}: status {status}, and the model has {verdict}")
+
+    plain, refused = built(work, "grow")
+    for entries, root in logs_that_grow():
+        answers += 2
+        printed = run(plain, *entries)
+        if printed != f"{root.hex()}\n":
+            fail(f"grow {entries}: {printed}, and the model has {root.hex()}")
+        ran = subprocess.run([refused, *entries], capture_output=True, text=True)
+        expected = (OUT_OF_MEMORY, "", "grow: out of memory\n") if entries else (0, printed, "")
+        if (ran.returncode, ran.stdout, ran.stderr) != expected:
+            fail(f"grow {entries} with no memory: {ran}, and not {expected}")
+
+    compile_c(work / "calls", TOP / "tests/bindings/calls.c", LIBRARIES[0])
+    run(work / "calls")
     return f"{answers} answers, half of them with every request for memory refused"
 
 
@@ -112,9 +149,21 @@ def try_cpp(work):
     compiler = shutil.which(os.environ.get("CXX", "c++"))
     if not compiler:
         return "skipped, there is no compiler"
-    (work / "log.cpp").write_text("#include <fohlazu.h>\nint main() { return FOHLAZU_ACCEPTED; }\n")
-    run(compiler, "-Wall", "-Wextra", "-Werror", "-pedantic", "-fsyntax-only", INCLUDE, work / "log.cpp")
-    return "the header compiles"
+    calls = ", ".join(f"reinterpret_cast<void (*)()>({call})" for call in CALLS)
+    (work / "calls.cpp").write_text(f"""#include <fohlazu.h>
+        int main() {{
+          void (*const calls[])() = {{{calls}}};
+          for (auto call : calls) {{
+            if (call == nullptr) {{ return 1; }}
+          }}
+          fohlazu_frontier log = {{}};
+          uint8_t root[32];
+          return fohlazu_log_root(&log, root);
+        }}""")
+    run(compiler, "-Wall", "-Wextra", "-Werror", "-pedantic", INCLUDE, "-o", work / "calls-cpp", work / "calls.cpp",
+        LIBRARIES[0])
+    run(work / "calls-cpp")
+    return f"a program has all {len(CALLS)} calls, and makes one"
 
 
 def try_rust(work):

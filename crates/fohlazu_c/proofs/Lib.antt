@@ -1,1 +1,4 @@
 mod CutFacts
+mod EntryFacts
+mod FrontierFacts
+mod TextFacts

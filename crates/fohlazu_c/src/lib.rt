@@ -1,9 +1,12 @@
-//! The verifiers of logs (RFC 9162), and of openings of matrices, as a library for C, on plain bytes:
-//! `include/fohlazu.h` declares its calls. They keep nothing, and those of logs take no memory.
+//! The verifiers of logs (RFC 9162) and of openings of matrices, and logs that grow, as a library for C, on plain
+//! bytes: `include/fohlazu.h` declares its calls. They keep nothing. Of those of logs only the one that hashes many
+//! entries takes memory.
 #![tactic(auto)]
 
+pub mod growing;
 pub mod opening;
 pub mod setting;
+pub mod statuses;
 
 ghost use Rattle.std.specs.Prelude.{◌≡◌, ◌↔◌, ◌≤◌, pos};
 ghost use Rattle.std.specs.Result.{result_err};

@@ -10,6 +10,7 @@ ghost use Rattle.fohlazu_c.specs.Openings.{is_arity_taken, opening_status, param
 ghost use Rattle.fohlazu_c.specs.Openings.{presented_opening, refusal_at, size_shown};
 
 use crate::setting::{MatrixSize, TreeSetting, rule};
+use crate::statuses::NO_SUCH_TREE;
 use p3_hashes::sha::{Sha256Nodes, Sha256Rows};
 use p3_merkle_core::cap::CapRule;
 use p3_merkle_core::error::MerkleTreeError;
@@ -19,9 +20,6 @@ use p3_support::row_parts::RowParts;
 use std::alloc::{AllocError, Global};
 
 type Scheme<const N: usize> = MerkleTreeMmcs<u8, u8, Sha256Rows, Sha256Nodes<N>, N, 32>;
-
-/// No tree has such a number of children, or such a rule.
-const NO_SUCH_TREE: i32 = 8;
 
 /// Verifies an opening of the row `index` of the tallest matrix, counted from 0, as `verify_batch` of the library does,
 /// under SHA-256. `roots` has the digests of the cap, and `sizes` the dimensions of each matrix, in input order. `rows`
