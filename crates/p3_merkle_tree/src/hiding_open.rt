@@ -8,7 +8,7 @@ ghost use Rattle.p3_merkle_core.specs.Geometry.{heights, shape_of};
 ghost use Rattle.p3_merkle_core.specs.Nodes.{shape};
 ghost use Rattle.p3_merkle_core.specs.Presented.{IsExactVerdict, IsVerdict};
 ghost use Rattle.p3_merkle_core.specs.Pruning.{restored_paths};
-ghost use Rattle.p3_merkle_core.specs.Refusals.{AnswersUnlessMemory};
+ghost use Rattle.p3_merkle_core.specs.Refusals.{AnswersUnlessMemory, Refuses};
 ghost use Rattle.p3_merkle_core.specs.Views.{shown_paths};
 ghost use Rattle.p3_support.specs.Batches.{greatest};
 ghost use Rattle.p3_support.specs.Pairs.{left_of};
@@ -22,7 +22,7 @@ ghost use Rattle.p3_merkle_tree.specs.HidingSchemes.{plain_of, presented_all, pr
 ghost use Rattle.p3_merkle_tree.specs.HidingSchemes.{salted_borrowed, salted_owned, salted_params_of};
 ghost use Rattle.p3_merkle_tree.specs.HidingSchemes.{salted_pruned_borrowed, salted_pruned_owned};
 ghost use Rattle.p3_merkle_tree.specs.Inner.SaltedParts.{left_widths, salt_parts, unsalted_parts};
-ghost use Rattle.p3_merkle_tree.specs.SaltRefusals.{salted_refusal_under};
+ghost use Rattle.p3_merkle_tree.specs.SaltRefusals.{salted_refusal_under, salted_sets_refusal};
 ghost use Rattle.p3_merkle_tree.specs.SaltedOpenings.{joined, joined_sets};
 ghost use Rattle.p3_merkle_tree.specs.SaltedOpened.{OpensSalted, OpensSaltedPruned};
 ghost use Rattle.p3_merkle_tree.specs.SaltedExtraction.{IsOnlySaltedOpening, IsSaltedExtraction};
@@ -270,7 +270,7 @@ impl<
     ///
     /// # Errors
     ///
-    /// The first of these that applies, where `OutOfMemory` may come at any time:
+    /// The first of these that applies, where `OutOfMemory` never takes the place of one of the first three:
     ///
     /// - `WrongBatchSize`: the number of salt sets is not that of the row sets;
     /// - in query order, for each row set with its salts: `WrongBatchSize` if the number of rows is not that of the
@@ -288,7 +288,10 @@ impl<
         rows: &[Vec<Vec<P::Value>>],
         proof: &SaltedMultiProof<P::Value, PW::Value, D>,
     ) -> Result<(), MerkleTreeError>
-        ensures { IsVerdict (presented_all self.now dimensions.now commit.now indices.now rows.now proof.now) result }
+        ensures verdict { IsVerdict (presented_all self.now dimensions.now commit.now indices.now rows.now proof.now)
+            result }
+        ensures checked { Refuses result (salted_sets_refusal SALT_ELEMS dimensions.now (row_sets rows.now)
+            (row_sets proof.now.0.items)) }
     {
         let (salts, pruned) = proof;
         check_salted_sets(dimensions, SALT_ELEMS, rows, salts)?;
@@ -321,6 +324,8 @@ impl<
     ) -> Result<Vec<MerkleAuthPath<PW::Value, D>>, MerkleTreeError>
         ensures verdict { let restores = presented_to_restore self.now dimensions.now in
             IsVerdict (restores indices.now rows.now proof.now) result }
+        ensures checked { Refuses result (salted_sets_refusal SALT_ELEMS dimensions.now (row_sets rows.now)
+            (row_sets proof.now.0.items)) }
         ensures paths { let c = salted_params_of self.now dimensions.now in
             let p = salted_pruned_borrowed indices.now rows.now proof.now in
             IfOk result (λ paths. shown_paths paths.items ≡ restored_paths c (joined_sets p)) }

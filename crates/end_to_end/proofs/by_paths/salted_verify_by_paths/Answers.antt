@@ -36,7 +36,8 @@ returns-in-Err-clause-answers g c =
     let query = λ (i : ℕ). presented_salted digest_eq e ds k cap (salted_opening_at k p i) in
     let verdict = c.in_ok-verdict.verdict in
     let error = c.in-Err.error in
-    let answered = subst (IsVerdict whole) (sym c.in_ok-verdict.ensures.same) c.verify_multi_batch-verdict.ensures in
+    let answered = subst (IsVerdict whole) (sym c.in_ok-verdict.ensures.same)
+    c.verify_multi_batch-verdict.ensures.verdict in
     let refused = subst (IsVerdict restoration) (sym c.in_ok-paths.ensures.same ∙ c.in-Err.is)
     c.restore_and_recompute_paths-restored.ensures.verdict in
     let differs : error ≢ OutOfMemory = rw c.in-Err.is at c.in_ok-paths.ensures.other in

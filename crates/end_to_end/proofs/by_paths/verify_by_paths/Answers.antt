@@ -28,7 +28,8 @@ returns-in-Err-clause-answers g c =
     let query = λ (i : ℕ). presented digest_eq k cap (opening_at k p i) in
     let verdict = c.in_ok-verdict.verdict in
     let e = c.in-Err.error in
-    let answered = subst (IsVerdict whole) (sym c.in_ok-verdict.ensures.same) c.verify_batch_pruned-verdict.ensures in
+    let answered = subst (IsVerdict whole) (sym c.in_ok-verdict.ensures.same)
+    c.verify_batch_pruned-verdict.ensures.verdict in
     let refused = subst (IsVerdict restoration) (sym c.in_ok-paths.ensures.same ∙ c.in-Err.is)
     c.restore_and_recompute_paths-restored.ensures.verdict in
     let differs : e ≢ OutOfMemory = rw c.in-Err.is at c.in_ok-paths.ensures.other in
@@ -49,7 +50,8 @@ returns-clause-answers g c =
     let query = λ (i : ℕ). presented digest_eq k cap (opening_at k p i) in
     let paths = c.in-Ok.paths in
     let each = c.in_ok-each.each.items in
-    let answered = subst (IsVerdict whole) (sym c.in_ok-verdict.ensures.same) c.verify_batch_pruned-verdict.ensures in
+    let answered = subst (IsVerdict whole) (sym c.in_ok-verdict.ensures.same)
+    c.verify_batch_pruned-verdict.ensures.verdict in
     let is = sym c.in_ok-paths.ensures.same ∙ c.in-Ok.is in
     let restores = subst (IsVerdict restoration) is c.restore_and_recompute_paths-restored.ensures.verdict in
     let shown = subst (λ (r : Result _ MerkleTreeError). IfOk r (λ ps. shown_paths ps.items ≡ restored_paths k p)) is

@@ -41,7 +41,7 @@ returns-clause-verdict g c =
       same i,
       salted_pruned_of c.args.indices.now (row_sets (lent i)) (row_sets proof.0.items) proof.1.sibling_hashes.items,
     ))
-    c.verify_multi_batch-verdict.ensures in
+    c.verify_multi_batch-verdict.ensures.verdict in
     memory_left (presented (unsalted_dimensions g.row.N (matrices_of c.in_ok-cap.tree))
     (salted_pruned_owned c.args.indices.now c.in_ok-opening.opening)) c.verify_multi_batch-verdict.result is
     (returns-clause-opened g c).accepted

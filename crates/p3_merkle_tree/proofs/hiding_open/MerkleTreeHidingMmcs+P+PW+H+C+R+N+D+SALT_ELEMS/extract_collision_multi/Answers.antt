@@ -60,7 +60,7 @@ returns-in-Err-clause-extraction g c =
       is_wide = c.deref-in-Err.ensures.value ∙ c.in_ok-wider.ensures;
       is = c.opening_with_salts-first.ensures;
     }) c.verify_row_sets-checked.result c.in-Err.error c.unwrap_or.result
-    (rw c.roots-roots.ensures at c.verify_row_sets-checked.ensures.answer)
+    (rw c.roots-roots.ensures at c.verify_row_sets-checked.ensures.verdict.answer)
     (inr (sym (λ i. salted_sets_refusal g.row.SALT_ELEMS ds u.rows (salts2 i)) ∙ c.in-Err.ensures.answer))
     (c.unwrap_or.ensures ∙ ap (λ z. unwrap_or z c.in-Err.error) c.err.ensures.value))
 

@@ -3,14 +3,15 @@ use Rattle.std.proofs.Common.{◌∙◌, ap, inr, sym}
 use Rattle.std.proofs.lemmas.Result.{err_from_is_err_and}
 use Rattle.p3_support.specs.Shown.{roots_of, row_sets}
 use Rattle.p3_merkle_core.specs.Pruning.{pruned_of}
+use Rattle.p3_merkle_core.proofs.Pruned.Refused.{handed, refuses_so, unrefused_so}
 use Rattle.p3_merkle_tree.specs.HidingSchemes.{salted_pruned_borrowed}
 use Rattle.p3_merkle_tree.specs.SaltRefusals.{salted_sets_refusal}
 use Rattle.p3_merkle_tree.specs.SaltedOpenings.{salted_sets}
 use Rattle.p3_merkle_tree.proofs.ExtractedFacts.{answer_of, several, verdict_joined, verdict_refused}
 use Rattle.p3_merkle_tree.proofs.hiding_open.MerkleTreeHidingMmcs+P+PW+H+C+R+N+D+SALT_ELEMS.verify_multi_batch.Goals as goal
 
-pub returns-in_err-check_salted_sets : goal.returns-in_err-check_salted_sets
-returns-in_err-check_salted_sets g c =
+pub returns-in_err-check_salted_sets-clause-verdict : goal.returns-in_err-check_salted_sets-clause-verdict
+returns-in_err-check_salted_sets-clause-verdict g c =
     let ds = c.args.dimensions.now in
     let at = several c.args.self.now ds (roots_of c.args.commit.now) g.met.P.PackedValue.eq_is_equality
     g.met.PW.PackedValue.eq_is_equality in
@@ -22,8 +23,8 @@ returns-in_err-check_salted_sets g c =
     (inr (sym (λ i. salted_sets_refusal g.row.SALT_ELEMS ds o.rows (salts i))
     ∙ rw left.2 c.in_err-check_salted_sets.ensures.answer)))
 
-pub returns : goal.returns
-returns g c =
+pub returns-clause-verdict : goal.returns-clause-verdict
+returns-clause-verdict g c =
     let ds = c.args.dimensions.now in
     let at = several c.args.self.now ds (roots_of c.args.commit.now) g.met.P.PackedValue.eq_is_equality
     g.met.PW.PackedValue.eq_is_equality in
@@ -37,4 +38,30 @@ returns g c =
           ∙ c.in_ok-check_salted_sets.ensures.answer;
       is_wide = c.deref-3.ensures.value ∙ c.in_ok-wider.ensures;
       is = λ i. pruned_of o.indices (salted_sets o.rows (read i)) (c.deref-4.ensures.value i);
-    }) c.verify_row_sets.result (rw c.roots.ensures at c.verify_row_sets.ensures.answer)
+    }) c.verify_row_sets.result (rw c.roots.ensures at c.verify_row_sets.ensures.verdict.answer)
+
+pub returns-in_err-check_salted_sets-clause-checked : goal.returns-in_err-check_salted_sets-clause-checked
+returns-in_err-check_salted_sets-clause-checked g c =
+    let ds = c.args.dimensions.now in
+    let o = salted_pruned_borrowed c.args.indices.now c.args.rows.now c.args.proof.now in
+    let salts = ap row_sets c.deref.ensures.value in
+    let refusal = salted_sets_refusal g.row.SALT_ELEMS ds o.rows o.salts in
+    let e = c.in_err-check_salted_sets.field-0.0 in
+    handed c.from_residual.result e refusal c.from_residual.ensures.1 (refuses_so refusal e
+    (sym (λ i. salted_sets_refusal g.row.SALT_ELEMS ds o.rows (salts i)) ∙ c.in_err-check_salted_sets.ensures.answer))
+
+pub returns-in_err-wider-clause-checked : goal.returns-in_err-wider-clause-checked
+returns-in_err-wider-clause-checked g c =
+    let ds = c.args.dimensions.now in
+    let o = salted_pruned_borrowed c.args.indices.now c.args.rows.now c.args.proof.now in
+    let salts = ap row_sets c.deref.ensures.value in
+    unrefused_so c.from_residual-in_err-wider.result (salted_sets_refusal g.row.SALT_ELEMS ds o.rows o.salts)
+    (sym (λ i. salted_sets_refusal g.row.SALT_ELEMS ds o.rows (salts i)) ∙ c.in_ok-check_salted_sets.ensures.answer)
+
+pub returns-clause-checked : goal.returns-clause-checked
+returns-clause-checked g c =
+    let ds = c.args.dimensions.now in
+    let o = salted_pruned_borrowed c.args.indices.now c.args.rows.now c.args.proof.now in
+    let salts = ap row_sets c.deref.ensures.value in
+    unrefused_so c.verify_row_sets.result (salted_sets_refusal g.row.SALT_ELEMS ds o.rows o.salts)
+    (sym (λ i. salted_sets_refusal g.row.SALT_ELEMS ds o.rows (salts i)) ∙ c.in_ok-check_salted_sets.ensures.answer)
