@@ -8,6 +8,7 @@ ghost use Rattle.p3_merkle_core.specs.Geometry.{heights, shape_of};
 ghost use Rattle.p3_merkle_core.specs.Nodes.{shape};
 ghost use Rattle.p3_merkle_core.specs.Presented.{IsExactVerdict, IsVerdict};
 ghost use Rattle.p3_merkle_core.specs.Pruning.{restored_paths};
+ghost use Rattle.p3_merkle_core.specs.Extraction.{IsExactExtraction};
 ghost use Rattle.p3_merkle_core.specs.Refusals.{AnswersUnlessMemory, Refuses};
 ghost use Rattle.p3_merkle_core.specs.Views.{shown_paths};
 ghost use Rattle.p3_support.specs.Batches.{greatest};
@@ -350,10 +351,11 @@ impl<
     ///
     /// # Errors
     ///
-    /// The first of these that applies, where `OutOfMemory` may come at any time:
+    /// The first of these that applies:
     ///
     /// - the error of `verify_batch` for the first opening;
-    /// - the error of `verify_batch` for the second opening.
+    /// - the error of `verify_batch` for the second opening;
+    /// - `OutOfMemory`, only if the checks differ at a place that both share.
     pub fn extract_collision(
         &self,
         alloc: Global,
@@ -364,9 +366,13 @@ impl<
         index2: usize,
         second: BatchOpeningRef<'_, P::Value, SaltedProof<P::Value, PW::Value, D>>,
     ) -> Result<Option<Collision<P::Value, PW::Value, D>>, MerkleTreeError>
-        ensures { let extracts = IsSaltedExtraction P.Value.eq PW.Value.eq (cap_rule_of (plain_of self.now)) SALT_ELEMS
-            dimensions.now (salted_params_of self.now dimensions.now) (roots_of commit.now) in
+        ensures extraction { let rule = cap_rule_of (plain_of self.now) in
+            let extracts = IsSaltedExtraction P.Value.eq PW.Value.eq rule SALT_ELEMS dimensions.now
+            (salted_params_of self.now dimensions.now) (roots_of commit.now) in
             extracts (salted_borrowed index1 first.entry) (salted_borrowed index2 second.entry) result }
+        ensures exact { let presented = presented_one self.now dimensions.now commit.now in
+            IsExactExtraction (salted_params_of self.now dimensions.now) (presented index1 first.entry)
+            (presented index2 second.entry) result }
     {
         let roots = commit.roots();
         let first = self.checked_opening(roots, dimensions, index1, first)?;
@@ -389,7 +395,8 @@ impl<
     ///
     /// # Errors
     ///
-    /// The first of these that applies, where `OutOfMemory` may come at any time:
+    /// The first of these that applies, where `OutOfMemory` never takes the place of one of the first three that
+    /// `verify_multi_batch` lists, for the first opening:
     ///
     /// - the error of `verify_multi_batch` for the first opening;
     /// - the error of `verify_multi_batch` for the second opening.
@@ -410,6 +417,8 @@ impl<
             (salted_params_of self.now dimensions.now) (roots_of commit.now) in
             extracts (salted_pruned_borrowed indices1.now rows1.now proof1.now)
             (salted_pruned_borrowed indices2.now rows2.now proof2.now) result }
+        ensures checked { Refuses result (salted_sets_refusal SALT_ELEMS dimensions.now (row_sets rows1.now)
+            (row_sets proof1.now.0.items)) }
         ensures only { IsOnlySaltedOpening (cap_rule_of (plain_of self.now))
             (salted_params_of self.now dimensions.now)
             (salted_pruned_borrowed indices1.now rows1.now proof1.now)
