@@ -8,3 +8,4 @@ pub mod NoneFacts
 pub mod Answered
 pub mod Unrefused
 pub mod HonestAnswered
+pub mod Refused

@@ -1,5 +1,6 @@
 -- What two openings of one cap lead to: the last difference of two of their checks, which is a collision.
 use Rattle.std.specs.Prelude.{◌≡◌, ◌≢◌, ◌⊎◌, ◌↔◌, ◌<◌, ℕ, ◌==◌, ◌&&◌, Bool, true, false, IsTrue, IsNone, IsSome, IfOk}
+use Rattle.std.specs.Prelude.{IsOk}
 use Rattle.std.specs.Prelude.{IfSome, List, [], ◌∷◌, Option, None, Result, length, slice_index, slice_index_or}
 use Rattle.std.specs.Prelude.{option_map}
 use Rattle.std.specs.List.{range_with_len}
@@ -12,7 +13,7 @@ use Rattle.p3_merkle_core.specs.Checks.{IsLastShared, Params, Words, input_diges
 use Rattle.p3_merkle_core.specs.Checks.{shared_inputs}
 use Rattle.p3_merkle_core.specs.Presented.{Presented}
 use Rattle.p3_merkle_core.specs.Pruning.{PrunedOpening}
-use Rattle.p3_merkle_core.specs.Refusals.{AnswersUnlessMemory}
+use Rattle.p3_merkle_core.specs.Refusals.{AnswersUnlessMemory, Refuses}
 use Rattle.p3_answers.specs.Answers.{first_of, ok_unless, unless}
 use Rattle.p3_merkle_core.specs.declared.cap.CapRule.{CapRule}
 use Rattle.p3_merkle_core.specs.declared.cap.CapRule.TheVariants.{Lowered}
@@ -171,6 +172,14 @@ pub record IsExtraction {T W : Type 0} (row_eq : T → T → Bool) (digest_eq : 
   pub answer : AnswersUnlessMemory result (option_or first.refusal second.refusal)
   -- what is found is the first difference, by tests on words
   pub found : IfOk result (λ found. found ≡ first_difference row_eq digest_eq c first second)
+
+-- what such a call also returns for two openings of one index each, whose checks take no memory: what is refused is
+-- refused whatever memory there is, and so is the answer Ok for two accepted openings that agree where their checks
+-- share a place; so memory runs out only for accepted ones that differ there
+pub record IsExactExtraction {T W Found : Type 0} (c : Params T W) (first second : Presented T W)
+    (result : Result (Option Found) MerkleTreeError) : Type 0 where
+  pub checked : Refuses result (option_or first.refusal second.refusal)
+  pub agreed : first.is_accepted → second.is_accepted → EachPair first second (AgreeWhereShared c) → IsOk result
 
 -- what such a call also says of two pruned openings, one of which is thus the only one: of one list of indices, nothing
 -- is found exactly where their digests and authenticated rows agree

@@ -2,9 +2,10 @@
 use Rattle.std.specs.Prelude.{◌≡◌, ℕ, suc, false, slice_get, ◌==◌, ◌&&◌, nat_lt, Bool, if◌then◌else◌, List, [], ◌∷◌}
 use Rattle.std.specs.Prelude.{◌-◌, ◌^◌, length, min, filter, zip, unwrap_or, option_map, slice_index, slice_index_or}
 use Rattle.std.specs.Prelude.{Option}
-use Rattle.std.specs.Prelude.{None, Result, Decides}
+use Rattle.std.specs.Prelude.{IfSome, None, Result, Some, Decides}
 use Rattle.std.specs.List.{list_all, range_with_len, enumerate_from}
 use Rattle.std.specs.Option.{option_or}
+use Rattle.std.specs.Result.{result_err}
 use Rattle.std.specs.Cmp.Lexicographic.{pointwise}
 use Rattle.p3_merkle_core.specs.Geometry.{Shape, exponent, layer_exponent, ancestor, least, heights, widths}
 use Rattle.p3_merkle_core.specs.Gate.{gate_refusal}
@@ -32,6 +33,10 @@ IsEquality {T} test = (x y : T) → Decides (test x y) (x ≡ y)
 -- Ok only where nothing is refused; an error is the refusal, or says that memory ran out
 abbrev pub AnswersUnlessMemory : {V : Type 0} → Result V MerkleTreeError → Option MerkleTreeError → Type 0
 AnswersUnlessMemory result refusal = AnswersUnless (λ e. e ≡ OutOfMemory) result refusal
+
+-- what is refused is refused whatever memory there is: the error is the refusal
+abbrev pub Refuses : {V : Type 0} → Result V MerkleTreeError → Option MerkleTreeError → Type 0
+Refuses result refusal = IfSome refusal (λ e. result_err result ≡ Some e)
 
 -- ---- slots
 
@@ -163,6 +168,17 @@ replay_refusal s t index siblings =
     ∷ [])
 
 -- ---- pruned openings
+
+-- why so many row sets and digests are refused for some indices before anything takes memory: the first of these
+-- reasons
+abbrev pub early_refusal : List ℕ → List ℕ → ℕ → ℕ → Option MerkleTreeError
+early_refusal heights indices sets digests =
+    first_some (gate_refusal heights ∷ size_refusal (length indices) sets ∷ idle_refusal (length indices) digests ∷
+    queries_refusal (greatest heights) indices ∷ [])
+
+-- the same of a pruned opening
+abbrev pub pruned_early : {T W : Type 0} → Shape → PrunedOpening T W → Option MerkleTreeError
+pruned_early s p = early_refusal (heights s) p.indices (length p.rows) (length p.digests)
 
 -- why a pruned opening is refused, whatever the cap, which is layer t: the first of these reasons
 abbrev pub pruned_refusal : {T W : Type 0} → (T → T → Bool) → Shape → ℕ → PrunedOpening T W → Option MerkleTreeError

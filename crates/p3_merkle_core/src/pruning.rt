@@ -17,9 +17,9 @@ ghost use Rattle.p3_support.specs.Lists.{is_among};
 ghost use Rattle.p3_support.specs.RowSets.{sets_in};
 ghost use Rattle.p3_support.specs.Shown.{row_lists};
 ghost use Rattle.p3_merkle_core.specs.Geometry.{height_limit, shape_of, IsArity};
-ghost use Rattle.p3_merkle_core.specs.Refusals.{digest_count_refusal, duplicate_refusal, pruned_refusal};
-ghost use Rattle.p3_merkle_core.specs.Refusals.{queries_refusal, AnswersUnlessMemory};
-ghost use Rattle.p3_merkle_core.specs.Inner.Agreement.{distinct, early_refusal, layers_refusal, matrices_with};
+ghost use Rattle.p3_merkle_core.specs.Refusals.{digest_count_refusal, duplicate_refusal, early_refusal};
+ghost use Rattle.p3_merkle_core.specs.Refusals.{pruned_refusal, queries_refusal, AnswersUnlessMemory, Refuses};
+ghost use Rattle.p3_merkle_core.specs.Inner.Agreement.{distinct, layers_refusal, matrices_with};
 ghost use Rattle.p3_merkle_core.specs.Inner.Agreement.{nodes_refusal, opened_of, opened_with, rows_refusal, slot_rows};
 ghost use Rattle.p3_merkle_core.specs.Inner.Agreement.{AreDistinctOf, AreSlots, AreSorted, IsAscending};
 ghost use Rattle.p3_merkle_core.specs.Inner.Children.{levels_in, siblings_on_path, place_among, AreChildren, AreLinked};
@@ -388,10 +388,12 @@ pub fn check_pruned<T: Eq>(
 ) -> Result<DistinctQueries, MerkleTreeError>
     requires arity { IsArity schedule.now.arity }
     requires layer { cap_layer ≤ schedule.now.num_levels }
-    ensures { let refusal = pruned_refusal T.eq (shape_of schedule.now.arity schedule.now.dimensions.now) cap_layer
-        (opened_with indices.now (sets_in rows.entry) num_digests) in
+    ensures answer { let refusal = pruned_refusal T.eq (shape_of schedule.now.arity schedule.now.dimensions.now)
+        cap_layer (opened_with indices.now (sets_in rows.entry) num_digests) in
         MatchResult result (λ queried. (refusal ≡ None) × AreDistinctOf queried indices.now)
         (λ e. (e ≡ OutOfMemory) ⊎ (refusal ≡ Some e)) }
+    ensures checked { let heights = heights_of schedule.now.dimensions.now in
+        Refuses result (early_refusal heights indices.now (length (sets_in rows.entry)) num_digests) }
 {
     check_queries(schedule, indices, rows.num_sets(), num_digests)?;
     let queried = distinct_queries_of(alloc, indices)?;

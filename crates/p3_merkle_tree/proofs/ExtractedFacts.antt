@@ -1,6 +1,6 @@
 -- What a scheme answers to salted openings: before rows are joined with their salts, and as the plain scheme answers.
 use Rattle.std.proofs.Common.{◌≡◌, ◌↔◌, ◌∙◌, ◌⊎◌, ℕ, Bool, List, ap, inl, inr, refl, subst, sym, None, Some}
-use Rattle.std.specs.Prelude.{Ok, Err, IfOk, IsErr, Option, Result}
+use Rattle.std.specs.Prelude.{Ok, Err, IfOk, IsErr, IsOk, Option, Result}
 use Rattle.std.specs.Option.{option_map, option_or, unwrap_or}
 use Rattle.std.specs.Result.{result_err, result_map_both}
 use Rattle.std.specs.declared.default.Default as default
@@ -11,18 +11,18 @@ use Rattle.p3_support.specs.declared.hasher.CryptographicHasher as hasher
 use Rattle.p3_support.specs.declared.packed.PackedValue as packed
 use Rattle.p3_support.specs.declared.matrix.Dimensions.{Dimensions}
 use Rattle.p3_merkle_core.specs.Checks.{Input, Params}
-use Rattle.p3_merkle_core.specs.Extraction.{IsExtraction, difference_of, first_difference}
+use Rattle.p3_merkle_core.specs.Extraction.{IsExactExtraction, IsExtraction, difference_of, first_difference}
 use Rattle.p3_merkle_core.specs.Views.{inputs_in}
 use Rattle.p3_merkle_core.specs.declared.collision.InputPair.{InputPair}
 use Rattle.p3_merkle_core.specs.Geometry.{shape_of}
 use Rattle.p3_merkle_core.specs.Pruning.{PrunedOpening}
 use Rattle.p3_merkle_core.specs.Presented.{Presented, IsVerdict, presented_pruned}
-use Rattle.p3_merkle_core.specs.Refusals.{AnswersUnlessMemory, IsEquality}
+use Rattle.p3_merkle_core.specs.Refusals.{AnswersUnlessMemory, IsEquality, Refuses}
 use Rattle.p3_merkle_core.specs.declared.cap.CapRule.{CapRule}
 use Rattle.p3_merkle_core.specs.declared.error.MerkleTreeError.{MerkleTreeError}
 use Rattle.p3_merkle_core.specs.declared.error.MerkleTreeError.TheVariants.{OutOfMemory}
 use Rattle.p3_merkle_core.proofs.Collisions.ExtractionFacts.{IsPresentation, all_authenticated, extracted}
-use Rattle.p3_merkle_core.proofs.Collisions.ExtractionFacts.{extracted_one}
+use Rattle.p3_merkle_core.proofs.Collisions.ExtractionFacts.{exact_alone, extracted_one}
 use Rattle.p3_merkle_tree.specs.Schemes.{cap_height_of, cap_rule_of, params_of}
 use Rattle.p3_merkle_tree.proofs.VerdictFacts.{verdict_by}
 use Rattle.p3_merkle_tree.specs.HidingSchemes.{plain_of, salted_params_of}
@@ -182,6 +182,19 @@ module _ {P PW H C R X G V W : Type 0} {N D E : ℕ} {p : packed.Ghosts P V} {pd
       (presented_salted qe.eq E ds c cap u) (joined o) (joined u) dec dec_w (plain_of s).arity
       (all_authenticated (shape_of N (widened E ds)) (cap_rule_of (plain_of s)) (cap_height_of (plain_of s))
       (plain_of s).arity) (is o) (is u) refl refl refl refl r answer found)
+
+  -- and it is exact but for memory where it is refused by the definition, and Ok where there is no difference
+  pub one_exact : (o u : SaltedOpening V W) (r : Result (Option (InputPair V (List W))) MerkleTreeError) →
+      let c = over (widened E ds) in
+      let refusal = option_or (salted_refusal_under qe.eq E ds c cap o) (salted_refusal_under qe.eq E ds c cap u) in
+      Refuses r refusal →
+      (refusal ≡ None → difference_of pe.eq qe.eq c (joined o) (joined u) ≡ None → IsOk r) →
+      IsExactExtraction c (presented_salted qe.eq E ds c cap o) (presented_salted qe.eq E ds c cap u) r
+  one_exact o u r refused agreed =
+      let c = over (widened E ds) in
+      let is = salted_presentation qe.eq E ds c cap dec_w in
+      exact_alone pe.eq qe.eq c (presented_salted qe.eq E ds c cap o) (presented_salted qe.eq E ds c cap u) (joined o)
+      (joined u) dec dec_w refl refl refl refl (is o).decided.1 (is u).decided.1 r refused agreed
 
   abbrev pub several : Kind pe.eq qe.eq (cap_rule_of (plain_of s)) over (widened E ds)
   several =

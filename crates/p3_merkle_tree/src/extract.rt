@@ -2,8 +2,9 @@
 //! level, and has an input of the hash or of the compression at each place. Openings conflict in a row if both have it
 //! and its words differ.
 
-ghost use Rattle.p3_merkle_core.specs.Extraction.{IsExtraction, IsOnlyOpening};
+ghost use Rattle.p3_merkle_core.specs.Extraction.{IsExactExtraction, IsExtraction, IsOnlyOpening};
 ghost use Rattle.p3_merkle_core.specs.Geometry.{shape_of};
+ghost use Rattle.p3_merkle_core.specs.Refusals.{pruned_early, Refuses};
 ghost use Rattle.p3_merkle_core.specs.Views.{found_alone, found_pair, pruned_borrowed};
 ghost use Rattle.p3_merkle_verifier.specs.Inner.RestoredLevels.{pruned_in};
 ghost use Rattle.p3_merkle_tree.specs.Committed.{presented_all, presented_one, presented_pruned_under};
@@ -46,10 +47,11 @@ impl<
     ///
     /// # Errors
     ///
-    /// The first of these that applies, where `OutOfMemory` may come at any time:
+    /// The first of these that applies:
     ///
     /// - the error of `verify_batch` for the first opening;
-    /// - the error of `verify_batch` for the second opening.
+    /// - the error of `verify_batch` for the second opening;
+    /// - `OutOfMemory`, only if the checks differ at a place that both share.
     pub fn extract_collision(
         &self,
         alloc: Global,
@@ -60,10 +62,13 @@ impl<
         index2: usize,
         second: BatchOpeningRef<'_, P::Value, Vec<[PW::Value; D]>>,
     ) -> Result<Option<Collision<P::Value, PW::Value, D>>, MerkleTreeError>
-        ensures { let c = params_of self.now (shape_of N dimensions.now) in
+        ensures extraction { let c = params_of self.now (shape_of N dimensions.now) in
             let presented = presented_one self.now dimensions.now commit.now in
             IsExtraction P.Value.eq PW.Value.eq (cap_rule_of self.now) c (presented index1 first.entry)
             (presented index2 second.entry) (found_alone result) }
+        ensures exact { let c = params_of self.now (shape_of N dimensions.now) in
+            let presented = presented_one self.now dimensions.now commit.now in
+            IsExactExtraction c (presented index1 first.entry) (presented index2 second.entry) result }
     {
         let first = OpeningRef::new(index1, first);
         let second = OpeningRef::new(index2, second);
@@ -87,7 +92,8 @@ impl<
     ///
     /// # Errors
     ///
-    /// The first of these that applies, where `OutOfMemory` may come at any time:
+    /// The first of these that applies, where `OutOfMemory` may come once the first opening's indices are known to be
+    /// in range:
     ///
     /// - the error of `verify_batch_pruned` for the first opening;
     /// - the error of `verify_batch_pruned` for the second opening.
@@ -107,6 +113,8 @@ impl<
             let presented = presented_all self.now dimensions.now commit.now in
             IsExtraction P.Value.eq PW.Value.eq (cap_rule_of self.now) c (presented indices1.now rows1.now proof1.now)
             (presented indices2.now rows2.now proof2.now) (found_pair result) }
+        ensures checked { Refuses result (pruned_early (shape_of N dimensions.now)
+            (pruned_borrowed indices1.now rows1.now proof1.now)) }
         ensures only { let c = params_of self.now (shape_of N dimensions.now) in
             IsOnlyOpening (cap_rule_of self.now) c (pruned_borrowed indices1.now rows1.now proof1.now)
             (pruned_borrowed indices2.now rows2.now proof2.now) result }
@@ -126,10 +134,11 @@ impl<
         first: PrunedOpeningRef<'_, P::Value, [PW::Value; D]>,
         second: PrunedOpeningRef<'_, P::Value, [PW::Value; D]>,
     ) -> Result<Option<(usize, usize, Collision<P::Value, PW::Value, D>)>, MerkleTreeError>
-        ensures { let c = params_of self.now (shape_of N dimensions.now) in
+        ensures extraction { let c = params_of self.now (shape_of N dimensions.now) in
             let presented = presented_pruned_under self.now dimensions.now roots.now in
             IsExtraction P.Value.eq PW.Value.eq (cap_rule_of self.now) c (presented (pruned_in first.entry))
             (presented (pruned_in second.entry)) (found_pair result) }
+        ensures checked { Refuses result (pruned_early (shape_of N dimensions.now) (pruned_in first.entry)) }
     {
         self.checker(dimensions)
             .pruned_extraction(alloc, roots, first, second)

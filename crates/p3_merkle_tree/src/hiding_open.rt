@@ -8,7 +8,8 @@ ghost use Rattle.p3_merkle_core.specs.Geometry.{heights, shape_of};
 ghost use Rattle.p3_merkle_core.specs.Nodes.{shape};
 ghost use Rattle.p3_merkle_core.specs.Presented.{IsAcceptedAs, IsExactVerdict, IsVerdict};
 ghost use Rattle.p3_merkle_core.specs.Pruning.{restored_paths};
-ghost use Rattle.p3_merkle_core.specs.Refusals.{AnswersUnlessMemory};
+ghost use Rattle.p3_merkle_core.specs.Extraction.{IsExactExtraction};
+ghost use Rattle.p3_merkle_core.specs.Refusals.{AnswersUnlessMemory, Refuses};
 ghost use Rattle.p3_merkle_core.specs.Views.{shown_paths};
 ghost use Rattle.p3_support.specs.Batches.{greatest};
 ghost use Rattle.p3_support.specs.Pairs.{left_of};
@@ -22,7 +23,7 @@ ghost use Rattle.p3_merkle_tree.specs.HidingSchemes.{plain_of, presented_all, pr
 ghost use Rattle.p3_merkle_tree.specs.HidingSchemes.{presented_under, salted_borrowed, salted_owned, salted_params_of};
 ghost use Rattle.p3_merkle_tree.specs.HidingSchemes.{salted_pruned_borrowed, salted_pruned_owned};
 ghost use Rattle.p3_merkle_tree.specs.Inner.SaltedParts.{left_widths, salt_parts, unsalted_parts};
-ghost use Rattle.p3_merkle_tree.specs.SaltRefusals.{salted_refusal_under};
+ghost use Rattle.p3_merkle_tree.specs.SaltRefusals.{salted_refusal_under, salted_sets_refusal};
 ghost use Rattle.p3_merkle_tree.specs.SaltedOpenings.{joined, joined_sets, salted_as_single};
 ghost use Rattle.p3_merkle_tree.specs.SaltedOpened.{OpensSalted, OpensSaltedPruned};
 ghost use Rattle.p3_merkle_tree.specs.SaltedExtraction.{IsOnlySaltedOpening, IsSaltedExtraction};
@@ -271,7 +272,7 @@ impl<
     ///
     /// # Errors
     ///
-    /// The first of these that applies, where `OutOfMemory` may come at any time:
+    /// The first of these that applies, where `OutOfMemory` never takes the place of one of the first three:
     ///
     /// - `WrongBatchSize`: the number of salt sets is not that of the row sets;
     /// - in query order, for each row set with its salts: `WrongBatchSize` if the number of rows is not that of the
@@ -291,6 +292,8 @@ impl<
     ) -> Result<(), MerkleTreeError>
         ensures verdict { let presented = presented_all self.now dimensions.now commit.now in
             IsVerdict (presented indices.now rows.now proof.now) result }
+        ensures checked { Refuses result (salted_sets_refusal SALT_ELEMS dimensions.now (row_sets rows.now)
+            (row_sets proof.now.0.items)) }
         ensures single { let p = salted_pruned_borrowed indices.now rows.now proof.now in
             let single = presented_under self.now dimensions.now (roots_of commit.now) (salted_as_single p) in
             length indices.now ≡ 1 → length rows.now ≡ 1 → length proof.now.0.items ≡ 1 → IsAcceptedAs single result }
@@ -326,6 +329,8 @@ impl<
     ) -> Result<Vec<MerkleAuthPath<PW::Value, D>>, MerkleTreeError>
         ensures verdict { let restores = presented_to_restore self.now dimensions.now in
             IsVerdict (restores indices.now rows.now proof.now) result }
+        ensures checked { Refuses result (salted_sets_refusal SALT_ELEMS dimensions.now (row_sets rows.now)
+            (row_sets proof.now.0.items)) }
         ensures paths { let c = salted_params_of self.now dimensions.now in
             let p = salted_pruned_borrowed indices.now rows.now proof.now in
             IfOk result (λ paths. shown_paths paths.items ≡ restored_paths c (joined_sets p)) }
@@ -350,10 +355,11 @@ impl<
     ///
     /// # Errors
     ///
-    /// The first of these that applies, where `OutOfMemory` may come at any time:
+    /// The first of these that applies:
     ///
     /// - the error of `verify_batch` for the first opening;
-    /// - the error of `verify_batch` for the second opening.
+    /// - the error of `verify_batch` for the second opening;
+    /// - `OutOfMemory`, only if the checks differ at a place that both share.
     pub fn extract_collision(
         &self,
         alloc: Global,
@@ -364,9 +370,13 @@ impl<
         index2: usize,
         second: BatchOpeningRef<'_, P::Value, SaltedProof<P::Value, PW::Value, D>>,
     ) -> Result<Option<Collision<P::Value, PW::Value, D>>, MerkleTreeError>
-        ensures { let extracts = IsSaltedExtraction P.Value.eq PW.Value.eq (cap_rule_of (plain_of self.now)) SALT_ELEMS
-            dimensions.now (salted_params_of self.now dimensions.now) (roots_of commit.now) in
+        ensures extraction { let rule = cap_rule_of (plain_of self.now) in
+            let extracts = IsSaltedExtraction P.Value.eq PW.Value.eq rule SALT_ELEMS dimensions.now
+            (salted_params_of self.now dimensions.now) (roots_of commit.now) in
             extracts (salted_borrowed index1 first.entry) (salted_borrowed index2 second.entry) result }
+        ensures exact { let presented = presented_one self.now dimensions.now commit.now in
+            IsExactExtraction (salted_params_of self.now dimensions.now) (presented index1 first.entry)
+            (presented index2 second.entry) result }
     {
         let roots = commit.roots();
         let first = self.checked_opening(roots, dimensions, index1, first)?;
@@ -389,7 +399,8 @@ impl<
     ///
     /// # Errors
     ///
-    /// The first of these that applies, where `OutOfMemory` may come at any time:
+    /// The first of these that applies, where `OutOfMemory` never takes the place of one of the first three that
+    /// `verify_multi_batch` lists, for the first opening:
     ///
     /// - the error of `verify_multi_batch` for the first opening;
     /// - the error of `verify_multi_batch` for the second opening.
@@ -410,6 +421,8 @@ impl<
             (salted_params_of self.now dimensions.now) (roots_of commit.now) in
             extracts (salted_pruned_borrowed indices1.now rows1.now proof1.now)
             (salted_pruned_borrowed indices2.now rows2.now proof2.now) result }
+        ensures checked { Refuses result (salted_sets_refusal SALT_ELEMS dimensions.now (row_sets rows1.now)
+            (row_sets proof1.now.0.items)) }
         ensures only { IsOnlySaltedOpening (cap_rule_of (plain_of self.now))
             (salted_params_of self.now dimensions.now)
             (salted_pruned_borrowed indices1.now rows1.now proof1.now)

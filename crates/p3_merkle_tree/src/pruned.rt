@@ -6,7 +6,7 @@ ghost use Rattle.p3_merkle_core.specs.Geometry.{heights, shape_of};
 ghost use Rattle.p3_merkle_core.specs.Nodes.{shape};
 ghost use Rattle.p3_merkle_core.specs.Presented.{presented_to_restore, IsAcceptedAs, IsVerdict};
 ghost use Rattle.p3_merkle_core.specs.Pruning.{as_single, pruned_of, restored_paths};
-ghost use Rattle.p3_merkle_core.specs.Refusals.{AnswersUnlessMemory};
+ghost use Rattle.p3_merkle_core.specs.Refusals.{pruned_early, AnswersUnlessMemory, Refuses};
 ghost use Rattle.p3_merkle_core.specs.Views.{pruned_of_pair, pruned_borrowed, pruned_owned, shown_paths};
 ghost use Rattle.p3_support.specs.Batches.{greatest};
 ghost use Rattle.p3_support.specs.RowSets.{sets_in};
@@ -111,7 +111,7 @@ impl<
     ///
     /// # Errors
     ///
-    /// The first of these that applies, where `OutOfMemory` may come at any time:
+    /// The first of these that applies, where `OutOfMemory` never takes the place of one of the first four:
     ///
     /// - `EmptyBatch`, `TooLarge` or `IncompatibleHeights`: [`commit`](Self::commit) refuses such heights;
     /// - `WrongBatchSize`: the number of row sets is not that of the indices;
@@ -137,6 +137,8 @@ impl<
     ) -> Result<(), MerkleTreeError>
         ensures verdict { let presented = presented_all self.now dimensions.now commit.now in
             IsVerdict (presented indices.now rows.now proof.now) result }
+        ensures checked { Refuses result (pruned_early (shape_of N dimensions.now)
+            (pruned_borrowed indices.now rows.now proof.now)) }
         ensures single { let p = pruned_borrowed indices.now rows.now proof.now in
             let single = presented_under self.now dimensions.now (roots_of commit.now) (as_single p) in
             length indices.now ≡ 1 → length rows.now ≡ 1 → IsAcceptedAs single result }
@@ -158,8 +160,10 @@ impl<
         rows: RowSets<'_, P::Value>,
         digests: &[[PW::Value; D]],
     ) -> Result<(), MerkleTreeError>
-        ensures { let opening = pruned_of indices.now (sets_in rows.entry) digests.now in
+        ensures verdict { let opening = pruned_of indices.now (sets_in rows.entry) digests.now in
             IsVerdict (presented_pruned_under self.now dimensions.now roots.now opening) result }
+        ensures checked { let opening = pruned_of indices.now (sets_in rows.entry) digests.now in
+            Refuses result (pruned_early (shape_of N dimensions.now) opening) }
     {
         let opening = PrunedOpeningRef {
             indices,
@@ -186,6 +190,8 @@ impl<
     ) -> Result<(), MerkleTreeError>
         ensures verdict { let presented = presented_all self.now dimensions.now commit.now in
             IsVerdict (presented indices.now rows.now proof.now) result }
+        ensures checked { Refuses result (pruned_early (shape_of N dimensions.now)
+            (pruned_borrowed indices.now rows.now proof.now)) }
         ensures single { let p = pruned_borrowed indices.now rows.now proof.now in
             let single = presented_under self.now dimensions.now (roots_of commit.now) (as_single p) in
             length indices.now ≡ 1 → length rows.now ≡ 1 → IsAcceptedAs single result }
@@ -217,6 +223,8 @@ impl<
         ensures verdict { let s = shape_of N dimensions.now in
             let p = pruned_borrowed indices.now rows.now proof.now in
             IsVerdict (presented_to_restore P.Value.eq s (cap_layer_of self.now s) p) result }
+        ensures checked { Refuses result (pruned_early (shape_of N dimensions.now)
+            (pruned_borrowed indices.now rows.now proof.now)) }
         ensures paths { let c = params_of self.now (shape_of N dimensions.now) in
             let p = pruned_borrowed indices.now rows.now proof.now in
             IfOk result (λ paths. shown_paths paths.items ≡ restored_paths c p) }
@@ -239,6 +247,8 @@ impl<
         ensures verdict { let s = shape_of N dimensions.now in
             let p = pruned_of indices.now (sets_in rows.entry) digests.now in
             IsVerdict (presented_to_restore P.Value.eq s (cap_layer_of self.now s) p) result }
+        ensures checked { let p = pruned_of indices.now (sets_in rows.entry) digests.now in
+            Refuses result (pruned_early (shape_of N dimensions.now) p) }
         ensures paths { let c = params_of self.now (shape_of N dimensions.now) in
             let p = pruned_of indices.now (sets_in rows.entry) digests.now in
             IfOk result (λ paths. shown_paths paths.items ≡ restored_paths c p) }

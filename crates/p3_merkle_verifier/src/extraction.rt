@@ -5,7 +5,7 @@
 //! node and its siblings; and where matrices belong to the layer above, the words of their rows, and a pair of both
 //! digests. Two checks share the leaf or a level if they reach one node there.
 
-ghost use Rattle.std.specs.Prelude.{◌≡◌, ◌<◌, zip, IfOk, IsTrue, length, replicate};
+ghost use Rattle.std.specs.Prelude.{◌≡◌, ◌<◌, zip, IfOk, IsOk, IsTrue, None, length, replicate};
 ghost use Rattle.std.specs.Cmp.Lexicographic.{pointwise};
 ghost use Rattle.std.specs.Option.{option_or};
 ghost use Rattle.p3_support.specs.Batches.{heights_of};
@@ -13,11 +13,11 @@ ghost use Rattle.p3_support.specs.Rows.{rows_in};
 ghost use Rattle.p3_merkle_core.specs.Checks.{digests_at, words_at, words_of_exponent};
 ghost use Rattle.p3_merkle_core.specs.Extraction.{difference_of, input_eq, last_difference};
 ghost use Rattle.p3_merkle_core.specs.Geometry.{layer_exponent, shape_of};
-ghost use Rattle.p3_merkle_core.specs.Refusals.{refusal_under, AnswersUnlessMemory, IsEquality};
+ghost use Rattle.p3_merkle_core.specs.Refusals.{refusal_under, AnswersUnlessMemory, IsEquality, Refuses};
 ghost use Rattle.p3_merkle_verifier.specs.Inner.Checks.{functions_of, leaf_difference, opening_in, params_in, shape_in};
 ghost use Rattle.p3_merkle_verifier.specs.Inner.Checks.{AgreeBelow, AgreeOnLevel, ShowsLevel};
-ghost use Rattle.p3_merkle_verifier.specs.Inner.Collisions.{first_words, inputs_above, second_words, IsDifference};
-ghost use Rattle.p3_merkle_verifier.specs.Inner.Collisions.{Shows};
+ghost use Rattle.p3_merkle_verifier.specs.Inner.Collisions.{first_words, inputs_above, level_inputs, second_words};
+ghost use Rattle.p3_merkle_verifier.specs.Inner.Collisions.{IsDifference, Shows};
 ghost use Rattle.p3_merkle_verifier.specs.Inner.Paths.{CanReach};
 
 use crate::checker::Checker;
@@ -57,16 +57,17 @@ impl<'a, T: Eq> RowPair<'a, T> {
     }
 }
 
-/// The digests `first` and `second` that two checks compress at `place`, if they differ. `AllocError` if memory runs
-/// out.
+/// The digests `first` and `second` that two checks compress at `place`, if they differ. `AllocError` if they do, and
+/// memory runs out.
 fn differing_digests<T, W: Copy + Eq, const D: usize>(
     alloc: Global,
     place: Place,
     first: &[[W; D]],
     second: &[[W; D]],
 ) -> Result<Option<InputPair<T, [W; D]>>, AllocError>
-    ensures { let same = pointwise (pointwise W.eq) first.now second.now in
+    ensures found { let same = pointwise (pointwise W.eq) first.now second.now in
         IfOk result (λ found. IsDifference found same (digests_at place first.now, digests_at place second.now)) }
+    ensures agreed { IsTrue (pointwise (pointwise W.eq) first.now second.now) → IsOk result }
 {
     if first == second {
         return Ok(None);
@@ -97,16 +98,17 @@ fn opened_words<T: Copy + Drop>(
 }
 
 /// The words of `rows` that two checks hash at `place`, if they differ. Nothing is copied where they are the same.
-/// `AllocError` if memory runs out.
+/// `AllocError` if they differ, and memory runs out.
 fn differing_words<T: Copy + Eq + Drop, W, const D: usize>(
     alloc: Global,
     place: Place,
     rows: &RowPair<'_, T>,
 ) -> Result<Option<InputPair<T, [W; D]>>, AllocError>
-    ensures { let mine = first_words rows.now in
+    ensures found { let mine = first_words rows.now in
         let theirs = second_words rows.now in
         IfOk result (λ found. IsDifference found (pointwise T.eq mine theirs)
         (words_at place mine, words_at place theirs)) }
+    ensures agreed { IsTrue (pointwise T.eq (first_words rows.now) (second_words rows.now)) → IsOk result }
 {
     if rows.agree() {
         return Ok(None);
@@ -119,16 +121,19 @@ fn differing_words<T: Copy + Eq + Drop, W, const D: usize>(
 }
 
 /// The words that two checks hash at the leaf, if both openings are of one leaf and the words differ. `AllocError` if
-/// memory runs out.
+/// so it is, and memory runs out.
 fn leaf_difference<T: Copy + Eq + Drop, W: Copy + Eq, const D: usize>(
     alloc: Global,
     schedule: &Schedule<'_>,
     first: OpeningRef<'_, T, [W; D]>,
     second: OpeningRef<'_, T, [W; D]>,
 ) -> Result<Option<InputPair<T, [W; D]>>, AllocError>
-    ensures { let s = shape_of schedule.now.arity schedule.now.dimensions.now in
+    ensures found { let s = shape_of schedule.now.arity schedule.now.dimensions.now in
         let difference = leaf_difference (input_eq T.eq W.eq) s (opening_in first.entry) (opening_in second.entry) in
         IfOk result (λ found. Shows found difference) }
+    ensures agreed { let s = shape_of schedule.now.arity schedule.now.dimensions.now in
+        let difference = leaf_difference (input_eq T.eq W.eq) s (opening_in first.entry) (opening_in second.entry) in
+        difference ≡ None → IsOk result }
 {
     if first.index != second.index {
         return Ok(None);
@@ -145,16 +150,19 @@ fn leaf_difference<T: Copy + Eq + Drop, W: Copy + Eq, const D: usize>(
 /// The last inputs of a level in which two checks differ above their groups: the pairs, which are compressed last, else
 /// the words of the rows. `None` if all are the same, or if no matrix belongs to the layer above the level. `first` and
 /// `second` are the level in each check, and must reach one node; `rows` are the rows of both openings at the layer
-/// above. `AllocError` if memory runs out.
+/// above. `AllocError` if some differ, and memory runs out.
 fn difference_above_group<T: Copy + Eq + Drop, W: Copy + Eq, const N: usize, const D: usize>(
     alloc: Global,
     rows: &RowPair<'_, T>,
     first: &PathLevel<[W; D], [[W; D]; N]>,
     second: &PathLevel<[W; D], [[W; D]; N]>,
 ) -> Result<Option<InputPair<T, [W; D]>>, AllocError>
-    ensures { let mine = inputs_above first.now.level (first_words rows.now) first.now.pair in
+    ensures found { let mine = inputs_above first.now.level (first_words rows.now) first.now.pair in
         let theirs = inputs_above first.now.level (second_words rows.now) second.now.pair in
         IfOk result (λ found. Shows found (last_difference (input_eq T.eq W.eq) mine theirs)) }
+    ensures agreed { let mine = inputs_above first.now.level (first_words rows.now) first.now.pair in
+        let theirs = inputs_above first.now.level (second_words rows.now) second.now.pair in
+        last_difference (input_eq T.eq W.eq) mine theirs ≡ None → IsOk result }
 {
     let (Some(first_pair), Some(second_pair)) = (&first.pair, &second.pair) else {
         return Ok(None);
@@ -167,16 +175,21 @@ fn difference_above_group<T: Copy + Eq + Drop, W: Copy + Eq, const N: usize, con
 
 /// The last inputs of a level in which two checks differ: the pairs, else the words of the rows, else the groups.
 /// `None` if all are the same, or if the checks do not share the node above the level. `first` and `second` are the
-/// level in each check; `rows` are the rows of both openings at the layer above. `AllocError` if memory runs out.
+/// level in each check; `rows` are the rows of both openings at the layer above. `AllocError` if some differ, and
+/// memory runs out.
 fn level_difference<T: Copy + Eq + Drop, W: Copy + Eq, const N: usize, const D: usize>(
     alloc: Global,
     rows: &RowPair<'_, T>,
     first: &PathLevel<[W; D], [[W; D]; N]>,
     second: &PathLevel<[W; D], [[W; D]; N]>,
 ) -> Result<Option<InputPair<T, [W; D]>>, AllocError>
-    ensures { let mine = first_words rows.now in
+    ensures found { let mine = first_words rows.now in
         let theirs = second_words rows.now in
         IfOk result (λ found. ShowsLevel (input_eq T.eq W.eq) mine theirs first.now second.now found) }
+    ensures agreed { let mine = level_inputs first.now.level (first_words rows.now) first.now in
+        let theirs = level_inputs first.now.level (second_words rows.now) second.now in
+        (first.now.above.node ≡ second.now.above.node → last_difference (input_eq T.eq W.eq) mine theirs ≡ None) →
+        IsOk result }
 {
     if first.above.node != second.above.node {
         return Ok(None);
@@ -261,7 +274,7 @@ impl<
 
     /// The last place that the checks of two openings share and at which they differ, with both inputs. `None` if they
     /// agree. Both openings must have their siblings up to the cap. Only the inputs of places that differ are copied.
-    /// `AllocError` if memory runs out.
+    /// `AllocError` if the checks differ at such a place, and memory runs out.
     pub fn last_difference(
         &self,
         alloc: Global,
@@ -270,9 +283,12 @@ impl<
     ) -> Result<Option<Collision<P::Value, PW::Value, D>>, AllocError>
         requires first { CanReach (shape_in self.now) self.now.cap_layer (length first.siblings.now) }
         requires second { CanReach (shape_in self.now) self.now.cap_layer (length second.siblings.now) }
-        ensures { let o = opening_in first.entry in
+        ensures found { let o = opening_in first.entry in
             let difference = difference_of P.Value.eq PW.Value.eq (params_in self.now) o (opening_in second.entry) in
             IfOk result (λ found. Shows found difference) }
+        ensures agreed { let o = opening_in first.entry in
+            let difference = difference_of P.Value.eq PW.Value.eq (params_in self.now) o (opening_in second.entry) in
+            difference ≡ None → IsOk result }
     {
         let mut first_state = self.start(first);
         let mut second_state = self.start(second);
@@ -299,10 +315,11 @@ impl<
     ///
     /// # Errors
     ///
-    /// The first of these that applies, where `OutOfMemory` may come at any time:
+    /// The first of these that applies:
     ///
     /// - the error of [`check_opening`](Self::check_opening) for the first opening;
-    /// - that for the second opening.
+    /// - that for the second opening;
+    /// - `OutOfMemory`, only if the checks differ at a place that both share.
     pub fn extraction(
         &self,
         alloc: Global,
@@ -313,9 +330,16 @@ impl<
         ensures answer { let refusal = refusal_under PW.Value.eq (params_in self.now) roots.now in
             AnswersUnlessMemory result
             (option_or (refusal (opening_in first.entry)) (refusal (opening_in second.entry))) }
+        ensures checked { let refusal = refusal_under PW.Value.eq (params_in self.now) roots.now in
+            Refuses result (option_or (refusal (opening_in first.entry)) (refusal (opening_in second.entry))) }
         ensures found { let o = opening_in first.entry in
             let difference = difference_of P.Value.eq PW.Value.eq (params_in self.now) o (opening_in second.entry) in
             IfOk result (λ found. Shows found difference) }
+        ensures agreed { let refusal = refusal_under PW.Value.eq (params_in self.now) roots.now in
+            let o = opening_in first.entry in
+            let u = opening_in second.entry in
+            option_or (refusal o) (refusal u) ≡ None →
+            difference_of P.Value.eq PW.Value.eq (params_in self.now) o u ≡ None → IsOk result }
     {
         self.check_opening(roots, 0, first)?;
         self.check_opening(roots, 0, second)?;

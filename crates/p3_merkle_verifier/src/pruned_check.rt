@@ -15,7 +15,8 @@ ghost use Rattle.p3_merkle_core.specs.Geometry.{layer_exponent};
 ghost use Rattle.p3_merkle_core.specs.Nodes.{Functions};
 ghost use Rattle.p3_merkle_core.specs.Pruning.{restored_paths};
 ghost use Rattle.p3_merkle_core.specs.Refusals.{cap_refusal, AnswersUnlessMemory};
-ghost use Rattle.p3_merkle_core.specs.Refusals.{is_entry as is_entry_of, pruned_refusal, pruned_refusal_under};
+ghost use Rattle.p3_merkle_core.specs.Refusals.{is_entry as is_entry_of, pruned_early, pruned_refusal};
+ghost use Rattle.p3_merkle_core.specs.Refusals.{pruned_refusal_under, Refuses};
 ghost use Rattle.p3_merkle_core.specs.Views.{pruned_borrowed, shown_paths};
 ghost use Rattle.p3_merkle_hashing.specs.Inner.Slots.{rows_over};
 ghost use Rattle.p3_merkle_verifier.specs.Inner.Checks.{functions_of, params_in, shape_in};
@@ -231,6 +232,7 @@ impl<
     >
         ensures answer { let refusal = pruned_refusal P.Value.eq (shape_in self.now) self.now.cap_layer in
             AnswersUnlessMemory result (refusal (pruned_in opening.entry)) }
+        ensures checked { Refuses result (pruned_early (shape_in self.now) (pruned_in opening.entry)) }
         ensures schedule { IfOk result (λ made. made.0.schedule.now ≡ self.now.schedule) }
         ensures layer { IfOk result (λ made. made.0.cap_layer ≡ self.now.cap_layer) }
         ensures opening { IfOk result (λ made. made.0.opening ≡ opening.entry) }
@@ -424,7 +426,7 @@ impl<
     ///
     /// # Errors
     ///
-    /// The first of these that applies, where `OutOfMemory` may come at any time:
+    /// The first of these that applies, where `OutOfMemory` may come once the indices are known to be in range:
     ///
     /// - the error of [`check_pruned`];
     /// - `CapMismatch`: there is no root at a covered node of the cap's layer, or another digest than the one computed.
@@ -434,8 +436,9 @@ impl<
         roots: &[[PW::Value; D]],
         opening: PrunedOpeningRef<'_, P::Value, [PW::Value; D]>,
     ) -> Result<(), MerkleTreeError>
-        ensures { let refusal = pruned_refusal_under P.Value.eq PW.Value.eq (params_in self.now) roots.now in
+        ensures answer { let refusal = pruned_refusal_under P.Value.eq PW.Value.eq (params_in self.now) roots.now in
             AnswersUnlessMemory result (refusal (pruned_in opening.entry)) }
+        ensures checked { Refuses result (pruned_early (shape_in self.now) (pruned_in opening.entry)) }
     {
         let (restorable, leaf_layer) = self.check_restorable(alloc, opening)?;
         let top = self.top_layer(alloc, &restorable, leaf_layer)?;
@@ -447,7 +450,7 @@ impl<
     ///
     /// # Errors
     ///
-    /// The error of [`check_pruned`]. `OutOfMemory` may come at any time.
+    /// The error of [`check_pruned`]. `OutOfMemory` may come once the indices are known to be in range.
     pub fn restored_paths(
         &self,
         alloc: Global,
@@ -455,6 +458,7 @@ impl<
     ) -> Result<Vec<AuthPath<[PW::Value; D]>>, MerkleTreeError>
         ensures answer { let refusal = pruned_refusal P.Value.eq (shape_in self.now) self.now.cap_layer in
             AnswersUnlessMemory result (refusal (pruned_in opening.entry)) }
+        ensures checked { Refuses result (pruned_early (shape_in self.now) (pruned_in opening.entry)) }
         ensures paths { let restored = restored_paths (params_in self.now) (pruned_in opening.entry) in
             IfOk result (λ paths. shown_paths paths.items ≡ restored) }
     {

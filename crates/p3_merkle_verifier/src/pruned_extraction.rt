@@ -6,7 +6,7 @@ ghost use Rattle.std.specs.Option.{option_or};
 ghost use Rattle.p3_support.specs.RowSets.{sets_in};
 ghost use Rattle.p3_merkle_core.specs.Extraction.{difference_of, first_pair};
 ghost use Rattle.p3_merkle_core.specs.Pruning.{opening_at};
-ghost use Rattle.p3_merkle_core.specs.Refusals.{pruned_refusal_under, AnswersUnlessMemory};
+ghost use Rattle.p3_merkle_core.specs.Refusals.{pruned_early, pruned_refusal_under, AnswersUnlessMemory, Refuses};
 ghost use Rattle.p3_merkle_verifier.specs.Inner.Checks.{opening_in, params_in, shape_in};
 ghost use Rattle.p3_merkle_verifier.specs.Inner.Paths.{CanReach};
 ghost use Rattle.p3_merkle_verifier.specs.Inner.QueryPairs.{query_difference, first_place};
@@ -94,6 +94,7 @@ impl<
     ) -> Result<RestoredQueries<'b, P::Value, [PW::Value; D]>, MerkleTreeError>
         ensures answer { let refusal = pruned_refusal_under P.Value.eq PW.Value.eq (params_in self.now) roots.now in
             AnswersUnlessMemory result (refusal (pruned_in opening.entry)) }
+        ensures checked { Refuses result (pruned_early (shape_in self.now) (pruned_in opening.entry)) }
         ensures queries { IfOk result (CanSearch (params_in self.now)) }
         ensures restored { IfOk result (AreQueriesOf (params_in self.now) (pruned_in opening.entry)) }
     {
@@ -194,7 +195,7 @@ impl<
     ///
     /// # Errors
     ///
-    /// The first of these that applies, where `OutOfMemory` may come at any time:
+    /// The first of these that applies, where `OutOfMemory` may come once the first indices are known to be in range:
     ///
     /// - the error of [`check_pruned_opening`](Self::check_pruned_opening) for the first opening;
     /// - that for the second opening.
@@ -208,6 +209,7 @@ impl<
         ensures answer { let refusal = pruned_refusal_under P.Value.eq PW.Value.eq (params_in self.now) roots.now in
             AnswersUnlessMemory result
             (option_or (refusal (pruned_in first.entry)) (refusal (pruned_in second.entry))) }
+        ensures checked { Refuses result (pruned_early (shape_in self.now) (pruned_in first.entry)) }
         ensures found { let c = params_in self.now in
             let p = pruned_in first.entry in
             let r = pruned_in second.entry in

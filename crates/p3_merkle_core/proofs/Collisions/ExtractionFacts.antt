@@ -3,7 +3,7 @@ use Rattle.std.proofs.Common.{◌≡◌, ◌↔◌, ℕ, ◌<◌, Bool, List, []
 use Rattle.std.proofs.Common.{Option, Some, None}
 use Rattle.std.proofs.lemmas.List.{ext_get_or, length-map}
 use Rattle.std.proofs.lemmas.Grind.{common_steps}
-use Rattle.std.specs.Prelude.{Ok, Err, Result, IfOk, IsTrue}
+use Rattle.std.specs.Prelude.{Ok, Err, Result, IfOk, IsOk, IsTrue}
 use Rattle.std.specs.Option.{option_map, option_or}
 use Rattle.std.specs.Result.{result_map_both}
 use Rattle.p3_merkle_core.specs.Caps.{cap_layer}
@@ -11,12 +11,12 @@ use Rattle.p3_merkle_core.specs.Geometry.{Shape, IsArity, heights}
 use Rattle.p3_merkle_core.specs.Openings.{Opening}
 use Rattle.p3_merkle_core.specs.Checks.{AgreeWhereShared, Input, IsAccepted, Params, is_authenticated, shared_inputs}
 use Rattle.p3_merkle_core.specs.Pruning.{PrunedOpening, opening_at}
-use Rattle.p3_merkle_core.specs.Refusals.{AnswersUnlessMemory}
+use Rattle.p3_merkle_core.specs.Refusals.{AnswersUnlessMemory, Refuses}
 use Rattle.p3_merkle_core.specs.Refusals.{IsEquality, pruned_refusal_under, refusal_under}
 use Rattle.p3_answers.specs.Answers.{ok_unless}
 use Rattle.p3_merkle_core.specs.Extraction.{RowsAgreeWhereAuthenticated, RowsConflictWhereAuthenticated, EachPair}
 use Rattle.p3_merkle_core.specs.Extraction.{IsExtraction, IsFirstCollision, difference_of, extraction, first_difference}
-use Rattle.p3_merkle_core.specs.Extraction.{first_pair}
+use Rattle.p3_merkle_core.specs.Extraction.{first_pair, IsExactExtraction}
 use Rattle.p3_merkle_core.specs.Presented.{Presented, presented, presented_pruned}
 use Rattle.p3_merkle_core.specs.Views.{found_alone, found_pair, inputs_in}
 use Rattle.p3_merkle_core.specs.declared.collision.InputPair.{InputPair}
@@ -303,3 +303,24 @@ module _ {T W : Type 0} (row_eq : T → T → Bool) (digest_eq : W → W → Boo
       extracted_two (presented_pruned row_eq digest_eq c cap p) (presented_pruned row_eq digest_eq c cap r) dec dec_w w
       all (pruned_presented row_eq digest_eq c cap p dec dec_w w)
       (pruned_presented row_eq digest_eq c cap r dec dec_w w) result answer found
+
+-- ---- the answer of a call whose checks take no memory
+
+-- the answer to two openings of one index each is exact but for memory, which runs out only where there is a difference
+pub exact_alone : {T W Found : Type 0} (row_eq : T → T → Bool) (digest_eq : W → W → Bool) (c : Params T W)
+    (first second : Presented T W) (o u : Opening T W) → IsEquality row_eq → IsEquality digest_eq →
+    first.queries ≡ 1 → second.queries ≡ 1 → first.query 0 ≡ o → second.query 0 ≡ u →
+    (first.is_accepted → first.refusal ≡ None) → (second.is_accepted → second.refusal ≡ None) →
+    (r : Result (Option Found) MerkleTreeError) → Refuses r (option_or first.refusal second.refusal) →
+    (option_or first.refusal second.refusal ≡ None → difference_of row_eq digest_eq c o u ≡ None → IsOk r) →
+    IsExactExtraction c first second r
+exact_alone row_eq digest_eq c first second o u dec dec_w n m is_o is_u p q r refused agreed =
+    record {
+      checked = refused;
+      agreed = λ a b each.
+          let none : option_or first.refusal second.refusal ≡ None = rw (p a, q b) refl in
+          let alike : AgreeWhereShared c o u =
+          subst (λ (both : Opening _ _ × Opening _ _). AgreeWhereShared c both.0 both.1) (λ i. (is_o i, is_u i))
+          (each 0 0 (omega (arith, n)) (omega (arith, m))) in
+          agreed none ((no_difference row_eq digest_eq c o u dec dec_w).1 alike);
+    }

@@ -8,10 +8,10 @@ use Rattle.p3_support.specs.declared.matrix.Dimensions.{Dimensions}
 use Rattle.p3_support.specs.Batches.{greatest}
 use Rattle.p3_merkle_core.specs.Geometry.{Shape, heights}
 use Rattle.p3_merkle_core.specs.Pruning.{PrunedOpening, boundary}
-use Rattle.p3_merkle_core.specs.Refusals.{digest_count_refusal, group_refusal, pruned_refusal}
+use Rattle.p3_merkle_core.specs.Refusals.{digest_count_refusal, early_refusal, group_refusal, pruned_refusal}
 use Rattle.p3_answers.specs.Answers.{first_of, first_some}
 use Rattle.p3_merkle_core.specs.Refusals.{duplicate_refusal, slots_below, width_refusal, rows_of}
-use Rattle.p3_merkle_core.specs.Inner.Agreement.{distinct, early_refusal, first_query, late_refusal, layers_refusal}
+use Rattle.p3_merkle_core.specs.Inner.Agreement.{distinct, first_query, late_refusal, layers_refusal}
 use Rattle.p3_merkle_core.specs.Inner.Agreement.{opened_of, opened_with, slot_rows}
 use Rattle.p3_merkle_core.specs.declared.error.MerkleTreeError.{MerkleTreeError}
 use Rattle.p3_answers.proofs.AnswerFacts.{each_none, none_of_both, none_parts, unless_none}

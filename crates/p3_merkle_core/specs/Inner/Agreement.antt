@@ -4,9 +4,7 @@ use Rattle.std.specs.Prelude.{replicate, slice_index, slice_index_or, nat_eq, Al
 use Rattle.std.specs.List.{dedup, range_with_len, Contains}
 use Rattle.std.specs.Cmp.Lexicographic.{pointwise}
 use Rattle.p3_merkle_core.specs.Geometry.{Shape, ancestor, exponent, heights, layer_exponent}
-use Rattle.p3_merkle_core.specs.Gate.{gate_refusal}
 use Rattle.p3_merkle_core.specs.Pruning.{PrunedOpening, pruned_of}
-use Rattle.p3_merkle_core.specs.Refusals.{idle_refusal, queries_refusal, size_refusal}
 use Rattle.p3_answers.specs.Answers.{first_of, first_some, unless}
 use Rattle.p3_merkle_core.specs.Refusals.{slots_below, slot_of, width_refusal}
 use Rattle.p3_merkle_core.specs.declared.error.MerkleTreeError.{MerkleTreeError}
@@ -92,12 +90,6 @@ abbrev pub layers_refusal : {T : Type 0} → (T → T → Bool) → Shape → �
 layers_refusal row_eq s t leaves firsts sets =
     first_of (λ l. nodes_refusal row_eq (matrices_with (heights s) (layer_exponent s l)) (map (ancestor s l) leaves)
     firsts sets) (range_with_len 0 (suc t))
-
--- why so many row sets and digests are refused for some indices before slots are made: the first of these reasons
-abbrev pub early_refusal : List ℕ → List ℕ → ℕ → ℕ → Option MerkleTreeError
-early_refusal heights indices sets digests =
-    first_some (gate_refusal heights ∷ size_refusal (length indices) sets ∷ idle_refusal (length indices) digests ∷
-    queries_refusal (greatest heights) indices ∷ [])
 
 -- why slots with their rows are refused: the widths of their rows, else rows under one node that disagree
 abbrev pub late_refusal : {T : Type 0} → (T → T → Bool) → Shape → ℕ → List ℕ → List ℕ → List (List (List T)) →

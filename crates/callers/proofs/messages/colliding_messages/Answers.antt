@@ -12,7 +12,7 @@ returns-in_ok-group_message-in-Some-Digests g c =
     let pair = Digests d.field-0-0 d.first d.second in
     let found : c.extract_collision.result ≡ Ok (Some pair) = search rules in
     let collide = messages_collide _ _ _ _ pair d.field-0-0 d.first.items d.second.items (λ digests. refl)
-    c.extract_collision.ensures.collision found refl c.groups_are_messages.ensures in
+    c.extract_collision.ensures.extraction.collision found refl c.groups_are_messages.ensures in
     let first : c.in_ok-message-in-Some-Digests.message.items ≡ concat d.first.items = search rules in
     let second : c.in_ok-group_message-in-Some-Digests.field-0.items ≡ concat d.second.items = search rules in
     let both = collide (search rules) (search rules) in

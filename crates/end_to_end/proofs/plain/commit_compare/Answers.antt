@@ -52,7 +52,7 @@ returns-clause-compared g c =
     let is = subst (λ (z : List Dimensions × Opening _ _). IsExtraction row_eq digest_eq rule (at z.0)
     (presented digest_eq (at z.0) cap o) (presented digest_eq (at z.0) cap z.1) (found_alone r))
     (λ i. (same i, opening_of c.args.index (row_lists (lent.0 i)) (lent.1 i).items))
-    c.extract_collision-found.ensures in
+    c.extract_collision-found.ensures.extraction in
     let unrefused = accepted_unrefused row_eq digest_eq p cap g.met.P.PackedValue.eq_is_equality
     g.met.PW.PackedValue.eq_is_equality c.answers.ensures.single u accepted in
     compared row_eq digest_eq rule p cap o u refl unrefused accepted r is

@@ -63,7 +63,7 @@ returns-clause-compared g c =
     (λ i. (
       same i,
       salted_of c.args.index (row_lists (lent.0 i)) (row_lists (lent.1 i).0.items) (lent.1 i).1.items,
-    )) c.extract_collision-found.ensures in
+    )) c.extract_collision-found.ensures.extraction in
     let unrefused = salted_unrefused row_eq digest_eq e ds k cap g.met.P.PackedValue.eq_is_equality
     g.met.PW.PackedValue.eq_is_equality c.answers.ensures.single u accepted in
     compared_salted row_eq digest_eq rule e ds k cap o u refl unrefused accepted r is

@@ -33,8 +33,8 @@ new-covered-requires g c = record {
   nodes = c.in_ok-leaves.ensures.items ∙ c.deref.ensures.value ∙ c.in_ok-queried.ensures.indices;
 }
 
-pub returns-in_err-check_digest_count : goal.returns-in_err-check_digest_count
-returns-in_err-check_digest_count g c =
+pub returns-in_err-check_digest_count-clause-answer : goal.returns-in_err-check_digest_count-clause-answer
+returns-in_err-check_digest_count-clause-answer g c =
     let s = shape_of c.args.schedule.now.arity c.args.schedule.now.dimensions.now in
     let early = rw c.num_sets.ensures at c.in_ok-check_queries.ensures.answer in
     let left = err_from_is_err_and c.from_residual-in_err-check_digest_count.result
@@ -89,11 +89,11 @@ loop-query-preserved g c =
     kept_or (h (get_or firsts n 0)) (first_of h (drop (n + 1) firsts)) (first_of h firsts)
     (firsts_next h firsts n (first_of h firsts) c.loop-query-test.true c.loop-query.invariant) none
 
-pub returns-in_err-check_row_widths : goal.returns-in_err-check_row_widths
-returns-in_err-check_row_widths g c =
+pub returns-in_err-check_row_widths-clause-answer : goal.returns-in_err-check_row_widths-clause-answer
+returns-in_err-check_row_widths-clause-answer g c =
     let firsts = c.deref-query-items.result.now in
     let n = c.loop-query.query-index in
-    let at = goal.at.returns-in_err-check_row_widths g c in
+    let at = goal.at.returns-in_err-check_row_widths-clause-answer g c in
     let h = λ (query : ℕ). width_refusal c.args.schedule.now.dimensions.now
     (slice_index_or (sets_in c.args.rows) query []) in
     let e = c.in_err-check_row_widths.field-0.0 in
@@ -132,8 +132,8 @@ check_shared_rows-requires g c =
           c.deref-query-items.ensures.value c.loop-query.invariant);
     }
 
-pub returns-in_err-check_shared_rows : goal.returns-in_err-check_shared_rows
-returns-in_err-check_shared_rows g c =
+pub returns-in_err-check_shared_rows-clause-answer : goal.returns-in_err-check_shared_rows-clause-answer
+returns-in_err-check_shared_rows-clause-answer g c =
     let s = shape_of c.args.schedule.now.arity c.args.schedule.now.dimensions.now in
     let queried = c.in_ok-queried.queried in
     let sets = sets_in c.args.rows in
@@ -149,13 +149,14 @@ returns-in_err-check_shared_rows g c =
     elim c.in_err-check_shared_rows.ensures [
       | inl memory ↦ rw left.1 (inl (left.2 ∙ memory))
       | inr some ↦
-          let found = late g (goal.at.returns-in_err-check_shared_rows g c).In_ok-check_digest_count (Some e)
+          let at = goal.at.returns-in_err-check_shared_rows-clause-answer g c in
+          let found = late g at.In_ok-check_digest_count (Some e)
           (late_from widths groups (Some e) none some) in
           rw left.1 (inr (found ∙ ap (λ e. Some e) (sym left.2)))
     ]
 
-pub returns : goal.returns
-returns g c =
+pub returns-clause-answer : goal.returns-clause-answer
+returns-clause-answer g c =
     let s = shape_of c.args.schedule.now.arity c.args.schedule.now.dimensions.now in
     let queried = c.in_ok-queried.queried in
     let sets = sets_in c.args.rows in
@@ -165,7 +166,7 @@ returns g c =
     sets in
     let none : widths ≡ None = all_fit c.deref-query-items.result.now _ _
     c.loop-query.query-index (omega arith) c.deref-query-items.ensures.value c.loop-query.invariant in (
-      late g (goal.at.returns g c).In_ok-check_digest_count None
+      late g (goal.at.returns-clause-answer g c).In_ok-check_digest_count None
           (late_from widths groups None none c.in_ok-check_shared_rows.ensures),
       c.in_ok-queried.ensures,
     )

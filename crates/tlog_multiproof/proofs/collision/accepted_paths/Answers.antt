@@ -70,7 +70,7 @@ returns-in-Ok-check_pruned_opening-clause-accepted g c =
     ∙ c.in-Ok.ensures.made in
     let shown = c.in-Ok-restored_paths.ensures.paths ∙ (λ i. restored_paths (params_are i) (lent i)) in
     let none = (λ i. pruned_refusal_under node.eq node.eq (sym params_are i) (root_cap root) (sym lent i))
-    ∙ c.in-Ok-check_pruned_opening.ensures in (
+    ∙ c.in-Ok-check_pruned_opening.ensures.answer in (
       form.small,
       unrefused_included g.H.LogHash.hash size indices leaves proof root form node.eq node.eq decides decides none,
       siblings_are c.in-Ok-restored_paths.paths.items path indices shown,
@@ -92,7 +92,7 @@ returns g c =
     ∙ c.in-Ok.ensures.made in
     let answer = subst (λ refusal. (e ≡ NoMemory) ⊎ (refusal ≡ Some e))
     (λ i. pruned_refusal_under node.eq node.eq (params_are i) (root_cap root) (lent i))
-    c.in-Err-check_pruned_opening.ensures in
+    c.in-Err-check_pruned_opening.ensures.answer in
     record {
       refused = λ none small is.
           not_refused other answer

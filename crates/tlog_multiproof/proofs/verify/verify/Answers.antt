@@ -35,7 +35,7 @@ returns g c =
     let params_are = c.checker.ensures size c.new-tree.ensures in
     let answer = subst (AnswersUnlessMemory c.check_pruned_opening.result)
     (λ i. pruned_refusal_under node.eq node.eq (params_are i) (root_cap c.args.root.now) (lent i))
-    c.check_pruned_opening.ensures in
+    c.check_pruned_opening.ensures.answer in
     let k = meaning_kept g.H.LogHash.hash size indices leaves proof c.args.root.now form node.eq node.eq decides decides
     c.check_pruned_opening.result c.from_opening_verdict.result answer c.from_opening_verdict.ensures in
     let unrefused = none_parts (indices_refusal size indices (length leaves))

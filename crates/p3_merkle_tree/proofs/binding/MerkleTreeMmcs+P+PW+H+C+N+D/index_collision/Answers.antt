@@ -59,7 +59,7 @@ returns g c one_shape =
     let is = subst (λ (z : Shape × (Opening _ _ × Opening _ _)). IsExtraction row_eq digest_eq rule (at z.0)
     (presented digest_eq (at z.0) cap z.1.0) (presented digest_eq (at z.0) cap z.1.1) (found_alone r))
     (λ k. (same k, ((own ∙ opened.in_layers) k, (others_own ∙ other.in_layers ∙ at_own) k)))
-    c.extract_collision.ensures in
+    c.extract_collision.ensures.extraction in
     found_at (at (shape a)) cap a stored b others row_eq digest_eq rule i r
     (λ committed. subst (IsAccepted (at (shape a)) cap) opened.in_layers (opened.is_accepted cap committed))
     (λ committed. subst (IsAccepted (at (shape a)) cap) (other.in_layers ∙ at_own)

@@ -4,6 +4,7 @@ use Rattle.p3_support.specs.Shown.{roots_of}
 use Rattle.p3_merkle_core.specs.Extraction.{IsExtraction}
 use Rattle.p3_merkle_core.specs.Geometry.{shape_of}
 use Rattle.p3_merkle_core.specs.Presented.{Presented}
+use Rattle.p3_merkle_core.specs.Refusals.{Refuses, pruned_early}
 use Rattle.p3_merkle_core.specs.Views.{found_pair, pruned_borrowed}
 use Rattle.p3_merkle_core.proofs.Collisions.ExtractionFacts.{all_authenticated}
 use Rattle.p3_merkle_tree.specs.Committed.{presented_pruned_under}
@@ -21,7 +22,7 @@ returns-clause-extraction g c =
     (λ i. (
       presented_pruned_under scheme ds (c.roots.ensures i) (c.new-first.ensures i),
       presented_pruned_under scheme ds (c.roots.ensures i) (c.new-second.ensures i),
-    )) c.pruned_extraction.ensures
+    )) c.pruned_extraction.ensures.extraction
 
 pub returns-clause-only : goal.returns-clause-only
 returns-clause-only g c =
@@ -32,3 +33,9 @@ returns-clause-only g c =
     g.PW.Value.PartialEq.eq (pruned_borrowed c.args.indices1.now c.args.rows1.now c.args.proof1.now)
     (pruned_borrowed c.args.indices2.now c.args.rows2.now c.args.proof2.now) c.pruned_extraction.result
     (returns-clause-extraction g c)
+
+pub returns-clause-checked : goal.returns-clause-checked
+returns-clause-checked g c =
+    let s = shape_of g.row.N c.args.dimensions.now in
+    subst (λ opening. Refuses c.pruned_extraction.result (pruned_early s opening)) c.new-first.ensures
+    c.pruned_extraction.ensures.checked

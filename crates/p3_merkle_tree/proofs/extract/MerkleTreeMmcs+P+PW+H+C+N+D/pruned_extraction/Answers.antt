@@ -5,15 +5,15 @@ use Rattle.std.specs.Option.{option_or}
 use Rattle.p3_merkle_core.specs.Extraction.{difference_of, first_pair}
 use Rattle.p3_merkle_core.specs.Geometry.{shape_of}
 use Rattle.p3_merkle_core.specs.Pruning.{opening_at}
-use Rattle.p3_merkle_core.specs.Refusals.{AnswersUnlessMemory, pruned_refusal_under}
+use Rattle.p3_merkle_core.specs.Refusals.{AnswersUnlessMemory, Refuses, pruned_early, pruned_refusal_under}
 use Rattle.p3_merkle_core.proofs.Collisions.ExtractionFacts.{all_authenticated, extracted_pair}
 use Rattle.p3_merkle_verifier.specs.Inner.QueryPairs.{ShowsPair}
 use Rattle.p3_merkle_verifier.specs.Inner.RestoredLevels.{pruned_in}
 use Rattle.p3_merkle_tree.specs.Schemes.{params_of}
 use Rattle.p3_merkle_tree.proofs.extract.MerkleTreeMmcs+P+PW+H+C+N+D.pruned_extraction.Goals as goal
 
-pub returns : goal.returns
-returns g c =
+pub returns-clause-extraction : goal.returns-clause-extraction
+returns-clause-extraction g c =
     let scheme = c.args.self.now in
     let eq = g.P.Value.PartialEq.eq in
     let same = g.PW.Value.PartialEq.eq in
@@ -32,3 +32,8 @@ returns g c =
     extracted_pair eq same scheme.cap_rule (params_of scheme s) roots first second g.met.P.PackedValue.eq_is_equality
     g.met.PW.PackedValue.eq_is_equality scheme.arity
     (all_authenticated s scheme.cap_rule scheme.cap_height scheme.arity) c.pruned_extraction.result answer found
+
+pub returns-clause-checked : goal.returns-clause-checked
+returns-clause-checked g c =
+    subst (Refuses c.pruned_extraction.result)
+    (λ i. pruned_early (c.checker.ensures i).shape (pruned_in c.args.first)) c.pruned_extraction.ensures.checked

@@ -6,6 +6,7 @@ use Rattle.std.specs.Option.{unwrap_or}
 use Rattle.p3_support.specs.Shown.{roots_of, row_sets}
 use Rattle.p3_merkle_core.specs.Views.{inputs_in, found_pair}
 use Rattle.p3_merkle_core.specs.declared.collision.InputPair.{InputPair}
+use Rattle.p3_merkle_core.proofs.Pruned.Refused.{handed, refuses_so, unrefused_so}
 use Rattle.p3_merkle_tree.specs.HidingSchemes.{salted_pruned_borrowed}
 use Rattle.p3_merkle_tree.specs.SaltRefusals.{salted_sets_refusal}
 use Rattle.p3_merkle_tree.proofs.ExtractedFacts.{answer_of, both_joined, first_refused, only_of, second_refused}
@@ -60,7 +61,7 @@ returns-in-Err-clause-extraction g c =
       is_wide = c.deref-in-Err.ensures.value ∙ c.in_ok-wider.ensures;
       is = c.opening_with_salts-first.ensures;
     }) c.verify_row_sets-checked.result c.in-Err.error c.unwrap_or.result
-    (rw c.roots-roots.ensures at c.verify_row_sets-checked.ensures.answer)
+    (rw c.roots-roots.ensures at c.verify_row_sets-checked.ensures.verdict.answer)
     (inr (sym (λ i. salted_sets_refusal g.row.SALT_ELEMS ds u.rows (salts2 i)) ∙ c.in-Err.ensures.answer))
     (c.unwrap_or.ensures ∙ ap (λ z. unwrap_or z c.in-Err.error) c.err.ensures.value))
 
@@ -87,7 +88,7 @@ returns-clause-extraction g c =
       none = sym (λ i. salted_sets_refusal g.row.SALT_ELEMS ds u.rows (salts2 i)) ∙ c.in_default.ensures.answer;
       is_wide = wide;
       is = c.opening_with_salts-second.ensures;
-    }) (found_pair r) (rw c.roots-roots.ensures at c.pruned_extraction.ensures))
+    }) (found_pair r) (rw c.roots-roots.ensures at c.pruned_extraction.ensures.extraction))
 
 pub returns-in_err-check_salted_sets-clause-only : goal.returns-in_err-check_salted_sets-clause-only
 returns-in_err-check_salted_sets-clause-only g c =
@@ -116,3 +117,38 @@ returns-clause-only g c =
     (salted_pruned_borrowed c.args.indices1.now c.args.rows1.now c.args.proof1.now)
     (salted_pruned_borrowed c.args.indices2.now c.args.rows2.now c.args.proof2.now) c.pruned_extraction.result
     (returns-clause-extraction g c)
+
+pub returns-in_err-check_salted_sets-clause-checked : goal.returns-in_err-check_salted_sets-clause-checked
+returns-in_err-check_salted_sets-clause-checked g c =
+    let ds = c.args.dimensions.now in
+    let o = salted_pruned_borrowed c.args.indices1.now c.args.rows1.now c.args.proof1.now in
+    let salts = ap row_sets c.deref.ensures.value in
+    let refusal = salted_sets_refusal g.row.SALT_ELEMS ds o.rows o.salts in
+    let e = c.in_err-check_salted_sets.field-0.0 in
+    handed c.from_residual.result e refusal c.from_residual.ensures.1 (refuses_so refusal e
+    (sym (λ i. salted_sets_refusal g.row.SALT_ELEMS ds o.rows (salts i)) ∙ c.in_err-check_salted_sets.ensures.answer))
+
+pub returns-in_err-wider-clause-checked : goal.returns-in_err-wider-clause-checked
+returns-in_err-wider-clause-checked g c =
+    let ds = c.args.dimensions.now in
+    let o = salted_pruned_borrowed c.args.indices1.now c.args.rows1.now c.args.proof1.now in
+    let salts = ap row_sets c.deref.ensures.value in
+    unrefused_so c.from_residual-in_err-wider.result (salted_sets_refusal g.row.SALT_ELEMS ds o.rows o.salts)
+    (sym (λ i. salted_sets_refusal g.row.SALT_ELEMS ds o.rows (salts i)) ∙ c.in_ok-check_salted_sets.ensures.answer)
+
+pub returns-clause-checked : goal.returns-clause-checked
+returns-clause-checked g c =
+    let ds = c.args.dimensions.now in
+    let o = salted_pruned_borrowed c.args.indices1.now c.args.rows1.now c.args.proof1.now in
+    let salts = ap row_sets c.deref.ensures.value in
+    unrefused_so c.pruned_extraction.result (salted_sets_refusal g.row.SALT_ELEMS ds o.rows o.salts)
+    (sym (λ i. salted_sets_refusal g.row.SALT_ELEMS ds o.rows (salts i)) ∙ c.in_ok-check_salted_sets.ensures.answer)
+
+pub returns-in-Err-clause-checked : goal.returns-in-Err-clause-checked
+returns-in-Err-clause-checked g c =
+    let ds = c.args.dimensions.now in
+    let o = salted_pruned_borrowed c.args.indices1.now c.args.rows1.now c.args.proof1.now in
+    let salts = ap row_sets c.deref.ensures.value in
+    let none = sym (λ i. salted_sets_refusal g.row.SALT_ELEMS ds o.rows (salts i))
+    ∙ c.in_ok-check_salted_sets.ensures.answer in
+    rw none tt

@@ -9,6 +9,7 @@ use Rattle.p3_merkle_core.specs.Geometry.{shape_of}
 use Rattle.p3_merkle_core.specs.Pruning.{pruned_of, restored_paths}
 use Rattle.p3_merkle_core.specs.Refusals.{AnswersUnlessMemory, pruned_refusal}
 use Rattle.p3_merkle_core.specs.Views.{shown_paths}
+use Rattle.p3_merkle_core.proofs.Pruned.Refused.{handed, refuses_so, unrefused_so}
 use Rattle.p3_merkle_tree.specs.HidingSchemes.{plain_of, presented_to_restore, salted_params_of, salted_pruned_borrowed}
 use Rattle.p3_merkle_tree.specs.SaltRefusals.{salted_sets_refusal}
 use Rattle.p3_merkle_tree.specs.SaltedOpenings.{joined_sets, salted_sets}
@@ -71,6 +72,25 @@ returns g c =
           (subst (AnswersUnlessMemory r)
           (λ i. option_or (sym none i) (pruned_refusal eq (alike i).shape (alike i).layer (is i)))
           c.restore_row_sets.ensures.verdict.answer);
+      checked = unrefused_so r (salted_sets_refusal g.row.SALT_ELEMS ds o.rows o.salts) none;
       paths = subst (λ (ps : _). IfOk r (λ paths. shown_paths paths.items ≡ ps))
           (λ i. restored_paths (alike i) (is i)) c.restore_row_sets.ensures.paths;
     }
+
+pub returns-in_err-check_salted_sets-clause-checked : goal.returns-in_err-check_salted_sets-clause-checked
+returns-in_err-check_salted_sets-clause-checked g c =
+    let ds = c.args.dimensions.now in
+    let o = salted_pruned_borrowed c.args.indices.now c.args.rows.now c.args.proof.now in
+    let salts = ap row_sets c.deref.ensures.value in
+    let refusal = salted_sets_refusal g.row.SALT_ELEMS ds o.rows o.salts in
+    let e = c.in_err-check_salted_sets.field-0.0 in
+    handed c.from_residual.result e refusal c.from_residual.ensures.1 (refuses_so refusal e
+    (sym (λ i. salted_sets_refusal g.row.SALT_ELEMS ds o.rows (salts i)) ∙ c.in_err-check_salted_sets.ensures.answer))
+
+pub returns-in_err-wider-clause-checked : goal.returns-in_err-wider-clause-checked
+returns-in_err-wider-clause-checked g c =
+    let ds = c.args.dimensions.now in
+    let o = salted_pruned_borrowed c.args.indices.now c.args.rows.now c.args.proof.now in
+    let salts = ap row_sets c.deref.ensures.value in
+    unrefused_so c.from_residual-in_err-wider.result (salted_sets_refusal g.row.SALT_ELEMS ds o.rows o.salts)
+    (sym (λ i. salted_sets_refusal g.row.SALT_ELEMS ds o.rows (salts i)) ∙ c.in_ok-check_salted_sets.ensures.answer)

@@ -9,6 +9,7 @@ use Rattle.p3_merkle_core.specs.Pruning.{pruned_of}
 use Rattle.p3_merkle_tree.specs.HidingSchemes.{plain_of, salted_pruned_borrowed}
 use Rattle.p3_merkle_tree.specs.Schemes.{cap_layer_of, functions_of}
 use Rattle.p3_merkle_tree.proofs.SaltedAlone.{verdict_alone}
+use Rattle.p3_merkle_core.proofs.Pruned.Refused.{handed, refuses_so, unrefused_so}
 use Rattle.p3_merkle_tree.specs.SaltRefusals.{salted_sets_refusal}
 use Rattle.p3_merkle_tree.specs.SaltedOpenings.{salted_sets}
 use Rattle.p3_merkle_tree.proofs.ExtractedFacts.{answer_of, several, verdict_joined, verdict_refused}
@@ -42,7 +43,7 @@ returns-clause-verdict g c =
           ∙ c.in_ok-check_salted_sets.ensures.answer;
       is_wide = c.deref-3.ensures.value ∙ c.in_ok-wider.ensures;
       is = λ i. pruned_of o.indices (salted_sets o.rows (read i)) (c.deref-4.ensures.value i);
-    }) c.verify_row_sets.result (rw c.roots.ensures at c.verify_row_sets.ensures.answer)
+    }) c.verify_row_sets.result (rw c.roots.ensures at c.verify_row_sets.ensures.verdict.answer)
 
 pub returns-in_err-check_salted_sets-clause-single : goal.returns-in_err-check_salted_sets-clause-single
 returns-in_err-check_salted_sets-clause-single g c one many too =
@@ -66,3 +67,29 @@ returns-clause-single g c one many too =
     (salted_pruned_borrowed c.args.indices.now c.args.rows.now c.args.proof.now) c.verify_row_sets.result one
     (length-map c.args.rows.now (λ rows. row_lists rows.items) ∙ many)
     (length-map c.args.proof.now.0.items (λ rows. row_lists rows.items) ∙ too) (returns-clause-verdict g c)
+
+pub returns-in_err-check_salted_sets-clause-checked : goal.returns-in_err-check_salted_sets-clause-checked
+returns-in_err-check_salted_sets-clause-checked g c =
+    let ds = c.args.dimensions.now in
+    let o = salted_pruned_borrowed c.args.indices.now c.args.rows.now c.args.proof.now in
+    let salts = ap row_sets c.deref.ensures.value in
+    let refusal = salted_sets_refusal g.row.SALT_ELEMS ds o.rows o.salts in
+    let e = c.in_err-check_salted_sets.field-0.0 in
+    handed c.from_residual.result e refusal c.from_residual.ensures.1 (refuses_so refusal e
+    (sym (λ i. salted_sets_refusal g.row.SALT_ELEMS ds o.rows (salts i)) ∙ c.in_err-check_salted_sets.ensures.answer))
+
+pub returns-in_err-wider-clause-checked : goal.returns-in_err-wider-clause-checked
+returns-in_err-wider-clause-checked g c =
+    let ds = c.args.dimensions.now in
+    let o = salted_pruned_borrowed c.args.indices.now c.args.rows.now c.args.proof.now in
+    let salts = ap row_sets c.deref.ensures.value in
+    unrefused_so c.from_residual-in_err-wider.result (salted_sets_refusal g.row.SALT_ELEMS ds o.rows o.salts)
+    (sym (λ i. salted_sets_refusal g.row.SALT_ELEMS ds o.rows (salts i)) ∙ c.in_ok-check_salted_sets.ensures.answer)
+
+pub returns-clause-checked : goal.returns-clause-checked
+returns-clause-checked g c =
+    let ds = c.args.dimensions.now in
+    let o = salted_pruned_borrowed c.args.indices.now c.args.rows.now c.args.proof.now in
+    let salts = ap row_sets c.deref.ensures.value in
+    unrefused_so c.verify_row_sets.result (salted_sets_refusal g.row.SALT_ELEMS ds o.rows o.salts)
+    (sym (λ i. salted_sets_refusal g.row.SALT_ELEMS ds o.rows (salts i)) ∙ c.in_ok-check_salted_sets.ensures.answer)

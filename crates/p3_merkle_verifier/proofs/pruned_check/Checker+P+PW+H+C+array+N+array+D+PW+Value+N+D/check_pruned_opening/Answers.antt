@@ -3,8 +3,8 @@ use Rattle.p3_merkle_verifier.specs.Inner.Checks.{functions_of}
 use Rattle.p3_merkle_verifier.proofs.RefusalFacts.{cap_decides}
 use Rattle.p3_merkle_verifier.proofs.pruned_check.Checker+P+PW+H+C+array+N+array+D+PW+Value+N+D.check_pruned_opening.Goals as goal
 
-pub returns : goal.returns
-returns g c =
+pub returns-clause-answer : goal.returns-clause-answer
+returns-clause-answer g c =
     let made = c.in_ok-restorable in
     cap_decides g.P.Value.PartialEq.eq g.PW.Value.PartialEq.eq (functions_of c.args.self.now) c.args.roots.now
     made.restorable c.check_roots.result made.ensures.schedule made.ensures.layer made.ensures.opening

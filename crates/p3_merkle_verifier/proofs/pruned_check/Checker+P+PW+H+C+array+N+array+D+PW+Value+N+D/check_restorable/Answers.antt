@@ -21,7 +21,7 @@ invariant_of-restorable g c =
     let opening = c.args.opening in
     let rows = sets_in opening.sets in
     let p = opened_with opening.indices.now rows (length opening.sent.now) in
-    let none = c.in_ok-leaves.ensures.0 in
+    let none = c.in_ok-leaves.ensures.answer.0 in
     let r = restorable eq s t p g.met.P.PackedValue.eq_is_equality (ap (λ refusal. ok_unless refusal (tt {0})) none) in
     record {
       queried = record { well_shaped = check.arity; below = r.below; in_tree = check.in_tree };
@@ -30,7 +30,7 @@ invariant_of-restorable g c =
       all_sent = sym (length-replicate (length opening.sent.now) []) ∙ r.count;
       agreed = agreed_with s t opening.indices.now rows (replicate (length opening.sent.now) []) [] r.agreed;
       fit = r.rows_fit;
-      distinct = c.in_ok-leaves.ensures.1;
+      distinct = c.in_ok-leaves.ensures.answer.1;
     }
 
 pub new-requires : goal.new-requires
@@ -39,10 +39,10 @@ new-requires g c =
     let opening = c.args.opening in
     let p = opened_with opening.indices.now (sets_in opening.sets) (length opening.sent.now) in
     let r = restorable g.P.Value.PartialEq.eq s c.args.self.now.cap_layer p g.met.P.PackedValue.eq_is_equality
-    (ap (λ refusal. ok_unless refusal (tt {0})) c.in_ok-leaves.ensures.0) in
+    (ap (λ refusal. ok_unless refusal (tt {0})) c.in_ok-leaves.ensures.answer.0) in
     record {
       arity = c.args.self.now.check.arity;
       low = tallest_fits (heights s) (none_large_from_lawful (heights s) r.lawful);
       below = r.below;
-      nodes = c.in_ok-nodes.ensures.items ∙ c.deref.ensures.value ∙ c.in_ok-leaves.ensures.1.indices;
+      nodes = c.in_ok-nodes.ensures.items ∙ c.deref.ensures.value ∙ c.in_ok-leaves.ensures.answer.1.indices;
     }

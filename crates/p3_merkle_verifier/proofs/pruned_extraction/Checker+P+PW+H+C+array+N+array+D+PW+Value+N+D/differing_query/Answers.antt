@@ -12,7 +12,7 @@ loop-query-preserved g c =
     let difference = query_difference g.P.Value.PartialEq.eq g.PW.Value.PartialEq.eq (params_in c.args.self.now)
     (opening_in c.args.first) in
     let shown = shows_query _ _ (params_in c.args.self.now) c.in_ok-found.found (opening_in c.args.first)
-    c.opening.ensures c.in_ok-found.ensures in
+    c.opening.ensures c.in_ok-found.ensures.found in
     below_more (λ k. difference (query_in c.args.queries.now k) ≡ None) c.loop-query.query c.loop-query.invariant
     (sym (rw c.in_default.is at shown))
 
@@ -23,7 +23,7 @@ returns-then-agrees_with_all g c =
 pub returns-in-Some : goal.returns-in-Some
 returns-in-Some g c =
     let shown = shows_query _ _ (params_in c.args.self.now) c.in_ok-found.found (opening_in c.args.first)
-    c.opening.ensures c.in_ok-found.ensures in
+    c.opening.ensures c.in_ok-found.ensures.found in
     place_found _ (length c.args.queries.now.paths.items) c.loop-query.query
     (omega (arith, c.args.queries.now.paths.ok.0)) c.loop-query.invariant (rw c.in-Some.is at shown)
 
