@@ -42,11 +42,13 @@ impl<T, M: Matrix<T>> Matrix<T> for RowsFrom<'_, M> {
     }
 
     #[inline]
-    fn append_row(&self, row: usize, words: &mut Vec<T>) -> Result<(), AllocError>
-    where
-        T: Copy,
-    {
-        self.matrix.append_row(self.first + row, words)
+    fn append_from(&self, row: usize, column: usize, words: &mut Vec<T>) -> Result<(), AllocError> {
+        self.matrix.append_from(self.first + row, column, words)
+    }
+
+    #[inline]
+    fn write_from(&self, row: usize, column: usize, out: &mut [T]) {
+        self.matrix.write_from(self.first + row, column, out);
     }
 }
 

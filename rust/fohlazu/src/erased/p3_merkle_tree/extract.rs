@@ -42,10 +42,11 @@ impl<
     ///
     /// # Errors
     ///
-    /// The first of these that applies, where `OutOfMemory` may come at any time:
+    /// The first of these that applies:
     ///
     /// - the error of `verify_batch` for the first opening;
-    /// - the error of `verify_batch` for the second opening.
+    /// - the error of `verify_batch` for the second opening;
+    /// - `OutOfMemory`, only if the checks differ at a place that both share.
     pub fn extract_collision(
         &self,
         commit: &MerkleCap<P::Value, [PW::Value; D]>,
@@ -70,9 +71,14 @@ impl<
     /// query in its list, from 0, and the collision. Not every pair is compared: beside both verifications the call
     /// takes the time of at most four checks for each query of the first opening, and two for each of the second.
     ///
+    /// Two openings of one list of indices give a collision exactly if they differ in a digest of the proof, or in a
+    /// row of an [authenticated](Self::is_authenticated) matrix. Under the rule `Lowered` every matrix is
+    /// authenticated, so any two different openings of one list give a collision.
+    ///
     /// # Errors
     ///
-    /// The first of these that applies, where `OutOfMemory` may come at any time:
+    /// The first of these that applies, where `OutOfMemory` may come once the first opening's indices are known to be
+    /// in range:
     ///
     /// - the error of `verify_batch_pruned` for the first opening;
     /// - the error of `verify_batch_pruned` for the second opening.

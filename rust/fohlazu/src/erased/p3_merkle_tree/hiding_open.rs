@@ -7,6 +7,7 @@
 
 use crate::erased::p3_merkle_core::collision::Collision;
 use crate::erased::p3_merkle_core::error::MerkleTreeError;
+use crate::erased::p3_merkle_core::pruning::MerkleAuthPath;
 use crate::erased::p3_merkle_prover::opener::matrix_refs;
 use crate::erased::p3_merkle_prover::tree::Tree;
 use crate::erased::p3_merkle_tree::hiding_mmcs::{MerkleTreeHidingMmcs, SaltedMultiProof, SaltedProof, SaltedTree};
@@ -200,7 +201,7 @@ impl<
     ///
     /// # Errors
     ///
-    /// The first of these that applies, where `OutOfMemory` may come at any time:
+    /// The first of these that applies, where `OutOfMemory` never takes the place of one of the first three:
     ///
     /// - `WrongBatchSize`: the number of salt sets is not that of the row sets;
     /// - in query order, for each row set with its salts: `WrongBatchSize` if the number of rows is not that of the
@@ -225,6 +226,33 @@ impl<
         self.plain.verify_row_sets(commit.roots(), &wider, indices, rows, digests)
     }
 
+    /// Restores the path of each query, in query order, with its index: its siblings, computed from the rows and salts
+    /// of all queries and the digests of a pruned proof. It is the plain scheme's
+    /// [`restore_and_recompute_paths`](crate::erased::p3_merkle_tree::mmcs::Scheme::restore_and_recompute_paths) of the rows followed by their
+    /// salts. The parameters are as in [`verify_multi_batch`](Self::verify_multi_batch).
+    ///
+    /// No cap is compared, so a restored path proves nothing by itself. `verify_multi_batch` accepts an opening under a
+    /// cap exactly if its paths are restored and [`verify_batch`](Self::verify_batch) accepts each query with its rows,
+    /// its salts and its path. `dimensions` must come from the verifier, never from the proof.
+    ///
+    /// # Errors
+    ///
+    /// Those of `verify_multi_batch`, in the same order, without `CapMismatch`.
+    pub fn restore_and_recompute_paths(
+        &self,
+        dimensions: &[Dimensions],
+        indices: &[usize],
+        rows: &[Vec<Vec<P::Value>>],
+        proof: &SaltedMultiProof<P::Value, PW::Value, D>,
+    ) -> Result<Vec<MerkleAuthPath<PW::Value, D>>, MerkleTreeError> {
+        let (salts, pruned) = proof;
+        check_salted_sets(dimensions, SALT_ELEMS, rows, salts)?;
+        let wider = widened_dimensions(dimensions, SALT_ELEMS)?;
+        let rows = RowSets::Salted { sets: rows, salts };
+        let digests = &pruned.sibling_hashes;
+        self.plain.restore_row_sets(&wider, indices, rows, digests)
+    }
+
     /// Extracts a collision from two accepted openings of one cap: two different inputs of the hasher or of the
     /// compression with one digest, or `None` if the openings agree.
     ///
@@ -236,10 +264,11 @@ impl<
     ///
     /// # Errors
     ///
-    /// The first of these that applies, where `OutOfMemory` may come at any time:
+    /// The first of these that applies:
     ///
     /// - the error of `verify_batch` for the first opening;
-    /// - the error of `verify_batch` for the second opening.
+    /// - the error of `verify_batch` for the second opening;
+    /// - `OutOfMemory`, only if the checks differ at a place that both share.
     pub fn extract_collision(
         &self,
         commit: &MerkleCap<P::Value, [PW::Value; D]>,
@@ -264,12 +293,14 @@ impl<
     /// for each index, and a proof with a salt set for each. Both are verified as by
     /// [`verify_multi_batch`](Self::verify_multi_batch). The call is the plain scheme's
     /// [`extract_collision_multi`](crate::erased::p3_merkle_tree::mmcs::Scheme::extract_collision_multi) of the rows followed by their
-    /// salts. It finds a collision wherever two queries conflict in a row of an authenticated matrix. Under the rule
-    /// `Lowered` every matrix is authenticated.
+    /// salts. It finds a collision wherever two queries conflict in a row of an authenticated matrix. Two openings of
+    /// one list of indices give a collision exactly if they differ in a digest of the proof, or in a row or the salts
+    /// of an authenticated matrix. Under the rule `Lowered` every matrix is authenticated.
     ///
     /// # Errors
     ///
-    /// The first of these that applies, where `OutOfMemory` may come at any time:
+    /// The first of these that applies, where `OutOfMemory` never takes the place of one of the first three that
+    /// `verify_multi_batch` lists, for the first opening:
     ///
     /// - the error of `verify_multi_batch` for the first opening;
     /// - the error of `verify_multi_batch` for the second opening.
@@ -296,6 +327,25 @@ impl<
         }
         let second = opening_with_salts(indices2, rows2, proof2);
         self.plain.pruned_extraction(roots, &wider, first, second)
+    }
+
+    /// Compares two trees with one cap, over matrices of the same dimensions, with `SALT_ELEMS` salts a row. Returns
+    /// `None` if each authenticated matrix has the same rows and salts in both; else a collision: two different inputs
+    /// of the hasher or of the compression with one digest. Under the rule `Lowered` every matrix is authenticated.
+    ///
+    /// It is the plain scheme's comparison of the rows followed by their salts, and takes as much time and memory. For
+    /// trees that [`commit`](Self::commit) returned with this cap no opening is refused.
+    ///
+    /// # Errors
+    ///
+    /// Those of the plain [`commitment_collision`](crate::erased::p3_merkle_tree::mmcs::Scheme::commitment_collision).
+    pub fn commitment_collision<A: Matrix<P::Value>, B: Matrix<P::Value>>(
+        &self,
+        commit: &MerkleCap<P::Value, [PW::Value; D]>,
+        first: &SaltedTree<P::Value, PW::Value, A, N, D>,
+        second: &SaltedTree<P::Value, PW::Value, B, N, D>,
+    ) -> Result<Option<(usize, Collision<P::Value, PW::Value, D>)>, MerkleTreeError> {
+        self.plain.commitment_collision(commit, first, second)
     }
 }
 

@@ -13,6 +13,7 @@
 //! what a message of the compiler says, stand beside them: `Tree`, `Scheme`, `HidingScheme`, `DigestRef`,
 //! `PrunedProof`, `PrunedRows`, `AuthPath` and `InputPair`.
 
+pub(crate) mod binding;
 pub(crate) mod extract;
 pub(crate) mod hiding_mmcs;
 pub(crate) mod hiding_open;

@@ -35,7 +35,8 @@ impl<
     ///
     /// The indices count rows of the tallest matrix and must be below its height, in any order; repeats are allowed.
     /// The digests are read from the tree. If the tree was built with this scheme's hasher and compression, the opening
-    /// is accepted under its cap, and its restored paths are those that [`open_batch`](Self::open_batch) opens.
+    /// is accepted under its cap, and its restored paths are those that [`open_batch`](Self::open_batch) opens. Of one
+    /// index the digests are the siblings that `open_batch` opens, in their order.
     ///
     /// # Errors
     ///
@@ -78,7 +79,8 @@ impl<
 
     /// Verifies the openings of several leaves by one pruned proof against a cap: computes the digests above the leaves
     /// from the rows and the digests of the proof, and compares the last ones with the cap's entries. If the opening is
-    /// accepted, [`verify_batch`](Self::verify_batch) accepts each query with its restored path.
+    /// accepted, [`verify_batch`](Self::verify_batch) accepts each query with its restored path. An opening of one
+    /// index is accepted exactly if `verify_batch` accepts its row set with the digests of the proof as siblings.
     ///
     /// An accepted opening has a row set for each index: one row for each of `dimensions`, of that width. Queries of
     /// one index have the same rows. Queries under one node, at most as high as the cap, have the same rows of the
@@ -87,7 +89,7 @@ impl<
     ///
     /// # Errors
     ///
-    /// The first of these that applies, where `OutOfMemory` may come at any time:
+    /// The first of these that applies, where `OutOfMemory` never takes the place of one of the first four:
     ///
     /// - `EmptyBatch`, `TooLarge` or `IncompatibleHeights`: [`commit`](Self::commit) refuses such heights;
     /// - `WrongBatchSize`: the number of row sets is not that of the indices;

@@ -30,7 +30,8 @@ impl<
 > Scheme<P, PW, H, C, X, G, N, D>
 {
     /// The step of each level below the cap, from the leaves up: how many children a node above it has, in the tree
-    /// over matrices of these dimensions.
+    /// over matrices of these dimensions. An opening of one index has one sibling less than the step on each level, so
+    /// at most `N - 1` for each of the steps.
     ///
     /// # Errors
     ///
@@ -86,7 +87,8 @@ impl<
     /// node is covered if it is a queried leaf or above one. If padding counts as unknown, no smaller set of digests of
     /// uncovered nodes is enough to compute the covered nodes of the cap's layer.
     ///
-    /// The indices may be in any order, with repeats.
+    /// The indices may be in any order, with repeats. The digests are at most as many as the siblings in an opening of
+    /// one index, times the number of distinct indices; for one index they are as many as its siblings.
     ///
     /// # Errors
     ///

@@ -42,8 +42,8 @@ impl<'a, T: Eq> RowPair<'a, T> {
     }
 }
 
-/// The digests `first` and `second` that two checks compress at `place`, if they differ. `AllocError` if memory runs
-/// out.
+/// The digests `first` and `second` that two checks compress at `place`, if they differ. `AllocError` if they do, and
+/// memory runs out.
 fn differing_digests<T, W: Copy + Eq, const D: usize>(
     place: Place,
     first: &[[W; D]],
@@ -70,7 +70,7 @@ fn opened_words<T: Copy>(
 }
 
 /// The words of `rows` that two checks hash at `place`, if they differ. Nothing is copied where they are the same.
-/// `AllocError` if memory runs out.
+/// `AllocError` if they differ, and memory runs out.
 fn differing_words<T: Copy + Eq, W, const D: usize>(
     place: Place,
     rows: &RowPair<'_, T>,
@@ -86,7 +86,7 @@ fn differing_words<T: Copy + Eq, W, const D: usize>(
 }
 
 /// The words that two checks hash at the leaf, if both openings are of one leaf and the words differ. `AllocError` if
-/// memory runs out.
+/// so it is, and memory runs out.
 fn leaf_difference<T: Copy + Eq, W: Copy + Eq, const D: usize>(
     schedule: &Schedule<'_>,
     first: OpeningRef<'_, T, [W; D]>,
@@ -107,7 +107,7 @@ fn leaf_difference<T: Copy + Eq, W: Copy + Eq, const D: usize>(
 /// The last inputs of a level in which two checks differ above their groups: the pairs, which are compressed last, else
 /// the words of the rows. `None` if all are the same, or if no matrix belongs to the layer above the level. `first` and
 /// `second` are the level in each check, and must reach one node; `rows` are the rows of both openings at the layer
-/// above. `AllocError` if memory runs out.
+/// above. `AllocError` if some differ, and memory runs out.
 fn difference_above_group<T: Copy + Eq, W: Copy + Eq, const N: usize, const D: usize>(
     rows: &RowPair<'_, T>,
     first: &PathLevel<[W; D], [[W; D]; N]>,
@@ -124,7 +124,8 @@ fn difference_above_group<T: Copy + Eq, W: Copy + Eq, const N: usize, const D: u
 
 /// The last inputs of a level in which two checks differ: the pairs, else the words of the rows, else the groups.
 /// `None` if all are the same, or if the checks do not share the node above the level. `first` and `second` are the
-/// level in each check; `rows` are the rows of both openings at the layer above. `AllocError` if memory runs out.
+/// level in each check; `rows` are the rows of both openings at the layer above. `AllocError` if some differ, and
+/// memory runs out.
 fn level_difference<T: Copy + Eq, W: Copy + Eq, const N: usize, const D: usize>(
     rows: &RowPair<'_, T>,
     first: &PathLevel<[W; D], [[W; D]; N]>,
@@ -201,7 +202,7 @@ impl<
 
     /// The last place that the checks of two openings share and at which they differ, with both inputs. `None` if they
     /// agree. Both openings must have their siblings up to the cap. Only the inputs of places that differ are copied.
-    /// `AllocError` if memory runs out.
+    /// `AllocError` if the checks differ at such a place, and memory runs out.
     pub(crate) fn last_difference(
         &self,
         first: OpeningRef<'_, P::Value, [PW::Value; D]>,
@@ -232,10 +233,11 @@ impl<
     ///
     /// # Errors
     ///
-    /// The first of these that applies, where `OutOfMemory` may come at any time:
+    /// The first of these that applies:
     ///
     /// - the error of [`check_opening`](Self::check_opening) for the first opening;
-    /// - that for the second opening.
+    /// - that for the second opening;
+    /// - `OutOfMemory`, only if the checks differ at a place that both share.
     pub(crate) fn extraction(
         &self,
         roots: &[[PW::Value; D]],

@@ -281,7 +281,7 @@ impl<
     ///
     /// # Errors
     ///
-    /// The first of these that applies, where `OutOfMemory` may come at any time:
+    /// The first of these that applies, where `OutOfMemory` may come once the indices are known to be in range:
     ///
     /// - the error of [`check_pruned`];
     /// - `CapMismatch`: there is no root at a covered node of the cap's layer, or another digest than the one computed.
@@ -300,7 +300,7 @@ impl<
     ///
     /// # Errors
     ///
-    /// The error of [`check_pruned`]. `OutOfMemory` may come at any time.
+    /// The error of [`check_pruned`]. `OutOfMemory` may come once the indices are known to be in range.
     pub(crate) fn restored_paths(
         &self,
         opening: PrunedOpeningRef<'_, P::Value, [PW::Value; D]>,

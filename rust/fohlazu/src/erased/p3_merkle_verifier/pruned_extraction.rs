@@ -138,7 +138,7 @@ impl<
     ///
     /// # Errors
     ///
-    /// The first of these that applies, where `OutOfMemory` may come at any time:
+    /// The first of these that applies, where `OutOfMemory` may come once the first indices are known to be in range:
     ///
     /// - the error of [`check_pruned_opening`](Self::check_pruned_opening) for the first opening;
     /// - that for the second opening.
