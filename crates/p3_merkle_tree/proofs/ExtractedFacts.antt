@@ -1,5 +1,6 @@
 -- What a scheme answers to salted openings: before rows are joined with their salts, and as the plain scheme answers.
 use Rattle.std.proofs.Common.{◌≡◌, ◌↔◌, ◌∙◌, ◌⊎◌, ℕ, Bool, List, ap, inl, inr, refl, subst, sym, None, Some}
+use Rattle.std.proofs.Common.{false, true}
 use Rattle.std.specs.Prelude.{Ok, Err, IfOk, IsErr, IsOk, Option, Result}
 use Rattle.std.specs.Option.{option_map, option_or, unwrap_or}
 use Rattle.std.specs.Result.{result_err, result_map_both}
@@ -223,3 +224,7 @@ module _ {P PW H C R X G V W : Type 0} {N D E : ℕ} {p : packed.Ghosts P V} {pd
       only_salted pe.eq qe.eq (cap_rule_of (plain_of s)) E ds (salted_params_of s ds) cap (plain_of s).arity
       (all_authenticated (shape_of N (widened E ds)) (cap_rule_of (plain_of s)) (cap_height_of (plain_of s))
       (plain_of s).arity) o u r told
+
+-- false is not true
+pub false_not_true : {A : Type 0} → false ≡ true → A
+false_not_true ok = absurd cc

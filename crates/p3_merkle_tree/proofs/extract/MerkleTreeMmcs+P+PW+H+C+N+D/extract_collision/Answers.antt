@@ -1,6 +1,6 @@
 -- What the answer means of the openings.
-use Rattle.std.proofs.Common.{◌≡◌, Option, None, refl, subst}
-use Rattle.std.specs.Prelude.{IfOk, IsOk}
+use Rattle.std.proofs.Common.{◌∙◌, refl, subst}
+use Rattle.std.specs.Prelude.{IfOk}
 use Rattle.std.specs.Option.{option_or}
 use Rattle.p3_support.specs.Shown.{roots_of}
 use Rattle.p3_merkle_core.specs.Extraction.{difference_of}
@@ -8,7 +8,6 @@ use Rattle.p3_merkle_core.specs.Geometry.{shape_of}
 use Rattle.p3_merkle_core.specs.Presented.{presented}
 use Rattle.p3_merkle_core.specs.Refusals.{AnswersUnlessMemory, Refuses, refusal_under}
 use Rattle.p3_merkle_core.specs.Views.{opening_borrowed}
-use Rattle.p3_merkle_core.specs.declared.error.MerkleTreeError.{MerkleTreeError}
 use Rattle.p3_merkle_core.proofs.Collisions.ExtractionFacts.{all_authenticated, exact_alone, extracted_alone}
 use Rattle.p3_merkle_core.proofs.Collisions.ExtractionFacts.{single_presented}
 use Rattle.p3_merkle_verifier.specs.Inner.Collisions.{Shows}
@@ -53,8 +52,7 @@ returns-clause-exact g c =
     (single_presented same k cap u dec_w).decided.1 r
     (subst (Refuses r) (λ i. option_or (refusal_under same (alike i) (c.roots.ensures i) (first i))
     (refusal_under same (alike i) (c.roots.ensures i) (second i))) c.extraction.ensures.checked)
-    (subst (λ (z : Option MerkleTreeError × Option _). z.0 ≡ None → z.1 ≡ None → IsOk r) (λ i. (
-      option_or (refusal_under same (alike i) (c.roots.ensures i) (first i))
-          (refusal_under same (alike i) (c.roots.ensures i) (second i)),
-      difference_of eq same (alike i) (first i) (second i),
-    )) c.extraction.ensures.agreed)
+    (λ unrefused agree. c.extraction.ensures.agreed
+    ((λ i. option_or (refusal_under same (alike i) (c.roots.ensures i) (first i))
+    (refusal_under same (alike i) (c.roots.ensures i) (second i))) ∙ unrefused)
+    ((λ i. difference_of eq same (alike i) (first i) (second i)) ∙ agree))

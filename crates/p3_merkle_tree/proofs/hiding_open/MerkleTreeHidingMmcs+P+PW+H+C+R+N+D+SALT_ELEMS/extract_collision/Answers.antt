@@ -13,7 +13,7 @@ use Rattle.p3_merkle_tree.specs.Schemes.{cap_height_of, cap_rule_of, functions_o
 use Rattle.p3_merkle_tree.proofs.CheckFacts.{difference_alike}
 use Rattle.p3_merkle_tree.specs.SaltRefusals.{salted_refusal_under}
 use Rattle.p3_merkle_core.proofs.Pruned.Refused.{handed, refused_not, refuses_so, unrefused_so}
-use Rattle.p3_merkle_tree.proofs.ExtractedFacts.{one_answer, one_exact}
+use Rattle.p3_merkle_tree.proofs.ExtractedFacts.{false_not_true, one_answer, one_exact}
 use Rattle.p3_merkle_tree.proofs.hiding_open.MerkleTreeHidingMmcs+P+PW+H+C+R+N+D+SALT_ELEMS.extract_collision.Goals as goal
 
 pub returns-in_err-first-clause-extraction : goal.returns-in_err-first-clause-extraction
@@ -128,14 +128,12 @@ returns-in_err-last_difference-clause-exact g c =
     let r = c.from_residual-in_err-last_difference.result in
     one_exact c.args.self.now ds roots g.met.P.PackedValue.eq_is_equality g.met.PW.PackedValue.eq_is_equality o u r
     (unrefused_so r (option_or (refusal o) (refusal u)) (none_of_both (refusal o) (refusal u) first second))
-    (λ none d.
-    let ok = c.in_err-last_difference.ensures.agreed
+    (λ none d. false_not_true (c.in_err-last_difference.ensures.agreed
     ((λ i. difference_of eq same (params_in checker) (c.in_ok-first.ensures.opening i)
     (c.in_ok-second.ensures.opening i))
     ∙ difference_alike eq same (checked_functions checker) (functions_of scheme) checker.schedule.arity g.row.N
     checker.schedule.dimensions.now ds checker.cap_layer (cap_rule_of scheme) (cap_height_of scheme)
-    c.checker-checker.ensures g.row.SALT_ELEMS (joined o) (joined u) ∙ d) in
-    absurd cc)
+    c.checker-checker.ensures g.row.SALT_ELEMS (joined o) (joined u) ∙ d)))
 
 pub returns-clause-exact : goal.returns-clause-exact
 returns-clause-exact g c =
