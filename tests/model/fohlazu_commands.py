@@ -13,6 +13,8 @@ MOST_BYTES = 1 << 30
 # How many entries may be requested, and what is said of more.
 MAX_ENTRIES_PER_PROOF = 10**8
 TOO_MANY = f"more than {MAX_ENTRIES_PER_PROOF} entries at once"
+# What is said of a file whose partial line is refused.
+PARTIAL_LINE = "ends inside a line: `--whole-lines` leaves it out, `--partial` takes it as an entry"
 # The words of each command, of options that exclude each other one.
 COMMANDS = {
     "seal": "--blocks=SIZE|--whole-lines|--partial --origin=ORIGIN|--part FILE",
@@ -194,8 +196,7 @@ def entries_of(told, data, limit):
     cut = told.blocks or ("include" if told.partial else "leave-out" if told.whole_lines else "refuse")
     found, is_refused = cut_entries(str(cut), data)
     is_refused = is_refused and (limit is None or len(found) < limit)
-    why = "ends inside a line: `--whole-lines` leaves it out, `--partial` takes it as an entry"
-    refuse_if(is_refused, told.FILE, why)
+    refuse_if(is_refused, told.FILE, PARTIAL_LINE)
     return found[:limit]
 
 

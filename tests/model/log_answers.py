@@ -164,7 +164,7 @@ def read(limit, reads, data):
 def seal(calls, origin, cut, data):
     found, is_refused = fohlazu_commands.cut_entries(cut, data)
     if is_refused:
-        return f"ends inside a line 0 {short(sha256().digest())}"
+        return f"{fohlazu_commands.PARTIAL_LINE} 0 {short(sha256().digest())}"
     log = logs.Log(found)
     text = log_texts.checkpoint_text(origin.encode(), len(found), root_of(log))
     # The flush is a call more.
