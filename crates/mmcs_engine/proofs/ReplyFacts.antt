@@ -1,7 +1,8 @@
 -- What is said of a batch is said of the input's matrices, and what is told of them is the outcome.
 use Rattle.std.proofs.Common.{◌≡◌, ◌⊎◌, ⊎_elim, inl, inr, ℕ, ◌+◌, List, Option, Some, None, Result, Ok, Err, sym, refl}
-use Rattle.std.proofs.Common.{ap, ◌∙◌, subst}
-use Rattle.std.specs.Prelude.{[], ◌↔◌, ◌<◌, All, IfSome}
+use Rattle.std.proofs.Common.{ap, ◌∙◌, subst, true}
+use Rattle.std.specs.Prelude.{[], ◌↔◌, ◌<◌, All, IfErr, IfSome}
+use Rattle.std.specs.Result.{is_err}
 use Rattle.std.specs.Io.KnownBytes.{Appends}
 use Rattle.whole_writes.specs.Prefixes.{AppendsPrefix}
 use Rattle.p3_merkle_core.specs.Geometry.{IsLawful, Shape}
@@ -169,3 +170,8 @@ pub accepted_lent : {T W : Type 0} (params : Shape → Params T W) (s t : Shape)
     (p q : PrunedOpening T W) → s ≡ t → roots ≡ cap → p ≡ q → IsPrunedAccepted (params t) cap q →
     IsPrunedAccepted (params s) roots p
 accepted_lent params s t roots cap p q shapes caps same accepted = rw (shapes, caps, same) accepted
+
+-- what holds of an error, whatever it is
+pub of_error : {T E P : Type 0} (r : Result T E) → is_err r ≡ true → IfErr r (λ e. P) → P
+of_error (Ok v) is holds = absurd cc
+of_error (Err e) is holds = holds
