@@ -152,15 +152,13 @@ fn groups_of_lanes_come_first_and_the_rest_together(rt: HostRuntime) -> Result<(
         "packed_rows 8, packed_rows 8, row 1, packed_groups 8, groups 1, groups 5, groups 3, groups 2, groups 1";
     assert_calls::<U32x8, 1, 1>(&rt, alloc, &[(1, 17)], calls)?;
     // Two rows are injected: the children of both nodes, then the rows, then the pairs.
-    let calls = "row 1, row 1, row 1, groups 2, row 1, row 1, groups 2, groups 1";
+    let calls = "rows 3, groups 2, rows 2, groups 2, groups 1";
     assert_calls::<u32, 1, 1>(&rt, alloc, &[(1, 3), (1, 2)], calls)?;
     Ok(())
 }
 
 #[test]
-fn nodes_are_taken_together_and_rows_unless_the_hasher_takes_one(
-    rt: HostRuntime,
-) -> Result<(), Fail> {
+fn nodes_and_rows_that_no_matrix_stores_are_taken_together(rt: HostRuntime) -> Result<(), Fail> {
     let alloc = rt.alloc();
     let calls = "rows 17, groups 9, groups 5, groups 3, groups 2, groups 1";
     assert_calls::<u32, 8, 8>(&rt, alloc, &[(1, 17)], calls)?;
@@ -169,8 +167,6 @@ fn nodes_are_taken_together_and_rows_unless_the_hasher_takes_one(
     assert_calls::<u32, 8, 8>(&rt, alloc, &[(1, 17), (1, 9), (1, 3)], calls)?;
     let calls = "rows 5, groups 3, rows 3, groups 3, groups 2, groups 1";
     assert_calls::<u32, 8, 1>(&rt, alloc, &[(1, 5), (1, 3)], calls)?;
-    let calls =
-        "row 1, row 1, row 1, row 1, row 1, groups 3, row 1, row 1, row 1, groups 3, groups 2, groups 1";
     assert_calls::<u32, 1, 8>(&rt, alloc, &[(1, 5), (1, 3)], calls)?;
     Ok(())
 }

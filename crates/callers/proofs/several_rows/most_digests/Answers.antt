@@ -27,4 +27,4 @@ pub returns : goal.returns
 returns c =
     let scheme = c.args.scheme.now in
     bounded _ _ c.args.queries _ c.checked_mul.result c.boundary.ensures.few scheme.arity (omega arith)
-    c.in_ok-steps.ensures.few_siblings c.checked_mul.ensures
+    c.in_ok-steps.ensures.few_siblings (rw c.len.ensures at c.checked_mul.ensures)
